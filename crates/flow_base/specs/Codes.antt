@@ -1,0 +1,46 @@
+-- The numbers of the refusals.
+use Rattle.std.specs.Prelude.{ℕ}
+use Rattle.flow_base.specs.declared.code.Code.{Code}
+use Rattle.flow_base.specs.declared.code.Code.TheVariants as c
+
+abbrev pub code_number : Code → ℕ
+code_number c.NoMemory = 1
+code_number c.NotAValue = 2
+code_number c.TooLong = 3
+code_number c.BadToken = 10
+code_number c.Unexpected = 11
+code_number c.TextTooLong = 12
+code_number c.TooDeep = 13
+code_number c.NotVisible = 20
+code_number c.DeclaredTwice = 21
+code_number c.BadType = 22
+code_number c.BadCount = 23
+code_number c.EndsInParallel = 24
+code_number c.PatchTwice = 25
+code_number c.TooManyNames = 26
+code_number c.TooManyBranches = 27
+code_number c.BadRetry = 28
+code_number c.NotDeclared = 29
+code_number c.BadKind = 30
+code_number c.BadBody = 31
+code_number c.SecondSpelling = 32
+code_number c.NotAwaited = 40
+code_number c.Closed = 41
+code_number c.OtherKind = 50
+code_number c.OtherContent = 51
+code_number c.MissingEvent = 52
+code_number c.ExtraEvent = 53
+code_number c.InputNotAwaited = 54
+code_number c.AfterClose = 55
+code_number c.BadNumbering = 56
+code_number c.NoText = 60
+code_number c.BadArguments = 61
+code_number c.AlreadyOpen = 62
+code_number c.NotOpen = 64
+code_number c.OldAttempt = 65
+code_number c.WrongType = 66
+code_number c.HistoryFull = 69
+code_number c.NoRun = 70
+code_number c.StoreRefused = 80
+code_number c.NoFile = 93
+code_number c.BadUsage = 97

@@ -1,0 +1,59 @@
+use crate::code::Code;
+use crate::event::{Event, State};
+use crate::number::{EventId, Moment, RunId, TextNo};
+use crate::sequence::Sequence;
+use crate::text::{Key, RawText};
+use crate::value::Value;
+
+/// What is asked of the engine.
+#[derive(Debug, Drop)]
+pub enum Command {
+    /// A text.
+    Register(RawText),
+    /// A request id, a flow, a text, its arguments, and a moment.
+    Start(Key, Key, TextNo, Sequence<Value>, Moment),
+    /// A run, the event that scheduled the activity, the attempt, what the activity gave, and a moment.
+    Complete(RunId, EventId, u64, Value, Moment),
+    Describe(RunId),
+    History(RunId),
+}
+
+/// What is wrong with a text: the number of the rule, and the byte where it is broken.
+#[derive(Clone, Copy, Debug, PartialEq, Eq)]
+pub struct TextFault {
+    pub code: Code,
+    pub at: usize,
+}
+
+/// A run, told.
+#[derive(Debug, Drop)]
+pub struct Description {
+    pub flow: Key,
+    pub text: TextNo,
+    pub state: State,
+    /// How many events its history has.
+    pub events: usize,
+    /// The events of its open activities, rising.
+    pub activities: Sequence<EventId>,
+    /// The events of its open timers, rising.
+    pub timers: Sequence<EventId>,
+}
+
+/// What the engine answers.
+#[derive(Debug, Drop)]
+pub enum Reply {
+    Registered(TextNo),
+    Started(RunId),
+    /// The input stands in the history: a run and an event.
+    Recorded(RunId, EventId),
+    /// The request is known: the run that it started.
+    Duplicate(RunId),
+    Run(Description),
+    History(Sequence<Event>),
+    /// E60 to E70 but E69.
+    Refused(Code),
+    /// E10 to E29: the text breaks a rule.
+    BadText(TextFault),
+    /// E69: the history is full; a run, and the event that closed it.
+    Full(RunId, EventId),
+}

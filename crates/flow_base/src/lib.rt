@@ -1,0 +1,13 @@
+//! The plain types of `flow`: values, programs, events, books and commands.
+#![tactic(auto)]
+
+pub mod book;
+pub mod code;
+pub mod command;
+pub mod event;
+pub mod number;
+pub mod sequence;
+pub mod syntax;
+pub mod text;
+pub mod token;
+pub mod value;

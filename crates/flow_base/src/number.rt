@@ -1,0 +1,179 @@
+ghost use Rattle.std.specs.Prelude.{◌≡◌, ◌<◌, ◌≤◌, ◌^◌, ◌↔◌, IsSome, IfSome, max};
+
+use std::marker::Model;
+
+/// The largest number of a run, a text or an event, and the largest attempt.
+pub const LAST_NUMBER: u64 = 9223372036854775807;
+
+/// The last moment, in milliseconds.
+pub const LAST_MOMENT: u64 = 1000000000000000;
+
+/// The number of a run: from 1, over the whole store.
+#[derive(Clone, Copy, Debug, PartialEq, Eq)]
+pub struct RunId {
+    number: u64,
+}
+
+impl Model for RunId {
+    ghost use Rattle.std.specs.Prelude.{ℕ, ◌≤◌, ◌<◌, ◌^◌};
+
+    ghost Value = { ℕ };
+
+    ghost view = { λ r. r.number };
+
+    ghost invariant = { λ r. (1 ≤ r.number) × (r.number < 2 ^ 63) };
+
+    ghost inverse = { λ n. record { number = n } };
+}
+
+impl RunId {
+    /// The run of this number, from 1 to [`LAST_NUMBER`].
+    pub fn new(number: u64) -> Option<RunId>
+        ensures valid { IsSome result ↔ ((1 ≤ number) × (number < 2 ^ 63)) }
+        ensures value { IfSome result (λ r. r ≡ number) }
+    {
+        if number >= 1 && number <= LAST_NUMBER {
+            Some(RunId { number })
+        } else {
+            None
+        }
+    }
+
+    pub fn get(self) -> u64
+        ensures value { result ≡ self }
+        ensures first { 1 ≤ result }
+        ensures last { result < 2 ^ 63 }
+    {
+        self.number
+    }
+}
+
+/// The number of a text: from 1, in order of registration.
+#[derive(Clone, Copy, Debug, PartialEq, Eq)]
+pub struct TextNo {
+    number: u64,
+}
+
+impl Model for TextNo {
+    ghost use Rattle.std.specs.Prelude.{ℕ, ◌≤◌, ◌<◌, ◌^◌};
+
+    ghost Value = { ℕ };
+
+    ghost view = { λ r. r.number };
+
+    ghost invariant = { λ r. (1 ≤ r.number) × (r.number < 2 ^ 63) };
+
+    ghost inverse = { λ n. record { number = n } };
+}
+
+impl TextNo {
+    /// The text of this number, from 1 to [`LAST_NUMBER`].
+    pub fn new(number: u64) -> Option<TextNo>
+        ensures valid { IsSome result ↔ ((1 ≤ number) × (number < 2 ^ 63)) }
+        ensures value { IfSome result (λ r. r ≡ number) }
+    {
+        if number >= 1 && number <= LAST_NUMBER {
+            Some(TextNo { number })
+        } else {
+            None
+        }
+    }
+
+    pub fn get(self) -> u64
+        ensures value { result ≡ self }
+        ensures first { 1 ≤ result }
+        ensures last { result < 2 ^ 63 }
+    {
+        self.number
+    }
+}
+
+/// The number of an event in its history: from 1, without gaps.
+#[derive(Clone, Copy, Debug, PartialEq, Eq)]
+pub struct EventId {
+    number: u64,
+}
+
+impl Model for EventId {
+    ghost use Rattle.std.specs.Prelude.{ℕ, ◌≤◌, ◌<◌, ◌^◌};
+
+    ghost Value = { ℕ };
+
+    ghost view = { λ r. r.number };
+
+    ghost invariant = { λ r. (1 ≤ r.number) × (r.number < 2 ^ 63) };
+
+    ghost inverse = { λ n. record { number = n } };
+}
+
+impl EventId {
+    /// The event of this number, from 1 to [`LAST_NUMBER`].
+    pub fn new(number: u64) -> Option<EventId>
+        ensures valid { IsSome result ↔ ((1 ≤ number) × (number < 2 ^ 63)) }
+        ensures value { IfSome result (λ r. r ≡ number) }
+    {
+        if number >= 1 && number <= LAST_NUMBER {
+            Some(EventId { number })
+        } else {
+            None
+        }
+    }
+
+    pub fn get(self) -> u64
+        ensures value { result ≡ self }
+        ensures first { 1 ≤ result }
+        ensures last { result < 2 ^ 63 }
+    {
+        self.number
+    }
+}
+
+/// Milliseconds, from 0 to [`LAST_MOMENT`].
+#[derive(Clone, Copy, Debug, PartialEq, Eq)]
+pub struct Moment {
+    milliseconds: u64,
+}
+
+impl Model for Moment {
+    ghost use Rattle.std.specs.Prelude.{ℕ, ◌≤◌};
+
+    ghost Value = { ℕ };
+
+    ghost view = { λ m. m.milliseconds };
+
+    ghost invariant = { λ m. m.milliseconds ≤ 1000000000000000 };
+
+    ghost inverse = { λ n. record { milliseconds = n } };
+}
+
+impl Moment {
+    /// The moment after so many milliseconds, up to [`LAST_MOMENT`].
+    pub fn new(milliseconds: u64) -> Option<Moment>
+        ensures valid { IsSome result ↔ (milliseconds ≤ LAST_MOMENT) }
+        ensures value { IfSome result (λ m. m ≡ milliseconds) }
+    {
+        if milliseconds <= LAST_MOMENT {
+            Some(Moment { milliseconds })
+        } else {
+            None
+        }
+    }
+
+    pub fn get(self) -> u64
+        ensures value { result ≡ self }
+        ensures last { result ≤ LAST_MOMENT }
+    {
+        self.milliseconds
+    }
+
+    /// The later of the two.
+    pub fn max(self, other: Moment) -> Moment
+        ensures { result ≡ max self other }
+    {
+        if self.milliseconds < other.milliseconds {
+            other
+        } else {
+            self
+        }
+    }
+}

@@ -1,0 +1,149 @@
+ghost use Rattle.std.specs.Prelude.{◌≡◌, IfOk, map};
+ghost use Rattle.flow_base.specs.Shown.{shown_expr, shown_stmt};
+
+use crate::text::{Key, Text};
+use crate::value::Kind;
+use std::alloc::{AllocError, Global};
+
+/// An operator with one operand.
+#[derive(Clone, Copy, Debug, PartialEq, Eq)]
+pub enum Unary {
+    /// `not`
+    Not,
+    /// `-`
+    Negate,
+    /// `text(..)`
+    TextOf,
+    /// `len(..)`
+    Length,
+}
+
+/// An operator with two operands.
+#[derive(Clone, Copy, Debug, PartialEq, Eq)]
+pub enum Binary {
+    Or,
+    And,
+    Equal,
+    Differ,
+    Less,
+    AtMost,
+    Greater,
+    AtLeast,
+    Add,
+    Subtract,
+    Join,
+    Multiply,
+    Divide,
+    Remain,
+}
+
+/// An expression. A place is the byte of the text at which the form's first token begins; an operator between two
+/// operands has none of its own, since the form begins where its left operand does.
+#[derive(Debug, Drop)]
+pub enum Expr {
+    Int(usize, i64),
+    Text(usize, Text),
+    Var(usize, Key),
+    Unary(usize, Unary, Box<Expr>),
+    Binary(Binary, Box<Expr>, Box<Expr>),
+}
+
+impl Expr {
+    pub fn copy(&self, alloc: Global) -> Result<Expr, AllocError>
+        ensures { IfOk result (λ e. shown_expr e ≡ shown_expr self.now) }
+    {
+        match self {
+            Expr::Int(at, n) => Ok(Expr::Int(*at, *n)),
+            Expr::Text(at, t) => Ok(Expr::Text(*at, t.copy(alloc)?)),
+            Expr::Var(at, x) => Ok(Expr::Var(*at, x.copy(alloc)?)),
+            Expr::Unary(at, op, a) => {
+                let a = Box::new(alloc, a.copy(alloc)?)?;
+                Ok(Expr::Unary(*at, *op, a))
+            }
+            Expr::Binary(op, a, b) => {
+                let a = Box::new(alloc, a.copy(alloc)?)?;
+                let b = Box::new(alloc, b.copy(alloc)?)?;
+                Ok(Expr::Binary(*op, a, b))
+            }
+        }
+    }
+}
+
+/// A statement. The first place is that of its first token, each further one that of the name behind it.
+#[derive(Debug, Drop)]
+pub enum Stmt {
+    /// `let`, and the place of the name.
+    Let(usize, usize, Key, Expr),
+    Assign(usize, Key, Expr),
+    /// A variable, the place of the activity, the activity and its arguments.
+    Call(usize, Key, usize, Key, Vec<Expr>),
+    Return(usize, Expr),
+}
+
+impl Stmt {
+    pub fn copy(&self, alloc: Global) -> Result<Stmt, AllocError>
+        ensures { IfOk result (λ s. shown_stmt s ≡ shown_stmt self.now) }
+    {
+        match self {
+            Stmt::Let(at, name_at, x, e) => Ok(Stmt::Let(
+                *at,
+                *name_at,
+                x.copy(alloc)?,
+                e.copy(alloc)?,
+            )),
+            Stmt::Assign(at, x, e) => Ok(Stmt::Assign(*at, x.copy(alloc)?, e.copy(alloc)?)),
+            Stmt::Call(at, x, activity_at, a, es) => {
+                let es = copy_exprs(alloc, es)?;
+                Ok(Stmt::Call(*at, x.copy(alloc)?, *activity_at, a.copy(alloc)?, es))
+            }
+            Stmt::Return(at, e) => Ok(Stmt::Return(*at, e.copy(alloc)?)),
+        }
+    }
+}
+
+fn copy_exprs(alloc: Global, exprs: &[Expr]) -> Result<Vec<Expr>, AllocError>
+    ensures { IfOk result (λ v. map shown_expr v.items ≡ map shown_expr exprs.now) }
+{
+    let mut list = Vec::new(alloc);
+    for e in exprs {
+        list.push(e.copy(alloc)?)?;
+    }
+    Ok(list)
+}
+
+/// A parameter of a program, and the place of its name.
+#[derive(Debug, Drop)]
+pub struct Parameter {
+    pub at: usize,
+    pub name: Key,
+    pub kind: Kind,
+}
+
+/// A type in a declaration, and its place.
+#[derive(Clone, Copy, Debug, PartialEq, Eq)]
+pub struct TypeAt {
+    pub at: usize,
+    pub kind: Kind,
+}
+
+/// A declaration. The first place is that of its keyword, the second that of its name.
+#[derive(Debug, Drop)]
+pub enum Declaration {
+    /// An activity: its name, what it takes and what it gives.
+    Activity(usize, usize, Key, Vec<TypeAt>, Kind),
+}
+
+/// The program of a text, with the places of its parts in the text.
+#[derive(Debug, Drop)]
+pub struct Program {
+    /// The place of the name.
+    pub at: usize,
+    pub name: Key,
+    pub parameters: Vec<Parameter>,
+    /// The place of the `)` behind the parameters.
+    pub parameters_end: usize,
+    pub declarations: Vec<Declaration>,
+    pub body: Vec<Stmt>,
+    /// The place of the last `}`.
+    pub body_end: usize,
+}
