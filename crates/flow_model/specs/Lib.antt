@@ -1,0 +1,1 @@
+-- each file a subject
