@@ -3,3 +3,9 @@ pub mod Kinds
 pub mod Syntax
 pub mod Bare
 pub mod Shown
+pub mod Names
+pub mod Limits
+pub mod Codec
+pub mod Leaves
+pub mod Gives
+pub mod Fields

@@ -1,0 +1,221 @@
+//! The members of a JSON object, read in the byte order of their keys.
+ghost use Rattle.std.specs.Prelude.{◌≡◌, ◌≤◌, Some, option_map, IfOk};
+ghost use Rattle.serde_json.specs.Data.{Members};
+ghost use Rattle.serde_json.specs.Find.{as_object};
+ghost use Rattle.serde_json.specs.View.{view};
+ghost use Rattle.flow_base.specs.Codec.{front, field, none_left};
+ghost use Rattle.flow_base.specs.Leaves.{whole, value, values, moment, position, key as a_key, long_text, any_text, kind, cause, fixed};
+ghost use Rattle.flow_base.specs.Gives.{Gives};
+ghost use Rattle.flow_base.specs.Fields.{left};
+
+use crate::event::Cause;
+use crate::json::values_of_json;
+use crate::number::{EventId, LAST_MOMENT, LAST_NUMBER, Moment, RunId, TextNo};
+use crate::sequence::Sequence;
+use crate::text::{Key, RawText, Text};
+use crate::value::{Kind, Value, ValueFault};
+use serde_json::{Map, Value as Json};
+use std::alloc::{AllocError, AllocFailed, Global};
+
+/// Why a reader stopped.
+#[derive(Clone, Copy, Debug, PartialEq, Eq)]
+pub enum Refused {
+    /// A growth of memory was refused.
+    Memory,
+    /// The JSON isn't what is read.
+    Unfit,
+}
+
+impl From<AllocError> for Refused {
+    ghost use Rattle.std.specs.Prelude.{◌≡◌};
+    ghost use Rattle.flow_base.specs.declared.fields.Refused.TheVariants.{Memory};
+
+    ghost from_gives = { λ _ e. e ≡ Memory };
+
+    fn from(_error: AllocError) -> Refused {
+        Refused::Memory
+    }
+}
+
+impl<T: Drop> From<AllocFailed<T>> for Refused {
+    ghost use Rattle.std.specs.Prelude.{◌≡◌};
+    ghost use Rattle.flow_base.specs.declared.fields.Refused.TheVariants.{Memory};
+
+    ghost from_gives = { λ _ e. e ≡ Memory };
+
+    fn from(_error: AllocFailed<T>) -> Refused {
+        Refused::Memory
+    }
+}
+
+impl From<ValueFault> for Refused {
+    ghost use Rattle.std.specs.Prelude.{◌≡◌};
+    ghost use Rattle.flow_base.specs.Gives.{refusal_of};
+
+    ghost from_gives = { λ f e. e ≡ refusal_of f };
+
+    fn from(fault: ValueFault) -> Refused {
+        match fault {
+            ValueFault::NoMemory => Refused::Memory,
+            ValueFault::NotAValue => Refused::Unfit,
+            ValueFault::TooLong => Refused::Unfit,
+        }
+    }
+}
+
+/// The members of an object that aren't read yet. Each reader takes the member of the least key, which must be the one
+/// that it is asked for.
+#[derive(Drop)]
+pub struct Fields {
+    map: Map<String, Json>,
+}
+
+impl Fields {
+    /// All members of an object.
+    pub fn of_json(json: Json) -> Result<Fields, Refused>
+        ensures { Gives left result (as_object (view json)) }
+    {
+        match json {
+            Json::Object(map) => Ok(Fields { map }),
+            _ => Err(Refused::Unfit),
+        }
+    }
+
+    /// The value at the key, if that is the least key that is left.
+    fn next(&mut self, key: &str) -> Option<Json>
+        ensures { option_map (λ v. (view v, left self.new)) result ≡ front key.now (left self.old) }
+    {
+        let (name, value) = self.map.pop_first()?;
+        if name.as_str() == key {
+            Some(value)
+        } else {
+            None
+        }
+    }
+
+    /// A whole number from `low` to `high`.
+    pub fn whole(&mut self, key: &str, low: u64, high: u64) -> Result<u64, Refused>
+        ensures gives { Gives (λ n. (n, left self.new)) result (field key.now (whole low high) (left self.old)) }
+        ensures within { IfOk result (λ n. (low ≤ n) × (n ≤ high)) }
+    {
+        let json = self.next(key).ok_or(Refused::Unfit)?;
+        match json.as_u64() {
+            Some(n) if low <= n && n <= high => Ok(n),
+            _ => Err(Refused::Unfit),
+        }
+    }
+
+    /// The number of a run.
+    pub fn run(&mut self, key: &str) -> Result<RunId, Refused>
+        ensures { Gives (λ n. (n, left self.new)) result (field key.now position (left self.old)) }
+    {
+        let number = self.whole(key, 1, LAST_NUMBER)?;
+        RunId::new(number).ok_or(Refused::Unfit)
+    }
+
+    /// The number of an event.
+    pub fn event(&mut self, key: &str) -> Result<EventId, Refused>
+        ensures { Gives (λ n. (n, left self.new)) result (field key.now position (left self.old)) }
+    {
+        let number = self.whole(key, 1, LAST_NUMBER)?;
+        EventId::new(number).ok_or(Refused::Unfit)
+    }
+
+    /// The number of a text.
+    pub fn text_number(&mut self, key: &str) -> Result<TextNo, Refused>
+        ensures { Gives (λ n. (n, left self.new)) result (field key.now position (left self.old)) }
+    {
+        let number = self.whole(key, 1, LAST_NUMBER)?;
+        TextNo::new(number).ok_or(Refused::Unfit)
+    }
+
+    /// A moment.
+    pub fn moment(&mut self, key: &str) -> Result<Moment, Refused>
+        ensures { Gives (λ n. (n, left self.new)) result (field key.now moment (left self.old)) }
+    {
+        let milliseconds = self.whole(key, 0, LAST_MOMENT)?;
+        Moment::new(milliseconds).ok_or(Refused::Unfit)
+    }
+
+    /// A name of 1 to 64 bytes.
+    pub fn key(&mut self, alloc: Global, key: &str) -> Result<Key, Refused>
+        ensures { Gives (λ n. (n, left self.new)) result (field key.now a_key (left self.old)) }
+    {
+        let json = self.next(key).ok_or(Refused::Unfit)?;
+        let text = json.as_str().ok_or(Refused::Unfit)?;
+        Ok(Key::new(alloc, text)?)
+    }
+
+    /// A text of at most 4,096 bytes.
+    pub fn text(&mut self, alloc: Global, key: &str) -> Result<Text, Refused>
+        ensures { Gives (λ n. (n, left self.new)) result (field key.now long_text (left self.old)) }
+    {
+        let json = self.next(key).ok_or(Refused::Unfit)?;
+        let text = json.as_str().ok_or(Refused::Unfit)?;
+        Ok(Text::new(alloc, text)?)
+    }
+
+    /// Any string.
+    pub fn any_text(&mut self, alloc: Global, key: &str) -> Result<RawText, Refused>
+        ensures { Gives (λ n. (n, left self.new)) result (field key.now any_text (left self.old)) }
+    {
+        let json = self.next(key).ok_or(Refused::Unfit)?;
+        let text = json.as_str().ok_or(Refused::Unfit)?;
+        Ok(RawText::new(alloc, text)?)
+    }
+
+    /// A value.
+    pub fn value(&mut self, alloc: Global, key: &str) -> Result<Value, Refused>
+        ensures { Gives (λ n. (n, left self.new)) result (field key.now value (left self.old)) }
+    {
+        let json = self.next(key).ok_or(Refused::Unfit)?;
+        Ok(Value::of_json(alloc, &json)?)
+    }
+
+    /// A list of at most 256 values.
+    pub fn values(&mut self, alloc: Global, key: &str) -> Result<Sequence<Value>, Refused>
+        ensures { Gives (λ n. (n, left self.new)) result (field key.now values (left self.old)) }
+    {
+        let json = self.next(key).ok_or(Refused::Unfit)?;
+        values_of_json(alloc, &json)
+    }
+
+    /// The name of a type.
+    pub fn kind(&mut self, key: &str) -> Result<Kind, Refused>
+        ensures { Gives (λ n. (n, left self.new)) result (field key.now kind (left self.old)) }
+    {
+        let json = self.next(key).ok_or(Refused::Unfit)?;
+        let text = json.as_str().ok_or(Refused::Unfit)?;
+        Kind::named(text).ok_or(Refused::Unfit)
+    }
+
+    /// The name of a cause.
+    pub fn cause(&mut self, key: &str) -> Result<Cause, Refused>
+        ensures { Gives (λ n. (n, left self.new)) result (field key.now cause (left self.old)) }
+    {
+        let json = self.next(key).ok_or(Refused::Unfit)?;
+        let text = json.as_str().ok_or(Refused::Unfit)?;
+        Cause::named(text).ok_or(Refused::Unfit)
+    }
+
+    /// This very word.
+    pub fn fixed(&mut self, key: &str, word: &str) -> Result<(), Refused>
+        ensures { Gives (λ n. (n, left self.new)) result (field key.now (fixed word.now) (left self.old)) }
+    {
+        let json = self.next(key).ok_or(Refused::Unfit)?;
+        match json.as_str() {
+            Some(text) if text == word => Ok(()),
+            _ => Err(Refused::Unfit),
+        }
+    }
+
+    /// Nothing is left.
+    pub fn finish(mut self) -> Result<(), Refused>
+        ensures { Gives (λ _. tt) result (none_left (left self)) }
+    {
+        match self.map.pop_first() {
+            None => Ok(()),
+            Some(_) => Err(Refused::Unfit),
+        }
+    }
+}
