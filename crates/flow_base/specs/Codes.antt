@@ -1,5 +1,5 @@
 -- The numbers of the refusals.
-use Rattle.std.specs.Prelude.{ℕ}
+use Rattle.std.specs.Prelude.{ℕ, List, ◌++◌, ◌/◌, ◌%◌, codes, decimal}
 use Rattle.flow_base.specs.declared.code.Code.{Code}
 use Rattle.flow_base.specs.declared.code.Code.TheVariants as c
 
@@ -44,3 +44,7 @@ code_number c.NoRun = 70
 code_number c.StoreRefused = 80
 code_number c.NoFile = 93
 code_number c.BadUsage = 97
+
+-- a refusal as it is written: E and two digits
+abbrev pub code_text : Code → List ℕ
+code_text c = codes "E" ++ (decimal (code_number c / 10) ++ decimal (code_number c % 10))

@@ -139,7 +139,14 @@ impl Code {
 }
 
 impl fmt::Display for Code {
+    ghost use Rattle.std.specs.Prelude.{Some};
+    ghost use Rattle.flow_base.specs.Codes.{code_text};
+
+    ghost output = { λ c. Some (code_text c) };
+
     fn fmt<W: fmt::Write>(&self, f: &mut fmt::Formatter<W>) -> fmt::Result {
-        write!(f, "E{:02}", self.number())
+        let tens = self.number() / 10;
+        let ones = self.number() % 10;
+        write!(f, "E{tens}{ones}")
     }
 }
