@@ -1,1 +1,11 @@
 -- each file a subject
+pub mod Values
+pub mod Rest
+pub mod Configuration
+pub mod Step
+pub mod Deliver
+pub mod Turn
+pub mod Stands
+pub mod Open
+pub mod Weights
+pub mod Turned
