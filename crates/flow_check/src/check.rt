@@ -1,0 +1,35 @@
+ghost use Rattle.std.specs.Prelude.{◌≡◌, IfOk};
+ghost use Rattle.flow_base.specs.Shown.{shown_program};
+ghost use Rattle.flow_check.specs.Shown.{shown_checked};
+
+use crate::checked::Checked;
+use crate::fault::CheckFault;
+use crate::first::FirstFault;
+use crate::names::check_names;
+use crate::scope::Scope;
+use crate::statement::check_statements;
+use flow_base::command::TextFault;
+use flow_base::syntax::Program;
+use std::alloc::{AllocError, Global};
+
+/// The program, if it keeps the checking rules.
+///
+/// # Failure
+/// E20 to E29: the rule that is broken at the least place, and of those there the one with the lowest number.
+pub fn check(alloc: Global, program: Program) -> Result<Checked, CheckFault>
+    ensures ok { IfOk result (λ c. shown_checked c ≡ shown_program program) }
+{
+    match first_fault(alloc, &program)? {
+        Some(fault) => Err(CheckFault::Rule(fault)),
+        None => Ok(Checked::of(program)),
+    }
+}
+
+/// The fault with the least place, and of those there the one with the lowest number.
+fn first_fault(alloc: Global, program: &Program) -> Result<Option<TextFault>, AllocError> {
+    let mut found = FirstFault::none();
+    check_names(alloc, program, &mut found)?;
+    let mut scope = Scope::of(alloc, &program.parameters, &program.declarations)?;
+    check_statements(&mut scope, &program.body, &mut found)?;
+    Ok(found.fault)
+}

@@ -1,0 +1,27 @@
+ghost use Rattle.std.specs.Prelude.{◌≡◌};
+ghost use Rattle.flow_base.specs.Shown.{shown_program};
+
+use flow_base::syntax::Program;
+
+/// A program that keeps the checking rules.
+#[derive(Debug, Drop)]
+pub struct Checked {
+    program: Program,
+}
+
+impl Checked {
+    ghost use Rattle.flow_check.specs.Shown.{shown_checked};
+
+    /// A program that was found to keep the rules; for `check` alone.
+    pub(crate) fn of(program: Program) -> Checked
+        ensures { shown_checked result ≡ shown_program program }
+    {
+        Checked { program }
+    }
+
+    pub fn program(&self) -> &Program
+        ensures { shown_program result.now ≡ shown_checked self.now }
+    {
+        &self.program
+    }
+}
