@@ -1,0 +1,35 @@
+-- What clap's getters give, in its rows; and words that are written out.
+use Rattle.std.proofs.Common.{◌≡◌, [], ◌∷◌, codes, Some, None, refl}
+use Rattle.clap.proofs.OnLiterals.{clap_on_literals}
+use Rattle.clap.proofs.WalkLemmas.{first_value-rows}
+use Rattle.clap.specs.Words.{Text, fault_of, first_of, first_value, rows_of}
+use Rattle.clap.specs.declared.error.kind.ErrorKind.TheVariants as kind
+use Rattle.clap.specs.declared.parser.matches.Found.{Found}
+use Rattle.flow_cli.specs.Calls.{flow, call_in, Check, Drive}
+
+pub first_in_rows : (f : Found) (id : Text) → first_value f id ≡ first_of id (rows_of f)
+first_in_rows f id = first_value-rows f id
+
+check_is_taken : fault_of flow (codes "flow" ∷ codes "check" ∷ codes "a" ∷ []) ≡ []
+unfolding clap_on_literals
+check_is_taken = refl
+
+check_says : call_in (codes "flow" ∷ codes "check" ∷ codes "a" ∷ []) ≡ Some (Check (codes "a"))
+unfolding clap_on_literals
+check_says = refl
+
+drive_is_taken : fault_of flow (codes "flow" ∷ codes "drive" ∷ codes "-" ∷ []) ≡ []
+unfolding clap_on_literals
+drive_is_taken = refl
+
+drive_says : call_in (codes "flow" ∷ codes "drive" ∷ codes "-" ∷ []) ≡ Some (Drive (codes "-"))
+unfolding clap_on_literals
+drive_says = refl
+
+help_is_refused : fault_of flow (codes "flow" ∷ codes "--help" ∷ []) ≡ kind.DisplayHelp ∷ []
+unfolding clap_on_literals
+help_is_refused = refl
+
+no_subcommand : fault_of flow (codes "flow" ∷ []) ≡ kind.MissingSubcommand ∷ []
+unfolding clap_on_literals
+no_subcommand = refl

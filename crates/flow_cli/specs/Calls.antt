@@ -1,0 +1,42 @@
+-- The words of a command line, as clap reads them.
+use Rattle.std.specs.Prelude.{◌≡◌, ℕ, List, [], Option, Some, None, codes, option_map, option_and_then, bytes_eq, true, if◌then◌else◌}
+use Rattle.clap.specs.Words.{App, Row, Rule, Text, first_of, fault_of, new_app, new_rule, subcommand_of, with_rule, with_subcommand}
+use Rattle.clap.specs.declared.builder.ArgAction.TheVariants.{Set}
+use Rattle.clap.specs.Simple.{on_top}
+
+-- ---- the program: `flow check FILE` and `flow drive DB`
+
+abbrev pub file : Rule
+file = record (new_rule (codes "FILE")) { required = true; action = Some Set }
+
+abbrev pub check : App
+check = with_rule (new_app (codes "check")) file
+
+abbrev pub base : Rule
+base = record (new_rule (codes "DB")) { required = true; action = Some Set }
+
+abbrev pub drive : App
+drive = with_rule (new_app (codes "drive")) base
+
+abbrev pub flow : App
+flow = with_subcommand (with_subcommand (on_top (λ s. record s { subcommand_required = true }) (new_app (codes "flow"))) check.top) drive.top
+
+-- ---- a call, without where its texts lie in memory
+
+pub data Call : Type 0 where
+  Check : Text → Call
+  Drive : Text → Call
+
+abbrev pub named_call : Text → List Row → Option Call
+named_call name rows =
+    if bytes_eq name (codes "check") then option_map Check (first_of (codes "FILE") rows) else
+    (if bytes_eq name (codes "drive") then option_map Drive (first_of (codes "DB") rows) else None)
+
+-- the call that clap's matches of the words are
+abbrev pub call_in : List Text → Option Call
+call_in words = option_and_then (λ p. named_call p.0 p.1) (subcommand_of flow words)
+
+-- clap takes the words, and they are that call
+pub record IsCall (words : List Text) (call : Call) : Type 0 where
+  pub taken : fault_of flow words ≡ []
+  pub says : call_in words ≡ Some call

@@ -1,0 +1,8 @@
+-- A call's texts.
+use Rattle.flow_cli.specs.Calls as pure
+use Rattle.flow_cli.specs.declared.call.Call.{Call}
+use Rattle.flow_cli.specs.declared.call.Call.TheVariants as call
+
+abbrev pub shown : Call → pure.Call
+shown (call.Check file) = pure.Check file.now
+shown (call.Drive base) = pure.Drive base.now

@@ -1,0 +1,124 @@
+//! The calls of the program, read by `clap`.
+ghost use Rattle.std.specs.Prelude.{◌≡◌, ◌⊎◌, IfOk, IfErr, false, map, option_map, option_and_then};
+ghost use Rattle.clap.specs.Words.{app_of, rule_of, found_of, rows_of, first_of, subcommand_rows_of};
+ghost use Rattle.clap.specs.declared.builder.command.Command.TheViews.{out-Command as fields_of};
+ghost use Rattle.flow_cli.specs.Calls.{flow, check, drive, file, base, named_call, IsCall};
+ghost use Rattle.flow_cli.specs.Calls.{Call as Pure};
+ghost use Rattle.flow_cli.specs.Shown.{shown};
+
+use crate::fault::Fault;
+use clap::error::ErrorKind;
+use clap::{Arg, ArgAction, ArgMatches, Command};
+use std::alloc::{AllocError, Global};
+use std::convert::AsStr;
+
+/// What the program is asked to do.
+#[derive(Debug, Drop)]
+pub enum Call<'a> {
+    /// Check the text in this file.
+    Check(&'a str),
+    /// Answer command lines over this store; `-` is a store in memory.
+    Drive(&'a str),
+}
+
+fn file_arg<'a>(alloc: Global) -> Arg<'a>
+    ensures rule { rule_of result ≡ file }
+    ensures local { result.global ≡ false }
+{
+    Arg::new(alloc, "FILE")
+        .required(true)
+        .action(ArgAction::Set)
+}
+
+fn check_command<'a>(alloc: Global) -> Result<Command<'a>, AllocError>
+    ensures app { IfOk result (λ c. app_of c ≡ check) }
+    ensures local { IfOk result (λ c. (fields_of c).has_globals ≡ false) }
+{
+    Ok(Command::new(alloc, "check").arg(file_arg(alloc))?)
+}
+
+fn base_arg<'a>(alloc: Global) -> Arg<'a>
+    ensures rule { rule_of result ≡ base }
+    ensures local { result.global ≡ false }
+{
+    Arg::new(alloc, "DB").required(true).action(ArgAction::Set)
+}
+
+fn drive_command<'a>(alloc: Global) -> Result<Command<'a>, AllocError>
+    ensures app { IfOk result (λ c. app_of c ≡ drive) }
+    ensures local { IfOk result (λ c. (fields_of c).has_globals ≡ false) }
+{
+    Ok(Command::new(alloc, "drive").arg(base_arg(alloc))?)
+}
+
+fn flow_command<'a>(alloc: Global) -> Result<Command<'a>, AllocError>
+    ensures app { IfOk result (λ c. app_of c ≡ flow) }
+{
+    let check = check_command(alloc)?;
+    let drive = drive_command(alloc)?;
+    Ok(
+        Command::new(alloc, "flow")
+            .subcommand_required(true)
+            .subcommand(check)?
+            .subcommand(drive)?,
+    )
+}
+
+#[tactic(auto, using(crate::proofs::Rows::first_in_rows))]
+fn text_of<'a>(found: &ArgMatches<'a>, id: &str) -> Option<&'a str>
+    ensures { option_map (λ t. t.now) result ≡ first_of id.now (rows_of (found_of found.now)) }
+{
+    found.get_str(id)
+}
+
+fn named_call<'a>(name: &str, found: &ArgMatches<'a>) -> Option<Call<'a>>
+    ensures { option_map shown result ≡ named_call name.now (rows_of (found_of found.now)) }
+{
+    match name {
+        "check" => match text_of(found, "FILE") {
+            Some(file) => Some(Call::Check(file)),
+            None => None,
+        },
+        "drive" => match text_of(found, "DB") {
+            Some(base) => Some(Call::Drive(base)),
+            None => None,
+        },
+        _ => None,
+    }
+}
+
+fn matched_call<'a>(found: &ArgMatches<'a>) -> Option<Call<'a>>
+    ensures { option_map shown result
+        ≡ option_and_then (λ p. named_call p.0 p.1) (subcommand_rows_of found.now) }
+{
+    match found.subcommand() {
+        Some((name, inner)) => named_call(name, inner),
+        None => None,
+    }
+}
+
+/// The call that the words are; the first word is the program's own.
+///
+/// # Failure
+/// E97 where they are no call, and where help is asked for.
+pub fn call_of<'a, S: AsStr>(alloc: Global, words: &'a [S]) -> Result<Call<'a>, Fault>
+    // clap takes the words, and they are that call.
+    ensures found { IfOk result (λ c. IsCall (map S.text words.entry.now) (shown c)) }
+    // Words that clap takes as a call are answered by it, unless memory runs out.
+    ensures only { (c : Pure) → IsCall (map S.text words.entry.now) c → IfErr result (λ e. e ≡ Fault.NoMemory) }
+    ensures usage { IfErr result (λ e. (e ≡ Fault.NoMemory) ⊎ (e ≡ Fault.BadUsage)) }
+{
+    let Ok(command) = flow_command(alloc) else {
+        return Err(Fault::NoMemory);
+    };
+    match command.try_get_matches_from(words) {
+        Ok(found) => match matched_call(&found) {
+            Some(call) => Ok(call),
+            None => Err(Fault::BadUsage),
+        },
+        Err(e) => match e.kind() {
+            ErrorKind::OutOfMemory => Err(Fault::NoMemory),
+            _ => Err(Fault::BadUsage),
+        },
+    }
+}

@@ -1,0 +1,8 @@
+//! The programs: what words, lines and files mean to `flow`, and what it answers.
+#![tactic(auto)]
+
+pub mod call;
+pub mod command;
+pub mod fault;
+#[cfg(test)]
+mod tests;
