@@ -9,3 +9,4 @@ pub mod Stands
 pub mod Open
 pub mod Weights
 pub mod Turned
+pub mod WellFormed

@@ -1,0 +1,22 @@
+-- The rules on the rows: what they say of small programs, by computation.
+use Rattle.std.proofs.Common.{◌≡◌, ℕ, List, [], ◌∷◌, Option, Some, None, refl, pos}
+use Rattle.flow_base.specs.declared.code.Code.{Code}
+use Rattle.flow_base.specs.declared.code.Code.TheVariants as code
+use Rattle.flow_base.specs.declared.command.TextFault.{TextFault}
+use Rattle.flow_base.specs.Syntax.{Program, Block, End, Next, Assign, Let, Number, Return, Variable}
+use Rattle.flow_model.specs.WellFormed.{first_fault}
+
+abbrev program : Block → Program
+program b = record { at = 9; name = 120 ∷ []; parameters = []; parameters_end = 11; declarations = []; body = b; body_end = 99 }
+
+-- workflow x() { y = 1; }
+not_visible : first_fault (program (Next (Assign 15 (121 ∷ []) (Number 19 (pos 1))) End)) ≡ Some (record { code = code.NotVisible; at = 15 })
+not_visible = refl
+
+-- workflow x() { let y = 1; return y; }
+visible : first_fault (program (Next (Let 15 19 (121 ∷ []) (Number 23 (pos 1))) (Next (Return 26 (Variable 33 (121 ∷ []))) End))) ≡ None
+visible = refl
+
+-- workflow x() { let y = 1; let y = 1; }
+twice : first_fault (program (Next (Let 15 19 (121 ∷ []) (Number 23 (pos 1))) (Next (Let 26 30 (121 ∷ []) (Number 34 (pos 1))) End))) ≡ Some (record { code = code.DeclaredTwice; at = 30 })
+twice = refl
