@@ -8,8 +8,8 @@ ghost use Rattle.flow_base.specs.Leaves.{whole, value, values, moment, position,
 ghost use Rattle.flow_base.specs.Gives.{Gives};
 ghost use Rattle.flow_base.specs.Fields.{left};
 
+use crate::encoding::values_of_json;
 use crate::event::Cause;
-use crate::json::values_of_json;
 use crate::number::{EventId, LAST_MOMENT, LAST_NUMBER, Moment, RunId, TextNo};
 use crate::sequence::Sequence;
 use crate::text::{Key, RawText, Text};

@@ -4,9 +4,9 @@
 pub mod book;
 pub mod code;
 pub mod command;
+pub mod encoding;
 pub mod event;
 pub mod fields;
-pub mod json;
 pub mod names;
 pub mod number;
 pub mod sequence;
