@@ -10,3 +10,4 @@ pub mod Open
 pub mod Weights
 pub mod Turned
 pub mod WellFormed
+pub mod Tokens

@@ -1,0 +1,15 @@
+//! The tokens of a program text.
+#![tactic(auto)]
+
+mod gap;
+mod keyword;
+mod mark;
+mod run;
+mod scan;
+#[cfg(test)]
+mod tests;
+mod token_list;
+mod words;
+
+pub use scan::tokens;
+pub use token_list::{Tokens, TokensFault};
