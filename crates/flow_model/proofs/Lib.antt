@@ -1,2 +1,3 @@
 pub mod FirstFault
 pub mod WellFormedRows
+mod BookRows

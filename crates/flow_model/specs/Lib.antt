@@ -11,3 +11,6 @@ pub mod Weights
 pub mod Turned
 pub mod WellFormed
 pub mod Tokens
+pub mod Book
+pub mod Apply
+pub mod Sound

@@ -1,0 +1,233 @@
+-- Apply: what a command answers, and what it changes in a book. A refusal changes nothing, unless the history is full.
+use Rattle.std.specs.Prelude.{ℕ, ◌+◌, Bool, true, false, List, [], ◌∷◌, length, map, max, codes, Option, Some, None, Result, Ok, Err, nat_eq, nat_le, if◌then◌else◌}
+use Rattle.flow_base.specs.Syntax.{Bytes, Program}
+use Rattle.flow_base.specs.declared.value.Value.{Value}
+use Rattle.flow_base.specs.declared.value.Kind.{Kind}
+use Rattle.flow_base.specs.declared.event.Cmd.{Cmd}
+use Rattle.flow_base.specs.declared.event.Cmd.TheVariants.{Schedule, ContinueAsNew}
+use Rattle.flow_base.specs.declared.event.Input.{Input}
+use Rattle.flow_base.specs.declared.event.Input.TheVariants.{Started, ActivityCompleted, Terminated}
+use Rattle.flow_base.specs.declared.event.What.TheVariants.{Came, Asked}
+use Rattle.flow_base.specs.declared.event.Event.{Event}
+use Rattle.flow_base.specs.declared.book.Task.{Task}
+use Rattle.flow_base.specs.declared.book.Timer.{Timer}
+use Rattle.flow_base.specs.declared.book.Run.{Run}
+use Rattle.flow_base.specs.declared.book.Turn.{Turn}
+use Rattle.flow_base.specs.declared.book.Change.{Change}
+use Rattle.flow_base.specs.declared.book.Change.TheVariants.{AddText, AddRun, AddTurn}
+use Rattle.flow_base.specs.declared.code.Code.{Code}
+use Rattle.flow_base.specs.declared.code.Code.TheVariants.{NoText, BadArguments, AlreadyOpen, NotOpen, OldAttempt, WrongType, NoRun}
+use Rattle.flow_base.specs.declared.command.Command.{Command}
+use Rattle.flow_base.specs.declared.command.Command.TheVariants as command
+use Rattle.flow_base.specs.declared.command.TextFault.{TextFault}
+use Rattle.flow_base.specs.declared.command.Reply.{Reply}
+use Rattle.flow_base.specs.declared.command.Reply.TheVariants as reply
+use Rattle.flow_model.specs.Configuration.{first_configuration}
+use Rattle.flow_model.specs.Deliver.{all_fit, has_kind}
+use Rattle.flow_model.specs.Turn.{Fresh}
+use Rattle.flow_model.specs.Turned.{turned, position_of}
+use Rattle.flow_model.specs.Open.{open_timers, state_of, moment_of}
+use Rattle.flow_model.specs.Book.{Book, nth, text_number, requested, open_run, changed_by}
+
+-- What decides beside the book: how many events a history may have, and which program a text is, or why it is none.
+pub record Rules : Type 0 where
+  pub limit : ℕ
+  pub program_of : Bytes → Result Program TextFault
+
+-- the most events of a history, but for the one that closes a full one
+abbrev pub event_limit : ℕ
+event_limit = 2046
+
+-- the rules of the engine, by what texts mean
+abbrev pub rules_of : (Bytes → Result Program TextFault) → Rules
+rules_of program_of = record { limit = event_limit; program_of = program_of }
+
+pub record Outcome : Type 0 where
+  pub reply : Reply
+  pub changes : List Change
+
+-- a reply that changes nothing
+abbrev pub says : Reply → Outcome
+says r = record { reply = r; changes = [] }
+
+-- Tests in order. The first that fails gives the reply, and no later one is made.
+
+-- there may be none; what is there is answered
+abbrev pub none_there : {A : Type 0} → Option A → (A → Reply) → Outcome → Outcome
+none_there None answer next = next
+none_there (Some x) answer next = says (answer x)
+
+-- there must be one, with which it goes on
+abbrev pub must_be : {A : Type 0} → Option A → Code → (A → Outcome) → Outcome
+must_be None code next = says (reply.Refused code)
+must_be (Some x) code next = next x
+
+abbrev pub must_hold : Bool → Code → Outcome → Outcome
+must_hold true code next = next
+must_hold false code next = says (reply.Refused code)
+
+-- the refusal that some tests gave, if any
+abbrev pub tested : Option Code → Outcome → Outcome
+tested None next = next
+tested (Some code) next = says (reply.Refused code)
+
+-- a test among those of which the first that fails is wanted
+abbrev pub refuse_unless : Bool → Code → Option Code → Option Code
+refuse_unless true code next = next
+refuse_unless false code next = Some code
+
+-- What a sound book never lacks: each text reads as a program, and each history stands under its program.
+abbrev pub if_sound : {A : Type 0} → Option A → (A → Outcome) → Outcome
+if_sound None next = says (reply.Refused NotOpen)
+if_sound (Some x) next = next x
+
+abbrev pub program_if : Result Program TextFault → Option Program
+program_if (Ok p) = Some p
+program_if (Err fault) = None
+
+-- the program of a text of the book
+abbrev pub program_at : (Bytes → Result Program TextFault) → Book → ℕ → Option Program
+program_at program_of b n = elim (nth b.texts n) [ None ↦ None | Some body ↦ program_if (program_of body) ]
+
+-- Turns.
+
+-- the first turn of a run
+abbrev pub first_turn : Program → ℕ → List Value → Option Turn
+first_turn p at vs =
+    elim (turned p Fresh first_configuration at (Started vs)) [
+      | None ↦ None
+      | Some t ↦ Some (record { at = at; input = Started vs; commands = t.0 })
+    ]
+
+-- the arguments with which a turn continues the run as a new one
+abbrev pub continued : List Cmd → Option (List Value)
+continued [] = None
+continued (ContinueAsNew vs ∷ cs) = Some vs
+continued (c ∷ cs) = continued cs
+
+abbrev pub run_from : Run → Option Turn → List Change
+run_from r None = []
+run_from r (Some t) = AddRun r.flow None r.text t ∷ []
+
+-- The run that a turn continues as: of the same flow and text, begun at the same moment, by no request.
+abbrev pub next_run : Program → Run → ℕ → Option (List Value) → List Change
+next_run p r at None = []
+next_run p r at (Some vs) = run_from r (first_turn p at vs)
+
+-- the text of the event that closes a full history
+abbrev pub history_limit : Bytes
+history_limit = codes "history limit"
+
+-- A turn is recorded. One that would bring the history past the limit is not: the run is terminated in its place.
+abbrev pub turn_made : ℕ → Program → Run → ℕ → ℕ → Input → List Cmd → Outcome
+turn_made limit p r run at i cs =
+    if nat_le (length r.history + 1 + length cs) limit
+    then record {
+      reply = reply.Recorded run (length r.history + 1);
+      changes = AddTurn run (record { at = at; input = i; commands = cs }) ∷ next_run p r at (continued cs);
+    }
+    else record {
+      reply = reply.Full run (length r.history + 1);
+      changes = AddTurn run (record { at = at; input = Terminated history_limit; commands = [] }) ∷ [];
+    }
+
+-- A run takes an input: its fresh turn, at the greater of this moment and that of its last event.
+unfoldable pub recorded : ℕ → Program → Run → ℕ → ℕ → Input → Outcome
+recorded limit p r run at i =
+    if_sound (position_of p r.history) (λ k.
+    if_sound (turned p Fresh k (max at (moment_of r.history)) i) (λ t.
+    turn_made limit p r run (max at (moment_of r.history)) i t.0))
+
+-- the same, of the run's text
+unfoldable pub input_recorded : Rules → Book → Run → ℕ → ℕ → Input → Outcome
+input_recorded u b r run at i = if_sound (program_at u.program_of b r.text) (λ p. recorded u.limit p r run at i)
+
+-- Reports of activities.
+
+-- the open activity of an event
+abbrev pub task_at : List Task → ℕ → Option Task
+task_at [] n = None
+task_at (t ∷ ts) n = if nat_eq t.event n then Some t else task_at ts n
+
+abbrev pub on_task : Option Task → (Task → Option Code) → Option Code
+on_task None next = Some NotOpen
+on_task (Some t) next = next t
+
+-- whether an event schedules an activity that gives such a value
+abbrev pub gives_kind : Option Event → Value → Bool
+gives_kind None v = false
+gives_kind (Some e) v =
+    elim e.what [ Came i ↦ false | Asked c ↦ elim c [ Schedule a vs tries every k ↦ has_kind k v | _ ↦ false ] ]
+
+-- The first refusal of what an activity gave: that it isn't open, that the attempt is an old one, that the type is wrong.
+unfoldable pub report_refusal : Run → ℕ → ℕ → Value → Option Code
+report_refusal r event attempt v =
+    on_task (task_at r.tasks event) (λ t.
+    refuse_unless (nat_eq t.attempt attempt) OldAttempt (
+    refuse_unless (gives_kind (nth r.history event) v) WrongType None))
+
+-- The commands.
+
+abbrev pub on_program : Result Program TextFault → (Program → Outcome) → Outcome
+on_program (Ok p) next = next p
+on_program (Err fault) next = says (reply.BadText fault)
+
+-- A text is registered under the next number. The same bytes again answer the first number.
+unfoldable pub register : (Bytes → Result Program TextFault) → Book → Bytes → Outcome
+register program_of b body =
+    on_program (program_of body) (λ p.
+    none_there (text_number b body) reply.Registered (
+    record { reply = reply.Registered (length b.texts + 1); changes = AddText body ∷ [] }))
+
+-- A run of a flow is started, with its first turn. The same request again answers the run that it started.
+unfoldable pub start : (Bytes → Result Program TextFault) → Book → Bytes → Bytes → ℕ → List Value → ℕ → Outcome
+start program_of b request flow text vs at =
+    none_there (requested b request) reply.Duplicate (
+    must_be (nth b.texts text) NoText (λ body.
+    if_sound (program_if (program_of body)) (λ p.
+    must_hold (all_fit p.parameters vs) BadArguments (
+    none_there (open_run b flow) (λ n. reply.Refused AlreadyOpen) (
+    if_sound (first_turn p at vs) (λ t.
+    record { reply = reply.Started (length b.runs + 1); changes = AddRun flow (Some request) text t ∷ [] }))))))
+
+-- An attempt of an activity gave a value.
+unfoldable pub complete : Rules → Book → ℕ → ℕ → ℕ → Value → ℕ → Outcome
+complete u b run event attempt v at =
+    must_be (nth b.runs run) NoRun (λ r.
+    tested (report_refusal r event attempt v) (
+    input_recorded u b r run at (ActivityCompleted event v)))
+
+-- A run, told.
+unfoldable pub describe : Book → ℕ → Outcome
+describe b run =
+    must_be (nth b.runs run) NoRun (λ r. says (reply.Run (record {
+      flow = r.flow; text = r.text; state = state_of r.history; events = length r.history;
+      activities = map (λ (t : Task). t.event) r.tasks; timers = map (λ (t : Timer). t.id) (open_timers r.history);
+    })))
+
+unfoldable pub history : Book → ℕ → Outcome
+history b run = must_be (nth b.runs run) NoRun (λ r. says (reply.History r.history))
+
+-- The outcome of a command.
+unfoldable pub outcome : Rules → Book → Command → Outcome
+outcome u b (command.Register body) = register u.program_of b body
+outcome u b (command.Start request flow text vs at) = start u.program_of b request flow text vs at
+outcome u b (command.Complete run event attempt v at) = complete u b run event attempt v at
+outcome u b (command.Describe run) = describe b run
+outcome u b (command.History run) = history b run
+
+-- After and replies: commands, one after the other.
+
+-- the book after one command
+abbrev pub after_one : Rules → Book → Command → Book
+after_one u b c = changed_by b (outcome u b c).changes
+
+-- The book after a list of commands.
+abbrev pub after : Rules → Book → List Command → Book
+after u b [] = b
+after u b (c ∷ cs) = after u (after_one u b c) cs
+
+-- What they are answered, in their order.
+abbrev pub replies : Rules → Book → List Command → List Reply
+replies u b [] = []
+replies u b (c ∷ cs) = (outcome u b c).reply ∷ replies u (after_one u b c) cs

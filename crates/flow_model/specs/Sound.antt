@@ -1,0 +1,37 @@
+-- Which books are sound.
+use Rattle.std.specs.Prelude.{◌≡◌, ◌≤◌, ℕ, true, map, All, Option, Some, slice_get}
+use Rattle.flow_base.specs.Syntax.{Program}
+use Rattle.flow_base.specs.declared.event.Cmd.TheVariants.{Schedule}
+use Rattle.flow_base.specs.declared.event.What.TheVariants.{Asked}
+use Rattle.flow_base.specs.declared.event.Event.{Event}
+use Rattle.flow_base.specs.declared.book.Task.{Task}
+use Rattle.flow_base.specs.declared.book.Run.{Run}
+use Rattle.flow_model.specs.Configuration.{Configuration, is_open}
+use Rattle.flow_model.specs.Stands.{Stands}
+use Rattle.flow_model.specs.Open.{open_activities, state_of}
+use Rattle.flow_model.specs.Book.{Book, nth}
+use Rattle.flow_model.specs.Apply.{Rules, program_at}
+
+-- An open activity has an attempt from 1 to the number of times that it is tried.
+pub record IsSoundTask (r : Run) (t : Task) : Type 0 where
+  pub first : 1 ≤ t.attempt
+  pub event : Event
+  pub scheduled : nth r.history t.event ≡ Some event
+  pub tries : ℕ
+  pub asked : (a : _) × ((vs : _) × ((every : ℕ) × ((k : _) × (event.what ≡ Asked (Schedule a vs tries every k)))))
+  pub last : t.attempt ≤ tries
+
+-- A run's history stands under its text, and its open activities are those of its history.
+pub record IsSoundRun (u : Rules) (b : Book) (r : Run) : Type 0 where
+  pub program : Program
+  pub its_text : program_at u.program_of b r.text ≡ Some program
+  pub place : Configuration
+  pub stands : Stands program r.history place
+  pub activities : map (λ (t : Task). t.event) r.tasks ≡ map (λ (t : Task). t.event) (open_activities r.history)
+  pub attempts : All (IsSoundTask r) r.tasks
+
+-- Each run is sound, and at most one run of a flow is open.
+pub record IsSound (u : Rules) (b : Book) : Type 0 where
+  pub runs : All (IsSoundRun u b) b.runs
+  pub one_open : (i j : ℕ) (r s : Run) → slice_get b.runs i ≡ Some r → slice_get b.runs j ≡ Some s → r.flow ≡ s.flow
+      → is_open (state_of r.history) ≡ true → is_open (state_of s.history) ≡ true → i ≡ j
