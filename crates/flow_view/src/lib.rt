@@ -1,0 +1,8 @@
+//! What shows a book: reads, which leave it, and changes.
+#![tactic(auto)]
+
+pub mod fault;
+pub mod history;
+pub mod lists;
+pub mod run;
+pub mod view;
