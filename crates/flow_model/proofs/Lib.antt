@@ -1,3 +1,5 @@
 pub mod FirstFault
 pub mod WellFormedRows
 mod BookRows
+pub mod Lists
+pub mod Awaits

@@ -12,8 +12,8 @@ pub record Configuration : Type 0 where
   pub variables : Variables
   pub buffer : List (Bytes × Value)  -- signals that nobody took, the oldest first
   pub decided : Bytes → Option Bool  -- patches, and whether each took its first list
-  pub events : ℕ                     -- how many events the history has
-  pub moment : ℕ                     -- that of the last event
+  pub events : ℕ  -- how many events the history has
+  pub moment : ℕ  -- that of the last event
   pub state : State
 
 -- no patch has an answer yet

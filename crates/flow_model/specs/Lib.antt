@@ -14,3 +14,4 @@ pub mod Tokens
 pub mod Book
 pub mod Apply
 pub mod Sound
+pub mod Shown

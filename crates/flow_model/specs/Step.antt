@@ -16,15 +16,15 @@ pub record Store : Type 0 where
   pub variables : Variables
   pub buffer : List (Bytes × Value)  -- signals that nobody took, the oldest first
   pub decided : Bytes → Option Bool  -- patches, and whether each took its first list
-  pub tests : ℕ                      -- `while` conditions that this turn has tested
+  pub tests : ℕ  -- `while` conditions that this turn has tested
 
 -- What the steps of a turn only read.
 pub record Setting : Type 0 where
   pub activities : List ActivityType
-  pub at : ℕ                 -- the turn's moment
-  pub is_first : Bool        -- whether its input is Started
-  pub waits : ℕ              -- the open waits of the whole run, or 32 where they are more
-  pub event : ℕ              -- the id that the next command's event gets
+  pub at : ℕ  -- the turn's moment
+  pub is_first : Bool  -- whether its input is Started
+  pub waits : ℕ  -- the open waits of the whole run, or 32 where they are more
+  pub event : ℕ  -- the id that the next command's event gets
   pub answer : Bytes → Bool  -- what an undecided patch answers here
 
 -- What one step does.
@@ -111,7 +111,7 @@ begin s t (While at e b end) =
     else raise TurnBudget
 begin s t (Call at x activity_at a es r o) =
     on_value (values t.variables s.at es) (λ vs. waiting s (
-      Asks (OnActivity s.event x (gives_of s.activities a) o) t (Schedule a vs r.tries r.every (gives_of s.activities a))))
+    Asks (OnActivity s.event x (gives_of s.activities a) o) t (Schedule a vs r.tries r.every (gives_of s.activities a))))
 begin s t (Sleep at e) = on_value (due t.variables s.at e) (λ d. waiting s (Asks (OnTimer s.event) t (StartTimer d)))
 begin s t (WaitSignal at x signal_at n) =
     on_signal (oldest n t.buffer) (λ v. Goes Done (take_signal t x n v)) (waiting s (Goes (OnSignal x n) t))

@@ -19,15 +19,19 @@ use Rattle.flow_model.specs.Deliver.{Progress, deliver}
 pub record Frame : Type 0 where
   pub activities : List ActivityType
   pub at : ℕ
-  pub is_first : Bool            -- whether its input is Started
-  pub events : ℕ                 -- the events up to the input's, itself among them
+  pub is_first : Bool  -- whether its input is Started
+  pub events : ℕ  -- the events up to the input's, itself among them
   pub answer : ℕ → Bytes → Bool  -- what an undecided patch answers after so many commands of this turn
 
 abbrev pub setting : Frame → Progress → Setting
 setting f p =
     record {
-      activities = f.activities; at = f.at; is_first = f.is_first; waits = min (open_waits p.rest) wait_limit;
-      event = f.events + length p.asked + 1; answer = f.answer (length p.asked);
+      activities = f.activities;
+      at = f.at;
+      is_first = f.is_first;
+      waits = min (open_waits p.rest) wait_limit;
+      event = f.events + length p.asked + 1;
+      answer = f.answer (length p.asked);
     }
 
 -- how a command leaves an open run
@@ -91,8 +95,13 @@ frame p k at i answers =
 abbrev pub left_by : Frame → Progress → Configuration
 left_by f p =
     record {
-      rest = p.rest; variables = p.store.variables; buffer = p.store.buffer; decided = p.store.decided;
-      events = f.events + length p.asked; moment = f.at; state = p.state;
+      rest = p.rest;
+      variables = p.store.variables;
+      buffer = p.store.buffer;
+      decided = p.store.decided;
+      events = f.events + length p.asked;
+      moment = f.at;
+      state = p.state;
     }
 
 -- A turn of a program: from one configuration, at a moment, an input leads to these commands and another configuration.

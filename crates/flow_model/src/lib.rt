@@ -1,2 +1,9 @@
 //! What is right: the definitions of texts, runs and books, and the plain programs that compute them.
 #![tactic(auto)]
+
+pub mod decided;
+pub mod deliver;
+pub mod named;
+pub mod plain;
+pub mod rest;
+pub mod value;
