@@ -15,3 +15,7 @@ pub mod Book
 pub mod Apply
 pub mod Sound
 pub mod Shown
+pub mod Lexeme
+pub mod Grammar
+pub mod Limits
+pub mod Parse

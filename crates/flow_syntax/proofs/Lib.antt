@@ -1,0 +1,6 @@
+pub mod Steps
+pub mod Complete
+pub mod Sound
+pub mod Stops
+pub mod Parsed
+pub mod ParsedExpressions

@@ -1,0 +1,293 @@
+-- What the machine still owes can be written, and then stands for a reading.
+use Rattle.std.proofs.Common.{◌≡◌, ◌∙◌, ℕ, Bool, true, false, cond, List, [], ◌∷◌, ◌++◌, Option, Some, None, refl, ap, sym, append_assoc, get_or, eqb-true}
+use Rattle.std.proofs.lemmas.List.{append-nil}
+use Rattle.flow_base.specs.Syntax.{Bytes}
+use Rattle.flow_base.specs.declared.token.Word.{Word}
+use Rattle.flow_base.specs.declared.token.Word.TheVariants as word
+use Rattle.flow_base.specs.declared.token.Mark.{Mark}
+use Rattle.flow_base.specs.declared.token.Mark.TheVariants as mark
+use Rattle.flow_base.specs.declared.value.Kind.TheVariants as kind
+use Rattle.flow_model.specs.Lexeme.{Lexeme}
+use Rattle.flow_model.specs.Grammar.{times, over, percent, plus, minus, join, equal, differ, less, at_most, greater, at_least, ParensReading, parens, PrimReading, int, text, name, text_of, len_of, inner, UnaryReading, negate, prim, TermReading, term, TermTail, no_factor, factor, SumReading, sum, SumTail, no_term, added, CompareReading, compare, CompareTail, no_side, compared, NegReading, not, plain, ConjReading, conj, ConjTail, no_and, and, ExprReading, expr, ExprTail, no_or, or, ArgumentsReading, no_argument, argument, ArgumentTail, last_argument, next_argument, TypeReading, typed, TypesReading, no_type, type_, TypeTail, last_type, next_type, ParameterReading, parameter, ParametersReading, no_parameter, parameter_, ParameterTail, last_parameter, next_parameter, DeclarationReading, activity, SideReading, value, call, StatementReading, let_, assign, return_, StatementsReading, no_statement, statement, BodyReading, statements, declaration, ProgramReading, workflow}
+use Rattle.flow_model.specs.Grammar.{marked, named, parens_tokens, prim_tokens, unary_tokens, term_tokens, term_tail_tokens, sum_tokens, sum_tail_tokens, compare_tokens, compare_tail_tokens, neg_tokens, conj_tokens, conj_tail_tokens, expr_tokens, expr_tail_tokens, argument_tail_tokens, arguments_tokens, type_tokens, type_tail_tokens, types_tokens, parameter_tokens, parameter_tail_tokens, parameters_tokens, declaration_tokens, side_tokens, statement_tokens, statements_tokens, body_tokens, program_tokens}
+use Rattle.flow_syntax.specs.Machine.{Symbol, takes, then_more, prim_takes, unary_takes, term_takes, sum_takes, compare_takes, neg_takes, conj_takes, expr_takes, arguments_takes, type_takes, types_takes, parameter_takes, parameters_takes, side_takes, statement_takes, statements_takes, activity_takes, body_takes, number, is_mark}
+use Rattle.flow_syntax.specs.Machine as m
+
+-- what may stand for a symbol
+abbrev pub Reading : Symbol → Type 0
+Reading m.name = ℕ × Bytes
+Reading (m.sign _) = ℕ
+Reading m.parens = ParensReading
+Reading m.prim = PrimReading
+Reading m.unary = UnaryReading
+Reading m.term = TermReading
+Reading m.sum = SumReading
+Reading m.compare = CompareReading
+Reading m.neg = NegReading
+Reading m.conj = ConjReading
+Reading m.expr = ExprReading
+Reading m.more_term = TermTail
+Reading m.more_sum = SumTail
+Reading m.more_compare = CompareTail
+Reading m.more_conj = ConjTail
+Reading m.more_expr = ExprTail
+Reading m.arguments = ArgumentsReading
+Reading m.more_arguments = ArgumentTail
+Reading m.type_ = TypeReading
+Reading m.types = TypesReading
+Reading m.more_types = TypeTail
+Reading m.parameter = ParameterReading
+Reading m.parameters = ParametersReading
+Reading m.more_parameters = ParameterTail
+Reading m.activity = DeclarationReading
+Reading m.side = SideReading
+Reading m.statement = StatementReading
+Reading m.statements = StatementsReading
+Reading m.body = BodyReading
+Reading m.program = ProgramReading
+
+abbrev pub spelled : (s : Symbol) → Reading s → List Lexeme
+spelled m.name x = named x.0 x.1 ∷ []
+spelled (m.sign k) at = marked at k ∷ []
+spelled m.parens r = parens_tokens r
+spelled m.prim r = prim_tokens r
+spelled m.unary r = unary_tokens r
+spelled m.term r = term_tokens r
+spelled m.sum r = sum_tokens r
+spelled m.compare r = compare_tokens r
+spelled m.neg r = neg_tokens r
+spelled m.conj r = conj_tokens r
+spelled m.expr r = expr_tokens r
+spelled m.more_term r = term_tail_tokens r
+spelled m.more_sum r = sum_tail_tokens r
+spelled m.more_compare r = compare_tail_tokens r
+spelled m.more_conj r = conj_tail_tokens r
+spelled m.more_expr r = expr_tail_tokens r
+spelled m.arguments r = arguments_tokens r
+spelled m.more_arguments r = argument_tail_tokens r
+spelled m.type_ r = type_tokens r
+spelled m.types r = types_tokens r
+spelled m.more_types r = type_tail_tokens r
+spelled m.parameter r = parameter_tokens r
+spelled m.parameters r = parameters_tokens r
+spelled m.more_parameters r = parameter_tail_tokens r
+spelled m.activity r = declaration_tokens r
+spelled m.side r = side_tokens r
+spelled m.statement r = statement_tokens r
+spelled m.statements r = statements_tokens r
+spelled m.body r = body_tokens r
+spelled m.program r = program_tokens r
+
+-- a reading for each symbol owed
+abbrev pub Readings : List Symbol → Type 0
+Readings [] = Unit {0}
+Readings (s ∷ owed) = Reading s × Readings owed
+
+abbrev pub all_spelled : (owed : List Symbol) → Readings owed → List Lexeme
+all_spelled [] r = []
+all_spelled (s ∷ owed) r = spelled s r.0 ++ all_spelled owed r.1
+
+-- what a symbol begins with, and then readings of what it owes, is a reading of it
+abbrev pub Comes : Symbol → Lexeme → Option (List Symbol) → Type 0
+Comes s t None = Unit {0}
+Comes s t (Some now) = (rs : Readings now) → (r : Reading s) × (spelled s r ≡ t ∷ all_spelled now rs)
+
+abbrev by_number : List Mark
+by_number = mark.Workflow ∷ mark.Activity ∷ mark.Signal ∷ mark.Let ∷ mark.If ∷ mark.Else ∷ mark.While ∷ mark.Call ∷ mark.Retry ∷ mark.Every ∷ mark.Sleep ∷ mark.Wait ∷ mark.For ∷ mark.Parallel ∷ mark.Patch ∷ mark.Return ∷ mark.Fail ∷ mark.Continue ∷ mark.As ∷ mark.New ∷ mark.Int ∷ mark.Text ∷ mark.Len ∷ mark.Now ∷ mark.And ∷ mark.Or ∷ mark.Not ∷ mark.Open ∷ mark.Close ∷ mark.BraceOpen ∷ mark.BraceClose ∷ mark.Comma ∷ mark.Semicolon ∷ mark.Colon ∷ mark.Assign ∷ mark.Equal ∷ mark.Differ ∷ mark.Less ∷ mark.AtMost ∷ mark.Greater ∷ mark.AtLeast ∷ mark.Arrow ∷ mark.Plus ∷ mark.Join ∷ mark.Minus ∷ mark.Times ∷ mark.Over ∷ mark.Percent ∷ []
+
+numbered : (m : Mark) → get_or by_number (number m) mark.Workflow ≡ m
+numbered mark.Workflow = refl
+numbered mark.Activity = refl
+numbered mark.Signal = refl
+numbered mark.Let = refl
+numbered mark.If = refl
+numbered mark.Else = refl
+numbered mark.While = refl
+numbered mark.Call = refl
+numbered mark.Retry = refl
+numbered mark.Every = refl
+numbered mark.Sleep = refl
+numbered mark.Wait = refl
+numbered mark.For = refl
+numbered mark.Parallel = refl
+numbered mark.Patch = refl
+numbered mark.Return = refl
+numbered mark.Fail = refl
+numbered mark.Continue = refl
+numbered mark.As = refl
+numbered mark.New = refl
+numbered mark.Int = refl
+numbered mark.Text = refl
+numbered mark.Len = refl
+numbered mark.Now = refl
+numbered mark.And = refl
+numbered mark.Or = refl
+numbered mark.Not = refl
+numbered mark.Open = refl
+numbered mark.Close = refl
+numbered mark.BraceOpen = refl
+numbered mark.BraceClose = refl
+numbered mark.Comma = refl
+numbered mark.Semicolon = refl
+numbered mark.Colon = refl
+numbered mark.Assign = refl
+numbered mark.Equal = refl
+numbered mark.Differ = refl
+numbered mark.Less = refl
+numbered mark.AtMost = refl
+numbered mark.Greater = refl
+numbered mark.AtLeast = refl
+numbered mark.Arrow = refl
+numbered mark.Plus = refl
+numbered mark.Join = refl
+numbered mark.Minus = refl
+numbered mark.Times = refl
+numbered mark.Over = refl
+numbered mark.Percent = refl
+
+pub same_mark : (m n : Mark) → is_mark m n ≡ true → m ≡ n
+same_mark m n h = sym (numbered m) ∙ ap (λ k. get_or by_number k mark.Workflow) (eqb-true (number m) (number n) h) ∙ numbered n
+
+signs : (k n : Mark) (at : ℕ) (b : Bool) → is_mark k n ≡ b → Comes (m.sign k) (record { at = at; word = word.Mark n }) (cond b (Some []) None)
+signs k n at true h = λ rs. (at, ap (λ j. marked at j ∷ []) (same_mark k n h))
+signs k n at false h = tt
+
+pub split : (now owed : List Symbol) (rs : Readings (now ++ owed)) → (a : Readings now) × (b : Readings owed) × (all_spelled now a ++ all_spelled owed b ≡ all_spelled (now ++ owed) rs)
+split [] owed rs = (tt, rs, refl)
+split (s ∷ now) owed (r, rs) = let e = split now owed rs in ((r, e.0), e.1, rw append_assoc (ap (λ x. spelled s r ++ x) e.2))
+
+-- what begins a part begins the whole
+comes_then : (s w : Symbol) (t : Lexeme) (o : Option (List Symbol)) (more : List Symbol) → ((r : Reading s) (q : Readings more) → (v : Reading w) × (spelled w v ≡ spelled s r ++ all_spelled more q)) → Comes s t o → Comes w t (then_more o more)
+comes_then s w t None more f h = tt
+comes_then s w t (Some now) more f h = λ rs.
+    let p = split now more rs in
+    let r = h p.0 in
+    let v = f r.0 p.1 in
+    (v.0, v.1 ∙ ap (λ x. x ++ all_spelled more p.1) r.1 ∙ ap (λ x. t ∷ x) p.2)
+
+comes_as : (s w : Symbol) (t : Lexeme) (o : Option (List Symbol)) → ((r : Reading s) → (v : Reading w) × (spelled w v ≡ spelled s r)) → Comes s t o → Comes w t o
+comes_as s w t None f h = tt
+comes_as s w t (Some now) f h = λ rs.
+    let r = h rs in
+    let v = f r.0 in
+    (v.0, v.1 ∙ r.1)
+
+prim_comes : (at : ℕ) (k : Word) → Comes m.prim (record { at = at; word = k }) (prim_takes k)
+prim_comes at (word.Int n) = λ rs. (int at n, refl)
+prim_comes at (word.Text t) = λ rs. (text at t, refl)
+prim_comes at (word.Name x) = λ rs. (name at x, refl)
+prim_comes at (word.Mark mark.Open) = λ (e, (to, u)). (inner (parens at e to), refl)
+prim_comes at (word.Mark mark.Text) = λ (p, u). (text_of at p, simp append-nil)
+prim_comes at (word.Mark mark.Len) = λ (p, u). (len_of at p, simp append-nil)
+prim_comes at _ = tt
+
+unary_comes : (at : ℕ) (k : Word) → Comes m.unary (record { at = at; word = k }) (unary_takes k)
+unary_comes at (word.Mark mark.Minus) = λ (u, v). (negate at u, simp append-nil)
+unary_comes at k = comes_as m.prim m.unary (record { at = at; word = k }) (prim_takes k) (λ p. (prim p, refl)) (prim_comes at k)
+
+term_comes : (at : ℕ) (k : Word) → Comes m.term (record { at = at; word = k }) (term_takes k)
+term_comes at k = comes_then m.unary m.term (record { at = at; word = k }) (unary_takes k) (m.more_term ∷ []) (λ p q. (term p q.0, simp append-nil)) (unary_comes at k)
+
+sum_comes : (at : ℕ) (k : Word) → Comes m.sum (record { at = at; word = k }) (sum_takes k)
+sum_comes at k = comes_then m.term m.sum (record { at = at; word = k }) (term_takes k) (m.more_sum ∷ []) (λ p q. (sum p q.0, simp append-nil)) (term_comes at k)
+
+compare_comes : (at : ℕ) (k : Word) → Comes m.compare (record { at = at; word = k }) (compare_takes k)
+compare_comes at k = comes_then m.sum m.compare (record { at = at; word = k }) (sum_takes k) (m.more_compare ∷ []) (λ p q. (compare p q.0, simp append-nil)) (sum_comes at k)
+
+neg_comes : (at : ℕ) (k : Word) → Comes m.neg (record { at = at; word = k }) (neg_takes k)
+neg_comes at (word.Mark mark.Not) = λ (n, v). (not at n, simp append-nil)
+neg_comes at k = comes_as m.compare m.neg (record { at = at; word = k }) (compare_takes k) (λ p. (plain p, refl)) (compare_comes at k)
+
+conj_comes : (at : ℕ) (k : Word) → Comes m.conj (record { at = at; word = k }) (conj_takes k)
+conj_comes at k = comes_then m.neg m.conj (record { at = at; word = k }) (neg_takes k) (m.more_conj ∷ []) (λ p q. (conj p q.0, simp append-nil)) (neg_comes at k)
+
+expr_comes : (at : ℕ) (k : Word) → Comes m.expr (record { at = at; word = k }) (expr_takes k)
+expr_comes at k = comes_then m.conj m.expr (record { at = at; word = k }) (conj_takes k) (m.more_expr ∷ []) (λ p q. (expr p q.0, simp append-nil)) (conj_comes at k)
+
+arguments_comes : (at : ℕ) (k : Word) → Comes m.arguments (record { at = at; word = k }) (arguments_takes k)
+arguments_comes at (word.Mark mark.Close) = λ rs. (no_argument at, refl)
+arguments_comes at k = comes_then m.expr m.arguments (record { at = at; word = k }) (expr_takes k) (m.more_arguments ∷ []) (λ p q. (argument p q.0, simp append-nil)) (expr_comes at k)
+
+type_comes : (at : ℕ) (k : Word) → Comes m.type_ (record { at = at; word = k }) (type_takes k)
+type_comes at (word.Mark mark.Int) = λ rs. (typed at kind.Int, refl)
+type_comes at (word.Mark mark.Text) = λ rs. (typed at kind.Text, refl)
+type_comes at _ = tt
+
+types_comes : (at : ℕ) (k : Word) → Comes m.types (record { at = at; word = k }) (types_takes k)
+types_comes at (word.Mark mark.Close) = λ rs. (no_type at, refl)
+types_comes at k = comes_then m.type_ m.types (record { at = at; word = k }) (type_takes k) (m.more_types ∷ []) (λ p q. (type_ p q.0, simp append-nil)) (type_comes at k)
+
+parameter_comes : (at : ℕ) (k : Word) → Comes m.parameter (record { at = at; word = k }) (parameter_takes k)
+parameter_comes at (word.Name x) = λ (colon, (t, u)). (parameter at x colon t, simp append-nil)
+parameter_comes at _ = tt
+
+parameters_comes : (at : ℕ) (k : Word) → Comes m.parameters (record { at = at; word = k }) (parameters_takes k)
+parameters_comes at (word.Mark mark.Close) = λ rs. (no_parameter at, refl)
+parameters_comes at k = comes_then m.parameter m.parameters (record { at = at; word = k }) (parameter_takes k) (m.more_parameters ∷ []) (λ p q. (parameter_ p q.0, simp append-nil)) (parameter_comes at k)
+
+side_comes : (at : ℕ) (k : Word) → Comes m.side (record { at = at; word = k }) (side_takes k)
+side_comes at (word.Mark mark.Call) = λ (x, (paren, (es, (end, u)))). (call at x.0 x.1 paren es end, refl)
+side_comes at k = comes_then m.expr m.side (record { at = at; word = k }) (expr_takes k) (m.sign mark.Semicolon ∷ []) (λ p q. (value p q.0, refl)) (expr_comes at k)
+
+statement_comes : (at : ℕ) (k : Word) → Comes m.statement (record { at = at; word = k }) (statement_takes k)
+statement_comes at (word.Mark mark.Let) = λ (x, (eq, (e, (end, u)))). (let_ at x.0 x.1 eq e end, refl)
+statement_comes at (word.Mark mark.Return) = λ (e, (end, u)). (return_ at e end, refl)
+statement_comes at (word.Name x) = λ (eq, (s, u)). (assign at x eq s, simp append-nil)
+statement_comes at _ = tt
+
+statements_comes : (at : ℕ) (k : Word) → Comes m.statements (record { at = at; word = k }) (statements_takes k)
+statements_comes at (word.Mark mark.BraceClose) = λ rs. (no_statement at, refl)
+statements_comes at k = comes_then m.statement m.statements (record { at = at; word = k }) (statement_takes k) (m.statements ∷ []) (λ p q. (statement p q.0, simp append-nil)) (statement_comes at k)
+
+activity_comes : (at : ℕ) (k : Word) → Comes m.activity (record { at = at; word = k }) (activity_takes k)
+activity_comes at (word.Mark mark.Activity) = λ (x, (paren, (us, (arrow, (t, (end, u)))))). (activity at x.0 x.1 paren us arrow t end, refl)
+activity_comes at _ = tt
+
+body_comes : (at : ℕ) (k : Word) → Comes m.body (record { at = at; word = k }) (body_takes k)
+body_comes at (word.Mark mark.Activity) = comes_then m.activity m.body (record { at = at; word = word.Mark mark.Activity }) (activity_takes (word.Mark mark.Activity)) (m.body ∷ []) (λ p q. (declaration p q.0, simp append-nil)) (activity_comes at (word.Mark mark.Activity))
+body_comes at k = comes_as m.statements m.body (record { at = at; word = k }) (statements_takes k) (λ p. (statements p, refl)) (statements_comes at k)
+
+pub comes : (s : Symbol) (at : ℕ) (k : Word) → Comes s (record { at = at; word = k }) (takes s k)
+comes m.name at (word.Name x) = λ rs. ((at, x), refl)
+comes (m.sign k) at (word.Mark n) = signs k n at (is_mark k n) refl
+comes m.parens at (word.Mark mark.Open) = λ (e, (to, u)). (parens at e to, refl)
+comes m.prim at k = prim_comes at k
+comes m.unary at k = unary_comes at k
+comes m.term at k = term_comes at k
+comes m.sum at k = sum_comes at k
+comes m.compare at k = compare_comes at k
+comes m.neg at k = neg_comes at k
+comes m.conj at k = conj_comes at k
+comes m.expr at k = expr_comes at k
+comes m.more_term at (word.Mark mark.Times) = λ (p, (more, u)). (factor times at p more, simp append-nil)
+comes m.more_term at (word.Mark mark.Over) = λ (p, (more, u)). (factor over at p more, simp append-nil)
+comes m.more_term at (word.Mark mark.Percent) = λ (p, (more, u)). (factor percent at p more, simp append-nil)
+comes m.more_sum at (word.Mark mark.Plus) = λ (t, (more, u)). (added plus at t more, simp append-nil)
+comes m.more_sum at (word.Mark mark.Minus) = λ (t, (more, u)). (added minus at t more, simp append-nil)
+comes m.more_sum at (word.Mark mark.Join) = λ (t, (more, u)). (added join at t more, simp append-nil)
+comes m.more_compare at (word.Mark mark.Equal) = λ (b, u). (compared equal at b, simp append-nil)
+comes m.more_compare at (word.Mark mark.Differ) = λ (b, u). (compared differ at b, simp append-nil)
+comes m.more_compare at (word.Mark mark.Less) = λ (b, u). (compared less at b, simp append-nil)
+comes m.more_compare at (word.Mark mark.AtMost) = λ (b, u). (compared at_most at b, simp append-nil)
+comes m.more_compare at (word.Mark mark.Greater) = λ (b, u). (compared greater at b, simp append-nil)
+comes m.more_compare at (word.Mark mark.AtLeast) = λ (b, u). (compared at_least at b, simp append-nil)
+comes m.more_conj at (word.Mark mark.And) = λ (n, (more, u)). (and at n more, simp append-nil)
+comes m.more_expr at (word.Mark mark.Or) = λ (c, (more, u)). (or at c more, simp append-nil)
+comes m.arguments at k = arguments_comes at k
+comes m.more_arguments at (word.Mark mark.Close) = λ rs. (last_argument at, refl)
+comes m.more_arguments at (word.Mark mark.Comma) = λ (e, (more, u)). (next_argument at e more, simp append-nil)
+comes m.type_ at k = type_comes at k
+comes m.types at k = types_comes at k
+comes m.more_types at (word.Mark mark.Close) = λ rs. (last_type at, refl)
+comes m.more_types at (word.Mark mark.Comma) = λ (t, (more, u)). (next_type at t more, simp append-nil)
+comes m.parameter at k = parameter_comes at k
+comes m.parameters at k = parameters_comes at k
+comes m.more_parameters at (word.Mark mark.Close) = λ rs. (last_parameter at, refl)
+comes m.more_parameters at (word.Mark mark.Comma) = λ (p, (more, u)). (next_parameter at p more, simp append-nil)
+comes m.activity at k = activity_comes at k
+comes m.side at k = side_comes at k
+comes m.statement at k = statement_comes at k
+comes m.statements at k = statements_comes at k
+comes m.body at k = body_comes at k
+comes m.program at (word.Mark mark.Workflow) = λ (x, (paren, (ps, (brace, (b, u))))). (workflow at x.0 x.1 paren ps brace b, simp append-nil)
+comes _ at _ = tt

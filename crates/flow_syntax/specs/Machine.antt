@@ -1,0 +1,253 @@
+-- A machine that reads tokens by a stack of what is still owed. It stands in no public clause: the parser's
+-- private functions are stated by it, and proofs/ shows that it stops where the grammar does.
+use Rattle.std.specs.Prelude.{ℕ, suc, nat_eq, Bool, true, false, cond, List, [], ◌∷◌, ◌++◌, length, Option, Some, None}
+use Rattle.flow_base.specs.declared.token.Word.{Word}
+use Rattle.flow_base.specs.declared.token.Word.TheVariants as word
+use Rattle.flow_base.specs.declared.token.Mark.{Mark}
+use Rattle.flow_base.specs.declared.token.Mark.TheVariants as mark
+use Rattle.flow_model.specs.Lexeme.{Lexeme}
+
+-- What may be owed. The tails of expressions may also be nothing.
+pub data Symbol : Type 0 where
+  name : Symbol
+  sign : Mark → Symbol
+  parens : Symbol
+  prim : Symbol
+  unary : Symbol
+  term : Symbol
+  sum : Symbol
+  compare : Symbol
+  neg : Symbol
+  conj : Symbol
+  expr : Symbol
+  more_term : Symbol
+  more_sum : Symbol
+  more_compare : Symbol
+  more_conj : Symbol
+  more_expr : Symbol
+  arguments : Symbol
+  more_arguments : Symbol
+  type_ : Symbol
+  types : Symbol
+  more_types : Symbol
+  parameter : Symbol
+  parameters : Symbol
+  more_parameters : Symbol
+  activity : Symbol
+  side : Symbol
+  statement : Symbol
+  statements : Symbol
+  body : Symbol
+  program : Symbol
+
+-- marks by number, so that they can be compared
+abbrev pub number : Mark → ℕ
+number mark.Workflow = 0
+number mark.Activity = 1
+number mark.Signal = 2
+number mark.Let = 3
+number mark.If = 4
+number mark.Else = 5
+number mark.While = 6
+number mark.Call = 7
+number mark.Retry = 8
+number mark.Every = 9
+number mark.Sleep = 10
+number mark.Wait = 11
+number mark.For = 12
+number mark.Parallel = 13
+number mark.Patch = 14
+number mark.Return = 15
+number mark.Fail = 16
+number mark.Continue = 17
+number mark.As = 18
+number mark.New = 19
+number mark.Int = 20
+number mark.Text = 21
+number mark.Len = 22
+number mark.Now = 23
+number mark.And = 24
+number mark.Or = 25
+number mark.Not = 26
+number mark.Open = 27
+number mark.Close = 28
+number mark.BraceOpen = 29
+number mark.BraceClose = 30
+number mark.Comma = 31
+number mark.Semicolon = 32
+number mark.Colon = 33
+number mark.Assign = 34
+number mark.Equal = 35
+number mark.Differ = 36
+number mark.Less = 37
+number mark.AtMost = 38
+number mark.Greater = 39
+number mark.AtLeast = 40
+number mark.Arrow = 41
+number mark.Plus = 42
+number mark.Join = 43
+number mark.Minus = 44
+number mark.Times = 45
+number mark.Over = 46
+number mark.Percent = 47
+
+abbrev pub is_mark : Mark → Mark → Bool
+is_mark m n = nat_eq (number m) (number n)
+
+-- more is owed behind what is owed
+abbrev pub then_more : Option (List Symbol) → List Symbol → Option (List Symbol)
+then_more None more = None
+then_more (Some now) more = Some (now ++ more)
+
+abbrev pub prim_takes : Word → Option (List Symbol)
+prim_takes (word.Int n) = Some []
+prim_takes (word.Text t) = Some []
+prim_takes (word.Name x) = Some []
+prim_takes (word.Mark mark.Open) = Some (expr ∷ sign mark.Close ∷ [])
+prim_takes (word.Mark mark.Text) = Some (parens ∷ [])
+prim_takes (word.Mark mark.Len) = Some (parens ∷ [])
+prim_takes _ = None
+
+abbrev pub unary_takes : Word → Option (List Symbol)
+unary_takes (word.Mark mark.Minus) = Some (unary ∷ [])
+unary_takes k = prim_takes k
+
+abbrev pub term_takes : Word → Option (List Symbol)
+term_takes k = then_more (unary_takes k) (more_term ∷ [])
+
+abbrev pub sum_takes : Word → Option (List Symbol)
+sum_takes k = then_more (term_takes k) (more_sum ∷ [])
+
+abbrev pub compare_takes : Word → Option (List Symbol)
+compare_takes k = then_more (sum_takes k) (more_compare ∷ [])
+
+abbrev pub neg_takes : Word → Option (List Symbol)
+neg_takes (word.Mark mark.Not) = Some (neg ∷ [])
+neg_takes k = compare_takes k
+
+abbrev pub conj_takes : Word → Option (List Symbol)
+conj_takes k = then_more (neg_takes k) (more_conj ∷ [])
+
+abbrev pub expr_takes : Word → Option (List Symbol)
+expr_takes k = then_more (conj_takes k) (more_expr ∷ [])
+
+abbrev pub arguments_takes : Word → Option (List Symbol)
+arguments_takes (word.Mark mark.Close) = Some []
+arguments_takes k = then_more (expr_takes k) (more_arguments ∷ [])
+
+abbrev pub type_takes : Word → Option (List Symbol)
+type_takes (word.Mark mark.Int) = Some []
+type_takes (word.Mark mark.Text) = Some []
+type_takes _ = None
+
+abbrev pub types_takes : Word → Option (List Symbol)
+types_takes (word.Mark mark.Close) = Some []
+types_takes k = then_more (type_takes k) (more_types ∷ [])
+
+abbrev pub parameter_takes : Word → Option (List Symbol)
+parameter_takes (word.Name x) = Some (sign mark.Colon ∷ type_ ∷ [])
+parameter_takes _ = None
+
+abbrev pub parameters_takes : Word → Option (List Symbol)
+parameters_takes (word.Mark mark.Close) = Some []
+parameters_takes k = then_more (parameter_takes k) (more_parameters ∷ [])
+
+abbrev pub side_takes : Word → Option (List Symbol)
+side_takes (word.Mark mark.Call) = Some (name ∷ sign mark.Open ∷ arguments ∷ sign mark.Semicolon ∷ [])
+side_takes k = then_more (expr_takes k) (sign mark.Semicolon ∷ [])
+
+abbrev pub statement_takes : Word → Option (List Symbol)
+statement_takes (word.Mark mark.Let) = Some (name ∷ sign mark.Assign ∷ expr ∷ sign mark.Semicolon ∷ [])
+statement_takes (word.Mark mark.Return) = Some (expr ∷ sign mark.Semicolon ∷ [])
+statement_takes (word.Name x) = Some (sign mark.Assign ∷ side ∷ [])
+statement_takes _ = None
+
+abbrev pub statements_takes : Word → Option (List Symbol)
+statements_takes (word.Mark mark.BraceClose) = Some []
+statements_takes k = then_more (statement_takes k) (statements ∷ [])
+
+abbrev pub activity_takes : Word → Option (List Symbol)
+activity_takes (word.Mark mark.Activity) = Some (name ∷ sign mark.Open ∷ types ∷ sign mark.Arrow ∷ type_ ∷ sign mark.Semicolon ∷ [])
+activity_takes _ = None
+
+abbrev pub body_takes : Word → Option (List Symbol)
+body_takes (word.Mark mark.Activity) = then_more (activity_takes (word.Mark mark.Activity)) (body ∷ [])
+body_takes k = statements_takes k
+
+-- What is owed after a token instead of the symbol, if the symbol begins with it.
+abbrev pub takes : Symbol → Word → Option (List Symbol)
+takes name (word.Name x) = Some []
+takes (sign m) (word.Mark n) = cond (is_mark m n) (Some []) None
+takes parens (word.Mark mark.Open) = Some (expr ∷ sign mark.Close ∷ [])
+takes prim k = prim_takes k
+takes unary k = unary_takes k
+takes term k = term_takes k
+takes sum k = sum_takes k
+takes compare k = compare_takes k
+takes neg k = neg_takes k
+takes conj k = conj_takes k
+takes expr k = expr_takes k
+takes more_term (word.Mark mark.Times) = Some (unary ∷ more_term ∷ [])
+takes more_term (word.Mark mark.Over) = Some (unary ∷ more_term ∷ [])
+takes more_term (word.Mark mark.Percent) = Some (unary ∷ more_term ∷ [])
+takes more_sum (word.Mark mark.Plus) = Some (term ∷ more_sum ∷ [])
+takes more_sum (word.Mark mark.Minus) = Some (term ∷ more_sum ∷ [])
+takes more_sum (word.Mark mark.Join) = Some (term ∷ more_sum ∷ [])
+takes more_compare (word.Mark mark.Equal) = Some (sum ∷ [])
+takes more_compare (word.Mark mark.Differ) = Some (sum ∷ [])
+takes more_compare (word.Mark mark.Less) = Some (sum ∷ [])
+takes more_compare (word.Mark mark.AtMost) = Some (sum ∷ [])
+takes more_compare (word.Mark mark.Greater) = Some (sum ∷ [])
+takes more_compare (word.Mark mark.AtLeast) = Some (sum ∷ [])
+takes more_conj (word.Mark mark.And) = Some (neg ∷ more_conj ∷ [])
+takes more_expr (word.Mark mark.Or) = Some (conj ∷ more_expr ∷ [])
+takes arguments k = arguments_takes k
+takes more_arguments (word.Mark mark.Close) = Some []
+takes more_arguments (word.Mark mark.Comma) = Some (expr ∷ more_arguments ∷ [])
+takes type_ k = type_takes k
+takes types k = types_takes k
+takes more_types (word.Mark mark.Close) = Some []
+takes more_types (word.Mark mark.Comma) = Some (type_ ∷ more_types ∷ [])
+takes parameter k = parameter_takes k
+takes parameters k = parameters_takes k
+takes more_parameters (word.Mark mark.Close) = Some []
+takes more_parameters (word.Mark mark.Comma) = Some (parameter ∷ more_parameters ∷ [])
+takes activity k = activity_takes k
+takes side k = side_takes k
+takes statement k = statement_takes k
+takes statements k = statements_takes k
+takes body k = body_takes k
+takes program (word.Mark mark.Workflow) = Some (name ∷ sign mark.Open ∷ parameters ∷ sign mark.BraceOpen ∷ body ∷ [])
+takes _ _ = None
+
+abbrev pub may_be_nothing : Symbol → Bool
+may_be_nothing more_term = true
+may_be_nothing more_sum = true
+may_be_nothing more_compare = true
+may_be_nothing more_conj = true
+may_be_nothing more_expr = true
+may_be_nothing _ = false
+
+abbrev pub step_by : Option (List Symbol) → Bool → List Symbol → Option (List Symbol) → Option (List Symbol)
+step_by (Some now) b owed after = Some (now ++ owed)
+step_by None true owed after = after
+step_by None false owed after = None
+
+-- what is owed after one token, if it fits
+abbrev pub step : Word → List Symbol → Option (List Symbol)
+step k [] = None
+step k (s ∷ owed) = step_by (takes s k) (may_be_nothing s) owed (step k owed)
+
+-- nothing more is owed
+abbrev pub is_done : List Symbol → Bool
+is_done [] = true
+is_done (s ∷ owed) = cond (may_be_nothing s) (is_done owed) false
+
+abbrev pub fault_by : ℕ → Option (List Symbol) → (List Symbol → Option ℕ) → Option ℕ
+fault_by left None next = Some left
+fault_by left (Some owed) next = next owed
+
+-- How many tokens are left at the first one that does not fit; 0 where they end early; None where all fit.
+abbrev pub fault : List Symbol → List Lexeme → Option ℕ
+fault owed [] = cond (is_done owed) None (Some 0)
+fault owed (t ∷ ts) = fault_by (suc (length ts)) (step t.word owed) (λ rest. fault rest ts)

@@ -1,0 +1,97 @@
+use flow_base::code::Code;
+use flow_tokens::TokensFault;
+use std::alloc::{AllocError, AllocFailed};
+
+/// Why a text is no program. A place is a byte of the text.
+#[derive(Debug, Drop, thiserror::Error)]
+pub enum ParseFault {
+    #[error("E01 out of memory")]
+    NoMemory,
+    /// No token begins here.
+    #[error("E10 at {0}")]
+    BadToken(usize),
+    /// The first token that no beginning of a program admits, or the text's length where it ends early.
+    #[error("E11 at {0}")]
+    Unexpected(usize),
+    /// The text has more than 65,536 bytes.
+    #[error("E12 at 65536")]
+    TextTooLong,
+    /// The bracket with which 65 stand unclosed, or the 65th operator of one outermost expression.
+    #[error("E13 at {0}")]
+    TooDeep(usize),
+}
+
+impl ParseFault {
+    /// The number of the refusal.
+    pub fn code(&self) -> Code {
+        match self {
+            ParseFault::NoMemory => Code::NoMemory,
+            ParseFault::BadToken(_) => Code::BadToken,
+            ParseFault::Unexpected(_) => Code::Unexpected,
+            ParseFault::TextTooLong => Code::TextTooLong,
+            ParseFault::TooDeep(_) => Code::TooDeep,
+        }
+    }
+
+    /// The place of the fault. The want of memory has none.
+    pub fn at(&self) -> Option<usize> {
+        match self {
+            ParseFault::NoMemory => None,
+            ParseFault::BadToken(at) => Some(*at),
+            ParseFault::Unexpected(at) => Some(*at),
+            ParseFault::TextTooLong => Some(65536),
+            ParseFault::TooDeep(at) => Some(*at),
+        }
+    }
+}
+
+impl From<AllocError> for ParseFault {
+    ghost use Rattle.std.specs.Prelude.{◌≡◌};
+    ghost use Rattle.flow_syntax.specs.declared.fault.ParseFault.TheVariants.{NoMemory};
+
+    ghost from_gives = { λ _ e. e ≡ NoMemory };
+
+    fn from(_: AllocError) -> ParseFault {
+        ParseFault::NoMemory
+    }
+}
+
+impl From<TokensFault> for ParseFault {
+    ghost use Rattle.std.specs.Prelude.{◌≡◌};
+    ghost use Rattle.flow_syntax.specs.declared.fault.ParseFault.TheVariants.{NoMemory};
+
+    ghost from_gives = { λ _ e. e ≡ NoMemory };
+
+    fn from(_: TokensFault) -> ParseFault {
+        ParseFault::NoMemory
+    }
+}
+
+/// Why tokens weren't read: no memory, or a token doesn't fit with so many left, itself among them.
+#[derive(Debug, Drop)]
+pub enum Stop {
+    NoMemory,
+    Unexpected(usize),
+}
+
+impl From<AllocError> for Stop {
+    ghost use Rattle.std.specs.Prelude.{◌≡◌};
+    ghost use Rattle.flow_syntax.specs.declared.fault.Stop.TheVariants.{NoMemory};
+
+    ghost from_gives = { λ _ e. e ≡ NoMemory };
+
+    fn from(_: AllocError) -> Stop {
+        Stop::NoMemory
+    }
+}
+
+impl<T: Drop> From<AllocFailed<T>> for Stop {
+    ghost use Rattle.std.specs.Prelude.{◌≡◌};
+    ghost use Rattle.flow_syntax.specs.declared.fault.Stop.TheVariants.{NoMemory};
+
+    ghost from_gives = { λ _ e. e ≡ NoMemory };
+
+    fn from(_error: AllocFailed<T>) -> Stop {
+        Stop::NoMemory
+    }
+}

@@ -1,0 +1,85 @@
+//! The parser's calls.
+ghost use Rattle.std.specs.Prelude.{◌<◌, length};
+
+use crate::cursor::next;
+use crate::fault::{ParseFault, Stop};
+use crate::limits::first_too_deep;
+use crate::program::program;
+use flow_base::syntax::Program;
+use flow_base::token::Token;
+use flow_tokens::{Tokens, tokens};
+use std::alloc::Global;
+
+/// The most bytes of a program text.
+pub const PROGRAM_LIMIT: usize = 65536;
+
+/// The fault of tokens that aren't read, where `behind` is the one behind them.
+fn fault_of(tokens: &[Token], stop: Stop, behind: ParseFault) -> ParseFault {
+    match stop {
+        Stop::NoMemory => ParseFault::NoMemory,
+        Stop::Unexpected(left) => {
+            if left > tokens.len() {
+                return behind;
+            }
+            match next(&tokens[tokens.len() - left..]) {
+                Some((token, _)) => ParseFault::Unexpected(token.from),
+                None => behind,
+            }
+        }
+    }
+}
+
+/// The first fault of tokens behind which a fault stands.
+fn first_fault(alloc: Global, tokens: &[Token], behind: ParseFault) -> ParseFault {
+    match program(alloc, tokens) {
+        Ok(_) => behind,
+        Err(stop) => fault_of(tokens, stop, behind),
+    }
+}
+
+/// The first fault of tokens of which one passes a limit.
+fn deep_fault(alloc: Global, tokens: &[Token], index: usize) -> ParseFault
+    requires { index < length tokens.now }
+{
+    let behind = ParseFault::TooDeep(tokens[index].from);
+    first_fault(alloc, &tokens[..=index], behind)
+}
+
+/// The program of the tokens of a text that ends at this place.
+///
+/// # Failure
+/// E11 or E13, whichever comes first in the text.
+pub fn parse_tokens(alloc: Global, tokens: &[Token], end: usize) -> Result<Program, ParseFault> {
+    if let Some(index) = first_too_deep(tokens) {
+        return Err(deep_fault(alloc, tokens, index));
+    }
+    match program(alloc, tokens) {
+        Ok(program) => Ok(program),
+        Err(stop) => Err(fault_of(tokens, stop, ParseFault::Unexpected(end))),
+    }
+}
+
+/// The first fault of the tokens before a place at which no token begins.
+fn fault_before(alloc: Global, tokens: &[Token], at: usize) -> ParseFault {
+    match first_too_deep(tokens) {
+        Some(index) => deep_fault(alloc, tokens, index),
+        None => first_fault(alloc, tokens, ParseFault::BadToken(at)),
+    }
+}
+
+/// The program of a text.
+///
+/// # Failure
+/// E12 where the text has more than [`PROGRAM_LIMIT`] bytes; else the first fault in the text: E10 where no token
+/// begins, E11 at the first token with which no program goes on, or at the text's length where it ends early, E13 at
+/// the token with which a limit is passed. At one place the lowest number counts.
+pub fn parse(alloc: Global, text: &str) -> Result<Program, ParseFault> {
+    if text.len() > PROGRAM_LIMIT {
+        return Err(ParseFault::TextTooLong);
+    }
+    let Tokens { list, fault } = tokens(alloc, text)?;
+    match fault {
+        None => parse_tokens(alloc, &list, text.len()),
+        Some(at) => Err(fault_before(alloc, &list, at)),
+    }
+}

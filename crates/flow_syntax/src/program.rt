@@ -1,0 +1,106 @@
+//! Declarations and whole programs.
+ghost use Rattle.std.specs.Prelude.{◌<◌, length, IfOk};
+
+use crate::cursor::{eat, expect, kind, name, next};
+use crate::fault::Stop;
+use crate::statement::statements;
+use flow_base::syntax::{Declaration, Parameter, Program, Stmt, TypeAt};
+use flow_base::token::{Mark, Token};
+use std::alloc::Global;
+
+fn parameter(alloc: Global, tokens: &[Token]) -> Result<(Parameter, &[Token]), Stop>
+    ensures shorter { IfOk result (λ x. length x.1.now < length tokens.now) }
+{
+    let (at, name, after_name) = name(alloc, tokens)?;
+    let (_, after_colon) = expect(after_name, Mark::Colon)?;
+    let (_, kind, end) = kind(after_colon)?;
+    Ok((Parameter { at, name, kind }, end))
+}
+
+/// The parameters behind their `(`, the place of their `)`, and what follows it.
+fn parameters(alloc: Global, tokens: &[Token]) -> Result<(Vec<Parameter>, usize, &[Token]), Stop>
+    ensures shorter { IfOk result (λ x. length x.2.now < length tokens.now) }
+{
+    let mut list = Vec::new(alloc);
+    if let Some((at, end)) = eat(tokens, Mark::Close) {
+        return Ok((list, at, end));
+    }
+    let (first, mut rest) = parameter(alloc, tokens)?;
+    list.push(first)?;
+    while let Some((_, after)) = eat(rest, Mark::Comma) {
+        let (parameter, next) = parameter(alloc, after)?;
+        list.push(parameter)?;
+        rest = next;
+    }
+    let (at, end) = expect(rest, Mark::Close)?;
+    Ok((list, at, end))
+}
+
+/// The types behind their `(`, and what follows their `)`.
+fn types(alloc: Global, tokens: &[Token]) -> Result<(Vec<TypeAt>, &[Token]), Stop>
+    ensures shorter { IfOk result (λ x. length x.1.now < length tokens.now) }
+{
+    let mut list = Vec::new(alloc);
+    if let Some((_, end)) = eat(tokens, Mark::Close) {
+        return Ok((list, end));
+    }
+    let (at, first, mut rest) = kind(tokens)?;
+    list.push(TypeAt { at, kind: first })?;
+    while let Some((_, after)) = eat(rest, Mark::Comma) {
+        let (at, kind, next) = kind(after)?;
+        list.push(TypeAt { at, kind })?;
+        rest = next;
+    }
+    let (_, end) = expect(rest, Mark::Close)?;
+    Ok((list, end))
+}
+
+/// An activity, behind its keyword, which stands at this place.
+fn activity(alloc: Global, at: usize, tokens: &[Token]) -> Result<(Declaration, &[Token]), Stop>
+    ensures shorter { IfOk result (λ x. length x.1.now < length tokens.now) }
+{
+    let (name_at, name, after_name) = name(alloc, tokens)?;
+    let (_, after_open) = expect(after_name, Mark::Open)?;
+    let (takes, after_close) = types(alloc, after_open)?;
+    let (_, after_arrow) = expect(after_close, Mark::Arrow)?;
+    let (_, gives, after) = kind(after_arrow)?;
+    let (_, end) = expect(after, Mark::Semicolon)?;
+    Ok((Declaration::Activity(at, name_at, name, takes, gives), end))
+}
+
+/// Declarations, statements up to the last brace, its place, and what follows it.
+fn body(alloc: Global, tokens: &[Token]) -> Result<(Vec<Declaration>, Vec<Stmt>, usize, &[Token]), Stop>
+    ensures shorter { IfOk result (λ x. length x.3.now < length tokens.now) }
+{
+    let mut declarations = Vec::new(alloc);
+    let mut rest = tokens;
+    while let Some((at, after)) = eat(rest, Mark::Activity) {
+        let (declaration, next) = activity(alloc, at, after)?;
+        declarations.push(declaration)?;
+        rest = next;
+    }
+    let (list, at, end) = statements(alloc, rest)?;
+    Ok((declarations, list, at, end))
+}
+
+/// The program that the tokens are.
+pub fn program(alloc: Global, tokens: &[Token]) -> Result<Program, Stop> {
+    let (_, after_keyword) = expect(tokens, Mark::Workflow)?;
+    let (at, name, after_name) = name(alloc, after_keyword)?;
+    let (_, after_open) = expect(after_name, Mark::Open)?;
+    let (parameters, parameters_end, after_close) = parameters(alloc, after_open)?;
+    let (_, inside) = expect(after_close, Mark::BraceOpen)?;
+    let (declarations, body, body_end, end) = body(alloc, inside)?;
+    match next(end) {
+        None => Ok(Program {
+            at,
+            name,
+            parameters,
+            parameters_end,
+            declarations,
+            body,
+            body_end,
+        }),
+        Some(_) => Err(Stop::Unexpected(end.len())),
+    }
+}
