@@ -1,0 +1,13 @@
+//! Decides commands over a view of a book.
+#![tactic(auto)]
+
+pub mod decide;
+mod description;
+mod kinds;
+pub mod language;
+mod report;
+pub mod texts;
+mod turns;
+
+
+

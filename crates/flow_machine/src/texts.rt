@@ -1,0 +1,22 @@
+ghost use Rattle.std.specs.Prelude.{◌≡◌, IfOk, MatchResult, Result, Ok, Err};
+ghost use Rattle.flow_base.specs.Syntax.{Bytes, Program};
+ghost use Rattle.flow_base.specs.declared.command.TextFault.{TextFault as AFault};
+ghost use Rattle.flow_check.specs.Shown.{shown_checked};
+
+use flow_base::command::TextFault;
+use flow_base::text::RawText;
+use flow_check::checked::Checked;
+use std::alloc::{AllocError, Global};
+
+/// What reads texts as programs.
+pub trait Texts {
+    /// Which program a text is, or the first fault for which it is none.
+    ghost meaning: { Bytes → Result Program AFault };
+
+    /// Whether each text is read as what it means.
+    ghost is_exact: { Type 0 };
+
+    /// The program of a text, or its first fault.
+    fn read(&self, alloc: Global, text: &RawText) -> Result<Result<Checked, TextFault>, AllocError>
+        ensures { is_exact → IfOk result (λ r. MatchResult r (λ c. meaning text.now ≡ Ok (shown_checked c)) (λ fault. meaning text.now ≡ Err fault)) };
+}
