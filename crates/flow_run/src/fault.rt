@@ -1,0 +1,57 @@
+ghost use Rattle.std.specs.Prelude.{◌≡◌};
+ghost use Rattle.flow_run.specs.Codes.{run_fault_code};
+
+use flow_base::code::Code;
+use flow_model::plain::TurnFault;
+use std::alloc::AllocError;
+
+/// Why a run did not go on.
+#[derive(Debug, Drop, thiserror::Error)]
+pub enum RunFault {
+    #[error("E01 out of memory")]
+    NoMemory,
+    /// The run is open, or hasn't begun, and can't take this input.
+    #[error("E40 not awaited")]
+    NotAwaited,
+    #[error("E41 closed")]
+    Closed,
+}
+
+impl RunFault {
+    /// The number of the refusal.
+    pub fn code(&self) -> Code
+        ensures { result ≡ run_fault_code self.now }
+    {
+        match self {
+            RunFault::NoMemory => Code::NoMemory,
+            RunFault::NotAwaited => Code::NotAwaited,
+            RunFault::Closed => Code::Closed,
+        }
+    }
+}
+
+impl From<AllocError> for RunFault {
+    ghost use Rattle.std.specs.Prelude.{◌≡◌};
+    ghost use Rattle.flow_run.specs.declared.fault.RunFault.TheVariants.{NoMemory};
+
+    ghost from_gives = { λ _ e. e ≡ NoMemory };
+
+    fn from(_error: AllocError) -> RunFault {
+        RunFault::NoMemory
+    }
+}
+
+impl From<TurnFault> for RunFault {
+    ghost use Rattle.std.specs.Prelude.{◌≡◌};
+    ghost use Rattle.flow_run.specs.Codes.{run_fault_of};
+
+    ghost from_gives = { λ f e. e ≡ run_fault_of f };
+
+    fn from(fault: TurnFault) -> RunFault {
+        match fault {
+            TurnFault::NoMemory => RunFault::NoMemory,
+            TurnFault::NotAwaited => RunFault::NotAwaited,
+            TurnFault::Closed => RunFault::Closed,
+        }
+    }
+}

@@ -1,0 +1,5 @@
+//! The position of a run, and its turns.
+#![tactic(auto)]
+
+pub mod fault;
+pub mod stance;
