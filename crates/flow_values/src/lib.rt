@@ -1,0 +1,7 @@
+//! The value of an expression, or its fault.
+#![tactic(auto)]
+
+pub mod evaluate;
+pub mod fault;
+#[cfg(test)]
+mod tests;
