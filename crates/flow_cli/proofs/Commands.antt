@@ -1,7 +1,9 @@
 -- Command lines: what is read is a command's object, and each such object is read.
-use Rattle.std.proofs.Common.{◌≡◌, ℕ, List, Option, Some, None, option_map, option_and_then, sym, ap, ◌∙◌, refl, Result, Ok, Err}
+use Rattle.std.proofs.Common.{◌≡◌, ℕ, List, Bool, true, false, Option, Some, None, option_map, option_and_then, sym, ap, ◌∙◌, refl, Result, Ok, Err}
 use Rattle.std.specs.Prelude.{IfOk, IsUtf8}
 use Rattle.std.proofs.lemmas.Option.{option_and_then_some}
+use Rattle.std.proofs.lemmas.Str.{IsUtf8-from_is_utf8, is_utf8-from_IsUtf8}
+use Rattle.std.specs.Str.{is_utf8}
 use Rattle.serde_json.specs.Data.{Data, object, Members}
 use Rattle.serde_json.specs.Find.{as_object}
 use Rattle.serde_json.specs.Read.{read}
@@ -9,8 +11,8 @@ use Rattle.flow_base.specs.declared.command.Command.{Command}
 use Rattle.flow_base.specs.declared.command.Command.TheVariants as command
 use Rattle.flow_base.specs.Limits.{IsMoment, IsPosition, IsKey, FitsValue, FitsList}
 use Rattle.flow_base.proofs.Exact.{IsExactTable, map_some, nothing_exact, with_exact, whole_exact, text_exact, any_text_exact, value_exact, values_exact, fixed_exact, as_object_back}
-use Rattle.flow_cli.specs.Commands.{register, start, complete, describe, history, members_out, members_in, command_out, command_in, verb_in, IsCommand}
-use Rattle.flow_cli.specs.Faults.{GivesCommand}
+use Rattle.flow_cli.specs.Commands.{register, start, complete, describe, history, members_out, members_in, command_out, command_in, line_command, verb_in, IsCommand}
+use Rattle.flow_cli.specs.Faults.{GivesCommand, GivesLine}
 use Rattle.flow_cli.specs.declared.command.LineFault.{LineFault}
 use Rattle.flow_cli.specs.declared.command.LineFault.TheVariants as fault
 use Rattle.flow_cli.specs.declared.command.Verb.{Verb}
@@ -79,3 +81,14 @@ pub only : (r : Result Command LineFault) (line : List ℕ) → IfOk r (λ c. Is
 only (Ok x) line ok unfit c fits utf8 reads = let e : Some x ≡ Some c = sym ok.1 ∙ line_there line c fits reads in cc
 only (Err fault.NoMemory) line ok unfit c fits utf8 reads = refl
 only (Err fault.NotACommand) line ok unfit c fits utf8 reads = let e : None ≡ Some c = sym (unfit refl utf8) ∙ line_there line c fits reads in absurd (cc)
+
+none_given : (b : Bool) (line : List ℕ) → is_utf8 line ≡ b → (IsUtf8 line → option_and_then command_in (read line) ≡ None) → line_command line ≡ None
+none_given true line is h = rw is (h (IsUtf8-from_is_utf8 line is))
+none_given false line is h = rw is refl
+
+-- such a reader gives what the line is
+pub exactly : (r : Result Command LineFault) (line : List ℕ) → IfOk r (λ c. IsUtf8 line × (option_and_then command_in (read line) ≡ Some c))
+    → (r ≡ Err fault.NotACommand → IsUtf8 line → option_and_then command_in (read line) ≡ None) → GivesLine r (line_command line)
+exactly (Ok c) line ok unfit = rw (is_utf8-from_IsUtf8 line ok.0) ok.1
+exactly (Err fault.NoMemory) line ok unfit = tt
+exactly (Err fault.NotACommand) line ok unfit = none_given (is_utf8 line) line refl (unfit refl)

@@ -1,7 +1,9 @@
 -- Command lines: the members of each command, in the byte order of their keys.
-use Rattle.std.specs.Prelude.{ℕ, List, [], ◌∷◌, Option, codes, option_map, option_and_then}
+use Rattle.std.specs.Prelude.{ℕ, List, [], ◌∷◌, Option, None, codes, option_map, option_and_then, if◌then◌else◌}
+use Rattle.std.specs.Str.{is_utf8}
 use Rattle.serde_json.specs.Data.{Data, object, Members}
 use Rattle.serde_json.specs.Find.{as_object, as_str, get}
+use Rattle.serde_json.specs.Read.{read}
 use Rattle.flow_base.specs.Codec.{Table, with, nothing}
 use Rattle.flow_base.specs.Leaves.{moment, position, key, value, values, any_text, fixed}
 use Rattle.flow_base.specs.Limits.{IsMoment, IsPosition, IsKey, FitsValue, FitsList}
@@ -77,6 +79,10 @@ verb_in d = option_and_then verb_named (option_and_then as_str (get (codes "do")
 -- the command that a JSON value is: an object with exactly its keys, each within its limits
 abbrev pub command_in : Data → Option Command
 command_in d = option_and_then (λ v. option_and_then (members_in v) (as_object d)) (verb_in d)
+
+-- the command that a line is
+abbrev pub line_command : List ℕ → Option Command
+line_command line = if is_utf8 line then option_and_then command_in (read line) else None
 
 -- within the limits of lines
 abbrev pub IsCommand : Command → Type 0

@@ -1,5 +1,5 @@
 -- Faults of the programs: their codes, their lines, and the status that follows.
-use Rattle.std.specs.Prelude.{◌≡◌, ℕ, List, ◌++◌, codes, Result, Ok, Err}
+use Rattle.std.specs.Prelude.{◌≡◌, ℕ, List, ◌++◌, codes, Option, Some, None, Result, Ok, Err}
 use Rattle.flow_base.specs.Codes.{code_text}
 use Rattle.flow_base.specs.declared.code.Code.{Code}
 use Rattle.flow_base.specs.declared.code.Code.TheVariants as code
@@ -37,6 +37,16 @@ line_fault_code line_fault.NotACommand = code.NotAValue
 abbrev pub line_fault_of : Refused → LineFault
 line_fault_of refused.Memory = line_fault.NoMemory
 line_fault_of refused.Unfit = line_fault.NotACommand
+
+-- no command is given, or memory ran out
+abbrev pub GivesNoLine : LineFault → Option Command → Type 0
+GivesNoLine line_fault.NoMemory given = Unit {0}
+GivesNoLine line_fault.NotACommand given = given ≡ None
+
+-- Ok exactly where a command is given, and that one
+abbrev pub GivesLine : Result Command LineFault → Option Command → Type 0
+GivesLine (Ok c) given = given ≡ Some c
+GivesLine (Err f) given = GivesNoLine f given
 
 -- the reader gave this command, or memory ran out
 abbrev pub GivesCommand : Result Command LineFault → Command → Type 0

@@ -2,3 +2,4 @@ pub mod Faults
 pub mod Calls
 pub mod Shown
 pub mod Commands
+pub mod Replies

@@ -5,8 +5,8 @@ ghost use Rattle.serde_json.specs.View.{view};
 ghost use Rattle.flow_base.specs.Fields.{left};
 ghost use Rattle.flow_base.specs.Gives.{Gives};
 ghost use Rattle.flow_base.specs.declared.command.Command.{Command};
-ghost use Rattle.flow_cli.specs.Commands.{verb_named, verb_in, members_in, command_in, command_out, IsCommand};
-ghost use Rattle.flow_cli.specs.Faults.{GivesCommand, line_fault_code};
+ghost use Rattle.flow_cli.specs.Commands.{verb_named, verb_in, members_in, command_in, command_out, line_command, IsCommand};
+ghost use Rattle.flow_cli.specs.Faults.{GivesCommand, GivesLine, line_fault_code};
 ghost use Rattle.flow_cli.specs.declared.command.Verb.TheVariants as verb;
 
 use flow_base::code::Code;
@@ -167,6 +167,8 @@ fn read_line(alloc: Global, line: &[u8]) -> Result<Command, LineFault>
 /// # Failure
 /// E02 where it isn't UTF-8, or no JSON object with exactly the keys of a command, each within its limits.
 pub fn command_of(alloc: Global, line: &[u8]) -> Result<Command, LineFault>
+    // Which answer it is.
+    ensures exact { GivesLine result (line_command line.now) }
     // What is read is UTF-8 and, for serde_json, the object of that command.
     ensures found { IfOk result (λ c. IsUtf8 line.now × (read line.now ≡ Some (command_out c))) }
     // A line that is a command's object, within the limits, is read, unless memory runs out.

@@ -4,5 +4,6 @@
 pub mod call;
 pub mod command;
 pub mod fault;
+pub mod reply;
 #[cfg(test)]
 mod tests;

@@ -1,5 +1,8 @@
-use Rattle.flow_cli.proofs.Commands.{found, only}
+use Rattle.flow_cli.proofs.Commands.{found, only, exactly}
 use Rattle.flow_cli.proofs.command.command_of.Goals as goal
+
+pub returns-clause-exact : goal.returns-clause-exact
+returns-clause-exact c = exactly c.read_line.result c.args.line.now c.read_line.ensures.ok c.read_line.ensures.unfit
 
 pub returns-clause-found : goal.returns-clause-found
 returns-clause-found c = found c.read_line.result c.args.line.now c.read_line.ensures.ok

@@ -1,0 +1,54 @@
+-- The bytes of replies.
+use Rattle.std.proofs.Common.{◌≡◌, ℕ, List, [], ◌∷◌, map, false, refl}
+use Rattle.serde_json.specs.Written.{has_float, items_have_float, compact_text}
+use Rattle.serde_json.specs.View.{items_of}
+use Rattle.serde_json.proofs.OnLiterals.{serde_json_on_literals}
+use Rattle.flow_base.specs.declared.command.Reply.{Reply}
+use Rattle.flow_base.specs.declared.command.Reply.TheVariants as reply
+use Rattle.flow_base.specs.declared.event.Event.{Event}
+use Rattle.flow_events.proofs.Laws.{plain}
+use Rattle.flow_cli.specs.Replies.{whole_out, event_out, reply_out, line_out, reply_text, line_text}
+use Rattle.flow_cli.specs.declared.reply.Line.{Line}
+use Rattle.flow_cli.specs.declared.reply.Line.TheVariants as line
+
+numbers_plain : (ns : List ℕ) → items_have_float (items_of (map whole_out ns)) ≡ false
+numbers_plain [] = refl
+numbers_plain (n ∷ ns) = numbers_plain ns
+
+events_plain : (es : List Event) → items_have_float (items_of (map event_out es)) ≡ false
+events_plain [] = refl
+events_plain (e ∷ es) = rw (plain e, events_plain es) refl
+
+reply_plain : (r : Reply) → has_float (reply_out r) ≡ false
+reply_plain (reply.Registered text) = refl
+reply_plain (reply.Started run) = refl
+reply_plain (reply.Recorded run event) = refl
+reply_plain (reply.Duplicate run) = refl
+reply_plain (reply.Run d) = rw (numbers_plain d.activities, numbers_plain d.timers) refl
+reply_plain (reply.History es) = rw (events_plain es) refl
+reply_plain (reply.Refused c) = refl
+reply_plain (reply.BadText f) = refl
+reply_plain (reply.Full run event) = refl
+
+pub line_plain : (l : Line) → has_float (line_out l) ≡ false
+line_plain (line.Of r) = reply_plain r
+line_plain line.Bad = refl
+line_plain (line.NotApplied c) = refl
+
+reply_bytes : (r : Reply) → compact_text (reply_out r) ≡ reply_text r
+unfolding serde_json_on_literals
+reply_bytes (reply.Registered text) = refl
+reply_bytes (reply.Started run) = refl
+reply_bytes (reply.Recorded run event) = refl
+reply_bytes (reply.Duplicate run) = refl
+reply_bytes (reply.Run d) = refl
+reply_bytes (reply.History es) = refl
+reply_bytes (reply.Refused c) = refl
+reply_bytes (reply.BadText f) = refl
+reply_bytes (reply.Full run event) = refl
+
+pub line_bytes : (l : Line) → compact_text (line_out l) ≡ line_text l
+unfolding serde_json_on_literals
+line_bytes (line.Of r) = reply_bytes r
+line_bytes line.Bad = refl
+line_bytes (line.NotApplied c) = refl
