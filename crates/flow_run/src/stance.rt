@@ -13,7 +13,6 @@ ghost use Rattle.flow_run.specs.Position.{config_of};
 use crate::fault::RunFault;
 use flow_base::event::{Cmd, Input, State, copy_values};
 use flow_base::number::Moment;
-use flow_base::text::Key;
 use flow_base::value::Value;
 use flow_check::checked::Checked;
 pub use flow_model::plain::Answers;
@@ -96,7 +95,7 @@ impl Stance {
     }
 
     /// The value of a variable, if it has one.
-    pub fn variable(&self, _program: &Checked, name: &Key) -> Option<&Value>
+    pub fn variable(&self, _program: &Checked, name: &str) -> Option<&Value>
         ensures { MatchOption result ((config_of (shown_checked _program.now) self.now).variables name.now ≡ None) (λ v. (config_of (shown_checked _program.now) self.now).variables name.now ≡ Some v.now) }
     {
         self.run.variable(name)
