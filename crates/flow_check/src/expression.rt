@@ -1,3 +1,8 @@
+ghost use Rattle.std.specs.Prelude.{◌≡◌, ℕ};
+ghost use Rattle.flow_base.specs.Shown.{shown_expr};
+ghost use Rattle.flow_model.specs.WellFormed.{kind_of, is_kind, faults_of_expression, earliest, wrong_kind, wrong_operands, applied_kind, combined_kind, operand_kind, operands_kind, operands_fit, unary_result, binary_result, not_visible, type_known, beginning as beginning_of};
+ghost use Rattle.flow_check.specs.Tables.{types_of};
+
 use crate::first::FirstFault;
 use crate::scope::Scope;
 use flow_base::code::Code;
@@ -5,55 +10,86 @@ use flow_base::syntax::{Binary, Expr, Unary};
 use flow_base::value::Kind;
 
 /// Notes the faults of an expression and gives its type; none where a part of it holds a fault.
-pub fn check_expression(scope: &Scope, expr: &Expr, found: &mut FirstFault) -> Option<Kind> {
+pub fn check_expression(scope: &Scope, expr: &Expr, found: &mut FirstFault) -> Option<Kind>
+    ensures kind { result ≡ kind_of (types_of scope.now) (shown_expr expr.now) }
+    ensures noted { found.new ≡ earliest found.old (faults_of_expression (types_of scope.now) (shown_expr expr.now)) }
+{
     match expr {
         Expr::Int(_, _) => Some(Kind::Int),
         Expr::Text(_, _) => Some(Kind::Text),
-        Expr::Var(at, name) => {
-            let known = scope.variable(name);
-            if known.is_none() {
-                found.note(Code::NotVisible, *at);
-            }
-            known?
-        }
+        Expr::Var(at, name) => check_variable(scope.variable(name), *at, found),
         Expr::Unary(_, op, a) => {
             let kind = check_expression(scope, a, found);
-            check_kind(kind, operand_of(*op), a, found);
+            check_kind(kind, operand_of(*op), beginning(a), found);
             unary_kind(*op, kind)
         }
         Expr::Binary(op, a, b) => {
             let left = check_expression(scope, a, found);
             let right = check_expression(scope, b, found);
-            match operands_of(*op) {
-                Some(wanted) => {
-                    check_kind(left, wanted, a, found);
-                    check_kind(right, wanted, b, found);
-                }
-                None => check_same(left, right, b, found),
-            }
+            check_operands(*op, left, right, beginning(a), beginning(b), found);
             binary_kind(*op, left, right)
         }
     }
 }
 
-/// Notes an expression that has another type than the wanted one, at its beginning.
-pub fn check_kind(kind: Option<Kind>, wanted: Kind, expr: &Expr, found: &mut FirstFault) {
+/// Notes a variable that isn't visible.
+fn check_variable(known: Option<Option<Kind>>, at: usize, found: &mut FirstFault) -> Option<Kind>
+    ensures kind { result ≡ type_known known }
+    ensures noted { found.new ≡ earliest found.old (not_visible known at) }
+{
+    match known {
+        None => {
+            found.note(Code::NotVisible, at);
+            None
+        }
+        Some(kind) => kind,
+    }
+}
+
+/// Notes a known type other than the wanted one.
+pub fn check_kind(kind: Option<Kind>, wanted: Kind, at: usize, found: &mut FirstFault)
+    ensures { found.new ≡ earliest found.old (wrong_kind wanted kind at) }
+{
     if let Some(kind) = kind {
-        if kind != wanted {
-            found.note(Code::BadType, beginning(expr));
+        if !is_same(kind, wanted) {
+            found.note(Code::BadType, at);
         }
     }
 }
 
+/// Notes operands of the wrong type, with the places where they begin.
+fn check_operands(
+    op: Binary,
+    left: Option<Kind>,
+    right: Option<Kind>,
+    left_at: usize,
+    right_at: usize,
+    found: &mut FirstFault,
+)
+    ensures { found.new ≡ earliest found.old (wrong_operands (operands_kind op) left right left_at right_at) }
+{
+    match operands_of(op) {
+        Some(wanted) => {
+            check_kind(left, wanted, left_at, found);
+            check_kind(right, wanted, right_at, found);
+        }
+        None => check_same(left, right, right_at, found),
+    }
+}
+
 /// Notes a right side of another type than the left side.
-fn check_same(left: Option<Kind>, right: Option<Kind>, expr: &Expr, found: &mut FirstFault) {
+fn check_same(left: Option<Kind>, right: Option<Kind>, at: usize, found: &mut FirstFault)
+    ensures { (left_at : ℕ) → found.new ≡ earliest found.old (wrong_operands None left right left_at at) }
+{
     if let Some(wanted) = left {
-        check_kind(right, wanted, expr, found);
+        check_kind(right, wanted, at, found);
     }
 }
 
 /// The byte at which an expression begins.
-pub fn beginning(expr: &Expr) -> usize {
+pub fn beginning(expr: &Expr) -> usize
+    ensures { result ≡ beginning_of (shown_expr expr.now) }
+{
     match expr {
         Expr::Int(at, _) => *at,
         Expr::Text(at, _) => *at,
@@ -63,15 +99,34 @@ pub fn beginning(expr: &Expr) -> usize {
     }
 }
 
-fn operand_of(op: Unary) -> Kind {
+fn is_same(kind: Kind, wanted: Kind) -> bool
+    ensures { result ≡ is_kind kind wanted }
+{
+    match kind {
+        Kind::Int => match wanted {
+            Kind::Int => true,
+            Kind::Text => false,
+        },
+        Kind::Text => match wanted {
+            Kind::Int => false,
+            Kind::Text => true,
+        },
+    }
+}
+
+fn operand_of(op: Unary) -> Kind
+    ensures { result ≡ operand_kind op }
+{
     match op {
         Unary::Length => Kind::Text,
         _ => Kind::Int,
     }
 }
 
-fn unary_kind(op: Unary, operand: Option<Kind>) -> Option<Kind> {
-    if operand? != operand_of(op) {
+fn unary_kind(op: Unary, operand: Option<Kind>) -> Option<Kind>
+    ensures { result ≡ applied_kind op operand }
+{
+    if !is_same(operand?, operand_of(op)) {
         return None;
     }
     match op {
@@ -81,7 +136,9 @@ fn unary_kind(op: Unary, operand: Option<Kind>) -> Option<Kind> {
 }
 
 /// The type of both operands; none where they may have either type, but the same.
-fn operands_of(op: Binary) -> Option<Kind> {
+fn operands_of(op: Binary) -> Option<Kind>
+    ensures { result ≡ operands_kind op }
+{
     match op {
         Binary::Equal => None,
         Binary::Differ => None,
@@ -90,14 +147,23 @@ fn operands_of(op: Binary) -> Option<Kind> {
     }
 }
 
-fn binary_kind(op: Binary, left: Option<Kind>, right: Option<Kind>) -> Option<Kind> {
-    let left = left?;
-    let right = right?;
-    if left != right || left != operands_of(op).unwrap_or(left) {
+fn binary_kind(op: Binary, left: Option<Kind>, right: Option<Kind>) -> Option<Kind>
+    ensures { result ≡ combined_kind op left right }
+{
+    if !operands_match(op, left?, right?) {
         return None;
     }
     match op {
         Binary::Join => Some(Kind::Text),
         _ => Some(Kind::Int),
+    }
+}
+
+fn operands_match(op: Binary, left: Kind, right: Kind) -> bool
+    ensures { result ≡ operands_fit (operands_kind op) left right }
+{
+    match operands_of(op) {
+        None => is_same(right, left),
+        Some(wanted) => is_same(left, wanted) && is_same(right, wanted),
     }
 }

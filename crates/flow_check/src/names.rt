@@ -1,3 +1,8 @@
+ghost use Rattle.std.specs.Prelude.{◌≡◌, ◌+◌, ◌≤◌, min, [], ◌∷◌, map, drop, OnOk};
+ghost use Rattle.flow_base.specs.Shown.{shown_program, shown_declaration, shown_stmt, shown_block};
+ghost use Rattle.flow_model.specs.WellFormed.{named, variables, activities, names_of, names_of_statement, names_of_block, name_of_parameter, name_of_declared, faults_of_names, faults_of_declared, faults_of_declarations, earliest, fault_at_first};
+ghost use Rattle.flow_check.specs.Tables.{Lists, Declares, noted_name};
+
 use crate::first::FirstFault;
 use flow_base::code::Code;
 use flow_base::syntax::{Declaration, Parameter, Program, Stmt, TypeAt};
@@ -18,7 +23,9 @@ struct Names<'a> {
 }
 
 impl<'a> Names<'a> {
-    fn none(alloc: Global) -> Names<'a> {
+    fn none(alloc: Global) -> Names<'a>
+        ensures { Lists result [] }
+    {
         Names {
             variables: IndexSet::new(alloc),
             activities: IndexSet::new(alloc),
@@ -31,7 +38,9 @@ impl<'a> Names<'a> {
         at: usize,
         name: &'a Key,
         found: &mut FirstFault,
-    ) -> Result<(), AllocError> {
+    ) -> Result<(), AllocError>
+        ensures { OnOk result (Declares self.old found.old (named variables at name.now ∷ []) self.new found.new) }
+    {
         let is_new = self.variables.insert(name.as_str())?;
         self.declares(is_new, at, found);
         Ok(())
@@ -42,13 +51,20 @@ impl<'a> Names<'a> {
         at: usize,
         name: &'a Key,
         found: &mut FirstFault,
-    ) -> Result<(), AllocError> {
+    ) -> Result<(), AllocError>
+        ensures { OnOk result (Declares self.old found.old (named activities at name.now ∷ []) self.new found.new) }
+    {
         let is_new = self.activities.insert(name.as_str())?;
         self.declares(is_new, at, found);
         Ok(())
     }
 
-    fn declares(&mut self, is_new: bool, at: usize, found: &mut FirstFault) {
+    fn declares(&mut self, is_new: bool, at: usize, found: &mut FirstFault)
+        ensures variables { self.new.variables ≡ self.old.variables }
+        ensures activities { self.new.activities ≡ self.old.activities }
+        ensures count { self.old.count ≤ 257 → self.new.count ≡ min (self.old.count + 1) 257 }
+        ensures noted { found.new ≡ earliest found.old (noted_name is_new self.old.count at) }
+    {
         if !is_new {
             found.note(Code::DeclaredTwice, at);
         }
@@ -66,7 +82,9 @@ pub fn check_names(
     alloc: Global,
     program: &Program,
     found: &mut FirstFault,
-) -> Result<(), AllocError> {
+) -> Result<(), AllocError>
+    ensures { OnOk result (found.new ≡ earliest found.old (faults_of_names [] (names_of (shown_program program.now)))) }
+{
     let mut names = Names::none(alloc);
     parameter_names(&mut names, &program.parameters, found)?;
     declaration_names(&mut names, &program.declarations, found)?;
@@ -77,7 +95,9 @@ fn parameter_names<'a>(
     names: &mut Names<'a>,
     parameters: &'a [Parameter],
     found: &mut FirstFault,
-) -> Result<(), AllocError> {
+) -> Result<(), AllocError>
+    ensures { OnOk result (Declares names.old found.old (map name_of_parameter parameters.now) names.new found.new) }
+{
     for parameter in parameters {
         names.variable(parameter.at, &parameter.name, found)?;
     }
@@ -88,22 +108,24 @@ fn declaration_names<'a>(
     names: &mut Names<'a>,
     declarations: &'a [Declaration],
     found: &mut FirstFault,
-) -> Result<(), AllocError> {
+) -> Result<(), AllocError>
+    ensures { OnOk result (Declares names.old found.old (map name_of_declared (map shown_declaration declarations.now)) names.new found.new) }
+{
     for declaration in declarations {
-        match declaration {
-            Declaration::Activity(_, name_at, name, takes, _) => {
-                names.activity(*name_at, name, found)?;
-                check_takes(takes, found);
-            }
-        }
+        declaration_name(names, declaration, found)?;
     }
     Ok(())
 }
 
-/// Notes the type with which an activity takes too many.
-fn check_takes(takes: &[TypeAt], found: &mut FirstFault) {
-    if let Some(beyond) = takes.get(LIMIT) {
-        found.note(Code::TooManyNames, beyond.at);
+fn declaration_name<'a>(
+    names: &mut Names<'a>,
+    declaration: &'a Declaration,
+    found: &mut FirstFault,
+) -> Result<(), AllocError>
+    ensures { OnOk result (Declares names.old found.old (name_of_declared (shown_declaration declaration.now) ∷ []) names.new found.new) }
+{
+    match declaration {
+        Declaration::Activity(_, name_at, name, _, _) => names.activity(*name_at, name, found),
     }
 }
 
@@ -111,12 +133,51 @@ fn statement_names<'a>(
     names: &mut Names<'a>,
     statements: &'a [Stmt],
     found: &mut FirstFault,
-) -> Result<(), AllocError> {
+) -> Result<(), AllocError>
+    ensures { OnOk result (Declares names.old found.old (names_of_block (shown_block statements.now)) names.new found.new) }
+{
     for statement in statements {
-        match statement {
-            Stmt::Let(_, name_at, name, _) => names.variable(*name_at, name, found)?,
-            _ => {}
-        }
+        statement_name(names, statement, found)?;
     }
     Ok(())
+}
+
+fn statement_name<'a>(
+    names: &mut Names<'a>,
+    statement: &'a Stmt,
+    found: &mut FirstFault,
+) -> Result<(), AllocError>
+    ensures { OnOk result (Declares names.old found.old (names_of_statement (shown_stmt statement.now)) names.new found.new) }
+{
+    match statement {
+        Stmt::Let(_, name_at, name, _) => names.variable(*name_at, name, found),
+        Stmt::Assign(_, _, _) => Ok(()),
+        Stmt::Call(_, _, _, _, _) => Ok(()),
+        Stmt::Return(_, _) => Ok(()),
+    }
+}
+
+/// Notes each type with which an activity takes too many.
+pub fn check_types(declarations: &[Declaration], found: &mut FirstFault)
+    ensures { found.new ≡ earliest found.old (faults_of_declarations (map shown_declaration declarations.now)) }
+{
+    for declaration in declarations {
+        check_declaration(declaration, found);
+    }
+}
+
+fn check_declaration(declaration: &Declaration, found: &mut FirstFault)
+    ensures { found.new ≡ earliest found.old (faults_of_declared (shown_declaration declaration.now)) }
+{
+    match declaration {
+        Declaration::Activity(_, _, _, takes, _) => check_takes(takes, found),
+    }
+}
+
+fn check_takes(takes: &Vec<TypeAt>, found: &mut FirstFault)
+    ensures { found.new ≡ earliest found.old (fault_at_first Code.TooManyNames (map (λ t. t.at) (drop LIMIT takes.now.items))) }
+{
+    if let Some(beyond) = takes.get(LIMIT) {
+        found.note(Code::TooManyNames, beyond.at);
+    }
 }

@@ -1,8 +1,13 @@
+ghost use Rattle.std.specs.Prelude.{◌≡◌, [], ◌∷◌, map, option_map, OnOk};
+ghost use Rattle.flow_base.specs.Shown.{shown_declaration};
+ghost use Rattle.flow_model.specs.WellFormed.{with_type, no_types, types_of_parameters, activity_of};
+ghost use Rattle.flow_check.specs.Tables.{types_of, activities_of, shown_signature, nothing_known, first_then, only};
+
 use flow_base::syntax::{Declaration, Parameter, TypeAt};
 use flow_base::text::Key;
 use flow_base::value::Kind;
 use indexmap::IndexMap;
-use std::alloc::{AllocError, AllocFailed, Global};
+use std::alloc::{AllocError, Global};
 
 /// What an activity takes and gives.
 #[derive(Clone, Copy)]
@@ -21,55 +26,83 @@ pub struct Scope<'a> {
 }
 
 impl<'a> Scope<'a> {
-    /// What is known where a body begins.
-    pub fn of(
-        alloc: Global,
-        parameters: &'a [Parameter],
-        declarations: &'a [Declaration],
-    ) -> Result<Scope<'a>, AllocError> {
-        let mut scope = Scope {
+    /// Nothing is known.
+    pub fn none(alloc: Global) -> Scope<'a>
+        ensures types { types_of result ≡ no_types }
+        ensures activities { activities_of result ≡ nothing_known }
+    {
+        Scope {
             variables: IndexMap::new(alloc),
             activities: IndexMap::new(alloc),
-        };
-        for parameter in parameters {
-            scope.add_variable(&parameter.name, Some(parameter.kind))?;
         }
-        for declaration in declarations {
-            scope.add_declaration(declaration)?;
-        }
-        Ok(scope)
     }
 
-    fn add_declaration(&mut self, declaration: &'a Declaration) -> Result<(), AllocError> {
-        match declaration {
-            Declaration::Activity(_, _, name, takes, gives) => {
-                if !self.activities.contains_key(name.as_str()) {
-                    self.activities.insert(
-                        name.as_str(),
-                        Signature {
-                            takes,
-                            gives: *gives,
-                        },
-                    )?;
-                }
-                Ok(())
-            }
+    pub fn add_parameters(&mut self, parameters: &'a [Parameter]) -> Result<(), AllocError>
+        ensures types { OnOk result (types_of self.new ≡ types_of_parameters (types_of self.old) parameters.now) }
+        ensures activities { OnOk result (activities_of self.new ≡ activities_of self.old) }
+    {
+        for parameter in parameters {
+            self.add_variable(&parameter.name, Some(parameter.kind))?;
         }
+        Ok(())
+    }
+
+    pub fn add_declarations(&mut self, declarations: &'a [Declaration]) -> Result<(), AllocError>
+        ensures types { OnOk result (types_of self.new ≡ types_of self.old) }
+        ensures activities { OnOk result (activities_of self.new ≡ first_then (activities_of self.old) (activity_of (map shown_declaration declarations.now))) }
+    {
+        for declaration in declarations {
+            self.add_declaration(declaration)?;
+        }
+        Ok(())
+    }
+
+    fn add_declaration(&mut self, declaration: &'a Declaration) -> Result<(), AllocError>
+        ensures types { OnOk result (types_of self.new ≡ types_of self.old) }
+        ensures activities { OnOk result (activities_of self.new ≡ first_then (activities_of self.old) (activity_of (shown_declaration declaration.now ∷ []))) }
+    {
+        match declaration {
+            Declaration::Activity(_, _, name, takes, gives) => self.add_activity(
+                name,
+                Signature {
+                    takes,
+                    gives: *gives,
+                },
+            ),
+        }
+    }
+
+    /// The activity is declared, if none of its name was.
+    fn add_activity(&mut self, name: &'a Key, signature: Signature<'a>) -> Result<(), AllocError>
+        ensures types { OnOk result (types_of self.new ≡ types_of self.old) }
+        ensures activities { OnOk result (activities_of self.new ≡ first_then (activities_of self.old) (only name.now (shown_signature signature.entry))) }
+    {
+        if !self.activities.contains_key(name.as_str()) {
+            self.activities.insert(name.as_str(), signature)?;
+        }
+        Ok(())
     }
 
     /// The variable is visible from here on.
-    pub fn add_variable(&mut self, name: &'a Key, kind: Option<Kind>) -> Result<(), AllocError> {
+    pub fn add_variable(&mut self, name: &'a Key, kind: Option<Kind>) -> Result<(), AllocError>
+        ensures types { OnOk result (types_of self.new ≡ with_type (types_of self.old) name.now kind) }
+        ensures activities { OnOk result (activities_of self.new ≡ activities_of self.old) }
+    {
         self.variables.insert(name.as_str(), kind)?;
         Ok(())
     }
 
     /// The type of a visible variable, if it has one.
-    pub fn variable(&self, name: &Key) -> Option<Option<Kind>> {
+    pub fn variable(&self, name: &Key) -> Option<Option<Kind>>
+        ensures { result ≡ types_of self.now name.now }
+    {
         self.variables.get(name.as_str()).copied()
     }
 
     /// What an activity takes and gives, if it is declared.
-    pub fn activity(&self, name: &Key) -> Option<Signature<'a>> {
+    pub fn activity(&self, name: &Key) -> Option<Signature<'a>>
+        ensures { option_map shown_signature result ≡ activities_of self.now name.now }
+    {
         self.activities.get(name.as_str()).copied()
     }
 }

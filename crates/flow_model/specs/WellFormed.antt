@@ -112,7 +112,7 @@ faults_of_names before (n ∷ more) = declared_twice before n ++ one_too_many be
 
 -- E26: an activity takes too many types
 abbrev pub faults_of_declared : Declared → List TextFault
-faults_of_declared (Activity at name_at name takes gives) = fault_at_first code.TooManyNames (drop name_limit (map (λ (t : TypeAt). t.at) takes))
+faults_of_declared (Activity at name_at name takes gives) = fault_at_first code.TooManyNames (map (λ (t : TypeAt). t.at) (drop name_limit takes))
 faults_of_declared (Signal at name_at name carries) = []
 
 abbrev pub faults_of_declarations : List Declared → List TextFault
@@ -233,14 +233,14 @@ kinds_of ts = map (λ (t : TypeAt). t.kind) ts
 -- an activity of a name: of two with one name the first
 abbrev pub activity_of : List Declared → Bytes → Option Signature
 activity_of [] x = None
-activity_of (Activity at name_at name takes gives ∷ ds) x = if bytes_eq x name then Some (record { takes = kinds_of takes; gives = gives }) else activity_of ds x
+activity_of (Activity at name_at name takes gives ∷ ds) x = if bytes_eq name x then Some (record { takes = kinds_of takes; gives = gives }) else activity_of ds x
 activity_of (Signal at name_at name carries ∷ ds) x = activity_of ds x
 
 -- what a signal carries
 abbrev pub signal_of : List Declared → Bytes → Option Kind
 signal_of [] x = None
 signal_of (Activity at name_at name takes gives ∷ ds) x = signal_of ds x
-signal_of (Signal at name_at name carries ∷ ds) x = if bytes_eq x name then Some carries else signal_of ds x
+signal_of (Signal at name_at name carries ∷ ds) x = if bytes_eq name x then Some carries else signal_of ds x
 
 -- What is known where a statement stands.
 pub record Scope : Type 0 where

@@ -1,0 +1,4 @@
+pub mod Declaring
+pub mod Scoping
+pub mod Expressing
+pub mod Checking
