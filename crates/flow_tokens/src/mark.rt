@@ -1,9 +1,11 @@
-ghost use Rattle.std.specs.Prelude.{◌<◌, IfSome};
+ghost use Rattle.std.specs.Prelude.{◌≡◌, ◌<◌, IfSome};
+ghost use Rattle.flow_model.specs.Tokens.{long_mark, short_mark};
 
 use flow_base::token::Mark;
 
 /// The mark of two bytes.
 pub fn long_mark(first: u8, second: u8) -> Option<Mark>
+    ensures value { result ≡ long_mark first second }
     ensures ascii { IfSome result (λ m. (0 < first) × (first < 128) × (0 < second) × (second < 128)) }
 {
     match (first, second) {
@@ -19,6 +21,7 @@ pub fn long_mark(first: u8, second: u8) -> Option<Mark>
 
 /// The mark of one byte.
 pub fn short_mark(byte: u8) -> Option<Mark>
+    ensures value { result ≡ short_mark byte }
     ensures ascii { IfSome result (λ m. (0 < byte) × (byte < 128)) }
 {
     match byte {

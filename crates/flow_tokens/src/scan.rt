@@ -1,4 +1,5 @@
-ghost use Rattle.std.specs.Prelude.{◌<◌, length, IfOk, IfSome};
+ghost use Rattle.std.specs.Prelude.{◌≡◌, ◌<◌, length, slice_index, true, IfOk, IfSome, MatchOption};
+ghost use Rattle.flow_model.specs.Tokens.{Scans, front, int_word, is_digit, is_letter, long_mark, mark_word, name_word, past_gap};
 
 use crate::gap::past_gap;
 use crate::mark::{long_mark, short_mark};
@@ -10,26 +11,51 @@ use std::alloc::Global;
 
 /// The longest token that begins here, and what is behind it; none where that is no token.
 fn next_word(alloc: Global, rest: &str) -> Result<Option<(Word, &str)>, TokensFault>
-    ensures { IfOk result (λ o. IfSome o (λ x. length x.1.now < length rest.now)) }
+    ensures value { IfOk result (λ o. MatchOption o (front rest.now ≡ None) (λ x. front rest.now ≡ Some (x.0, x.1.now))) }
+    ensures shorter { IfOk result (λ o. IfSome o (λ x. length x.1.now < length rest.now)) }
 {
     let first = first_byte(rest);
     if is_letter(first) {
-        let (letters, after) = split_run(rest, Class::Word);
-        return Ok(word(alloc, letters)?.map(|word| (word, after)));
+        next_name(alloc, rest)
+    } else if is_digit(first) {
+        Ok(next_number(rest))
+    } else if first == b'"' {
+        text(alloc, behind_first(rest))
+    } else {
+        Ok(next_mark(rest))
     }
-    if is_digit(first) {
-        let (digits, after) = split_run(rest, Class::Digit);
-        return Ok(number(digits.as_bytes()).map(|number| (Word::Int(number), after)));
+}
+
+/// The keyword or name that begins here.
+fn next_name(alloc: Global, rest: &str) -> Result<Option<(Word, &str)>, TokensFault>
+    requires { is_letter (slice_index rest.now 0) ≡ true }
+    ensures value { IfOk result (λ o. MatchOption o (name_word rest.now ≡ None) (λ x. name_word rest.now ≡ Some (x.0, x.1.now))) }
+    ensures shorter { IfOk result (λ o. IfSome o (λ x. length x.1.now < length rest.now)) }
+{
+    let (letters, after) = split_run(rest, Class::Word);
+    match word(alloc, letters)? {
+        Some(word) => Ok(Some((word, after))),
+        None => Ok(None),
     }
-    if first == b'"' {
-        return text(alloc, behind_first(rest));
+}
+
+/// The whole number that begins here.
+fn next_number(rest: &str) -> Option<(Word, &str)>
+    requires { is_digit (slice_index rest.now 0) ≡ true }
+    ensures value { MatchOption result (int_word rest.now ≡ None) (λ x. int_word rest.now ≡ Some (x.0, x.1.now)) }
+    ensures shorter { IfSome result (λ x. length x.1.now < length rest.now) }
+{
+    let (digits, after) = split_run(rest, Class::Digit);
+    match number(digits.as_bytes()) {
+        Some(number) => Some((Word::Int(number), after)),
+        None => None,
     }
-    Ok(next_mark(rest))
 }
 
 /// The longest mark that stands here, and what is behind it.
 fn next_mark(rest: &str) -> Option<(Word, &str)>
-    ensures { IfSome result (λ x. length x.1.now < length rest.now) }
+    ensures value { MatchOption result (mark_word rest.now (long_mark (slice_index rest.now 0) (slice_index rest.now 1)) ≡ None) (λ x. mark_word rest.now (long_mark (slice_index rest.now 0) (slice_index rest.now 1)) ≡ Some (x.0, x.1.now)) }
+    ensures shorter { IfSome result (λ x. length x.1.now < length rest.now) }
 {
     let first = first_byte(rest);
     if let Some(mark) = long_mark(first, second_byte(rest)) {
@@ -43,7 +69,9 @@ fn next_mark(rest: &str) -> Option<(Word, &str)>
 ///
 /// # Failure
 /// E01 where a growth of memory is refused.
-pub fn tokens(alloc: Global, text: &str) -> Result<Tokens, TokensFault> {
+pub fn tokens(alloc: Global, text: &str) -> Result<Tokens, TokensFault>
+    ensures { IfOk result (λ found. Scans (length text.now) (past_gap text.now) found.list.items found.fault) }
+{
     let mut list = Vec::new(alloc);
     let mut rest = past_gap(text);
     while rest.len() > 0 {
