@@ -3,3 +3,10 @@ pub mod WellFormedRows
 mod BookRows
 pub mod Lists
 pub mod Awaits
+pub mod Lefts
+pub mod Weight
+pub mod Turns
+pub mod Chains
+pub mod Positions
+pub mod Again
+pub mod OneMore

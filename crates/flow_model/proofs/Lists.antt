@@ -67,12 +67,12 @@ look_put x name v (e ∷ es) =
 same_variables : (name : Bytes) (v : Value) (es : List (Bytes × Value)) → look_up (put name v es) ≡ with_variable (look_up es) name v
 same_variables name v es = λ i. λ x. look_put x name v es i
 
-abbrev store_with : (Bytes → Option Bool) → Variables → ℕ → Store
-store_with d f n = record { variables = f; buffer = []; decided = d; tests = n }
+abbrev store_with : List (Bytes × Value) → (Bytes → Option Bool) → Variables → ℕ → Store
+store_with b d f n = record { variables = f; buffer = b; decided = d; tests = n }
 
-pub set_store : (d : Bytes → Option Bool) (old new : List (Bytes × Value)) (n : ℕ) (name : Bytes) (v : Value) → new ≡ put name v old → store_with d (look_up new) n ≡ set_in (store_with d (look_up old) n) name v
-set_store d old new n name v e =
-    ap (λ es. store_with d (look_up es) n) e ∙ ap (λ (f : Variables). store_with d f n) (same_variables name v old)
+pub set_store : (b : List (Bytes × Value)) (d : Bytes → Option Bool) (old new : List (Bytes × Value)) (n : ℕ) (name : Bytes) (v : Value) → new ≡ put name v old → store_with b d (look_up new) n ≡ set_in (store_with b d (look_up old) n) name v
+set_store b d old new n name v e =
+    ap (λ es. store_with b d (look_up es) n) e ∙ ap (λ (f : Variables). store_with b d f n) (same_variables name v old)
 
 pub set_is : (old new : List (Bytes × Value)) (name : Bytes) (v : Value) → new ≡ put name v old → look_up new ≡ with_variable (look_up old) name v
 set_is old new name v e = ap look_up e ∙ same_variables name v old

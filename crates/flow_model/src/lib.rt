@@ -3,7 +3,10 @@
 
 pub mod decided;
 pub mod deliver;
+pub mod laws;
 pub mod named;
 pub mod plain;
 pub mod rest;
+pub mod step;
+pub mod turn;
 pub mod value;

@@ -1,6 +1,6 @@
 ghost use Rattle.std.specs.Prelude.{◌≡◌, [], IfOk, OnOk, OnErr, MatchOption, None, Some};
 ghost use Rattle.flow_model.specs.Values.{with_variable};
-ghost use Rattle.flow_model.specs.Shown.{look_up, put};
+ghost use Rattle.flow_model.specs.Shown.{look_up, put, IsPlace};
 
 use crate::value::Vars;
 use flow_base::text::Key;
@@ -39,6 +39,16 @@ impl NamedValues {
         Ok(NamedValues { entries })
     }
 
+    /// Gives a name a value. After an error all is as it was.
+    pub fn set(&mut self, alloc: Global, name: &Key, value: Value) -> Result<(), AllocError>
+        ensures ok { OnOk result (self.new ≡ put name.now value self.old) }
+        ensures variables { OnOk result (look_up self.new ≡ with_variable (look_up self.old) name.now value) }
+        ensures err { OnErr result (self.new ≡ self.old) }
+    {
+        put_in(alloc, &mut self.entries, name, value)?;
+        Ok(())
+    }
+
     /// What the first entry of this name has.
     pub fn find(&self, name: &str) -> Option<&Value>
         ensures { MatchOption result (look_up self.now name.now ≡ None) (λ v. look_up self.now name.now ≡ Some v.now) }
@@ -72,4 +82,38 @@ fn copy_entries(alloc: Global, entries: &[(Key, Value)]) -> Result<Vec<(Key, Val
         list.push((name, value))?;
     }
     Ok(list)
+}
+
+fn put_in(
+    alloc: Global,
+    entries: &mut Vec<(Key, Value)>,
+    name: &Key,
+    value: Value,
+) -> Result<(), AllocError>
+    ensures ok { OnOk result (entries.new.items ≡ put name.now value entries.old.items) }
+    ensures err { OnErr result (entries.new.items ≡ entries.old.items) }
+{
+    match place(entries, name) {
+        Some(i) => {
+            entries[i].1 = value;
+            Ok(())
+        }
+        None => {
+            let name = name.copy(alloc)?;
+            entries.push((name, value))?;
+            Ok(())
+        }
+    }
+}
+
+// Where a name stands.
+fn place(entries: &[(Key, Value)], name: &Key) -> Option<usize>
+    ensures { IsPlace entries.now name.now result }
+{
+    for (i, e) in entries.iter().enumerate() {
+        if e.0.is(name) {
+            return Some(i);
+        }
+    }
+    None
 }

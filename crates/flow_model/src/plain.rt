@@ -10,6 +10,7 @@ use crate::decided::Decided;
 use crate::deliver::takes;
 use crate::named::NamedValues;
 use crate::rest::{OpenWait, Rest};
+use crate::turn::{is_closed, made};
 use flow_base::code::Code;
 use flow_base::event::{Cmd, Event, Input, State};
 use flow_base::number::Moment;
@@ -146,16 +147,6 @@ impl PlainRun {
     }
 }
 
-fn is_closed(state: State) -> bool
-    ensures { result ≡ is_closed_state state }
-{
-    match state {
-        State::Unbegun => false,
-        State::Open => false,
-        _ => true,
-    }
-}
-
 /// One turn of a run: its commands in order, after which the run stands where the turn leaves it.
 ///
 /// # Failure
@@ -182,5 +173,12 @@ pub fn plain_turn(
     if !takes(program, run, input) {
         return Err(TurnFault::NotAwaited);
     }
-    Err(TurnFault::NoMemory)
+    match made(alloc, run, program, at, input, answers) {
+        Ok(Some((next, commands))) => {
+            *run = next;
+            Ok(commands)
+        }
+        Ok(None) => Err(TurnFault::NotAwaited),
+        Err(_) => Err(TurnFault::NoMemory),
+    }
 }

@@ -92,7 +92,8 @@ impl Rest {
     }
 }
 
-fn copy_stmts(alloc: Global, stmts: &[Stmt]) -> Result<Vec<Stmt>, AllocError>
+/// The same statements.
+pub fn copy_stmts(alloc: Global, stmts: &[Stmt]) -> Result<Vec<Stmt>, AllocError>
     ensures { IfOk result (λ v. map shown_stmt v.items ≡ map shown_stmt stmts.now) }
 {
     let mut list = Vec::new(alloc);
