@@ -8,6 +8,8 @@ use Rattle.flow_base.specs.declared.fields.Refused.{Refused}
 use Rattle.flow_base.specs.declared.fields.Refused.TheVariants as refused
 use Rattle.flow_cli.specs.declared.command.LineFault.{LineFault}
 use Rattle.flow_cli.specs.declared.command.LineFault.TheVariants as line_fault
+use Rattle.flow_view.specs.declared.fault.ViewFault.{ViewFault}
+use Rattle.flow_view.specs.declared.fault.ViewFault.TheVariants as view_fault
 use Rattle.flow_cli.specs.declared.fault.Fault.{Fault}
 use Rattle.flow_cli.specs.declared.fault.Fault.TheVariants as fault
 
@@ -16,6 +18,10 @@ fault_code fault.NoMemory = code.NoMemory
 fault_code fault.StoreRefused = code.StoreRefused
 fault_code fault.NoFile = code.NoFile
 fault_code fault.BadUsage = code.BadUsage
+
+abbrev pub fault_of_view : ViewFault → Fault
+fault_of_view view_fault.NoMemory = fault.NoMemory
+fault_of_view view_fault.StoreRefused = fault.StoreRefused
 
 -- the line on standard error
 abbrev pub fault_text : Fault → List ℕ

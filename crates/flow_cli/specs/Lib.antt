@@ -3,3 +3,5 @@ pub mod Calls
 pub mod Shown
 pub mod Commands
 pub mod Replies
+pub mod Verdicts
+pub mod Driving

@@ -3,6 +3,7 @@ ghost use Rattle.std.specs.Prelude.{◌≡◌, IfOk, string_bytes};
 ghost use Rattle.flow_cli.specs.Faults.{fault_code, fault_text, fault_status};
 
 use flow_base::code::Code;
+use flow_view::fault::ViewFault;
 use std::alloc::{AllocError, AllocFailed, Global};
 
 /// Why a program didn't do its work.
@@ -69,5 +70,19 @@ impl<T: Drop> From<AllocFailed<T>> for Fault {
 
     fn from(_error: AllocFailed<T>) -> Fault {
         Fault::NoMemory
+    }
+}
+
+impl From<ViewFault> for Fault {
+    ghost use Rattle.std.specs.Prelude.{◌≡◌};
+    ghost use Rattle.flow_cli.specs.Faults.{fault_of_view};
+
+    ghost from_gives = { λ f e. e ≡ fault_of_view f };
+
+    fn from(fault: ViewFault) -> Fault {
+        match fault {
+            ViewFault::NoMemory => Fault::NoMemory,
+            ViewFault::StoreRefused => Fault::StoreRefused,
+        }
     }
 }

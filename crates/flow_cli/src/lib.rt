@@ -2,7 +2,9 @@
 #![tactic(auto)]
 
 pub mod call;
+pub mod check;
 pub mod command;
+pub mod drive;
 pub mod fault;
 pub mod reply;
 #[cfg(test)]

@@ -1,0 +1,51 @@
+//! What `flow check` says of a text.
+ghost use Rattle.std.specs.Prelude.{◌≡◌, IfOk, string_bytes};
+ghost use Rattle.flow_cli.specs.Verdicts.{verdict_of, verdict_text, verdict_status};
+
+use crate::fault::Fault;
+use flow_base::command::TextFault;
+use flow_base::text::RawText;
+use flow_machine::texts::Texts;
+use std::alloc::{AllocError, Global};
+
+/// Whether a text is a program.
+#[derive(Clone, Copy, Debug, PartialEq, Eq)]
+pub enum Verdict {
+    /// It is.
+    Good,
+    /// It breaks a rule of the grammar or of the checks.
+    Broken(TextFault),
+}
+
+impl Verdict {
+    /// The line that is written, without its end: `ok`, or as `E11 at 12`.
+    pub fn line(self, alloc: Global) -> Result<String, AllocError>
+        ensures { IfOk result (λ line. string_bytes line ≡ verdict_text self) }
+    {
+        match self {
+            Verdict::Good => String::from_str(alloc, "ok"),
+            Verdict::Broken(TextFault { code, at }) => format!(in alloc; "{code} at {at}"),
+        }
+    }
+
+    /// The status that the program ends with.
+    pub fn status(self) -> u8
+        ensures { result ≡ verdict_status self }
+    {
+        match self {
+            Verdict::Good => 0,
+            Verdict::Broken(_) => 1,
+        }
+    }
+}
+
+/// Checks a text by what reads texts.
+pub fn check_text<T: Texts>(alloc: Global, texts: &T, text: &str) -> Result<Verdict, Fault>
+    ensures verdict { T.is_exact → IfOk result (λ v. v ≡ verdict_of (T.meaning text.now)) }
+{
+    let text = RawText::new(alloc, text)?;
+    match texts.read(alloc, &text)? {
+        Ok(_) => Ok(Verdict::Good),
+        Err(fault) => Ok(Verdict::Broken(fault)),
+    }
+}
