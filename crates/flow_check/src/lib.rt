@@ -9,3 +9,5 @@ pub mod first;
 pub mod names;
 pub mod scope;
 pub mod statement;
+#[cfg(test)]
+mod tests;
