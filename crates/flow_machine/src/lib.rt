@@ -8,6 +8,3 @@ pub mod language;
 mod report;
 pub mod texts;
 mod turns;
-
-
-
