@@ -9,3 +9,5 @@ pub mod parse;
 pub mod print;
 pub mod program;
 pub mod statement;
+#[cfg(test)]
+mod tests;
