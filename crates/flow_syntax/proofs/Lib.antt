@@ -2,5 +2,8 @@ pub mod Steps
 pub mod Complete
 pub mod Sound
 pub mod Stops
+pub mod Unique
 pub mod Parsed
 pub mod ParsedExpressions
+pub mod ParsedPrograms
+pub mod Faults

@@ -17,7 +17,7 @@ use Rattle.flow_model.specs.Grammar.{marked, named, term_mark, sum_mark, compare
 use Rattle.flow_syntax.specs.Machine.{Symbol, takes, then_more, fault}
 use Rattle.flow_syntax.specs.Machine as m
 use Rattle.flow_syntax.specs.Parsing.{Parsed, Lacks, Past, IsFactor, IsAdded, IsCompared}
-use Rattle.flow_syntax.proofs.Steps.{passes, Same, is_then, is_alike, unary_alike, neg_alike, term_is, sum_is, compare_is, conj_is, expr_is, factor_step, added_step, compared_step, past_and, past_or, arguments_same}
+use Rattle.flow_syntax.proofs.Steps.{passes, Same, Alike, is_then, is_alike, unary_alike, neg_alike, term_is, sum_is, compare_is, conj_is, expr_is, factor_step, added_step, compared_step, past_and, past_or, arguments_same}
 use Rattle.flow_syntax.proofs.Parsed.{SoFar, so_begins, so_more}
 
 -- a mark that was read
@@ -199,3 +199,17 @@ no_arguments at ts end h = (no_argument at, sym h, refl, λ owed. rw h refl)
 
 pub arguments_end : (at : ℕ) (ts rest end : List Lexeme) (xs : List tree.Expression) → ArgumentsSoFar ts xs rest → ((owed : List Symbol) → fault (m.arguments ∷ owed) ts ≡ fault (m.more_arguments ∷ owed) rest) → rest ≡ marked at mark.Close ∷ end → Parsed m.arguments arguments_tokens arguments_of ts xs end
 arguments_end at ts rest end xs so f h = let r = so (last_argument at) end (sym h) in (r.0, r.1, r.2 ∙ append-nil xs, λ owed. f owed ∙ ap (fault (m.more_arguments ∷ owed)) h)
+
+not_comma : (k : Word) → (k ≡ word.Mark mark.Comma → ⊥) → takes m.more_arguments k ≡ takes (m.sign mark.Close) k
+not_comma (word.Mark mark.Comma) h = absurd (h refl)
+not_comma _ h = refl
+
+more_alike : (ts : List Lexeme) → Lacks mark.Comma ts → Alike (m.sign mark.Close) m.more_arguments ts
+more_alike [] h = tt
+more_alike (t ∷ ts) h = not_comma t.word h
+
+pub more_arguments_is : (owed : List Symbol) (ts : List Lexeme) → Lacks mark.Comma ts → fault (m.more_arguments ∷ owed) ts ≡ fault (m.sign mark.Close ∷ owed) ts
+more_arguments_is owed ts h = is_alike (m.sign mark.Close) m.more_arguments refl refl owed ts (more_alike ts h)
+
+pub arguments_close : (at : ℕ) (ts rest end : List Lexeme) (xs : List tree.Expression) → ArgumentsSoFar ts xs rest → ((owed : List Symbol) → fault (m.arguments ∷ owed) ts ≡ fault (m.more_arguments ∷ owed) rest) → Marked mark.Close rest at end → Parsed m.arguments arguments_tokens arguments_of ts xs end
+arguments_close at ts rest end xs so f p = arguments_end p.0 ts rest end xs so f (sym p.1)

@@ -151,11 +151,11 @@ rest_is : (ts before after : List Lexeme) (n : ℕ) → ts ≡ before ++ after �
 rest_is ts before after n h k = rw (h, ← k) (rest_of before after)
 
 -- where the machine stops, a program begins so far, and goes no further
-pub first_bad : (ts : List Lexeme) (end n : ℕ) → fault (m.program ∷ []) ts ≡ Some n → (before : List Lexeme) × (after : List Lexeme) × (ts ≡ before ++ after) × (length after ≡ n) × Begins before × Stops before after end (place_of end (drop (length ts - n) ts))
+pub first_bad : (ts : List Lexeme) (end n : ℕ) → fault (m.program ∷ []) ts ≡ Some n → (before : List Lexeme) × (after : List Lexeme) × (ts ≡ before ++ after) × (length after ≡ n) × Begins before × Stops before after end (place_of end (drop (length ts - n) ts)) × (drop (length ts - n) ts ≡ after)
 first_bad ts end n e =
     let b = bad ts end n e in
     let r : drop (length ts - n) ts ≡ b.1 = rest_is ts b.0 b.1 n b.2 b.3 in
-    (b.0, b.1, b.2, b.3, b.4, rw r b.5)
+    (b.0, b.1, b.2, b.3, b.4, rw r b.5, r)
 
 -- tokens of a program are no fault
 pub no_fault : (ts : List Lexeme) (p : tree.Program) (n : ℕ) → Reads ts p → fault (m.program ∷ []) ts ≡ Some n → ⊥

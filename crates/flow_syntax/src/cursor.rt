@@ -1,14 +1,18 @@
 //! Steps over tokens.
-ghost use Rattle.std.specs.Prelude.{◌≡◌, [], ◌∷◌, ◌<◌, length, IfOk, IfSome, MatchOption};
+ghost use Rattle.std.specs.Prelude.{◌≡◌, [], ◌∷◌, ◌<◌, length, IfOk, IfErr, IfSome, MatchOption};
+ghost use Rattle.flow_model.specs.Lexeme.{lexeme, lexemes};
+ghost use Rattle.flow_model.specs.Grammar.{marked, named, type_tokens, type_of};
+ghost use Rattle.flow_syntax.specs.Machine as m;
+ghost use Rattle.flow_syntax.specs.Parsing.{Parsed, StopsAt, Lacks, LacksMark};
 
 use crate::fault::Stop;
+use flow_base::syntax::TypeAt;
 use flow_base::text::Key;
 use flow_base::token::{Mark, Token, Word};
 use flow_base::value::Kind;
 use std::alloc::Global;
 
-/// The first token and what follows it.
-pub fn next(tokens: &[Token]) -> Option<(&Token, &[Token])>
+fn first_and_rest(tokens: &[Token]) -> Option<(&Token, &[Token])>
     ensures { MatchOption result (tokens.now ≡ []) (λ x. tokens.now ≡ x.0.now ∷ x.1.now) }
 {
     let [first, rest @ ..] = tokens else {
@@ -17,8 +21,20 @@ pub fn next(tokens: &[Token]) -> Option<(&Token, &[Token])>
     Some((first, rest))
 }
 
+/// The first token and what follows it.
+pub fn next(tokens: &[Token]) -> Option<(&Token, &[Token])>
+    ensures found { MatchOption result (lexemes tokens.now ≡ []) (λ x. lexemes tokens.now ≡ lexeme x.0.now ∷ lexemes x.1.now) }
+    ensures shorter { IfSome result (λ x. length x.1.now < length tokens.now) }
+{
+    match first_and_rest(tokens) {
+        None => None,
+        Some((first, rest)) => Some((first, rest)),
+    }
+}
+
 /// The mark that the tokens begin with, its place and what follows it.
 pub fn mark(tokens: &[Token]) -> Option<(usize, Mark, &[Token])>
+    ensures found { MatchOption result (LacksMark (lexemes tokens.now)) (λ x. lexemes tokens.now ≡ marked x.0 x.1 ∷ lexemes x.2.now) }
     ensures shorter { IfSome result (λ x. length x.2.now < length tokens.now) }
 {
     let (first, rest) = next(tokens)?;
@@ -30,6 +46,7 @@ pub fn mark(tokens: &[Token]) -> Option<(usize, Mark, &[Token])>
 
 /// What follows the mark, and its place, if the tokens begin with it.
 pub fn eat(tokens: &[Token], wanted: Mark) -> Option<(usize, &[Token])>
+    ensures found { MatchOption result (Lacks wanted (lexemes tokens.now)) (λ x. lexemes tokens.now ≡ marked x.0 wanted ∷ lexemes x.1.now) }
     ensures shorter { IfSome result (λ x. length x.1.now < length tokens.now) }
 {
     let (at, found, rest) = mark(tokens)?;
@@ -42,7 +59,9 @@ pub fn eat(tokens: &[Token], wanted: Mark) -> Option<(usize, &[Token])>
 
 /// The place of the mark, which has to stand here, and what follows it.
 pub fn expect(tokens: &[Token], wanted: Mark) -> Result<(usize, &[Token]), Stop>
+    ensures ok { IfOk result (λ x. Parsed (m.sign wanted) (λ at. marked at wanted ∷ []) (λ at. at) (lexemes tokens.now) x.0 (lexemes x.1.now)) }
     ensures shorter { IfOk result (λ x. length x.1.now < length tokens.now) }
+    ensures err { IfErr result (λ e. StopsAt (m.sign wanted) (lexemes tokens.now) e) }
 {
     match eat(tokens, wanted) {
         Some(found) => Ok(found),
@@ -52,7 +71,9 @@ pub fn expect(tokens: &[Token], wanted: Mark) -> Result<(usize, &[Token]), Stop>
 
 /// A name with its place, and what follows it.
 pub fn name(alloc: Global, tokens: &[Token]) -> Result<(usize, Key, &[Token]), Stop>
+    ensures ok { IfOk result (λ x. lexemes tokens.now ≡ named x.0 x.1 ∷ lexemes x.2.now) }
     ensures shorter { IfOk result (λ x. length x.2.now < length tokens.now) }
+    ensures err { IfErr result (λ e. StopsAt m.name (lexemes tokens.now) e) }
 {
     let Some((first, rest)) = next(tokens) else {
         return Err(Stop::Unexpected(0));
@@ -64,15 +85,23 @@ pub fn name(alloc: Global, tokens: &[Token]) -> Result<(usize, Key, &[Token]), S
 }
 
 /// A type with its place, and what follows it.
-pub fn kind(tokens: &[Token]) -> Result<(usize, Kind, &[Token]), Stop>
-    ensures shorter { IfOk result (λ x. length x.2.now < length tokens.now) }
+pub fn kind(tokens: &[Token]) -> Result<(TypeAt, &[Token]), Stop>
+    ensures ok { IfOk result (λ x. Parsed m.type_ type_tokens type_of (lexemes tokens.now) x.0 (lexemes x.1.now)) }
+    ensures shorter { IfOk result (λ x. length x.1.now < length tokens.now) }
+    ensures err { IfErr result (λ e. StopsAt m.type_ (lexemes tokens.now) e) }
 {
     let Some((at, found, rest)) = mark(tokens) else {
         return Err(Stop::Unexpected(tokens.len()));
     };
     match found {
-        Mark::Int => Ok((at, Kind::Int, rest)),
-        Mark::Text => Ok((at, Kind::Text, rest)),
+        Mark::Int => {
+            let kind = Kind::Int;
+            Ok((TypeAt { at, kind }, rest))
+        }
+        Mark::Text => {
+            let kind = Kind::Text;
+            Ok((TypeAt { at, kind }, rest))
+        }
         _ => Err(Stop::Unexpected(tokens.len())),
     }
 }

@@ -1,3 +1,6 @@
+ghost use Rattle.std.specs.Prelude.{◌≡◌};
+ghost use Rattle.flow_syntax.specs.Faults.{fault_code, fault_place};
+
 use flow_base::code::Code;
 use flow_tokens::TokensFault;
 use std::alloc::{AllocError, AllocFailed};
@@ -23,7 +26,9 @@ pub enum ParseFault {
 
 impl ParseFault {
     /// The number of the refusal.
-    pub fn code(&self) -> Code {
+    pub fn code(&self) -> Code
+        ensures { result ≡ fault_code self.now }
+    {
         match self {
             ParseFault::NoMemory => Code::NoMemory,
             ParseFault::BadToken(_) => Code::BadToken,
@@ -34,7 +39,9 @@ impl ParseFault {
     }
 
     /// The place of the fault. The want of memory has none.
-    pub fn at(&self) -> Option<usize> {
+    pub fn at(&self) -> Option<usize>
+        ensures { result ≡ fault_place self.now }
+    {
         match self {
             ParseFault::NoMemory => None,
             ParseFault::BadToken(at) => Some(*at),

@@ -1,5 +1,12 @@
 //! The parser's calls.
-ghost use Rattle.std.specs.Prelude.{◌<◌, length};
+ghost use Rattle.std.specs.Prelude.{◌≡◌, ◌<◌, ◌≤◌, length, IfOk, IfErr, MatchResult};
+ghost use Rattle.flow_base.specs.Syntax as tree;
+ghost use Rattle.flow_base.specs.Shown.{shown_program};
+ghost use Rattle.flow_model.specs.Lexeme.{lexemes};
+ghost use Rattle.flow_model.specs.Grammar.{Reads};
+ghost use Rattle.flow_model.specs.Limits.{Within};
+ghost use Rattle.flow_syntax.specs.Parsing.{StopsProgram};
+ghost use Rattle.flow_syntax.specs.Faults.{IsFault, IsFaultBefore, IsFaultOf, IsFirstOf, IsCut, IsDeepFault};
 
 use crate::cursor::next;
 use crate::fault::{ParseFault, Stop};
@@ -14,44 +21,51 @@ use std::alloc::Global;
 pub const PROGRAM_LIMIT: usize = 65536;
 
 /// The fault of tokens that aren't read, where `behind` is the one behind them.
-fn fault_of(tokens: &[Token], stop: Stop, behind: ParseFault) -> ParseFault {
+fn fault_of(tokens: &[Token], stop: Stop, behind: ParseFault) -> ParseFault
+    requires { StopsProgram (lexemes tokens.now) stop }
+    ensures { IsFaultOf (lexemes tokens.now) behind result }
+{
     match stop {
         Stop::NoMemory => ParseFault::NoMemory,
-        Stop::Unexpected(left) => {
-            if left > tokens.len() {
-                return behind;
-            }
-            match next(&tokens[tokens.len() - left..]) {
-                Some((token, _)) => ParseFault::Unexpected(token.from),
-                None => behind,
-            }
-        }
+        Stop::Unexpected(left) => match next(&tokens[tokens.len() - left..]) {
+            Some((token, _)) => ParseFault::Unexpected(token.from),
+            None => behind,
+        },
     }
 }
 
 /// The first fault of tokens behind which a fault stands.
-fn first_fault(alloc: Global, tokens: &[Token], behind: ParseFault) -> ParseFault {
+fn first_fault(alloc: Global, tokens: &[Token], behind: ParseFault) -> ParseFault
+    ensures { IsFirstOf (lexemes tokens.now) behind result }
+{
     match program(alloc, tokens) {
         Ok(_) => behind,
         Err(stop) => fault_of(tokens, stop, behind),
     }
 }
 
-/// The first fault of tokens of which one passes a limit.
-fn deep_fault(alloc: Global, tokens: &[Token], index: usize) -> ParseFault
-    requires { index < length tokens.now }
+/// The first fault of tokens of which the one at this place passes a limit, and so many are behind it.
+fn deep_fault(alloc: Global, tokens: &[Token], at: usize, left: usize) -> ParseFault
+    requires { IsCut (lexemes tokens.now) at left }
+    ensures { IsDeepFault (lexemes tokens.now) result }
 {
-    let behind = ParseFault::TooDeep(tokens[index].from);
-    first_fault(alloc, &tokens[..=index], behind)
+    first_fault(alloc, &tokens[..tokens.len() - left], ParseFault::TooDeep(at))
 }
 
 /// The program of the tokens of a text that ends at this place.
 ///
 /// # Failure
 /// E11 or E13, whichever comes first in the text.
-pub fn parse_tokens(alloc: Global, tokens: &[Token], end: usize) -> Result<Program, ParseFault> {
-    if let Some(index) = first_too_deep(tokens) {
-        return Err(deep_fault(alloc, tokens, index));
+pub fn parse_tokens(alloc: Global, tokens: &[Token], end: usize) -> Result<Program, ParseFault>
+    // What is read is in the grammar, and within the limits.
+    ensures ok { IfOk result (λ p. Reads (lexemes tokens.now) (shown_program p) × Within (lexemes tokens.now)) }
+    // What is in the grammar and within the limits is read as the one program that it is, unless memory runs out.
+    ensures only { (p : tree.Program) → Reads (lexemes tokens.now) p → Within (lexemes tokens.now) → MatchResult result (λ q. shown_program q ≡ p) (λ e. e ≡ ParseFault.NoMemory) }
+    // A fault is the first one.
+    ensures err { IfErr result (λ e. IsFault (lexemes tokens.now) end e) }
+{
+    if let Some((at, left)) = first_too_deep(tokens) {
+        return Err(deep_fault(alloc, tokens, at, left));
     }
     match program(alloc, tokens) {
         Ok(program) => Ok(program),
@@ -60,9 +74,11 @@ pub fn parse_tokens(alloc: Global, tokens: &[Token], end: usize) -> Result<Progr
 }
 
 /// The first fault of the tokens before a place at which no token begins.
-fn fault_before(alloc: Global, tokens: &[Token], at: usize) -> ParseFault {
+fn fault_before(alloc: Global, tokens: &[Token], at: usize) -> ParseFault
+    ensures { IsFaultBefore (lexemes tokens.now) at result }
+{
     match first_too_deep(tokens) {
-        Some(index) => deep_fault(alloc, tokens, index),
+        Some((place, left)) => deep_fault(alloc, tokens, place, left),
         None => first_fault(alloc, tokens, ParseFault::BadToken(at)),
     }
 }

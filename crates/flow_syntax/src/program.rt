@@ -1,5 +1,10 @@
 //! Declarations and whole programs.
-ghost use Rattle.std.specs.Prelude.{◌<◌, length, IfOk};
+ghost use Rattle.std.specs.Prelude.{◌∷◌, ◌<◌, length, map, IfOk, IfErr};
+ghost use Rattle.flow_base.specs.Shown.{shown_declaration, shown_block, shown_program};
+ghost use Rattle.flow_model.specs.Lexeme.{lexemes};
+ghost use Rattle.flow_model.specs.Grammar.{marked, types_tokens, types_of, parameter_tokens, parameter_of, parameters_tokens, declaration_tokens, declaration_of, body_tokens, Reads};
+ghost use Rattle.flow_syntax.specs.Machine as m;
+ghost use Rattle.flow_syntax.specs.Parsing.{Parsed, StopsAt, StopsProgram, both_of, whole_body_of};
 
 use crate::cursor::{eat, expect, kind, name, next};
 use crate::fault::Stop;
@@ -9,17 +14,22 @@ use flow_base::token::{Mark, Token};
 use std::alloc::Global;
 
 fn parameter(alloc: Global, tokens: &[Token]) -> Result<(Parameter, &[Token]), Stop>
+    ensures ok { IfOk result (λ x. Parsed m.parameter parameter_tokens parameter_of (lexemes tokens.now) x.0 (lexemes x.1.now)) }
     ensures shorter { IfOk result (λ x. length x.1.now < length tokens.now) }
+    ensures err { IfErr result (λ e. StopsAt m.parameter (lexemes tokens.now) e) }
 {
     let (at, name, after_name) = name(alloc, tokens)?;
     let (_, after_colon) = expect(after_name, Mark::Colon)?;
-    let (_, kind, end) = kind(after_colon)?;
+    let (found, end) = kind(after_colon)?;
+    let kind = found.kind;
     Ok((Parameter { at, name, kind }, end))
 }
 
 /// The parameters behind their `(`, the place of their `)`, and what follows it.
 fn parameters(alloc: Global, tokens: &[Token]) -> Result<(Vec<Parameter>, usize, &[Token]), Stop>
+    ensures ok { IfOk result (λ x. Parsed m.parameters parameters_tokens both_of (lexemes tokens.now) (x.0.items, x.1) (lexemes x.2.now)) }
     ensures shorter { IfOk result (λ x. length x.2.now < length tokens.now) }
+    ensures err { IfErr result (λ e. StopsAt m.parameters (lexemes tokens.now) e) }
 {
     let mut list = Vec::new(alloc);
     if let Some((at, end)) = eat(tokens, Mark::Close) {
@@ -38,17 +48,19 @@ fn parameters(alloc: Global, tokens: &[Token]) -> Result<(Vec<Parameter>, usize,
 
 /// The types behind their `(`, and what follows their `)`.
 fn types(alloc: Global, tokens: &[Token]) -> Result<(Vec<TypeAt>, &[Token]), Stop>
+    ensures ok { IfOk result (λ x. Parsed m.types types_tokens types_of (lexemes tokens.now) x.0.items (lexemes x.1.now)) }
     ensures shorter { IfOk result (λ x. length x.1.now < length tokens.now) }
+    ensures err { IfErr result (λ e. StopsAt m.types (lexemes tokens.now) e) }
 {
     let mut list = Vec::new(alloc);
     if let Some((_, end)) = eat(tokens, Mark::Close) {
         return Ok((list, end));
     }
-    let (at, first, mut rest) = kind(tokens)?;
-    list.push(TypeAt { at, kind: first })?;
+    let (first, mut rest) = kind(tokens)?;
+    list.push(first)?;
     while let Some((_, after)) = eat(rest, Mark::Comma) {
-        let (at, kind, next) = kind(after)?;
-        list.push(TypeAt { at, kind })?;
+        let (found, next) = kind(after)?;
+        list.push(found)?;
         rest = next;
     }
     let (_, end) = expect(rest, Mark::Close)?;
@@ -57,20 +69,24 @@ fn types(alloc: Global, tokens: &[Token]) -> Result<(Vec<TypeAt>, &[Token]), Sto
 
 /// An activity, behind its keyword, which stands at this place.
 fn activity(alloc: Global, at: usize, tokens: &[Token]) -> Result<(Declaration, &[Token]), Stop>
+    ensures ok { IfOk result (λ x. Parsed m.activity declaration_tokens declaration_of (marked at Mark.Activity ∷ lexemes tokens.now) (shown_declaration x.0) (lexemes x.1.now)) }
     ensures shorter { IfOk result (λ x. length x.1.now < length tokens.now) }
+    ensures err { IfErr result (λ e. StopsAt m.activity (marked at Mark.Activity ∷ lexemes tokens.now) e) }
 {
     let (name_at, name, after_name) = name(alloc, tokens)?;
     let (_, after_open) = expect(after_name, Mark::Open)?;
     let (takes, after_close) = types(alloc, after_open)?;
     let (_, after_arrow) = expect(after_close, Mark::Arrow)?;
-    let (_, gives, after) = kind(after_arrow)?;
+    let (gives, after) = kind(after_arrow)?;
     let (_, end) = expect(after, Mark::Semicolon)?;
-    Ok((Declaration::Activity(at, name_at, name, takes, gives), end))
+    Ok((Declaration::Activity(at, name_at, name, takes, gives.kind), end))
 }
 
 /// Declarations, statements up to the last brace, its place, and what follows it.
 fn body(alloc: Global, tokens: &[Token]) -> Result<(Vec<Declaration>, Vec<Stmt>, usize, &[Token]), Stop>
+    ensures ok { IfOk result (λ x. Parsed m.body body_tokens whole_body_of (lexemes tokens.now) (map shown_declaration x.0.items, (shown_block x.1.items, x.2)) (lexemes x.3.now)) }
     ensures shorter { IfOk result (λ x. length x.3.now < length tokens.now) }
+    ensures err { IfErr result (λ e. StopsAt m.body (lexemes tokens.now) e) }
 {
     let mut declarations = Vec::new(alloc);
     let mut rest = tokens;
@@ -84,7 +100,10 @@ fn body(alloc: Global, tokens: &[Token]) -> Result<(Vec<Declaration>, Vec<Stmt>,
 }
 
 /// The program that the tokens are.
-pub fn program(alloc: Global, tokens: &[Token]) -> Result<Program, Stop> {
+pub fn program(alloc: Global, tokens: &[Token]) -> Result<Program, Stop>
+    ensures ok { IfOk result (λ p. Reads (lexemes tokens.now) (shown_program p)) }
+    ensures err { IfErr result (λ e. StopsProgram (lexemes tokens.now) e) }
+{
     let (_, after_keyword) = expect(tokens, Mark::Workflow)?;
     let (at, name, after_name) = name(alloc, after_keyword)?;
     let (_, after_open) = expect(after_name, Mark::Open)?;

@@ -1,8 +1,18 @@
-use Rattle.std.proofs.Common.{◌≤◌, length}
+use Rattle.std.proofs.Common.{◌≡◌, ◌≤◌, List, ◌∷◌, length, map}
+use Rattle.flow_base.specs.Shown.{shown_stmt}
+use Rattle.flow_model.specs.Lexeme.{lexemes}
+use Rattle.flow_syntax.specs.Machine.{Symbol, fault}
+use Rattle.flow_syntax.specs.Machine as m
+use Rattle.flow_syntax.proofs.ParsedPrograms.{StatementsSoFar}
 use Rattle.flow_syntax.proofs.statement.statements.Given as goal
 
 abbrev pub invariant-loop-at : goal.invariant-loop-at
-invariant-loop-at l = record { shorter : length l.rest ≤ length l.tokens }
+invariant-loop-at l =
+    record {
+      shorter : length l.rest ≤ length l.tokens;
+      whole : StatementsSoFar (lexemes l.tokens) (map shown_stmt l.list.items) (lexemes l.rest);
+      machine : (owed : List Symbol) → fault (m.statements ∷ owed) (lexemes l.tokens) ≡ fault (m.statements ∷ owed) (lexemes l.rest);
+    }
 
 abbrev pub decreases-loop-at : goal.decreases-loop-at
 decreases-loop-at l = length l.rest

@@ -1,0 +1,44 @@
+use Rattle.std.proofs.Common.{◌≡◌, ◌∙◌, ◌∷◌, ◌++◌, length, map, ap, sym, rules, arith}
+use Rattle.std.proofs.lemmas.List.{map_push, length-map}
+use Rattle.std.proofs.lemmas.Result.{err_from_is_err_and, IfOk-weaker, IfErr-weaker}
+use Rattle.flow_base.specs.Shown.{shown_expr, shown_stmt, shown_block, shown_declaration, shown_program}
+use Rattle.flow_base.specs.declared.token.Word.TheVariants as word
+use Rattle.flow_base.specs.declared.token.Mark.TheVariants as mark
+use Rattle.flow_model.specs.Lexeme.{lexeme, lexemes}
+use Rattle.flow_syntax.specs.Machine.{Symbol, fault}
+use Rattle.flow_syntax.specs.Machine as m
+use Rattle.flow_syntax.proofs.Parsed.{stops_in}
+use Rattle.flow_syntax.proofs.ParsedPrograms.{parameters_is, parameters_begin, parameters_more, no_parameters, parameters_shut, more_parameters_is}
+use Rattle.flow_syntax.proofs.program.parameters.Goals as goal
+
+pub returns-in-Some-clause-ok : goal.returns-in-Some-clause-ok
+returns-in-Some-clause-ok c = rw c.new-list.ensures.items (no_parameters c.in-Some.at (lexemes c.args.tokens.now) (lexemes c.in-Some.end.now) c.in-Some.ensures.found)
+
+pub returns-in_err-first-clause-err : goal.returns-in_err-first-clause-err
+returns-in_err-first-clause-err c =
+    let p = err_from_is_err_and c.from_residual.result c.from_residual.ensures.1 in
+    rw (p.1, p.2) (stops_in m.parameters m.parameter (lexemes c.args.tokens.now) (lexemes c.args.tokens.now) (λ owed. m.more_parameters ∷ owed) (λ owed. parameters_is owed (lexemes c.args.tokens.now) c.in_default.ensures.found) c.in_err-first.field-0.0 c.in_err-first.ensures.err)
+
+pub loop-after-init : goal.loop-after-init
+loop-after-init c =
+    record {
+      shorter = c.in_ok-first.ensures.shorter;
+      whole = rw (c.in_ok-push.ensures.items, c.new-list.ensures.items) (parameters_begin (lexemes c.args.tokens.now) (lexemes c.in_ok-first.rest.now) c.in_ok-first.first c.in_ok-first.ensures.ok);
+      machine = λ owed. parameters_is owed (lexemes c.args.tokens.now) c.in_default.ensures.found ∙ c.in_ok-first.ensures.ok.3 (m.more_parameters ∷ owed);
+    }
+
+pub loop-after-preserved : goal.loop-after-preserved
+loop-after-preserved c =
+    record {
+      shorter = omega (arith, c.in_ok-parameter.ensures.shorter, c.loop-after.invariant.shorter, c.in-Some-eat.ensures.shorter);
+      whole = rw (c.in_ok-push-2.ensures.items) (parameters_more (lexemes c.args.tokens.now) (lexemes c.loop-after.rest.now) (lexemes c.in-Some-eat.after.now) (lexemes c.in_ok-parameter.next.now) c.in-Some-eat.field-0-0 c.loop-after.list.items c.in_ok-parameter.parameter c.loop-after.invariant.whole c.in-Some-eat.ensures.found c.in_ok-parameter.ensures.ok);
+      machine = λ owed. c.loop-after.invariant.machine owed ∙ ap (fault (m.more_parameters ∷ owed)) c.in-Some-eat.ensures.found ∙ c.in_ok-parameter.ensures.ok.3 (m.more_parameters ∷ owed);
+    }
+
+pub returns-in_err-at-clause-err : goal.returns-in_err-at-clause-err
+returns-in_err-at-clause-err c =
+    let p = err_from_is_err_and c.from_residual-in_err-at.result c.from_residual-in_err-at.ensures.1 in
+    rw (p.1, p.2) (stops_in m.parameters (m.sign mark.Close) (lexemes c.args.tokens.now) (lexemes c.loop-after.rest.now) (λ owed. owed) (λ owed. c.loop-after.invariant.machine owed ∙ more_parameters_is owed (lexemes c.loop-after.rest.now) c.in_default-eat.ensures.found) c.in_err-at.field-0.0 c.in_err-at.ensures.err)
+
+pub returns-clause-ok : goal.returns-clause-ok
+returns-clause-ok c = parameters_shut c.in_ok-at.at (lexemes c.args.tokens.now) (lexemes c.loop-after.rest.now) (lexemes c.in_ok-at.end.now) c.loop-after.list.items c.loop-after.invariant.whole c.loop-after.invariant.machine c.in_ok-at.ensures.ok
