@@ -1,0 +1,90 @@
+//! `flow`: checks programs of workflows, and answers command lines.
+#![tactic(auto)]
+
+use flow_cli::call::{Call, call_of};
+use flow_cli::check::check_text;
+use flow_cli::drive::{Stopped, drive_lines};
+use flow_cli::fault::{Fault, fault_line, status};
+use flow_machine::language::Language;
+use flow_view::lists::Lists;
+use std::io::{BufReader, ErrorKind};
+use std::process::ExitCode;
+use std::{env, fs, io};
+
+fn main(rt: HostRuntime) -> ExitCode {
+    ExitCode::from(run(&rt))
+}
+
+/// Does what the words ask for, and gives the status.
+fn run(rt: &HostRuntime) -> u8 {
+    match work(rt) {
+        Ok(status) => status,
+        Err(Stopped::Refused(fault)) => {
+            say_fault(rt, &fault);
+            status(&fault)
+        }
+        Err(Stopped::Input(error)) => {
+            let _ = eprintln!(rt; "flow: the input can't be read: {error}");
+            3
+        }
+        Err(Stopped::Output(error)) => {
+            let _ = eprintln!(rt; "flow: the output can't be written: {error}");
+            3
+        }
+    }
+}
+
+fn say_fault(rt: &HostRuntime, fault: &Fault) {
+    if let Ok(line) = fault_line(rt.alloc(), fault) {
+        let _ = rt.eprintln(line);
+    }
+}
+
+fn work(rt: &HostRuntime) -> Result<u8, Stopped> {
+    let words = words(rt)?;
+    match call_of(rt.alloc(), words.as_slice()) {
+        Ok(Call::Check(file)) => check(rt, file),
+        Ok(Call::Drive("-")) => drive(rt),
+        // Stores in files come later.
+        Ok(Call::Drive(_)) => Err(Stopped::Refused(Fault::StoreRefused)),
+        Err(fault) => Err(Stopped::Refused(fault)),
+    }
+}
+
+/// The words that the program was called with, its own name first.
+fn words(rt: &HostRuntime) -> Result<Vec<String>, Stopped> {
+    match env::args(rt) {
+        Ok(words) => Ok(words.collect(rt.alloc())?),
+        Err(error) => Err(Stopped::Refused(fault_or(error, Fault::BadUsage))),
+    }
+}
+
+/// E01 where memory ran out, and else the other fault.
+fn fault_or(error: io::Error, other: Fault) -> Fault {
+    match error.kind() {
+        ErrorKind::OutOfMemory => Fault::NoMemory,
+        _ => other,
+    }
+}
+
+fn check(rt: &HostRuntime, file: &str) -> Result<u8, Stopped> {
+    let text = match fs::read_to_string(rt, file) {
+        Ok(text) => text,
+        Err(error) => return Err(Stopped::Refused(fault_or(error, Fault::NoFile))),
+    };
+    let verdict = check_text(rt.alloc(), &Language, text.as_str())?;
+    let line = verdict.line(rt.alloc())?;
+    match rt.println(line) {
+        Ok(()) => Ok(verdict.status()),
+        Err(error) => Err(Stopped::Output(error)),
+    }
+}
+
+fn drive(rt: &HostRuntime) -> Result<u8, Stopped> {
+    let Ok(mut reader) = BufReader::new(rt.alloc(), rt.reader()) else {
+        return Err(Stopped::Refused(Fault::NoMemory));
+    };
+    let mut writer = io::writer(rt);
+    let mut lists = Lists::new(rt.alloc());
+    drive_lines(rt.alloc(), &Language, &mut lists, &mut reader, &mut writer)
+}
