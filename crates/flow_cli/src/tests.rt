@@ -1,14 +1,18 @@
 use crate::call::{Call, call_of};
+use crate::check::Verdict;
 use crate::command::{LineFault, command_of};
+use crate::drive::drive_lines;
 use crate::fault::{Fault, fault_line, status};
 use crate::reply::{Line, reply_line};
 use flow_base::code::Code;
 use flow_base::command::{Command, Description, Reply, TextFault};
-use flow_base::event::{Cmd, Event, Input, State, What};
+use flow_base::event::{Cmd, Event, Input, State, What, same_values};
 use flow_base::number::{EventId, Moment, RunId, TextNo};
 use flow_base::sequence::Sequence;
 use flow_base::text::{Key, Text};
 use flow_base::value::Value;
+use flow_machine::language::Language;
+use flow_view::lists::Lists;
 use std::alloc::Global;
 use std::test::Fail;
 
@@ -134,6 +138,32 @@ fn start_line(alloc: Global, flow: usize, request: usize) -> Result<String, Fail
     )?)
 }
 
+fn is_start(command: &Command) -> bool {
+    match command {
+        Command::Start(request, flow, text, args, at) => {
+            request.as_str() == "qqq"
+                && flow.as_str() == "ff"
+                && text.get() == 3
+                && same_values(args.as_slice(), &[Value::Int(7)])
+                && at.get() == 1000
+        }
+        _ => false,
+    }
+}
+
+fn is_report(command: &Command) -> bool {
+    match command {
+        Command::Complete(run, event, attempt, value, at) => {
+            run.get() == 1
+                && event.get() == 2
+                && *attempt == 4
+                && value.is(&Value::Int(41))
+                && at.get() == 1500
+        }
+        _ => false,
+    }
+}
+
 #[test]
 fn keys(rt: HostRuntime) -> Result<(), Fail> {
     let a = rt.alloc();
@@ -148,25 +178,13 @@ fn keys(rt: HostRuntime) -> Result<(), Fail> {
         let line = start_line(a, flow, request)?;
         assert_eq!(rt; code_of(a, line.as_bytes()), code);
     }
-    let line = start_line(a, 2, 3)?;
-    let Ok(Command::Start(request, flow, text, args, at)) = command_of(a, line.as_bytes()) else {
-        return Err(Fail::from("no start"));
-    };
-    assert!(rt; request.as_str() == "qqq");
-    assert!(rt; flow.as_str() == "ff");
-    assert_eq!(rt; text.get(), 3);
-    assert!(rt; matches!(args.as_slice(), [Value::Int(7)]));
-    assert_eq!(rt; at.get(), 1000);
-    let line =
-        b"{\"at\":1500,\"attempt\":4,\"do\":\"complete\",\"event\":2,\"run\":1,\"value\":41}";
-    let Ok(Command::Complete(run, event, attempt, value, at)) = command_of(a, line) else {
-        return Err(Fail::from("no report"));
-    };
-    assert_eq!(rt;
-        (run.get(), event.get(), attempt, at.get()),
-        (1, 2, 4, 1500)
+    let start = command_of(a, start_line(a, 2, 3)?.as_bytes());
+    assert!(rt; matches!(&start, Ok(command) if is_start(command)));
+    let report = command_of(
+        a,
+        b"{\"at\":1500,\"attempt\":4,\"do\":\"complete\",\"event\":2,\"run\":1,\"value\":41}",
     );
-    assert!(rt; value.is(&Value::Int(41)));
+    assert!(rt; matches!(&report, Ok(command) if is_report(command)));
     Ok(())
 }
 
@@ -291,6 +309,65 @@ fn replies(rt: HostRuntime) -> Result<(), Fail> {
             Line::Of(Reply::History(history)),
             "{\"events\":[[1,\"WorkflowExecutionStarted\",{\"args\":[7,\"e\\\"\\n\"],\"at\":1000}],[2,\"WorkflowExecutionCompleted\",{\"at\":1000,\"value\":\"\"}]],\"reply\":\"history\"}",
         )?
+    );
+    Ok(())
+}
+
+#[test]
+fn verdicts(rt: HostRuntime) -> Result<(), Fail> {
+    let a = rt.alloc();
+    let broken = Verdict::Broken(TextFault {
+        code: Code::BadToken,
+        at: 25,
+    });
+    assert!(rt; Verdict::Good.line(a)?.as_str() == "ok");
+    assert!(rt; broken.line(a)?.as_str() == "E10 at 25");
+    assert_eq!(rt; (Verdict::Good.status(), broken.status()), (0, 1));
+    Ok(())
+}
+
+fn driven(alloc: Global, input: &[u8], wanted: &[u8]) -> Result<Option<u8>, Fail> {
+    let mut reader = input;
+    let mut writer = Vec::new(alloc);
+    let mut lists = Lists::new(alloc);
+    let Ok(status) = drive_lines(alloc, &Language, &mut lists, &mut reader, &mut writer) else {
+        return Ok(None);
+    };
+    if writer.as_slice() == wanted {
+        Ok(Some(status))
+    } else {
+        Ok(None)
+    }
+}
+
+#[test]
+fn lines(rt: HostRuntime) -> Result<(), Fail> {
+    let a = rt.alloc();
+    assert_eq!(rt; driven(a, b"", b"")?, Some(0));
+    assert_eq!(rt;
+        driven(
+            a,
+            b"{\"do\":\"describe\",\"run\":1}",
+            b"{\"code\":\"E70\",\"reply\":\"refused\"}\n"
+        )?,
+        Some(0)
+    );
+    assert_eq!(rt;
+        driven(
+            a,
+            b"\n{\"do\":\"history\",\"run\":1}\r\n\xff\n{\"do\":\"describe\",\"run\":2}",
+            b"{\"code\":\"E02\",\"reply\":\"refused\"}\n{\"code\":\"E70\",\"reply\":\"refused\"}\n{\"code\":\"E02\",\"reply\":\"refused\"}\n{\"code\":\"E70\",\"reply\":\"refused\"}\n"
+        )?,
+        Some(1)
+    );
+    let long = "x".repeat(a, 3_000_000)?;
+    assert_eq!(rt;
+        driven(
+            a,
+            long.as_bytes(),
+            b"{\"code\":\"E02\",\"reply\":\"refused\"}\n"
+        )?,
+        Some(1)
     );
     Ok(())
 }

@@ -21,7 +21,11 @@ impl Texts for Language {
 
     ghost is_exact = { ⊥ };
 
-    fn read(&self, alloc: Global, text: &RawText) -> Result<Result<Checked, TextFault>, AllocError> {
+    fn read(
+        &self,
+        alloc: Global,
+        text: &RawText,
+    ) -> Result<Result<Checked, TextFault>, AllocError> {
         match parse(alloc, text.as_str()) {
             Ok(program) => match check(alloc, program) {
                 Ok(checked) => Ok(Ok(checked)),

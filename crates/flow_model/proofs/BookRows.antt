@@ -25,12 +25,15 @@ use Rattle.flow_model.specs.Apply.{Rules, rules_of, outcome, register, start, co
 abbrev A : Program
 A =
     record {
-      at = 0; name = codes "a"; parameters = record { at = 0; name = codes "n"; kind = kind.Int } ∷ []; parameters_end = 0;
+      at = 0;
+      name = codes "a";
+      parameters = record { at = 0; name = codes "n"; kind = kind.Int } ∷ [];
+      parameters_end = 0;
       declarations = Activity 0 0 (codes "c") (record { at = 0; kind = kind.Int } ∷ record { at = 0; kind = kind.Text } ∷ []) kind.Int ∷ [];
       body = block_of (
-        Let 0 0 (codes "r") (Number 0 (pos 0))
-        ∷ Call 0 (codes "r") 0 (codes "c") (Variable 0 (codes "n") ∷ Literal 0 (codes "eur") ∷ []) once NoElse
-        ∷ Return 0 (Combine Add (Variable 0 (codes "r")) (Number 0 (pos 1))) ∷ []);
+          Let 0 0 (codes "r") (Number 0 (pos 0))
+          ∷ Call 0 (codes "r") 0 (codes "c") (Variable 0 (codes "n") ∷ Literal 0 (codes "eur") ∷ []) once NoElse
+          ∷ Return 0 (Combine Add (Variable 0 (codes "r")) (Number 0 (pos 1))) ∷ []);
       body_end = 0;
     }
 

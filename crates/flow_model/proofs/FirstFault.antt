@@ -41,15 +41,15 @@ no_later_itself a = inr (refl, omega arith)
 earlier_by : (m n j k : ℕ) → cond (nat_eq m n) (nat_lt j k) (nat_lt m n) ≡ true → (m < n) ⊎ ((m ≡ n) × (j ≤ k))
 earlier_by m n j k h =
     elim (eqb_tells m n) [
-      inl e ↦ let l : j < k = ltb-true j k (rw e.0 at h) in inr (e.1, omega arith)
-    | inr e ↦ inl (ltb-true m n (rw e.0 at h))
+      | inl e ↦ let l : j < k = ltb-true j k (rw e.0 at h) in inr (e.1, omega arith)
+      | inr e ↦ inl (ltb-true m n (rw e.0 at h))
     ]
 
 later_by : (m n j k : ℕ) → cond (nat_eq m n) (nat_lt j k) (nat_lt m n) ≡ false → (n < m) ⊎ ((n ≡ m) × (k ≤ j))
 later_by m n j k h =
     elim (eqb_tells m n) [
-      inl e ↦ let l : nat_lt j k ≡ false = rw e.0 at h in inr (sym e.1, grind (arith, nat_tests))
-    | inr e ↦ let l : nat_lt m n ≡ false = rw e.0 at h in let k : m ≢ n = e.1 in inl (grind (arith, nat_tests))
+      | inl e ↦ let l : nat_lt j k ≡ false = rw e.0 at h in inr (sym e.1, grind (arith, nat_tests))
+      | inr e ↦ let l : nat_lt m n ≡ false = rw e.0 at h in let k : m ≢ n = e.1 in inl (grind (arith, nat_tests))
     ]
 
 by_place : (a b : TextFault) → is_earlier a b ≡ true → IsNoLater a b
@@ -104,9 +104,10 @@ none_of (f ∷ fs) x h q = never_none f fs h
 first_of : (fs : List TextFault) (r : TextFault) → earliest None fs ≡ Some r → Contains fs r × ((x : TextFault) → Contains fs x → IsNoLater r x)
 first_of [] r h = absurd (cc)
 first_of (f ∷ fs) r h =
-    let i = earliest_is f r fs h in
-    (elim i.among [ inl q ↦ subst (λ (x : TextFault). Contains (f ∷ fs) x) q (at_head f fs) | inr q ↦ behind_head f r fs q ],
-     λ x q. elim (in_either f x fs q) [ inl k ↦ subst (λ (y : TextFault). IsNoLater r y) k i.first | inr k ↦ i.least x k ])
+    let i = earliest_is f r fs h in (
+      elim i.among [ inl q ↦ subst (λ (x : TextFault). Contains (f ∷ fs) x) q (at_head f fs) | inr q ↦ behind_head f r fs q ],
+      λ x q. elim (in_either f x fs q) [ inl k ↦ subst (λ (y : TextFault). IsNoLater r y) k i.first | inr k ↦ i.least x k ],
+    )
 
 -- no fault: the program keeps every rule
 pub well_formed : (p : Program) → first_fault p ≡ None → WellFormed p

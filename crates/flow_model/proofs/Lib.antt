@@ -10,3 +10,4 @@ pub mod Chains
 pub mod Positions
 pub mod Again
 pub mod OneMore
+mod RunRows

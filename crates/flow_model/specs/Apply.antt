@@ -201,8 +201,12 @@ complete u b run event attempt v at =
 unfoldable pub describe : Book → ℕ → Outcome
 describe b run =
     must_be (nth b.runs run) NoRun (λ r. says (reply.Run (record {
-      flow = r.flow; text = r.text; state = state_of r.history; events = length r.history;
-      activities = map (λ (t : Task). t.event) r.tasks; timers = map (λ (t : Timer). t.id) (open_timers r.history);
+      flow = r.flow;
+      text = r.text;
+      state = state_of r.history;
+      events = length r.history;
+      activities = map (λ (t : Task). t.event) r.tasks;
+      timers = map (λ (t : Timer). t.id) (open_timers r.history);
     })))
 
 unfoldable pub history : Book → ℕ → Outcome

@@ -35,7 +35,12 @@ within_ends ts rest b o w h = subst Within (sym (w.1 ∙ ap (λ y. w.0 ++ y) h))
 
 pub is_cut : (ts rest after : List Lexeme) (b o b' o' left : ℕ) (t : Lexeme) → WithinSoFar ts b o rest → rest ≡ t ∷ after → b' ≡ brackets_after b t.word → o' ≡ operators_after o t.word → length after ≡ left → (b' ≤ 64 → o' ≤ 64 → ⊥) → IsCut ts t.at left
 is_cut ts rest after b o b' o' left t w h eb eo l bad = (
-  w.0, t, after, w.1 ∙ ap (λ y. w.0 ++ y) h, l, refl,
+  w.0,
+  t,
+  after,
+  w.1 ∙ ap (λ y. w.0 ++ y) h,
+  l,
+  refl,
   subst Within (append-nil w.0) ((w.2 []).0 tt),
   λ g. let p = (w.2 (t ∷ [])).1 g in bad (rw eb p.0) (rw eo p.1),
 )

@@ -88,7 +88,12 @@ fn parens(alloc: Global, tokens: &[Token]) -> Result<(Expr, &[Token]), Stop>
 
 /// An operator that stands before parentheses, behind its word.
 #[cycle(expression)]
-fn applied(alloc: Global, at: usize, operator: Unary, tokens: &[Token]) -> Result<(Expr, &[Token]), Stop>
+fn applied(
+    alloc: Global,
+    at: usize,
+    operator: Unary,
+    tokens: &[Token],
+) -> Result<(Expr, &[Token]), Stop>
     ensures ok { IfOk result (λ x. Parsed m.parens parens_tokens (λ p. Apply at operator (parens_of p)) (lexemes tokens.now) (shown_expr x.0) (lexemes x.1.now)) }
     ensures shorter { IfOk result (λ x. length x.1.now < length tokens.now) }
     ensures err { IfErr result (λ e. StopsAt m.parens (lexemes tokens.now) e) }

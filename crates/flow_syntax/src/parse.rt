@@ -49,7 +49,11 @@ fn deep_fault(alloc: Global, tokens: &[Token], at: usize, left: usize) -> ParseF
     requires { IsCut (lexemes tokens.now) at left }
     ensures { IsDeepFault (lexemes tokens.now) result }
 {
-    first_fault(alloc, &tokens[..tokens.len() - left], ParseFault::TooDeep(at))
+    first_fault(
+        alloc,
+        &tokens[..tokens.len() - left],
+        ParseFault::TooDeep(at),
+    )
 }
 
 /// The program of the tokens of a text that ends at this place.

@@ -6,13 +6,21 @@ use std::fmt::Write;
 
 /// The levels of expressions, from the loosest one on. An operand that is looser than wanted stands in parentheses.
 const OR: u8 = 0;
+
 const AND: u8 = 1;
+
 const NOT: u8 = 2;
+
 const COMPARISON: u8 = 3;
+
 const SUM: u8 = 4;
+
 const TERM: u8 = 5;
+
 const NEGATION: u8 = 6;
+
 const PRIMITIVE: u8 = 7;
+
 const PARENTHESES: u8 = 8;
 
 fn level(expr: &Expr) -> u8 {

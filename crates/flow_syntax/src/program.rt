@@ -79,11 +79,17 @@ fn activity(alloc: Global, at: usize, tokens: &[Token]) -> Result<(Declaration, 
     let (_, after_arrow) = expect(after_close, Mark::Arrow)?;
     let (gives, after) = kind(after_arrow)?;
     let (_, end) = expect(after, Mark::Semicolon)?;
-    Ok((Declaration::Activity(at, name_at, name, takes, gives.kind), end))
+    Ok((
+        Declaration::Activity(at, name_at, name, takes, gives.kind),
+        end,
+    ))
 }
 
 /// Declarations, statements up to the last brace, its place, and what follows it.
-fn body(alloc: Global, tokens: &[Token]) -> Result<(Vec<Declaration>, Vec<Stmt>, usize, &[Token]), Stop>
+fn body(
+    alloc: Global,
+    tokens: &[Token],
+) -> Result<(Vec<Declaration>, Vec<Stmt>, usize, &[Token]), Stop>
     ensures ok { IfOk result (λ x. Parsed m.body body_tokens whole_body_of (lexemes tokens.now) (map shown_declaration x.0.items, (shown_block x.1.items, x.2)) (lexemes x.3.now)) }
     ensures shorter { IfOk result (λ x. length x.3.now < length tokens.now) }
     ensures err { IfErr result (λ e. StopsAt m.body (lexemes tokens.now) e) }

@@ -39,7 +39,12 @@ fn return_statement(alloc: Global, at: usize, tokens: &[Token]) -> Result<(Stmt,
 }
 
 /// A call into this variable, behind its keyword.
-fn call_statement(alloc: Global, at: usize, into: Key, tokens: &[Token]) -> Result<(Stmt, &[Token]), Stop>
+fn call_statement(
+    alloc: Global,
+    at: usize,
+    into: Key,
+    tokens: &[Token],
+) -> Result<(Stmt, &[Token]), Stop>
     ensures ok { IfOk result (λ x. (call_at : ℕ) → Parsed m.side side_tokens (side_of at into) (marked call_at Mark.Call ∷ lexemes tokens.now) (shown_stmt x.0) (lexemes x.1.now)) }
     ensures shorter { IfOk result (λ x. length x.1.now < length tokens.now) }
     ensures err { IfErr result (λ e. (call_at : ℕ) → StopsAt m.side (marked call_at Mark.Call ∷ lexemes tokens.now) e) }
@@ -52,7 +57,12 @@ fn call_statement(alloc: Global, at: usize, into: Key, tokens: &[Token]) -> Resu
 }
 
 /// What follows `NAME =` in a statement that begins so.
-fn right_side(alloc: Global, at: usize, into: Key, tokens: &[Token]) -> Result<(Stmt, &[Token]), Stop>
+fn right_side(
+    alloc: Global,
+    at: usize,
+    into: Key,
+    tokens: &[Token],
+) -> Result<(Stmt, &[Token]), Stop>
     ensures ok { IfOk result (λ x. Parsed m.side side_tokens (side_of at into) (lexemes tokens.now) (shown_stmt x.0) (lexemes x.1.now)) }
     ensures shorter { IfOk result (λ x. length x.1.now < length tokens.now) }
     ensures err { IfErr result (λ e. StopsAt m.side (lexemes tokens.now) e) }

@@ -44,12 +44,20 @@ fn names_the_first_fault(rt: HostRuntime) {
         ("workflow x() { let a = 1 2 ! }", Code::Unexpected, 25),
         ("workflow x() { let a = now; }", Code::Unexpected, 23),
         ("workflow x() { sleep 1; }", Code::Unexpected, 15),
-        ("workflow x() { a = call b() else { }; }", Code::Unexpected, 28),
+        (
+            "workflow x() { a = call b() else { }; }",
+            Code::Unexpected,
+            28,
+        ),
         ("workflow x() { return 1 < 2 < 3; }", Code::Unexpected, 28),
         ("workflow x() { return 1", Code::Unexpected, 23),
         ("workflow x() { return 1; } 2", Code::Unexpected, 27),
         ("workflow x(a: int,) { }", Code::Unexpected, 18),
-        ("workflow x() { let a = 1; activity b() -> int; }", Code::Unexpected, 26),
+        (
+            "workflow x() { let a = 1; activity b() -> int; }",
+            Code::Unexpected,
+            26,
+        ),
     ] {
         assert!(&rt; fault(rt.alloc(), text) == Some((code, Some(at))), "{text}");
     }

@@ -67,8 +67,9 @@ behind_nothing (c ∷ bs) e = ap (λ o. after_escape o (unquoted bs)) e
 
 behind_something : (bs : List ℕ) (c : ℕ) → escaped (get_or bs 0 0) ≡ Some c → behind_escape bs ≡ goes_on (c ∷ []) (unquoted (drop 1 bs))
 behind_something [] c e = elim (no_first c e) [ ]
-  where no_first : (c : ℕ) → escaped 0 ≡ Some c → ⊥
-        no_first c e = cc
+  where
+    no_first : (c : ℕ) → escaped 0 ≡ Some c → ⊥
+    no_first c e = cc
 behind_something (b ∷ bs) c e = ap (λ o. after_escape o (unquoted bs)) e ∙ one_more c (unquoted bs)
 
 pub bad_escape : (text escape : List ℕ) → get_or text 0 0 ≡ 92 → escape ≡ drop 1 text → escaped (get_or escape 0 0) ≡ None → unquoted text ≡ None
@@ -78,8 +79,8 @@ pub escape_pushed : (v text escape rest : List ℕ) (c : ℕ) → get_or text 0 
 escape_pushed v text escape rest c e f r g =
     goes_on_further v (c ∷ []) (unquoted rest)
     ∙ ap (goes_on v)
-      (ap (λ l. goes_on (c ∷ []) (unquoted l)) (r ∙ ap (drop 1) f)
-      ∙ sym (escape_here text e ∙ behind_something (drop 1 text) c (ap (λ l. escaped (get_or l 0 0)) (sym f) ∙ g)))
+    (ap (λ l. goes_on (c ∷ []) (unquoted l)) (r ∙ ap (drop 1) f)
+    ∙ sym (escape_here text e ∙ behind_something (drop 1 text) c (ap (λ l. escaped (get_or l 0 0)) (sym f) ∙ g)))
 
 pub quote_here : (text : List ℕ) → get_or text 0 0 ≡ 34 → unquoted text ≡ Some ([], drop 1 text)
 quote_here [] e = absurd (omega (arith, e))

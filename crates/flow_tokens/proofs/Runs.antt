@@ -38,10 +38,10 @@ module _ (bs : List ℕ) (utf8 : IsUtf8 bs) where
   ends_after_ascii k passes inside =
       ⊎_elim
       (λ some.
-          let last : prefix_len (has k) bs - 1 < prefix_len (has k) bs = omega (arith, some) in
-          let back : prefix_len (has k) bs - 1 + 1 ≡ prefix_len (has k) bs = omega (arith, some) in
-          subst (IsCharBoundary bs) back
-          (IsCharBoundary-after_ascii bs (prefix_len (has k) bs - 1) utf8 (omega (arith, last, inside)) (passes _ (prefix_len_passes (has k) bs _ 0 last))))
+      let last : prefix_len (has k) bs - 1 < prefix_len (has k) bs = omega (arith, some) in
+      let back : prefix_len (has k) bs - 1 + 1 ≡ prefix_len (has k) bs = omega (arith, some) in
+      subst (IsCharBoundary bs) back
+      (IsCharBoundary-after_ascii bs (prefix_len (has k) bs - 1) utf8 (omega (arith, last, inside)) (passes _ (prefix_len_passes (has k) bs _ 0 last))))
       (λ none. subst (IsCharBoundary bs) (omega (arith, none)) (IsCharBoundary-start bs utf8))
       (order 0 (prefix_len (has k) bs))
 
@@ -57,8 +57,8 @@ module _ (bs : List ℕ) (utf8 : IsUtf8 bs) where
       ⊎_elim
       (λ inside. ends_inside k inside)
       (λ whole.
-          let all : length bs ≡ prefix_len (has k) bs = omega (arith, whole, prefix_len-le-length (has k) bs) in
-          subst (IsCharBoundary bs) all (IsCharBoundary-end bs))
+      let all : length bs ≡ prefix_len (has k) bs = omega (arith, whole, prefix_len-le-length (has k) bs) in
+      subst (IsCharBoundary bs) all (IsCharBoundary-end bs))
       (order (prefix_len (has k) bs) (length bs))
 
 -- a comment's first byte belongs to it

@@ -59,7 +59,11 @@ fn kinds_and_places(rt: HostRuntime) -> Result<(), Fail> {
         "let a_1 = 42;",
         "Let 0 3, name a_1 4 7, Assign 8 9, int 42 10 12, Semicolon 12 13, ",
     )?;
-    reads(&rt, "\t\r\n \"h\u{e9}\" _x", "text h\u{e9} 4 9, name _x 10 12, ")?;
+    reads(
+        &rt,
+        "\t\r\n \"h\u{e9}\" _x",
+        "text h\u{e9} 4 9, name _x 10 12, ",
+    )?;
     reads(&rt, "", "")?;
     reads(&rt, "iff if", "name iff 0 3, If 4 6, ")?;
     reads(&rt, "7a", "int 7 0 1, name a 1 2, ")
@@ -68,8 +72,16 @@ fn kinds_and_places(rt: HostRuntime) -> Result<(), Fail> {
 #[test]
 fn the_longest_is_taken(rt: HostRuntime) -> Result<(), Fail> {
     reads(&rt, "a++b", "name a 0 1, Join 1 3, name b 3 4, ")?;
-    reads(&rt, "+++ <= < = ->", "Join 0 2, Plus 2 3, AtMost 4 6, Less 7 8, Assign 9 10, Arrow 11 13, ")?;
-    reads(&rt, "= = == === != >= >", "Assign 0 1, Assign 2 3, Equal 4 6, Equal 7 9, Assign 9 10, Differ 11 13, AtLeast 14 16, Greater 17 18, ")?;
+    reads(
+        &rt,
+        "+++ <= < = ->",
+        "Join 0 2, Plus 2 3, AtMost 4 6, Less 7 8, Assign 9 10, Arrow 11 13, ",
+    )?;
+    reads(
+        &rt,
+        "= = == === != >= >",
+        "Assign 0 1, Assign 2 3, Equal 4 6, Equal 7 9, Assign 9 10, Differ 11 13, AtLeast 14 16, Greater 17 18, ",
+    )?;
     reads(
         &rt,
         "(){},;:*/%-1",
@@ -86,7 +98,11 @@ fn comments(rt: HostRuntime) -> Result<(), Fail> {
 
 #[test]
 fn escapes(rt: HostRuntime) -> Result<(), Fail> {
-    reads(&rt, r#""a\"b\\c\n" 1"#, "text a\"b\\c\n 0 11, int 1 12 13, ")?;
+    reads(
+        &rt,
+        r#""a\"b\\c\n" 1"#,
+        "text a\"b\\c\n 0 11, int 1 12 13, ",
+    )?;
     reads(&rt, r#" "\t""#, "E10 at 1")?;
     reads(&rt, r#""\"#, "E10 at 0")?;
     reads(&rt, "1 \"a", "int 1 0 1, E10 at 2")?;
@@ -97,7 +113,11 @@ fn escapes(rt: HostRuntime) -> Result<(), Fail> {
 
 #[test]
 fn numbers(rt: HostRuntime) -> Result<(), Fail> {
-    reads(&rt, "0 9223372036854775807", "int 0 0 1, int 9223372036854775807 2 21, ")?;
+    reads(
+        &rt,
+        "0 9223372036854775807",
+        "int 0 0 1, int 9223372036854775807 2 21, ",
+    )?;
     reads(&rt, "9223372036854775808", "E10 at 0")?;
     reads(&rt, "1 99999999999999999999999", "int 1 0 1, E10 at 2")?;
     reads(&rt, " 01", "E10 at 1")?;

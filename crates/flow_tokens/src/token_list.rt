@@ -1,7 +1,7 @@
-use flow_base::code::Code;
-use flow_base::token::Token;
 ghost use Rattle.std.specs.Prelude.{◌≡◌};
 
+use flow_base::code::Code;
+use flow_base::token::Token;
 use std::alloc::{AllocError, AllocFailed};
 
 /// The tokens of a text up to its first fault.

@@ -5,4 +5,6 @@ pub mod fault;
 pub mod history;
 pub mod lists;
 pub mod run;
+#[cfg(test)]
+mod tests;
 pub mod view;

@@ -12,14 +12,14 @@ unfolding keyword_of
 returns-then-eq c =
     let inside : c.loop-mark.mark-index < length keywords = omega arith in
     let here : bytes_eq (spelled (get_or keywords c.loop-mark.mark-index Workflow)) c.args.letters.now ≡ true =
-      ap (λ s. bytes_eq s c.args.letters.now) (sym c.spelled.ensures) ∙ sym (c.if-eq.ensures {u = tt}) in
+    ap (λ s. bytes_eq s c.args.letters.now) (sym c.spelled.ensures) ∙ sym (c.if-eq.ensures {u = tt}) in
     sym (c.loop-mark.invariant ∙ find_here (λ (m : Mark). bytes_eq (spelled m) c.args.letters.now) keywords c.loop-mark.mark-index Workflow inside here)
 
 pub loop-mark-preserved : goal.loop-mark-preserved
 loop-mark-preserved c =
     let inside : c.loop-mark.mark-index < length keywords = omega arith in
     let other : bytes_eq (spelled (get_or keywords c.loop-mark.mark-index Workflow)) c.args.letters.now ≡ false =
-      ap (λ s. bytes_eq s c.args.letters.now) (sym c.spelled.ensures) ∙ sym (c.if-eq.ensures {u = tt}) in
+    ap (λ s. bytes_eq s c.args.letters.now) (sym c.spelled.ensures) ∙ sym (c.if-eq.ensures {u = tt}) in
     c.loop-mark.invariant
     ∙ find_later (λ (m : Mark). bytes_eq (spelled m) c.args.letters.now) keywords c.loop-mark.mark-index Workflow inside other
     ∙ ap (λ i. find (λ (m : Mark). bytes_eq (spelled m) c.args.letters.now) (drop i keywords)) (sym (add-one c.loop-mark.mark-index))

@@ -6,7 +6,7 @@ use Rattle.flow_tokens.proofs.run.run_len.Given as goal
 abbrev pub invariant-loop-n : goal.invariant-loop-n
 invariant-loop-n l = record {
   in_range : l.n ≤ length l.bytes;
-  so_far : prefix_len (has l.class) l.bytes ≡ l.n + prefix_len (has l.class) (drop l.n l.bytes)
+  so_far : prefix_len (has l.class) l.bytes ≡ l.n + prefix_len (has l.class) (drop l.n l.bytes);
 }
 
 abbrev pub decreases-loop-n : goal.decreases-loop-n
