@@ -7,5 +7,3 @@ pub mod command;
 pub mod drive;
 pub mod fault;
 pub mod reply;
-#[cfg(test)]
-mod tests;
