@@ -7,3 +7,5 @@ pub mod command;
 pub mod drive;
 pub mod fault;
 pub mod reply;
+#[cfg(test)]
+mod tests;

@@ -1,0 +1,9 @@
+//! Tests that cross crates: the worked examples, from lines in to lines out.
+#![tactic(auto)]
+
+#[cfg(test)]
+mod histories;
+#[cfg(test)]
+mod runs;
+#[cfg(test)]
+mod texts;

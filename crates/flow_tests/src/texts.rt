@@ -1,0 +1,124 @@
+//! Texts: what `flow check` says of them, and that a printed program is read as the same program.
+use flow_base::syntax::{Declaration, Expr, Parameter, Program, Stmt, TypeAt};
+use flow_cli::check::check_text;
+use flow_machine::language::Language;
+use flow_syntax::parse::parse;
+use flow_syntax::print::print;
+use std::test::Fail;
+
+/// Whether two expressions are the same up to places.
+fn same_expr(left: &Expr, right: &Expr) -> bool {
+    match (left, right) {
+        (Expr::Int(_, n), Expr::Int(_, m)) => *n == *m,
+        (Expr::Text(_, t), Expr::Text(_, u)) => t.is(u),
+        (Expr::Var(_, x), Expr::Var(_, y)) => x.is(y),
+        (Expr::Unary(_, f, a), Expr::Unary(_, g, b)) => *f == *g && same_expr(a, b),
+        (Expr::Binary(f, a, b), Expr::Binary(g, c, d)) => *f == *g
+            && same_expr(a, c)
+            && same_expr(b, d),
+        _ => false,
+    }
+}
+
+fn same_exprs(left: &[Expr], right: &[Expr]) -> bool {
+    left.len() == right.len() && left.iter().zip(right).all(|(a, b)| same_expr(a, b))
+}
+
+fn same_stmt(left: &Stmt, right: &Stmt) -> bool {
+    match (left, right) {
+        (Stmt::Let(_, _, x, e), Stmt::Let(_, _, y, f)) => x.is(y) && same_expr(e, f),
+        (Stmt::Assign(_, x, e), Stmt::Assign(_, y, f)) => x.is(y) && same_expr(e, f),
+        (Stmt::Call(_, x, _, a, es), Stmt::Call(_, y, _, b, fs)) => x.is(y)
+            && a.is(b)
+            && same_exprs(es, fs),
+        (Stmt::Return(_, e), Stmt::Return(_, f)) => same_expr(e, f),
+        _ => false,
+    }
+}
+
+fn same_types(left: &[TypeAt], right: &[TypeAt]) -> bool {
+    left.len() == right.len() && left.iter().zip(right).all(|(a, b)| a.kind == b.kind)
+}
+
+fn same_declaration(left: &Declaration, right: &Declaration) -> bool {
+    let Declaration::Activity(_, _, x, takes, gives) = left;
+    let Declaration::Activity(_, _, y, also_takes, also_gives) = right;
+    x.is(y) && same_types(takes, also_takes) && *gives == *also_gives
+}
+
+fn same_parameter(left: &Parameter, right: &Parameter) -> bool {
+    left.name.is(&right.name) && left.kind == right.kind
+}
+
+fn same_program(left: &Program, right: &Program) -> bool {
+    left.name.is(&right.name)
+        && left.parameters.len() == right.parameters.len()
+        && left
+            .parameters
+            .iter()
+            .zip(right.parameters.iter())
+            .all(|(a, b)| same_parameter(a, b))
+        && left.declarations.len() == right.declarations.len()
+        && left
+            .declarations
+            .iter()
+            .zip(right.declarations.iter())
+            .all(|(a, b)| same_declaration(a, b))
+        && left.body.len() == right.body.len()
+        && left
+            .body
+            .iter()
+            .zip(right.body.iter())
+            .all(|(a, b)| same_stmt(a, b))
+}
+
+/// Whether the text is printed so, and what is printed is read as the same program.
+fn is_printed_as(rt: &HostRuntime, text: &str, printed: &str) -> Result<bool, Fail> {
+    let program = parse(rt.alloc(), text)?;
+    let written = print(rt.alloc(), &program)?;
+    let again = parse(rt.alloc(), written.as_str())?;
+    Ok(written.as_str() == printed && same_program(&program, &again))
+}
+
+#[test]
+fn programs_are_printed_and_read_again(rt: HostRuntime) -> Result<(), Fail> {
+    let a =
+        "workflow a(n: int) { activity c(int, text) -> int; let r = 0; r = call c(n, \"eur\"); return r + 1; }";
+    let printed =
+        "workflow a ( n : int ) { activity c ( int , text ) -> int ; let r = 0 ; r = call c ( n , \"eur\" ) ; return r + 1 ; }";
+    assert!(rt; is_printed_as(&rt, a, printed)?);
+    assert!(rt; is_printed_as(&rt, "workflow e() {}", "workflow e ( ) { }")?);
+    let d0 = "workflow d() { activity p(text) -> int; let r = 0; r = call p(\"eur\"); return r; }";
+    let printed =
+        "workflow d ( ) { activity p ( text ) -> int ; let r = 0 ; r = call p ( \"eur\" ) ; return r ; }";
+    assert!(rt; is_printed_as(&rt, d0, printed)?);
+    Ok(())
+}
+
+#[test]
+fn parentheses_stand_where_the_grammar_needs_them(rt: HostRuntime) -> Result<(), Fail> {
+    let text =
+        "workflow o(a: int, b: text) { let x = ((not a) == 1) and (2 < 3) or (1 - (2 - 3) * (-4)); return text(len(((b ++ \"q\\\"\\\\\\n\"))) % 5); }";
+    let printed =
+        "workflow o ( a : int , b : text ) { let x = ( not a ) == 1 and 2 < 3 or 1 - ( 2 - 3 ) * - 4 ; return text ( len ( b ++ \"q\\\"\\\\\\n\" ) % 5 ) ; }";
+    assert!(rt; is_printed_as(&rt, text, printed)?);
+    Ok(())
+}
+
+/// Whether `flow check` says this of a text, with this status.
+fn is_checked_as(rt: &HostRuntime, text: &str, line: &str, status: u8) -> Result<bool, Fail> {
+    let verdict = check_text(rt.alloc(), &Language, text)?;
+    Ok(verdict.line(rt.alloc())?.as_str() == line && verdict.status() == status)
+}
+
+#[test]
+fn the_first_fault_is_named(rt: HostRuntime) -> Result<(), Fail> {
+    assert!(rt; is_checked_as(&rt, "", "E11 at 0", 1)?);
+    assert!(rt; is_checked_as(&rt, "workflow x( { }", "E11 at 12", 1)?);
+    assert!(rt; is_checked_as(&rt, "workflow x() { let a = 1 ! 2; }", "E10 at 25", 1)?);
+    assert!(rt; is_checked_as(&rt, "workflow x() { y = 1; }", "E20 at 15", 1)?);
+    assert!(rt; is_checked_as(&rt, "workflow e() {}", "ok", 0)?);
+    // `while` is reserved, and its statement doesn't exist yet
+    assert!(rt; is_checked_as(&rt, "workflow x() { while 1 { } }", "E11 at 15", 1)?);
+    Ok(())
+}
