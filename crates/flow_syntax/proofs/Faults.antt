@@ -49,7 +49,7 @@ within_from_prefix : (x y : List Lexeme) (b o : ℕ) → WithinFrom b o (x ++ y)
 within_from_prefix [] y b o h = tt
 within_from_prefix (t ∷ x) y b o h = (h.0, h.1, within_from_prefix x y (brackets_after b t.word) (operators_after o t.word) h.2)
 
-within_prefix : (ts x y : List Lexeme) → ts ≡ x ++ y → Within ts → Within x
+pub within_prefix : (ts x y : List Lexeme) → ts ≡ x ++ y → Within ts → Within x
 within_prefix ts x y e h = within_from_prefix x y 0 0 (subst Within e h)
 
 -- where the machine stops
@@ -93,7 +93,7 @@ nothing_behind [] u a h = cc
 nothing_behind (y ∷ x) u a h = cc
 
 -- what stands before a token of a list stands before its last one
-before_last : (x : List Lexeme) (u : Lexeme) (a before : List Lexeme) (t : Lexeme) → before ++ (t ∷ []) ≡ x ++ (u ∷ a) → (c : List Lexeme) × (before ≡ x ++ c)
+pub before_last : (x : List Lexeme) (u : Lexeme) (a before : List Lexeme) (t : Lexeme) → before ++ (t ∷ []) ≡ x ++ (u ∷ a) → (c : List Lexeme) × (before ≡ x ++ c)
 before_last [] u a before t h = (before, refl)
 before_last (y ∷ x) u a [] t h = absurd (nothing_behind x u a (let e : [] ≡ x ++ (u ∷ a) = cc in e))
 before_last (y ∷ x) u a (z ∷ before) t h =

@@ -7,3 +7,7 @@ pub mod Parsed
 pub mod ParsedExpressions
 pub mod ParsedPrograms
 pub mod Faults
+pub mod Codes
+pub mod MeansOnce
+pub mod Meaning
+pub mod ParsedTexts

@@ -3,12 +3,14 @@ use Rattle.std.specs.Prelude.{◌≡◌, ◌⊎◌, ℕ, List, [], ◌∷◌, �
 use Rattle.flow_base.specs.declared.code.Code.{Code}
 use Rattle.flow_base.specs.declared.code.Code.TheVariants as code
 use Rattle.flow_base.specs.Syntax as tree
+use Rattle.flow_base.specs.Syntax.{Bytes}
 use Rattle.flow_syntax.specs.declared.fault.ParseFault.{ParseFault}
 use Rattle.flow_syntax.specs.declared.fault.ParseFault.TheVariants.{NoMemory, BadToken, Unexpected, TextTooLong, TooDeep}
 use Rattle.flow_model.specs.Lexeme.{Lexeme}
 use Rattle.flow_model.specs.Grammar.{Reads, Begins}
 use Rattle.flow_model.specs.Limits.{Within, WithinFrom}
 use Rattle.flow_model.specs.Parse.{IsFirstUnfit, EndsEarly, IsFirstDeep}
+use Rattle.flow_syntax.specs.Meaning.{IsTextFault}
 
 abbrev pub fault_code : ParseFault → Code
 fault_code NoMemory = code.NoMemory
@@ -23,6 +25,10 @@ fault_place (BadToken at) = Some at
 fault_place (Unexpected at) = Some at
 fault_place TextTooLong = Some 65536
 fault_place (TooDeep at) = Some at
+
+-- A fault that has a place, which the want of memory has not, is the first one in the text.
+abbrev pub IsParseFault : Bytes → ParseFault → Type 0
+IsParseFault text fault = (at : ℕ) → fault_place fault ≡ Some at → IsTextFault text (record { code = fault_code fault; at = at })
 
 -- the first fault of the tokens of a text that ends at this place
 abbrev pub IsFault : List Lexeme → ℕ → ParseFault → Type 0

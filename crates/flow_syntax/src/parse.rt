@@ -6,7 +6,8 @@ ghost use Rattle.flow_model.specs.Lexeme.{lexemes};
 ghost use Rattle.flow_model.specs.Grammar.{Reads};
 ghost use Rattle.flow_model.specs.Limits.{Within};
 ghost use Rattle.flow_syntax.specs.Parsing.{StopsProgram};
-ghost use Rattle.flow_syntax.specs.Faults.{IsFault, IsFaultBefore, IsFaultOf, IsFirstOf, IsCut, IsDeepFault};
+ghost use Rattle.flow_syntax.specs.Faults.{IsFault, IsFaultBefore, IsFaultOf, IsFirstOf, IsCut, IsDeepFault, IsParseFault};
+ghost use Rattle.flow_syntax.specs.Meaning.{IsProgramOf};
 
 use crate::cursor::next;
 use crate::fault::{ParseFault, Stop};
@@ -93,7 +94,12 @@ fn fault_before(alloc: Global, tokens: &[Token], at: usize) -> ParseFault
 /// E12 where the text has more than [`PROGRAM_LIMIT`] bytes; else the first fault in the text: E10 where no token
 /// begins, E11 at the first token with which no program goes on, or at the text's length where it ends early, E13 at
 /// the token with which a limit is passed. At one place the lowest number counts.
-pub fn parse(alloc: Global, text: &str) -> Result<Program, ParseFault> {
+pub fn parse(alloc: Global, text: &str) -> Result<Program, ParseFault>
+    // What is read is the program of the text. A text is one program at most, and then has no fault.
+    ensures ok { IfOk result (λ p. IsProgramOf text.now (shown_program p)) }
+    // A fault is the first one in the text. A text has one first fault at most.
+    ensures err { IfErr result (λ e. IsParseFault text.now e) }
+{
     if text.len() > PROGRAM_LIMIT {
         return Err(ParseFault::TextTooLong);
     }
