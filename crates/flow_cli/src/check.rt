@@ -41,7 +41,7 @@ impl Verdict {
 
 /// Checks a text by what reads texts.
 pub fn check_text<T: Texts>(alloc: Global, texts: &T, text: &str) -> Result<Verdict, Fault>
-    ensures verdict { T.is_exact → IfOk result (λ v. v ≡ verdict_of (T.meaning text.now)) }
+    ensures verdict { IfOk result (λ v. v ≡ verdict_of (T.meaning text.now)) }
 {
     let text = RawText::new(alloc, text)?;
     match texts.read(alloc, &text)? {

@@ -1,5 +1,8 @@
-ghost use Rattle.std.specs.Prelude.{Err};
-ghost use Rattle.flow_base.specs.declared.code.Code.TheVariants.{Unexpected};
+ghost use Rattle.std.specs.Prelude.{◌≡◌, Result};
+ghost use Rattle.flow_base.specs.Syntax.{Bytes, Program};
+ghost use Rattle.flow_base.specs.declared.command.TextFault.{TextFault as AFault};
+ghost use Rattle.flow_machine.specs.Language.{meaning_of};
+ghost use Rattle.flow_syntax.specs.Meaning.{Means};
 
 use crate::texts::Texts;
 use flow_base::command::TextFault;
@@ -15,11 +18,8 @@ use std::alloc::{AllocError, Global};
 #[derive(Clone, Copy, Debug)]
 pub struct Language;
 
-// That a text is read as what it means isn't shown yet, so nothing is said of what it means.
 impl Texts for Language {
-    ghost meaning = { λ t. Err (record { code = Unexpected; at = 0 }) };
-
-    ghost is_exact = { ⊥ };
+    ghost meaning = { meaning_of };
 
     fn read(
         &self,
@@ -42,3 +42,9 @@ impl Texts for Language {
         }
     }
 }
+
+/// What a text means for [`Language`]: the one program or fault that the grammar, the limits and the checking rules give it.
+pub fn each_text_means_one_thing()
+    ensures means { (text : Bytes) → Means text (meaning_of text) }
+    ensures once { (text : Bytes) (m n : Result Program AFault) → Means text m → Means text n → m ≡ n }
+{}

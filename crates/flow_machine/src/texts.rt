@@ -13,10 +13,7 @@ pub trait Texts {
     /// Which program a text is, or the first fault for which it is none.
     ghost meaning: { Bytes → Result Program AFault };
 
-    /// Whether each text is read as what it means.
-    ghost is_exact: { Type 0 };
-
     /// The program of a text, or its first fault.
     fn read(&self, alloc: Global, text: &RawText) -> Result<Result<Checked, TextFault>, AllocError>
-        ensures { is_exact → IfOk result (λ r. MatchResult r (λ c. meaning text.now ≡ Ok (shown_checked c)) (λ fault. meaning text.now ≡ Err fault)) };
+        ensures { IfOk result (λ r. MatchResult r (λ c. meaning text.now ≡ Ok (shown_checked c)) (λ fault. meaning text.now ≡ Err fault)) };
 }
