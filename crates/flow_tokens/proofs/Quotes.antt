@@ -23,13 +23,13 @@ one_before : (c : ℕ) (v : List ℕ) (o : Option (List ℕ × List ℕ)) → af
 one_before c v None = refl
 one_before c v (Some found) = refl
 
-plain_is_no_quote : (b : ℕ) → true ≡ is_plain b → (b == 34) ≡ false
+pub plain_is_no_quote : (b : ℕ) → true ≡ is_plain b → (b == 34) ≡ false
 plain_is_no_quote b h = grind (arith, nat_tests)
 
-plain_is_no_escape : (b : ℕ) → true ≡ is_plain b → (b == 92) ≡ false
+pub plain_is_no_escape : (b : ℕ) → true ≡ is_plain b → (b == 92) ≡ false
 plain_is_no_escape b h = grind (arith, nat_tests)
 
-third : {A : Type 0} (u v w : Bool) (x y z t : A) → u ≡ false → v ≡ false → w ≡ true → cond u x (cond v y (cond w z t)) ≡ z
+pub third : {A : Type 0} (u v w : Bool) (x y z t : A) → u ≡ false → v ≡ false → w ≡ true → cond u x (cond v y (cond w z t)) ≡ z
 third u v w x y z t e f g = ap (λ b. cond b x (cond v y (cond w z t))) e ∙ ap (λ b. cond b y (cond w z t)) f ∙ ap (λ b. cond b z t) g
 
 fourth : {A : Type 0} (u v w : Bool) (x y z t : A) → u ≡ false → v ≡ false → w ≡ false → cond u x (cond v y (cond w z t)) ≡ t
