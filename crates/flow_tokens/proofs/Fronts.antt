@@ -1,5 +1,5 @@
 -- What the plain program takes at the front of a text is the longest token there, and there is none where it takes none.
-use Rattle.std.proofs.Common.{◌≡◌, ℕ, List, ◌∷◌, Bool, true, false, cond, ◌==◌, Option, Some, None, get_or, drop, sym, ap, ◌∙◌, refl}
+use Rattle.std.proofs.Common.{◌≡◌, Bool, true, false, cond, ◌==◌, Option, Some, get_or, drop, sym, ◌∙◌, refl}
 use Rattle.flow_base.specs.Syntax.{Bytes}
 use Rattle.flow_base.specs.declared.token.Word.{Word}
 use Rattle.flow_model.specs.Tokens.{is_letter, is_digit, unquoted, text_word, long_mark, mark_word, name_word, int_word, front, Begins}

@@ -1,5 +1,5 @@
 -- Marks: the one or two bytes that the plain program takes are the longest token there.
-use Rattle.std.proofs.Common.{◌≡◌, ℕ, ◌+◌, ◌<◌, ◌≤◌, List, [], ◌∷◌, ◌++◌, Bool, true, false, cond, ◌==◌, ◌&&◌, Option, Some, None, length, get_or, drop, ⊎_elim, inl, inr, sym, ap, ◌∙◌, refl, subst, arith}
+use Rattle.std.proofs.Common.{◌≡◌, ℕ, ◌<◌, ◌≤◌, [], ◌∷◌, ◌++◌, Bool, true, false, cond, ◌==◌, ◌&&◌, Option, Some, None, length, get_or, drop, ⊎_elim, inl, inr, sym, ap, ◌∙◌, refl, subst, arith}
 use Rattle.std.specs.Prelude.{◌⊎◌}
 use Rattle.std.proofs.lemmas.Bool.{true≢false, and_parts}
 use Rattle.std.proofs.lemmas.Bool.Decides.{nat_tests}
@@ -9,8 +9,8 @@ use Rattle.flow_base.specs.declared.token.Mark.{Mark}
 use Rattle.flow_base.specs.declared.token.Mark.TheVariants as mark
 use Rattle.flow_base.specs.declared.token.Word.{Word}
 use Rattle.flow_base.specs.declared.token.Word.TheVariants as word
-use Rattle.flow_model.specs.Tokens.{is_keyword, spelled, long_mark, short_mark, short_word, mark_word, LooksLikeToken, Spells, IsLongest, Begins}
-use Rattle.flow_tokens.proofs.Longest.{Form, letters, digits, quotes, signs, form_at, mark_form, Looks, spells_at, looks_at}
+use Rattle.flow_model.specs.Tokens.{is_keyword, spelled, long_mark, short_mark, short_word, mark_word, LooksLikeToken, IsLongest, Begins}
+use Rattle.flow_tokens.proofs.Longest.{letters, digits, quotes, signs, form_at, mark_form, Looks, spells_at, looks_at}
 
 ---- The marks, and the bytes at which the plain program finds them
 

@@ -1,5 +1,5 @@
 -- Names and keywords: the run of letters, digits and _ at the front is the longest token there.
-use Rattle.std.proofs.Common.{◌≡◌, ℕ, ◌+◌, ◌<◌, ◌≤◌, List, [], ◌∷◌, ◌++◌, Bool, true, false, cond, ◌&&◌, ◌||◌, nat_le, Option, Some, None, length, get_or, take, drop, take-append-drop, one-add, inl, inr, sym, ap, ◌∙◌, refl, subst, arith}
+use Rattle.std.proofs.Common.{◌≡◌, ℕ, ◌+◌, ◌≤◌, List, [], ◌∷◌, ◌++◌, Bool, true, false, cond, ◌||◌, nat_le, Option, Some, None, length, get_or, take, drop, take-append-drop, one-add, inl, sym, ap, ◌∙◌, refl, subst, arith}
 use Rattle.std.specs.Prelude.{bytes_eq}
 use Rattle.std.specs.List.{list_all, find, prefix_len}
 use Rattle.std.specs.Cmp.Lexicographic.{bytes_decides}
@@ -12,8 +12,8 @@ use Rattle.flow_base.specs.declared.token.Mark.{Mark}
 use Rattle.flow_base.specs.declared.token.Mark.TheVariants as mark
 use Rattle.flow_base.specs.declared.token.Word.{Word}
 use Rattle.flow_base.specs.declared.token.Word.TheVariants as word
-use Rattle.flow_model.specs.Tokens.{is_letter, is_digit, is_name_byte, is_letters, is_keyword, spelled, keywords, keyword_of, word_or_name, with_rest, name_word, Spells, LooksLikeToken, IsLongest, Begins}
-use Rattle.flow_tokens.proofs.Longest.{Form, letters, digits, quotes, signs, form_of, form_at, mark_form, word_form, Looks, form_letter, letters_begin, spells_form, looks_at, one_longest}
+use Rattle.flow_model.specs.Tokens.{is_letter, is_digit, is_name_byte, is_letters, is_keyword, spelled, keywords, keyword_of, word_or_name, with_rest, name_word, Spells, IsLongest, Begins}
+use Rattle.flow_tokens.proofs.Longest.{letters, digits, quotes, form_at, mark_form, Looks, form_letter, letters_begin, spells_form, looks_at, one_longest}
 
 ---- Runs
 
@@ -70,8 +70,8 @@ name_longest : (text : Bytes) → form_at text ≡ letters → IsLongest (take (
 name_longest text f = (
   inl (name_letters text (form_letter (get_or text 0 0) f)),
   λ front behind e l.
-  let h : is_letters front ≡ true = subst (λ k. Looks k front) f (looks_at text front behind e l) in
-  run_is_longest is_name_byte text front behind e (letters_in_name front h),
+      let h : is_letters front ≡ true = subst (λ k. Looks k front) f (looks_at text front behind e l) in
+      run_is_longest is_name_byte text front behind e (letters_in_name front h),
 )
 
 ---- Keywords

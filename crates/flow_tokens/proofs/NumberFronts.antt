@@ -1,5 +1,5 @@
 -- Numbers: the run of digits at the front is the longest token there.
-use Rattle.std.proofs.Common.{◌≡◌, ℕ, ◌<◌, ◌≤◌, List, [], ◌∷◌, ◌++◌, Bool, true, false, cond, ◌&&◌, nat_le, Option, Some, None, pos, length, get_or, take, drop, take-append-drop, inl, inr, sym, ap, ◌∙◌, refl, subst}
+use Rattle.std.proofs.Common.{◌≡◌, ℕ, [], ◌∷◌, ◌++◌, Bool, true, false, cond, nat_le, Option, Some, None, pos, get_or, take, drop, take-append-drop, inl, inr, sym, ap, ◌∙◌, refl, subst}
 use Rattle.std.specs.List.{list_all, prefix_len}
 use Rattle.std.proofs.lemmas.Bool.{true≢false, and_from}
 use Rattle.std.proofs.lemmas.Option.{none-some, cond_some}
@@ -8,7 +8,7 @@ use Rattle.flow_base.specs.declared.token.Word.{Word}
 use Rattle.flow_base.specs.declared.token.Word.TheVariants as word
 use Rattle.flow_model.specs.Tokens.{is_digit, is_digits, is_keyword, number_of, number_word, has_leading_zero, with_rest, int_word, Spells, IsLongest, Begins}
 use Rattle.flow_tokens.proofs.Digits.{in_range}
-use Rattle.flow_tokens.proofs.Longest.{Form, letters, digits, quotes, signs, form_at, mark_form, word_form, Looks, form_digit, digits_begin, spells_form, looks_at, one_longest}
+use Rattle.flow_tokens.proofs.Longest.{letters, digits, quotes, form_at, mark_form, Looks, form_digit, digits_begin, spells_form, looks_at, one_longest}
 use Rattle.flow_tokens.proofs.NameFronts.{run_all, run_begins, run_is_longest, le_of_test, with_rest_parts}
 
 abbrev number_end : Bytes → ℕ
@@ -27,8 +27,8 @@ number_longest : (text : Bytes) → form_at text ≡ digits → IsLongest (take 
 number_longest text f = (
   inr (inl (number_digits text (form_digit (get_or text 0 0) f))),
   λ front behind e l.
-  let h : is_digits front ≡ true = subst (λ k. Looks k front) f (looks_at text front behind e l) in
-  run_is_longest is_digit text front behind e (all_digits front h),
+      let h : is_digits front ≡ true = subst (λ k. Looks k front) f (looks_at text front behind e l) in
+      run_is_longest is_digit text front behind e (all_digits front h),
 )
 
 no_zero_before : {A : Type 0} (v : Bool) (o : Option A) (x : A) → cond v None o ≡ Some x → (v ≡ false) × (o ≡ Some x)

@@ -1,5 +1,5 @@
 -- Texts in quotes: what stands up to the first quote that no \ escapes is the longest token there.
-use Rattle.std.proofs.Common.{◌≡◌, ℕ, ◌+◌, ◌<◌, ◌≤◌, List, [], ◌∷◌, ◌++◌, Bool, true, false, cond, ◌==◌, nat_le, Option, Some, None, length, get_or, drop, append_assoc, inl, inr, sym, ap, ◌∙◌, refl, subst, arith}
+use Rattle.std.proofs.Common.{◌≡◌, ℕ, ◌+◌, ◌≤◌, [], ◌∷◌, ◌++◌, Bool, true, false, cond, ◌==◌, nat_le, Option, Some, None, length, drop, append_assoc, inl, inr, sym, ap, ◌∙◌, refl, subst, arith}
 use Rattle.std.proofs.lemmas.Bool.Decides.{nat_tests}
 use Rattle.std.proofs.lemmas.List.{length-append}
 use Rattle.std.proofs.lemmas.Option.{none-some, same_Some, cond_some}
@@ -8,7 +8,7 @@ use Rattle.flow_base.specs.declared.token.Word.{Word}
 use Rattle.flow_base.specs.declared.token.Word.TheVariants as word
 use Rattle.flow_model.specs.Tokens.{is_plain, escaped, is_keyword, unquoted, behind_escape, after_character, after_escape, text_word, Writes, nothing, itself, escape, Quotes, Spells, IsLongest, Begins}
 use Rattle.flow_tokens.proofs.Quotes.{plain_is_no_quote, plain_is_no_escape, third}
-use Rattle.flow_tokens.proofs.Longest.{Form, letters, digits, quotes, signs, form_of, form_at, mark_form, word_form, Looks, form_quote, spells_at, looks_at}
+use Rattle.flow_tokens.proofs.Longest.{letters, digits, quotes, signs, form_at, mark_form, Looks, form_quote, spells_at, looks_at}
 use Rattle.flow_tokens.proofs.NameFronts.{le_of_test, test_of_le}
 
 ---- What `unquoted` finds is written there
@@ -76,12 +76,12 @@ quoted_longest : (text token value after : Bytes) → form_at text ≡ quotes �
 quoted_longest text token value after f e q = (
   inr (inr (inl (value, q))),
   λ front behind g l.
-  let other : Looks quotes front = subst (λ k. Looks k front) f (looks_at text front behind g l) in
-  let same = same_Some _ _ (sym (quotes_find text front behind other.0 g other.1) ∙ quotes_find text token after value e q) in
-  let lefts : length behind ≡ length after = ap (λ p. length p.1) same in
-  let sizes : length front + length behind ≡ length token + length after =
-  sym (length-append front behind) ∙ ap length (sym g ∙ e) ∙ length-append token after in
-  omega (arith, lefts, sizes),
+      let other : Looks quotes front = subst (λ k. Looks k front) f (looks_at text front behind g l) in
+      let same = same_Some _ _ (sym (quotes_find text front behind other.0 g other.1) ∙ quotes_find text token after value e q) in
+      let lefts : length behind ≡ length after = ap (λ p. length p.1) same in
+      let sizes : length front + length behind ≡ length token + length after =
+      sym (length-append front behind) ∙ ap length (sym g ∙ e) ∙ length-append token after in
+      omega (arith, lefts, sizes),
 )
 
 pub quoted_begins : (text after : Bytes) (w : Word) → form_at text ≡ quotes → text_word (unquoted (drop 1 text)) ≡ Some (w, after) → Begins text w after

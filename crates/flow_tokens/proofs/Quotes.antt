@@ -1,5 +1,5 @@
 -- Texts in quotes: what a scanner that goes by runs has read so far.
-use Rattle.std.proofs.Common.{◌≡◌, ℕ, suc, ◌+◌, List, [], ◌∷◌, ◌++◌, Bool, true, false, cond, ◌==◌, Option, Some, None, take, drop, get_or, one-add, append_assoc, append-nil, sym, ap, ◌∙◌, refl, subst, arith}
+use Rattle.std.proofs.Common.{◌≡◌, ℕ, ◌+◌, List, [], ◌∷◌, ◌++◌, Bool, true, false, cond, ◌==◌, Option, Some, None, take, drop, get_or, one-add, append_assoc, append-nil, sym, ap, ◌∙◌, refl, subst, arith}
 use Rattle.std.specs.List.{prefix_len}
 use Rattle.std.proofs.lemmas.Bool.Decides.{nat_tests}
 use Rattle.flow_model.specs.Tokens.{is_plain, escaped, unquoted, behind_escape, after_character, after_escape}

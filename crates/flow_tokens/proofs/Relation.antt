@@ -1,12 +1,12 @@
 -- The relation `TokensOf` and the plain program are the same; so each text has one list of tokens and one fault, or none.
-use Rattle.std.proofs.Common.{◌≡◌, ℕ, zero, suc, ◌+◌, ◌-◌, ◌<◌, ◌≤◌, List, [], ◌∷◌, ◌++◌, Bool, true, false, cond, ◌==◌, Option, Some, None, length, sym, ap, ◌∙◌, refl, subst, arith}
+use Rattle.std.proofs.Common.{◌≡◌, ℕ, zero, suc, ◌+◌, ◌-◌, ◌<◌, ◌≤◌, List, [], ◌∷◌, Bool, true, false, cond, ◌==◌, Option, Some, None, length, sym, ap, ◌∙◌, refl, subst, arith}
 use Rattle.std.proofs.lemmas.List.{length-append}
 use Rattle.std.proofs.lemmas.Option.{none-some, same_Some}
 use Rattle.flow_base.specs.Syntax.{Bytes}
 use Rattle.flow_base.specs.declared.token.Token.{Token}
 use Rattle.flow_base.specs.declared.token.Word.{Word}
 use Rattle.flow_model.specs.Tokens.{is_blank, is_inside_comment, front, past_gap, past_comment, Begins, Reads, Scans, TokensOf}
-use Rattle.flow_tokens.specs.Scan.{Scanned, with_token, before, scan_from, scan}
+use Rattle.flow_tokens.specs.Scan.{Scanned, before, scan_from, scan}
 use Rattle.flow_tokens.proofs.Longest.{some_token}
 use Rattle.flow_tokens.proofs.Fronts.{front_begins, begins_front}
 
