@@ -1,5 +1,5 @@
 -- Blanks and comments: what a scanner that goes by runs leaves is what is left behind the gap.
-use Rattle.std.proofs.Common.{◌≡◌, ℕ, suc, ◌+◌, List, [], ◌∷◌, Bool, true, false, cond, ◌==◌, drop, get_or, one-add, sym, ap, ◌∙◌, refl, subst, arith}
+use Rattle.std.proofs.Common.{◌≡◌, ℕ, ◌+◌, List, [], ◌∷◌, Bool, true, false, cond, ◌==◌, drop, get_or, one-add, sym, ap, ◌∙◌, refl, subst, arith}
 use Rattle.std.specs.List.{prefix_len}
 use Rattle.std.proofs.lemmas.Bool.Decides.{nat_tests}
 use Rattle.flow_model.specs.Tokens.{is_blank, is_inside_comment, past_gap, past_comment}

@@ -1,5 +1,5 @@
 -- Texts in quotes: what a scanner that goes by runs has read so far.
-use Rattle.std.proofs.Common.{◌≡◌, ℕ, suc, ◌+◌, List, [], ◌∷◌, ◌++◌, Bool, true, false, cond, ◌==◌, Option, Some, None, take, drop, get_or, one-add, append_assoc, append-nil, sym, ap, ◌∙◌, refl, subst, arith}
+use Rattle.std.proofs.Common.{◌≡◌, ℕ, ◌+◌, List, [], ◌∷◌, ◌++◌, Bool, true, false, cond, ◌==◌, Option, Some, None, take, drop, get_or, one-add, append_assoc, append-nil, sym, ap, ◌∙◌, refl, subst, arith}
 use Rattle.std.specs.List.{prefix_len}
 use Rattle.std.proofs.lemmas.Bool.Decides.{nat_tests}
 use Rattle.flow_model.specs.Tokens.{is_plain, escaped, unquoted, behind_escape, after_character, after_escape}
@@ -23,13 +23,13 @@ one_before : (c : ℕ) (v : List ℕ) (o : Option (List ℕ × List ℕ)) → af
 one_before c v None = refl
 one_before c v (Some found) = refl
 
-plain_is_no_quote : (b : ℕ) → true ≡ is_plain b → (b == 34) ≡ false
+pub plain_is_no_quote : (b : ℕ) → true ≡ is_plain b → (b == 34) ≡ false
 plain_is_no_quote b h = grind (arith, nat_tests)
 
-plain_is_no_escape : (b : ℕ) → true ≡ is_plain b → (b == 92) ≡ false
+pub plain_is_no_escape : (b : ℕ) → true ≡ is_plain b → (b == 92) ≡ false
 plain_is_no_escape b h = grind (arith, nat_tests)
 
-third : {A : Type 0} (u v w : Bool) (x y z t : A) → u ≡ false → v ≡ false → w ≡ true → cond u x (cond v y (cond w z t)) ≡ z
+pub third : {A : Type 0} (u v w : Bool) (x y z t : A) → u ≡ false → v ≡ false → w ≡ true → cond u x (cond v y (cond w z t)) ≡ z
 third u v w x y z t e f g = ap (λ b. cond b x (cond v y (cond w z t))) e ∙ ap (λ b. cond b y (cond w z t)) f ∙ ap (λ b. cond b z t) g
 
 fourth : {A : Type 0} (u v w : Bool) (x y z t : A) → u ≡ false → v ≡ false → w ≡ false → cond u x (cond v y (cond w z t)) ≡ t

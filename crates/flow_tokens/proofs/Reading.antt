@@ -1,5 +1,5 @@
 -- Reading on: the tokens of the whole are those read so far and those of the rest.
-use Rattle.std.proofs.Common.{◌≡◌, ℕ, ◌+◌, ◌-◌, ◌<◌, List, [], ◌∷◌, ◌++◌, Option, Some, None, length, append_assoc, append-nil, sym, ap, ◌∙◌, subst, refl, arith}
+use Rattle.std.proofs.Common.{◌≡◌, ℕ, ◌-◌, ◌<◌, List, [], ◌∷◌, ◌++◌, Option, Some, None, length, append_assoc, append-nil, sym, ap, ◌∙◌, subst, refl, arith}
 use Rattle.flow_base.specs.Syntax.{Bytes}
 use Rattle.flow_base.specs.declared.token.Token.{Token}
 use Rattle.flow_base.specs.declared.token.Word.{Word}

@@ -1,5 +1,5 @@
 ghost use Rattle.std.specs.Prelude.{◌≡◌, ◌<◌, length, slice_index, true, IfOk, IfSome, MatchOption};
-ghost use Rattle.flow_model.specs.Tokens.{Scans, front, int_word, is_digit, is_letter, long_mark, mark_word, name_word, past_gap};
+ghost use Rattle.flow_model.specs.Tokens.{TokensOf, front, int_word, is_digit, is_letter, long_mark, mark_word, name_word};
 
 use crate::gap::past_gap;
 use crate::mark::{long_mark, short_mark};
@@ -70,7 +70,7 @@ fn next_mark(rest: &str) -> Option<(Word, &str)>
 /// # Failure
 /// E01 where a growth of memory is refused.
 pub fn tokens(alloc: Global, text: &str) -> Result<Tokens, TokensFault>
-    ensures { IfOk result (λ found. Scans (length text.now) (past_gap text.now) found.list.items found.fault) }
+    ensures { IfOk result (λ found. TokensOf text.now found.list.items found.fault) }
 {
     let mut list = Vec::new(alloc);
     let mut rest = past_gap(text);

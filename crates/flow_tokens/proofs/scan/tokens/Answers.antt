@@ -1,13 +1,15 @@
 use Rattle.std.proofs.Common.{◌≡◌, ◌<◌, Some, None, length, arith}
 use Rattle.flow_model.specs.Tokens.{front, past_gap}
 use Rattle.flow_tokens.proofs.Reading.{reads_on, ends, stops}
+use Rattle.flow_tokens.proofs.Relation.{reads_of_scans}
 use Rattle.flow_tokens.proofs.scan.tokens.Goals as goal
 
 pub returns-in_default : goal.returns-in_default
 returns-in_default c =
     let some : 0 < length c.loop-rest.rest.now = omega arith in
     let found : front c.loop-rest.rest.now ≡ None = rw c.in_default.is at c.in_ok-word.ensures.value in
-    stops (length c.args.text.now) (past_gap c.args.text.now) c.loop-rest.rest.now c.loop-rest.list.items c.loop-rest.invariant.2 some found
+    reads_of_scans (length c.args.text.now) (past_gap c.args.text.now) c.loop-rest.list.items _
+    (stops (length c.args.text.now) (past_gap c.args.text.now) c.loop-rest.rest.now c.loop-rest.list.items c.loop-rest.invariant.2 some found)
 
 pub loop-rest-preserved : goal.loop-rest-preserved
 loop-rest-preserved c =
@@ -21,4 +23,5 @@ loop-rest-preserved c =
 
 pub returns : goal.returns
 returns c =
-    ends (length c.args.text.now) (past_gap c.args.text.now) c.loop-rest.rest.now c.loop-rest.list.items c.loop-rest.invariant.2 (omega arith)
+    reads_of_scans (length c.args.text.now) (past_gap c.args.text.now) c.loop-rest.list.items None
+    (ends (length c.args.text.now) (past_gap c.args.text.now) c.loop-rest.rest.now c.loop-rest.list.items c.loop-rest.invariant.2 (omega arith))
