@@ -6,14 +6,14 @@ use Rattle.flow_model.specs.WellFormed.{WellFormed, IsFirstFault}
 use Rattle.flow_syntax.specs.Meaning.{IsProgramOf, IsTextFault, Means}
 use Rattle.flow_syntax.proofs.Meaning.{meant}
 use Rattle.flow_syntax.proofs.MeansOnce.{means_once}
-use Rattle.flow_machine.specs.Language.{meaning_of, interim_scan, interim_once}
+use Rattle.flow_machine.specs.Language.{meaning_of}
 
 pub meaning_is : (text : Bytes) → Means text (meaning_of text)
 unfolding meaning_of
-meaning_is text = let t = interim_scan text in (meant text t.0 t.1 t.2).1
+meaning_is text = (meant text).1
 
 pub one_meaning : (text : Bytes) (m n : Result Program TextFault) → Means text m → Means text n → m ≡ n
-one_meaning text m n h k = means_once interim_once text m n h k
+one_meaning text m n h k = means_once text m n h k
 
 pub means_program : (text : Bytes) (p : Program) → IsProgramOf text p → WellFormed p → meaning_of text ≡ Ok p
 means_program text p is keeps = one_meaning text (meaning_of text) (Ok p) (meaning_is text) (is, keeps)

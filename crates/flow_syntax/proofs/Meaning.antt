@@ -6,15 +6,18 @@ use Rattle.flow_base.specs.Syntax.{Bytes, Program}
 use Rattle.flow_base.specs.declared.code.Code.TheVariants as code
 use Rattle.flow_base.specs.declared.command.TextFault.{TextFault}
 use Rattle.flow_base.specs.declared.token.Token.{Token}
+use Rattle.flow_model.specs.Tokens.{TokensOf}
 use Rattle.flow_model.specs.Lexeme.{Lexeme, lexemes}
 use Rattle.flow_model.specs.Grammar.{Reads, Begins, program_of}
 use Rattle.flow_model.specs.Limits.{Within, WithinFrom, brackets_after, operators_after}
 use Rattle.flow_model.specs.WellFormed.{first_fault}
 use Rattle.flow_model.proofs.FirstFault.{well_formed, first_is}
+use Rattle.flow_tokens.specs.Scan.{scan}
+use Rattle.flow_tokens.proofs.Relation.{scanned}
 use Rattle.flow_syntax.specs.Machine.{fault}
 use Rattle.flow_syntax.specs.Machine as m
 use Rattle.flow_syntax.specs.Faults.{IsUnfit}
-use Rattle.flow_syntax.specs.Meaning.{TokensOf, IsProgramOf, IsFaultOf, unfit, ends_early, too_deep, bad_token, IsTextFault, Means}
+use Rattle.flow_syntax.specs.Meaning.{IsProgramOf, IsFaultOf, unfit, ends_early, too_deep, bad_token, IsTextFault, Means}
 use Rattle.flow_syntax.proofs.Stops.{accepted}
 use Rattle.flow_syntax.proofs.Faults.{within_prefix, before_last, stops_at_end, stops_at_token}
 use Rattle.flow_syntax.proofs.MeansOnce.{read_begins}
@@ -93,7 +96,7 @@ found ts bad end = found_by ts bad end (passes 0 0 ts)
 
 -- what a text means
 
-abbrev Meant : Bytes → Type 0
+abbrev pub Meant : Bytes → Type 0
 Meant text = (r : Result Program TextFault) × Means text r
 
 checked : (text : Bytes) (p : Program) → IsProgramOf text p → (o : Option TextFault) → first_fault p ≡ o → Meant text
@@ -108,6 +111,6 @@ meant_by : (text : Bytes) (ts : List Token) (bad : Option ℕ) → TokensOf text
 meant_by text ts bad t (inl l) = parsed text ts bad t l (found (lexemes ts) bad (length text))
 meant_by text ts bad t (inr l) = (Err (record { code = code.TextTooLong; at = 65536 }), inl (inl (l, refl)))
 
--- each text of which the tokens are given means something
-pub meant : (text : Bytes) (ts : List Token) (bad : Option ℕ) → TokensOf text ts bad → Meant text
-meant text ts bad t = meant_by text ts bad t (at_most (length text) 65536)
+-- each text means something
+pub meant : (text : Bytes) → Meant text
+meant text = let s = scan text in meant_by text s.0 s.1 (scanned text) (at_most (length text) 65536)

@@ -12,7 +12,8 @@ use Rattle.flow_model.specs.Grammar.{Reads, Begins}
 use Rattle.flow_model.specs.Limits.{Within}
 use Rattle.flow_model.specs.Parse.{IsFirstUnfit, EndsEarly, IsFirstDeep}
 use Rattle.flow_model.specs.WellFormed.{WellFormed, IsFirstFault, IsNoLater}
-use Rattle.flow_syntax.specs.Meaning.{TokensOf, IsProgramOf, IsFaultOf, unfit, ends_early, too_deep, bad_token, IsTextFault, Means}
+use Rattle.flow_syntax.specs.Meaning.{IsProgramOf, IsFaultOf, unfit, ends_early, too_deep, bad_token, IsTextFault, Means}
+use Rattle.flow_tokens.proofs.Relation.{tokens_once}
 use Rattle.flow_syntax.proofs.Codes.{same_code}
 use Rattle.flow_syntax.proofs.Faults.{within_prefix}
 use Rattle.flow_syntax.proofs.Unique.{one_program}
@@ -124,10 +125,7 @@ pub first_fault_once : (p : Program) (f g : TextFault) → IsFirstFault p f → 
 first_fault_once p f g h k =
     let e = no_later_both f g (h.1 g.code g.at k.0) (k.1 f.code f.at h.0) in same_fault f g (same_code f.code g.code e.1) e.0
 
--- texts, of which each has one list of tokens at most
-
-abbrev pub TokensOnce : Type 0
-TokensOnce = (text : Bytes) (ts us : List Token) (bad worse : Option ℕ) → TokensOf text ts bad → TokensOf text us worse → (ts ≡ us) × (bad ≡ worse)
+-- texts, of which each has one list of tokens
 
 moved : (ts us : List Token) (bad worse : Option ℕ) (end : ℕ) (f : TextFault) → ts ≡ us → bad ≡ worse → IsFaultOf (lexemes ts) bad end f → IsFaultOf (lexemes us) worse end f
 moved ts us bad worse end f e b h =
@@ -135,41 +133,41 @@ moved ts us bad worse end f e b h =
     let Q : Option ℕ → Type 0 = λ v. IsFaultOf (lexemes us) v end f in
     subst Q b (subst P e h)
 
-pub programs_once : TokensOnce → (text : Bytes) (p q : Program) → IsProgramOf text p → IsProgramOf text q → p ≡ q
-programs_once once text p q h k =
-    let e = once text h.1 k.1 None None h.2 k.2 in
+pub programs_once : (text : Bytes) (p q : Program) → IsProgramOf text p → IsProgramOf text q → p ≡ q
+programs_once text p q h k =
+    let e = tokens_once text h.1 k.1 None None h.2 k.2 in
     let P : List Token → Type 0 = λ v. Reads (lexemes v) p in
     one_program (lexemes k.1) p q (subst P e.0 h.3) k.3
 
-pub text_faults_once : TokensOnce → (text : Bytes) (f g : TextFault) → IsTextFault text f → IsTextFault text g → f ≡ g
-text_faults_once once text f g (inl h) (inl k) = h.1 ∙ sym k.1
-text_faults_once once text f g (inl h) (inr k) = absurd (omega (arith, h.0, k.0))
-text_faults_once once text f g (inr h) (inl k) = absurd (omega (arith, h.0, k.0))
-text_faults_once once text f g (inr h) (inr k) =
-    let e = once text h.1 k.1 h.2 k.2 h.3 k.3 in
+pub text_faults_once : (text : Bytes) (f g : TextFault) → IsTextFault text f → IsTextFault text g → f ≡ g
+text_faults_once text f g (inl h) (inl k) = h.1 ∙ sym k.1
+text_faults_once text f g (inl h) (inr k) = absurd (omega (arith, h.0, k.0))
+text_faults_once text f g (inr h) (inl k) = absurd (omega (arith, h.0, k.0))
+text_faults_once text f g (inr h) (inr k) =
+    let e = tokens_once text h.1 k.1 h.2 k.2 h.3 k.3 in
     faults_once (lexemes k.1) k.2 (length text) f g (moved h.1 k.1 h.2 k.2 (length text) f e.0 e.1 h.4) k.4
 
-pub program_or_fault : TokensOnce → (text : Bytes) (p : Program) (f : TextFault) → IsProgramOf text p → IsTextFault text f → ⊥
-program_or_fault once text p f h (inl k) = omega (arith, h.0, k.0)
-program_or_fault once text p f h (inr k) =
-    let e = once text k.1 h.1 k.2 None k.3 h.2 in
+pub program_or_fault : (text : Bytes) (p : Program) (f : TextFault) → IsProgramOf text p → IsTextFault text f → ⊥
+program_or_fault text p f h (inl k) = omega (arith, h.0, k.0)
+program_or_fault text p f h (inr k) =
+    let e = tokens_once text k.1 h.1 k.2 None k.3 h.2 in
     no_fault (lexemes h.1) p (length text) f h.3 h.4 (moved k.1 h.1 k.2 None (length text) f e.0 e.1 k.4)
 
-keeps_or_breaks : TokensOnce → (text : Bytes) (p : Program) (f : TextFault) → Means text (Ok p) → Means text (Err f) → ⊥
-keeps_or_breaks once text p f h (inl k) = program_or_fault once text p f h.0 k
-keeps_or_breaks once text p f h (inr k) = subst WellFormed (programs_once once text p k.0 h.0 k.1) h.1 f.code f.at k.2.0
+keeps_or_breaks : (text : Bytes) (p : Program) (f : TextFault) → Means text (Ok p) → Means text (Err f) → ⊥
+keeps_or_breaks text p f h (inl k) = program_or_fault text p f h.0 k
+keeps_or_breaks text p f h (inr k) = subst WellFormed (programs_once text p k.0 h.0 k.1) h.1 f.code f.at k.2.0
 
-one_fault : TokensOnce → (text : Bytes) (f g : TextFault) → Means text (Err f) → Means text (Err g) → f ≡ g
-one_fault once text f g (inl h) (inl k) = text_faults_once once text f g h k
-one_fault once text f g (inl h) (inr k) = absurd (program_or_fault once text k.0 f k.1 h)
-one_fault once text f g (inr h) (inl k) = absurd (program_or_fault once text h.0 g h.1 k)
-one_fault once text f g (inr h) (inr k) =
+one_fault : (text : Bytes) (f g : TextFault) → Means text (Err f) → Means text (Err g) → f ≡ g
+one_fault text f g (inl h) (inl k) = text_faults_once text f g h k
+one_fault text f g (inl h) (inr k) = absurd (program_or_fault text k.0 f k.1 h)
+one_fault text f g (inr h) (inl k) = absurd (program_or_fault text h.0 g h.1 k)
+one_fault text f g (inr h) (inr k) =
     let P : Program → Type 0 = λ v. IsFirstFault v f in
-    first_fault_once k.0 f g (subst P (programs_once once text h.0 k.0 h.1 k.1) h.2) k.2
+    first_fault_once k.0 f g (subst P (programs_once text h.0 k.0 h.1 k.1) h.2) k.2
 
 -- a text means one thing at most
-pub means_once : TokensOnce → (text : Bytes) (r s : Result Program TextFault) → Means text r → Means text s → r ≡ s
-means_once once text (Ok p) (Ok q) h k = ap (λ v. Ok v) (programs_once once text p q h.0 k.0)
-means_once once text (Ok p) (Err g) h k = absurd (keeps_or_breaks once text p g h k)
-means_once once text (Err f) (Ok q) h k = absurd (keeps_or_breaks once text q f k h)
-means_once once text (Err f) (Err g) h k = ap (λ v. Err v) (one_fault once text f g h k)
+pub means_once : (text : Bytes) (r s : Result Program TextFault) → Means text r → Means text s → r ≡ s
+means_once text (Ok p) (Ok q) h k = ap (λ v. Ok v) (programs_once text p q h.0 k.0)
+means_once text (Ok p) (Err g) h k = absurd (keeps_or_breaks text p g h k)
+means_once text (Err f) (Ok q) h k = absurd (keeps_or_breaks text q f k h)
+means_once text (Err f) (Err g) h k = ap (λ v. Err v) (one_fault text f g h k)

@@ -6,9 +6,10 @@ use Rattle.flow_base.specs.declared.code.Code.TheVariants as code
 use Rattle.flow_base.specs.declared.token.Token.{Token}
 use Rattle.flow_syntax.specs.declared.fault.ParseFault.{ParseFault}
 use Rattle.flow_syntax.specs.declared.fault.ParseFault.TheVariants.{NoMemory, BadToken, Unexpected, TextTooLong, TooDeep}
+use Rattle.flow_model.specs.Tokens.{TokensOf}
 use Rattle.flow_model.specs.Lexeme.{lexemes}
 use Rattle.flow_syntax.specs.Faults.{IsFault, IsFaultBefore, IsParseFault}
-use Rattle.flow_syntax.specs.Meaning.{TokensOf, IsTextFault, IsFaultOf, unfit, ends_early, too_deep, bad_token}
+use Rattle.flow_syntax.specs.Meaning.{IsTextFault, IsFaultOf, unfit, ends_early, too_deep, bad_token}
 
 no_place : (text : Bytes) → IsParseFault text NoMemory
 no_place text = λ at h. absurd (cc)

@@ -4,15 +4,12 @@ use Rattle.flow_base.specs.Syntax.{Bytes, Program}
 use Rattle.flow_base.specs.declared.code.Code.TheVariants as code
 use Rattle.flow_base.specs.declared.command.TextFault.{TextFault}
 use Rattle.flow_base.specs.declared.token.Token.{Token}
-use Rattle.flow_model.specs.Tokens.{Scans, past_gap}
+use Rattle.flow_model.specs.Tokens.{TokensOf}
 use Rattle.flow_model.specs.Lexeme.{Lexeme, lexemes}
 use Rattle.flow_model.specs.Grammar.{Reads, Begins}
 use Rattle.flow_model.specs.Limits.{Within}
 use Rattle.flow_model.specs.Parse.{IsFirstUnfit, EndsEarly, IsFirstDeep}
 use Rattle.flow_model.specs.WellFormed.{WellFormed, IsFirstFault}
-
-abbrev pub TokensOf : Bytes → List Token → Option ℕ → Type 0
-TokensOf text ts bad = Scans (length text) (past_gap text) ts bad
 
 -- The text is this program: its tokens are in the grammar, which reads them so, and within the limits.
 abbrev pub IsProgramOf : Bytes → Program → Type 0

@@ -1,7 +1,7 @@
 use Rattle.std.proofs.Common.{rules, ◌≡◌, ◌≤◌, length, Option, None, arith, sym, subst}
 use Rattle.std.proofs.lemmas.Result.{IfErr-weaker}
 use Rattle.flow_model.specs.Lexeme.{lexemes}
-use Rattle.flow_syntax.specs.Meaning.{TokensOf}
+use Rattle.flow_model.specs.Tokens.{TokensOf}
 use Rattle.flow_syntax.specs.Faults.{IsFault, IsParseFault}
 use Rattle.flow_syntax.proofs.ParsedTexts.{fault_of_whole}
 use Rattle.flow_syntax.proofs.parse.parse.Goals as goal
