@@ -3,7 +3,7 @@ use Rattle.std.proofs.Common.{◌≡◌, inl, inr, Result, Ok, Err}
 use Rattle.flow_base.specs.Syntax.{Bytes, Program}
 use Rattle.flow_base.specs.declared.command.TextFault.{TextFault}
 use Rattle.flow_model.specs.WellFormed.{WellFormed, IsFirstFault}
-use Rattle.flow_syntax.specs.Meaning.{IsProgramOf, IsTextFault, Means}
+use Rattle.flow_model.specs.Meaning.{IsProgramOf, IsTextFault, Means}
 use Rattle.flow_syntax.proofs.Meaning.{meant}
 use Rattle.flow_syntax.proofs.MeansOnce.{means_once}
 use Rattle.flow_machine.specs.Language.{meaning_of}

@@ -2,7 +2,7 @@ ghost use Rattle.std.specs.Prelude.{◌≡◌, Result};
 ghost use Rattle.flow_base.specs.Syntax.{Bytes, Program};
 ghost use Rattle.flow_base.specs.declared.command.TextFault.{TextFault as AFault};
 ghost use Rattle.flow_machine.specs.Language.{meaning_of};
-ghost use Rattle.flow_syntax.specs.Meaning.{Means};
+ghost use Rattle.flow_model.specs.Meaning.{Means};
 
 use crate::texts::Texts;
 use flow_base::command::TextFault;

@@ -19,3 +19,5 @@ pub mod Lexeme
 pub mod Grammar
 pub mod Limits
 pub mod Parse
+pub mod Meaning
+pub mod World

@@ -12,7 +12,7 @@ use Rattle.flow_model.specs.Grammar.{Reads, Begins}
 use Rattle.flow_model.specs.Limits.{Within}
 use Rattle.flow_model.specs.Parse.{IsFirstUnfit, EndsEarly, IsFirstDeep}
 use Rattle.flow_model.specs.WellFormed.{WellFormed, IsFirstFault, IsNoLater}
-use Rattle.flow_syntax.specs.Meaning.{IsProgramOf, IsFaultOf, unfit, ends_early, too_deep, bad_token, IsTextFault, Means}
+use Rattle.flow_model.specs.Meaning.{IsProgramOf, IsFaultOf, unfit, ends_early, too_deep, bad_token, IsTextFault, Means}
 use Rattle.flow_tokens.proofs.Relation.{tokens_once}
 use Rattle.flow_syntax.proofs.Codes.{same_code}
 use Rattle.flow_syntax.proofs.Faults.{within_prefix}

@@ -9,7 +9,7 @@ use Rattle.flow_syntax.specs.declared.fault.ParseFault.TheVariants.{NoMemory, Ba
 use Rattle.flow_model.specs.Tokens.{TokensOf}
 use Rattle.flow_model.specs.Lexeme.{lexemes}
 use Rattle.flow_syntax.specs.Faults.{IsFault, IsFaultBefore, IsParseFault}
-use Rattle.flow_syntax.specs.Meaning.{IsTextFault, IsFaultOf, unfit, ends_early, too_deep, bad_token}
+use Rattle.flow_model.specs.Meaning.{IsTextFault, IsFaultOf, unfit, ends_early, too_deep, bad_token}
 
 no_place : (text : Bytes) → IsParseFault text NoMemory
 no_place text = λ at h. absurd (cc)

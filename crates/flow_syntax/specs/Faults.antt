@@ -10,7 +10,7 @@ use Rattle.flow_model.specs.Lexeme.{Lexeme}
 use Rattle.flow_model.specs.Grammar.{Reads, Begins}
 use Rattle.flow_model.specs.Limits.{Within, WithinFrom}
 use Rattle.flow_model.specs.Parse.{IsFirstUnfit, EndsEarly, IsFirstDeep}
-use Rattle.flow_syntax.specs.Meaning.{IsTextFault}
+use Rattle.flow_model.specs.Meaning.{IsTextFault}
 
 abbrev pub fault_code : ParseFault → Code
 fault_code NoMemory = code.NoMemory

@@ -1,4 +1,3 @@
 pub mod Machine
 pub mod Parsing
 pub mod Faults
-pub mod Meaning

@@ -7,7 +7,7 @@ ghost use Rattle.flow_model.specs.Grammar.{Reads};
 ghost use Rattle.flow_model.specs.Limits.{Within};
 ghost use Rattle.flow_syntax.specs.Parsing.{StopsProgram};
 ghost use Rattle.flow_syntax.specs.Faults.{IsFault, IsFaultBefore, IsFaultOf, IsFirstOf, IsCut, IsDeepFault, IsParseFault};
-ghost use Rattle.flow_syntax.specs.Meaning.{IsProgramOf};
+ghost use Rattle.flow_model.specs.Meaning.{IsProgramOf};
 
 use crate::cursor::next;
 use crate::fault::{ParseFault, Stop};
