@@ -17,7 +17,7 @@ use Rattle.flow_tokens.proofs.Relation.{scanned}
 use Rattle.flow_syntax.specs.Machine.{fault}
 use Rattle.flow_syntax.specs.Machine as m
 use Rattle.flow_syntax.specs.Faults.{IsUnfit}
-use Rattle.flow_model.specs.Meaning.{IsProgramOf, IsFaultOf, unfit, ends_early, too_deep, bad_token, IsTextFault, Means}
+use Rattle.flow_model.specs.Meaning.{IsProgramOf, IsFaultOf, unfit, ends_early, too_deep, bad_token, Means}
 use Rattle.flow_syntax.proofs.Stops.{accepted}
 use Rattle.flow_syntax.proofs.Faults.{within_prefix, before_last, stops_at_end, stops_at_token}
 use Rattle.flow_syntax.proofs.MeansOnce.{read_begins}

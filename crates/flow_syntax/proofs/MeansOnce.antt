@@ -1,16 +1,14 @@
 -- A text means one thing at most.
-use Rattle.std.proofs.Common.{◌≡◌, ◌∙◌, ◌⊎◌, inl, inr, ℕ, ◌<◌, ◌≤◌, List, [], ◌∷◌, ◌++◌, Option, Some, None, Result, Ok, Err, length, refl, ap, sym, subst, append_assoc, arith}
+use Rattle.std.proofs.Common.{◌≡◌, ◌∙◌, ◌⊎◌, inl, inr, ℕ, List, [], ◌∷◌, ◌++◌, Option, Some, None, Result, Ok, Err, length, refl, ap, sym, subst, append_assoc, arith}
 use Rattle.std.proofs.lemmas.List.{append-nil}
 use Rattle.flow_base.specs.Codes.{code_number}
 use Rattle.flow_base.specs.Syntax.{Bytes, Program}
-use Rattle.flow_base.specs.declared.code.Code.{Code}
-use Rattle.flow_base.specs.declared.code.Code.TheVariants as code
 use Rattle.flow_base.specs.declared.command.TextFault.{TextFault}
 use Rattle.flow_base.specs.declared.token.Token.{Token}
 use Rattle.flow_model.specs.Lexeme.{Lexeme, lexemes}
 use Rattle.flow_model.specs.Grammar.{Reads, Begins}
 use Rattle.flow_model.specs.Limits.{Within}
-use Rattle.flow_model.specs.Parse.{IsFirstUnfit, EndsEarly, IsFirstDeep}
+use Rattle.flow_model.specs.Parse.{IsFirstUnfit, IsFirstDeep}
 use Rattle.flow_model.specs.WellFormed.{WellFormed, IsFirstFault, IsNoLater}
 use Rattle.flow_model.specs.Meaning.{IsProgramOf, IsFaultOf, unfit, ends_early, too_deep, bad_token, IsTextFault, Means}
 use Rattle.flow_tokens.proofs.Relation.{tokens_once}

@@ -1,5 +1,5 @@
 -- From the tokens of a text to the text.
-use Rattle.std.proofs.Common.{◌≡◌, inl, inr, ℕ, ◌<◌, ◌≤◌, List, Option, Some, None, length, refl, sym, subst}
+use Rattle.std.proofs.Common.{◌≡◌, inl, inr, ℕ, ◌<◌, ◌≤◌, List, Some, None, length, refl, subst}
 use Rattle.flow_base.specs.Syntax.{Bytes}
 use Rattle.flow_base.specs.declared.code.Code.{Code}
 use Rattle.flow_base.specs.declared.code.Code.TheVariants as code
@@ -9,7 +9,7 @@ use Rattle.flow_syntax.specs.declared.fault.ParseFault.TheVariants.{NoMemory, Ba
 use Rattle.flow_model.specs.Tokens.{TokensOf}
 use Rattle.flow_model.specs.Lexeme.{lexemes}
 use Rattle.flow_syntax.specs.Faults.{IsFault, IsFaultBefore, IsParseFault}
-use Rattle.flow_model.specs.Meaning.{IsTextFault, IsFaultOf, unfit, ends_early, too_deep, bad_token}
+use Rattle.flow_model.specs.Meaning.{IsTextFault, unfit, ends_early, too_deep, bad_token}
 
 no_place : (text : Bytes) → IsParseFault text NoMemory
 no_place text = λ at h. absurd (cc)

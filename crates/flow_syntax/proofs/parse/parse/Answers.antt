@@ -1,4 +1,4 @@
-use Rattle.std.proofs.Common.{rules, ◌≡◌, ◌≤◌, length, Option, None, arith, sym, subst}
+use Rattle.std.proofs.Common.{rules, ◌≤◌, length, None}
 use Rattle.std.proofs.lemmas.Result.{IfErr-weaker}
 use Rattle.flow_model.specs.Lexeme.{lexemes}
 use Rattle.flow_model.specs.Tokens.{TokensOf}

@@ -1,6 +1,5 @@
-use Rattle.std.proofs.Common.{rules, ◌≡◌, ◌∙◌, Ok, Err, sym, ap}
+use Rattle.std.proofs.Common.{rules, ◌∙◌, Ok, Err, sym, ap}
 use Rattle.flow_base.specs.Shown.{shown_program}
-use Rattle.flow_base.specs.declared.command.TextFault.{TextFault}
 use Rattle.flow_check.specs.Faults.{IsCheckFault}
 use Rattle.flow_check.specs.declared.fault.CheckFault.TheVariants.{Rule}
 use Rattle.flow_syntax.specs.Faults.{fault_code}
