@@ -1,7 +1,7 @@
 -- What is left of a run fits its variables: each list of statements that is still to run has no fault where it stands, and
 -- what is visible there is set, with the type of its declaration. Steps and deliveries keep it so.
-use Rattle.std.proofs.Common.{◌≡◌, ℕ, Bool, true, false, ◌&&◌, List, [], ◌∷◌, ◌++◌, length, map, Option, Some, None, Result, Ok, Err, refl, sym, ap, subst, ◌∙◌, bytes_eq, if◌then◌else◌, inl, inr, drop}
-use Rattle.std.specs.Prelude.{◌⊎◌, nat_eq, nat_lt}
+use Rattle.std.proofs.Common.{◌≡◌, ℕ, Bool, true, false, ◌&&◌, List, [], ◌∷◌, ◌++◌, map, Option, Some, None, Result, Ok, Err, refl, sym, ap, subst, ◌∙◌, bytes_eq, if◌then◌else◌, inl, inr, drop}
+use Rattle.std.specs.Prelude.{nat_lt}
 use Rattle.std.proofs.lemmas.List.{append-nil}
 use Rattle.std.specs.Cmp.Lexicographic.{bytes_decides}
 use Rattle.flow_base.specs.declared.code.Code.TheVariants as code
@@ -12,16 +12,15 @@ use Rattle.flow_base.specs.declared.value.Kind.TheVariants.{Int, Text}
 use Rattle.flow_base.specs.declared.syntax.Parameter.{Parameter}
 use Rattle.flow_base.specs.declared.event.Cause.{Cause}
 use Rattle.flow_base.specs.declared.event.Cause.TheVariants.{WaitLimit, TurnBudget, ChainLimit}
-use Rattle.flow_base.specs.declared.event.Cmd.{Cmd}
-use Rattle.flow_base.specs.declared.event.Cmd.TheVariants.{Schedule, StartTimer, CancelTimer, RecordMarker, Complete, Fail, ContinueAsNew}
-use Rattle.flow_base.specs.Syntax.{Bytes, Expression, Retry, Statement, Let, Assign, Call, WaitSignal, WaitSignalFor, Sleep, If, While, Parallel, Patch, Return, FailWith, Continue, Block, End, Next, Otherwise, NoElse, Else, Branches, NoBranch, Branch, Declared, Activity, Signal, Program, ActivityType, activities_of}
+use Rattle.flow_base.specs.declared.event.Cmd.TheVariants.{Schedule, StartTimer, CancelTimer, RecordMarker, ContinueAsNew}
+use Rattle.flow_base.specs.Syntax.{Bytes, Expression, Retry, Statement, Let, Assign, Call, WaitSignal, WaitSignalFor, Sleep, If, While, Parallel, Patch, Return, FailWith, Continue, Block, End, Next, Otherwise, NoElse, Else, Branches, NoBranch, Branch, Declared, Activity, Signal, Program, activities_of}
 use Rattle.flow_model.specs.Values.{Variables, with_variable, value as value_of, values, due, is_true}
-use Rattle.flow_model.specs.Rest.{Rest, Done, OnActivity, OnTimer, OnSignal, OnSignalFor, Raised, Then, Beside, rest_of, branches_of, rest_else, is_done}
+use Rattle.flow_model.specs.Rest.{Rest, Done, OnActivity, OnTimer, OnSignal, OnSignalFor, Raised, Then, Beside, rest_of, branches_of, is_done}
 use Rattle.flow_model.specs.Step.{Store, Setting, Move, Stays, Goes, Asks, Ends, on_value, set_in, gives_of, oldest, without_oldest, take_signal, on_signal, waiting, wait_limit, test_limit, tested, picked, decide, patched, begin, around, followed_by, first_of, or_move, move, raise}
 use Rattle.flow_model.specs.Deliver.{has_kind, all_fit}
-use Rattle.flow_model.specs.WellFormed.{Types, no_types, with_type, kind_of, beginning, Signature, activity_of, signal_of, Scope, behind, given, fault, fault_at_first, branch_places, branch_limit, wrong_kind, faults_of_expression, faults_of_wanted, faults_of_assigned, faults_of_arguments, faults_of_call, faults_of_retry, wrong_count, unknown_signal, ends_in_parallel, faults_of_statement, faults_of_block, faults_of_otherwise, faults_of_branches}
+use Rattle.flow_model.specs.WellFormed.{Types, no_types, with_type, kind_of, beginning, Signature, activity_of, signal_of, Scope, behind, given, fault_at_first, branch_places, branch_limit, faults_of_expression, faults_of_wanted, faults_of_assigned, faults_of_arguments, faults_of_call, faults_of_retry, wrong_count, unknown_signal, ends_in_parallel, faults_of_statement, faults_of_block, faults_of_otherwise, faults_of_branches}
 use Rattle.flow_check.specs.Typed.{type_of, IsThere, HasKind, HaveKinds, CanBegin, IsFirst, IsNext, IsFit}
-use Rattle.flow_check.proofs.HavingKinds.{none_in_both, Shows, Known, known, known_wanted, known_all, wanted_kind, value_has_kind, values_have_kinds}
+use Rattle.flow_check.proofs.HavingKinds.{none_in_both, Shows, known, known_wanted, known_all, wanted_kind, value_has_kind, values_have_kinds}
 use Rattle.flow_check.proofs.KindOfName.{types_behind, typings_of_statement, typings_of_block, typings_of_otherwise, typings_of_branches, Agrees, agrees_both}
 
 ---- Definitions
@@ -431,8 +430,7 @@ module _ (p : Program) (G : Types) (s : Setting) (t : Store) (active : s.activit
         let gives : gives_of s.activities name ≡ c.0.gives = ap (λ l. gives_of l name) active ∙ gives_is p.declarations name c.0 c.1.0 in
         let k = gives_of s.activities name in
         fits_on_value p G t.variables types (values t.variables s.at es) (λ vs. waiting s (Asks (OnActivity s.event x k o) t (Schedule name vs r.tries r.every k))) (λ vs is.
-        fits_waiting p G t.variables types s (Asks (OnActivity s.event x k o) t (Schedule name vs r.tries r.every k))
-        (
+        fits_waiting p G t.variables types s (Asks (OnActivity s.event x k o) t (Schedule name vs r.tries r.every k)) (
           same_store (OnActivity s.event x k o) (c.1.2 ∙ ap (λ j. Some (Some j)) (sym gives), otherwise_fits p G t.variables types par o sees c.1.4 a),
           (c.0, (c.1.0, values_have_kinds t.variables s.at es c.0.takes vs c.1.1 is, gives)),
         ))

@@ -1,5 +1,5 @@
 -- An expression without faults has a type, where the visible variables are there; and its value has that type.
-use Rattle.std.proofs.Common.{◌≡◌, ℕ, ℤ, suc, zero, Bool, true, false, List, [], ◌∷◌, ◌++◌, length, map, Option, Some, None, Result, Ok, Err, refl, sym, ap, subst, ◌∙◌, arith, if◌then◌else◌}
+use Rattle.std.proofs.Common.{◌≡◌, ℕ, ℤ, Bool, true, false, List, [], ◌∷◌, ◌++◌, length, map, Option, Some, None, Result, Ok, Err, refl, sym, ap, subst, ◌∙◌, arith, if◌then◌else◌}
 use Rattle.std.specs.Prelude.{nat_eq, nat_le, ◌&&◌, neg_ℤ, ◌+ℤ◌, ◌-ℤ◌, ◌*ℤ◌}
 use Rattle.std.proofs.lemmas.Bool.Decides.{nat_tests}
 use Rattle.flow_base.specs.Syntax.{Bytes, Expression, Number, Literal, Variable, Now, Apply, Combine}
@@ -14,7 +14,7 @@ use Rattle.flow_base.specs.declared.syntax.Binary.TheVariants.{Or, And, Equal, D
 use Rattle.flow_base.specs.declared.event.Cause.{Cause}
 use Rattle.flow_base.specs.declared.event.Cause.TheVariants.{Arith, TextLimit}
 use Rattle.flow_base.specs.declared.code.Code.TheVariants as code
-use Rattle.flow_model.specs.Values.{Variables, there, number_of, whole, joined, fits_64, text_limit, flag, is_true, is_zero, divided, applied, combined, decided_by, or_else, ◌>>=◌, value as value_of, values}
+use Rattle.flow_model.specs.Values.{Variables, there, number_of, whole, joined, fits_64, text_limit, flag, is_true, applied, combined, decided_by, or_else, ◌>>=◌, value as value_of, values}
 use Rattle.flow_model.specs.WellFormed.{Types, is_kind, type_known, operand_kind, unary_result, operands_kind, operands_fit, binary_result, applied_kind, combined_kind, kind_of, beginning, wrong_kind, wrong_operands, not_visible, faults_of_expression, faults_of_wanted, faults_of_arguments, wrong_count, fault}
 use Rattle.flow_check.specs.Typed.{type_of, IsThere, IsWanted, HasKind, HaveKinds}
 
@@ -94,8 +94,7 @@ module _ (vars : Variables) (types : Types) (s : Shows vars types) where
       let a = known e both.0 in
       let b = known f both.1 in
       let fit = operands_right (operands_kind op) a.0 b.0 (beginning e) (beginning f)
-      (wrong_operands_at (operands_kind op) (kind_of types e) (kind_of types f) a.0 b.0 (beginning e) (beginning f) a.1.0 b.1.0 parts.1) in
-      (
+      (wrong_operands_at (operands_kind op) (kind_of types e) (kind_of types f) a.0 b.0 (beginning e) (beginning f) a.1.0 b.1.0 parts.1) in (
         binary_result op,
         (
           known_combined op (kind_of types e) (kind_of types f) a.0 b.0 a.1.0 b.1.0 fit.2,

@@ -188,7 +188,7 @@ agrees_behind bs [] d = tt
 agrees_behind bs (e ∷ es) d = (
   found_behind bs (e ∷ es) e.0 d.0 ∙ found_here e es,
   subst (λ (l : Typings). Agrees (found l) es) (append_assoc bs (e ∷ []) es)
-  (agrees_behind (bs ++ e ∷ []) es (subst (λ (l : List Bytes). Distinct l (map typed_name es)) (sym (map-append typed_name bs (e ∷ []))) d.1)),
+      (agrees_behind (bs ++ e ∷ []) es (subst (λ (l : List Bytes). Distinct l (map typed_name es)) (sym (map-append typed_name bs (e ∷ []))) d.1)),
 )
 
 ---- Well-formed programs

@@ -1,5 +1,5 @@
 -- All moments of a run of a checked program fit, from the first configuration on; and so the laws.
-use Rattle.std.proofs.Common.{◌≡◌, ℕ, suc, zero, Bool, true, false, ◌&&◌, List, [], ◌∷◌, ◌++◌, map, Contains, Option, Some, None, refl, sym, ap, subst, ◌∙◌, bytes_eq, if◌then◌else◌, inl, inr}
+use Rattle.std.proofs.Common.{◌≡◌, ℕ, suc, zero, Bool, true, false, ◌&&◌, List, [], ◌∷◌, ◌++◌, map, Option, Some, None, refl, sym, ap, subst, ◌∙◌, bytes_eq, if◌then◌else◌, inl, inr}
 use Rattle.std.specs.Prelude.{◌⊎◌, nat_eq}
 use Rattle.std.specs.List.{All}
 use Rattle.std.proofs.lemmas.List.Elements.{All-append, All-cons, All-nil}
@@ -18,17 +18,17 @@ use Rattle.flow_base.specs.declared.event.Input.TheVariants as input
 use Rattle.flow_base.specs.declared.event.State.{State}
 use Rattle.flow_base.specs.declared.event.State.TheVariants.{Unbegun, Open, Completed, Failed, Continued, Terminated}
 use Rattle.flow_base.specs.Syntax.{Bytes, Otherwise, NoElse, Else, Declared, Activity, Signal, Program, activities_of, signals_of}
-use Rattle.flow_model.specs.Values.{Variables, none_set, with_variable}
+use Rattle.flow_model.specs.Values.{Variables, with_variable}
 use Rattle.flow_model.specs.Rest.{Rest, Done, OnActivity, OnTimer, OnSignal, OnSignalFor, Raised, Then, Beside, rest_of, rest_else, is_done}
 use Rattle.flow_model.specs.Configuration.{Configuration, first_configuration, none_decided, is_open}
-use Rattle.flow_model.specs.Step.{Store, Move, Stays, Goes, Asks, Ends, move}
+use Rattle.flow_model.specs.Step.{Move, Stays, Goes, Asks, Ends, move}
 use Rattle.flow_model.specs.Deliver.{Progress, deliver, begun, bound, all_fit, has_kind, signal_fits, target_of, replaced, map_rest, or_rest, when_completed, when_failed, when_fired, completed, with_rest, start_from}
-use Rattle.flow_model.specs.Turn.{Frame, Recorded, Turn, frame, setting, next, ended, after_move, go_on, steps, left_by}
+use Rattle.flow_model.specs.Turn.{Frame, Recorded, frame, setting, next, ended, after_move, go_on, steps}
 use Rattle.flow_model.specs.Stands.{Leads}
 use Rattle.flow_model.specs.WellFormed.{Types, no_types, with_type, type_known, types_of_parameters, signal_of, scope_of, faults_of_block, WellFormed}
-use Rattle.flow_check.specs.Typed.{type_of, IsFit, IsNext, Reaches, Steps, Moment, NothingMissing, OneKind, CommandsFit, StandsReached}
+use Rattle.flow_check.specs.Typed.{type_of, IsFit, Reaches, Steps, Moment, NothingMissing, OneKind, CommandsFit, StandsReached}
 use Rattle.flow_check.proofs.KindOfName.{kinds, all_agree, Agrees, agrees_both, typings_of, typings_of_block, typing_of_parameter}
-use Rattle.flow_check.proofs.Fitting.{Holds, Sees, More, more_same, more_with, holds_with, Fits, fits_more, BlockFits, OtherwiseFits, BufferFits, StoreFits, MoveFits, move_fits, block_more, next_can_begin}
+use Rattle.flow_check.proofs.Fitting.{Holds, Sees, More, more_same, more_with, holds_with, Fits, fits_more, OtherwiseFits, BufferFits, StoreFits, MoveFits, move_fits, block_more, next_can_begin}
 
 some_is : {A : Type 0} {x y : A} → Some x ≡ Some y → x ≡ y
 some_is h = cc

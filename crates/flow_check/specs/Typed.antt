@@ -8,11 +8,11 @@ use Rattle.flow_base.specs.declared.value.Kind.{Kind}
 use Rattle.flow_base.specs.declared.value.Kind.TheVariants.{Int, Text}
 use Rattle.flow_base.specs.declared.syntax.Parameter.{Parameter}
 use Rattle.flow_base.specs.declared.event.Cmd.{Cmd}
-use Rattle.flow_base.specs.declared.event.Cmd.TheVariants.{Schedule, StartTimer, CancelTimer, RecordMarker, Complete, Fail, ContinueAsNew}
+use Rattle.flow_base.specs.declared.event.Cmd.TheVariants.{Schedule, ContinueAsNew}
 use Rattle.flow_base.specs.declared.event.Input.{Input}
 use Rattle.flow_base.specs.declared.event.Event.{Event}
 use Rattle.flow_model.specs.Values.{Variables, value as value_of}
-use Rattle.flow_model.specs.Rest.{Rest, Done, OnActivity, OnTimer, OnSignal, OnSignalFor, Raised, Then, Beside, is_done}
+use Rattle.flow_model.specs.Rest.{Rest, Then, Beside, is_done}
 use Rattle.flow_model.specs.Configuration.{Configuration, first_configuration}
 use Rattle.flow_model.specs.Deliver.{Progress, deliver, all_fit}
 use Rattle.flow_model.specs.Turn.{Frame, Answers, frame, next, Turn}
