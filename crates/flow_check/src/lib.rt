@@ -6,6 +6,7 @@ pub mod checked;
 pub mod expression;
 pub mod fault;
 pub mod first;
+pub mod laws;
 pub mod names;
 pub mod scope;
 pub mod statement;
