@@ -1,0 +1,6 @@
+pub mod Tries
+pub mod Leaves
+pub mod Places
+pub mod Tasks
+pub mod Changes
+pub mod Keeps
