@@ -1,1 +1,7 @@
 pub mod Meaning
+pub mod Tries
+pub mod Leaves
+pub mod Places
+pub mod Tasks
+pub mod Changes
+pub mod Keeps

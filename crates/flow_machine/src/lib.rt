@@ -5,6 +5,7 @@ pub mod decide;
 mod description;
 mod kinds;
 pub mod language;
+pub mod laws;
 mod report;
 pub mod texts;
 mod turns;
