@@ -7,3 +7,4 @@ pub mod Parsed
 pub mod ParsedExpressions
 pub mod ParsedPrograms
 pub mod Faults
+pub mod Printing
