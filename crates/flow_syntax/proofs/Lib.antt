@@ -11,3 +11,4 @@ pub mod Codes
 pub mod MeansOnce
 pub mod Meaning
 pub mod ParsedTexts
+pub mod Printing

@@ -1,3 +1,4 @@
 pub mod Machine
 pub mod Parsing
 pub mod Faults
+pub mod Print

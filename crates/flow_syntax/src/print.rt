@@ -1,257 +1,219 @@
 //! The text of a program: its tokens, joined by one space.
+ghost use Rattle.std.specs.Prelude.{◌≡◌, ◌∷◌, ◌++◌, map, OnOk, IfOk, string_bytes};
+ghost use Rattle.flow_base.specs.Syntax.{Let, Assign, Call, Return, NoElse, once, Activity};
+ghost use Rattle.flow_base.specs.Shown.{shown_expr, shown_stmt, shown_block, shown_declaration, shown_program};
+ghost use Rattle.flow_syntax.specs.Print.{spaced, fitted, in_parentheses, level, unary_words, expression_words, arguments_words, type_words, parameter_words, statement_words, block_words, declared_words, declarations_words, printed};
+
+use crate::levels::{binary_mark, left_level, level, right_level};
+use crate::listed::{Item, print_list};
+use crate::printer::Printer;
 use flow_base::syntax::{Binary, Declaration, Expr, Parameter, Program, Stmt, TypeAt, Unary};
+use flow_base::text::Key;
+use flow_base::token::Mark;
 use flow_base::value::Kind;
 use std::alloc::{AllocError, Global};
-use std::fmt::Write;
 
-/// The levels of expressions, from the loosest one on. An operand that is looser than wanted stands in parentheses.
-const OR: u8 = 0;
-
-const AND: u8 = 1;
-
-const NOT: u8 = 2;
-
-const COMPARISON: u8 = 3;
-
-const SUM: u8 = 4;
-
-const TERM: u8 = 5;
-
-const NEGATION: u8 = 6;
-
-const PRIMITIVE: u8 = 7;
-
-const PARENTHESES: u8 = 8;
-
-fn level(expr: &Expr) -> u8 {
+#[cycle(expression)]
+fn expr(out: &mut Printer, expr: &Expr) -> Result<(), AllocError>
+    ensures { OnOk result (out.new ≡ out.old ++ spaced (expression_words (shown_expr expr.now))) }
+{
     match expr {
-        Expr::Int(_, _) | Expr::Text(_, _) | Expr::Var(_, _) => PRIMITIVE,
-        Expr::Unary(_, operator, _) => match operator {
-            Unary::Not => NOT,
-            Unary::Negate => NEGATION,
-            Unary::TextOf | Unary::Length => PRIMITIVE,
-        },
-        Expr::Binary(operator, _, _) => binary_level(*operator),
+        Expr::Int(_, number) => out.number(*number),
+        Expr::Text(_, text) => out.quoted(text),
+        Expr::Var(_, name) => out.name(name),
+        Expr::Unary(_, operator, inner) => unary(out, *operator, inner),
+        Expr::Binary(operator, left, right) => {
+            operand(out, left, left_level(*operator))?;
+            out.mark(binary_mark(*operator))?;
+            operand(out, right, right_level(*operator))?;
+            Ok(())
+        }
     }
 }
 
-fn binary_level(operator: Binary) -> u8 {
+/// An expression in parentheses.
+#[cycle(expression)]
+fn enclosed(out: &mut Printer, inner: &Expr) -> Result<(), AllocError>
+    ensures { OnOk result (out.new ≡ out.old ++ spaced (in_parentheses (expression_words (shown_expr inner.now)))) }
+{
+    out.mark(Mark::Open)?;
+    expr(out, inner)?;
+    out.mark(Mark::Close)?;
+    Ok(())
+}
+
+/// An operand where the production of this level reads it.
+#[cycle(expression)]
+fn operand(out: &mut Printer, inner: &Expr, wanted: u8) -> Result<(), AllocError>
+    ensures { OnOk result (out.new ≡ out.old ++ spaced (fitted (level (shown_expr inner.now)) wanted (expression_words (shown_expr inner.now)))) }
+{
+    if level(inner) < wanted {
+        enclosed(out, inner)
+    } else {
+        expr(out, inner)
+    }
+}
+
+#[cycle(expression)]
+fn unary(out: &mut Printer, operator: Unary, inner: &Expr) -> Result<(), AllocError>
+    ensures { OnOk result (out.new ≡ out.old ++ spaced (unary_words operator (level (shown_expr inner.now)) (expression_words (shown_expr inner.now)))) }
+{
     match operator {
-        Binary::Or => OR,
-        Binary::And => AND,
-        Binary::Equal | Binary::Differ | Binary::Less => COMPARISON,
-        Binary::AtMost | Binary::Greater | Binary::AtLeast => COMPARISON,
-        Binary::Add | Binary::Subtract | Binary::Join => SUM,
-        Binary::Multiply | Binary::Divide | Binary::Remain => TERM,
-    }
-}
-
-/// The levels that the operands want.
-fn operand_levels(operator: Binary) -> (u8, u8) {
-    match binary_level(operator) {
-        OR => (OR, AND),
-        AND => (AND, NOT),
-        COMPARISON => (SUM, SUM),
-        SUM => (SUM, TERM),
-        _ => (TERM, NEGATION),
-    }
-}
-
-fn binary_token(operator: Binary) -> &'static str {
-    match operator {
-        Binary::Or => "or",
-        Binary::And => "and",
-        Binary::Equal => "==",
-        Binary::Differ => "!=",
-        Binary::Less => "<",
-        Binary::AtMost => "<=",
-        Binary::Greater => ">",
-        Binary::AtLeast => ">=",
-        Binary::Add => "+",
-        Binary::Subtract => "-",
-        Binary::Join => "++",
-        Binary::Multiply => "*",
-        Binary::Divide => "/",
-        Binary::Remain => "%",
-    }
-}
-
-/// The token of the operator, and the level that its operand wants.
-fn unary_token(operator: Unary) -> (&'static str, u8) {
-    match operator {
-        Unary::Not => ("not", NOT),
-        Unary::Negate => ("-", NEGATION),
-        Unary::TextOf => ("text", PARENTHESES),
-        Unary::Length => ("len", PARENTHESES),
-    }
-}
-
-fn kind_token(kind: Kind) -> &'static str {
-    match kind {
-        Kind::Int => "int",
-        Kind::Text => "text",
-    }
-}
-
-#[derive(Debug, Drop)]
-struct Printer {
-    text: String,
-}
-
-impl Printer {
-    fn space(&mut self) -> Result<(), AllocError> {
-        if !self.text.is_empty() {
-            self.text.push(' ')?;
+        Unary::Not => {
+            out.mark(Mark::Not)?;
+            operand(out, inner, 2)?;
+            Ok(())
         }
+        Unary::Negate => {
+            out.mark(Mark::Minus)?;
+            operand(out, inner, 6)?;
+            Ok(())
+        }
+        Unary::TextOf => {
+            out.mark(Mark::Text)?;
+            enclosed(out, inner)?;
+            Ok(())
+        }
+        Unary::Length => {
+            out.mark(Mark::Len)?;
+            enclosed(out, inner)?;
+            Ok(())
+        }
+    }
+}
+
+impl Item for Expr {
+    ghost item_words = { λ e. expression_words (shown_expr e) };
+
+    fn print(&self, out: &mut Printer) -> Result<(), AllocError> {
+        expr(out, self)
+    }
+}
+
+impl Item for TypeAt {
+    ghost item_words = { type_words };
+
+    fn print(&self, out: &mut Printer) -> Result<(), AllocError> {
+        out.kind(self.kind)
+    }
+}
+
+impl Item for Parameter {
+    ghost item_words = { parameter_words };
+
+    fn print(&self, out: &mut Printer) -> Result<(), AllocError> {
+        out.name(&self.name)?;
+        out.mark(Mark::Colon)?;
+        out.kind(self.kind)?;
         Ok(())
     }
+}
 
-    fn token(&mut self, token: &str) -> Result<(), AllocError> {
-        self.space()?;
-        self.text.push_str(token)?;
-        Ok(())
-    }
+fn arguments(out: &mut Printer, list: &[Expr]) -> Result<(), AllocError>
+    ensures { OnOk result (out.new ≡ out.old ++ spaced (arguments_words (map shown_expr list.now))) }
+{
+    print_list(out, list)
+}
 
-    fn number(&mut self, number: i64) -> Result<(), AllocError> {
-        self.space()?;
-        write!(self.text, "{number}")?;
-        Ok(())
-    }
+fn let_statement(out: &mut Printer, name: &Key, value: &Expr) -> Result<(), AllocError>
+    ensures { OnOk result (out.new ≡ out.old ++ spaced (statement_words (Let 0 0 name.now (shown_expr value.now)))) }
+{
+    out.mark(Mark::Let)?;
+    assign(out, name, value)?;
+    Ok(())
+}
 
-    fn quoted(&mut self, text: &str) -> Result<(), AllocError> {
-        self.token("\"")?;
-        for c in text.chars() {
-            match c {
-                '"' => self.text.push_str("\\\"")?,
-                '\\' => self.text.push_str("\\\\")?,
-                '\n' => self.text.push_str("\\n")?,
-                _ => self.text.push(c)?,
-            }
-        }
-        self.text.push('"')?;
-        Ok(())
-    }
+fn assign(out: &mut Printer, name: &Key, value: &Expr) -> Result<(), AllocError>
+    ensures { OnOk result (out.new ≡ out.old ++ spaced (statement_words (Assign 0 name.now (shown_expr value.now)))) }
+{
+    out.name(name)?;
+    out.mark(Mark::Assign)?;
+    expr(out, value)?;
+    out.mark(Mark::Semicolon)?;
+    Ok(())
+}
 
-    fn expr(&mut self, expr: &Expr, wanted: u8) -> Result<(), AllocError> {
-        let enclosed = level(expr) < wanted;
-        if enclosed {
-            self.token("(")?;
-        }
-        match expr {
-            Expr::Int(_, number) => self.number(*number)?,
-            Expr::Text(_, text) => self.quoted(text.as_str())?,
-            Expr::Var(_, name) => self.token(name.as_str())?,
-            Expr::Unary(_, operator, inner) => {
-                let (token, inner_wanted) = unary_token(*operator);
-                self.token(token)?;
-                self.expr(inner, inner_wanted)?;
-            }
-            Expr::Binary(operator, left, right) => {
-                let (left_wanted, right_wanted) = operand_levels(*operator);
-                self.expr(left, left_wanted)?;
-                self.token(binary_token(*operator))?;
-                self.expr(right, right_wanted)?;
-            }
-        }
-        if enclosed {
-            self.token(")")?;
-        }
-        Ok(())
-    }
+fn call(out: &mut Printer, into: &Key, activity: &Key, list: &[Expr]) -> Result<(), AllocError>
+    ensures { OnOk result (out.new ≡ out.old ++ spaced (statement_words (Call 0 into.now 0 activity.now (map shown_expr list.now) once NoElse))) }
+{
+    out.name(into)?;
+    out.mark(Mark::Assign)?;
+    out.mark(Mark::Call)?;
+    out.name(activity)?;
+    arguments(out, list)?;
+    out.mark(Mark::Semicolon)?;
+    Ok(())
+}
 
-    fn arguments(&mut self, list: &[Expr]) -> Result<(), AllocError> {
-        self.token("(")?;
-        for (index, argument) in list.iter().enumerate() {
-            if index > 0 {
-                self.token(",")?;
-            }
-            self.expr(argument, OR)?;
-        }
-        self.token(")")
-    }
+fn return_statement(out: &mut Printer, value: &Expr) -> Result<(), AllocError>
+    ensures { OnOk result (out.new ≡ out.old ++ spaced (statement_words (Return 0 (shown_expr value.now)))) }
+{
+    out.mark(Mark::Return)?;
+    expr(out, value)?;
+    out.mark(Mark::Semicolon)?;
+    Ok(())
+}
 
-    fn statement(&mut self, stmt: &Stmt) -> Result<(), AllocError> {
-        match stmt {
-            Stmt::Let(_, _, name, value) => {
-                self.token("let")?;
-                self.token(name.as_str())?;
-                self.token("=")?;
-                self.expr(value, OR)?;
-            }
-            Stmt::Assign(_, name, value) => {
-                self.token(name.as_str())?;
-                self.token("=")?;
-                self.expr(value, OR)?;
-            }
-            Stmt::Call(_, into, _, activity, list) => {
-                self.token(into.as_str())?;
-                self.token("=")?;
-                self.token("call")?;
-                self.token(activity.as_str())?;
-                self.arguments(list)?;
-            }
-            Stmt::Return(_, value) => {
-                self.token("return")?;
-                self.expr(value, OR)?;
-            }
-        }
-        self.token(";")
+fn statement(out: &mut Printer, stmt: &Stmt) -> Result<(), AllocError>
+    ensures { OnOk result (out.new ≡ out.old ++ spaced (statement_words (shown_stmt stmt.now))) }
+{
+    match stmt {
+        Stmt::Let(_, _, name, value) => let_statement(out, name, value),
+        Stmt::Assign(_, name, value) => assign(out, name, value),
+        Stmt::Call(_, into, _, activity, list) => call(out, into, activity, list),
+        Stmt::Return(_, value) => return_statement(out, value),
     }
+}
 
-    fn types(&mut self, list: &[TypeAt]) -> Result<(), AllocError> {
-        self.token("(")?;
-        for (index, found) in list.iter().enumerate() {
-            if index > 0 {
-                self.token(",")?;
-            }
-            self.token(kind_token(found.kind))?;
-        }
-        self.token(")")
+fn statements(out: &mut Printer, list: &[Stmt]) -> Result<(), AllocError>
+    ensures { OnOk result (out.new ≡ out.old ++ spaced (block_words (shown_block list.now))) }
+{
+    for stmt in list {
+        statement(out, stmt)?;
     }
+    Ok(())
+}
 
-    fn parameters(&mut self, list: &[Parameter]) -> Result<(), AllocError> {
-        self.token("(")?;
-        for (index, parameter) in list.iter().enumerate() {
-            if index > 0 {
-                self.token(",")?;
-            }
-            self.token(parameter.name.as_str())?;
-            self.token(":")?;
-            self.token(kind_token(parameter.kind))?;
-        }
-        self.token(")")
-    }
+fn activity(out: &mut Printer, name: &Key, takes: &[TypeAt], gives: Kind) -> Result<(), AllocError>
+    ensures { OnOk result (out.new ≡ out.old ++ spaced (declared_words (Activity 0 0 name.now takes.now gives))) }
+{
+    out.mark(Mark::Activity)?;
+    out.name(name)?;
+    print_list(out, takes)?;
+    out.mark(Mark::Arrow)?;
+    out.kind(gives)?;
+    out.mark(Mark::Semicolon)?;
+    Ok(())
+}
 
-    fn declaration(&mut self, declaration: &Declaration) -> Result<(), AllocError> {
-        match declaration {
-            Declaration::Activity(_, _, name, takes, gives) => {
-                self.token("activity")?;
-                self.token(name.as_str())?;
-                self.types(takes)?;
-                self.token("->")?;
-                self.token(kind_token(*gives))?;
-                self.token(";")
-            }
-        }
+fn declaration(out: &mut Printer, declaration: &Declaration) -> Result<(), AllocError>
+    ensures { OnOk result (out.new ≡ out.old ++ spaced (declared_words (shown_declaration declaration.now))) }
+{
+    match declaration {
+        Declaration::Activity(_, _, name, takes, gives) => activity(out, name, takes, *gives),
     }
+}
+
+fn declarations(out: &mut Printer, list: &[Declaration]) -> Result<(), AllocError>
+    ensures { OnOk result (out.new ≡ out.old ++ spaced (declarations_words (map shown_declaration list.now))) }
+{
+    for next in list {
+        declaration(out, next)?;
+    }
+    Ok(())
 }
 
 /// The text of a program: its tokens joined by one space, parentheses only where the grammar needs them. For a program
 /// that [`crate::parse::parse`] gave it is a text of the same program, up to places.
-pub fn print(alloc: Global, program: &Program) -> Result<String, AllocError> {
-    let text = String::new(alloc);
-    let mut printer = Printer { text };
-    printer.token("workflow")?;
-    printer.token(program.name.as_str())?;
-    printer.parameters(&program.parameters)?;
-    printer.token("{")?;
-    for declaration in &program.declarations {
-        printer.declaration(declaration)?;
-    }
-    for stmt in &program.body {
-        printer.statement(stmt)?;
-    }
-    printer.token("}")?;
-    let Printer { text } = printer;
-    Ok(text)
+pub fn print(alloc: Global, program: &Program) -> Result<String, AllocError>
+    ensures { IfOk result (λ text. string_bytes text ≡ printed (shown_program program.now)) }
+{
+    let mut out = Printer::new(alloc, "workflow")?;
+    out.name(&program.name)?;
+    print_list(&mut out, &program.parameters)?;
+    out.mark(Mark::BraceOpen)?;
+    declarations(&mut out, &program.declarations)?;
+    statements(&mut out, &program.body)?;
+    out.mark(Mark::BraceClose)?;
+    Ok(out.finish())
 }

@@ -11,5 +11,6 @@ mod tests;
 mod token_list;
 mod words;
 
+pub use keyword::spelled;
 pub use scan::tokens;
 pub use token_list::{Tokens, TokensFault};
