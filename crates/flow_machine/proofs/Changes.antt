@@ -1,12 +1,11 @@
 -- Changes of a sound book.
-use Rattle.std.proofs.Common.{◌≡◌, ℕ, zero, suc, ◌+◌, ◌-◌, ◌≤◌, List, [], ◌∷◌, ◌++◌, length, set, map, All, refl, sym, ap, ◌∙◌, subst, Option, Some, None, Result, Ok, Err, Bool, true, false, ◌&&◌, ⊎_elim, inl, inr}
-use Rattle.std.specs.Prelude.{◌⊎◌, slice_get, slice_set, bytes_eq, if◌then◌else◌}
+use Rattle.std.proofs.Common.{◌≡◌, ℕ, zero, suc, ◌+◌, ◌-◌, ◌≤◌, List, [], ◌∷◌, ◌++◌, length, refl, sym, ap, ◌∙◌, subst, Option, Some, None, Result, Ok, Err, Bool, true, false, ◌&&◌, ⊎_elim}
+use Rattle.std.specs.Prelude.{slice_get, slice_set, bytes_eq, if◌then◌else◌}
 use Rattle.std.proofs.lemmas.Option.{none-some, same_Some}
 use Rattle.std.proofs.lemmas.Bool.{true≢false}
 use Rattle.std.proofs.lemmas.List.Elements.{All-nil, All-push, All-set, All-weaker}
 use Rattle.std.specs.Cmp.Lexicographic.{bytes_decides}
 use Rattle.flow_base.specs.Syntax.{Bytes, Program}
-use Rattle.flow_base.specs.declared.event.Event.{Event}
 use Rattle.flow_base.specs.declared.book.Run.{Run}
 use Rattle.flow_base.specs.declared.book.Turn.{Turn}
 use Rattle.flow_base.specs.declared.book.Change.TheVariants.{AddText}
@@ -23,9 +22,9 @@ use Rattle.flow_model.specs.Apply.{Rules, program_at, program_if}
 use Rattle.flow_model.specs.Sound.{IsSoundTask, IsSoundRun, IsSound}
 use Rattle.flow_model.proofs.OneMore.{stands_on, stands_first}
 use Rattle.flow_machine.specs.Soundness.{ReadsWellFormed}
-use Rattle.flow_machine.proofs.Tries.{TriedBlock, well_formed_tried}
+use Rattle.flow_machine.proofs.Tries.{well_formed_tried}
 use Rattle.flow_machine.proofs.Leaves.{turn_leaves, stands_left, still_closed}
-use Rattle.flow_machine.proofs.Places.{get_all, get_set, get_push, nth_kept, nth_place}
+use Rattle.flow_machine.proofs.Places.{get_set, get_push, nth_kept, nth_place}
 use Rattle.flow_machine.proofs.Tasks.{turn_attempts, turn_activities}
 
 ---- Texts

@@ -1,9 +1,8 @@
 -- Each command leads from a sound book to a sound book.
-use Rattle.std.proofs.Common.{◌≡◌, ℕ, ◌+◌, ◌-◌, ◌≤◌, List, [], ◌∷◌, length, max, map, All, refl, sym, ap, ◌∙◌, subst, Option, Some, None, Result, Ok, Err, Bool, true, false}
+use Rattle.std.proofs.Common.{◌≡◌, ℕ, ◌+◌, ◌-◌, ◌≤◌, List, [], ◌∷◌, length, max, map, refl, sym, ap, ◌∙◌, subst, Option, Some, None, Result, Ok, Err, Bool, true, false}
 use Rattle.std.specs.Prelude.{slice_get, slice_set, nat_le, if◌then◌else◌}
 use Rattle.std.proofs.Math.Nat.{le-max_right}
 use Rattle.std.proofs.lemmas.Option.{none-some, same_Some}
-use Rattle.std.proofs.lemmas.Bool.{true≢false}
 use Rattle.std.proofs.lemmas.List.Elements.{All-nil}
 use Rattle.flow_base.specs.Syntax.{Bytes, Program}
 use Rattle.flow_base.specs.declared.value.Value.{Value}
@@ -35,7 +34,7 @@ use Rattle.flow_model.specs.Sound.{IsSoundRun, IsSound}
 use Rattle.flow_model.proofs.Positions.{position_computed, turned_is}
 use Rattle.flow_machine.specs.Soundness.{ReadsWellFormed, NoBookIsSound, SoundAfter}
 use Rattle.flow_machine.proofs.Tries.{well_formed_tried}
-use Rattle.flow_machine.proofs.Leaves.{stands_left, delivered_open, terminates, continued_closed, turn_state, states_asked}
+use Rattle.flow_machine.proofs.Leaves.{stands_left, delivered_open, terminates, continued_closed, turn_state}
 use Rattle.flow_machine.proofs.Places.{get_all, get_set_same, nth_place}
 use Rattle.flow_machine.proofs.Changes.{NoneOpen, text_well_formed, sound_text, none_open, sound_run, first_run, put_run, was, sound_turn, turn_run}
 
@@ -234,6 +233,10 @@ step_keeps u b (command.History run) w h = history_keeps u b run h
 pub after_keeps : SoundAfter
 after_keeps u b [] w h = h
 after_keeps u b (c ∷ cs) w h = after_keeps u (after_one u b c) cs w (step_keeps u b c w h)
+
+-- what is equal to the book after commands is sound too
+pub sound_book : (u : Rules) (b b2 : Book) (cs : List Command) → b2 ≡ after u b cs → ReadsWellFormed u → IsSound u b → IsSound u b2
+sound_book u b b2 cs e w h = subst (IsSound u) (sym e) (after_keeps u b cs w h)
 
 pub nothing_sound : NoBookIsSound
 nothing_sound u =

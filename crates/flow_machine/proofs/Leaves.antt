@@ -1,6 +1,6 @@
 -- How a turn leaves a run, and a standing history: what of the program is still to run, the state and the moment.
-use Rattle.std.proofs.Common.{◌≡◌, ℕ, zero, suc, ◌+◌, ◌≤◌, List, [], ◌∷◌, ◌++◌, All, refl, sym, ap, ◌∙◌, subst, Option, Some, None, Bool, true, false, ◌&&◌}
-use Rattle.std.specs.Prelude.{◌≢◌, if◌then◌else◌}
+use Rattle.std.proofs.Common.{◌≡◌, ℕ, zero, suc, ◌+◌, List, [], ◌∷◌, ◌++◌, All, refl, sym, ap, ◌∙◌, subst, Option, Some, None, Bool, true, false, ◌&&◌}
+use Rattle.std.specs.Prelude.{if◌then◌else◌}
 use Rattle.std.proofs.lemmas.List.Elements.{All-nil, All-push}
 use Rattle.flow_base.specs.Syntax.{Bytes, Program, signals_of}
 use Rattle.flow_base.specs.declared.value.Value.{Value}
