@@ -1,10 +1,13 @@
 //! `flow`: checks programs of workflows, and answers command lines.
 #![tactic(auto)]
 
+ghost use Rattle.std.specs.Prelude.{◌≡◌, ◌≤◌, IfOk, IfErr};
+ghost use Rattle.flow_cli.specs.Driving.{stopped_status};
+
 use flow_cli::call::{Call, call_of};
 use flow_cli::check::check_text;
-use flow_cli::drive::{Stopped, drive_lines};
-use flow_cli::fault::{Fault, fault_line, status};
+use flow_cli::drive::{Stopped, drive_lines, end_status};
+use flow_cli::fault::{Fault, fault_line};
 use flow_machine::language::Language;
 use flow_view::lists::Lists;
 use std::io::{BufReader, ErrorKind};
@@ -15,21 +18,23 @@ fn main(rt: HostRuntime) -> ExitCode {
     ExitCode::from(run(&rt))
 }
 
-/// Does what the words ask for, and gives the status.
+/// Does what the words ask for, says why where it can't, and gives the status.
 fn run(rt: &HostRuntime) -> u8 {
-    match work(rt) {
-        Ok(status) => status,
-        Err(Stopped::Refused(fault)) => {
-            say_fault(rt, &fault);
-            status(&fault)
-        }
-        Err(Stopped::Input(error)) => {
+    let outcome = work(rt);
+    if let Err(stopped) = &outcome {
+        say_stopped(rt, stopped);
+    }
+    end_status(&outcome)
+}
+
+fn say_stopped(rt: &HostRuntime, stopped: &Stopped) {
+    match stopped {
+        Stopped::Refused(fault) => say_fault(rt, fault),
+        Stopped::Input(error) => {
             let _ = eprintln!(rt; "flow: the input can't be read: {error}");
-            3
         }
-        Err(Stopped::Output(error)) => {
+        Stopped::Output(error) => {
             let _ = eprintln!(rt; "flow: the output can't be written: {error}");
-            3
         }
     }
 }
@@ -80,7 +85,11 @@ fn check(rt: &HostRuntime, file: &str) -> Result<u8, Stopped> {
     }
 }
 
-fn drive(rt: &HostRuntime) -> Result<u8, Stopped> {
+/// Answers command lines over a store in memory: the status is 0, 1 where some line was no command, and 3 on an early end.
+fn drive(rt: &HostRuntime) -> Result<u8, Stopped>
+    ensures done { IfOk result (λ n. n ≤ 1) }
+    ensures early { IfErr result (λ e. stopped_status e ≡ 3) }
+{
     let Ok(mut reader) = BufReader::new(rt.alloc(), rt.reader()) else {
         return Err(Stopped::Refused(Fault::NoMemory));
     };

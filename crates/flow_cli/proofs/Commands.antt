@@ -1,5 +1,5 @@
 -- Command lines: what is read is a command's object, and each such object is read.
-use Rattle.std.proofs.Common.{◌≡◌, ℕ, List, Bool, true, false, Option, Some, None, option_map, option_and_then, sym, ap, ◌∙◌, refl, Result, Ok, Err}
+use Rattle.std.proofs.Common.{◌≡◌, ℕ, List, Bool, true, false, Some, None, option_and_then, sym, ap, ◌∙◌, refl, Result, Ok, Err}
 use Rattle.std.specs.Prelude.{IfOk, IsUtf8}
 use Rattle.std.proofs.lemmas.Option.{option_and_then_some}
 use Rattle.std.proofs.lemmas.Str.{IsUtf8-from_is_utf8, is_utf8-from_IsUtf8}

@@ -1,3 +1,5 @@
 pub mod Rows
 pub mod Commands
 pub mod Replies
+pub mod Lines
+pub mod Answering

@@ -1,5 +1,5 @@
 -- The words of a command line, as clap reads them.
-use Rattle.std.specs.Prelude.{◌≡◌, ℕ, List, [], Option, Some, None, codes, option_map, option_and_then, bytes_eq, true, if◌then◌else◌}
+use Rattle.std.specs.Prelude.{◌≡◌, List, [], Option, Some, None, codes, option_map, option_and_then, bytes_eq, true, if◌then◌else◌}
 use Rattle.clap.specs.Words.{App, Row, Rule, Text, first_of, fault_of, new_app, new_rule, subcommand_of, with_rule, with_subcommand}
 use Rattle.clap.specs.declared.builder.ArgAction.TheVariants.{Set}
 use Rattle.clap.specs.Simple.{on_top}

@@ -1,10 +1,14 @@
 -- Lines in, lines out.
-use Rattle.std.specs.Prelude.{ℕ, List, [], ◌∷◌, ◌++◌, max, Option, Some, None, if◌then◌else◌, ◌==◌}
+use Rattle.std.specs.Prelude.{◌≡◌, ℕ, List, [], ◌∷◌, ◌++◌, max, Option, Some, None, if◌then◌else◌, ◌==◌}
+use Rattle.std.specs.Io.KnownBytes.{Appends}
 use Rattle.flow_base.specs.declared.command.Command.{Command}
 use Rattle.flow_model.specs.Apply.{Rules, outcome, after_one}
 use Rattle.flow_model.specs.Book.{Book}
 use Rattle.flow_cli.specs.Commands.{line_command}
+use Rattle.flow_cli.specs.Faults.{fault_status}
 use Rattle.flow_cli.specs.Replies.{line_text}
+use Rattle.flow_cli.specs.declared.drive.Stopped.{Stopped}
+use Rattle.flow_cli.specs.declared.drive.Stopped.TheVariants as stopped
 use Rattle.flow_cli.specs.declared.reply.Line.{Line}
 use Rattle.flow_cli.specs.declared.reply.Line.TheVariants as line
 
@@ -59,3 +63,30 @@ answer_status (line.NotApplied c) = 3
 abbrev pub final_status : List Line → ℕ
 final_status [] = 0
 final_status (a ∷ later) = max (answer_status a) (final_status later)
+
+-- ---- where answering ended before the input did
+
+-- the bytes of some of these answers were written, from the first on, each whole
+pub record WritesSome (old new : Option (List ℕ)) (all : List Line) : Type 0 where
+  pub done : List Line
+  pub later : List Line
+  pub all_are : all ≡ done ++ later
+  pub written_are : Appends old new (written done)
+
+-- a beginning of these bytes was written
+pub record WritesBeginning (old new : Option (List ℕ)) (bytes : List ℕ) : Type 0 where
+  pub front : List ℕ
+  pub back : List ℕ
+  pub bytes_are : bytes ≡ front ++ back
+  pub written_are : Appends old new front
+
+-- Only a failed write leaves a line that isn't whole.
+abbrev pub StopsWithin : Stopped → Option (List ℕ) → Option (List ℕ) → List Line → Type 0
+StopsWithin (stopped.Refused f) old new all = WritesSome old new all
+StopsWithin (stopped.Input e) old new all = WritesSome old new all
+StopsWithin (stopped.Output e) old new all = WritesBeginning old new (written all)
+
+abbrev pub stopped_status : Stopped → ℕ
+stopped_status (stopped.Refused f) = fault_status f
+stopped_status (stopped.Input e) = 3
+stopped_status (stopped.Output e) = 3

@@ -5,3 +5,4 @@ pub mod Commands
 pub mod Replies
 pub mod Verdicts
 pub mod Driving
+pub mod Answering
