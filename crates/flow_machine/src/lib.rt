@@ -6,5 +6,7 @@ mod description;
 mod kinds;
 pub mod language;
 mod report;
+#[cfg(test)]
+mod tests;
 pub mod texts;
 mod turns;
