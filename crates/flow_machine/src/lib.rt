@@ -7,5 +7,7 @@ mod kinds;
 pub mod language;
 pub mod laws;
 mod report;
+#[cfg(test)]
+mod tests;
 pub mod texts;
 mod turns;

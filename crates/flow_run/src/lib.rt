@@ -3,3 +3,5 @@
 
 pub mod fault;
 pub mod stance;
+#[cfg(test)]
+mod tests;
