@@ -1,5 +1,5 @@
 -- What a text is read as is what it means.
-use Rattle.std.proofs.Common.{◌≡◌, inl, inr, Result, Ok, Err}
+use Rattle.std.proofs.Common.{◌≡◌, subst, inl, inr, Result, Ok, Err}
 use Rattle.flow_base.specs.Syntax.{Bytes, Program}
 use Rattle.flow_base.specs.declared.command.TextFault.{TextFault}
 use Rattle.flow_model.specs.WellFormed.{WellFormed, IsFirstFault}
@@ -7,6 +7,8 @@ use Rattle.flow_model.specs.Meaning.{IsProgramOf, IsTextFault, Means}
 use Rattle.flow_syntax.proofs.Meaning.{meant}
 use Rattle.flow_syntax.proofs.MeansOnce.{means_once}
 use Rattle.flow_machine.specs.Language.{meaning_of}
+use Rattle.flow_machine.specs.Soundness.{ReadsWellFormed}
+use Rattle.flow_model.specs.Apply.{rules_of}
 
 pub meaning_is : (text : Bytes) → Means text (meaning_of text)
 unfolding meaning_of
@@ -23,3 +25,6 @@ means_broken text p f is breaks = one_meaning text (meaning_of text) (Err f) (me
 
 pub means_fault : (text : Bytes) (f : TextFault) → IsTextFault text f → meaning_of text ≡ Err f
 means_fault text f is = one_meaning text (meaning_of text) (Err f) (meaning_is text) (inl is)
+
+pub reads_well_formed : ReadsWellFormed (rules_of meaning_of)
+reads_well_formed text p e = (subst (Means text) e (meaning_is text)).1

@@ -1,7 +1,11 @@
-ghost use Rattle.flow_machine.specs.Soundness.{NoBookIsSound, SoundAfter};
+ghost use Rattle.flow_machine.specs.Language.{meaning_of};
+ghost use Rattle.flow_machine.specs.Soundness.{NoBookIsSound, ReadsWellFormed, SoundAfter};
+ghost use Rattle.flow_model.specs.Apply.{rules_of};
 
 /// Commands lead from a book in which nothing is recorded, and from any sound book, to sound books alone.
 pub fn sound_after()
     ensures nothing { NoBookIsSound }
     ensures after { SoundAfter }
+    // The rules of the product are such rules.
+    ensures language { ReadsWellFormed (rules_of meaning_of) }
 {}
