@@ -6,3 +6,5 @@ pub mod HavingKinds
 pub mod KindOfName
 pub mod Fitting
 pub mod Moments
+pub mod Beginnings
+mod TypedRows

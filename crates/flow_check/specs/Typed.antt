@@ -8,12 +8,14 @@ use Rattle.flow_base.specs.declared.value.Kind.{Kind}
 use Rattle.flow_base.specs.declared.value.Kind.TheVariants.{Int, Text}
 use Rattle.flow_base.specs.declared.syntax.Parameter.{Parameter}
 use Rattle.flow_base.specs.declared.event.Cmd.{Cmd}
-use Rattle.flow_base.specs.declared.event.Cmd.TheVariants.{Schedule, ContinueAsNew}
+use Rattle.flow_base.specs.declared.event.Cmd.TheVariants.{Schedule, CancelTimer, Fail, ContinueAsNew}
+use Rattle.flow_base.specs.declared.event.Cause.{Cause}
 use Rattle.flow_base.specs.declared.event.Input.{Input}
 use Rattle.flow_base.specs.declared.event.Event.{Event}
 use Rattle.flow_model.specs.Values.{Variables, value as value_of}
-use Rattle.flow_model.specs.Rest.{Rest, Then, Beside, is_done}
+use Rattle.flow_model.specs.Rest.{Rest, Raised, Then, Beside, is_done}
 use Rattle.flow_model.specs.Configuration.{Configuration, first_configuration}
+use Rattle.flow_model.specs.Step.{Store, Setting, Move, Stays, Goes, Asks, Ends, begin, around, move, oldest, take_signal}
 use Rattle.flow_model.specs.Deliver.{Progress, deliver, all_fit}
 use Rattle.flow_model.specs.Turn.{Frame, Answers, frame, next, Turn}
 use Rattle.flow_model.specs.Stands.{Stands}
@@ -76,12 +78,32 @@ abbrev pub IsFirst : Block → Statement → Type 0
 IsFirst End s = ⊥
 IsFirst (Next t b) s = t ≡ s
 
--- A statement is the next one of a rest, in one of its branches: what is before it in its sequence is done. A step that
--- computes anything begins one of these.
+-- A statement is the next one of a rest, in one of its branches: what is before it in its sequence is done.
 abbrev pub IsNext : Rest → Statement → Type 0
 IsNext (Then r b) s = ((is_done r ≡ true) × IsFirst b s) ⊎ IsNext r s
 IsNext (Beside a b) s = IsNext a s ⊎ IsNext b s
 IsNext r s = ⊥
+
+-- A move begins a statement that is next in a rest.
+abbrev pub Begins : Setting → Store → Rest → Move → Type 0
+Begins s t r m = (st : Statement) × ((f : Rest → Rest) × (IsNext r st × (m ≡ around f (begin s t st))))
+
+-- a move takes the oldest signal of a name, for a variable
+abbrev pub Takes : Store → Move → Type 0
+Takes t m =
+    (x : Bytes) × ((name : Bytes) × ((v : Value) × ((q : Rest) × ((oldest name t.buffer ≡ Some v)
+    × ((m ≡ Goes q (take_signal t x name v)) ⊎ ((n : ℕ) × (m ≡ Asks q (take_signal t x name v) (CancelTimer n))))))))
+
+-- an activity failed whose call has no `else`
+abbrev pub IsRaised : Rest → Cause → Bytes → Type 0
+IsRaised (Raised d u) c text = (d ≡ c) × (u ≡ text)
+IsRaised (Then r b) c text = IsRaised r c text
+IsRaised (Beside a b) c text = IsRaised a c text ⊎ IsRaised b c text
+IsRaised r c text = ⊥
+
+-- a move fails the run where an activity failed
+abbrev pub Fails : Rest → Move → Type 0
+Fails r m = (c : Cause) × ((text : Bytes) × (IsRaised r c text × (m ≡ Ends (Fail c text))))
 
 -- A command has values of the declared types; arguments with which a run continues as new fit the parameters.
 abbrev pub IsFit : Program → Cmd → Type 0
@@ -121,6 +143,10 @@ pub record Moment (p : Program) (q : Progress) : Type 0 where
 -- What a step computes in a run of a checked program: each variable is there, and each value has the type that is wanted.
 abbrev pub NothingMissing : Type 0
 NothingMissing = (p : Program) (q : Progress) (s : Statement) → WellFormed p → Moment p q → IsNext q.rest s → CanBegin p q.store.variables s
+
+-- Only a statement that is next is begun, so nothing else computes an expression.
+abbrev pub OnlyNextBegins : Type 0
+OnlyNextBegins = (s : Setting) (t : Store) (r : Rest) → (move s t r ≡ Stays) ⊎ (Begins s t r (move s t r) ⊎ (Takes t (move s t r) ⊎ Fails r (move s t r)))
 
 -- A variable has one type, at all moments of all runs: so whatever is delivered or assigned to it fits.
 abbrev pub OneKind : Type 0
