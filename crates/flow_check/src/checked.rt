@@ -1,5 +1,6 @@
 ghost use Rattle.std.specs.Prelude.{◌≡◌};
 ghost use Rattle.flow_base.specs.Shown.{shown_program};
+ghost use Rattle.flow_model.specs.WellFormed.{WellFormed};
 
 use flow_base::syntax::Program;
 
@@ -7,6 +8,7 @@ use flow_base::syntax::Program;
 #[derive(Debug, Drop)]
 pub struct Checked {
     program: Program,
+    pub ghost well_formed: { WellFormed (shown_program program) },
 }
 
 impl Checked {
@@ -14,13 +16,15 @@ impl Checked {
 
     /// A program that was found to keep the rules; for `check` alone.
     pub(crate) fn of(program: Program) -> Checked
+        requires { WellFormed (shown_program program) }
         ensures { shown_checked result ≡ shown_program program }
     {
         Checked { program }
     }
 
     pub fn program(&self) -> &Program
-        ensures { shown_program result.now ≡ shown_checked self.now }
+        ensures same { shown_program result.now ≡ shown_checked self.now }
+        ensures well_formed { WellFormed (shown_checked self.now) }
     {
         &self.program
     }
