@@ -117,7 +117,7 @@ module _ (u : Rules) (w : ReadsWellFormed u) (b : Book) (h : IsSound u b) (n : �
         | None ↦ λ e. sound
         | Some vs ↦ λ e.
             let closed : is_open (state_of (with_turn t r).history) ≡ false =
-                ap is_open (turn_state r.history (length r.history + 1) t.at t.input t.commands) ∙ continued_closed (state_came (state_of r.history) t.input) t.commands vs e
+            ap is_open (turn_state r.history (length r.history + 1) t.at t.input t.commands) ∙ continued_closed (state_came (state_of r.history) t.input) t.commands vs e
             in
             elim (first_turn p t.at vs) as (λ o. first_turn p t.at vs ≡ o → IsSound u (changed_by new (run_from r o))) [
               | None ↦ λ g. sound
@@ -159,11 +159,11 @@ recorded_keeps u b n r p at i w h there text f =
     let later : its.place.moment ≤ now = subst (λ m. m ≤ now) left.moment (le-max_right at (moment_of r.history)) in
     if_sound_keeps u b h (position_of p r.history) (λ k. if_sound (turned p Fresh k now i) (λ t. turn_made u.limit p r n now i t.0))
     (λ k e.
-        let at_place : its.place ≡ k = same_Some its.place k (sym (position_computed p r.history its.place stands) ∙ e) in
-        if_sound_keeps u b h (turned p Fresh k now i) (λ t. turn_made u.limit p r n now i t.0)
-        (λ t g.
-            made_keeps u w b h n r there p text k (subst (λ (q : Configuration). Stands p r.history q) at_place stands) u.limit now i t.0 t.1
-            (subst (λ (q : Configuration). q.moment ≤ now) at_place later) f (turned_is p Fresh k now i t.0 t.1 g)))
+    let at_place : its.place ≡ k = same_Some its.place k (sym (position_computed p r.history its.place stands) ∙ e) in
+    if_sound_keeps u b h (turned p Fresh k now i) (λ t. turn_made u.limit p r n now i t.0)
+    (λ t g.
+    made_keeps u w b h n r there p text k (subst (λ (q : Configuration). Stands p r.history q) at_place stands) u.limit now i t.0 t.1
+    (subst (λ (q : Configuration). q.moment ≤ now) at_place later) f (turned_is p Fresh k now i t.0 t.1 g)))
 
 input_keeps : (u : Rules) (b : Book) (n : ℕ) (r : Run) (at : ℕ) (i : Input) → ReadsWellFormed u → IsSound u b → nth b.runs n ≡ Some r → is_started i ≡ false → Keeps u b (input_recorded u b r n at i)
 unfolding input_recorded
@@ -194,9 +194,9 @@ start_keeps u b request flow text vs at w h =
     (none_there_keeps u b h (open_run b flow) (λ n. reply.Refused AlreadyOpen) (begins p)
     (λ none. if_sound_keeps u b h (first_turn p at vs) adds
     (λ t made.
-        let its : program_at u.program_of b text ≡ Some p = ap (λ (o : Option Bytes). elim o [ None ↦ None | Some x ↦ program_if (u.program_of x) ]) e ∙ g in
-        let first = first_turn_is p at vs t made in
-        sound_run u b (with_turn t (unbegun_run flow (Some request) text)) h (first_run u b flow (Some request) text t p first.0 w its first.1) (none_open b flow none)))))))
+    let its : program_at u.program_of b text ≡ Some p = ap (λ (o : Option Bytes). elim o [ None ↦ None | Some x ↦ program_if (u.program_of x) ]) e ∙ g in
+    let first = first_turn_is p at vs t made in
+    sound_run u b (with_turn t (unbegun_run flow (Some request) text)) h (first_run u b flow (Some request) text t p first.0 w its first.1) (none_open b flow none)))))))
 
 complete_keeps : (u : Rules) (b : Book) (n event attempt : ℕ) (v : Value) (at : ℕ) → ReadsWellFormed u → IsSound u b → Keeps u b (complete u b n event attempt v at)
 unfolding complete

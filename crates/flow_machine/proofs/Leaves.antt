@@ -219,7 +219,7 @@ leads_left p n [] k (d ∷ later) k' s b t e l =
     let a = l.1.1.0 in
     let turn = turn_leaves p (Recorded later) k d.at a.2.0 l.0 l.1.0 b t a.2.2 in
     let there : states_asked (state_after_one s d) l.0 ≡ l.1.0.state =
-        ap (λ (x : State). states_asked x l.0) (came_state s d a.2.0 a.2.1 ∙ ap (λ (x : State). state_came x a.2.0) e) ∙ turn.leaves
+    ap (λ (x : State). states_asked x l.0) (came_state s d a.2.0 a.2.1 ∙ ap (λ (x : State). state_came x a.2.0) e) ∙ turn.leaves
     in
     let rest = leads_left p (suc n) l.0 l.1.0 later k' (state_after_one s d) b turn.tried there l.1.1.1 in
     record { tried = rest.tried; leaves = rest.leaves; moment = ap (λ (m : ℕ). moment_after m later) (sym turn.moment) ∙ rest.moment }
@@ -227,8 +227,8 @@ leads_left p n (c ∷ due) k (d ∷ later) k' s b t e l =
     let a = l.1.1.0 in
     let same : k ≡ l.1.0 = sym a.4 in
     let there : states_asked (state_after_one s d) l.0 ≡ l.1.0.state =
-        ap (states_asked (state_after_one s d)) a.3 ∙ ap (λ (x : State). states_asked x due) (asked_state s d c a.2) ∙ e
-        ∙ ap (λ (q : Configuration). q.state) same
+    ap (states_asked (state_after_one s d)) a.3 ∙ ap (λ (x : State). states_asked x due) (asked_state s d c a.2) ∙ e
+    ∙ ap (λ (q : Configuration). q.state) same
     in
     let rest = leads_left p (suc n) l.0 l.1.0 later k' (state_after_one s d) b (subst (λ (q : Configuration). TriedRest q.rest) same t) there l.1.1.1 in
     let moved : d.at ≡ l.1.0.moment = a.1 ∙ ap (λ (q : Configuration). q.moment) same in

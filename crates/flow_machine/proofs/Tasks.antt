@@ -71,9 +71,9 @@ turn_attempts r t w h =
     let kept : All (IsSoundTask q) r.tasks = All-weaker (IsSoundTask r) (IsSoundTask q) (λ k s. kept_task r t k s) r.tasks h in
     traced_tasks q (n + 1) t.at t.commands (tasks_came r.tasks t.input)
     (λ i e g.
-        let place : n + 1 + i ≡ suc (length r.history + suc i) = omega arith in
-        let there : length r.history + suc i ≡ length r.history + suc i = refl in
-        nth_at (r.history ++ es) (n + 1 + i) (length r.history + suc i) place ∙ get_past r.history es (length r.history + suc i) (suc i) there ∙ g)
+    let place : n + 1 + i ≡ suc (length r.history + suc i) = omega arith in
+    let there : length r.history + suc i ≡ length r.history + suc i = refl in
+    nth_at (r.history ++ es) (n + 1 + i) (length r.history + suc i) place ∙ get_past r.history es (length r.history + suc i) (suc i) there ∙ g)
     w (came_tasks q r.tasks t.input kept)
 
 ---- Which are open
@@ -115,10 +115,10 @@ same_after : (ts us : List Task) (es : List Event) → events_of ts ≡ events_o
 same_after ts us [] e = e
 same_after ts us (d ∷ es) e =
     let one : events_of (tasks_after_one ts d) ≡ events_of (tasks_after_one us d) =
-        elim (d.what) as (λ w. events_of (elim w [ Came i ↦ tasks_came ts i | Asked c ↦ tasks_asked ts d.id d.at c ]) ≡ events_of (elim w [ Came i ↦ tasks_came us i | Asked c ↦ tasks_asked us d.id d.at c ])) [
-          | Came i ↦ same_came ts us i e
-          | Asked c ↦ same_asked ts us d.id d.at c e
-        ]
+    elim (d.what) as (λ w. events_of (elim w [ Came i ↦ tasks_came ts i | Asked c ↦ tasks_asked ts d.id d.at c ]) ≡ events_of (elim w [ Came i ↦ tasks_came us i | Asked c ↦ tasks_asked us d.id d.at c ])) [
+      | Came i ↦ same_came ts us i e
+      | Asked c ↦ same_asked ts us d.id d.at c e
+    ]
     in same_after (tasks_after_one ts d) (tasks_after_one us d) es one
 
 appended_tasks : (ts : List Task) (h es : List Event) → tasks_after ts (h ++ es) ≡ tasks_after (tasks_after ts h) es
