@@ -7,7 +7,8 @@ use Rattle.flow_model.specs.Book.{Book, no_book}
 use Rattle.flow_model.specs.Apply.{Rules, after}
 use Rattle.flow_model.specs.Sound.{IsSound}
 
--- Each text that is a program at all is a well-formed one.
+-- Each text that is a program at all is a well-formed one. Without this a call might be tried no times, and its activity would
+-- have no attempt from 1 to that number.
 abbrev pub ReadsWellFormed : Rules → Type 0
 ReadsWellFormed u = (text : Bytes) (p : Program) → u.program_of text ≡ Ok p → WellFormed p
 
