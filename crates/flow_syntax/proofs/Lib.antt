@@ -8,3 +8,6 @@ pub mod ParsedExpressions
 pub mod ParsedPrograms
 pub mod Faults
 pub mod Printing
+pub mod PrintedExpressions
+pub mod PrintedPrograms
+pub mod PrintedTokens
