@@ -12,3 +12,6 @@ pub mod MeansOnce
 pub mod Meaning
 pub mod ParsedTexts
 pub mod Printing
+pub mod PrintedExpressions
+pub mod PrintedPrograms
+pub mod PrintedTokens

@@ -1,7 +1,7 @@
 -- The text that a program prints as: the words of its tokens, joined by one space. An expression stands in parentheses
 -- only where the grammar needs them, and what stands for itself where it is missing is left out. This is for the whole
 -- language.
-use Rattle.std.specs.Prelude.{ℕ, nat_lt, ◌==◌, ◌&&◌, pos, if◌then◌else◌, List, [], ◌∷◌, ◌++◌, map}
+use Rattle.std.specs.Prelude.{◌≡◌, ℕ, nat_lt, ◌==◌, ◌&&◌, pos, if◌then◌else◌, List, [], ◌∷◌, ◌++◌, map}
 use Rattle.std.specs.Fmt.{signed_decimal}
 use Rattle.flow_base.specs.declared.token.Word.{Word}
 use Rattle.flow_base.specs.declared.token.Word.TheVariants.{Name, Int, Text, Mark}
@@ -17,6 +17,9 @@ use Rattle.flow_base.specs.declared.syntax.Parameter.{Parameter}
 use Rattle.flow_base.specs.declared.syntax.TypeAt.{TypeAt}
 use Rattle.flow_base.specs.Syntax as tree
 use Rattle.flow_base.specs.Syntax.{Bytes, Expression, Retry, Statement, Block, End, Next, Otherwise, NoElse, Else, Branches, NoBranch, Branch, Declared, Program}
+use Rattle.flow_base.specs.Bare.{bare}
+use Rattle.flow_model.specs.Lexeme.{Lexeme}
+use Rattle.flow_model.specs.Grammar.{Reads}
 use Rattle.flow_model.specs.Tokens.{spelled}
 
 ---- Expressions
@@ -236,5 +239,11 @@ abbrev pub joined : List Word → Bytes
 joined [] = []
 joined (w ∷ ws) = spelled_word w ++ spaced ws
 
-abbrev pub printed : Program → Bytes
-printed p = joined (program_words p)
+---- What is printed, read again
+
+abbrev pub words_of : List Lexeme → List Word
+words_of ts = map (λ (t : Lexeme). t.word) ts
+
+-- tokens of these words, wherever they stand, are read as the program, up to places
+abbrev pub AreReadAs : List Word → Program → Type 0
+AreReadAs ws p = (ts : List Lexeme) → words_of ts ≡ ws → (q : Program) × (Reads ts q) × (bare q ≡ bare p)
