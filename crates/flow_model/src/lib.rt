@@ -8,5 +8,7 @@ pub mod named;
 pub mod plain;
 pub mod rest;
 pub mod step;
+#[cfg(test)]
+mod tests;
 pub mod turn;
 pub mod value;

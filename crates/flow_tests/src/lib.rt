@@ -7,3 +7,5 @@ mod histories;
 mod runs;
 #[cfg(test)]
 mod texts;
+#[cfg(test)]
+mod turns;
