@@ -1,7 +1,7 @@
 use crate::call::{Call, call_of};
 use crate::check::Verdict;
 use crate::command::{LineFault, command_of};
-use crate::drive::drive_lines;
+use crate::drive::{Stopped, drive_lines, end_status};
 use crate::fault::{Fault, fault_line, status};
 use crate::reply::{Line, reply_line};
 use flow_base::code::Code;
@@ -14,6 +14,8 @@ use flow_base::value::Value;
 use flow_machine::language::Language;
 use flow_view::lists::Lists;
 use std::alloc::Global;
+use std::io;
+use std::io::{ErrorKind, Write};
 use std::test::Fail;
 
 #[test]
@@ -185,6 +187,51 @@ fn keys(rt: HostRuntime) -> Result<(), Fail> {
         b"{\"at\":1500,\"attempt\":4,\"do\":\"complete\",\"event\":2,\"run\":1,\"value\":41}",
     );
     assert!(rt; matches!(&report, Ok(command) if is_report(command)));
+    Ok(())
+}
+
+/// A start with so many arguments.
+fn start_with(alloc: Global, count: u64) -> Result<String, Fail> {
+    let mut line = String::from_str(alloc, "{\"args\":[0")?;
+    for _ in 1..count {
+        line.push_str(",0")?;
+    }
+    line.push_str("],\"at\":0,\"do\":\"start\",\"flow\":\"f\",\"req\":\"q\",\"text\":1}")?;
+    Ok(line)
+}
+
+fn report_of(alloc: Global, value: &str) -> Result<String, Fail> {
+    Ok(format!(in alloc;
+        "{{\"at\":0,\"attempt\":1,\"do\":\"complete\",\"event\":2,\"run\":1,\"value\":{value}}}"
+    )?)
+}
+
+fn quoted_text(alloc: Global, bytes: usize) -> Result<String, Fail> {
+    let text = "x".repeat(alloc, bytes)?;
+    Ok(format!(in alloc; "\"{text}\"")?)
+}
+
+#[test]
+fn values_have_limits(rt: HostRuntime) -> Result<(), Fail> {
+    let a = rt.alloc();
+    for (value, code) in [
+        ("9223372036854775807", 0),
+        ("9223372036854775808", 2),
+        ("-9223372036854775808", 0),
+        ("-9223372036854775809", 2),
+    ] {
+        let line = report_of(a, value)?;
+        assert_eq!(rt; code_of(a, line.as_bytes()), code);
+    }
+    for (bytes, code) in [(4096, 0), (4097, 2)] {
+        let value = quoted_text(a, bytes)?;
+        let line = report_of(a, value.as_str())?;
+        assert_eq!(rt; code_of(a, line.as_bytes()), code);
+    }
+    for (count, code) in [(256, 0), (257, 2)] {
+        let line = start_with(a, count)?;
+        assert_eq!(rt; code_of(a, line.as_bytes()), code);
+    }
     Ok(())
 }
 
@@ -368,6 +415,47 @@ fn lines(rt: HostRuntime) -> Result<(), Fail> {
             b"{\"code\":\"E02\",\"reply\":\"refused\"}\n"
         )?,
         Some(1)
+    );
+    Ok(())
+}
+
+/// A writer with room for so many bytes more.
+#[derive(Drop)]
+struct Paper {
+    bytes: Vec<u8>,
+    room: usize,
+}
+
+impl Write for Paper {
+    fn write(&mut self, buf: &[u8]) -> io::Result<usize> {
+        let count = self.room.min(buf.len());
+        if count == 0 {
+            return Err(ErrorKind::StorageFull.into());
+        }
+        self.bytes.extend_from_slice(&buf[..count])?;
+        self.room -= count;
+        Ok(count)
+    }
+
+    fn flush(&mut self) -> io::Result<()> {
+        Ok(())
+    }
+}
+
+#[test]
+fn a_full_output_ends_it(rt: HostRuntime) -> Result<(), Fail> {
+    let a = rt.alloc();
+    let mut reader = b"{\"do\":\"history\",\"run\":1}\nx\n".as_slice();
+    let mut writer = Paper {
+        bytes: Vec::new(a),
+        room: 39,
+    };
+    let mut lists = Lists::new(a);
+    let outcome = drive_lines(a, &Language, &mut lists, &mut reader, &mut writer);
+    assert!(rt; matches!(&outcome, Err(Stopped::Output(_))));
+    assert_eq!(rt; end_status(&outcome), 3);
+    assert!(rt;
+        writer.bytes.as_slice() == b"{\"code\":\"E70\",\"reply\":\"refused\"}\n{\"code".as_slice()
     );
     Ok(())
 }
