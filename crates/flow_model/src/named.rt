@@ -32,6 +32,12 @@ impl NamedValues {
         }
     }
 
+    pub fn entries(&self) -> &[(Key, Value)]
+        ensures { result.now ≡ self.now }
+    {
+        &self.entries
+    }
+
     pub fn copy(&self, alloc: Global) -> Result<NamedValues, AllocError>
         ensures { IfOk result (λ v. v ≡ self.now) }
     {

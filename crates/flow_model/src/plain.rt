@@ -137,6 +137,13 @@ impl PlainRun {
         self.variables.find(name)
     }
 
+    /// The signals that nobody took yet, each with its name, the oldest first.
+    pub fn buffered(&self) -> &[(Key, Value)]
+        ensures { result.now ≡ (plain_configuration self.now).buffer }
+    {
+        self.buffer.entries()
+    }
+
     /// Its open waits, from the left of the program.
     pub fn waits(&self, alloc: Global) -> Result<Vec<OpenWait>, AllocError>
         ensures { IfOk result (λ ws. ws.items ≡ waits_of (plain_configuration self.now).rest) }

@@ -13,6 +13,7 @@ ghost use Rattle.flow_run.specs.Position.{config_of};
 use crate::fault::RunFault;
 use flow_base::event::{Cmd, Input, State, copy_values};
 use flow_base::number::Moment;
+use flow_base::text::Key;
 use flow_base::value::Value;
 use flow_check::checked::Checked;
 pub use flow_model::plain::Answers;
@@ -99,6 +100,13 @@ impl Stance {
         ensures { MatchOption result ((config_of (shown_checked _program.now) self.now).variables name.now ≡ None) (λ v. (config_of (shown_checked _program.now) self.now).variables name.now ≡ Some v.now) }
     {
         self.run.variable(name)
+    }
+
+    /// The signals that nobody took yet, each with its name, the oldest first.
+    pub fn buffered(&self, _program: &Checked) -> &[(Key, Value)]
+        ensures { (config_of (shown_checked _program.now) self.now).buffer ≡ result.now }
+    {
+        self.run.buffered()
     }
 
     /// Its open waits, from the left of the program.
