@@ -17,7 +17,8 @@ use Rattle.flow_base.specs.declared.token.Word.TheVariants as word
 use Rattle.flow_base.specs.declared.token.Token.{Token}
 use Rattle.flow_model.specs.Lexeme.{Lexeme, lexemes}
 use Rattle.flow_model.specs.Tokens.{spelled, is_plain, is_letter, is_digit, is_name_byte, is_letters, front, keywords, keyword_of, unquoted, behind_escape, after_character, text_word, name_word, int_word, with_rest, word_or_name, with_digit, number_of, number_word, has_leading_zero, is_blank, past_gap, past_comment, Scans}
-use Rattle.flow_syntax.specs.Print.{words_of, written, all_written, spelled_word, spaced}
+use Rattle.flow_base.specs.Syntax.{Program}
+use Rattle.flow_syntax.specs.Print.{words_of, written, all_written, spelled_word, spaced, joined, listed, parameter_words, in_braces, declarations_words, block_words, program_words, IsWritable, AllWritable, IsPrintable, ArePrintable, HasTokens}
 
 ---- Marks
 
@@ -32,14 +33,6 @@ mark_before_space mark.Workflow r = refl
 mark_before_space _ r = refl
 
 ---- Texts
-
--- what a text of a program has: line feeds, and bytes from 32 on
-abbrev pub IsWritable : ℕ → Type 0
-IsWritable b = (b ≡ 10) ⊎ (32 ≤ b)
-
-abbrev pub AllWritable : List ℕ → Type 0
-AllWritable [] = Unit {0}
-AllWritable (b ∷ bs) = IsWritable b × AllWritable bs
 
 third : {A : Type 0} (u v w : Bool) (x y z t : A) → u ≡ false → v ≡ false → w ≡ true → cond u x (cond v y (cond w z t)) ≡ z
 third u v w x y z t e f g = ap (λ b. cond b x (cond v y (cond w z t))) e ∙ ap (λ b. cond b y (cond w z t)) f ∙ ap (λ b. cond b z t) g
@@ -184,18 +177,6 @@ number_before n r h ends =
 
 ---- A whole text
 
--- a word that the tokens of a text may have
-abbrev pub IsPrintable : Word → Type 0
-IsPrintable (word.Name x) = (is_letters x ≡ true) × ((length x ≤ 64) × ((m : Mark) → x ≡ spelled m → ⊥))
-IsPrintable (word.Int (pos n)) = n ≤ 9223372036854775807
-IsPrintable (word.Int (negsuc n)) = ⊥
-IsPrintable (word.Text t) = AllWritable t × (length t ≤ 4096)
-IsPrintable (word.Mark m) = Unit {0}
-
-abbrev pub ArePrintable : List Word → Type 0
-ArePrintable [] = Unit {0}
-ArePrintable (w ∷ ws) = IsPrintable w × ArePrintable ws
-
 ends_here : (p : ℕ → Bool) (ws : List Word) → p 32 ≡ false → prefix_len p (spaced ws) ≡ 0
 unfolding spaced
 ends_here p [] h = refl
@@ -248,3 +229,14 @@ words_scanned whole w (v ∷ vs) h =
       (rest, (word_before w (v ∷ vs) h.0, refl, refl, subst (λ x. Scans whole x behind.0 None) (sym (solid (spelled_word v ++ spaced vs) (v, spaced vs) (word_before v vs h.1.0))) behind.1)),
       ap (λ x. w ∷ x) behind.2,
     )
+
+words_are_tokens : (w : Word) (ws : List Word) → ArePrintable (w ∷ ws) → HasTokens (joined (w ∷ ws)) (w ∷ ws)
+words_are_tokens w ws h =
+    let text : List ℕ = spelled_word w ++ spaced ws in
+    let found = words_scanned (length text) w ws h in
+    (found.0, subst (λ x. Scans (length text) x found.0 None) (sym (solid text (w, spaced ws) (word_before w ws h.0))) found.1, found.2)
+
+-- the tokens of what a program prints as are its words
+pub program_scanned : (p : Program) → ArePrintable (program_words p) → HasTokens (joined (program_words p)) (program_words p)
+program_scanned p h =
+    words_are_tokens (word.Mark mark.Workflow) (word.Name p.name ∷ (listed (map parameter_words p.parameters) ++ in_braces (declarations_words p.declarations ++ block_words p.body))) h
