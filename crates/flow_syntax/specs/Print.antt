@@ -1,7 +1,7 @@
 -- The text that a program prints as: the words of its tokens, joined by one space. An expression stands in parentheses
 -- only where the grammar needs them, and what stands for itself where it is missing is left out. This is for the whole
 -- language.
-use Rattle.std.specs.Prelude.{◌≡◌, ℕ, nat_lt, ◌==◌, ◌&&◌, pos, if◌then◌else◌, List, [], ◌∷◌, ◌++◌, map}
+use Rattle.std.specs.Prelude.{◌≡◌, ◌≤◌, ◌⊎◌, ℕ, nat_lt, ◌==◌, ◌&&◌, true, pos, negsuc, None, length, if◌then◌else◌, List, [], ◌∷◌, ◌++◌, map}
 use Rattle.std.specs.Fmt.{signed_decimal}
 use Rattle.flow_base.specs.declared.token.Word.{Word}
 use Rattle.flow_base.specs.declared.token.Word.TheVariants.{Name, Int, Text, Mark}
@@ -18,9 +18,10 @@ use Rattle.flow_base.specs.declared.syntax.TypeAt.{TypeAt}
 use Rattle.flow_base.specs.Syntax as tree
 use Rattle.flow_base.specs.Syntax.{Bytes, Expression, Retry, Statement, Block, End, Next, Otherwise, NoElse, Else, Branches, NoBranch, Branch, Declared, Program}
 use Rattle.flow_base.specs.Bare.{bare}
-use Rattle.flow_model.specs.Lexeme.{Lexeme}
+use Rattle.flow_model.specs.Lexeme.{Lexeme, lexemes}
 use Rattle.flow_model.specs.Grammar.{Reads}
-use Rattle.flow_model.specs.Tokens.{spelled}
+use Rattle.flow_model.specs.Tokens.{spelled, is_letters, past_gap, Scans}
+use Rattle.flow_base.specs.declared.token.Token.{Token}
 
 ---- Expressions
 
@@ -247,3 +248,27 @@ words_of ts = map (λ (t : Lexeme). t.word) ts
 -- tokens of these words, wherever they stand, are read as the program, up to places
 abbrev pub AreReadAs : List Word → Program → Type 0
 AreReadAs ws p = (ts : List Lexeme) → words_of ts ≡ ws → (q : Program) × (Reads ts q) × (bare q ≡ bare p)
+
+-- what a text of a program has: line feeds, and bytes from 32 on
+abbrev pub IsWritable : ℕ → Type 0
+IsWritable b = (b ≡ 10) ⊎ (32 ≤ b)
+
+abbrev pub AllWritable : Bytes → Type 0
+AllWritable [] = Unit {0}
+AllWritable (b ∷ bs) = IsWritable b × AllWritable bs
+
+-- a word that the tokens of a text may have
+abbrev pub IsPrintable : Word → Type 0
+IsPrintable (Name x) = (is_letters x ≡ true) × ((length x ≤ 64) × ((m : declared.Mark) → x ≡ spelled m → ⊥))
+IsPrintable (Int (pos n)) = n ≤ 9223372036854775807
+IsPrintable (Int (negsuc n)) = ⊥
+IsPrintable (Text t) = AllWritable t × (length t ≤ 4096)
+IsPrintable (Mark m) = Unit {0}
+
+abbrev pub ArePrintable : List Word → Type 0
+ArePrintable [] = Unit {0}
+ArePrintable (w ∷ ws) = IsPrintable w × ArePrintable ws
+
+-- the text has tokens, to its end, and these are their words
+abbrev pub HasTokens : Bytes → List Word → Type 0
+HasTokens text ws = (ts : List Token) × (Scans (length text) (past_gap text) ts None) × (words_of (lexemes ts) ≡ ws)

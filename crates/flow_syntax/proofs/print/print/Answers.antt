@@ -1,9 +1,10 @@
-use Rattle.std.proofs.Common.{ℕ, List, ◌∷◌, ◌++◌, map, ap, ◌∙◌}
+use Rattle.std.proofs.Common.{ℕ, List, ◌∷◌, ◌++◌, map, ap, sym, subst, ◌∙◌}
 use Rattle.flow_base.specs.declared.token.Word.TheVariants as word
-use Rattle.flow_base.specs.Shown.{shown_declaration, shown_block}
-use Rattle.flow_syntax.specs.Print.{spaced, listed, parameter_words, in_braces, declarations_words, block_words}
+use Rattle.flow_base.specs.Shown.{shown_declaration, shown_block, shown_program}
+use Rattle.flow_syntax.specs.Print.{spaced, listed, parameter_words, in_braces, declarations_words, block_words, program_words, HasTokens}
 use Rattle.flow_syntax.proofs.Printing.{words_then}
 use Rattle.flow_syntax.proofs.PrintedPrograms.{program_read}
+use Rattle.flow_syntax.proofs.PrintedTokens.{program_scanned}
 use Rattle.flow_syntax.proofs.print.print.Goals as goal
 
 pub returns-clause-words : goal.returns-clause-words
@@ -14,6 +15,10 @@ returns-clause-words c =
     c.finish.ensures
     ∙ words_then _ _ _ _ _ c.in_ok-name.ensures (words_then _ _ _ _ _ parameters (words_then _ _ _ _ _ c.in_ok-mark.ensures (words_then _ _ _ _ _ (words_then _ _ _ _ _ declarations statements) c.in_ok-mark-2.ensures)))
     ∙ ap (λ (t : List ℕ). t ++ spaced (word.Name c.args.program.now.name ∷ (listed (map parameter_words c.args.program.now.parameters.items) ++ in_braces (declarations_words (map shown_declaration c.args.program.now.declarations.items) ++ block_words (shown_block c.args.program.now.body.items))))) c.in_ok-out.ensures
+
+pub returns-clause-tokens : goal.returns-clause-tokens
+returns-clause-tokens c = λ h.
+    subst (λ (t : List ℕ). HasTokens t (program_words (shown_program c.args.program.now))) (sym (returns-clause-words c)) (program_scanned (shown_program c.args.program.now) h)
 
 pub returns-clause-read : goal.returns-clause-read
 returns-clause-read c = program_read c.args.program.now
