@@ -207,12 +207,12 @@ fn declarations(out: &mut Printer, list: &[Declaration]) -> Result<(), AllocErro
 /// that [`crate::parse::parse`] gave it is a text of the same program, up to places.
 pub fn print(alloc: Global, program: &Program) -> Result<String, AllocError>
     ensures words { IfOk result (λ text. string_bytes text ≡ joined (program_words (shown_program program.now))) }
+    // Wherever the tokens of these words stand, the grammar reads them as the program, up to places.
+    ensures read { OnOk result (AreReadAs (program_words (shown_program program.now)) (shown_program program.now)) }
     // Where the program's names, numbers and texts are such as a text may have, the tokens of the text are these words.
     ensures tokens { IfOk result (λ text. ArePrintable (program_words (shown_program program.now)) → HasTokens (string_bytes text) (program_words (shown_program program.now))) }
     // And then it is a text of the program.
     ensures again { IfOk result (λ text. ArePrintable (program_words (shown_program program.now)) → IsTextOf (string_bytes text) (shown_program program.now)) }
-    // Wherever the tokens of these words stand, the grammar reads them as the program, up to places.
-    ensures read { OnOk result (AreReadAs (program_words (shown_program program.now)) (shown_program program.now)) }
 {
     let mut out = Printer::new(alloc, "workflow")?;
     out.name(&program.name)?;
