@@ -272,3 +272,7 @@ ArePrintable (w ∷ ws) = IsPrintable w × ArePrintable ws
 -- the text has tokens, to its end, and these are their words
 abbrev pub HasTokens : Bytes → List Word → Type 0
 HasTokens text ws = (ts : List Token) × (Scans (length text) (past_gap text) ts None) × (words_of (lexemes ts) ≡ ws)
+
+-- the grammar reads the tokens of the text as the program, up to places
+abbrev pub IsTextOf : Bytes → Program → Type 0
+IsTextOf text p = (ts : List Token) × (Scans (length text) (past_gap text) ts None) × (q : Program) × (Reads (lexemes ts) q) × (bare q ≡ bare p)

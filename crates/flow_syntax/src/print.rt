@@ -2,7 +2,7 @@
 ghost use Rattle.std.specs.Prelude.{◌≡◌, ◌∷◌, ◌++◌, map, OnOk, IfOk, string_bytes};
 ghost use Rattle.flow_base.specs.Syntax.{Let, Assign, Call, Return, NoElse, once, Activity};
 ghost use Rattle.flow_base.specs.Shown.{shown_expr, shown_stmt, shown_block, shown_declaration, shown_program};
-ghost use Rattle.flow_syntax.specs.Print.{spaced, fitted, in_parentheses, level, unary_words, expression_words, arguments_words, type_words, parameter_words, statement_words, block_words, declared_words, declarations_words, program_words, joined, AreReadAs, ArePrintable, HasTokens};
+ghost use Rattle.flow_syntax.specs.Print.{spaced, fitted, in_parentheses, level, unary_words, expression_words, arguments_words, type_words, parameter_words, statement_words, block_words, declared_words, declarations_words, program_words, joined, AreReadAs, ArePrintable, HasTokens, IsTextOf};
 
 use crate::levels::{binary_mark, left_level, level, right_level};
 use crate::listed::{Item, print_list};
@@ -207,10 +207,12 @@ fn declarations(out: &mut Printer, list: &[Declaration]) -> Result<(), AllocErro
 /// that [`crate::parse::parse`] gave it is a text of the same program, up to places.
 pub fn print(alloc: Global, program: &Program) -> Result<String, AllocError>
     ensures words { IfOk result (λ text. string_bytes text ≡ joined (program_words (shown_program program.now))) }
-    // Where the program's names, numbers and texts are such as a text may have, the tokens of the text are these words.
-    ensures tokens { IfOk result (λ text. ArePrintable (program_words (shown_program program.now)) → HasTokens (string_bytes text) (program_words (shown_program program.now))) }
     // Wherever the tokens of these words stand, the grammar reads them as the program, up to places.
     ensures read { OnOk result (AreReadAs (program_words (shown_program program.now)) (shown_program program.now)) }
+    // Where the program's names, numbers and texts are such as a text may have, the tokens of the text are these words.
+    ensures tokens { IfOk result (λ text. ArePrintable (program_words (shown_program program.now)) → HasTokens (string_bytes text) (program_words (shown_program program.now))) }
+    // And then it is a text of the program.
+    ensures again { IfOk result (λ text. ArePrintable (program_words (shown_program program.now)) → IsTextOf (string_bytes text) (shown_program program.now)) }
 {
     let mut out = Printer::new(alloc, "workflow")?;
     out.name(&program.name)?;

@@ -1,5 +1,6 @@
-use Rattle.std.proofs.Common.{ℕ, List, ◌∷◌, ◌++◌, map, ap, sym, subst, ◌∙◌}
+use Rattle.std.proofs.Common.{ℕ, List, ◌∷◌, ◌++◌, map, ap, sym, subst, string_bytes, ◌∙◌}
 use Rattle.flow_base.specs.declared.token.Word.TheVariants as word
+use Rattle.flow_model.specs.Lexeme.{lexemes}
 use Rattle.flow_base.specs.Shown.{shown_declaration, shown_block, shown_program}
 use Rattle.flow_syntax.specs.Print.{spaced, listed, parameter_words, in_braces, declarations_words, block_words, program_words, HasTokens}
 use Rattle.flow_syntax.proofs.Printing.{words_then}
@@ -22,3 +23,9 @@ returns-clause-tokens c = λ h.
 
 pub returns-clause-read : goal.returns-clause-read
 returns-clause-read c = program_read c.args.program.now
+
+pub returns-clause-again : goal.returns-clause-again
+returns-clause-again c = λ h.
+    let found : HasTokens (string_bytes c.finish.result) (program_words (shown_program c.args.program.now)) = returns-clause-tokens c h in
+    let read = program_read c.args.program.now (lexemes found.0) found.2 in
+    (found.0, found.1, read.0, read.1, read.2)
