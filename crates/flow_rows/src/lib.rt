@@ -8,5 +8,7 @@ pub mod outbox;
 pub mod rows;
 pub mod runs;
 pub mod strays;
+#[cfg(test)]
+mod tests;
 pub mod texts;
 pub mod timers;

@@ -2,19 +2,24 @@ ghost use Rattle.std.specs.Prelude.{◌≡◌, ◌+◌, ◌<◌, ◌^◌, [], po
 ghost use Rattle.std.specs.List.{list_any};
 ghost use Rattle.flow_rows.specs.Rows.{events_of};
 ghost use Rattle.flow_rows.specs.Damages as rule;
-ghost use Rattle.flow_rows.specs.Damages.{first_of, damages_of_runs, closes, has_request, is_open_of};
+ghost use Rattle.flow_rows.specs.Damages.{first_of, damages_of_runs, has_request, is_open_of};
 
 use crate::found::{Damage, Table};
 use crate::rows::{EventRow, RunRow};
 
+/// Whether an event is of a kind that closes its run.
+fn closes(event: &EventRow) -> bool
+    ensures { result ≡ rule.closes event.now }
+{
+    event.kind == 6 || event.kind == 11 || event.kind == 12 || event.kind == 13
+}
+
 /// Whether an event of a run closes it.
 fn is_closed(events: &[EventRow], run: i64) -> bool
-    ensures { result ≡ list_any closes (events_of events.now run) }
+    ensures { result ≡ list_any rule.closes (events_of events.now run) }
 {
     for event in events {
-        if event.run == run
-            && (event.kind == 6 || event.kind == 11 || event.kind == 12 || event.kind == 13)
-        {
+        if event.run == run && closes(event) {
             return true;
         }
     }
@@ -73,18 +78,27 @@ fn flow_is_free(before: &[RunRow], row: &RunRow) -> bool
     row.isopen != 1 || !is_taken(before, row.flow.as_str())
 }
 
+/// Whether run `n` is numbered and named, and its text is among so many.
+fn cells_fit(texts: usize, before: &[RunRow], n: usize, row: &RunRow) -> bool
+    requires texts { texts < 2 ^ 62 }
+    requires runs { n < 2 ^ 62 }
+    ensures { result ≡ rule.cells_fit texts before.now n row.now }
+{
+    row.num == n as i64
+        && flow_fits(row.flow.as_str())
+        && request_fits(before, row.req.as_str())
+        && 1 <= row.textnum
+        && row.textnum <= texts as i64
+}
+
 /// Whether run `n` keeps the rules, where there are so many texts and these runs stand before it.
 fn run_fits(texts: usize, events: &[EventRow], before: &[RunRow], n: usize, row: &RunRow) -> bool
     requires texts { texts < 2 ^ 62 }
     requires runs { n < 2 ^ 62 }
     ensures { result ≡ rule.run_fits texts events.now before.now n row.now }
 {
-    let num = n as i64;
-    row.num == num
-        && flow_fits(row.flow.as_str())
-        && request_fits(before, row.req.as_str())
-        && (1 <= row.textnum && row.textnum <= texts as i64)
-        && mark_fits(events, num, row.isopen)
+    cells_fit(texts, before, n, row)
+        && mark_fits(events, n as i64, row.isopen)
         && flow_is_free(before, row)
 }
 

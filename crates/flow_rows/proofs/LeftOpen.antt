@@ -1,0 +1,109 @@
+-- Timers and tasks that don't differ are rows of what is left open.
+use Rattle.std.proofs.Common.{◌≡◌, ℕ, ◌+◌, ◌≤◌, ℤ, pos, negsuc, List, [], ◌∷◌, map, filter, Bool, true, false, ◌&&◌, Option, Some, None, refl, sym, ap, ◌∙◌, subst}
+use Rattle.std.specs.Prelude.{int_le}
+use Rattle.std.specs.List.{AllByRecursion}
+use Rattle.std.specs.Ordering.{int_eq}
+use Rattle.std.proofs.lemmas.Bool.{leb-true}
+use Rattle.std.proofs.lemmas.Bool.Decides.{Decides-int_eq}
+use Rattle.flow_base.specs.Limits.{Within, IsMoment}
+use Rattle.flow_base.specs.declared.event.Event.{Event}
+use Rattle.flow_base.specs.declared.book.Task.{Task}
+use Rattle.flow_base.specs.declared.book.Timer.{Timer}
+use Rattle.flow_rows.specs.declared.rows.TimerRow.{TimerRow}
+use Rattle.flow_rows.specs.declared.rows.OutboxRow.{OutboxRow}
+use Rattle.flow_rows.specs.Rows.{is_timer_of, is_task_of, timers_of, tasks_of, timer_row, task_row}
+use Rattle.flow_rows.specs.Damages.{timer_fits, timer_difference, tries_at, last_moment, attempt_fits, task_fits, task_difference}
+use Rattle.flow_rows.specs.Standing.{AreTasks}
+use Rattle.flow_rows.proofs.BookTexts.{both_left, both_right}
+
+pub timers_named : (run : ℤ) (rs : List TimerRow) → AllByRecursion (λ r. r.run ≡ run) (timers_of rs run)
+timers_named run [] = tt
+timers_named run (r ∷ rs) = by_case (int_eq r.run run) refl
+  where
+    by_case : (b : Bool) → int_eq r.run run ≡ b → AllByRecursion (λ r. r.run ≡ run) (filter (is_timer_of run) (r ∷ rs))
+    by_case true is = rw is ((Decides-int_eq r.run run).0 is, timers_named run rs)
+    by_case false is = rw is (timers_named run rs)
+
+pub tasks_named : (run : ℤ) (rs : List OutboxRow) → AllByRecursion (λ r. r.run ≡ run) (tasks_of rs run)
+tasks_named run [] = tt
+tasks_named run (r ∷ rs) = by_case (int_eq r.run run) refl
+  where
+    by_case : (b : Bool) → int_eq r.run run ≡ b → AllByRecursion (λ r. r.run ≡ run) (filter (is_task_of run) (r ∷ rs))
+    by_case true is = rw is ((Decides-int_eq r.run run).0 is, tasks_named run rs)
+    by_case false is = rw is (tasks_named run rs)
+
+a_difference : (id : ℤ) → Some id ≡ None → ⊥
+a_difference id h = let same = h in cc
+
+timer_is : (run : ℤ) (r : TimerRow) (t : Timer) → r.run ≡ run → timer_fits r t ≡ true → r ≡ timer_row run t
+timer_is run r t named fits =
+    ap (λ z. record { run = z; id = r.id; due = r.due }) named
+    ∙ ap (λ z. record { run = run; id = z; due = r.due }) ((Decides-int_eq r.id (pos t.id)).0 (both_left _ (int_eq r.due (pos t.due)) fits))
+    ∙ ap (λ z. record { run = run; id = pos t.id; due = z }) ((Decides-int_eq r.due (pos t.due)).0 (both_right (int_eq r.id (pos t.id)) _ fits))
+
+pub timers_are : (run : ℤ) (rs : List TimerRow) (ts : List Timer) → AllByRecursion (λ r. r.run ≡ run) rs → timer_difference rs ts ≡ None → rs ≡ map (timer_row run) ts
+timers_are run [] [] names none = refl
+timers_are run [] (t ∷ ts) names none = absurd (a_difference (pos t.id) none)
+timers_are run (r ∷ rs) [] names none = absurd (a_difference r.id none)
+timers_are run (r ∷ rs) (t ∷ ts) names none = by_case (timer_fits r t) refl
+  where
+    by_case : (b : Bool) → timer_fits r t ≡ b → r ∷ rs ≡ map (timer_row run) (t ∷ ts)
+    by_case true is =
+        ap (λ x. x ∷ rs) (timer_is run r t names.0 is) ∙ ap (λ xs. timer_row run t ∷ xs) (timers_are run rs ts names.1 (rw is at none))
+    by_case false is = absurd (a_difference _ (rw is at none))
+
+-- a whole number that isn't negative
+abbrev pub whole : ℤ → ℕ
+whole (pos n) = n
+whole (negsuc n) = 0
+
+abbrev pub task_of : OutboxRow → Task
+task_of r = record { event = whole r.id; attempt = whole r.attempt; ready = whole r.ready }
+
+-- a number in a range is whole
+pub in_range : (low high : ℕ) (z : ℤ) → int_le (pos low) z ≡ true → int_le z (pos high) ≡ true → (pos (whole z) ≡ z) × Within low high (whole z)
+in_range low high (pos n) least most = (refl, leb-true low n least, leb-true n high most)
+in_range low high (negsuc n) least most = absurd (let same = least in cc)
+
+record IsTask (h : List Event) (run : ℤ) (r : OutboxRow) (a : Task) : Type 0 where
+  same : task_row run (task_of r) ≡ r
+  event : (task_of r).event ≡ a.event
+  attempt : Within 1 (tries_at h a.event) (task_of r).attempt
+  ready : IsMoment (task_of r).ready
+
+task_is : (h : List Event) (run : ℤ) (r : OutboxRow) (a : Task) → r.run ≡ run → task_fits h r a ≡ true → IsTask h run r a
+task_is h run r a named fits =
+    let id : r.id ≡ pos a.event = (Decides-int_eq r.id (pos a.event)).0 (both_left _ (attempt_fits (tries_at h a.event) r) fits) in
+    let cells = both_right (int_eq r.id (pos a.event)) _ fits in
+    let most_ready = both_right (int_le (pos 1) r.attempt && int_le r.attempt (pos (tries_at h a.event)) && int_le (pos 0) r.ready) (int_le r.ready last_moment) cells in
+    let three = both_left (int_le (pos 1) r.attempt && int_le r.attempt (pos (tries_at h a.event)) && int_le (pos 0) r.ready) (int_le r.ready last_moment) cells in
+    let least_ready = both_right (int_le (pos 1) r.attempt && int_le r.attempt (pos (tries_at h a.event))) (int_le (pos 0) r.ready) three in
+    let two = both_left (int_le (pos 1) r.attempt && int_le r.attempt (pos (tries_at h a.event))) (int_le (pos 0) r.ready) three in
+    let attempt = in_range 1 (tries_at h a.event) r.attempt (both_left _ (int_le r.attempt (pos (tries_at h a.event))) two) (both_right (int_le (pos 1) r.attempt) _ two) in
+    let ready = in_range 0 1000000000000000 r.ready least_ready most_ready in
+    let event : whole r.id ≡ a.event = ap whole id in
+    record {
+      same =
+          ap (λ n. record { run = run; id = pos n; attempt = pos (whole r.attempt); ready = pos (whole r.ready) }) event
+          ∙ ap (λ z. record { run = run; id = z; attempt = pos (whole r.attempt); ready = pos (whole r.ready) }) (sym id)
+          ∙ ap (λ z. record { run = run; id = r.id; attempt = z; ready = pos (whole r.ready) }) attempt.0
+          ∙ ap (λ z. record { run = run; id = r.id; attempt = r.attempt; ready = z }) ready.0
+          ∙ ap (λ z. record { run = z; id = r.id; attempt = r.attempt; ready = r.ready }) (sym named);
+      event = event;
+      attempt = attempt.1;
+      ready = ready.1;
+    }
+
+pub tasks_are : (h : List Event) (run : ℤ) (rs : List OutboxRow) (as : List Task) → AllByRecursion (λ r. r.run ≡ run) rs → task_difference h rs as ≡ None
+    → (map (task_row run) (map task_of rs) ≡ rs) × AreTasks h (map task_of rs) as
+tasks_are h run [] [] names none = (refl, tt)
+tasks_are h run [] (a ∷ as) names none = absurd (a_difference (pos a.event) none)
+tasks_are h run (r ∷ rs) [] names none = absurd (a_difference r.id none)
+tasks_are h run (r ∷ rs) (a ∷ as) names none = by_case (task_fits h r a) refl
+  where
+    by_case : (b : Bool) → task_fits h r a ≡ b → (map (task_row run) (map task_of (r ∷ rs)) ≡ r ∷ rs) × AreTasks h (map task_of (r ∷ rs)) (a ∷ as)
+    by_case true is =
+        let one = task_is h run r a names.0 is in
+        let more = tasks_are h run rs as names.1 (rw is at none) in
+        (ap (λ x. x ∷ map (task_row run) (map task_of rs)) one.same ∙ ap (λ xs. r ∷ xs) more.0, one.event, one.attempt, one.ready, more.1)
+    by_case false is = absurd (a_difference _ (rw is at none))
