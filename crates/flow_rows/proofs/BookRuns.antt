@@ -3,7 +3,7 @@ use Rattle.std.proofs.Common.{◌≡◌, ◌≢◌, ℕ, suc, ◌+◌, ◌≤◌
 use Rattle.std.specs.Prelude.{nat_le, int_le}
 use Rattle.std.specs.List.{AllByRecursion, list_any}
 use Rattle.std.specs.Ordering.{int_eq}
-use Rattle.std.proofs.lemmas.Bool.{leb-true}
+use Rattle.std.proofs.lemmas.Bool.{leb-true, eqb-true}
 use Rattle.std.proofs.lemmas.Bool.Decides.{Decides-int_eq}
 use Rattle.std.proofs.lemmas.Slice.Eq.{bytes_eq-Decides}
 use Rattle.flow_base.specs.Syntax.{Bytes}
@@ -149,33 +149,37 @@ apart_all : (r : Run) (k : ℕ) (bs : List Run) → ((q : Bytes) → r.request �
 apart_all r k [] request flow = tt
 apart_all r k (b ∷ bs) request flow = (
   apart_one r b k
-    (λ q is. either_left (has_request q (run_row k b)) (list_any (has_request q) (run_rows (k + 1) bs)) (request q is))
-    (λ is. either_left (is_open_of r.flow (run_row k b)) (list_any (is_open_of r.flow) (run_rows (k + 1) bs)) (flow is)),
+      (λ q is. either_left (has_request q (run_row k b)) (list_any (has_request q) (run_rows (k + 1) bs)) (request q is))
+      (λ is. either_left (is_open_of r.flow (run_row k b)) (list_any (is_open_of r.flow) (run_rows (k + 1) bs)) (flow is)),
   apart_all r (k + 1) bs
-    (λ q is. either_right (has_request q (run_row k b)) (list_any (has_request q) (run_rows (k + 1) bs)) (request q is))
-    (λ is. either_right (is_open_of r.flow (run_row k b)) (list_any (is_open_of r.flow) (run_rows (k + 1) bs)) (flow is)),
+      (λ q is. either_right (has_request q (run_row k b)) (list_any (has_request q) (run_rows (k + 1) bs)) (request q is))
+      (λ is. either_right (is_open_of r.flow (run_row k b)) (list_any (is_open_of r.flow) (run_rows (k + 1) bs)) (flow is)),
 )
 
 not_is : (b : Bool) → not b ≡ true → b ≡ false
 not_is true h = absurd (let same = h in cc)
 not_is false h = refl
 
+not_zero : (n : ℕ) (b : Bool) → nat_eq (suc n) 0 ≡ b → nat_eq (suc n) 0 ≡ false
+not_zero n true is = absurd (let e = eqb-true (suc n) 0 is in omega (arith, e))
+not_zero n false is = is
+
+some_length : (n : ℕ) (b : Bool) → (nat_eq (suc n) 0 || b) ≡ true → b ≡ true
+some_length n b h = rw (not_zero n (nat_eq (suc n) 0) refl) at h
+
 new_request : (before : List RunRow) (p q : Bytes) → request_fits before p ≡ true → request_of p ≡ Some q → list_any (has_request q) before ≡ false
 new_request before [] q fits is = absurd (let same = is in cc)
 new_request before (c ∷ cs) q fits is =
     let one : c ∷ cs ≡ q = ap request_text is in
     let fresh = both_right (nat_le (length (c ∷ cs)) 64) (request_is_new before (c ∷ cs)) fits in
-    subst (λ x. list_any (has_request x) before ≡ false) one (not_is (list_any (has_request (c ∷ cs)) before) (some_length (length cs) (list_any (has_request (c ∷ cs)) before) fresh))
-  where
-    some_length : (n : ℕ) (b : Bool) → (nat_eq (suc n) 0 || not b) ≡ true → not b ≡ true
-    some_length n b h = h
+    subst (λ x. list_any (has_request x) before ≡ false) one (not_is (list_any (has_request (c ∷ cs)) before) (some_length (length cs) (not (list_any (has_request (c ∷ cs)) before)) fresh))
 
 free_flow : (before : List RunRow) (r : RunRow) → flow_is_free before r ≡ true → r.isopen ≡ pos 1 → list_any (is_open_of r.flow) before ≡ false
 free_flow before r fits is = not_is (list_any (is_open_of r.flow) before) (rw is at fits)
 
 ---- All runs
 
-more_rows : (k : ℕ) (bs : List Run) (b : Run) → run_rows k (bs ++ b ∷ []) ≡ run_rows k bs ++ run_row (k + length bs) b ∷ []
+pub more_rows : (k : ℕ) (bs : List Run) (b : Run) → run_rows k (bs ++ b ∷ []) ≡ run_rows k bs ++ run_row (k + length bs) b ∷ []
 more_rows k [] b = ap (λ n. run_row n b ∷ []) (omega arith)
 more_rows k (c ∷ cs) b = ap (λ rs. run_row k c ∷ rs) (more_rows (k + 1) cs b ∙ ap (λ n. run_rows (k + 1) cs ++ run_row n b ∷ []) (omega arith))
 
@@ -194,16 +198,17 @@ runs_are count events outbox bs n (r ∷ rs) next runs es os =
     let run = book_run events outbox n r in
     let same = row_same count events outbox (run_rows 1 bs) n r cells mark h in
     let rows : run_rows 1 bs ++ r ∷ [] ≡ run_rows 1 (bs ++ run ∷ []) =
-        ap (λ x. run_rows 1 bs ++ x ∷ []) (sym same) ∙ ap (λ m. run_rows 1 bs ++ run_row m run ∷ []) next ∙ sym (more_rows 1 bs run) in
+    ap (λ x. run_rows 1 bs ++ x ∷ []) (sym same) ∙ ap (λ m. run_rows 1 bs ++ run_row m run ∷ []) next ∙ sym (more_rows 1 bs run) in
     let later = rest_none (unless (run_fits count events (run_rows 1 bs) n r) table.Run (pos n) (pos 0)) _ runs in
     let more = runs_are count events outbox (bs ++ run ∷ []) (n + 1) rs (omega (arith, next, one_longer bs run))
-        (subst (λ before. damages_of_runs count events before (n + 1) rs ≡ []) rows later)
-        (rest_none (damages_of_history (pos n) (events_of events (pos n))) _ es) (rest_none (differs table.Outbox (pos n) _) _ os) in
-    (
+    (subst (λ before. damages_of_runs count events before (n + 1) rs ≡ []) rows later)
+    (rest_none (damages_of_history (pos n) (events_of events (pos n))) _ es) (rest_none (differs table.Outbox (pos n) _) _ os) in (
       ap (λ x. x ∷ run_rows (n + 1) (book_runs events outbox (n + 1) rs)) same ∙ ap (λ xs. r ∷ xs) more.0,
-      run_kept count events outbox (run_rows 1 bs) n r cells h tasks,
-      apart_all run 1 bs (λ q is. new_request (run_rows 1 bs) r.req q cells.request is) (λ is. free_flow (run_rows 1 bs) r free (sym (ap (λ (x : RunRow). x.isopen) same) ∙ ap open_number is)),
-      more.1,
+      (
+        run_kept count events outbox (run_rows 1 bs) n r cells h tasks,
+        apart_all run 1 bs (λ q is. new_request (run_rows 1 bs) r.req q cells.request is) (λ is. free_flow (run_rows 1 bs) r free (sym (ap (λ (x : RunRow). x.isopen) same) ∙ ap open_number is)),
+        more.1,
+      ),
     )
   where
     one_longer : (xs : List Run) (x : Run) → length (xs ++ x ∷ []) ≡ length xs + 1

@@ -18,14 +18,15 @@ use Rattle.flow_rows.specs.Damages.{damaged, unless, kind_fits, damages_of_read,
 use Rattle.flow_rows.specs.Standing.{AreEvents}
 use Rattle.flow_rows.proofs.BookTexts.{front_none, rest_none, holds}
 
+named_one : (run : ℤ) (r : EventRow) (rs : List EventRow) (b : Bool) → int_eq r.run run ≡ b → AllByRecursion (λ r. r.run ≡ run) (events_of rs run)
+    → AllByRecursion (λ r. r.run ≡ run) (events_of (r ∷ rs) run)
+named_one run r rs true is more = rw is ((Decides-int_eq r.run run).0 is, more)
+named_one run r rs false is more = rw is more
+
 -- the rows of a run name it
 pub named : (run : ℤ) (rs : List EventRow) → AllByRecursion (λ r. r.run ≡ run) (events_of rs run)
 named run [] = tt
-named run (r ∷ rs) = by_case (int_eq r.run run) refl
-  where
-    by_case : (b : Bool) → int_eq r.run run ≡ b → AllByRecursion (λ r. r.run ≡ run) (filter (is_event_of run) (r ∷ rs))
-    by_case true is = rw is ((Decides-int_eq r.run run).0 is, named run rs)
-    by_case false is = rw is (named run rs)
+named run (r ∷ rs) = named_one run r rs (int_eq r.run run) refl (named run rs)
 
 -- what a row at its place says, where it isn't damaged
 pub record IsEvent (run : ℤ) (i : ℕ) (r : EventRow) : Type 0 where
@@ -38,22 +39,21 @@ is_read : (run : ℤ) (i : ℕ) (r : EventRow) (o : Result Event RowFault) → r
 is_read run i r (Ok e) reads h there = record { event = e; numbered = there; reads = reads; kind = holds (kind_fits i r.kind) table.Event run (pos i) h }
 is_read run i r (Err f) reads h there = absurd (let same = h in cc)
 
-pub is_event : (run : ℤ) (i : ℕ) (r : EventRow) → damages_of_event run i r ≡ [] → IsEvent run i r
-is_event run i r h = by_case (int_eq r.id (pos i)) refl h
-  where
-    by_case : (b : Bool) → int_eq r.id (pos i) ≡ b → damages_of_event run i r ≡ [] → IsEvent run i r
-    by_case true is h =
-        is_read run i r (row_in i r.kind r.body) refl (sym (of_read is) ∙ h) ((Decides-int_eq r.id (pos i)).0 is)
-      where
-        of_read : int_eq r.id (pos i) ≡ true → damages_of_event run i r ≡ damages_of_read run i r.kind (row_in i r.kind r.body)
-        of_read there = rw there refl
-    by_case false is h = absurd (none (sym (misplaced is) ∙ h))
-      where
-        misplaced : int_eq r.id (pos i) ≡ false → damages_of_event run i r ≡ damaged table.Event run (pos i) None
-        misplaced other = rw other refl
+of_read : (run : ℤ) (i : ℕ) (r : EventRow) → int_eq r.id (pos i) ≡ true → damages_of_event run i r ≡ damages_of_read run i r.kind (row_in i r.kind r.body)
+of_read run i r there = rw there refl
 
-        none : damaged table.Event run (pos i) None ≡ [] → ⊥
-        none same = cc
+not_there : (run : ℤ) (i : ℕ) (r : EventRow) → int_eq r.id (pos i) ≡ false → damages_of_event run i r ≡ damaged table.Event run (pos i) None
+not_there run i r other = rw other refl
+
+none_missing : (run : ℤ) (i : ℕ) → damaged table.Event run (pos i) None ≡ [] → ⊥
+none_missing run i h = let same = h in cc
+
+event_at : (run : ℤ) (i : ℕ) (r : EventRow) (b : Bool) → int_eq r.id (pos i) ≡ b → damages_of_event run i r ≡ [] → IsEvent run i r
+event_at run i r true is h = is_read run i r (row_in i r.kind r.body) refl (sym (of_read run i r is) ∙ h) ((Decides-int_eq r.id (pos i)).0 is)
+event_at run i r false is h = absurd (none_missing run i (sym (not_there run i r is) ∙ h))
+
+pub is_event : (run : ℤ) (i : ℕ) (r : EventRow) → damages_of_event run i r ≡ [] → IsEvent run i r
+is_event run i r h = event_at run i r (int_eq r.id (pos i)) refl h
 
 -- the row that an event has
 row_is : (run : ℤ) (i : ℕ) (r : EventRow) → r.run ≡ run → (v : IsEvent run i r) → event_row run v.event ≡ r

@@ -16,21 +16,23 @@ use Rattle.flow_rows.specs.Damages.{timer_fits, timer_difference, tries_at, last
 use Rattle.flow_rows.specs.Standing.{AreTasks}
 use Rattle.flow_rows.proofs.BookTexts.{both_left, both_right}
 
+timer_named : (run : ℤ) (r : TimerRow) (rs : List TimerRow) (b : Bool) → int_eq r.run run ≡ b → AllByRecursion (λ r. r.run ≡ run) (timers_of rs run)
+    → AllByRecursion (λ r. r.run ≡ run) (timers_of (r ∷ rs) run)
+timer_named run r rs true is more = rw is ((Decides-int_eq r.run run).0 is, more)
+timer_named run r rs false is more = rw is more
+
 pub timers_named : (run : ℤ) (rs : List TimerRow) → AllByRecursion (λ r. r.run ≡ run) (timers_of rs run)
 timers_named run [] = tt
-timers_named run (r ∷ rs) = by_case (int_eq r.run run) refl
-  where
-    by_case : (b : Bool) → int_eq r.run run ≡ b → AllByRecursion (λ r. r.run ≡ run) (filter (is_timer_of run) (r ∷ rs))
-    by_case true is = rw is ((Decides-int_eq r.run run).0 is, timers_named run rs)
-    by_case false is = rw is (timers_named run rs)
+timers_named run (r ∷ rs) = timer_named run r rs (int_eq r.run run) refl (timers_named run rs)
+
+task_named : (run : ℤ) (r : OutboxRow) (rs : List OutboxRow) (b : Bool) → int_eq r.run run ≡ b → AllByRecursion (λ r. r.run ≡ run) (tasks_of rs run)
+    → AllByRecursion (λ r. r.run ≡ run) (tasks_of (r ∷ rs) run)
+task_named run r rs true is more = rw is ((Decides-int_eq r.run run).0 is, more)
+task_named run r rs false is more = rw is more
 
 pub tasks_named : (run : ℤ) (rs : List OutboxRow) → AllByRecursion (λ r. r.run ≡ run) (tasks_of rs run)
 tasks_named run [] = tt
-tasks_named run (r ∷ rs) = by_case (int_eq r.run run) refl
-  where
-    by_case : (b : Bool) → int_eq r.run run ≡ b → AllByRecursion (λ r. r.run ≡ run) (filter (is_task_of run) (r ∷ rs))
-    by_case true is = rw is ((Decides-int_eq r.run run).0 is, tasks_named run rs)
-    by_case false is = rw is (tasks_named run rs)
+tasks_named run (r ∷ rs) = task_named run r rs (int_eq r.run run) refl (tasks_named run rs)
 
 a_difference : (id : ℤ) → Some id ≡ None → ⊥
 a_difference id h = let same = h in cc
@@ -41,16 +43,19 @@ timer_is run r t named fits =
     ∙ ap (λ z. record { run = run; id = z; due = r.due }) ((Decides-int_eq r.id (pos t.id)).0 (both_left _ (int_eq r.due (pos t.due)) fits))
     ∙ ap (λ z. record { run = run; id = pos t.id; due = z }) ((Decides-int_eq r.due (pos t.due)).0 (both_right (int_eq r.id (pos t.id)) _ fits))
 
+-- a first timer that fits, and others that don't differ
+timer_step : (rs : List TimerRow) (ts : List Timer) (r : TimerRow) (t : Timer) (b : Bool) → timer_fits r t ≡ b → timer_difference (r ∷ rs) (t ∷ ts) ≡ None
+    → (timer_fits r t ≡ true) × (timer_difference rs ts ≡ None)
+timer_step rs ts r t true is none = (is, rw is at none)
+timer_step rs ts r t false is none = absurd (a_difference _ (rw is at none))
+
 pub timers_are : (run : ℤ) (rs : List TimerRow) (ts : List Timer) → AllByRecursion (λ r. r.run ≡ run) rs → timer_difference rs ts ≡ None → rs ≡ map (timer_row run) ts
 timers_are run [] [] names none = refl
 timers_are run [] (t ∷ ts) names none = absurd (a_difference (pos t.id) none)
 timers_are run (r ∷ rs) [] names none = absurd (a_difference r.id none)
-timers_are run (r ∷ rs) (t ∷ ts) names none = by_case (timer_fits r t) refl
-  where
-    by_case : (b : Bool) → timer_fits r t ≡ b → r ∷ rs ≡ map (timer_row run) (t ∷ ts)
-    by_case true is =
-        ap (λ x. x ∷ rs) (timer_is run r t names.0 is) ∙ ap (λ xs. timer_row run t ∷ xs) (timers_are run rs ts names.1 (rw is at none))
-    by_case false is = absurd (a_difference _ (rw is at none))
+timers_are run (r ∷ rs) (t ∷ ts) names none =
+    let step = timer_step rs ts r t (timer_fits r t) refl none in
+    ap (λ x. x ∷ rs) (timer_is run r t names.0 step.0) ∙ ap (λ xs. timer_row run t ∷ xs) (timers_are run rs ts names.1 step.1)
 
 -- a whole number that isn't negative
 abbrev pub whole : ℤ → ℕ
@@ -62,7 +67,7 @@ task_of r = record { event = whole r.id; attempt = whole r.attempt; ready = whol
 
 -- a number in a range is whole
 pub in_range : (low high : ℕ) (z : ℤ) → int_le (pos low) z ≡ true → int_le z (pos high) ≡ true → (pos (whole z) ≡ z) × Within low high (whole z)
-in_range low high (pos n) least most = (refl, leb-true low n least, leb-true n high most)
+in_range low high (pos n) least most = (refl, (leb-true low n least, leb-true n high most))
 in_range low high (negsuc n) least most = absurd (let same = least in cc)
 
 record IsTask (h : List Event) (run : ℤ) (r : OutboxRow) (a : Task) : Type 0 where
@@ -94,16 +99,18 @@ task_is h run r a named fits =
       ready = ready.1;
     }
 
-pub tasks_are : (h : List Event) (run : ℤ) (rs : List OutboxRow) (as : List Task) → AllByRecursion (λ r. r.run ≡ run) rs → task_difference h rs as ≡ None
-    → (map (task_row run) (map task_of rs) ≡ rs) × AreTasks h (map task_of rs) as
+task_step : (h : List Event) (rs : List OutboxRow) (others : List Task) (r : OutboxRow) (a : Task) (b : Bool) → task_fits h r a ≡ b → task_difference h (r ∷ rs) (a ∷ others) ≡ None
+    → (task_fits h r a ≡ true) × (task_difference h rs others ≡ None)
+task_step h rs others r a true is none = (is, rw is at none)
+task_step h rs others r a false is none = absurd (a_difference _ (rw is at none))
+
+pub tasks_are : (h : List Event) (run : ℤ) (rs : List OutboxRow) (others : List Task) → AllByRecursion (λ r. r.run ≡ run) rs → task_difference h rs others ≡ None
+    → (map (task_row run) (map task_of rs) ≡ rs) × AreTasks h (map task_of rs) others
 tasks_are h run [] [] names none = (refl, tt)
-tasks_are h run [] (a ∷ as) names none = absurd (a_difference (pos a.event) none)
+tasks_are h run [] (a ∷ others) names none = absurd (a_difference (pos a.event) none)
 tasks_are h run (r ∷ rs) [] names none = absurd (a_difference r.id none)
-tasks_are h run (r ∷ rs) (a ∷ as) names none = by_case (task_fits h r a) refl
-  where
-    by_case : (b : Bool) → task_fits h r a ≡ b → (map (task_row run) (map task_of (r ∷ rs)) ≡ r ∷ rs) × AreTasks h (map task_of (r ∷ rs)) (a ∷ as)
-    by_case true is =
-        let one = task_is h run r a names.0 is in
-        let more = tasks_are h run rs as names.1 (rw is at none) in
-        (ap (λ x. x ∷ map (task_row run) (map task_of rs)) one.same ∙ ap (λ xs. r ∷ xs) more.0, one.event, one.attempt, one.ready, more.1)
-    by_case false is = absurd (a_difference _ (rw is at none))
+tasks_are h run (r ∷ rs) (a ∷ others) names none =
+    let step = task_step h rs others r a (task_fits h r a) refl none in
+    let one = task_is h run r a names.0 step.0 in
+    let more = tasks_are h run rs others names.1 step.1 in
+    (ap (λ x. x ∷ map (task_row run) (map task_of rs)) one.same ∙ ap (λ xs. r ∷ xs) more.0, (one.event, one.attempt, one.ready, more.1))

@@ -6,3 +6,6 @@ pub mod Openness
 pub mod LeftOpen
 pub mod BookRuns
 pub mod BookTables
+pub mod Undamaged
+pub mod Agreed
+pub mod Laws

@@ -92,7 +92,7 @@ on_later run i s (r ∷ rs) later none =
     let row = row_found i r.kind r.body v.event v.reads in
     let kind = subst (λ z. int_eq z (pos 1) ≡ false) row.of_kind (later_kind i r.kind later v.kind) in
     let step : is_open (state_after_one s v.event) ≡ (is_open s && not (is_closing r.kind)) =
-        one_on s v.event.id v.event.at v.event.what kind ∙ ap (λ z. is_open s && not (is_closing z)) (sym row.of_kind) in
+    one_on s v.event.id v.event.at v.event.what kind ∙ ap (λ z. is_open s && not (is_closing z)) (sym row.of_kind) in
     ap (λ o. is_open (state_after s (read_event o ++ history_from (i + 1) rs))) v.reads
     ∙ on_later run (i + 1) (state_after_one s v.event) rs (omega (arith, later)) (rest_none (damages_of_event run i r) _ none)
     ∙ ap (λ b. b && not (list_any closes rs)) step
@@ -110,7 +110,7 @@ is_open_where run (r ∷ rs) begun none =
     let row = row_found 1 r.kind r.body v.event v.reads in
     let kind = subst (λ z. int_eq z (pos 1) ≡ true) row.of_kind v.kind in
     let step : is_open (state_after_one state.Unbegun v.event) ≡ not (is_closing r.kind) =
-        first_on state.Unbegun v.event.id v.event.at v.event.what kind ∙ ap (λ z. not (is_closing z)) (sym row.of_kind) in
+    first_on state.Unbegun v.event.id v.event.at v.event.what kind ∙ ap (λ z. not (is_closing z)) (sym row.of_kind) in
     ap (λ o. is_open (state_after state.Unbegun (read_event o ++ history_from 2 rs))) v.reads
     ∙ on_later run 2 (state_after_one state.Unbegun v.event) rs (omega arith) (rest_none (damages_of_event run 1 r) _ none)
     ∙ ap (λ b. b && not (list_any closes rs)) step

@@ -25,9 +25,13 @@ impl Programs for Filled {
 }
 
 type TextCells = (i64, &'static str);
+
 type RunCells = (i64, &'static str, &'static str, i64, i64);
+
 type EventCells = (i64, i64, i64, &'static str);
+
 type TimerCells = (i64, i64, i64);
+
 type TaskCells = (i64, i64, i64, i64);
 
 const TEXTS: [TextCells; 2] = [(1, "a"), (2, "b")];
@@ -40,7 +44,9 @@ const RUNS: [RunCells; 3] = [
 ];
 
 const STARTED: &str = "{\"args\":[],\"at\":1000}";
-const CALLED: &str = "{\"activity\":\"c\",\"args\":[7],\"at\":1000,\"every\":500,\"gives\":\"int\",\"tries\":3}";
+
+const CALLED: &str =
+    "{\"activity\":\"c\",\"args\":[7],\"at\":1000,\"every\":500,\"gives\":\"int\",\"tries\":3}";
 
 const EVENTS: [EventCells; 8] = [
     (1, 1, 1, STARTED),
@@ -245,7 +251,9 @@ fn events_go_on_without_gap(rt: HostRuntime) -> Result<(), Fail> {
 #[test]
 fn each_event_reads(rt: HostRuntime) -> Result<(), Fail> {
     let alloc = rt.alloc();
-    let front = [EVENTS[0], EVENTS[1], EVENTS[2], EVENTS[3], EVENTS[4], EVENTS[5], EVENTS[6]];
+    let front = [
+        EVENTS[0], EVENTS[1], EVENTS[2], EVENTS[3], EVENTS[4], EVENTS[5], EVENTS[6],
+    ];
     let mut rows = store(alloc)?;
     rows.events = with_last(alloc, &front, (3, 2, 14, "{}"))?;
     assert!(rt; found(alloc, &rows)? == unread(3, 2, Code::BadKind));
