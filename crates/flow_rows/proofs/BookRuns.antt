@@ -89,15 +89,18 @@ history_begins run (r ∷ rs) begun none h =
     let v = is_event run 1 r (front_none _ (damages_from run 2 rs) none) in
     isnt_empty v.event (history_from 2 rs) (sym (ap (λ o. read_event o ++ history_from 2 rs) v.reads) ∙ h)
 
+abbrev run_cells : ℤ → Bytes → Bytes → ℤ → ℤ → RunRow
+run_cells num flow req textnum isopen = record { num = num; flow = flow; req = req; textnum = textnum; isopen = isopen }
+
 row_same : (count : ℕ) (events : List EventRow) (outbox : List OutboxRow) (before : List RunRow) (n : ℕ) (r : RunRow) → HasCells count before n r
     → mark_fits events (pos n) r.isopen ≡ true → IsHistory events n → run_row n (book_run events outbox n r) ≡ r
 row_same count events outbox before n r cells mark h =
     let opened = is_open_where (pos n) (events_of events (pos n)) h.begun h.undamaged in
     let marked : r.isopen ≡ open_number (not (list_any closes (events_of events (pos n)))) = (Decides-int_eq r.isopen _).0 mark in
-    ap (λ z. record { num = z; flow = r.flow; req = request_text (request_of r.req); textnum = pos (whole r.textnum); isopen = open_number (is_open (state_of (history_of events (pos n)))) }) (sym cells.numbered)
-    ∙ ap (λ q. record { num = r.num; flow = r.flow; req = q; textnum = pos (whole r.textnum); isopen = open_number (is_open (state_of (history_of events (pos n)))) }) (request_same r.req)
-    ∙ ap (λ z. record { num = r.num; flow = r.flow; req = r.req; textnum = z; isopen = open_number (is_open (state_of (history_of events (pos n)))) }) (in_range 1 count r.textnum cells.least cells.most).0
-    ∙ ap (λ z. record { num = r.num; flow = r.flow; req = r.req; textnum = r.textnum; isopen = z }) (ap open_number opened ∙ sym marked)
+    ap (λ z. run_cells z r.flow (request_text (request_of r.req)) (pos (whole r.textnum)) (open_number (is_open (state_of (history_of events (pos n)))))) (sym cells.numbered)
+    ∙ ap (λ q. run_cells r.num r.flow q (pos (whole r.textnum)) (open_number (is_open (state_of (history_of events (pos n)))))) (request_same r.req)
+    ∙ ap (λ z. run_cells r.num r.flow r.req z (open_number (is_open (state_of (history_of events (pos n)))))) (in_range 1 count r.textnum cells.least cells.most).0
+    ∙ ap (λ z. run_cells r.num r.flow r.req r.textnum z) (ap open_number opened ∙ sym marked)
 
 request_kept : (before : List RunRow) (q : Bytes) → request_fits before q ≡ true → IsRequest (request_of q)
 request_kept before [] h = tt
@@ -130,8 +133,8 @@ either_right true b h = absurd (let same = h in cc)
 either_right false b h = h
 
 clash : (b : Bool) → b ≡ true → b ≡ false → ⊥
-clash true yes h = let same = h in cc
-clash false h is_not = let same = h in cc
+clash true is h = let same = h in cc
+clash false h other = let same = h in cc
 
 apart_one : (r b : Run) (k : ℕ) → ((q : Bytes) → r.request ≡ Some q → has_request q (run_row k b) ≡ false)
     → (is_open (state_of r.history) ≡ true → is_open_of r.flow (run_row k b) ≡ false) → AreApart b r

@@ -36,13 +36,16 @@ both_right false b h = absurd (let same = h in cc)
 abbrev pub body_of : TextRow → Bytes
 body_of r = r.body
 
+abbrev text_cells : ℤ → Bytes → TextRow
+text_cells num body = record { num = num; body = body }
+
 pub texts_are_rows : (p : Bytes → Bool) (n : ℕ) (rs : List TextRow) → damages_of_texts p n rs ≡ [] → rs ≡ text_rows n (map body_of rs)
 texts_are_rows p n [] h = refl
 texts_are_rows p n (r ∷ rs) h =
     let fits = holds (text_fits p n r) table.Text (pos 0) (pos n) (front_none _ (damages_of_texts p (n + 1) rs) h) in
     let numbered = (Decides-int_eq r.num (pos n)).0 (both_left (int_eq r.num (pos n)) (p r.body) fits) in
     let more = texts_are_rows p (n + 1) rs (rest_none (unless (text_fits p n r) table.Text (pos 0) (pos n)) _ h) in
-    ap (λ z. record { num = z; body = r.body } ∷ rs) numbered ∙ ap (λ more. record { num = pos n; body = r.body } ∷ more) more
+    ap (λ z. text_cells z r.body ∷ rs) numbered ∙ ap (λ more. text_cells (pos n) r.body ∷ more) more
 
 pub texts_are_programs : (p : Bytes → Bool) (n : ℕ) (rs : List TextRow) → damages_of_texts p n rs ≡ [] → AllByRecursion (λ t. p t ≡ true) (map body_of rs)
 texts_are_programs p n [] h = tt

@@ -55,16 +55,19 @@ event_at run i r false is h = absurd (none_missing run i (sym (not_there run i r
 pub is_event : (run : ℤ) (i : ℕ) (r : EventRow) → damages_of_event run i r ≡ [] → IsEvent run i r
 is_event run i r h = event_at run i r (int_eq r.id (pos i)) refl h
 
+abbrev event_cells : ℤ → ℤ → ℤ → Bytes → EventRow
+event_cells run id kind body = record { run = run; id = id; kind = kind; body = body }
+
 -- the row that an event has
 row_is : (run : ℤ) (i : ℕ) (r : EventRow) → r.run ≡ run → (v : IsEvent run i r) → event_row run v.event ≡ r
 row_is run i r named v =
     let row = row_found i r.kind r.body v.event v.reads in
     let id : v.event.id ≡ i = row_id (Ok v.event) i r.kind r.body v.reads in
-    ap (λ n. record { run = run; id = pos n; kind = pos (kind_number (kind_of v.event.what)); body = text_of v.event }) id
-    ∙ ap (λ z. record { run = run; id = z; kind = pos (kind_number (kind_of v.event.what)); body = text_of v.event }) (sym v.numbered)
-    ∙ ap (λ z. record { run = run; id = r.id; kind = z; body = text_of v.event }) (sym row.of_kind)
-    ∙ ap (λ z. record { run = run; id = r.id; kind = r.kind; body = z }) (sym row.spelled_so)
-    ∙ ap (λ z. record { run = z; id = r.id; kind = r.kind; body = r.body }) (sym named)
+    ap (λ n. event_cells run (pos n) (pos (kind_number (kind_of v.event.what))) (text_of v.event)) id
+    ∙ ap (λ z. event_cells run z (pos (kind_number (kind_of v.event.what))) (text_of v.event)) (sym v.numbered)
+    ∙ ap (λ z. event_cells run r.id z (text_of v.event)) (sym row.of_kind)
+    ∙ ap (λ z. event_cells run r.id r.kind z) (sym row.spelled_so)
+    ∙ ap (λ z. event_cells z r.id r.kind r.body) (sym named)
 
 pub rows_are : (run : ℤ) (i : ℕ) (rs : List EventRow) → AllByRecursion (λ r. r.run ≡ run) rs → damages_from run i rs ≡ [] → map (event_row run) (history_from i rs) ≡ rs
 rows_are run i [] names h = refl

@@ -37,11 +37,14 @@ tasks_named run (r ∷ rs) = task_named run r rs (int_eq r.run run) refl (tasks_
 a_difference : (id : ℤ) → Some id ≡ None → ⊥
 a_difference id h = let same = h in cc
 
+abbrev timer_cells : ℤ → ℤ → ℤ → TimerRow
+timer_cells run id due = record { run = run; id = id; due = due }
+
 timer_is : (run : ℤ) (r : TimerRow) (t : Timer) → r.run ≡ run → timer_fits r t ≡ true → r ≡ timer_row run t
 timer_is run r t named fits =
-    ap (λ z. record { run = z; id = r.id; due = r.due }) named
-    ∙ ap (λ z. record { run = run; id = z; due = r.due }) ((Decides-int_eq r.id (pos t.id)).0 (both_left _ (int_eq r.due (pos t.due)) fits))
-    ∙ ap (λ z. record { run = run; id = pos t.id; due = z }) ((Decides-int_eq r.due (pos t.due)).0 (both_right (int_eq r.id (pos t.id)) _ fits))
+    ap (λ z. timer_cells z r.id r.due) named
+    ∙ ap (λ z. timer_cells run z r.due) ((Decides-int_eq r.id (pos t.id)).0 (both_left _ (int_eq r.due (pos t.due)) fits))
+    ∙ ap (λ z. timer_cells run (pos t.id) z) ((Decides-int_eq r.due (pos t.due)).0 (both_right (int_eq r.id (pos t.id)) _ fits))
 
 -- a first timer that fits, and others that don't differ
 timer_step : (rs : List TimerRow) (ts : List Timer) (r : TimerRow) (t : Timer) (b : Bool) → timer_fits r t ≡ b → timer_difference (r ∷ rs) (t ∷ ts) ≡ None
@@ -76,6 +79,9 @@ record IsTask (h : List Event) (run : ℤ) (r : OutboxRow) (a : Task) : Type 0 w
   attempt : Within 1 (tries_at h a.event) (task_of r).attempt
   ready : IsMoment (task_of r).ready
 
+abbrev task_cells : ℤ → ℤ → ℤ → ℤ → OutboxRow
+task_cells run id attempt ready = record { run = run; id = id; attempt = attempt; ready = ready }
+
 task_is : (h : List Event) (run : ℤ) (r : OutboxRow) (a : Task) → r.run ≡ run → task_fits h r a ≡ true → IsTask h run r a
 task_is h run r a named fits =
     let id : r.id ≡ pos a.event = (Decides-int_eq r.id (pos a.event)).0 (both_left _ (attempt_fits (tries_at h a.event) r) fits) in
@@ -89,11 +95,11 @@ task_is h run r a named fits =
     let event : whole r.id ≡ a.event = ap whole id in
     record {
       same =
-          ap (λ n. record { run = run; id = pos n; attempt = pos (whole r.attempt); ready = pos (whole r.ready) }) event
-          ∙ ap (λ z. record { run = run; id = z; attempt = pos (whole r.attempt); ready = pos (whole r.ready) }) (sym id)
-          ∙ ap (λ z. record { run = run; id = r.id; attempt = z; ready = pos (whole r.ready) }) attempt.0
-          ∙ ap (λ z. record { run = run; id = r.id; attempt = r.attempt; ready = z }) ready.0
-          ∙ ap (λ z. record { run = z; id = r.id; attempt = r.attempt; ready = r.ready }) (sym named);
+          ap (λ n. task_cells run (pos n) (pos (whole r.attempt)) (pos (whole r.ready))) event
+          ∙ ap (λ z. task_cells run z (pos (whole r.attempt)) (pos (whole r.ready))) (sym id)
+          ∙ ap (λ z. task_cells run r.id z (pos (whole r.ready))) attempt.0
+          ∙ ap (λ z. task_cells run r.id r.attempt z) ready.0
+          ∙ ap (λ z. task_cells z r.id r.attempt r.ready) (sym named);
       event = event;
       attempt = attempt.1;
       ready = ready.1;
