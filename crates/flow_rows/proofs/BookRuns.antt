@@ -1,5 +1,5 @@
 -- Runs that aren't damaged are those of a book.
-use Rattle.std.proofs.Common.{◌≡◌, ◌≢◌, ℕ, suc, ◌+◌, ◌≤◌, ℤ, pos, List, [], ◌∷◌, ◌++◌, map, length, Bool, true, false, not, ◌&&◌, ◌||◌, nat_eq, Option, Some, None, Ok, bytes_eq, refl, sym, ap, ◌∙◌, subst, arith}
+use Rattle.std.proofs.Common.{◌≡◌, ◌≢◌, ℕ, suc, ◌+◌, ℤ, pos, List, [], ◌∷◌, ◌++◌, map, length, Bool, true, false, not, ◌&&◌, ◌||◌, nat_eq, Option, Some, None, bytes_eq, refl, sym, ap, ◌∙◌, subst, arith}
 use Rattle.std.specs.Prelude.{nat_le, int_le}
 use Rattle.std.specs.List.{AllByRecursion, list_any}
 use Rattle.std.specs.Ordering.{int_eq}
@@ -14,13 +14,12 @@ use Rattle.flow_model.specs.Open.{state_of}
 use Rattle.flow_rows.specs.declared.rows.EventRow.{EventRow}
 use Rattle.flow_rows.specs.declared.rows.RunRow.{RunRow}
 use Rattle.flow_rows.specs.declared.rows.OutboxRow.{OutboxRow}
-use Rattle.flow_rows.specs.declared.found.Damage.{Damage}
 use Rattle.flow_rows.specs.declared.found.Table.TheVariants as table
 use Rattle.flow_rows.specs.Rows.{events_of, tasks_of, request_text, open_number, run_row, run_rows, activities_left}
-use Rattle.flow_rows.specs.Damages.{unless, closes, flow_fits, has_request, request_is_new, request_fits, is_open_of, flow_is_free, mark_fits, cells_fit, run_fits, damages_of_runs, is_begun, damages_of_event, damages_from, damages_of_history, damages_of_events, read_event, history_from, history_of, histories, differs, task_difference, damages_of_outbox}
+use Rattle.flow_rows.specs.Damages.{unless, closes, flow_fits, has_request, request_is_new, request_fits, is_open_of, flow_is_free, mark_fits, cells_fit, run_fits, damages_of_runs, is_begun, damages_from, damages_of_history, damages_of_events, read_event, history_from, history_of, histories, differs, task_difference, damages_of_outbox}
 use Rattle.flow_rows.specs.Standing.{IsRequest, IsKept, AreApart, AreKept}
 use Rattle.flow_rows.proofs.BookTexts.{front_none, rest_none, holds, both_left, both_right}
-use Rattle.flow_rows.proofs.Histories.{named, is_event, events_are}
+use Rattle.flow_rows.proofs.Histories.{is_event, events_are}
 use Rattle.flow_rows.proofs.Openness.{is_open_where}
 use Rattle.flow_rows.proofs.LeftOpen.{whole, task_of, in_range, tasks_named, tasks_are}
 

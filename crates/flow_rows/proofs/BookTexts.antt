@@ -1,12 +1,10 @@
 -- Texts that aren't damaged are those of a book.
-use Rattle.std.proofs.Common.{◌≡◌, ℕ, ◌+◌, ℤ, pos, List, [], ◌∷◌, ◌++◌, map, Bool, true, false, ◌&&◌, Option, Some, None, refl, sym, ap, ◌∙◌, subst}
+use Rattle.std.proofs.Common.{◌≡◌, ℕ, ◌+◌, ℤ, pos, List, [], ◌∷◌, ◌++◌, map, Bool, true, false, ◌&&◌, refl, ap, ◌∙◌}
 use Rattle.std.specs.List.{AllByRecursion}
 use Rattle.std.specs.Ordering.{int_eq}
 use Rattle.std.proofs.lemmas.Bool.Decides.{Decides-int_eq}
 use Rattle.flow_base.specs.Syntax.{Bytes}
-use Rattle.flow_base.specs.declared.code.Code.{Code}
 use Rattle.flow_rows.specs.declared.rows.TextRow.{TextRow}
-use Rattle.flow_rows.specs.declared.found.Damage.{Damage}
 use Rattle.flow_rows.specs.declared.found.Table.{Table}
 use Rattle.flow_rows.specs.declared.found.Table.TheVariants as table
 use Rattle.flow_rows.specs.Rows.{text_rows}

@@ -1,5 +1,5 @@
 -- Events that aren't damaged are the rows of the history that they tell.
-use Rattle.std.proofs.Common.{◌≡◌, ℕ, ◌+◌, ℤ, pos, List, [], ◌∷◌, ◌++◌, map, filter, Bool, true, false, cond, ◌&&◌, Option, Some, None, Result, Ok, Err, refl, sym, ap, ◌∙◌, subst}
+use Rattle.std.proofs.Common.{◌≡◌, ℕ, ◌+◌, ℤ, pos, List, [], ◌∷◌, ◌++◌, map, Bool, true, false, None, Result, Ok, Err, refl, sym, ap, ◌∙◌, subst}
 use Rattle.std.specs.List.{AllByRecursion}
 use Rattle.std.specs.Ordering.{int_eq}
 use Rattle.std.proofs.lemmas.Bool.Decides.{Decides-int_eq}
@@ -7,14 +7,13 @@ use Rattle.flow_base.specs.Syntax.{Bytes}
 use Rattle.flow_base.specs.declared.event.Event.{Event}
 use Rattle.flow_events.specs.Body.{text_of}
 use Rattle.flow_events.specs.Kinds.{kind_number, kind_of}
-use Rattle.flow_events.specs.Row.{row_in, GivesRow}
+use Rattle.flow_events.specs.Row.{row_in}
 use Rattle.flow_events.specs.declared.row.RowFault.{RowFault}
 use Rattle.flow_events.proofs.Laws.{row_found, row_id}
 use Rattle.flow_rows.specs.declared.rows.EventRow.{EventRow}
-use Rattle.flow_rows.specs.declared.found.Damage.{Damage}
 use Rattle.flow_rows.specs.declared.found.Table.TheVariants as table
-use Rattle.flow_rows.specs.Rows.{is_event_of, events_of, event_row}
-use Rattle.flow_rows.specs.Damages.{damaged, unless, kind_fits, damages_of_read, damages_of_event, damages_from, read_event, history_from}
+use Rattle.flow_rows.specs.Rows.{events_of, event_row}
+use Rattle.flow_rows.specs.Damages.{damaged, kind_fits, damages_of_read, damages_of_event, damages_from, read_event, history_from}
 use Rattle.flow_rows.specs.Standing.{AreEvents}
 use Rattle.flow_rows.proofs.BookTexts.{front_none, rest_none, holds}
 

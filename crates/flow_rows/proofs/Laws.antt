@@ -1,5 +1,5 @@
 -- What no damage means.
-use Rattle.std.proofs.Common.{◌≡◌, [], Bool, Option, Some, None, Result, Ok, Err, ap, sym, ◌∙◌}
+use Rattle.std.proofs.Common.{◌≡◌, Bool, Option, None, Result, Ok, Err, ap, sym, ◌∙◌}
 use Rattle.std.specs.Prelude.{IfOk}
 use Rattle.flow_base.specs.Syntax.{Bytes}
 use Rattle.flow_model.specs.Book.{Book}

@@ -1,5 +1,5 @@
 -- Timers and tasks that don't differ are rows of what is left open.
-use Rattle.std.proofs.Common.{◌≡◌, ℕ, ◌+◌, ◌≤◌, ℤ, pos, negsuc, List, [], ◌∷◌, map, filter, Bool, true, false, ◌&&◌, Option, Some, None, refl, sym, ap, ◌∙◌, subst}
+use Rattle.std.proofs.Common.{◌≡◌, ℕ, ℤ, pos, negsuc, List, [], ◌∷◌, map, Bool, true, false, ◌&&◌, Some, None, refl, sym, ap, ◌∙◌}
 use Rattle.std.specs.Prelude.{int_le}
 use Rattle.std.specs.List.{AllByRecursion}
 use Rattle.std.specs.Ordering.{int_eq}
@@ -11,7 +11,7 @@ use Rattle.flow_base.specs.declared.book.Task.{Task}
 use Rattle.flow_base.specs.declared.book.Timer.{Timer}
 use Rattle.flow_rows.specs.declared.rows.TimerRow.{TimerRow}
 use Rattle.flow_rows.specs.declared.rows.OutboxRow.{OutboxRow}
-use Rattle.flow_rows.specs.Rows.{is_timer_of, is_task_of, timers_of, tasks_of, timer_row, task_row}
+use Rattle.flow_rows.specs.Rows.{timers_of, tasks_of, timer_row, task_row}
 use Rattle.flow_rows.specs.Damages.{timer_fits, timer_difference, tries_at, last_moment, attempt_fits, task_fits, task_difference}
 use Rattle.flow_rows.specs.Standing.{AreTasks}
 use Rattle.flow_rows.proofs.BookTexts.{both_left, both_right}

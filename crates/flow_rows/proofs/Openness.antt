@@ -1,5 +1,5 @@
 -- A run whose events aren't damaged is open exactly where none of them closes it.
-use Rattle.std.proofs.Common.{◌≡◌, ℕ, ◌+◌, ◌<◌, ℤ, pos, List, [], ◌∷◌, ◌++◌, Bool, true, false, not, ◌&&◌, ◌||◌, nat_eq, Ok, refl, sym, ap, ◌∙◌, subst, arith}
+use Rattle.std.proofs.Common.{◌≡◌, ℕ, ◌+◌, ◌<◌, ℤ, pos, List, [], ◌∷◌, ◌++◌, Bool, true, false, not, ◌&&◌, ◌||◌, nat_eq, refl, sym, ap, ◌∙◌, subst, arith}
 use Rattle.std.specs.List.{list_any}
 use Rattle.std.specs.Ordering.{int_eq}
 use Rattle.std.proofs.lemmas.Bool.{eqb-true}
@@ -11,14 +11,13 @@ use Rattle.flow_base.specs.declared.event.What.TheVariants.{Came, Asked}
 use Rattle.flow_base.specs.declared.event.State.{State}
 use Rattle.flow_base.specs.declared.event.State.TheVariants as state
 use Rattle.flow_events.specs.Kinds.{kind_number, kind_of}
-use Rattle.flow_events.specs.Row.{row_in}
 use Rattle.flow_model.specs.Configuration.{is_open}
 use Rattle.flow_model.specs.Open.{state_after_one, state_after, state_of}
 use Rattle.flow_events.proofs.Laws.{row_found}
 use Rattle.flow_rows.specs.declared.rows.EventRow.{EventRow}
 use Rattle.flow_rows.specs.Damages.{is_closing, closes, kind_fits, is_begun, damages_of_event, damages_from, read_event, history_from}
 use Rattle.flow_rows.proofs.BookTexts.{front_none, rest_none}
-use Rattle.flow_rows.proofs.Histories.{IsEvent, is_event}
+use Rattle.flow_rows.proofs.Histories.{is_event}
 
 and_true : (b : Bool) → (b && true) ≡ b
 and_true true = refl
