@@ -1,7 +1,7 @@
 //! Each rule of the tables broken once, and pairs of damages of which the first is named.
 use crate::damage::damage;
 use crate::found::{Damage, Table};
-use crate::rows::{EventRow, OutboxRow, RunRow, StoreRows, TextRow, TimerRow};
+use crate::rows::{EventRow, OutboxRow, RunRow, StoreRows, TextRow, TimerRow, format_row};
 use crate::texts::Programs;
 use flow_base::code::Code;
 use flow_base::sequence::Sequence;
@@ -197,6 +197,13 @@ fn unread(run: i64, place: i64, code: Code) -> Option<Damage> {
         place,
         cause: Some(code),
     })
+}
+
+#[test]
+fn the_format_is_1(rt: HostRuntime) -> Result<(), Fail> {
+    let row = format_row(rt.alloc())?;
+    assert!(rt; row.name.as_str() == "format" && row.value == 1);
+    Ok(())
 }
 
 #[test]
