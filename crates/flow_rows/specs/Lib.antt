@@ -1,0 +1,4 @@
+pub mod Rows
+pub mod Damages
+pub mod Reading
+pub mod Standing

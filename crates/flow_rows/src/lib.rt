@@ -1,0 +1,14 @@
+//! The book in rows: which rows stand for which book, and the first damage of those that stand for none.
+#![tactic(auto)]
+
+pub mod damage;
+pub mod events;
+pub mod found;
+pub mod outbox;
+pub mod rows;
+pub mod runs;
+pub mod strays;
+#[cfg(test)]
+mod tests;
+pub mod texts;
+pub mod timers;

@@ -1,0 +1,331 @@
+//! Each rule of the tables broken once, and pairs of damages of which the first is named.
+use crate::damage::damage;
+use crate::found::{Damage, Table};
+use crate::rows::{EventRow, OutboxRow, RunRow, StoreRows, TextRow, TimerRow, format_row};
+use crate::texts::Programs;
+use flow_base::code::Code;
+use flow_base::sequence::Sequence;
+use flow_base::text::RawText;
+use std::alloc::{AllocError, Global};
+use std::test::Fail;
+
+/// Takes each text that isn't empty for a program.
+struct Filled;
+
+impl Programs for Filled {
+    ghost use Rattle.std.specs.Prelude.{not, nat_eq, length};
+
+    ghost is_program = { λ t. not (nat_eq (length t) 0) };
+
+    ghost is_exact = { Unit {0} };
+
+    fn reads(&self, _alloc: Global, text: &RawText) -> Result<bool, AllocError> {
+        Ok(text.as_str().len() != 0)
+    }
+}
+
+type TextCells = (i64, &'static str);
+
+type RunCells = (i64, &'static str, &'static str, i64, i64);
+
+type EventCells = (i64, i64, i64, &'static str);
+
+type TimerCells = (i64, i64, i64);
+
+type TaskCells = (i64, i64, i64, i64);
+
+const TEXTS: [TextCells; 2] = [(1, "a"), (2, "b")];
+
+/// Run 1 is completed, run 2 waits for an activity, run 3 for a timer.
+const RUNS: [RunCells; 3] = [
+    (1, "f", "q1", 1, 0),
+    (2, "f", "", 2, 1),
+    (3, "g", "q2", 1, 1),
+];
+
+const STARTED: &str = "{\"args\":[],\"at\":1000}";
+
+const CALLED: &str =
+    "{\"activity\":\"c\",\"args\":[7],\"at\":1000,\"every\":500,\"gives\":\"int\",\"tries\":3}";
+
+const EVENTS: [EventCells; 8] = [
+    (1, 1, 1, STARTED),
+    (1, 2, 7, CALLED),
+    (1, 3, 3, "{\"at\":1500,\"of\":2,\"value\":41}"),
+    (1, 4, 11, "{\"at\":1500,\"value\":42}"),
+    (2, 1, 1, STARTED),
+    (2, 2, 7, CALLED),
+    (3, 1, 1, STARTED),
+    (3, 2, 8, "{\"at\":1000,\"due\":1100}"),
+];
+
+const TIMERS: [TimerCells; 1] = [(3, 2, 1100)];
+
+const OUTBOX: [TaskCells; 1] = [(2, 2, 1, 1000)];
+
+fn texts(alloc: Global, cells: &[TextCells]) -> Result<Sequence<TextRow>, Fail> {
+    let mut rows = Vec::new(alloc);
+    for (num, body) in cells {
+        rows.push(TextRow {
+            num: *num,
+            body: RawText::new(alloc, body)?,
+        })?;
+    }
+    Ok(Sequence::from_vec(rows))
+}
+
+fn run_row(alloc: Global, cells: &RunCells) -> Result<RunRow, Fail> {
+    let (num, flow, req, textnum, isopen) = cells;
+    Ok(RunRow {
+        num: *num,
+        flow: RawText::new(alloc, flow)?,
+        req: RawText::new(alloc, req)?,
+        textnum: *textnum,
+        isopen: *isopen,
+    })
+}
+
+fn runs(alloc: Global, cells: &[RunCells]) -> Result<Sequence<RunRow>, Fail> {
+    let mut rows = Vec::new(alloc);
+    for run in cells {
+        rows.push(run_row(alloc, run)?)?;
+    }
+    Ok(Sequence::from_vec(rows))
+}
+
+fn events(alloc: Global, cells: &[EventCells]) -> Result<Sequence<EventRow>, Fail> {
+    let mut rows = Vec::new(alloc);
+    for (run, id, kind, body) in cells {
+        rows.push(EventRow {
+            run: *run,
+            id: *id,
+            kind: *kind,
+            body: RawText::new(alloc, body)?,
+        })?;
+    }
+    Ok(Sequence::from_vec(rows))
+}
+
+fn timers(alloc: Global, cells: &[TimerCells]) -> Result<Sequence<TimerRow>, Fail> {
+    let mut rows = Vec::new(alloc);
+    for (run, id, due) in cells {
+        rows.push(TimerRow {
+            run: *run,
+            id: *id,
+            due: *due,
+        })?;
+    }
+    Ok(Sequence::from_vec(rows))
+}
+
+fn outbox(alloc: Global, cells: &[TaskCells]) -> Result<Sequence<OutboxRow>, Fail> {
+    let mut rows = Vec::new(alloc);
+    for (run, id, attempt, ready) in cells {
+        rows.push(OutboxRow {
+            run: *run,
+            id: *id,
+            attempt: *attempt,
+            ready: *ready,
+        })?;
+    }
+    Ok(Sequence::from_vec(rows))
+}
+
+/// The sound store.
+fn store(alloc: Global) -> Result<StoreRows, Fail> {
+    let texts = texts(alloc, &TEXTS)?;
+    let runs = runs(alloc, &RUNS)?;
+    let events = events(alloc, &EVENTS)?;
+    let timers = timers(alloc, &TIMERS)?;
+    let outbox = outbox(alloc, &OUTBOX)?;
+    Ok(StoreRows {
+        texts,
+        runs,
+        events,
+        timers,
+        outbox,
+    })
+}
+
+fn found(alloc: Global, rows: &StoreRows) -> Result<Option<Damage>, Fail> {
+    Ok(damage(alloc, &Filled, rows)?)
+}
+
+fn of_texts(alloc: Global, cells: &[TextCells]) -> Result<Option<Damage>, Fail> {
+    let mut rows = store(alloc)?;
+    rows.texts = texts(alloc, cells)?;
+    found(alloc, &rows)
+}
+
+fn of_runs(alloc: Global, cells: &[RunCells]) -> Result<Option<Damage>, Fail> {
+    let mut rows = store(alloc)?;
+    rows.runs = runs(alloc, cells)?;
+    found(alloc, &rows)
+}
+
+fn of_events(alloc: Global, cells: &[EventCells]) -> Result<Option<Damage>, Fail> {
+    let mut rows = store(alloc)?;
+    rows.events = events(alloc, cells)?;
+    found(alloc, &rows)
+}
+
+fn of_timers(alloc: Global, cells: &[TimerCells]) -> Result<Option<Damage>, Fail> {
+    let mut rows = store(alloc)?;
+    rows.timers = timers(alloc, cells)?;
+    found(alloc, &rows)
+}
+
+fn of_outbox(alloc: Global, cells: &[TaskCells]) -> Result<Option<Damage>, Fail> {
+    let mut rows = store(alloc)?;
+    rows.outbox = outbox(alloc, cells)?;
+    found(alloc, &rows)
+}
+
+fn at(table: Table, run: i64, place: i64) -> Option<Damage> {
+    Some(Damage {
+        table,
+        run,
+        place,
+        cause: None,
+    })
+}
+
+fn unread(run: i64, place: i64, code: Code) -> Option<Damage> {
+    Some(Damage {
+        table: Table::Event,
+        run,
+        place,
+        cause: Some(code),
+    })
+}
+
+#[test]
+fn the_format_is_1(rt: HostRuntime) -> Result<(), Fail> {
+    let row = format_row(rt.alloc())?;
+    assert!(rt; row.name.as_str() == "format" && row.value == 1);
+    Ok(())
+}
+
+#[test]
+fn rows_of_a_book_are_sound(rt: HostRuntime) -> Result<(), Fail> {
+    let alloc = rt.alloc();
+    assert!(rt; found(alloc, &store(alloc)?)?.is_none());
+    Ok(())
+}
+
+#[test]
+fn texts_are_tried_first(rt: HostRuntime) -> Result<(), Fail> {
+    let alloc = rt.alloc();
+    assert!(rt; of_texts(alloc, &[(1, "a"), (3, "b")])? == at(Table::Text, 0, 2));
+    assert!(rt; of_texts(alloc, &[(0, "a"), (1, "b")])? == at(Table::Text, 0, 1));
+    assert!(rt; of_texts(alloc, &[(1, "a"), (2, "")])? == at(Table::Text, 0, 2));
+    Ok(())
+}
+
+#[test]
+fn a_run_is_numbered_and_named(rt: HostRuntime) -> Result<(), Fail> {
+    let alloc = rt.alloc();
+    assert!(rt; of_runs(alloc, &[RUNS[0], (3, "f", "", 2, 1), RUNS[2]])? == at(Table::Run, 2, 0));
+    assert!(rt; of_runs(alloc, &[(1, "", "q1", 1, 0), RUNS[1], RUNS[2]])? == at(Table::Run, 1, 0));
+    assert!(rt; of_runs(alloc, &[RUNS[0], RUNS[1], (3, "g", "q1", 1, 1)])? == at(Table::Run, 3, 0));
+    Ok(())
+}
+
+#[test]
+fn a_run_has_its_text_and_its_mark(rt: HostRuntime) -> Result<(), Fail> {
+    let alloc = rt.alloc();
+    assert!(rt; of_runs(alloc, &[RUNS[0], (2, "f", "", 3, 1), RUNS[2]])? == at(Table::Run, 2, 0));
+    assert!(rt; of_runs(alloc, &[(1, "f", "q1", 1, 1), RUNS[1], RUNS[2]])? == at(Table::Run, 1, 0));
+    assert!(rt; of_runs(alloc, &[RUNS[0], (2, "f", "", 2, 0), RUNS[2]])? == at(Table::Run, 2, 0));
+    assert!(rt; of_runs(alloc, &[RUNS[0], RUNS[1], (3, "f", "q2", 1, 1)])? == at(Table::Run, 3, 0));
+    Ok(())
+}
+
+#[test]
+fn events_go_on_without_gap(rt: HostRuntime) -> Result<(), Fail> {
+    let alloc = rt.alloc();
+    let gap = [
+        EVENTS[0], EVENTS[1], EVENTS[3], EVENTS[4], EVENTS[5], EVENTS[6], EVENTS[7],
+    ];
+    assert!(rt; of_events(alloc, &gap)? == at(Table::Event, 1, 3));
+    let none = [
+        EVENTS[0], EVENTS[1], EVENTS[2], EVENTS[3], EVENTS[6], EVENTS[7],
+    ];
+    assert!(rt; of_events(alloc, &none)? == at(Table::Event, 2, 1));
+    Ok(())
+}
+
+#[test]
+fn each_event_reads(rt: HostRuntime) -> Result<(), Fail> {
+    let alloc = rt.alloc();
+    let front = [
+        EVENTS[0], EVENTS[1], EVENTS[2], EVENTS[3], EVENTS[4], EVENTS[5], EVENTS[6],
+    ];
+    let mut rows = store(alloc)?;
+    rows.events = with_last(alloc, &front, (3, 2, 14, "{}"))?;
+    assert!(rt; found(alloc, &rows)? == unread(3, 2, Code::BadKind));
+    rows.events = with_last(alloc, &front, (3, 2, 8, "{}"))?;
+    assert!(rt; found(alloc, &rows)? == unread(3, 2, Code::BadBody));
+    rows.events = with_last(alloc, &front, (3, 2, 8, "{\"at\": 1000,\"due\":1100}"))?;
+    assert!(rt; found(alloc, &rows)? == unread(3, 2, Code::SecondSpelling));
+    Ok(())
+}
+
+fn with_last(
+    alloc: Global,
+    front: &[EventCells],
+    last: EventCells,
+) -> Result<Sequence<EventRow>, Fail> {
+    let mut rows = events(alloc, front)?;
+    let (run, id, kind, body) = last;
+    rows.push(EventRow {
+        run,
+        id,
+        kind,
+        body: RawText::new(alloc, body)?,
+    })?;
+    Ok(rows)
+}
+
+#[test]
+fn a_run_starts_once(rt: HostRuntime) -> Result<(), Fail> {
+    let alloc = rt.alloc();
+    let mut rows = store(alloc)?;
+    rows.events = with_last(alloc, &EVENTS, (3, 3, 1, STARTED))?;
+    assert!(rt; found(alloc, &rows)? == at(Table::Event, 3, 3));
+    rows.events = with_last(alloc, &EVENTS, (4, 7, 1, STARTED))?;
+    assert!(rt; found(alloc, &rows)? == at(Table::Event, 4, 7));
+    Ok(())
+}
+
+#[test]
+fn timers_are_those_that_are_open(rt: HostRuntime) -> Result<(), Fail> {
+    let alloc = rt.alloc();
+    assert!(rt; of_timers(alloc, &[])? == at(Table::Timer, 3, 2));
+    assert!(rt; of_timers(alloc, &[(3, 2, 1101)])? == at(Table::Timer, 3, 2));
+    assert!(rt; of_timers(alloc, &[(3, 1, 5), (3, 2, 1100)])? == at(Table::Timer, 3, 1));
+    assert!(rt; of_timers(alloc, &[(0, 9, 5), (3, 2, 1100)])? == at(Table::Timer, 0, 9));
+    Ok(())
+}
+
+#[test]
+fn the_outbox_is_what_is_open(rt: HostRuntime) -> Result<(), Fail> {
+    let alloc = rt.alloc();
+    assert!(rt; of_outbox(alloc, &[])? == at(Table::Outbox, 2, 2));
+    assert!(rt; of_outbox(alloc, &[(2, 2, 4, 1000)])? == at(Table::Outbox, 2, 2));
+    assert!(rt; of_outbox(alloc, &[(2, 2, 1, -1)])? == at(Table::Outbox, 2, 2));
+    assert!(rt; of_outbox(alloc, &[(1, 2, 1, 1000), (2, 2, 1, 1000)])? == at(Table::Outbox, 1, 2));
+    Ok(())
+}
+
+#[test]
+fn of_two_damages_the_first_table_counts(rt: HostRuntime) -> Result<(), Fail> {
+    let alloc = rt.alloc();
+    let mut rows = store(alloc)?;
+    rows.outbox = outbox(alloc, &[])?;
+    rows.timers = timers(alloc, &[])?;
+    assert!(rt; found(alloc, &rows)? == at(Table::Timer, 3, 2));
+    rows.events = events(alloc, &EVENTS[..7])?;
+    assert!(rt; found(alloc, &rows)? == at(Table::Outbox, 2, 2));
+    Ok(())
+}
