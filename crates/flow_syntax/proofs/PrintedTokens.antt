@@ -18,6 +18,7 @@ use Rattle.flow_base.specs.declared.token.Token.{Token}
 use Rattle.flow_model.specs.Lexeme.{Lexeme, lexemes}
 use Rattle.flow_model.specs.Tokens.{spelled, is_plain, is_letter, is_digit, is_name_byte, is_letters, front, keywords, keyword_of, unquoted, behind_escape, after_character, text_word, name_word, int_word, with_rest, word_or_name, with_digit, number_of, number_word, has_leading_zero, is_blank, past_gap, past_comment, Scans}
 use Rattle.flow_base.specs.Syntax.{Program}
+use Rattle.flow_tokens.proofs.Relation.{reads_of_scans}
 use Rattle.flow_syntax.specs.Print.{words_of, written, all_written, spelled_word, spaced, joined, listed, parameter_words, in_braces, declarations_words, block_words, program_words, IsWritable, AllWritable, IsPrintable, ArePrintable, HasTokens}
 
 ---- Marks
@@ -234,7 +235,8 @@ words_are_tokens : (w : Word) (ws : List Word) → ArePrintable (w ∷ ws) → H
 words_are_tokens w ws h =
     let text : List ℕ = spelled_word w ++ spaced ws in
     let found = words_scanned (length text) w ws h in
-    (found.0, subst (λ x. Scans (length text) x found.0 None) (sym (solid text (w, spaced ws) (word_before w ws h.0))) found.1, found.2)
+    let scanned = subst (λ x. Scans (length text) x found.0 None) (sym (solid text (w, spaced ws) (word_before w ws h.0))) found.1 in
+    (found.0, reads_of_scans (length text) (past_gap text) found.0 None scanned, found.2)
 
 -- the tokens of what a program prints as are its words
 pub program_scanned : (p : Program) → ArePrintable (program_words p) → HasTokens (joined (program_words p)) (program_words p)

@@ -20,7 +20,7 @@ use Rattle.flow_base.specs.Syntax.{Bytes, Expression, Retry, Statement, Block, E
 use Rattle.flow_base.specs.Bare.{bare}
 use Rattle.flow_model.specs.Lexeme.{Lexeme, lexemes}
 use Rattle.flow_model.specs.Grammar.{Reads}
-use Rattle.flow_model.specs.Tokens.{spelled, is_letters, past_gap, Scans}
+use Rattle.flow_model.specs.Tokens.{spelled, is_letters, TokensOf}
 use Rattle.flow_base.specs.declared.token.Token.{Token}
 
 ---- Expressions
@@ -271,8 +271,8 @@ ArePrintable (w ∷ ws) = IsPrintable w × ArePrintable ws
 
 -- the text has tokens, to its end, and these are their words
 abbrev pub HasTokens : Bytes → List Word → Type 0
-HasTokens text ws = (ts : List Token) × (Scans (length text) (past_gap text) ts None) × (words_of (lexemes ts) ≡ ws)
+HasTokens text ws = (ts : List Token) × (TokensOf text ts None) × (words_of (lexemes ts) ≡ ws)
 
 -- the grammar reads the tokens of the text as the program, up to places
 abbrev pub IsTextOf : Bytes → Program → Type 0
-IsTextOf text p = (ts : List Token) × (Scans (length text) (past_gap text) ts None) × (q : Program) × (Reads (lexemes ts) q) × (bare q ≡ bare p)
+IsTextOf text p = (ts : List Token) × (TokensOf text ts None) × (q : Program) × (Reads (lexemes ts) q) × (bare q ≡ bare p)
