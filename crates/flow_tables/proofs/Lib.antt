@@ -1,2 +1,10 @@
 pub mod Texts
 pub mod ChangeTexts
+pub mod Leaves
+pub mod Params
+pub mod Within
+pub mod Numbered
+pub mod Lists
+pub mod Tables
+pub mod Inserting
+pub mod Added

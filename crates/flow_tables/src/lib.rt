@@ -1,4 +1,5 @@
 //! The book in six SQL tables.
 #![tactic(auto)]
 
+pub mod changes;
 pub mod control;
