@@ -8,3 +8,8 @@ pub mod Lists
 pub mod Tables
 pub mod Inserting
 pub mod Added
+pub mod Gone
+pub mod Choosing
+pub mod Deleting
+pub mod Shapes
+pub mod Removed
