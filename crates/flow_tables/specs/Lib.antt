@@ -1,3 +1,4 @@
 pub mod Layout
 pub mod Stored
 pub mod States
+pub mod Opening
