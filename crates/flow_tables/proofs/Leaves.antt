@@ -13,7 +13,7 @@ use Rattle.sqlite.specs.Clock.{timed}
 use Rattle.sqlite.proofs.Callers.{IsPlain, command_of}
 use Rattle.sqlite_resolve.specs.declared.compiled.Compiled.{Compiled}
 use Rattle.sqlite_resolve.specs.declared.error.CompileError.{CompileError}
-use Rattle.flow_tables.specs.States.{HasTables, IsOver, IsStill, IsUndone, IsRefused, GoesOn, HasEnded}
+use Rattle.flow_tables.specs.States.{HasTables, IsOver, IsStill, IsUndone, IsRefused, GoesOn, HasEnded, IsAtRest}
 
 -- A disk that tells no lie after a call told none before it.
 pub was_clean : (old new : State) (P : Trees → Type 0) → Survives old new P → HasCleanDisk new → HasCleanDisk old
@@ -76,3 +76,8 @@ module _ (old new : State) where
   pub left_open : IsUnchanged old new ⊎ IsRolledBack old new → IsTrue new.is_open → IsTrue old.is_open
   left_open (inl same) up = same.0.was_open
   left_open (inr undone) up = undone.was_open up
+
+  pub rest_ended : IsAtRest old → IsUnchanged old new ⊎ IsRolledBack old new → HasEnded old new
+  rest_ended rest (inl same) =
+      record { was_open = λ up. same.0.was_open; mode = same.0.mode ∙ rest.0; back = λ up. (same.0.now_is ∙ rest.1 same.0.was_open, same.0.committed_is) }
+  rest_ended rest (inr undone) = rolled_back_ended undone

@@ -13,3 +13,9 @@ pub mod Choosing
 pub mod Deleting
 pub mod Shapes
 pub mod Removed
+pub mod Transactions
+pub mod Compiling
+pub mod StaysShut
+pub mod Stops
+pub mod Making
+pub mod Finding

@@ -2,3 +2,4 @@ pub mod Layout
 pub mod Stored
 pub mod States
 pub mod Coming
+pub mod Opening

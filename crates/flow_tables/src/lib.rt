@@ -3,3 +3,4 @@
 
 pub mod changes;
 pub mod control;
+pub mod create;
