@@ -8,4 +8,6 @@ pub mod BookRuns
 pub mod BookTables
 pub mod Undamaged
 pub mod Agreed
+pub mod Telling
+pub mod OneMore
 pub mod Laws
