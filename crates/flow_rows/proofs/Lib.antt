@@ -10,4 +10,5 @@ pub mod Undamaged
 pub mod Agreed
 pub mod Telling
 pub mod OneMore
+pub mod WholeChanges
 pub mod Laws
