@@ -11,4 +11,5 @@ pub mod Agreed
 pub mod Telling
 pub mod OneMore
 pub mod WholeChanges
+pub mod Finds
 pub mod Laws
