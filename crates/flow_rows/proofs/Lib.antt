@@ -12,4 +12,5 @@ pub mod Telling
 pub mod OneMore
 pub mod WholeChanges
 pub mod Finds
+pub mod Singles
 pub mod Laws
