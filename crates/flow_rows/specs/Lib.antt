@@ -3,3 +3,5 @@ pub mod Damages
 pub mod Reading
 pub mod Standing
 pub mod Changes
+pub mod Finding
+pub mod Told

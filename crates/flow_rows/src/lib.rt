@@ -7,6 +7,7 @@ pub mod found;
 pub mod outbox;
 pub mod rows;
 pub mod runs;
+pub mod single;
 pub mod strays;
 #[cfg(test)]
 mod tests;
