@@ -13,3 +13,5 @@ pub mod Choosing
 pub mod Deleting
 pub mod Shapes
 pub mod Removed
+pub mod Marking
+pub mod Updating
