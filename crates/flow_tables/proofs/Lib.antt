@@ -19,3 +19,5 @@ pub mod StaysShut
 pub mod Stops
 pub mod Making
 pub mod Finding
+pub mod Marking
+pub mod Updating
