@@ -3,3 +3,4 @@
 
 pub mod control;
 pub mod create;
+pub mod open;
