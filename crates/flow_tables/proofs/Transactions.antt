@@ -135,13 +135,13 @@ module _ (sql : List ℕ) (old new : State) (e : Error) (command : Command) (is 
   ends_anyway (inl (inl none)) = elim none.0 [
     | inl broken ↦ absurd (subst IsPlain broken.1 plain)
     | inr odd ↦
-      let bare = subst IsPlain odd.1 plain in
-      let all = subst (IsWhole sql) odd.1 whole in
-      absurd (elim odd.2 [
-        | inl cut ↦ cut.0 all.0
-        | inr (inl given) ↦ given.0 (sym (ap length all.1))
-        | inr (inr times) ↦ times.0 bare.1
-      ])
+        let bare = subst IsPlain odd.1 plain in
+        let all = subst (IsWhole sql) odd.1 whole in
+        absurd (elim odd.2 [
+          | inl cut ↦ cut.0 all.0
+          | inr (inl given) ↦ given.0 (sym (ap length all.1))
+          | inr (inr times) ↦ times.0 bare.1
+        ])
   ]
   ends_anyway (inl (inr fails)) = fails.3
   ends_anyway (inr it) = elim (cases_Bool (shows_rows false it.0)) [
@@ -153,11 +153,13 @@ module _ (sql : List ℕ) (old new : State) (e : Error) (command : Command) (is 
       hidden Commit last c h = true≢false (sym h)
       hidden Rollback last c h = true≢false (sym h)
       hidden _ last c h = last
+
       shown : (c : Compiled) → understood old.now.schema sql ≡ Ok c → ¬ (shows_rows false c ≡ true)
       shown c known shows =
           let same : c.command ≡ command = sym (ap command_of known) ∙ is in
           let bare = subst IsPlain known plain in
           hidden command ends c (subst (λ k. shows_rows false (record c { command = k; returning = None }) ≡ true) same (rw bare.0 at shows))
+
       ran : (c : Compiled) → understood old.now.schema sql ≡ Ok c → (params : Row) → RunsCommand old new sql c params (Err e) → IsRolledBack old new
       ran c known params (inl refused) =
           let same : command ≡ c.command = sym (sym (ap command_of known) ∙ is) in

@@ -4,3 +4,4 @@
 pub mod changes;
 pub mod control;
 pub mod create;
+pub mod open;
