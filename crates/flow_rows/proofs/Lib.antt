@@ -13,4 +13,5 @@ pub mod OneMore
 pub mod WholeChanges
 pub mod Finds
 pub mod Singles
+pub mod Recalls
 pub mod Laws

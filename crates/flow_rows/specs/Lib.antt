@@ -5,3 +5,4 @@ pub mod Standing
 pub mod Changes
 pub mod Finding
 pub mod Told
+pub mod Recalling
