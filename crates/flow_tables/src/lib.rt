@@ -4,3 +4,5 @@
 pub mod control;
 pub mod create;
 pub mod open;
+#[cfg(test)]
+mod tests;
