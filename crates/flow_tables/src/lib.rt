@@ -5,3 +5,5 @@ pub mod changes;
 pub mod control;
 pub mod create;
 pub mod open;
+#[cfg(test)]
+mod tests;
