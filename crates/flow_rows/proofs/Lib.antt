@@ -14,4 +14,5 @@ pub mod WholeChanges
 pub mod Finds
 pub mod Singles
 pub mod Recalls
+pub mod Recalled
 pub mod Laws
