@@ -1,6 +1,9 @@
 -- What a connection shows, and what became of it by a call.
 use Rattle.std.specs.Prelude.{◌≡◌, ◌⊎◌, Bool, true, false, List, [], ◌∷◌, IsTrue}
-use Rattle.sqlite.specs.Tree.{Trees}
+use Rattle.std.specs.List.{AllByRecursion}
+use Rattle.sqlite.specs.Order.{Row}
+use Rattle.sqlite.specs.Tree.{Trees, rowid, IsTable}
+use Rattle.sqlite.specs.View.{is_int}
 use Rattle.sqlite.specs.Effect.{Database}
 use Rattle.sqlite.specs.State.{State, HasCleanDisk, IsUnchanged}
 use Rattle.sqlite_catalog.specs.Listing.{IsSound}
@@ -8,10 +11,16 @@ use Rattle.flow_rows.specs.Rows.{Tables}
 use Rattle.flow_tables.specs.Layout.{schema}
 use Rattle.flow_tables.specs.Stored.{tables_in, format_row}
 
+-- the numbers of the rows are whole and rise, so none comes twice
+abbrev pub AreNumbered : List Row → Type 0
+AreNumbered rows = IsTable rows × AllByRecursion (λ r. IsTrue (is_int (rowid r))) rows
+
 -- The trees of a file with our tables, in their format.
 pub record AreOurs (db : Trees) : Type 0 where
   pub sound : IsSound schema db
   pub format : db 0 ≡ format_row ∷ []
+  -- what is sound in SQL says nothing of the order of rows
+  pub numbered : AllByRecursion (λ t. AreNumbered (db t.tree)) schema.tables
 
 pub record HasTables (db : Database) : Type 0 where
   pub laid_out : db.schema ≡ schema
