@@ -1,3 +1,9 @@
 pub mod Texts
+pub mod Leaves
 pub mod ReadTexts
 pub mod Ordered
+pub mod Rising
+pub mod Columns
+pub mod Reading
+pub mod Found
+pub mod Asked

@@ -1,3 +1,5 @@
 pub mod Layout
 pub mod Stored
 pub mod States
+pub mod Faults
+pub mod Reads

@@ -5,7 +5,7 @@ use Rattle.sqlite.specs.Order.{Row}
 use Rattle.sqlite.specs.Tree.{Trees, rowid, IsTable}
 use Rattle.sqlite.specs.View.{is_int}
 use Rattle.sqlite.specs.Effect.{Database}
-use Rattle.sqlite.specs.State.{State, HasCleanDisk, IsUnchanged}
+use Rattle.sqlite.specs.State.{State, HasCleanDisk, Shows}
 use Rattle.sqlite_catalog.specs.Listing.{IsSound}
 use Rattle.flow_rows.specs.Rows.{Tables}
 use Rattle.flow_tables.specs.Layout.{schema}
@@ -48,6 +48,33 @@ pub record IsUndone (old new : State) : Type 0 where
   pub mode : new.in_transaction ≡ false
   pub over : IsTrue new.is_open → IsOver false new × (new.now ≡ old.committed) × (new.committed ≡ old.committed)
 
+-- The tables are as they were, and so is what the last commit left.
+abbrev pub IsStill : Bool → State → State → Type 0
+IsStill inside old new = IsOver inside new × (new.now ≡ old.now) × (new.committed ≡ old.committed)
+
 -- A refused statement has changed nothing, or the transaction has ended.
 abbrev pub IsRefused : Bool → State → State → Type 0
-IsRefused inside old new = (IsOver inside new × (new.now ≡ old.now) × (new.committed ≡ old.committed)) ⊎ IsUndone old new
+IsRefused inside old new = IsStill inside old new ⊎ IsUndone old new
+
+---- Whatever tables there are
+
+-- A transaction was begun, and nothing else changed.
+abbrev pub HasBegun : State → State → Type 0
+HasBegun old new = (old.in_transaction ≡ false) × Shows old new old.now old.committed true
+
+-- What the transaction showed is committed.
+abbrev pub HasCommitted : State → State → Type 0
+HasCommitted old new = IsTrue old.in_transaction × Shows old new old.now old.now false
+
+-- The transaction goes on, and what the last commit left is as it was.
+pub record GoesOn (old new : State) : Type 0 where
+  pub was_open : IsTrue old.is_open
+  pub is_open : IsTrue new.is_open
+  pub mode : new.in_transaction ≡ true
+  pub committed : new.committed ≡ old.committed
+
+-- No transaction runs any more, and the connection shows what the last commit left, unless the store has shut it.
+pub record HasEnded (old new : State) : Type 0 where
+  pub was_open : IsTrue new.is_open → IsTrue old.is_open
+  pub mode : new.in_transaction ≡ false
+  pub back : IsTrue new.is_open → (new.now ≡ old.committed) × (new.committed ≡ old.committed)

@@ -2,3 +2,6 @@
 #![tactic(auto)]
 
 pub mod control;
+mod fault;
+pub mod reads;
+mod rows;
