@@ -21,3 +21,10 @@ pub mod Making
 pub mod Finding
 pub mod Marking
 pub mod Updating
+pub mod ReadTexts
+pub mod Ordered
+pub mod Rising
+pub mod Columns
+pub mod Reading
+pub mod Found
+pub mod Asked

@@ -3,3 +3,5 @@ pub mod Stored
 pub mod States
 pub mod Coming
 pub mod Opening
+pub mod Faults
+pub mod Reads

@@ -7,3 +7,6 @@ pub mod create;
 pub mod open;
 #[cfg(test)]
 mod tests;
+mod fault;
+pub mod reads;
+mod rows;
