@@ -28,3 +28,4 @@ pub mod Columns
 pub mod Reading
 pub mod Found
 pub mod Asked
+pub mod Parts

@@ -5,3 +5,5 @@ pub mod Coming
 pub mod Opening
 pub mod Faults
 pub mod Reads
+pub mod Own
+pub mod Puts

@@ -5,6 +5,7 @@ pub mod changes;
 pub mod control;
 pub mod create;
 pub mod open;
+pub mod puts;
 #[cfg(test)]
 mod tests;
 mod fault;
