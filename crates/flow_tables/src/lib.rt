@@ -1,13 +1,15 @@
 //! The book in six SQL tables.
 #![tactic(auto)]
 
+#[cfg(test)]
+mod change_tests;
 pub mod changes;
 pub mod control;
 pub mod create;
+pub mod fault;
 pub mod open;
 pub mod puts;
-#[cfg(test)]
-mod tests;
-mod fault;
 pub mod reads;
 mod rows;
+#[cfg(test)]
+mod tests;
