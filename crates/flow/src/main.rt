@@ -8,7 +8,7 @@ use flow_cli::call::{Call, call_of};
 use flow_cli::check::check_text;
 use flow_cli::drive::{Stopped, drive_lines, end_status};
 use flow_cli::fault::{Fault, fault_line};
-use flow_machine::language::Language;
+use flow_check::language::Language;
 use flow_view::lists::Lists;
 use std::io::{BufReader, ErrorKind};
 use std::process::ExitCode;
