@@ -214,7 +214,9 @@ fn texts_are_tried_first(rt: HostRuntime) -> Result<(), Fail> {
 fn each_text_parses_and_checks(rt: HostRuntime) -> Result<(), Fail> {
     let alloc = rt.alloc();
     assert!(rt; of_texts(alloc, &[(1, "workflow a( {}"), (2, B)])? == at(Table::Text, 0, 1));
-    assert!(rt; of_texts(alloc, &[(1, A), (2, "workflow x() { y = 1; }")])? == at(Table::Text, 0, 2));
+    assert!(rt;
+        of_texts(alloc, &[(1, A), (2, "workflow x() { y = 1; }")])? == at(Table::Text, 0, 2)
+    );
     Ok(())
 }
 
