@@ -5,7 +5,7 @@ ghost use Rattle.flow_cli.specs.Verdicts.{verdict_of, verdict_text, verdict_stat
 use crate::fault::Fault;
 use flow_base::command::TextFault;
 use flow_base::text::RawText;
-use flow_machine::texts::Texts;
+use flow_check::texts::Texts;
 use std::alloc::{AllocError, Global};
 
 /// Whether a text is a program.

@@ -1,4 +1,4 @@
-ghost use Rattle.flow_machine.specs.Language.{meaning_of};
+ghost use Rattle.flow_check.specs.Language.{meaning_of};
 ghost use Rattle.flow_machine.specs.Soundness.{NoBookIsSound, NoTextUnread, ReadsWellFormed, SoundAfter, SoundDecides, TextsReadAfter};
 ghost use Rattle.flow_model.specs.Apply.{rules_of};
 

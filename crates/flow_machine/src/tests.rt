@@ -1,6 +1,5 @@
 //! Each command decided over plain lists, with ample memory.
 use crate::decide::decide;
-use crate::language::Language;
 use flow_base::code::Code;
 use flow_base::command::{Command, Reply};
 use flow_base::event::{Cmd, State, What};
@@ -8,6 +7,7 @@ use flow_base::number::{EventId, Moment, RunId, TextNo};
 use flow_base::sequence::Sequence;
 use flow_base::text::{Key, RawText};
 use flow_base::value::Value;
+use flow_check::language::Language;
 use flow_view::lists::Lists;
 use std::alloc::Global;
 use std::test::Fail;

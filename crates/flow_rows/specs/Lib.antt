@@ -2,3 +2,4 @@ pub mod Rows
 pub mod Damages
 pub mod Reading
 pub mod Standing
+pub mod Changes

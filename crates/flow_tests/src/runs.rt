@@ -1,6 +1,6 @@
 //! Runs, as `flow drive -` tells them.
+use flow_check::language::Language;
 use flow_cli::drive::drive_lines;
-use flow_machine::language::Language;
 use flow_view::lists::Lists;
 use std::test::Fail;
 

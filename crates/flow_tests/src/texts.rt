@@ -1,7 +1,7 @@
 //! Texts: what `flow check` says of them, and that a printed program is read as the same program.
 use flow_base::syntax::{Declaration, Expr, Parameter, Program, Stmt, TypeAt};
+use flow_check::language::Language;
 use flow_cli::check::check_text;
-use flow_machine::language::Language;
 use flow_syntax::parse::parse;
 use flow_syntax::print::print;
 use std::test::Fail;

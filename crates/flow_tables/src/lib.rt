@@ -1,0 +1,4 @@
+//! The book in six SQL tables.
+#![tactic(auto)]
+
+pub mod control;
