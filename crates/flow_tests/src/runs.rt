@@ -179,3 +179,21 @@ fn a_bad_line_is_one_reply_and_disturbs_nothing(rt: HostRuntime) -> Result<(), F
     assert!(rt; replies_to(&rt, &lines, &replies, 1)?);
     Ok(())
 }
+
+/// A line that registers a text of so many spaces.
+fn register_spaces(rt: &HostRuntime, count: usize) -> Result<String, Fail> {
+    let spaces = " ".repeat(rt.alloc(), count)?;
+    Ok(format!(in rt.alloc(); "{{\"do\":\"register\",\"src\":\"{spaces}\"}}\n")?)
+}
+
+#[test]
+fn a_line_of_a_megabyte_is_answered(rt: HostRuntime) -> Result<(), Fail> {
+    let long = register_spaces(&rt, 1_000_000)?;
+    let lines = [long.as_str(), REGISTER_A];
+    let replies = [
+        "{\"at\":65536,\"code\":\"E12\",\"reply\":\"refused\"}\n",
+        REGISTERED,
+    ];
+    assert!(rt; replies_to(&rt, &lines, &replies, 0)?);
+    Ok(())
+}
