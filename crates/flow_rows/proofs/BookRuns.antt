@@ -18,25 +18,15 @@ use Rattle.flow_rows.specs.declared.found.Table.TheVariants as table
 use Rattle.flow_rows.specs.Rows.{events_of, tasks_of, request_text, open_number, run_row, run_rows, activities_left}
 use Rattle.flow_rows.specs.Damages.{unless, closes, flow_fits, has_request, request_is_new, request_fits, is_open_of, flow_is_free, mark_fits, cells_fit, run_fits, damages_of_runs, is_begun, damages_from, damages_of_history, damages_of_events, read_event, history_from, history_of, histories, differs, task_difference, damages_of_outbox}
 use Rattle.flow_rows.specs.Standing.{IsRequest, IsKept, AreApart, AreKept}
+use Rattle.flow_rows.specs.Told.{whole, request_of, run_told}
 use Rattle.flow_rows.proofs.BookTexts.{front_none, rest_none, holds, both_left, both_right}
 use Rattle.flow_rows.proofs.Histories.{is_event, events_are}
 use Rattle.flow_rows.proofs.Openness.{is_open_where}
-use Rattle.flow_rows.proofs.LeftOpen.{whole, task_of, in_range, tasks_named, tasks_are}
-
-abbrev pub request_of : Bytes → Option Bytes
-request_of [] = None
-request_of (c ∷ cs) = Some (c ∷ cs)
+use Rattle.flow_rows.proofs.LeftOpen.{in_range, tasks_named, tasks_are}
 
 -- the run that a row and the rows of its number tell
 abbrev pub book_run : List EventRow → List OutboxRow → ℕ → RunRow → Run
-book_run events outbox n r =
-    record {
-      flow = r.flow;
-      request = request_of r.req;
-      text = whole r.textnum;
-      history = history_of events (pos n);
-      tasks = map task_of (tasks_of outbox (pos n));
-    }
+book_run events outbox n r = run_told (events_of events (pos n)) (tasks_of outbox (pos n)) r
 
 abbrev pub book_runs : List EventRow → List OutboxRow → ℕ → List RunRow → List Run
 book_runs events outbox n [] = []

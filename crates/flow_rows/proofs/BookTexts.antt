@@ -9,6 +9,7 @@ use Rattle.flow_rows.specs.declared.found.Table.{Table}
 use Rattle.flow_rows.specs.declared.found.Table.TheVariants as table
 use Rattle.flow_rows.specs.Rows.{text_rows}
 use Rattle.flow_rows.specs.Damages.{unless, text_fits, damages_of_texts}
+use Rattle.flow_rows.specs.Told.{body_of}
 
 pub front_none : {A : Type 0} (xs ys : List A) → xs ++ ys ≡ [] → xs ≡ []
 front_none [] ys h = refl
@@ -30,9 +31,6 @@ both_left false b h = absurd (let same = h in cc)
 pub both_right : (a b : Bool) → (a && b) ≡ true → b ≡ true
 both_right true b h = h
 both_right false b h = absurd (let same = h in cc)
-
-abbrev pub body_of : TextRow → Bytes
-body_of r = r.body
 
 abbrev text_cells : ℤ → Bytes → TextRow
 text_cells num body = record { num = num; body = body }

@@ -14,6 +14,7 @@ use Rattle.flow_rows.specs.declared.rows.OutboxRow.{OutboxRow}
 use Rattle.flow_rows.specs.Rows.{timers_of, tasks_of, timer_row, task_row}
 use Rattle.flow_rows.specs.Damages.{timer_fits, timer_difference, tries_at, last_moment, attempt_fits, task_fits, task_difference}
 use Rattle.flow_rows.specs.Standing.{AreTasks}
+use Rattle.flow_rows.specs.Told.{whole, task_of}
 use Rattle.flow_rows.proofs.BookTexts.{both_left, both_right}
 
 timer_named : (run : ℤ) (r : TimerRow) (rs : List TimerRow) (b : Bool) → int_eq r.run run ≡ b → AllByRecursion (λ r. r.run ≡ run) (timers_of rs run)
@@ -59,14 +60,6 @@ timers_are run (r ∷ rs) [] names none = absurd (a_difference r.id none)
 timers_are run (r ∷ rs) (t ∷ ts) names none =
     let step = timer_step rs ts r t (timer_fits r t) refl none in
     ap (λ x. x ∷ rs) (timer_is run r t names.0 step.0) ∙ ap (λ xs. timer_row run t ∷ xs) (timers_are run rs ts names.1 step.1)
-
--- a whole number that isn't negative
-abbrev pub whole : ℤ → ℕ
-whole (pos n) = n
-whole (negsuc n) = 0
-
-abbrev pub task_of : OutboxRow → Task
-task_of r = record { event = whole r.id; attempt = whole r.attempt; ready = whole r.ready }
 
 -- a number in a range is whole
 pub in_range : (low high : ℕ) (z : ℤ) → int_le (pos low) z ≡ true → int_le z (pos high) ≡ true → (pos (whole z) ≡ z) × Within low high (whole z)

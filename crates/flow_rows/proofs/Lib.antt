@@ -8,4 +8,11 @@ pub mod BookRuns
 pub mod BookTables
 pub mod Undamaged
 pub mod Agreed
+pub mod Telling
+pub mod OneMore
+pub mod WholeChanges
+pub mod Finds
+pub mod Singles
+pub mod Recalls
+pub mod Recalled
 pub mod Laws

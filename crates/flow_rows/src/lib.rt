@@ -5,8 +5,10 @@ pub mod damage;
 pub mod events;
 pub mod found;
 pub mod outbox;
+pub mod recall;
 pub mod rows;
 pub mod runs;
+pub mod single;
 pub mod strays;
 #[cfg(test)]
 mod tests;

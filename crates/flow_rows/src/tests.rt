@@ -1,11 +1,17 @@
 //! Each rule of the tables broken once, and pairs of damages of which the first is named.
 use crate::damage::damage;
 use crate::found::{Damage, Table};
+use crate::recall::read_run;
 use crate::rows::{EventRow, OutboxRow, RunRow, StoreRows, TextRow, TimerRow, format_row};
+use crate::single;
+use flow_base::book::{Run, Timer};
 use flow_base::code::Code;
+use flow_base::event::{Cmd, Event, What};
+use flow_base::number::{EventId, Moment, RunId, TextNo};
 use flow_base::sequence::Sequence;
-use flow_base::text::RawText;
-use std::alloc::Global;
+use flow_base::text::{Key, RawText};
+use flow_base::value::Kind;
+use std::alloc::{AllocError, Global};
 use std::test::Fail;
 
 type TextCells = (i64, &'static str);
@@ -325,5 +331,146 @@ fn of_two_damages_the_first_table_counts(rt: HostRuntime) -> Result<(), Fail> {
     assert!(rt; found(alloc, &rows)? == at(Table::Timer, 3, 2));
     rows.events = events(alloc, &EVENTS[..7])?;
     assert!(rt; found(alloc, &rows)? == at(Table::Outbox, 2, 2));
+    Ok(())
+}
+
+fn number_of_event(number: u64) -> Result<EventId, Fail> {
+    Ok(EventId::new(number).ok_or(AllocError)?)
+}
+
+fn moment(milliseconds: u64) -> Result<Moment, Fail> {
+    Ok(Moment::new(milliseconds).ok_or(AllocError)?)
+}
+
+fn run_number(number: u64) -> Result<RunId, Fail> {
+    Ok(RunId::new(number).ok_or(AllocError)?)
+}
+
+fn timer_started() -> Result<Event, Fail> {
+    let id = number_of_event(2)?;
+    let at = moment(1000)?;
+    let due = moment(1100)?;
+    Ok(Event {
+        id,
+        at,
+        what: What::Asked(Cmd::StartTimer(due)),
+    })
+}
+
+fn called(alloc: Global, tries: u64, every: u64) -> Result<Event, Fail> {
+    let id = number_of_event(2)?;
+    let at = moment(1000)?;
+    let activity = Key::new(alloc, "c")?;
+    Ok(Event {
+        id,
+        at,
+        what: What::Asked(Cmd::Schedule(activity, Sequence::new(alloc), tries, every, Kind::Int)),
+    })
+}
+
+#[test]
+fn an_event_has_its_row(rt: HostRuntime) -> Result<(), Fail> {
+    let row = single::event_row(rt.alloc(), run_number(3)?, &timer_started()?)?;
+    let (run, id, kind, body) = EVENTS[7];
+    assert!(rt; row.run == run && row.id == id && row.kind == kind && row.body.as_str() == body);
+    Ok(())
+}
+
+#[test]
+fn a_row_has_limits(rt: HostRuntime) -> Result<(), Fail> {
+    let alloc = rt.alloc();
+    assert!(rt; single::fits_row(&called(alloc, 20, 86400000)?));
+    assert!(rt; !single::fits_row(&called(alloc, 21, 0)?));
+    assert!(rt; !single::fits_row(&called(alloc, 0, 0)?));
+    assert!(rt; !single::fits_row(&called(alloc, 1, 86400001)?));
+    Ok(())
+}
+
+#[test]
+fn a_new_run_is_not_open(rt: HostRuntime) -> Result<(), Fail> {
+    let alloc = rt.alloc();
+    let flow = Key::new(alloc, "f")?;
+    let text = TextNo::new(2).ok_or(AllocError)?;
+    let row = single::run_row(alloc, run_number(2)?, &flow, &None, text)?;
+    assert!(rt;
+        row.num == 2
+            && row.flow.as_str() == "f"
+            && row.req.as_str() == ""
+            && row.textnum == 2
+            && row.isopen == 0
+    );
+    Ok(())
+}
+
+#[test]
+fn a_request_stands_in_its_row(rt: HostRuntime) -> Result<(), Fail> {
+    let alloc = rt.alloc();
+    let flow = Key::new(alloc, "f")?;
+    let request = Some(Key::new(alloc, "q1")?);
+    let text = TextNo::new(1).ok_or(AllocError)?;
+    let row = single::run_row(alloc, run_number(1)?, &flow, &request, text)?;
+    assert!(rt; row.req.as_str() == "q1");
+    Ok(())
+}
+
+#[test]
+fn timers_and_tasks_have_rows(rt: HostRuntime) -> Result<(), Fail> {
+    let id = number_of_event(2)?;
+    let due = moment(1100)?;
+    let timer = single::timer_row(run_number(3)?, &Timer { id, due });
+    assert!(rt; timer.run == 3 && timer.id == 2 && timer.due == 1100);
+    let task = single::first_task_row(run_number(2)?, id, moment(1000)?);
+    assert!(rt; task.run == 2 && task.id == 2 && task.attempt == 1 && task.ready == 1000);
+    Ok(())
+}
+
+#[test]
+fn a_text_has_its_row(rt: HostRuntime) -> Result<(), Fail> {
+    let alloc = rt.alloc();
+    let number = TextNo::new(2).ok_or(AllocError)?;
+    let row = single::text_row(alloc, number, &RawText::new(alloc, "b")?)?;
+    assert!(rt; row.num == 2 && row.body.as_str() == "b");
+    Ok(())
+}
+
+/// Run 2 of the sound store.
+fn recalled(
+    alloc: Global,
+    cells: &RunCells,
+    history: &[EventCells],
+    tasks: &[TaskCells],
+) -> Result<Option<Run>, Fail> {
+    let row = run_row(alloc, cells)?;
+    let history = events(alloc, history)?;
+    let tasks = outbox(alloc, tasks)?;
+    Ok(read_run(alloc, &row, history.as_slice(), tasks.as_slice())?)
+}
+
+fn is_run_2(run: &Run) -> bool {
+    let tasks = run.tasks.as_slice();
+    run.flow.as_str() == "f"
+        && run.request.is_none()
+        && run.text.get() == 2
+        && run.history.len() == 2
+        && tasks.len() == 1
+        && tasks[0].event.get() == 2
+        && tasks[0].attempt == 1
+        && tasks[0].ready.get() == 1000
+}
+
+#[test]
+fn a_run_is_read_from_its_rows(rt: HostRuntime) -> Result<(), Fail> {
+    let run = recalled(rt.alloc(), &RUNS[1], &EVENTS[4..6], &OUTBOX)?;
+    assert!(rt; run.is_some_and(|run| is_run_2(&run)));
+    Ok(())
+}
+
+#[test]
+fn no_run_has_such_rows(rt: HostRuntime) -> Result<(), Fail> {
+    let alloc = rt.alloc();
+    assert!(rt; recalled(alloc, &(2, "", "", 2, 1), &EVENTS[4..6], &OUTBOX)?.is_none());
+    assert!(rt; recalled(alloc, &(2, "f", "", 0, 1), &EVENTS[4..6], &OUTBOX)?.is_none());
+    assert!(rt; recalled(alloc, &RUNS[1], &[(2, 1, 14, STARTED)], &OUTBOX)?.is_none());
+    assert!(rt; recalled(alloc, &RUNS[1], &EVENTS[4..6], &[(2, 2, 1, -1)])?.is_none());
     Ok(())
 }

@@ -1,0 +1,153 @@
+//! Rows of answers, read as what they say.
+ghost use Rattle.std.specs.Prelude.{◌≡◌, ℕ, ℤ, List, map, IfOk, IfErr};
+ghost use Rattle.sqlite_value.specs.Order.{column, bytes};
+ghost use Rattle.sqlite.specs.Order.{Row as SqlRow};
+ghost use Rattle.flow_tables.specs.Stored.{number_at};
+ghost use Rattle.flow_tables.specs.Reads.{IsMisread, AreMisread, number_said, text_said, text_row_said, run_row_said, event_row_said, timer_row_said, task_row_said};
+
+use crate::fault::StoreFault;
+use flow_base::text::RawText;
+use flow_rows::rows::{EventRow, OutboxRow, RunRow, TextRow, TimerRow};
+use sqlite::Row;
+use std::alloc::Global;
+
+fn number_at(row: &Row, at: usize) -> Result<i64, StoreFault>
+    ensures value { IfOk result (λ n. n ≡ number_at row.now at) }
+    ensures cause { IfErr result (IsMisread row.now) }
+{
+    match row.get(at) {
+        Ok(number) => Ok(number),
+        Err(error) => Err(StoreFault::from(error)),
+    }
+}
+
+fn text_at(alloc: Global, row: &Row, at: usize) -> Result<RawText, StoreFault>
+    ensures value { IfOk result (λ t. t ≡ bytes (column row.now at)) }
+    ensures cause { IfErr result (IsMisread row.now) }
+{
+    let found: Result<String, sqlite::Error> = row.get(at);
+    match found {
+        Ok(text) => match RawText::new(alloc, text.as_str()) {
+            Ok(text) => Ok(text),
+            Err(_) => Err(StoreFault::NoMemory),
+        },
+        Err(error) => Err(StoreFault::from(error)),
+    }
+}
+
+/// What a row of an answer says.
+pub(crate) trait Said: Sized {
+    ghost said: { SqlRow → Self };
+
+    fn read(alloc: Global, row: &Row) -> Result<Self, StoreFault>
+        ensures value { IfOk result (λ x. x ≡ said row.now) }
+        ensures cause { IfErr result (IsMisread row.now) };
+}
+
+impl Said for i64 {
+    ghost said = { number_said };
+
+    fn read(_: Global, row: &Row) -> Result<i64, StoreFault> {
+        number_at(row, 0)
+    }
+}
+
+impl Said for RawText {
+    ghost said = { text_said };
+
+    fn read(alloc: Global, row: &Row) -> Result<RawText, StoreFault> {
+        text_at(alloc, row, 0)
+    }
+}
+
+impl Said for TextRow {
+    ghost said = { text_row_said };
+
+    fn read(alloc: Global, row: &Row) -> Result<TextRow, StoreFault> {
+        let num = number_at(row, 0)?;
+        let body = text_at(alloc, row, 1)?;
+        Ok(TextRow { num, body })
+    }
+}
+
+impl Said for RunRow {
+    ghost said = { run_row_said };
+
+    fn read(alloc: Global, row: &Row) -> Result<RunRow, StoreFault> {
+        let num = number_at(row, 0)?;
+        let flow = text_at(alloc, row, 1)?;
+        let req = text_at(alloc, row, 2)?;
+        let textnum = number_at(row, 3)?;
+        let isopen = number_at(row, 4)?;
+        Ok(RunRow {
+            num,
+            flow,
+            req,
+            textnum,
+            isopen,
+        })
+    }
+}
+
+impl Said for EventRow {
+    ghost said = { event_row_said };
+
+    fn read(alloc: Global, row: &Row) -> Result<EventRow, StoreFault> {
+        let run = number_at(row, 0)?;
+        let id = number_at(row, 1)?;
+        let kind = number_at(row, 2)?;
+        let body = text_at(alloc, row, 3)?;
+        Ok(EventRow {
+            run,
+            id,
+            kind,
+            body,
+        })
+    }
+}
+
+impl Said for TimerRow {
+    ghost said = { timer_row_said };
+
+    fn read(_: Global, row: &Row) -> Result<TimerRow, StoreFault> {
+        let run = number_at(row, 0)?;
+        let id = number_at(row, 1)?;
+        let due = number_at(row, 2)?;
+        Ok(TimerRow { run, id, due })
+    }
+}
+
+impl Said for OutboxRow {
+    ghost said = { task_row_said };
+
+    fn read(_: Global, row: &Row) -> Result<OutboxRow, StoreFault> {
+        let run = number_at(row, 0)?;
+        let id = number_at(row, 1)?;
+        let attempt = number_at(row, 2)?;
+        let ready = number_at(row, 3)?;
+        Ok(OutboxRow {
+            run,
+            id,
+            attempt,
+            ready,
+        })
+    }
+}
+
+/// What the rows of an answer say.
+pub(crate) fn read_all<T: Said + Drop>(alloc: Global, rows: &[Row]) -> Result<Vec<T>, StoreFault>
+    ensures value { IfOk result (λ v. v.items ≡ map T.Said.said rows.now) }
+    ensures cause { IfErr result (AreMisread rows.now) }
+{
+    let mut list = Vec::new(alloc);
+    for row in rows {
+        let value = match T::read(alloc, row) {
+            Ok(value) => value,
+            Err(fault) => return Err(fault),
+        };
+        if list.push(value).is_err() {
+            return Err(StoreFault::NoMemory);
+        }
+    }
+    Ok(list)
+}
