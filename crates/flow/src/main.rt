@@ -4,11 +4,11 @@
 ghost use Rattle.std.specs.Prelude.{◌≡◌, ◌≤◌, IfOk, IfErr};
 ghost use Rattle.flow_cli.specs.Driving.{stopped_status};
 
+use flow_check::language::Language;
 use flow_cli::call::{Call, call_of};
 use flow_cli::check::check_text;
 use flow_cli::drive::{Stopped, drive_lines, end_status};
 use flow_cli::fault::{Fault, fault_line};
-use flow_machine::language::Language;
 use flow_view::lists::Lists;
 use std::io::{BufReader, ErrorKind};
 use std::process::ExitCode;

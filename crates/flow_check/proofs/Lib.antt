@@ -7,4 +7,5 @@ pub mod KindOfName
 pub mod Fitting
 pub mod Moments
 pub mod Beginnings
+pub mod Meaning
 mod TypedRows

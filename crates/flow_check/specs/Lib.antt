@@ -1,4 +1,5 @@
 pub mod Faults
+pub mod Language
 pub mod Shown
 pub mod Tables
 pub mod Typed

@@ -6,9 +6,11 @@ pub mod checked;
 pub mod expression;
 pub mod fault;
 pub mod first;
+pub mod language;
 pub mod laws;
 pub mod names;
 pub mod scope;
 pub mod statement;
 #[cfg(test)]
 mod tests;
+pub mod texts;

@@ -1,9 +1,11 @@
 use crate::check::check;
 use crate::fault::CheckFault;
+use crate::language::Language;
+use crate::texts::Texts;
 use flow_base::code::Code;
 use flow_base::command::TextFault;
 use flow_base::syntax::{Binary, Declaration, Expr, Parameter, Program, Stmt, TypeAt};
-use flow_base::text::{Key, Text};
+use flow_base::text::{Key, RawText, Text};
 use flow_base::value::Kind;
 use std::alloc::Global;
 use std::string::ToString;
@@ -237,11 +239,13 @@ fn most_names(rt: HostRuntime) -> Result<(), Fail> {
     let alloc = rt.alloc();
     let most = variables(alloc, 256)?;
     assert_eq!(rt; answer(alloc, statements(alloc, most)?), None);
-    let beyond = variables(alloc, 258)?;
-    assert_eq!(rt;
-        answer(alloc, statements(alloc, beyond)?),
-        fault(Code::TooManyNames, 256)
-    );
+    for count in [257, 258] {
+        let beyond = variables(alloc, count)?;
+        assert_eq!(&rt;
+            answer(alloc, statements(alloc, beyond)?),
+            fault(Code::TooManyNames, 256)
+        );
+    }
     Ok(())
 }
 
@@ -276,9 +280,30 @@ fn activity(alloc: Global, count: usize) -> Result<Program, Fail> {
 fn most_types(rt: HostRuntime) -> Result<(), Fail> {
     let alloc = rt.alloc();
     assert_eq!(rt; answer(alloc, activity(alloc, 256)?), None);
-    assert_eq!(rt;
-        answer(alloc, activity(alloc, 258)?),
-        fault(Code::TooManyNames, 256)
-    );
+    for count in [257, 258] {
+        assert_eq!(&rt;
+            answer(alloc, activity(alloc, count)?),
+            fault(Code::TooManyNames, 256)
+        );
+    }
+    Ok(())
+}
+
+/// The first fault of a text, and none for a program that keeps the rules.
+fn text_fault(alloc: Global, text: &str) -> Result<Option<TextFault>, Fail> {
+    let text = RawText::new(alloc, text)?;
+    match Language.read(alloc, &text)? {
+        Ok(_) => Ok(None),
+        Err(fault) => Ok(Some(fault)),
+    }
+}
+
+#[test]
+fn a_text_parses_and_checks(rt: HostRuntime) -> Result<(), Fail> {
+    let alloc = rt.alloc();
+    assert!(rt; text_fault(alloc, "workflow e() {}")?.is_none());
+    assert!(rt; text_fault(alloc, "")? == fault(Code::Unexpected, 0));
+    assert!(rt; text_fault(alloc, "workflow x( { }")? == fault(Code::Unexpected, 12));
+    assert!(rt; text_fault(alloc, "workflow x() { y = 1; }")? == fault(Code::NotVisible, 15));
     Ok(())
 }

@@ -3,3 +3,4 @@ pub mod Commands
 pub mod Replies
 pub mod Lines
 pub mod Answering
+pub mod Stopping

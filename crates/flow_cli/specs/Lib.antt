@@ -5,4 +5,5 @@ pub mod Commands
 pub mod Replies
 pub mod Verdicts
 pub mod Driving
+pub mod Stopping
 pub mod Answering

@@ -1,11 +1,11 @@
 //! What `flow check` says of a text.
-ghost use Rattle.std.specs.Prelude.{◌≡◌, IfOk, string_bytes};
+ghost use Rattle.std.specs.Prelude.{◌≡◌, IfOk, IfErr, string_bytes};
 ghost use Rattle.flow_cli.specs.Verdicts.{verdict_of, verdict_text, verdict_status};
 
 use crate::fault::Fault;
 use flow_base::command::TextFault;
 use flow_base::text::RawText;
-use flow_machine::texts::Texts;
+use flow_check::texts::Texts;
 use std::alloc::{AllocError, Global};
 
 /// Whether a text is a program.
@@ -42,6 +42,7 @@ impl Verdict {
 /// Checks a text by what reads texts.
 pub fn check_text<T: Texts>(alloc: Global, texts: &T, text: &str) -> Result<Verdict, Fault>
     ensures verdict { IfOk result (λ v. v ≡ verdict_of (T.meaning text.now)) }
+    ensures memory { IfErr result (λ e. e ≡ Fault.NoMemory) }
 {
     let text = RawText::new(alloc, text)?;
     match texts.read(alloc, &text)? {

@@ -11,7 +11,7 @@ use flow_base::number::{EventId, Moment, RunId, TextNo};
 use flow_base::sequence::Sequence;
 use flow_base::text::{Key, Text};
 use flow_base::value::Value;
-use flow_machine::language::Language;
+use flow_check::language::Language;
 use flow_view::lists::Lists;
 use std::alloc::Global;
 use std::io;

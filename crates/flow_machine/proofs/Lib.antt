@@ -1,4 +1,11 @@
 pub mod Meaning
+pub mod Causes
+pub mod Continuing
+pub mod Awaited
+pub mod Waiting
+pub mod Reading
+pub mod Unstuck
+pub mod Sticking
 pub mod Tries
 pub mod Leaves
 pub mod Places

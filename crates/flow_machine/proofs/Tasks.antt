@@ -78,10 +78,10 @@ turn_attempts r t w h =
 
 ---- Which are open
 
-abbrev events_of : List Task → List ℕ
+abbrev pub events_of : List Task → List ℕ
 events_of ts = map (λ (t : Task). t.event) ts
 
-kept_events : (n : ℕ) (ts : List Task) → events_of (without n ts) ≡ filter (λ m. not (nat_eq m n)) (events_of ts)
+pub kept_events : (n : ℕ) (ts : List Task) → events_of (without n ts) ≡ filter (λ m. not (nat_eq m n)) (events_of ts)
 kept_events n [] = refl
 kept_events n (t ∷ ts) =
     elim (not (nat_eq t.event n)) as (λ b. events_of (if b then t ∷ without n ts else without n ts) ≡ (if b then t.event ∷ filter (λ m. not (nat_eq m n)) (events_of ts) else filter (λ m. not (nat_eq m n)) (events_of ts))) [

@@ -1,5 +1,5 @@
-ghost use Rattle.flow_machine.specs.Language.{meaning_of};
-ghost use Rattle.flow_machine.specs.Soundness.{NoBookIsSound, ReadsWellFormed, SoundAfter};
+ghost use Rattle.flow_check.specs.Language.{meaning_of};
+ghost use Rattle.flow_machine.specs.Soundness.{NoBookIsSound, NoTextUnread, ReadsWellFormed, SoundAfter, SoundDecides, TextsReadAfter};
 ghost use Rattle.flow_model.specs.Apply.{rules_of};
 
 /// Commands lead from a book in which nothing is recorded, and from any sound book, to sound books alone.
@@ -8,4 +8,11 @@ pub fn sound_after()
     ensures after { SoundAfter }
     // The rules of the product are such rules.
     ensures language { ReadsWellFormed (rules_of meaning_of) }
+{}
+
+/// Over such books each command can be decided, unless the store refuses or the numbers of texts or runs have ended.
+pub fn sound_decides()
+    ensures nothing { NoTextUnread }
+    ensures after { TextsReadAfter }
+    ensures decides { SoundDecides }
 {}

@@ -4,10 +4,8 @@
 pub mod decide;
 mod description;
 mod kinds;
-pub mod language;
 pub mod laws;
 mod report;
 #[cfg(test)]
 mod tests;
-pub mod texts;
 mod turns;

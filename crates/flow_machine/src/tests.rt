@@ -1,6 +1,5 @@
 //! Each command decided over plain lists, with ample memory.
-use crate::decide::decide;
-use crate::language::Language;
+use crate::decide::{decide, decide_all};
 use flow_base::code::Code;
 use flow_base::command::{Command, Reply};
 use flow_base::event::{Cmd, State, What};
@@ -8,6 +7,7 @@ use flow_base::number::{EventId, Moment, RunId, TextNo};
 use flow_base::sequence::Sequence;
 use flow_base::text::{Key, RawText};
 use flow_base::value::Value;
+use flow_check::language::Language;
 use flow_view::lists::Lists;
 use std::alloc::Global;
 use std::test::Fail;
@@ -151,5 +151,33 @@ fn a_run_that_is_not_there_is_refused(rt: HostRuntime) -> Result<(), Fail> {
     assert!(rt; matches!(reply, Reply::Refused(Code::NoRun)));
     let (reply, _) = put(alloc, &mut book, history(2)?)?;
     assert!(rt; matches!(reply, Reply::Refused(Code::NoRun)));
+    Ok(())
+}
+
+fn path(alloc: Global) -> Result<Vec<Command>, Fail> {
+    Ok(vec![in alloc;
+        register(alloc, A)?,
+        start(alloc)?,
+        complete(2)?,
+        describe(1)?,
+    ]?)
+}
+
+#[test]
+fn commands_are_decided_in_turn(rt: HostRuntime) -> Result<(), Fail> {
+    let alloc = rt.alloc();
+    let mut book = Lists::new(alloc);
+    let commands = path(alloc)?;
+    let replies = decide_all(alloc, &Language, &mut book, commands.as_slice())?;
+    let are_told = match replies.as_slice() {
+        [
+            Reply::Registered(_),
+            Reply::Started(_),
+            Reply::Recorded(_, event),
+            Reply::Run(run),
+        ] => event.get() == 3 && run.events == 4 && run.state == State::Completed,
+        _ => false,
+    };
+    assert!(rt; are_told);
     Ok(())
 }

@@ -4,7 +4,6 @@ use crate::found::{Damage, Table};
 use crate::recall::read_run;
 use crate::rows::{EventRow, OutboxRow, RunRow, StoreRows, TextRow, TimerRow, format_row};
 use crate::single;
-use crate::texts::Programs;
 use flow_base::book::{Run, Timer};
 use flow_base::code::Code;
 use flow_base::event::{Cmd, Event, What};
@@ -14,21 +13,6 @@ use flow_base::text::{Key, RawText};
 use flow_base::value::Kind;
 use std::alloc::{AllocError, Global};
 use std::test::Fail;
-
-/// Takes each text that isn't empty for a program.
-struct Filled;
-
-impl Programs for Filled {
-    ghost use Rattle.std.specs.Prelude.{not, nat_eq, length};
-
-    ghost is_program = { λ t. not (nat_eq (length t) 0) };
-
-    ghost is_exact = { Unit {0} };
-
-    fn reads(&self, _alloc: Global, text: &RawText) -> Result<bool, AllocError> {
-        Ok(text.as_str().len() != 0)
-    }
-}
 
 type TextCells = (i64, &'static str);
 
@@ -40,7 +24,11 @@ type TimerCells = (i64, i64, i64);
 
 type TaskCells = (i64, i64, i64, i64);
 
-const TEXTS: [TextCells; 2] = [(1, "a"), (2, "b")];
+const A: &str = "workflow a() {}";
+
+const B: &str = "workflow b() {}";
+
+const TEXTS: [TextCells; 2] = [(1, A), (2, B)];
 
 /// Run 1 is completed, run 2 waits for an activity, run 3 for a timer.
 const RUNS: [RunCells; 3] = [
@@ -154,7 +142,7 @@ fn store(alloc: Global) -> Result<StoreRows, Fail> {
 }
 
 fn found(alloc: Global, rows: &StoreRows) -> Result<Option<Damage>, Fail> {
-    Ok(damage(alloc, &Filled, rows)?)
+    Ok(damage(alloc, rows)?)
 }
 
 fn of_texts(alloc: Global, cells: &[TextCells]) -> Result<Option<Damage>, Fail> {
@@ -222,9 +210,19 @@ fn rows_of_a_book_are_sound(rt: HostRuntime) -> Result<(), Fail> {
 #[test]
 fn texts_are_tried_first(rt: HostRuntime) -> Result<(), Fail> {
     let alloc = rt.alloc();
-    assert!(rt; of_texts(alloc, &[(1, "a"), (3, "b")])? == at(Table::Text, 0, 2));
-    assert!(rt; of_texts(alloc, &[(0, "a"), (1, "b")])? == at(Table::Text, 0, 1));
-    assert!(rt; of_texts(alloc, &[(1, "a"), (2, "")])? == at(Table::Text, 0, 2));
+    assert!(rt; of_texts(alloc, &[(1, A), (3, B)])? == at(Table::Text, 0, 2));
+    assert!(rt; of_texts(alloc, &[(0, A), (1, B)])? == at(Table::Text, 0, 1));
+    assert!(rt; of_texts(alloc, &[(1, A), (2, "")])? == at(Table::Text, 0, 2));
+    Ok(())
+}
+
+#[test]
+fn each_text_parses_and_checks(rt: HostRuntime) -> Result<(), Fail> {
+    let alloc = rt.alloc();
+    assert!(rt; of_texts(alloc, &[(1, "workflow a( {}"), (2, B)])? == at(Table::Text, 0, 1));
+    assert!(rt;
+        of_texts(alloc, &[(1, A), (2, "workflow x() { y = 1; }")])? == at(Table::Text, 0, 2)
+    );
     Ok(())
 }
 

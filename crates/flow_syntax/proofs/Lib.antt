@@ -15,3 +15,7 @@ pub mod Printing
 pub mod PrintedExpressions
 pub mod PrintedPrograms
 pub mod PrintedTokens
+pub mod Fewer
+pub mod FewerParentheses
+pub mod BareWords
+pub mod PrintedAgain

@@ -1,6 +1,6 @@
 -- From the tokens of a text to the text.
 use Rattle.std.proofs.Common.{◌≡◌, inl, inr, ℕ, ◌<◌, ◌≤◌, List, Some, None, length, refl, subst}
-use Rattle.flow_base.specs.Syntax.{Bytes}
+use Rattle.flow_base.specs.Syntax.{Bytes, Program}
 use Rattle.flow_base.specs.declared.code.Code.{Code}
 use Rattle.flow_base.specs.declared.code.Code.TheVariants as code
 use Rattle.flow_base.specs.declared.token.Token.{Token}
@@ -8,8 +8,11 @@ use Rattle.flow_syntax.specs.declared.fault.ParseFault.{ParseFault}
 use Rattle.flow_syntax.specs.declared.fault.ParseFault.TheVariants.{NoMemory, BadToken, Unexpected, TextTooLong, TooDeep}
 use Rattle.flow_model.specs.Tokens.{TokensOf}
 use Rattle.flow_model.specs.Lexeme.{lexemes}
+use Rattle.flow_model.specs.Grammar.{Reads}
+use Rattle.flow_model.specs.Limits.{Within}
+use Rattle.flow_tokens.proofs.Relation.{tokens_once}
 use Rattle.flow_syntax.specs.Faults.{IsFault, IsFaultBefore, IsParseFault}
-use Rattle.flow_model.specs.Meaning.{IsTextFault, unfit, ends_early, too_deep, bad_token}
+use Rattle.flow_model.specs.Meaning.{IsProgramOf, IsTextFault, unfit, ends_early, too_deep, bad_token}
 
 no_place : (text : Bytes) → IsParseFault text NoMemory
 no_place text = λ at h. absurd (cc)
@@ -37,3 +40,15 @@ fault_of_front text ts bad (TooDeep place) l t f = λ at h. at_place text code.T
 fault_of_front text ts bad (BadToken place) l t f =
     λ at h. at_place text code.BadToken place at h (inr (l, ts, Some bad, t, bad_token refl (let e : Some bad ≡ Some place = cc in e) f.0 f.1))
 fault_of_front text ts bad _ l t f = absurd f
+
+-- the tokens of a text are read as the program that it is
+pub program_of_tokens : (text : Bytes) (ts : List Token) (p : Program) → TokensOf text ts None → IsProgramOf text p → Reads (lexemes ts) p × Within (lexemes ts)
+program_of_tokens text ts p t h =
+    let e : h.1 ≡ ts = (tokens_once text h.1 ts None None h.2 t).0 in
+    (subst (λ v. Reads (lexemes v) p) e h.3, subst (λ v. Within (lexemes v)) e h.4)
+
+-- a text with a byte at which no token begins is no program
+pub no_program_before : (text : Bytes) (ts : List Token) (bad : ℕ) (p : Program) → TokensOf text ts (Some bad) → IsProgramOf text p → ⊥
+no_program_before text ts bad p t h =
+    let e : None ≡ Some bad = (tokens_once text h.1 ts None (Some bad) h.2 t).1 in
+    absurd (cc)

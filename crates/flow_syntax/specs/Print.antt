@@ -20,6 +20,7 @@ use Rattle.flow_base.specs.Syntax.{Bytes, Expression, Retry, Statement, Block, E
 use Rattle.flow_base.specs.Bare.{bare}
 use Rattle.flow_model.specs.Lexeme.{Lexeme, lexemes}
 use Rattle.flow_model.specs.Grammar.{Reads}
+use Rattle.flow_model.specs.Meaning.{IsProgramOf}
 use Rattle.flow_model.specs.Tokens.{spelled, is_letters, TokensOf}
 use Rattle.flow_base.specs.declared.token.Token.{Token}
 
@@ -276,3 +277,12 @@ HasTokens text ws = (ts : List Token) × (TokensOf text ts None) × (words_of (l
 -- the grammar reads the tokens of the text as the program, up to places
 abbrev pub IsTextOf : Bytes → Program → Type 0
 IsTextOf text p = (ts : List Token) × (TokensOf text ts None) × (q : Program) × (Reads (lexemes ts) q) × (bare q ≡ bare p)
+
+-- the text is this program, up to places
+abbrev pub IsProgramAgain : Bytes → Program → Type 0
+IsProgramAgain text p = (q : Program) × IsProgramOf text q × (bare q ≡ bare p)
+
+-- No tokens that the grammar reads as the program, up to places, are fewer than its words. So no pair of parentheses can be
+-- left out.
+abbrev pub HasLeastWords : Program → Type 0
+HasLeastWords p = (ts : List Lexeme) (q : Program) → Reads ts q → bare q ≡ bare p → length (program_words p) ≤ length ts

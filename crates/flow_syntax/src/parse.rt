@@ -97,6 +97,8 @@ fn fault_before(alloc: Global, tokens: &[Token], at: usize) -> ParseFault
 pub fn parse(alloc: Global, text: &str) -> Result<Program, ParseFault>
     // What is read is the program of the text. A text is one program at most, and then has no fault.
     ensures ok { IfOk result (λ p. IsProgramOf text.now (shown_program p)) }
+    // The program of the text is what is read, unless memory runs out.
+    ensures only { (p : tree.Program) → IsProgramOf text.now p → MatchResult result (λ q. shown_program q ≡ p) (λ e. e ≡ ParseFault.NoMemory) }
     // A fault is the first one in the text. A text has one first fault at most.
     ensures err { IfErr result (λ e. IsParseFault text.now e) }
 {

@@ -1,8 +1,9 @@
 //! The text of a program: its tokens, joined by one space.
-ghost use Rattle.std.specs.Prelude.{◌≡◌, ◌∷◌, ◌++◌, map, OnOk, IfOk, string_bytes};
-ghost use Rattle.flow_base.specs.Syntax.{Let, Assign, Call, Return, NoElse, once, Activity};
+ghost use Rattle.std.specs.Prelude.{◌≡◌, ◌≤◌, ◌∷◌, ◌++◌, map, length, OnOk, IfOk, string_bytes};
+ghost use Rattle.flow_base.specs.Syntax.{Bytes, Let, Assign, Call, Return, NoElse, once, Activity};
 ghost use Rattle.flow_base.specs.Shown.{shown_expr, shown_stmt, shown_block, shown_declaration, shown_program};
-ghost use Rattle.flow_syntax.specs.Print.{spaced, fitted, in_parentheses, level, unary_words, expression_words, arguments_words, type_words, parameter_words, statement_words, block_words, declared_words, declarations_words, program_words, joined, AreReadAs, ArePrintable, HasTokens, IsTextOf};
+ghost use Rattle.flow_model.specs.Meaning.{IsProgramOf};
+ghost use Rattle.flow_syntax.specs.Print.{spaced, fitted, in_parentheses, level, unary_words, expression_words, arguments_words, type_words, parameter_words, statement_words, block_words, declared_words, declarations_words, program_words, joined, AreReadAs, ArePrintable, HasTokens, IsTextOf, IsProgramAgain, HasLeastWords};
 
 use crate::levels::{binary_mark, left_level, level, right_level};
 use crate::listed::{Item, print_list};
@@ -213,6 +214,12 @@ pub fn print(alloc: Global, program: &Program) -> Result<String, AllocError>
     ensures tokens { IfOk result (λ text. ArePrintable (program_words (shown_program program.now)) → HasTokens (string_bytes text) (program_words (shown_program program.now))) }
     // And then it is a text of the program.
     ensures again { IfOk result (λ text. ArePrintable (program_words (shown_program program.now)) → IsTextOf (string_bytes text) (shown_program program.now)) }
+    // The program of some text is such a program.
+    ensures printable { OnOk result ((source : Bytes) → IsProgramOf source (shown_program program.now) → ArePrintable (program_words (shown_program program.now))) }
+    // What is printed of it, if it isn't too long, is a text that is this program, up to places.
+    ensures parsed { IfOk result (λ text. (source : Bytes) → IsProgramOf source (shown_program program.now) → length (string_bytes text) ≤ 65536 → IsProgramAgain (string_bytes text) (shown_program program.now)) }
+    // No tokens that are read as the program, up to places, are fewer: there is no needless pair of parentheses.
+    ensures least { OnOk result (HasLeastWords (shown_program program.now)) }
 {
     let mut out = Printer::new(alloc, "workflow")?;
     out.name(&program.name)?;

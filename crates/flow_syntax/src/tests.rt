@@ -1,8 +1,10 @@
 //! Tests of `parse` and `print`.
 use crate::fault::ParseFault;
+use crate::limits::first_too_deep;
 use crate::parse::parse;
 use crate::print::print;
 use flow_base::code::Code;
+use flow_tokens::tokens;
 use std::alloc::{AllocError, Global};
 use std::test::Fail;
 
@@ -118,5 +120,67 @@ fn stops_at_the_limits(rt: HostRuntime) -> Result<(), Fail> {
     assert!(&rt; fault(alloc, text.as_str()) == None);
     text.push(' ')?;
     assert!(&rt; fault(alloc, text.as_str()) == Some((Code::TextTooLong, Some(65536))));
+    Ok(())
+}
+
+#[test]
+fn names_have_64_bytes_at_most(rt: HostRuntime) -> Result<(), Fail> {
+    let alloc = rt.alloc();
+    for (bytes, wanted) in [(64, None), (65, Some((Code::BadToken, Some(9))))] {
+        let name = "n".repeat(alloc, bytes)?;
+        let text = format!(in alloc; "workflow {name}() {{ }}")?;
+        assert!(&rt; fault(alloc, text.as_str()) == wanted, "{bytes}");
+    }
+    Ok(())
+}
+
+#[test]
+fn texts_have_4096_bytes_at_most(rt: HostRuntime) -> Result<(), Fail> {
+    let alloc = rt.alloc();
+    for (bytes, wanted) in [(4096, None), (4097, Some((Code::BadToken, Some(22))))] {
+        let value = "x".repeat(alloc, bytes)?;
+        let text = format!(in alloc; "workflow e() {{ return \"{value}\"; }}")?;
+        assert!(&rt; fault(alloc, text.as_str()) == wanted, "{bytes}");
+    }
+    Ok(())
+}
+
+/// The place at which so many words pass a limit.
+fn too_deep(alloc: Global, word: &str, count: usize) -> Result<Option<usize>, Fail> {
+    let text = word.repeat(alloc, count)?;
+    let found = tokens(alloc, text.as_str())?;
+    Ok(first_too_deep(&found.list).map(|(at, _)| at))
+}
+
+#[test]
+fn each_bracket_counts(rt: HostRuntime) -> Result<(), Fail> {
+    let alloc = rt.alloc();
+    for bracket in ["(", "{"] {
+        assert!(&rt; too_deep(alloc, bracket, 64)? == None, "{bracket}");
+        assert!(&rt; too_deep(alloc, bracket, 65)? == Some(64), "{bracket}");
+    }
+    assert!(rt; too_deep(alloc, "({", 32)? == None);
+    assert!(rt; too_deep(alloc, "({", 33)? == Some(64));
+    assert!(rt; too_deep(alloc, "({})", 70)? == None);
+    Ok(())
+}
+
+/// Each operator, with a space behind it.
+const OPERATORS: [&str; 17] = [
+    "or ", "and ", "not ", "== ", "!= ", "< ", "<= ", "> ", ">= ", "+ ", "- ", "++ ", "* ", "/ ",
+    "% ", "text ", "len ",
+];
+
+#[test]
+fn each_operator_counts(rt: HostRuntime) -> Result<(), Fail> {
+    let alloc = rt.alloc();
+    for operator in OPERATORS {
+        assert!(&rt; too_deep(alloc, operator, 64)? == None, "{operator}");
+        let place = 64 * operator.len();
+        assert!(&rt; too_deep(alloc, operator, 65)? == Some(place), "{operator}");
+    }
+    for ended in ["+ , ", "+ ; ", "+ { } "] {
+        assert!(&rt; too_deep(alloc, ended, 70)? == None, "{ended}");
+    }
     Ok(())
 }

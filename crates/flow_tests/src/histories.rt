@@ -8,6 +8,8 @@ use flow_check::check::check;
 use flow_check::checked::Checked;
 use flow_match::fault::ReplayFault;
 use flow_match::replay::replay;
+use flow_model::rest::OpenWait;
+use flow_run::stance::Stance;
 use flow_syntax::parse::parse;
 use std::test::Fail;
 
@@ -101,5 +103,26 @@ fn another_argument_is_other_content(rt: HostRuntime) -> Result<(), Fail> {
         closed()?,
     ]?;
     assert!(rt; is_wrong(&rt, events.as_slice(), 2, Wrong::OtherContent)?);
+    Ok(())
+}
+
+/// A run that waits on its activity.
+fn waiting(rt: &HostRuntime, program: &Checked) -> Result<Stance, Fail> {
+    let events = vec![in rt.alloc(); started(rt)?, scheduled(rt, 2, "eur")?]?;
+    Ok(replay(rt.alloc(), program, events.as_slice())?)
+}
+
+#[test]
+fn a_copy_waits_on_the_same_activity(rt: HostRuntime) -> Result<(), Fail> {
+    let program = program(&rt)?;
+    let stance = waiting(&rt, &program)?;
+    let copied = stance.copy(rt.alloc())?;
+    assert!(rt; copied.events() == 2 && copied.state() == State::Open);
+    let waits = copied.waits(rt.alloc(), &program)?;
+    let is_told = match waits.as_slice() {
+        [OpenWait::Activity(2, into, Kind::Int)] => into.as_str() == "r",
+        _ => false,
+    };
+    assert!(rt; is_told);
     Ok(())
 }

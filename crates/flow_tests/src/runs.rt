@@ -1,6 +1,6 @@
 //! Runs, as `flow drive -` tells them.
+use flow_check::language::Language;
 use flow_cli::drive::drive_lines;
-use flow_machine::language::Language;
 use flow_view::lists::Lists;
 use std::test::Fail;
 
@@ -177,5 +177,23 @@ fn a_bad_line_is_one_reply_and_disturbs_nothing(rt: HostRuntime) -> Result<(), F
     let bad = "{\"code\":\"E02\",\"reply\":\"refused\"}\n";
     let replies = [REGISTERED, bad, bad, bad, STARTED];
     assert!(rt; replies_to(&rt, &lines, &replies, 1)?);
+    Ok(())
+}
+
+/// A line that registers a text of so many spaces.
+fn register_spaces(rt: &HostRuntime, count: usize) -> Result<String, Fail> {
+    let spaces = " ".repeat(rt.alloc(), count)?;
+    Ok(format!(in rt.alloc(); "{{\"do\":\"register\",\"src\":\"{spaces}\"}}\n")?)
+}
+
+#[test]
+fn a_line_of_a_megabyte_is_answered(rt: HostRuntime) -> Result<(), Fail> {
+    let long = register_spaces(&rt, 1_000_000)?;
+    let lines = [long.as_str(), REGISTER_A];
+    let replies = [
+        "{\"at\":65536,\"code\":\"E12\",\"reply\":\"refused\"}\n",
+        REGISTERED,
+    ];
+    assert!(rt; replies_to(&rt, &lines, &replies, 0)?);
     Ok(())
 }

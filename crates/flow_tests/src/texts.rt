@@ -1,9 +1,10 @@
 //! Texts: what `flow check` says of them, and that a printed program is read as the same program.
 use flow_base::syntax::{Declaration, Expr, Parameter, Program, Stmt, TypeAt};
+use flow_check::language::Language;
 use flow_cli::check::check_text;
-use flow_machine::language::Language;
 use flow_syntax::parse::parse;
 use flow_syntax::print::print;
+use std::string::ToString;
 use std::test::Fail;
 
 /// Whether two expressions are the same up to places.
@@ -120,5 +121,77 @@ fn the_first_fault_is_named(rt: HostRuntime) -> Result<(), Fail> {
     assert!(rt; is_checked_as(&rt, "workflow e() {}", "ok", 0)?);
     // `while` is reserved, and its statement doesn't exist yet
     assert!(rt; is_checked_as(&rt, "workflow x() { while 1 { } }", "E11 at 15", 1)?);
+    Ok(())
+}
+
+/// Each rule of the checks broken where a text can first break it, and where it can last.
+const BROKEN: [(&str, &str); 13] = [
+    ("workflow x(){y=1;}", "E20 at 13"),
+    ("workflow x(){let y=1;y=y;return y+z;}", "E20 at 34"),
+    ("workflow x(a:int,a:int){}", "E21 at 17"),
+    ("workflow x(a:int){let b=a;let a=b;}", "E21 at 30"),
+    (
+        "workflow x(){activity f()->int;activity f()->int;}",
+        "E21 at 40",
+    ),
+    ("workflow x(a:int){a=\"\";}", "E22 at 20"),
+    ("workflow x(a:int){let b=a;return b+\"\";}", "E22 at 35"),
+    (
+        "workflow x(a:int){activity f(int)->text;a=call f(a);}",
+        "E22 at 40",
+    ),
+    (
+        "workflow x(a:int){activity f(int)->int;a=call f(\"\");}",
+        "E22 at 48",
+    ),
+    (
+        "workflow x(a:int){activity f()->int;a=call f(a);}",
+        "E23 at 43",
+    ),
+    (
+        "workflow x(a:int){activity f(int)->int;a=call f(a);a=call f();}",
+        "E23 at 58",
+    ),
+    ("workflow x(a:int){a=call f();}", "E29 at 25"),
+    (
+        "workflow x(a:int){activity f()->int;a=call f();a=call g();}",
+        "E29 at 54",
+    ),
+];
+
+#[test]
+fn each_rule_is_broken_at_its_place(rt: HostRuntime) -> Result<(), Fail> {
+    for (text, line) in BROKEN {
+        assert!(&rt; is_checked_as(&rt, text, line, 1)?, "{text}");
+    }
+    Ok(())
+}
+
+/// So many items of one form, each with its number, between two parts. All numbers have three digits.
+fn numbered(
+    rt: &HostRuntime,
+    parts: [&str; 2],
+    count: u64,
+    form: [&str; 2],
+) -> Result<String, Fail> {
+    let mut text = String::from_str(rt.alloc(), parts[0])?;
+    for i in 0..count {
+        let number = (100 + i % 900).to_string(rt.alloc())?;
+        text.push_str(form[0])?;
+        text.push_str(number.as_str())?;
+        text.push_str(form[1])?;
+    }
+    text.push_str(parts[1])?;
+    Ok(text)
+}
+
+#[test]
+fn names_are_at_most_256(rt: HostRuntime) -> Result<(), Fail> {
+    let parts = ["workflow x(", "z:int){}"];
+    let most = numbered(&rt, parts, 255, ["a", ":int,"])?;
+    assert!(rt; is_checked_as(&rt, most.as_str(), "ok", 0)?);
+    // the 257th name is a parameter
+    let beyond = numbered(&rt, parts, 256, ["a", ":int,"])?;
+    assert!(rt; is_checked_as(&rt, beyond.as_str(), "E26 at 2315", 1)?);
     Ok(())
 }

@@ -1,4 +1,4 @@
-ghost use Rattle.flow_machine.specs.Language.{meaning_of};
+ghost use Rattle.flow_check.specs.Language.{meaning_of};
 ghost use Rattle.flow_machine.specs.Soundness.{ReadsWellFormed};
 ghost use Rattle.flow_model.specs.Apply.{Rules, rules_of};
 ghost use Rattle.flow_model.specs.World.{WorldIsSafe, WorldOpensWell};

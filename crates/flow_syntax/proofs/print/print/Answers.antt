@@ -6,6 +6,7 @@ use Rattle.flow_syntax.specs.Print.{spaced, listed, parameter_words, in_braces, 
 use Rattle.flow_syntax.proofs.Printing.{words_then}
 use Rattle.flow_syntax.proofs.PrintedPrograms.{program_read}
 use Rattle.flow_syntax.proofs.PrintedTokens.{program_scanned}
+use Rattle.flow_syntax.proofs.PrintedAgain.{program_printable, program_again, program_least}
 use Rattle.flow_syntax.proofs.print.print.Goals as goal
 
 pub returns-clause-words : goal.returns-clause-words
@@ -29,3 +30,13 @@ returns-clause-again c = λ h.
     let found : HasTokens (string_bytes c.finish.result) (program_words (shown_program c.args.program.now)) = returns-clause-tokens c h in
     let read = program_read c.args.program.now (lexemes found.0) found.2 in
     (found.0, found.1, read.0, read.1, read.2)
+
+pub returns-clause-printable : goal.returns-clause-printable
+returns-clause-printable c = λ source h. program_printable source (shown_program c.args.program.now) h
+
+pub returns-clause-parsed : goal.returns-clause-parsed
+returns-clause-parsed c = λ source h short.
+    program_again c.args.program.now source (string_bytes c.finish.result) (returns-clause-words c) h short
+
+pub returns-clause-least : goal.returns-clause-least
+returns-clause-least c = program_least (shown_program c.args.program.now)

@@ -1,6 +1,6 @@
 use Rattle.flow_model.specs.Apply.{Rules, rules_of, after_one}
 use Rattle.flow_model.specs.World.{WorldIsSafe}
-use Rattle.flow_machine.specs.Language.{meaning_of}
+use Rattle.flow_check.specs.Language.{meaning_of}
 use Rattle.flow_machine.specs.Soundness.{ReadsWellFormed}
 use Rattle.flow_machine.proofs.Meaning.{reads_well_formed}
 use Rattle.flow_machine.proofs.Keeps.{step_keeps}

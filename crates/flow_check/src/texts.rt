@@ -3,9 +3,9 @@ ghost use Rattle.flow_base.specs.Syntax.{Bytes, Program};
 ghost use Rattle.flow_base.specs.declared.command.TextFault.{TextFault as AFault};
 ghost use Rattle.flow_check.specs.Shown.{shown_checked};
 
+use crate::checked::Checked;
 use flow_base::command::TextFault;
 use flow_base::text::RawText;
-use flow_check::checked::Checked;
 use std::alloc::{AllocError, Global};
 
 /// What reads texts as programs.

@@ -1,5 +1,5 @@
 -- What texts mean, as a function.
-use Rattle.std.specs.Prelude.{Result}
+use Rattle.std.specs.Prelude.{Bool, Result, is_ok}
 use Rattle.flow_base.specs.Syntax.{Bytes, Program}
 use Rattle.flow_base.specs.declared.command.TextFault.{TextFault}
 use Rattle.flow_syntax.proofs.Meaning.{meant}
@@ -8,3 +8,7 @@ use Rattle.flow_syntax.proofs.Meaning.{meant}
 -- it constructs.
 unfoldable pub meaning_of : Bytes → Result Program TextFault
 meaning_of text = (meant text).0
+
+-- whether it is a program that keeps the checking rules
+abbrev pub is_program : Bytes → Bool
+is_program text = is_ok (meaning_of text)

@@ -4,8 +4,8 @@ use Rattle.flow_check.specs.Faults.{IsCheckFault}
 use Rattle.flow_check.specs.declared.fault.CheckFault.TheVariants.{Rule}
 use Rattle.flow_syntax.specs.Faults.{fault_code}
 use Rattle.flow_model.specs.Meaning.{IsProgramOf, IsTextFault}
-use Rattle.flow_machine.proofs.Meaning.{means_program, means_broken, means_fault}
-use Rattle.flow_machine.proofs.language.LanguageTexts.read.Goals as goal
+use Rattle.flow_check.proofs.Meaning.{means_program, means_broken, means_fault}
+use Rattle.flow_check.proofs.language.LanguageTexts.read.Goals as goal
 
 pub returns-in-Ok-check : goal.returns-in-Ok-check
 returns-in-Ok-check c =

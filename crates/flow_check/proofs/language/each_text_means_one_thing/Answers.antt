@@ -1,5 +1,5 @@
-use Rattle.flow_machine.proofs.Meaning.{meaning_is, one_meaning}
-use Rattle.flow_machine.proofs.language.each_text_means_one_thing.Goals as goal
+use Rattle.flow_check.proofs.Meaning.{meaning_is, one_meaning}
+use Rattle.flow_check.proofs.language.each_text_means_one_thing.Goals as goal
 
 pub returns-clause-means : goal.returns-clause-means
 returns-clause-means c = meaning_is

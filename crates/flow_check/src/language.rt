@@ -1,15 +1,15 @@
 ghost use Rattle.std.specs.Prelude.{◌≡◌, Result};
 ghost use Rattle.flow_base.specs.Syntax.{Bytes, Program};
 ghost use Rattle.flow_base.specs.declared.command.TextFault.{TextFault as AFault};
-ghost use Rattle.flow_machine.specs.Language.{meaning_of};
+ghost use Rattle.flow_check.specs.Language.{meaning_of};
 ghost use Rattle.flow_model.specs.Meaning.{Means};
 
+use crate::check::check;
+use crate::checked::Checked;
+use crate::fault::CheckFault;
 use crate::texts::Texts;
 use flow_base::command::TextFault;
 use flow_base::text::RawText;
-use flow_check::check::check;
-use flow_check::checked::Checked;
-use flow_check::fault::CheckFault;
 use flow_syntax::fault::ParseFault;
 use flow_syntax::parse::parse;
 use std::alloc::{AllocError, Global};

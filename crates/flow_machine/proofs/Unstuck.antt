@@ -1,0 +1,113 @@
+-- Over a sound book nothing but the end of the numbers keeps a command from being decided.
+use Rattle.std.proofs.Common.{◌≡◌, ℕ, ◌-◌, List, length, refl, sym, ap, ◌∙◌, subst, Option, Some, None, Bool, true, false, inl, inr, ⊎_elim}
+use Rattle.std.specs.Prelude.{nat_eq}
+use Rattle.std.proofs.lemmas.Option.{none-some, same_Some}
+use Rattle.flow_base.specs.Syntax.{Bytes, Program}
+use Rattle.flow_base.specs.declared.value.Value.{Value}
+use Rattle.flow_base.specs.declared.code.Code.{Code}
+use Rattle.flow_base.specs.declared.event.Input.TheVariants.{ActivityCompleted}
+use Rattle.flow_base.specs.declared.book.Task.{Task}
+use Rattle.flow_base.specs.declared.book.Run.{Run}
+use Rattle.flow_base.specs.declared.command.Command.TheVariants as command
+use Rattle.flow_model.specs.Deliver.{all_fit}
+use Rattle.flow_model.specs.Stands.{Stands}
+use Rattle.flow_model.specs.Book.{Book, nth, text_number, requested, open_run}
+use Rattle.flow_model.specs.Apply.{Rules, program_if, program_at, on_task, refuse_unless, task_at, gives_kind, report_refusal}
+use Rattle.flow_model.specs.Sound.{IsSoundRun, IsSound}
+use Rattle.flow_model.proofs.Chains.{not_both}
+use Rattle.flow_machine.specs.Soundness.{IsProgram, TextsRead, NumbersEnd, SoundDecides}
+use Rattle.flow_machine.specs.Stuck.{HasMismatch, CantDeliver, CantRecord, unless_there, where_there, where_holds, needs, IsFull, StuckRegister, StuckStart, StuckInput, StuckComplete, IsStuck}
+use Rattle.flow_machine.proofs.Places.{get_all, nth_place}
+use Rattle.flow_machine.proofs.Waiting.{completion_taken}
+
+---- Tests
+
+module _ (Y : Type 0) where
+  unless_then : {A : Type 0} (o : Option A) (X : Type 0) → (o ≡ None → X → Y) → unless_there o X → Y
+  unless_then None X f h = f refl h
+  unless_then (Some x) X f h = absurd h
+
+  where_then : {A : Type 0} (o : Option A) (X : A → Type 0) → ((x : A) → o ≡ Some x → X x → Y) → where_there o X → Y
+  where_then None X f h = absurd h
+  where_then (Some x) X f h = f x refl h
+
+  holds_then : (b : Bool) (X : Type 0) → (X → Y) → where_holds b X → Y
+  holds_then true X f h = f h
+  holds_then false X f h = absurd h
+
+  needs_then : {A : Type 0} (o : Option A) (X : A → Type 0) → (o ≡ None → ⊥) → ((x : A) → o ≡ Some x → X x → Y) → needs o X → Y
+  needs_then None X f g h = absurd (f refl)
+  needs_then (Some x) X f g h = g x refl h
+
+task_found : (o : Option Task) (next : Task → Option Code) → on_task o next ≡ None → (t : Task) × ((o ≡ Some t) × (next t ≡ None))
+task_found None next e = absurd (none-some _ (sym e))
+task_found (Some t) next e = (t, (refl, e))
+
+refuses_none : (b : Bool) (c : Code) (next : Option Code) → refuse_unless b c next ≡ None → (b ≡ true) × (next ≡ None)
+refuses_none true c next e = (refl, e)
+refuses_none false c next e = absurd (none-some c (sym e))
+
+-- a report that nothing refuses is of an open activity, with a value of the type that it gives
+reported : (r : Run) (event attempt : ℕ) (v : Value) → report_refusal r event attempt v ≡ None → (t : Task) × ((task_at r.tasks event ≡ Some t) × (gives_kind (nth r.history event) v ≡ true))
+unfolding report_refusal
+reported r event attempt v e =
+    let found = task_found (task_at r.tasks event) _ e in
+    let attempted = refuses_none (nat_eq found.0.attempt attempt) _ _ found.1.1 in
+    (found.0, (found.1.0, (refuses_none (gives_kind (nth r.history event) v) _ None attempted.1).0))
+
+---- Commands
+
+module _ (u : Rules) (b : Book) where
+  register_decides : (body : Bytes) → StuckRegister u.program_of b body → NumbersEnd b
+  unfolding StuckRegister
+  register_decides body =
+      where_then (NumbersEnd b) (program_if (u.program_of body)) (λ p. unless_there (text_number b body) (IsFull (length b.texts)))
+      (λ p e. unless_then (NumbersEnd b) (text_number b body) (IsFull (length b.texts)) (λ new full. inl full))
+
+  text_reads : TextsRead u b → (text : ℕ) (body : Bytes) → nth b.texts text ≡ Some body → program_if (u.program_of body) ≡ None → ⊥
+  text_reads reads text body there none =
+      let its = get_all (IsProgram u) b.texts (text - 1) body (nth_place b.texts text body there) reads in
+      none-some its.0 (sym none ∙ ap program_if its.1)
+
+  start_decides : (request flow : Bytes) (text : ℕ) (vs : List Value) → TextsRead u b → StuckStart u.program_of b request flow text vs → NumbersEnd b
+  unfolding StuckStart
+  start_decides request flow text vs reads =
+      let numbered : Type 0 = IsFull (length b.runs) in
+      let alone : Type 0 = unless_there (open_run b flow) numbered in
+      let fits = λ (p : Program). where_holds (all_fit p.parameters vs) alone in
+      let read = λ (body : Bytes). needs (program_if (u.program_of body)) fits in
+      unless_then (NumbersEnd b) (requested b request) (where_there (nth b.texts text) read)
+      (λ new. where_then (NumbersEnd b) (nth b.texts text) read
+      (λ body there. needs_then (NumbersEnd b) (program_if (u.program_of body)) fits (text_reads reads text body there)
+      (λ p e. holds_then (NumbersEnd b) (all_fit p.parameters vs) alone
+      (unless_then (NumbersEnd b) (open_run b flow) numbered (λ none full. inr full)))))
+
+  -- a sound run takes what its open activity gave
+  records : (r : Run) (p : Program) (event attempt : ℕ) (v : Value) → IsSoundRun u b r → program_at u.program_of b r.text ≡ Some p → report_refusal r event attempt v ≡ None → CantRecord p r.history (ActivityCompleted event v) → ⊥
+  records r p event attempt v its text e =
+      let same : its.program ≡ p = same_Some its.program p (sym its.its_text ∙ text) in
+      let stands : Stands p r.history its.place = subst (λ (q : Program). Stands q r.history its.place) same its.stands in
+      let report = reported r event attempt v e in
+      ⊎_elim (λ (m : HasMismatch p r.history). not_both p r.history its.place m.0 m.1.0 m.1.1 stands)
+      (λ (c : CantDeliver p r.history (ActivityCompleted event v)).
+      completion_taken p r.history c.0 r.tasks event v report.0 c.1.0 its.activities report.1.0 report.1.1 c.1.1)
+
+  complete_decides : (run event attempt : ℕ) (v : Value) → IsSound u b → StuckComplete u.program_of b run event attempt v → NumbersEnd b
+  unfolding StuckComplete StuckInput
+  complete_decides run event attempt v h =
+      let records_in = λ (r : Run) (p : Program). CantRecord p r.history (ActivityCompleted event v) in
+      let taken = λ (r : Run). needs (program_at u.program_of b r.text) (records_in r) in
+      where_then (NumbersEnd b) (nth b.runs run) (λ r. unless_there (report_refusal r event attempt v) (taken r))
+      (λ r there.
+      let its : IsSoundRun u b r = get_all (IsSoundRun u b) b.runs (run - 1) r (nth_place b.runs run r there) h.runs in
+      unless_then (NumbersEnd b) (report_refusal r event attempt v) (taken r)
+      (λ unrefused. needs_then (NumbersEnd b) (program_at u.program_of b r.text) (records_in r) (λ none. none-some its.program (sym none ∙ its.its_text))
+      (λ p text stuck. absurd (records r p event attempt v its text unrefused stuck))))
+
+pub sound_decides : SoundDecides
+unfolding IsStuck
+sound_decides u b (command.Register body) reads h stuck = register_decides u b body stuck
+sound_decides u b (command.Start request flow text vs at) reads h stuck = start_decides u b request flow text vs reads stuck
+sound_decides u b (command.Complete run event attempt v at) reads h stuck = complete_decides u b run event attempt v h stuck
+sound_decides u b (command.Describe run) reads h stuck = absurd stuck
+sound_decides u b (command.History run) reads h stuck = absurd stuck

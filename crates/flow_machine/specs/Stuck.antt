@@ -1,0 +1,99 @@
+-- Where a command can't be decided: what a sound book never lacks isn't there, or no number is left. Beside a refusal of the
+-- store this is all that stands behind E80.
+use Rattle.std.specs.Prelude.{◌≡◌, ◌≤◌, ◌+◌, ◌^◌, ◌⊎◌, ℕ, Bool, true, false, List, [], ◌∷◌, length, Option, Some, None, Result}
+use Rattle.flow_base.specs.Syntax.{Bytes, Program}
+use Rattle.flow_base.specs.declared.value.Value.{Value}
+use Rattle.flow_base.specs.declared.event.Cmd.{Cmd}
+use Rattle.flow_base.specs.declared.event.Event.{Event}
+use Rattle.flow_base.specs.declared.event.Input.{Input}
+use Rattle.flow_base.specs.declared.event.Input.TheVariants.{ActivityCompleted}
+use Rattle.flow_base.specs.declared.event.Wrong.{Wrong}
+use Rattle.flow_base.specs.declared.book.Run.{Run}
+use Rattle.flow_base.specs.declared.command.Command.{Command}
+use Rattle.flow_base.specs.declared.command.Command.TheVariants as command
+use Rattle.flow_base.specs.declared.command.TextFault.{TextFault}
+use Rattle.flow_model.specs.Configuration.{Configuration}
+use Rattle.flow_model.specs.Deliver.{deliver, all_fit}
+use Rattle.flow_model.specs.Stands.{Stands, FirstMismatch}
+use Rattle.flow_model.specs.Book.{Book, nth, text_number, requested, open_run}
+use Rattle.flow_model.specs.Apply.{Rules, program_if, program_at, continued, report_refusal, after_one}
+
+-- Turns.
+
+abbrev pub HasMismatch : Program → List Event → Type 0
+HasMismatch p h = (place : ℕ) × ((w : Wrong) × FirstMismatch p h place w)
+
+-- a standing history after which an input can't be delivered
+abbrev pub CantDeliver : Program → List Event → Input → Type 0
+CantDeliver p h i = (k : Configuration) × (Stands p h k × (deliver p k i ≡ None))
+
+-- commands that continue a run as a new one, with arguments that don't fit
+abbrev pub ContinuesUnfit : Program → List Cmd → Type 0
+ContinuesUnfit p cs = (vs : List Value) × ((continued cs ≡ Some vs) × (all_fit p.parameters vs ≡ false))
+
+-- No turn of the input can be recorded behind the history.
+abbrev pub CantRecord : Program → List Event → Input → Type 0
+CantRecord p h i = HasMismatch p h ⊎ CantDeliver p h i
+
+-- Tests in the order of `Apply`. One that gives a reply ends them, and then nothing is stuck.
+
+-- what is there is answered
+abbrev pub unless_there : {A : Type 0} → Option A → Type 0 → Type 0
+unless_there None stuck = stuck
+unless_there (Some x) stuck = ⊥
+
+-- what isn't there is answered
+abbrev pub where_there : {A : Type 0} → Option A → (A → Type 0) → Type 0
+where_there None stuck = ⊥
+where_there (Some x) stuck = stuck x
+
+abbrev pub where_holds : Bool → Type 0 → Type 0
+where_holds true stuck = stuck
+where_holds false stuck = ⊥
+
+-- a sound book has it: without it nothing goes on
+abbrev pub needs : {A : Type 0} → Option A → (A → Type 0) → Type 0
+needs None stuck = Unit {0}
+needs (Some x) stuck = stuck x
+
+-- the next of so many would have a number past the last one
+abbrev pub IsFull : ℕ → Type 0
+IsFull count = 2 ^ 63 ≤ count + 1
+
+-- Commands.
+
+unfoldable pub StuckRegister : (Bytes → Result Program TextFault) → Book → Bytes → Type 0
+StuckRegister program_of b body =
+    where_there (program_if (program_of body)) (λ p.
+    unless_there (text_number b body) (IsFull (length b.texts)))
+
+unfoldable pub StuckStart : (Bytes → Result Program TextFault) → Book → Bytes → Bytes → ℕ → List Value → Type 0
+StuckStart program_of b request flow text vs =
+    unless_there (requested b request) (
+    where_there (nth b.texts text) (λ body.
+    needs (program_if (program_of body)) (λ p.
+    where_holds (all_fit p.parameters vs) (
+    unless_there (open_run b flow) (IsFull (length b.runs))))))
+
+-- a run that is to take an input
+unfoldable pub StuckInput : (Bytes → Result Program TextFault) → Book → Run → Input → Type 0
+StuckInput program_of b r i = needs (program_at program_of b r.text) (λ p. CantRecord p r.history i)
+
+unfoldable pub StuckComplete : (Bytes → Result Program TextFault) → Book → ℕ → ℕ → ℕ → Value → Type 0
+StuckComplete program_of b run event attempt v =
+    where_there (nth b.runs run) (λ r.
+    unless_there (report_refusal r event attempt v) (
+    StuckInput program_of b r (ActivityCompleted event v)))
+
+-- A command can't be decided over a book.
+unfoldable pub IsStuck : (Bytes → Result Program TextFault) → Book → Command → Type 0
+IsStuck program_of b (command.Register body) = StuckRegister program_of b body
+IsStuck program_of b (command.Start request flow text vs at) = StuckStart program_of b request flow text vs
+IsStuck program_of b (command.Complete run event attempt v at) = StuckComplete program_of b run event attempt v
+IsStuck program_of b (command.Describe run) = ⊥
+IsStuck program_of b (command.History run) = ⊥
+
+-- One of several can't, over the book that those before it leave.
+abbrev pub IsStuckWithin : Rules → Book → List Command → Type 0
+IsStuckWithin u b [] = ⊥
+IsStuckWithin u b (c ∷ cs) = IsStuck u.program_of b c ⊎ IsStuckWithin u (after_one u b c) cs

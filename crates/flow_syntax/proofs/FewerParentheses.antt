@@ -1,0 +1,297 @@
+-- The words of a program are the tokens that it was read from, but for pairs of parentheses.
+use Rattle.std.proofs.Common.{◌≡◌, ◌∙◌, ℕ, ◌<◌, ◌≤◌, Bool, true, false, if◌then◌else◌, nat_lt, List, [], ◌∷◌, ◌++◌, map, append_assoc, refl, ap, sym, subst, arith}
+use Rattle.std.proofs.lemmas.Bool.{ltb-true}
+use Rattle.std.proofs.lemmas.List.{append-nil}
+use Rattle.flow_base.specs.Syntax as tree
+use Rattle.flow_base.specs.declared.syntax.Unary.TheVariants as unary
+use Rattle.flow_base.specs.declared.syntax.Binary.TheVariants as binary
+use Rattle.flow_base.specs.declared.token.Mark.TheVariants as mark
+use Rattle.flow_base.specs.declared.token.Word.{Word}
+use Rattle.flow_base.specs.declared.token.Word.TheVariants as word
+use Rattle.flow_base.specs.declared.value.Kind.{Kind}
+use Rattle.flow_base.specs.declared.value.Kind.TheVariants as kind
+use Rattle.flow_model.specs.Lexeme.{Lexeme}
+use Rattle.flow_model.specs.Grammar.{TermSign, times, over, percent, SumSign, plus, minus, join, CompareSign, equal, differ, less, at_most, greater, at_least, ParensReading, parens, PrimReading, int, text, name, text_of, len_of, inner, UnaryReading, negate, prim, TermReading, term, TermTail, no_factor, factor, SumReading, sum, SumTail, no_term, added, CompareReading, compare, CompareTail, no_side, compared, NegReading, not, plain, ConjReading, conj, ConjTail, no_and, and, ExprReading, expr, ExprTail, no_or, or, ArgumentsReading, no_argument, argument, ArgumentTail, last_argument, next_argument, TypeReading, typed, TypesReading, no_type, type_, TypeTail, last_type, next_type, ParameterReading, parameter, ParametersReading, no_parameter, parameter_, ParameterTail, last_parameter, next_parameter, DeclarationReading, activity, SideReading, value, call, StatementReading, let_, assign, return_, StatementsReading, no_statement, statement, BodyReading, statements, declaration, ProgramReading, workflow}
+use Rattle.flow_model.specs.Grammar.{marked, named, term_mark, sum_mark, compare_mark, term_operator, sum_operator, compare_operator, parens_tokens, prim_tokens, unary_tokens, term_tokens, term_tail_tokens, sum_tokens, sum_tail_tokens, compare_tokens, compare_tail_tokens, neg_tokens, conj_tokens, conj_tail_tokens, expr_tokens, expr_tail_tokens, argument_tail_tokens, arguments_tokens, type_tokens, type_tail_tokens, types_tokens, parameter_tokens, parameter_tail_tokens, parameters_tokens, declaration_tokens, side_tokens, statement_tokens, statements_tokens, body_tokens, program_tokens}
+use Rattle.flow_model.specs.Grammar.{parens_of, prim_of, unary_of, term_of, factors_of, sum_of, added_of, compare_of, compared_of, neg_of, conj_of, and_of, expr_of, or_of, argument_tail_of, arguments_of, type_of, kind_of, type_tail_of, types_of, parameter_of, parameter_tail_of, parameters_of, declaration_of, side_of, statement_of, statements_of, body_statements, declarations_of, program_of}
+use Rattle.flow_syntax.specs.Print.{in_parentheses, fitted, level, kind_mark, expression_words, behind_commas, between_commas, listed, type_words, parameter_words, statement_words, block_words, declared_words, declarations_words, program_words}
+use Rattle.flow_syntax.proofs.Fewer.{Fewer, Closed, IsFlat, no_word, kept, together, together_closed, kept_closed, opened, brace_opened, closing, brace_closing, dropped}
+
+---- Expressions
+
+-- what was read where a production of this level stands: the words of the expression, also with the parentheses that they
+-- need there
+record Fits (wanted : ℕ) (x : tree.Expression) (ts : List Lexeme) : Type 0 where
+  by_itself : Fewer (expression_words x) ts
+  enclosed : level x < wanted → Fewer (in_parentheses (expression_words x)) ts
+
+fit_by : (wanted : ℕ) (x : tree.Expression) (ts : List Lexeme) (v : Bool) → Fits wanted x ts → nat_lt (level x) wanted ≡ v → Fewer (if v then in_parentheses (expression_words x) else expression_words x) ts
+fit_by wanted x ts true f e = f.enclosed (ltb-true (level x) wanted e)
+fit_by wanted x ts false f e = f.by_itself
+
+fit : (wanted : ℕ) (x : tree.Expression) (ts : List Lexeme) → Fits wanted x ts → Fewer (fitted (level x) wanted (expression_words x)) ts
+fit wanted x ts f = fit_by wanted x ts (nat_lt (level x) wanted) f refl
+
+-- an earlier production reads it too
+earlier : (n m : ℕ) (x : tree.Expression) (ts : List Lexeme) → n ≤ m → Fits m x ts → Fits n x ts
+earlier n m x ts l f = record { by_itself = f.by_itself; enclosed = λ h. f.enclosed (omega (arith, l, h)) }
+
+-- the production of its own level needs no parentheses
+of_level : (n : ℕ) (x : tree.Expression) (ts : List Lexeme) → n ≤ level x → Fewer (expression_words x) ts → Fits n x ts
+of_level n x ts l f = record { by_itself = f; enclosed = λ h. absurd (omega (arith, l, h)) }
+
+-- an operator between its operands
+between : (us ws : List Word) (xs ts : List Lexeme) (t : Lexeme) → IsFlat t.word → Fewer us xs → Fewer ws ts → Fewer (us ++ (t.word ∷ ws)) (xs ++ (t ∷ ts))
+between us ws xs ts t flat f g = together us (t.word ∷ ws) xs (t ∷ ts) f (kept t ws ts flat g)
+
+module _ (at : ℕ) (a b : tree.Expression) (xs ys : List Lexeme) where
+  factor_fits : (s : TermSign) → Fits 5 a xs → Fits 6 b ys → Fits 5 (tree.Combine (term_operator s) a b) (xs ++ (marked at (term_mark s) ∷ ys))
+  factor_fits times f g = of_level 5 (tree.Combine binary.Multiply a b) (xs ++ (marked at mark.Times ∷ ys)) (omega arith) (between (fitted (level a) 5 (expression_words a)) (fitted (level b) 6 (expression_words b)) xs ys (marked at mark.Times) (λ n. refl) (fit 5 a xs f) (fit 6 b ys g))
+  factor_fits over f g = of_level 5 (tree.Combine binary.Divide a b) (xs ++ (marked at mark.Over ∷ ys)) (omega arith) (between (fitted (level a) 5 (expression_words a)) (fitted (level b) 6 (expression_words b)) xs ys (marked at mark.Over) (λ n. refl) (fit 5 a xs f) (fit 6 b ys g))
+  factor_fits percent f g = of_level 5 (tree.Combine binary.Remain a b) (xs ++ (marked at mark.Percent ∷ ys)) (omega arith) (between (fitted (level a) 5 (expression_words a)) (fitted (level b) 6 (expression_words b)) xs ys (marked at mark.Percent) (λ n. refl) (fit 5 a xs f) (fit 6 b ys g))
+
+  added_fits : (s : SumSign) → Fits 4 a xs → Fits 5 b ys → Fits 4 (tree.Combine (sum_operator s) a b) (xs ++ (marked at (sum_mark s) ∷ ys))
+  added_fits plus f g = of_level 4 (tree.Combine binary.Add a b) (xs ++ (marked at mark.Plus ∷ ys)) (omega arith) (between (fitted (level a) 4 (expression_words a)) (fitted (level b) 5 (expression_words b)) xs ys (marked at mark.Plus) (λ n. refl) (fit 4 a xs f) (fit 5 b ys g))
+  added_fits minus f g = of_level 4 (tree.Combine binary.Subtract a b) (xs ++ (marked at mark.Minus ∷ ys)) (omega arith) (between (fitted (level a) 4 (expression_words a)) (fitted (level b) 5 (expression_words b)) xs ys (marked at mark.Minus) (λ n. refl) (fit 4 a xs f) (fit 5 b ys g))
+  added_fits join f g = of_level 4 (tree.Combine binary.Join a b) (xs ++ (marked at mark.Join ∷ ys)) (omega arith) (between (fitted (level a) 4 (expression_words a)) (fitted (level b) 5 (expression_words b)) xs ys (marked at mark.Join) (λ n. refl) (fit 4 a xs f) (fit 5 b ys g))
+
+  compared_fits : (s : CompareSign) → Fits 4 a xs → Fits 4 b ys → Fits 3 (tree.Combine (compare_operator s) a b) (xs ++ (marked at (compare_mark s) ∷ ys))
+  compared_fits equal f g = of_level 3 (tree.Combine binary.Equal a b) (xs ++ (marked at mark.Equal ∷ ys)) (omega arith) (between (fitted (level a) 4 (expression_words a)) (fitted (level b) 4 (expression_words b)) xs ys (marked at mark.Equal) (λ n. refl) (fit 4 a xs f) (fit 4 b ys g))
+  compared_fits differ f g = of_level 3 (tree.Combine binary.Differ a b) (xs ++ (marked at mark.Differ ∷ ys)) (omega arith) (between (fitted (level a) 4 (expression_words a)) (fitted (level b) 4 (expression_words b)) xs ys (marked at mark.Differ) (λ n. refl) (fit 4 a xs f) (fit 4 b ys g))
+  compared_fits less f g = of_level 3 (tree.Combine binary.Less a b) (xs ++ (marked at mark.Less ∷ ys)) (omega arith) (between (fitted (level a) 4 (expression_words a)) (fitted (level b) 4 (expression_words b)) xs ys (marked at mark.Less) (λ n. refl) (fit 4 a xs f) (fit 4 b ys g))
+  compared_fits at_most f g = of_level 3 (tree.Combine binary.AtMost a b) (xs ++ (marked at mark.AtMost ∷ ys)) (omega arith) (between (fitted (level a) 4 (expression_words a)) (fitted (level b) 4 (expression_words b)) xs ys (marked at mark.AtMost) (λ n. refl) (fit 4 a xs f) (fit 4 b ys g))
+  compared_fits greater f g = of_level 3 (tree.Combine binary.Greater a b) (xs ++ (marked at mark.Greater ∷ ys)) (omega arith) (between (fitted (level a) 4 (expression_words a)) (fitted (level b) 4 (expression_words b)) xs ys (marked at mark.Greater) (λ n. refl) (fit 4 a xs f) (fit 4 b ys g))
+  compared_fits at_least f g = of_level 3 (tree.Combine binary.AtLeast a b) (xs ++ (marked at mark.AtLeast ∷ ys)) (omega arith) (between (fitted (level a) 4 (expression_words a)) (fitted (level b) 4 (expression_words b)) xs ys (marked at mark.AtLeast) (λ n. refl) (fit 4 a xs f) (fit 4 b ys g))
+
+  and_fits : Fits 1 a xs → Fits 2 b ys → Fits 1 (tree.Combine binary.And a b) (xs ++ (marked at mark.And ∷ ys))
+  and_fits f g = of_level 1 (tree.Combine binary.And a b) (xs ++ (marked at mark.And ∷ ys)) (omega arith) (between (fitted (level a) 1 (expression_words a)) (fitted (level b) 2 (expression_words b)) xs ys (marked at mark.And) (λ n. refl) (fit 1 a xs f) (fit 2 b ys g))
+
+  or_fits : Fits 0 a xs → Fits 1 b ys → Fits 0 (tree.Combine binary.Or a b) (xs ++ (marked at mark.Or ∷ ys))
+  or_fits f g = of_level 0 (tree.Combine binary.Or a b) (xs ++ (marked at mark.Or ∷ ys)) (omega arith) (between (fitted (level a) 0 (expression_words a)) (fitted (level b) 1 (expression_words b)) xs ys (marked at mark.Or) (λ n. refl) (fit 0 a xs f) (fit 1 b ys g))
+
+-- no tail
+alone : (n : ℕ) (x : tree.Expression) (ts : List Lexeme) → Fits n x ts → Fits n x (ts ++ [])
+alone n x ts f = subst (Fits n x) (sym (append-nil ts)) f
+
+-- a tail that goes on
+longer : (n : ℕ) (x : tree.Expression) (ts ys zs : List Lexeme) (t : Lexeme) → Fits n x ((ts ++ (t ∷ ys)) ++ zs) → Fits n x (ts ++ (t ∷ (ys ++ zs)))
+longer n x ts ys zs t f = subst (Fits n x) (append_assoc ts (t ∷ ys) zs) f
+
+mutual
+  parens_enclosed : (p : ParensReading) → Fewer (in_parentheses (expression_words (parens_of p))) (parens_tokens p)
+  parens_enclosed (parens at e to) =
+      opened at (expression_words (expr_of e) ++ (word.Mark mark.Close ∷ [])) (expr_tokens e ++ (marked to mark.Close ∷ []))
+      (together_closed (expression_words (expr_of e)) (word.Mark mark.Close ∷ []) (expr_tokens e) (marked to mark.Close ∷ []) (expr_fits e).by_itself (closing to))
+
+  parens_left_out : (p : ParensReading) → Fewer (expression_words (parens_of p)) (parens_tokens p)
+  parens_left_out (parens at e to) = dropped at to (expression_words (expr_of e)) (expr_tokens e) (expr_fits e).by_itself
+
+  prim_fits : (p : PrimReading) → Fits 7 (prim_of p) (prim_tokens p)
+  prim_fits (int at n) = of_level 7 (tree.Number at n) (record { at = at; word = word.Int n } ∷ []) (omega arith) (kept (record { at = at; word = word.Int n }) [] [] (λ b. refl) no_word)
+  prim_fits (text at t) = of_level 7 (tree.Literal at t) (record { at = at; word = word.Text t } ∷ []) (omega arith) (kept (record { at = at; word = word.Text t }) [] [] (λ b. refl) no_word)
+  prim_fits (name at x) = of_level 7 (tree.Variable at x) (named at x ∷ []) (omega arith) (kept (named at x) [] [] (λ b. refl) no_word)
+  prim_fits (text_of at p) =
+      of_level 7 (tree.Apply at unary.TextOf (parens_of p)) (marked at mark.Text ∷ parens_tokens p) (omega arith)
+      (kept (marked at mark.Text) (in_parentheses (expression_words (parens_of p))) (parens_tokens p) (λ b. refl) (parens_enclosed p))
+  prim_fits (len_of at p) =
+      of_level 7 (tree.Apply at unary.Length (parens_of p)) (marked at mark.Len ∷ parens_tokens p) (omega arith)
+      (kept (marked at mark.Len) (in_parentheses (expression_words (parens_of p))) (parens_tokens p) (λ b. refl) (parens_enclosed p))
+  prim_fits (inner p) = record { by_itself = parens_left_out p; enclosed = λ h. parens_enclosed p }
+
+  unary_fits : (u : UnaryReading) → Fits 6 (unary_of u) (unary_tokens u)
+  unary_fits (negate at u) =
+      of_level 6 (tree.Apply at unary.Negate (unary_of u)) (marked at mark.Minus ∷ unary_tokens u) (omega arith)
+      (kept (marked at mark.Minus) (fitted (level (unary_of u)) 6 (expression_words (unary_of u))) (unary_tokens u) (λ b. refl) (fit 6 (unary_of u) (unary_tokens u) (unary_fits u)))
+  unary_fits (prim p) = earlier 6 7 (prim_of p) (prim_tokens p) (omega arith) (prim_fits p)
+
+  term_fits : (t : TermReading) → Fits 5 (term_of t) (term_tokens t)
+  term_fits (term u more) = factors_fit (unary_of u) (unary_tokens u) more (earlier 5 6 (unary_of u) (unary_tokens u) (omega arith) (unary_fits u))
+
+  factors_fit : (left : tree.Expression) (ts : List Lexeme) (more : TermTail) → Fits 5 left ts → Fits 5 (factors_of left more) (ts ++ term_tail_tokens more)
+  factors_fit left ts no_factor f = alone 5 left ts f
+  factors_fit left ts (factor s at u more) f =
+      let x : tree.Expression = tree.Combine (term_operator s) left (unary_of u) in
+      longer 5 (factors_of x more) ts (unary_tokens u) (term_tail_tokens more) (marked at (term_mark s))
+      (factors_fit x (ts ++ (marked at (term_mark s) ∷ unary_tokens u)) more (factor_fits at left (unary_of u) ts (unary_tokens u) s f (unary_fits u)))
+
+  sum_fits : (r : SumReading) → Fits 4 (sum_of r) (sum_tokens r)
+  sum_fits (sum t more) = added_fit (term_of t) (term_tokens t) more (earlier 4 5 (term_of t) (term_tokens t) (omega arith) (term_fits t))
+
+  added_fit : (left : tree.Expression) (ts : List Lexeme) (more : SumTail) → Fits 4 left ts → Fits 4 (added_of left more) (ts ++ sum_tail_tokens more)
+  added_fit left ts no_term f = alone 4 left ts f
+  added_fit left ts (added s at t more) f =
+      let x : tree.Expression = tree.Combine (sum_operator s) left (term_of t) in
+      longer 4 (added_of x more) ts (term_tokens t) (sum_tail_tokens more) (marked at (sum_mark s))
+      (added_fit x (ts ++ (marked at (sum_mark s) ∷ term_tokens t)) more (added_fits at left (term_of t) ts (term_tokens t) s f (term_fits t)))
+
+  compare_fits : (r : CompareReading) → Fits 3 (compare_of r) (compare_tokens r)
+  compare_fits (compare a more) = compared_fit (sum_of a) (sum_tokens a) more (sum_fits a)
+
+  compared_fit : (left : tree.Expression) (ts : List Lexeme) (more : CompareTail) → Fits 4 left ts → Fits 3 (compared_of left more) (ts ++ compare_tail_tokens more)
+  compared_fit left ts no_side f = alone 3 left ts (earlier 3 4 left ts (omega arith) f)
+  compared_fit left ts (compared s at b) f = compared_fits at left (sum_of b) ts (sum_tokens b) s f (sum_fits b)
+
+  neg_fits : (n : NegReading) → Fits 2 (neg_of n) (neg_tokens n)
+  neg_fits (not at n) =
+      of_level 2 (tree.Apply at unary.Not (neg_of n)) (marked at mark.Not ∷ neg_tokens n) (omega arith)
+      (kept (marked at mark.Not) (fitted (level (neg_of n)) 2 (expression_words (neg_of n))) (neg_tokens n) (λ b. refl) (fit 2 (neg_of n) (neg_tokens n) (neg_fits n)))
+  neg_fits (plain c) = earlier 2 3 (compare_of c) (compare_tokens c) (omega arith) (compare_fits c)
+
+  conj_fits : (c : ConjReading) → Fits 1 (conj_of c) (conj_tokens c)
+  conj_fits (conj n more) = and_fit (neg_of n) (neg_tokens n) more (earlier 1 2 (neg_of n) (neg_tokens n) (omega arith) (neg_fits n))
+
+  and_fit : (left : tree.Expression) (ts : List Lexeme) (more : ConjTail) → Fits 1 left ts → Fits 1 (and_of left more) (ts ++ conj_tail_tokens more)
+  and_fit left ts no_and f = alone 1 left ts f
+  and_fit left ts (and at n more) f =
+      let x : tree.Expression = tree.Combine binary.And left (neg_of n) in
+      longer 1 (and_of x more) ts (neg_tokens n) (conj_tail_tokens more) (marked at mark.And)
+      (and_fit x (ts ++ (marked at mark.And ∷ neg_tokens n)) more (and_fits at left (neg_of n) ts (neg_tokens n) f (neg_fits n)))
+
+  expr_fits : (e : ExprReading) → Fits 0 (expr_of e) (expr_tokens e)
+  expr_fits (expr c more) = or_fit (conj_of c) (conj_tokens c) more (earlier 0 1 (conj_of c) (conj_tokens c) (omega arith) (conj_fits c))
+
+  or_fit : (left : tree.Expression) (ts : List Lexeme) (more : ExprTail) → Fits 0 left ts → Fits 0 (or_of left more) (ts ++ expr_tail_tokens more)
+  or_fit left ts no_or f = alone 0 left ts f
+  or_fit left ts (or at c more) f =
+      let x : tree.Expression = tree.Combine binary.Or left (conj_of c) in
+      longer 0 (or_of x more) ts (conj_tokens c) (expr_tail_tokens more) (marked at mark.Or)
+      (or_fit x (ts ++ (marked at mark.Or ∷ conj_tokens c)) more (or_fits at left (conj_of c) ts (conj_tokens c) f (conj_fits c)))
+
+expression_fewer : (e : ExprReading) → Fewer (expression_words (expr_of e)) (expr_tokens e)
+expression_fewer e = (expr_fits e).by_itself
+
+---- Lists
+
+abbrev close : List Word
+close = word.Mark mark.Close ∷ []
+
+-- what is behind a comma, and the rest of the list
+behind_comma : (at : ℕ) (us ws : List Word) (xs ts : List Lexeme) → Fewer us xs → Closed (ws ++ close) ts → Closed ((word.Mark mark.Comma ∷ (us ++ ws)) ++ close) (marked at mark.Comma ∷ (xs ++ ts))
+behind_comma at us ws xs ts f g =
+    subst (λ v. Closed v (marked at mark.Comma ∷ (xs ++ ts))) (ap (λ v. word.Mark mark.Comma ∷ v) (sym (append_assoc us ws close)))
+    (kept_closed (marked at mark.Comma) (us ++ (ws ++ close)) (xs ++ ts) (λ b. refl) (together_closed us (ws ++ close) xs ts f g))
+
+-- the first item, and the rest of the list
+first_item : (us ws : List Word) (xs ts : List Lexeme) → Fewer us xs → Closed (ws ++ close) ts → Closed ((us ++ ws) ++ close) (xs ++ ts)
+first_item us ws xs ts f g = subst (λ v. Closed v (xs ++ ts)) (sym (append_assoc us ws close)) (together_closed us (ws ++ close) xs ts f g)
+
+argument_tail_fewer : (r : ArgumentTail) → Closed (behind_commas (map expression_words (argument_tail_of r)) ++ close) (argument_tail_tokens r)
+argument_tail_fewer (last_argument to) = closing to
+argument_tail_fewer (next_argument at e more) =
+    behind_comma at (expression_words (expr_of e)) (behind_commas (map expression_words (argument_tail_of more))) (expr_tokens e) (argument_tail_tokens more) (expression_fewer e) (argument_tail_fewer more)
+
+arguments_fewer : (r : ArgumentsReading) → Closed (between_commas (map expression_words (arguments_of r)) ++ close) (arguments_tokens r)
+arguments_fewer (no_argument to) = closing to
+arguments_fewer (argument e more) =
+    first_item (expression_words (expr_of e)) (behind_commas (map expression_words (argument_tail_of more))) (expr_tokens e) (argument_tail_tokens more) (expression_fewer e) (argument_tail_fewer more)
+
+kind_fewer : (at : ℕ) (k : Kind) → Fewer (word.Mark (kind_mark k) ∷ []) (type_tokens (typed at k))
+kind_fewer at kind.Int = kept (marked at mark.Int) [] [] (λ b. refl) no_word
+kind_fewer at kind.Text = kept (marked at mark.Text) [] [] (λ b. refl) no_word
+
+type_fewer : (t : TypeReading) → Fewer (word.Mark (kind_mark (kind_of t)) ∷ []) (type_tokens t)
+type_fewer (typed at k) = kind_fewer at k
+
+item_of_type : (t : TypeReading) → Fewer (type_words (type_of t)) (type_tokens t)
+item_of_type (typed at k) = kind_fewer at k
+
+type_tail_fewer : (r : TypeTail) → Closed (behind_commas (map type_words (type_tail_of r)) ++ close) (type_tail_tokens r)
+type_tail_fewer (last_type to) = closing to
+type_tail_fewer (next_type at t more) =
+    behind_comma at (type_words (type_of t)) (behind_commas (map type_words (type_tail_of more))) (type_tokens t) (type_tail_tokens more) (item_of_type t) (type_tail_fewer more)
+
+types_fewer : (r : TypesReading) → Closed (between_commas (map type_words (types_of r)) ++ close) (types_tokens r)
+types_fewer (no_type to) = closing to
+types_fewer (type_ t more) =
+    first_item (type_words (type_of t)) (behind_commas (map type_words (type_tail_of more))) (type_tokens t) (type_tail_tokens more) (item_of_type t) (type_tail_fewer more)
+
+parameter_fewer : (p : ParameterReading) → Fewer (parameter_words (parameter_of p)) (parameter_tokens p)
+parameter_fewer (parameter at x colon t) =
+    kept (named at x) (word.Mark mark.Colon ∷ word.Mark (kind_mark (kind_of t)) ∷ []) (marked colon mark.Colon ∷ type_tokens t) (λ b. refl)
+    (kept (marked colon mark.Colon) (word.Mark (kind_mark (kind_of t)) ∷ []) (type_tokens t) (λ b. refl) (type_fewer t))
+
+parameter_tail_fewer : (r : ParameterTail) → Closed (behind_commas (map parameter_words (parameter_tail_of r)) ++ close) (parameter_tail_tokens r)
+parameter_tail_fewer (last_parameter to) = closing to
+parameter_tail_fewer (next_parameter at p more) =
+    behind_comma at (parameter_words (parameter_of p)) (behind_commas (map parameter_words (parameter_tail_of more))) (parameter_tokens p) (parameter_tail_tokens more) (parameter_fewer p) (parameter_tail_fewer more)
+
+parameters_fewer : (r : ParametersReading) → Closed (between_commas (map parameter_words (parameters_of r)) ++ close) (parameters_tokens r)
+parameters_fewer (no_parameter to) = closing to
+parameters_fewer (parameter_ p more) =
+    first_item (parameter_words (parameter_of p)) (behind_commas (map parameter_words (parameter_tail_of more))) (parameter_tokens p) (parameter_tail_tokens more) (parameter_fewer p) (parameter_tail_fewer more)
+
+---- Statements
+
+-- an expression and the semicolon behind it
+ended : (e : ExprReading) (end : ℕ) → Fewer (expression_words (expr_of e) ++ (word.Mark mark.Semicolon ∷ [])) (expr_tokens e ++ (marked end mark.Semicolon ∷ []))
+ended e end =
+    together (expression_words (expr_of e)) (word.Mark mark.Semicolon ∷ []) (expr_tokens e) (marked end mark.Semicolon ∷ []) (expression_fewer e) (kept (marked end mark.Semicolon) [] [] (λ b. refl) no_word)
+
+side_fewer : (at : ℕ) (x : tree.Bytes) (eq : ℕ) (s : SideReading) → Fewer (statement_words (side_of at x s)) (named at x ∷ marked eq mark.Assign ∷ side_tokens s)
+side_fewer at x eq (value e end) =
+    let ws : List Word = expression_words (expr_of e) ++ (word.Mark mark.Semicolon ∷ []) in
+    let ts : List Lexeme = expr_tokens e ++ (marked end mark.Semicolon ∷ []) in
+    kept (named at x) (word.Mark mark.Assign ∷ ws) (marked eq mark.Assign ∷ ts) (λ b. refl) (kept (marked eq mark.Assign) ws ts (λ b. refl) (ended e end))
+side_fewer at x eq (call call_at name_at a paren es end) =
+    let ws : List Word = listed (map expression_words (arguments_of es)) ++ (word.Mark mark.Semicolon ∷ []) in
+    let ts : List Lexeme = marked paren mark.Open ∷ (arguments_tokens es ++ (marked end mark.Semicolon ∷ [])) in
+    let list : Fewer ws ts =
+    together (listed (map expression_words (arguments_of es))) (word.Mark mark.Semicolon ∷ []) (marked paren mark.Open ∷ arguments_tokens es) (marked end mark.Semicolon ∷ [])
+    (opened paren (between_commas (map expression_words (arguments_of es)) ++ close) (arguments_tokens es) (arguments_fewer es))
+    (kept (marked end mark.Semicolon) [] [] (λ b. refl) no_word) in
+    kept (named at x) (word.Mark mark.Assign ∷ word.Mark mark.Call ∷ word.Name a ∷ ws) (marked eq mark.Assign ∷ marked call_at mark.Call ∷ named name_at a ∷ ts) (λ b. refl)
+    (kept (marked eq mark.Assign) (word.Mark mark.Call ∷ word.Name a ∷ ws) (marked call_at mark.Call ∷ named name_at a ∷ ts) (λ b. refl)
+    (kept (marked call_at mark.Call) (word.Name a ∷ ws) (named name_at a ∷ ts) (λ b. refl) (kept (named name_at a) ws ts (λ b. refl) list)))
+
+statement_fewer : (s : StatementReading) → Fewer (statement_words (statement_of s)) (statement_tokens s)
+statement_fewer (let_ at name_at x eq e end) =
+    let ws : List Word = expression_words (expr_of e) ++ (word.Mark mark.Semicolon ∷ []) in
+    let ts : List Lexeme = expr_tokens e ++ (marked end mark.Semicolon ∷ []) in
+    kept (marked at mark.Let) (word.Name x ∷ word.Mark mark.Assign ∷ ws) (named name_at x ∷ marked eq mark.Assign ∷ ts) (λ b. refl)
+    (kept (named name_at x) (word.Mark mark.Assign ∷ ws) (marked eq mark.Assign ∷ ts) (λ b. refl) (kept (marked eq mark.Assign) ws ts (λ b. refl) (ended e end)))
+statement_fewer (assign at x eq s) = side_fewer at x eq s
+statement_fewer (return_ at e end) =
+    kept (marked at mark.Return) (expression_words (expr_of e) ++ (word.Mark mark.Semicolon ∷ [])) (expr_tokens e ++ (marked end mark.Semicolon ∷ [])) (λ b. refl) (ended e end)
+
+abbrev brace : List Word
+brace = word.Mark mark.BraceClose ∷ []
+
+statements_fewer : (r : StatementsReading) → Closed (block_words (statements_of r) ++ brace) (statements_tokens r)
+statements_fewer (no_statement to) = brace_closing to
+statements_fewer (statement s more) =
+    subst (λ v. Closed v (statement_tokens s ++ statements_tokens more)) (sym (append_assoc (statement_words (statement_of s)) (block_words (statements_of more)) brace))
+    (together_closed (statement_words (statement_of s)) (block_words (statements_of more) ++ brace) (statement_tokens s) (statements_tokens more) (statement_fewer s) (statements_fewer more))
+
+---- Programs
+
+declaration_fewer : (d : DeclarationReading) → Fewer (declared_words (declaration_of d)) (declaration_tokens d)
+declaration_fewer (activity at name_at a paren us arrow t end) =
+    let list : List Word = listed (map type_words (types_of us)) in
+    let ws : List Word = word.Mark mark.Arrow ∷ word.Mark (kind_mark (kind_of t)) ∷ word.Mark mark.Semicolon ∷ [] in
+    let ts : List Lexeme = marked arrow mark.Arrow ∷ (type_tokens t ++ (marked end mark.Semicolon ∷ [])) in
+    let ending : Fewer ws ts =
+    kept (marked arrow mark.Arrow) (word.Mark (kind_mark (kind_of t)) ∷ word.Mark mark.Semicolon ∷ []) (type_tokens t ++ (marked end mark.Semicolon ∷ [])) (λ b. refl)
+    (together (word.Mark (kind_mark (kind_of t)) ∷ []) (word.Mark mark.Semicolon ∷ []) (type_tokens t) (marked end mark.Semicolon ∷ []) (type_fewer t) (kept (marked end mark.Semicolon) [] [] (λ b. refl) no_word)) in
+    kept (marked at mark.Activity) (word.Name a ∷ (list ++ ws)) (named name_at a ∷ marked paren mark.Open ∷ (types_tokens us ++ ts)) (λ b. refl)
+    (kept (named name_at a) (list ++ ws) (marked paren mark.Open ∷ (types_tokens us ++ ts)) (λ b. refl)
+    (together list ws (marked paren mark.Open ∷ types_tokens us) ts (opened paren (between_commas (map type_words (types_of us)) ++ close) (types_tokens us) (types_fewer us)) ending))
+
+body_fewer : (r : BodyReading) → Closed ((declarations_words (declarations_of r) ++ block_words (statements_of (body_statements r))) ++ brace) (body_tokens r)
+body_fewer (statements ss) = statements_fewer ss
+body_fewer (declaration d more) =
+    let ds : List Word = declarations_words (declarations_of more) in
+    let ss : List Word = block_words (statements_of (body_statements more)) in
+    subst (λ v. Closed v (declaration_tokens d ++ body_tokens more)) (sym (append_assoc (declared_words (declaration_of d)) (ds ++ ss) brace) ∙ ap (λ v. v ++ brace) (sym (append_assoc (declared_words (declaration_of d)) ds ss)))
+    (together_closed (declared_words (declaration_of d)) ((ds ++ ss) ++ brace) (declaration_tokens d) (body_tokens more) (declaration_fewer d) (body_fewer more))
+
+-- the words of a program, and the tokens that it was read from
+pub program_fewer : (r : ProgramReading) → Fewer (program_words (program_of r)) (program_tokens r)
+program_fewer (workflow at name_at x paren ps brace_at body) =
+    let list : List Word = listed (map parameter_words (parameters_of ps)) in
+    let inside : List Word = (declarations_words (declarations_of body) ++ block_words (statements_of (body_statements body))) ++ brace in
+    let ts : List Lexeme = marked brace_at mark.BraceOpen ∷ body_tokens body in
+    kept (marked at mark.Workflow) (word.Name x ∷ (list ++ (word.Mark mark.BraceOpen ∷ inside))) (named name_at x ∷ marked paren mark.Open ∷ (parameters_tokens ps ++ ts)) (λ b. refl)
+    (kept (named name_at x) (list ++ (word.Mark mark.BraceOpen ∷ inside)) (marked paren mark.Open ∷ (parameters_tokens ps ++ ts)) (λ b. refl)
+    (together list (word.Mark mark.BraceOpen ∷ inside) (marked paren mark.Open ∷ parameters_tokens ps) ts
+    (opened paren (between_commas (map parameter_words (parameters_of ps)) ++ close) (parameters_tokens ps) (parameters_fewer ps))
+    (brace_opened brace_at inside (body_tokens body) (body_fewer body))))
