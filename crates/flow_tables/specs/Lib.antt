@@ -5,5 +5,4 @@ pub mod Coming
 pub mod Opening
 pub mod Faults
 pub mod Reads
-pub mod Own
 pub mod Puts

@@ -3,8 +3,13 @@ use crate::changes::{
     delete_task, delete_tasks, delete_timer, delete_timers, insert_event, insert_run, insert_task,
     insert_text, insert_timer, mark_run,
 };
-use flow_base::number::{EventId, RunId};
+use crate::puts::put_turn;
+use flow_base::book::Turn;
+use flow_base::event::{Cmd, Input};
+use flow_base::number::{EventId, Moment, RunId};
+use flow_base::sequence::Sequence;
 use flow_base::text::RawText;
+use flow_base::value::Value;
 use flow_rows::rows::{EventRow, OutboxRow, RunRow, TextRow, TimerRow};
 use sqlite::{Connection, Error, MemStore};
 use std::alloc::Global;
@@ -203,6 +208,36 @@ fn a_run_is_marked(rt: HostRuntime) -> Result<(), Fail> {
     assert_eq!(rt;
         count(&mut conn, "SELECT sum(num) FROM run WHERE isopen = 1")?,
         3
+    );
+    Ok(())
+}
+
+/// The turn in which a run starts and completes.
+fn whole_turn(alloc: Global) -> Result<Turn, &'static str> {
+    let mut commands = Sequence::new(alloc);
+    if commands.push(Cmd::Complete(Value::Int(7))).is_err() {
+        return Err("no memory");
+    }
+    Ok(Turn {
+        at: Moment::new(5).ok_or("no moment")?,
+        input: Input::Started(Sequence::new(alloc)),
+        commands,
+    })
+}
+
+#[test]
+fn a_turn_is_recorded(rt: HostRuntime) -> Result<(), Fail> {
+    let alloc = rt.alloc();
+    let mut conn = two_runs(alloc)?;
+    let turn = whole_turn(alloc)?;
+    assert!(rt; put_turn(alloc, &mut conn, run(2)?, false, 0, &turn).is_ok());
+    assert_eq!(rt;
+        count(&mut conn, "SELECT count(*) FROM event WHERE run = 2")?,
+        2
+    );
+    assert_eq!(rt;
+        count(&mut conn, "SELECT isopen FROM run WHERE num = 2")?,
+        0
     );
     Ok(())
 }
