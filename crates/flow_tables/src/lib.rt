@@ -3,13 +3,17 @@
 
 #[cfg(test)]
 mod change_tests;
+pub mod book_reads;
 pub mod changes;
 pub mod control;
 pub mod create;
 pub mod fault;
+pub mod look_ups;
 pub mod open;
 pub mod puts;
 pub mod reads;
 mod rows;
+pub mod stored;
+pub mod whole_puts;
 #[cfg(test)]
 mod tests;
