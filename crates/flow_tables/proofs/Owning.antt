@@ -27,8 +27,8 @@ module _ (old new : State) where
     pub same : IsTrue new.is_open → new.committed ≡ old.committed
 
   -- whatever was kept is kept on, where nothing is committed
-  pub keeps_on : Survives old new (λ _. ⊥) → (HasCleanDisk new → LeavesCommit) → KeepsOn old new
-  keeps_on survives leaves clean = (was_clean old new _ survives clean, λ b keeps. record {
+  pub keeps_on : (ours : Type 0) → (ours → Survives old new (λ _. ⊥)) → (ours → HasCleanDisk new → LeavesCommit) → KeepsOn ours old new
+  keeps_on ours survived left fit clean = let survives = survived fit in let leaves = left fit in (was_clean old new _ survives clean, λ b keeps. record {
     kept = λ up. let it = leaves clean in subst (λ (d : Database). HasTables d × Tells (tables_in d.trees) b) (sym (it.same up)) (keeps.kept (it.was_open up));
     stops = λ db may. elim (survives.crash clean db may) [
       | inl before ↦ keeps.stops db before
@@ -186,75 +186,75 @@ module _ (old new : State) where
 
 ---- A call of the view, once nothing hinders it
 
-module _ (old new : State) (ro rn : Option ViewFault) (own : HasCleanDisk old → IsOwn old ro) (none : ro ≡ None) (inside : old.in_transaction ≡ true) (clean : HasCleanDisk new → HasCleanDisk old) where
-  pub holds : Holds true old
-  holds was = own_over old new ro (own was) inside none
+module _ (old new : State) (ours : Type 0) (ro rn : Option ViewFault) (owned : ours → HasCleanDisk old → IsOwn old ro) (none : ro ≡ None) (inside : old.in_transaction ≡ true) (clean : HasCleanDisk new → HasCleanDisk old) where
+  pub holds : ours → Holds true old
+  holds fit was = own_over old new ro (owned fit was) inside none
 
   module _ {A : Type 0} (result : Result A ViewFault) (value : Book → A) (reads : HasCleanDisk new → ReadsBook old new result value) (noted : IsNoted result ro rn) where
-    told_at : (now : HasCleanDisk new) → MatchResult result (λ v. IsStill true old new × (v ≡ value (book_of old.now.trees))) (λ _. IsRefused true old new)
-    told_at now = reads now (book_of old.now.trees) ((own (clean now)).whole inside none).1 holds
+    told_at : ours → (now : HasCleanDisk new) → MatchResult result (λ v. IsStill true old new × (v ≡ value (book_of old.now.trees))) (λ _. IsRefused true old new)
+    told_at fit now = reads now (book_of old.now.trees) ((owned fit (clean now)).whole inside none).1 (holds fit)
 
-    pub read_own : HasCleanDisk new → IsOwn new rn
-    read_own now = go result (told_at now)
+    pub read_own : ours → HasCleanDisk new → IsOwn new rn
+    read_own fit now = go result (told_at fit now)
       where
         go : (r : Result A ViewFault) → MatchResult r (λ v. IsStill true old new × (v ≡ value (book_of old.now.trees))) (λ _. IsRefused true old new) → IsOwn new rn
-        go (Ok v) h = own_still old new ro (own (clean now)) inside none rn h.0
-        go (Err f) h = own_refused old new ro (own (clean now)) inside none rn h
+        go (Ok v) h = own_still old new ro (owned fit (clean now)) inside none rn h.0
+        go (Err f) h = own_refused old new ro (owned fit (clean now)) inside none rn h
 
-    pub read_leaves : HasCleanDisk new → LeavesCommit old new
-    read_leaves now = go result (told_at now)
+    pub read_leaves : ours → HasCleanDisk new → LeavesCommit old new
+    read_leaves fit now = go result (told_at fit now)
       where
         go : (r : Result A ViewFault) → MatchResult r (λ v. IsStill true old new × (v ≡ value (book_of old.now.trees))) (λ _. IsRefused true old new) → LeavesCommit old new
-        go (Ok v) h = refused_leaves old new ((own (clean now)).whole inside none).0 (inl h.0)
-        go (Err f) h = refused_leaves old new ((own (clean now)).whole inside none).0 h
+        go (Ok v) h = refused_leaves old new ((owned fit (clean now)).whole inside none).0 (inl h.0)
+        go (Err f) h = refused_leaves old new ((owned fit (clean now)).whole inside none).0 h
 
-    pub read_told : IfOk result (λ v. IsSure new rn → (book_of new.now.trees ≡ book_of old.now.trees) × (v ≡ value (book_of old.now.trees)))
-    read_told = go result (λ now. told_at now)
+    pub read_told : IfOk result (λ v. IsSure ours new rn → (book_of new.now.trees ≡ book_of old.now.trees) × (v ≡ value (book_of old.now.trees)))
+    read_told = go result (λ fit now. told_at fit now)
       where
-        go : (r : Result A ViewFault) → (HasCleanDisk new → MatchResult r (λ v. IsStill true old new × (v ≡ value (book_of old.now.trees))) (λ _. IsRefused true old new))
-            → IfOk r (λ v. IsSure new rn → (book_of new.now.trees ≡ book_of old.now.trees) × (v ≡ value (book_of old.now.trees)))
-        go (Ok v) h = λ sure. let it = h sure.clean in (ap (λ (d : Database). book_of d.trees) it.0.1, it.1)
+        go : (r : Result A ViewFault) → (ours → HasCleanDisk new → MatchResult r (λ v. IsStill true old new × (v ≡ value (book_of old.now.trees))) (λ _. IsRefused true old new))
+            → IfOk r (λ v. IsSure ours new rn → (book_of new.now.trees ≡ book_of old.now.trees) × (v ≡ value (book_of old.now.trees)))
+        go (Ok v) h = λ sure. let it = h sure.fit sure.clean in (ap (λ (d : Database). book_of d.trees) it.0.1, it.1)
         go (Err f) h = tt
 
-  pub follows_on : (a : State) → (Holds true old → Survives old new (λ _. ⊥)) → (HasCleanDisk new → LeavesCommit old new) → KeepsOn a old → KeepsOn a new
-  follows_on a survives leaves before now =
-      let on = keeps_on old new (survives holds) leaves now in
-      let was = before on.0 in
+  pub follows_on : (a : State) → (Holds true old → Survives old new (λ _. ⊥)) → (ours → HasCleanDisk new → LeavesCommit old new) → KeepsOn ours a old → KeepsOn ours a new
+  follows_on a survives leaves before fit now =
+      let on = keeps_on old new ours (λ fit. survives (holds fit)) leaves fit now in
+      let was = before fit on.0 in
       (was.0, λ b h. on.1 b (was.1 b h))
 
-  pub sure_on : IsSure new rn → IsSure old ro
-  sure_on h = record { clean = clean h.clean; mode = inside; none = none }
+  pub sure_on : IsSure ours new rn → IsSure ours old ro
+  sure_on h = record { fit = h.fit; clean = clean h.clean; mode = inside; none = none }
 
   module _ (result : Result Unit ViewFault) (c : Change)
       (put : (b : Book) → Tells (tables_in old.now.trees) b → Holds true old → HasCleanDisk new
       → MatchResult result (λ _. FitsTables b c × Changes old new (after_change c (tables_in old.now.trees))) (λ _. IsCutShort old new)) (noted : IsNoted result ro rn) where
-    put_at : (now : HasCleanDisk new) → MatchResult result (λ _. FitsTables (book_of old.now.trees) c × Changes old new (after_change c (tables_in old.now.trees))) (λ _. IsCutShort old new)
-    put_at now = put (book_of old.now.trees) ((own (clean now)).whole inside none).1 holds now
+    put_at : ours → (now : HasCleanDisk new) → MatchResult result (λ _. FitsTables (book_of old.now.trees) c × Changes old new (after_change c (tables_in old.now.trees))) (λ _. IsCutShort old new)
+    put_at fit now = put (book_of old.now.trees) ((owned fit (clean now)).whole inside none).1 (holds fit) now
 
-    pub put_own : HasCleanDisk new → IsOwn new rn
-    put_own now = go result (put_at now) noted
+    pub put_own : ours → HasCleanDisk new → IsOwn new rn
+    put_own fit now = go result (put_at fit now) noted
       where
         go : (r : Result Unit ViewFault) → MatchResult r (λ _. FitsTables (book_of old.now.trees) c × Changes old new (after_change c (tables_in old.now.trees))) (λ _. IsCutShort old new)
             → IsNoted r ro rn → IsOwn new rn
-        go (Ok v) h n = own_put old new ro (own (clean now)) inside none rn c h.0 h.1
-        go (Err f) h n = subst (λ s. IsOwn new s) (sym n) (own_cut old new ro (own (clean now)) inside none f h)
+        go (Ok v) h n = own_put old new ro (owned fit (clean now)) inside none rn c h.0 h.1
+        go (Err f) h n = subst (λ s. IsOwn new s) (sym n) (own_cut old new ro (owned fit (clean now)) inside none f h)
 
-    pub put_leaves : HasCleanDisk new → LeavesCommit old new
-    put_leaves now = go result (put_at now)
+    pub put_leaves : ours → HasCleanDisk new → LeavesCommit old new
+    put_leaves fit now = go result (put_at fit now)
       where
         up : IsTrue old.is_open
-        up = ((own (clean now)).whole inside none).0
+        up = ((owned fit (clean now)).whole inside none).0
         go : (r : Result Unit ViewFault) → MatchResult r (λ _. FitsTables (book_of old.now.trees) c × Changes old new (after_change c (tables_in old.now.trees))) (λ _. IsCutShort old new)
             → LeavesCommit old new
         go (Ok v) h = record { was_open = λ _. up; same = λ _. h.1.committed }
         go (Err f) h = cut_leaves old new up h
 
-    pub put_told : OnOk result (IsSure new rn → book_of new.now.trees ≡ changed (book_of old.now.trees) c)
-    put_told = go result (λ now. put_at now)
+    pub put_told : OnOk result (IsSure ours new rn → book_of new.now.trees ≡ changed (book_of old.now.trees) c)
+    put_told = go result (λ fit now. put_at fit now)
       where
-        go : (r : Result Unit ViewFault) → ((now : HasCleanDisk new) → MatchResult r (λ _. FitsTables (book_of old.now.trees) c × Changes old new (after_change c (tables_in old.now.trees))) (λ _. IsCutShort old new))
-            → OnOk r (IsSure new rn → book_of new.now.trees ≡ changed (book_of old.now.trees) c)
-        go (Ok v) h = λ sure. let it = h sure.clean in put_book old new ro (own (clean sure.clean)) inside none c it.0 it.1
+        go : (r : Result Unit ViewFault) → (ours → (now : HasCleanDisk new) → MatchResult r (λ _. FitsTables (book_of old.now.trees) c × Changes old new (after_change c (tables_in old.now.trees))) (λ _. IsCutShort old new))
+            → OnOk r (IsSure ours new rn → book_of new.now.trees ≡ changed (book_of old.now.trees) c)
+        go (Ok v) h = λ sure. let it = h sure.fit sure.clean in put_book old new ro (owned sure.fit (clean sure.clean)) inside none c it.0 it.1
         go (Err f) h = tt
 
 ---- The ends of a transaction

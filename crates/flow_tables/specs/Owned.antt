@@ -1,14 +1,16 @@
 -- Tables as a value of the code: the book that they hold, and what becomes of it.
-use Rattle.std.specs.Prelude.{◌≡◌, ◌⊎◌, ℕ, ℤ, pos, true, false, Option, Some, None, IsTrue, Result, Ok, Err, MatchResult, option_map}
+use Rattle.std.specs.Prelude.{◌≡◌, ◌⊎◌, ℕ, ℤ, pos, true, false, Option, Some, None, IsTrue, Result, Ok, Err, MatchResult, option_map, refl}
+use Rattle.std.specs.Coded.{Coded, code_by, coded×, coded_option}
 use Rattle.sqlite_trees.specs.declared.store.Store.{Ghosts}
 use Rattle.sqlite.specs.Effect.{Database}
 use Rattle.sqlite.specs.Tree.{Trees}
-use Rattle.sqlite.specs.Held.{Held, state}
+use Rattle.sqlite.specs.Held.{Held, held_code, state}
 use Rattle.sqlite.specs.State.{State, HasCleanDisk}
 use Rattle.flow_base.specs.declared.book.Run.{Run}
-use Rattle.flow_model.specs.Book.{Book, nth}
+use Rattle.flow_model.specs.Book.{Book, nth, no_book}
 use Rattle.flow_view.specs.declared.fault.ViewFault.{ViewFault}
 use Rattle.flow_view.specs.declared.fault.ViewFault.TheVariants as fault
+use Rattle.flow_view.specs.contracts.fault.ViewFault as fault_row
 use Rattle.flow_rows.specs.declared.rows.RunRow.{RunRow}
 use Rattle.flow_rows.specs.Rows.{run_row}
 use Rattle.flow_rows.specs.Finding.{last_number}
@@ -16,12 +18,22 @@ use Rattle.flow_rows.specs.Told.{book_in, Tells}
 use Rattle.flow_tables.specs.declared.fault.StoreFault.{StoreFault}
 use Rattle.flow_tables.specs.declared.fault.StoreFault.TheVariants as store
 use Rattle.flow_tables.specs.Stored.{tables_in}
+use Rattle.flow_tables.specs.Layout.{no_schema}
 use Rattle.flow_tables.specs.States.{AreOurs, HasTables, IsOver, Holds, IsStill, IsRefused}
 
--- The value: the connection, and why the rest of the transaction is refused, if it is.
+-- The value: the connection, why the rest of the transaction is refused, if it is, and, for contracts alone, the connection
+-- as it was handed in.
 pub record Stored (S : Type 0) : Type 0 where
   pub held : Held S
   pub refused : Option ViewFault
+  pub opened : Held S
+
+abbrev pub stored_code : {S : Type 0} → Coded S → Coded (Stored S)
+stored_code {S} store =
+    code_by (Held S × (Option ViewFault × Held S)) (coded× (held_code store) (coded× (coded_option fault_row.the_row.coded) (held_code store)))
+    (λ t. (t.held, (t.refused, t.opened)))
+    (λ p. record { held = p.0; refused = p.1.0; opened = p.1.1 })
+    (λ _. refl)
 
 abbrev pub state_of : {S : Type 0} → Ghosts S → Stored S → State
 state_of g t = state g t.held
@@ -48,11 +60,23 @@ pub record IsOwn (s : State) (refused : Option ViewFault) : Type 0 where
 abbrev pub book_now : {S : Type 0} → Ghosts S → Stored S → Book
 book_now g t = book_of (state_of g t).now.trees
 
+-- What is said of the book is said of our tables with any rows, or of none, as the file that was opened has them.
+abbrev pub IsOurs : State → Type 0
+IsOurs s = HasCleanDisk s → HasTables s.committed ⊎ (s.committed.schema ≡ no_schema)
+
+-- and of a disk that has told no lie so far
+abbrev pub IsFit : {S : Type 0} → Ghosts S → Stored S → Type 0
+IsFit g t = IsOurs (state g t.opened) × HasCleanDisk (state g t.held)
+
 -- Nothing was refused in the transaction that runs, so it shows a book.
-pub record IsSure (s : State) (refused : Option ViewFault) : Type 0 where
+pub record IsSure (ours : Type 0) (s : State) (refused : Option ViewFault) : Type 0 where
+  pub fit : ours
   pub clean : HasCleanDisk s
   pub mode : s.in_transaction ≡ true
   pub none : refused ≡ None
+
+abbrev pub is_sure : {S : Type 0} → Ghosts S → Stored S → Type 0
+is_sure g t = IsSure (IsOurs (state g t.opened)) (state g t.held) t.refused
 
 -- A transaction that was refused something, or none runs.
 abbrev pub Refuses : State → Option ViewFault → Type 0
@@ -73,8 +97,11 @@ abbrev pub LeavesEither : State → Book → Book → Type 0
 LeavesEither s before after = (db : Trees) → s.may_leave db → IsFileOf db before ⊎ IsFileOf db after
 
 -- What was kept is kept on, whatever book it is.
-abbrev pub KeepsOn : State → State → Type 0
-KeepsOn old new = HasCleanDisk new → HasCleanDisk old × ((b : Book) → Keeps old b → Keeps new b)
+abbrev pub KeepsOn : Type 0 → State → State → Type 0
+KeepsOn ours old new = ours → HasCleanDisk new → HasCleanDisk old × ((b : Book) → Keeps old b → Keeps new b)
+
+abbrev pub Follows : {S : Type 0} → Ghosts S → Stored S → Stored S → Type 0
+Follows g a b = (b.opened ≡ a.opened) × KeepsOn (IsOurs (state g b.opened)) (state_of g a) (state_of g b)
 
 -- how a fault of a read is told
 abbrev pub view_fault : StoreFault → ViewFault
@@ -106,3 +133,13 @@ as_count n = last_number n
 abbrev pub IsNoted : {A : Type 0} → Result A ViewFault → Option ViewFault → Option ViewFault → Type 0
 IsNoted (Ok v) old new = new ≡ old
 IsNoted (Err f) old new = new ≡ Some f
+
+---- Opening
+
+-- The book that a file holds when it is opened: our tables tell it, or there are none and it is the empty one.
+abbrev pub IsFound : State → Book → Type 0
+IsFound s b = (HasTables s.committed × Tells (tables_in s.committed.trees) b) ⊎ ((s.committed.schema ≡ no_schema) × (b ≡ no_book))
+
+-- A stop leaves what a stop before could leave, or the tables made for this book.
+abbrev pub LeavesMade : State → State → Book → Type 0
+LeavesMade old new b = (db : Trees) → new.may_leave db → old.may_leave db ⊎ IsFileOf db b
