@@ -29,3 +29,4 @@ pub mod Reading
 pub mod Found
 pub mod Asked
 pub mod Parts
+pub mod Wholes
