@@ -7,8 +7,11 @@ pub mod changes;
 pub mod control;
 pub mod create;
 pub mod fault;
+pub mod look_ups;
 pub mod open;
 pub mod puts;
+#[cfg(test)]
+mod read_tests;
 pub mod reads;
 mod rows;
 #[cfg(test)]
