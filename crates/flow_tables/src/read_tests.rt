@@ -131,7 +131,9 @@ fn runs_are_read(rt: HostRuntime) -> Result<(), Fail> {
     let mut conn = three_runs(alloc)?;
     let rows = runs(alloc, &mut conn)?;
     let are_told = match rows.as_slice() {
-        [first, second, _] => is_run(first, 1, "f", "p", 0) && is_run(second, 2, "f", "q", 1),
+        [first, second, third] => is_run(first, 1, "f", "p", 0)
+            && is_run(second, 2, "f", "q", 1)
+            && is_run(third, 3, "g", "r", 0),
         _ => false,
     };
     assert!(rt; are_told);
