@@ -30,3 +30,4 @@ pub mod Found
 pub mod Asked
 pub mod Parts
 pub mod Wholes
+pub mod Causes
