@@ -31,3 +31,5 @@ pub mod Asked
 pub mod Parts
 pub mod BookReads
 pub mod Owning
+pub mod Wholes
+pub mod Causes

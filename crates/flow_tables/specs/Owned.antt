@@ -15,8 +15,6 @@ use Rattle.flow_rows.specs.declared.rows.RunRow.{RunRow}
 use Rattle.flow_rows.specs.Rows.{run_row}
 use Rattle.flow_rows.specs.Finding.{last_number}
 use Rattle.flow_rows.specs.Told.{book_in, Tells}
-use Rattle.flow_tables.specs.declared.fault.StoreFault.{StoreFault}
-use Rattle.flow_tables.specs.declared.fault.StoreFault.TheVariants as store
 use Rattle.flow_tables.specs.Stored.{tables_in}
 use Rattle.flow_tables.specs.Layout.{no_schema}
 use Rattle.flow_tables.specs.States.{AreOurs, HasTables, IsOver, Holds, IsStill, IsRefused}
@@ -102,11 +100,6 @@ KeepsOn ours old new = ours → HasCleanDisk new → HasCleanDisk old × ((b : B
 
 abbrev pub Follows : {S : Type 0} → Ghosts S → Stored S → Stored S → Type 0
 Follows g a b = (b.opened ≡ a.opened) × KeepsOn (IsOurs (state g b.opened)) (state_of g a) (state_of g b)
-
--- how a fault of a read is told
-abbrev pub view_fault : StoreFault → ViewFault
-view_fault store.NoMemory = fault.NoMemory
-view_fault (store.Refused e) = fault.StoreRefused
 
 ---- Reads of the book, within a transaction
 

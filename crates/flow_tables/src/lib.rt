@@ -1,9 +1,9 @@
 //! The book in six SQL tables.
 #![tactic(auto)]
 
+pub mod book_reads;
 #[cfg(test)]
 mod change_tests;
-pub mod book_reads;
 pub mod changes;
 pub mod control;
 pub mod create;
@@ -11,9 +11,11 @@ pub mod fault;
 pub mod look_ups;
 pub mod open;
 pub mod puts;
+#[cfg(test)]
+mod read_tests;
 pub mod reads;
 mod rows;
 pub mod stored;
-pub mod whole_puts;
 #[cfg(test)]
 mod tests;
+pub mod whole_puts;
