@@ -1,4 +1,5 @@
 pub mod Firsts
+pub mod RunParts
 pub mod ReadsOn
 pub mod BookTexts
 pub mod Histories

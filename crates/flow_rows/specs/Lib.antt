@@ -1,5 +1,6 @@
 pub mod Rows
 pub mod Damages
+pub mod Rising
 pub mod Reading
 pub mod Standing
 pub mod Changes

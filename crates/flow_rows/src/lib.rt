@@ -5,6 +5,7 @@ pub mod damage;
 pub mod events;
 pub mod found;
 pub mod outbox;
+pub mod part;
 pub mod recall;
 pub mod rows;
 pub mod runs;
