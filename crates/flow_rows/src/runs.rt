@@ -5,6 +5,7 @@ ghost use Rattle.flow_rows.specs.Damages as rule;
 ghost use Rattle.flow_rows.specs.Damages.{first_of, damages_of_runs, has_request, is_open_of};
 
 use crate::found::{Damage, Table};
+use crate::part::{is_rising, part};
 use crate::rows::{EventRow, RunRow};
 
 /// Whether an event is of a kind that closes its run.
@@ -107,8 +108,10 @@ pub fn run_damage(texts: usize, events: &[EventRow], rows: &[RunRow]) -> Option<
     requires { texts < 2 ^ 62 }
     ensures { result ≡ first_of (damages_of_runs texts events.now [] 1 rows.now) }
 {
+    let rising = is_rising(events);
     for i in 0..rows.len() {
-        if !run_fits(texts, events, &rows[..i], i + 1, &rows[i]) {
+        let own = part(events, rising, i as u64 + 1);
+        if !run_fits(texts, own, &rows[..i], i + 1, &rows[i]) {
             return Some(Damage {
                 table: Table::Run,
                 run: i as i64 + 1,
