@@ -1,5 +1,6 @@
 pub mod Firsts
 pub mod RunParts
+pub mod TakenNames
 pub mod ReadsOn
 pub mod BookTexts
 pub mod Histories

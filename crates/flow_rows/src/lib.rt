@@ -11,6 +11,7 @@ pub mod rows;
 pub mod runs;
 pub mod single;
 pub mod strays;
+pub mod taken;
 #[cfg(test)]
 mod tests;
 pub mod texts;
