@@ -16,5 +16,6 @@ pub mod WholeChanges
 pub mod Finds
 pub mod Singles
 pub mod Recalls
+pub mod NextRuns
 pub mod Recalled
 pub mod Laws
