@@ -10,7 +10,7 @@ returns-then-not-run_fits c =
     let rows = c.args.rows.now in
     let row = c.index-rows-i.result in
     let events = c.args.events.now in
-    let same : events_of c.part-own.result.now (pos (i + 1)) ≡ events_of events (pos (i + 1)) = c.part-own.ensures in
+    let same : events_of c.part-own.result.now (pos (i + 1)) ≡ events_of events (pos (i + 1)) = c.part-own.ensures.same in
     let fits = c.run_fits.ensures (take i rows) c.loop-i.invariant.0 in
     let breaks : c.run_fits.result ≡ false = search rules in
     ap Some c.broken.ensures
@@ -22,7 +22,7 @@ loop-i-preserved c =
     let rows = c.args.rows.now in
     let row = c.index-rows-i.result in
     let events = c.args.events.now in
-    let same : events_of c.part-own.result.now (pos (i + 1)) ≡ events_of events (pos (i + 1)) = c.part-own.ensures in
+    let same : events_of c.part-own.result.now (pos (i + 1)) ≡ events_of events (pos (i + 1)) = c.part-own.ensures.same in
     let fits = c.run_fits.ensures (take i rows) c.loop-i.invariant.0 in
     let kept : c.run_fits.result ≡ true = search rules in (
       subst (HasTaken c.add.new.self) (sym (one_more_before rows i row c.loop-i-test.true c.index-rows-i.is)) (c.in_ok-add.ensures (take i rows) c.loop-i.invariant.0),
