@@ -10,4 +10,5 @@ pub mod Chains
 pub mod Positions
 pub mod Again
 pub mod OneMore
+pub mod Logs
 mod RunRows
