@@ -12,3 +12,4 @@ pub mod Again
 pub mod OneMore
 pub mod Logs
 mod RunRows
+mod WorldRows
