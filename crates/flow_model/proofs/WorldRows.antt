@@ -1,11 +1,10 @@
 -- The world on short ways, by computation: over any rules, any book and any commands.
-use Rattle.std.proofs.Common.{◌≡◌, ℕ, zero, suc, ◌<◌, List, [], ◌∷◌, length, refl, sym, arith, inl, inr}
-use Rattle.std.specs.Prelude.{◌≢◌, ◌⊎◌, Contains}
-use Rattle.std.specs.List.{slice_index_or}
+use Rattle.std.proofs.Common.{zero, suc, [], ◌∷◌, refl, sym, arith, inl, inr}
+use Rattle.std.specs.Prelude.{◌≢◌, Contains}
 use Rattle.flow_base.specs.declared.command.Command.{Command}
 use Rattle.flow_model.specs.Book.{Book}
 use Rattle.flow_model.specs.Apply.{Rules, outcome, after_one}
-use Rattle.flow_model.specs.World.{Idle, Writing, Committing, Halted, Stopped, World, first, Submit, Take, Write, WriteFails, CommitBegins, CommitDone, CommitFails, Publish, Crash, Reopen, submitted, taken, rolled_back, commit_begun, commit_done, commit_failed, published_in, stopped, opened, Comes}
+use Rattle.flow_model.specs.World.{Idle, Writing, Committing, Halted, World, first, Submit, Take, Write, WriteFails, CommitBegins, CommitDone, CommitFails, Publish, Crash, Reopen, submitted, taken, rolled_back, commit_begun, commit_done, commit_failed, published_in, stopped, opened, Comes}
 
 -- a command that is committed and published has its reply at place 1
 committed : Rules → Book → Command → World

@@ -1,7 +1,7 @@
 -- Whatever happens, a stop leaves the log, or the log and the whole batch.
-use Rattle.std.proofs.Common.{◌≡◌, ℕ, zero, suc, ◌+◌, ◌-◌, ◌<◌, ◌≤◌, List, [], ◌∷◌, ◌++◌, length, take, drop, refl, sym, ap, ◌∙◌, subst, arith, append_assoc, Option, Some, None, Bool, true, false, ⊎_elim, inl, inr}
+use Rattle.std.proofs.Common.{◌≡◌, ℕ, zero, suc, ◌+◌, ◌-◌, ◌≤◌, List, [], ◌∷◌, ◌++◌, length, take, drop, refl, sym, ◌∙◌, subst, arith, append_assoc, Option, Some, None, Bool, true, false, ⊎_elim, inl, inr}
 use Rattle.std.specs.Prelude.{◌⊎◌, slice_get, nat_le, ◌&&◌, Contains, if◌then◌else◌}
-use Rattle.std.specs.List.{AllByRecursion, slice_index_or}
+use Rattle.std.specs.List.{AllByRecursion}
 use Rattle.std.proofs.lemmas.List.{take-append-drop, length-take, append-nil, length-append}
 use Rattle.std.proofs.lemmas.List.Elements.{Contains-append_cases, Contains-append_left}
 use Rattle.flow_base.specs.declared.value.Value.{Value}
@@ -11,8 +11,8 @@ use Rattle.flow_base.specs.declared.command.Reply.{Reply}
 use Rattle.flow_model.specs.Book.{Book, nth}
 use Rattle.flow_model.specs.Apply.{Rules, after, replies}
 use Rattle.flow_model.specs.Sound.{IsSound}
-use Rattle.flow_model.specs.World.{Attempt, is_open_task, Receipt, Stage, Idle, Writing, Committing, Halted, Stopped, World, first, Step, Submit, Report, Take, Write, WriteFails, CommitBegins, CommitDone, CommitFails, RefusedRollback, Publish, Dispatch, Crash, Reopen, submitted, reported, batch_limit, taken, rolled_back, not_rolled_back, commit_begun, commit_done, commit_failed, receipts_from, published_in, dispatched_in, stopped, opened, Opens, Goes, Comes, IsIn, HoldsAcknowledged, Left, IsSafe, TakesOver, WorldIsSafe, WorldOpensWell}
-use Rattle.flow_model.proofs.Logs.{after_cut, replies_cut, length-replies, nth_next}
+use Rattle.flow_model.specs.World.{Attempt, is_open_task, Receipt, Stage, Idle, Writing, Committing, Halted, Stopped, World, first, Step, Submit, Report, Take, Write, WriteFails, CommitBegins, CommitDone, CommitFails, RefusedRollback, Publish, Dispatch, Crash, Reopen, submitted, reported, batch_limit, taken, rolled_back, not_rolled_back, commit_begun, commit_done, commit_failed, receipts_from, published_in, dispatched_in, stopped, opened, Opens, Goes, Comes, IsIn, HoldsAcknowledged, IsSafe, TakesOver, WorldIsSafe, WorldOpensWell}
+use Rattle.flow_model.proofs.Logs.{replies_cut, length-replies, nth_next}
 use Rattle.flow_machine.specs.Soundness.{ReadsWellFormed}
 use Rattle.flow_machine.proofs.Keeps.{after_keeps}
 use Rattle.flow_machine.proofs.Places.{nth_kept}

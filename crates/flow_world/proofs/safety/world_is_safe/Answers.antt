@@ -1,5 +1,4 @@
-use Rattle.flow_model.specs.Apply.{Rules, rules_of}
-use Rattle.flow_model.specs.World.{WorldIsSafe}
+use Rattle.flow_model.specs.Apply.{rules_of}
 use Rattle.flow_check.specs.Language.{meaning_of}
 use Rattle.flow_machine.proofs.Meaning.{reads_well_formed}
 use Rattle.flow_world.proofs.Invariant.{safe, opens_well}
