@@ -1,8 +1,10 @@
 -- Commands one after the other, and what each is answered at its place.
-use Rattle.std.proofs.Common.{◌≡◌, ℕ, zero, suc, ◌+◌, ◌-◌, List, [], ◌∷◌, ◌++◌, length, map, refl, sym, ap, ◌∙◌, subst, arith, Option, Some, None, Bool, true, false, ⊎_elim}
+use Rattle.std.proofs.Common.{◌≡◌, ℕ, zero, suc, ◌+◌, ◌-◌, List, [], ◌∷◌, ◌++◌, length, drop, map, refl, sym, ap, ◌∙◌, subst, arith, Option, Some, None, Bool, true, false, ⊎_elim}
 use Rattle.std.specs.Prelude.{◌≢◌, slice_get, nat_eq, if◌then◌else◌}
+use Rattle.std.proofs.Math.Seq.{drop-append_seam}
 use Rattle.std.proofs.lemmas.Bool.Decides.{eqb_tells}
 use Rattle.flow_base.specs.declared.command.Command.{Command}
+use Rattle.flow_base.specs.declared.command.Reply.{Reply}
 use Rattle.flow_model.specs.Book.{Book, nth}
 use Rattle.flow_model.specs.Apply.{Rules, outcome, after_one, after, replies}
 use Rattle.flow_model.specs.Logs.{AfterCut, RepliesCut, AfterOneMore, RepliesInOrder}
@@ -60,3 +62,33 @@ receipts_reply opening place u b (c ∷ cs) = ap (λ rs. (outcome u b c).reply �
 pub receipts_command : (opening place : ℕ) (u : Rules) (b : Book) (l : List Command) → map (λ (r : Receipt). r.command) (receipts_from opening place l (replies u b l)) ≡ l
 receipts_command opening place u b [] = refl
 receipts_command opening place u b (c ∷ cs) = ap (λ cs. c ∷ cs) (receipts_command opening (suc place) u (after_one u b c) cs)
+
+-- each stands at its place
+pub receipt_at : (opening place : ℕ) (cs : List Command) (rs : List Reply) (i : ℕ) (r : Receipt) → slice_get (receipts_from opening place cs rs) i ≡ Some r → (r.opening ≡ opening) × (r.place ≡ place + i) × (slice_get cs i ≡ Some r.command) × (slice_get rs i ≡ Some r.reply)
+receipt_at opening place [] rs i r e = absurd (cc e)
+receipt_at opening place (c ∷ cs) [] i r e = absurd (cc e)
+receipt_at opening place (c ∷ cs) (x ∷ rs) zero r e =
+    let made : Receipt = record { opening = opening; place = place; command = c; reply = x } in
+    let same : made ≡ r = cc e in
+    let at : r.place ≡ place = sym (ap (λ (y : Receipt). y.place) same) in (
+      sym (ap (λ (y : Receipt). y.opening) same),
+      omega (arith, at),
+      ap (λ (y : Receipt). Some y.command) same,
+      ap (λ (y : Receipt). Some y.reply) same,
+    )
+receipt_at opening place (c ∷ cs) (x ∷ rs) (suc i) r e =
+    let later = receipt_at opening (suc place) cs rs i r e in
+    (later.0, omega (arith, later.1), later.2, later.3)
+
+-- what a further batch is answered, behind what was answered before
+pub replies_behind : (u : Rules) (b : Book) (l m : List Command) → drop (length l) (replies u b (l ++ m)) ≡ replies u (after u b l) m
+replies_behind u b l m =
+    subst (λ n. drop n (replies u b (l ++ m)) ≡ replies u (after u b l) m) (length-replies u b l)
+    (ap (drop (length (replies u b l))) (replies_cut u b l m) ∙ drop-append_seam (replies u b l) (replies u (after u b l) m))
+
+-- where all before it is published, the receipts of a batch are those of its commands and their replies
+pub receipts_of_batch : (u : Rules) (b : Book) (opening n : ℕ) (l m : List Command) → n ≡ length l → receipts_from opening (suc (n - opening)) (drop n (l ++ m)) (drop n (replies u b (l ++ m))) ≡ receipts_from opening (suc (length l - opening)) m (replies u (after u b l) m)
+receipts_of_batch u b opening n l m e =
+    ap (λ k. receipts_from opening (suc (k - opening)) (drop k (l ++ m)) (drop k (replies u b (l ++ m)))) e
+    ∙ ap (λ cs. receipts_from opening (suc (length l - opening)) cs (drop (length l) (replies u b (l ++ m)))) (drop-append_seam l m)
+    ∙ ap (receipts_from opening (suc (length l - opening)) m) (replies_behind u b l m)
