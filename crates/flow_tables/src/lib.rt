@@ -17,3 +17,5 @@ mod rows;
 #[cfg(test)]
 mod tests;
 pub mod whole_puts;
+#[cfg(test)]
+mod whole_tests;
