@@ -19,3 +19,5 @@ pub mod stored;
 #[cfg(test)]
 mod tests;
 pub mod whole_puts;
+#[cfg(test)]
+mod whole_tests;
