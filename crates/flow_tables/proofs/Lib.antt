@@ -29,3 +29,5 @@ pub mod Reading
 pub mod Found
 pub mod Asked
 pub mod Parts
+pub mod WholeTables
+pub mod AnyFile

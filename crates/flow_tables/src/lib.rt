@@ -13,3 +13,4 @@ pub mod reads;
 mod rows;
 #[cfg(test)]
 mod tests;
+pub mod whole;
