@@ -31,3 +31,4 @@ pub mod Asked
 pub mod Parts
 pub mod WholeTables
 pub mod AnyFile
+pub mod Succession
