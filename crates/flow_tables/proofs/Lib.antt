@@ -32,3 +32,4 @@ pub mod Parts
 pub mod WholeTables
 pub mod AnyFile
 pub mod Succession
+pub mod Opened
