@@ -1,5 +1,5 @@
 -- What opening finds, and why it is refused.
-use Rattle.std.proofs.Common.{◌≡◌, ◌≢◌, ◌⊎◌, inl, inr, ℕ, zero, suc, ℤ, pos, negsuc, List, [], Ok, Err, Result, OnOk, IfErr, refl, sym, ap, subst, ◌∙◌}
+use Rattle.std.proofs.Common.{◌≡◌, ◌≢◌, ◌⊎◌, inl, inr, ℕ, ℤ, pos, negsuc, List, [], map, Bool, true, false, if◌then◌else◌, nat_eq, None, Some, Ok, Err, Result, OnOk, IfErr, refl, sym, ap, subst, ◌∙◌}
 use Rattle.std.specs.Prelude.{IfOk, MatchResult}
 use Rattle.sqlite.specs.declared.error.ErrorCode.{ErrorCode}
 use Rattle.sqlite.specs.declared.error.ErrorCode.TheVariants as code
@@ -14,7 +14,7 @@ use Rattle.sqlite.specs.declared.types.Value.TheVariants.{Int}
 use Rattle.sqlite.specs.Order.{Row}
 use Rattle.sqlite_value.specs.Order.{column}
 use Rattle.flow_base.specs.declared.book.Run.{Run}
-use Rattle.flow_rows.specs.Rows.{Tables, rows_of, run_at, of_run, by_run}
+use Rattle.flow_rows.specs.Rows.{Tables, run_at, of_run, event_row, timer_row, timers_left, task_row}
 use Rattle.flow_rows.specs.Told.{Tells}
 use Rattle.flow_tables.specs.declared.open.OpenFault.{OpenFault}
 use Rattle.flow_tables.specs.declared.open.OpenFault.TheVariants.{NoMemory, StoreRefused, NotOurs, BadVersion, Damaged}
@@ -24,7 +24,11 @@ use Rattle.flow_tables.specs.Layout.{format_sql}
 use Rattle.flow_tables.specs.States.{HasTables, HasEnded, IsAtRest, IsRefusal, no_tables}
 use Rattle.flow_tables.specs.Reads.{IsRowsFault}
 use Rattle.flow_tables.proofs.Leaves.{rest_ended, rolled_back_ended}
-use Rattle.flow_tables.proofs.Finding.{read_leaves, format_answer}
+use Rattle.flow_tables.proofs.Transactions.{ends_again}
+use Rattle.flow_tables.proofs.Finding.{read_leaves, format_answer, at_rest}
+use Rattle.flow_check.specs.Language.{is_program}
+use Rattle.flow_model.specs.Book.{Book}
+use Rattle.flow_rows.proofs.Laws.{book_undamaged}
 use Rattle.flow_tables.specs.Opening.{opening_fault, read_fault_of, empty_book, IsOfStore, IsFirstDamage, StandFor, IsMet, HasCause}
 
 ---- The faults of the store
@@ -111,13 +115,55 @@ pub any_err : {T E : Type 0} (P : E → Type 0) (r : Result T E) → ((e : E) �
 any_err P (Ok x) f = tt
 any_err P (Err e) f = f e
 
+pub both_err : {T E : Type 0} (P Q : E → Type 0) (r : Result T E) → IfErr r P → IfErr r Q → IfErr r (λ e. P e × Q e)
+both_err P Q (Ok x) p q = tt
+both_err P Q (Err e) p q = (p, q)
+
+pub never_told : {T : Type 0} (b : OpenFault) (r : Result T OpenFault) → IfErr r (λ f. f ≢ b) → r ≢ Err b
+never_told b (Ok x) h is = let e = is in cc
+never_told b (Err f) h is = h (same_fault is)
+
+pub not_version : (f : OpenFault) → IsOfStore f → f ≢ BadVersion
+not_version f of is = subst IsOfStore is of
+
+---- Damages
+
+-- what the store refuses is no damage
+pub harmless : (t : Tables) (f : OpenFault) → IsOfStore f → IsFirstDamage t f
+harmless t NoMemory of = tt
+harmless t StoreRefused of = tt
+harmless t NotOurs of = tt
+harmless t BadVersion of = tt
+harmless t (Damaged d) of = absurd of
+
+-- tables that stand for a book have none
+pub undamaged : (t : Tables) (b : Book) → StandFor t b → (f : OpenFault) → f ≢ BadVersion → IsFirstDamage t f → IsOfStore f
+undamaged t b stand NoMemory other first = tt
+undamaged t b stand StoreRefused other first = tt
+undamaged t b stand NotOurs other first = tt
+undamaged t b stand BadVersion other first = other refl
+undamaged t b stand (Damaged d) other first =
+    absurd (let some = first.2 in let none = book_undamaged is_program first.0 b stand.texts stand.runs (first.1 ∙ stand.same) in cc)
+
+---- One call after another
+
+pub rests_on : (a b c : State) → HasEnded a b → (IsAtRest b → HasEnded b c) → HasEnded a c
+rests_on a b c one two = ends_again a b c one (two (at_rest a b one))
+
 ---- No tables
 
 none_there : {A : Type 0} (f : Run → List A) (z : ℤ) → [] ≡ of_run (run_at empty_book z) f
-none_there f (pos zero) = refl
-none_there f (pos (suc n)) = refl
+none_there f (pos n) = either (nat_eq n 0)
+  where
+    either : (b : Bool) → [] ≡ of_run (if b then None else None) f
+    either true = refl
+    either false = refl
 none_there f (negsuc n) = refl
 
 -- Tables without rows tell the empty book.
 pub none_tell : Tells no_tables empty_book
-none_tell = record { same = λ i. record { texts = []; runs = []; events = λ z. none_there _ z i; timers = λ z. none_there _ z i; outbox = λ z. none_there _ z i }; runs = tt }
+none_tell = record { same = λ i. record { texts = []; runs = []; 
+    events = λ z. none_there (λ r. map (event_row z) r.history) z i;
+    timers = λ z. none_there (λ r. map (timer_row z) (timers_left r.history)) z i;
+    outbox = λ z. none_there (λ r. map (task_row z) r.tasks) z i;
+  }; runs = tt }

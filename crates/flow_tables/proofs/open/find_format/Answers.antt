@@ -3,6 +3,7 @@ use Rattle.sqlite.specs.Held.{state}
 use Rattle.sqlite_value.specs.Order.{column}
 use Rattle.flow_tables.specs.Opening.{opening_fault, IsOfStore, HasCause}
 use Rattle.flow_tables.specs.declared.open.OpenFault.{OpenFault}
+use Rattle.flow_tables.proofs.Finding.{answered}
 use Rattle.flow_tables.proofs.Opened.{of_store, caused, format_rests, is_ours, not_other, same_fault, if_err}
 use Rattle.flow_tables.proofs.open.find_format.Goals as goal
 
@@ -17,7 +18,10 @@ returns-in-Ok-clause-version g c clean e =
 
 pub returns-in-Ok-clause-ours : goal.returns-in-Ok-clause-ours
 returns-in-Ok-clause-ours g c clean has =
-    let ours = is_ours (state g.S.Store c.args.conn.now) (state g.S.Store c.format_row.new.conn) _ has (c.in-Ok.ensures.queries clean) in
+    let old = state g.S.Store c.args.conn.now in
+    let new = state g.S.Store c.format_row.new.conn in
+    let asked = c.in-Ok.ensures.queries clean in
+    let ours = is_ours old new _ (has (answered old new _ asked).0.was_open) asked in
     elim c.in-Err-check_format.ensures.cause [
       | inl other ↦ not_other _ ours (c.in-Err-check_format.ensures.version (ap Err other))
       | inr misread ↦ subst IsOfStore (sym misread.2) (of_store misread.0)
