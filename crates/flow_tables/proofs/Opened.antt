@@ -162,8 +162,13 @@ none_there f (negsuc n) = refl
 
 -- Tables without rows tell the empty book.
 pub none_tell : Tells no_tables empty_book
-none_tell = record { same = λ i. record { texts = []; runs = []; 
+none_tell = record {
+  same = λ i. record {
+    texts = [];
+    runs = [];
     events = λ z. none_there (λ r. map (event_row z) r.history) z i;
     timers = λ z. none_there (λ r. map (timer_row z) (timers_left r.history)) z i;
     outbox = λ z. none_there (λ r. map (task_row z) r.tasks) z i;
-  }; runs = tt }
+  };
+  runs = tt;
+}

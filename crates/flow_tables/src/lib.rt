@@ -8,6 +8,8 @@ pub mod control;
 pub mod create;
 pub mod fault;
 pub mod open;
+#[cfg(test)]
+mod open_tests;
 pub mod puts;
 pub mod reads;
 mod rows;
