@@ -12,6 +12,8 @@ use Rattle.sqlite_value.specs.Order.{column}
 use Rattle.sqlite_trees.specs.declared.store.Store.{Ghosts}
 use Rattle.sqlite.specs.Held.{Held, state}
 use Rattle.sqlite.specs.State.{State, Executes, QueriesRow}
+use Rattle.flow_base.specs.declared.code.Code.{Code}
+use Rattle.flow_base.specs.declared.code.Code.TheVariants as number
 use Rattle.flow_check.specs.Language.{is_program}
 use Rattle.flow_model.specs.Book.{Book}
 use Rattle.flow_rows.specs.declared.rows.StoreRows.{StoreRows}
@@ -48,6 +50,13 @@ opening_fault _ = NotOurs
 abbrev pub read_fault_of : StoreFault → OpenFault
 read_fault_of read.NoMemory = NoMemory
 read_fault_of (read.Refused e) = opening_fault e
+
+abbrev pub open_fault_code : OpenFault → Code
+open_fault_code NoMemory = number.NoMemory
+open_fault_code StoreRefused = number.StoreRefused
+open_fault_code NotOurs = number.NotOurs
+open_fault_code BadVersion = number.BadVersion
+open_fault_code (Damaged d) = number.Damaged
 
 -- What reading the format answers where it is our number, or else where there is no such table.
 abbrev pub IsAnswered : Bool → State → State → Type 0

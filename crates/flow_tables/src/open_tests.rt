@@ -102,3 +102,26 @@ fn a_missing_table(rt: HostRuntime) -> Result<(), Fail> {
     assert_eq!(rt; answer, Err(OpenFault::NotOurs));
     Ok(())
 }
+
+#[test]
+fn a_table_of_others_stays(rt: HostRuntime) -> Result<(), Fail> {
+    let mut conn = Connection::open_in_memory(rt.alloc())?;
+    conn.execute_batch(
+        "CREATE TABLE note (said TEXT) STRICT; INSERT INTO note (said) VALUES ('a')",
+    )?;
+    assert_eq!(rt; open(rt.alloc(), &mut conn), Ok(()));
+    let row = conn.query_row("SELECT count(*) FROM note, meta", &[])?;
+    let rows: i64 = row.get(0)?;
+    assert_eq!(rt; rows, 1);
+    Ok(())
+}
+
+#[test]
+fn each_refusal_has_its_number(rt: HostRuntime) -> Result<(), Fail> {
+    assert_eq!(rt; OpenFault::StoreRefused.code().number(), 80);
+    assert_eq!(rt; OpenFault::NotOurs.code().number(), 81);
+    assert_eq!(rt; OpenFault::BadVersion.code().number(), 82);
+    let answer = opened_after(rt.alloc(), "DELETE FROM outbox")?;
+    assert!(rt; matches!(answer, Err(fault) if fault.code() == Code::Damaged));
+    Ok(())
+}
