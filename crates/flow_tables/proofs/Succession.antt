@@ -1,8 +1,7 @@
 -- How reads follow one another.
-use Rattle.std.proofs.Common.{◌≡◌, ◌⊎◌, inl, inr, ℤ, Bool, List, refl, ap, ◌∙◌}
+use Rattle.std.proofs.Common.{◌≡◌, inl, inr, ℤ, Bool, List, ◌∙◌}
 use Rattle.std.specs.Prelude.{Result, Ok, Err, MatchResult}
 use Rattle.sqlite.specs.State.{State}
-use Rattle.sqlite.specs.Effect.{Database}
 use Rattle.flow_rows.specs.declared.rows.TextRow.{TextRow}
 use Rattle.flow_rows.specs.declared.rows.RunRow.{RunRow}
 use Rattle.flow_rows.specs.declared.rows.EventRow.{EventRow}
@@ -10,7 +9,6 @@ use Rattle.flow_rows.specs.declared.rows.TimerRow.{TimerRow}
 use Rattle.flow_rows.specs.declared.rows.OutboxRow.{OutboxRow}
 use Rattle.flow_rows.specs.declared.rows.StoreRows.{StoreRows}
 use Rattle.flow_rows.specs.Rows.{Tables, by_run, events_of, timers_of, tasks_of}
-use Rattle.flow_tables.specs.Stored.{tables_in}
 use Rattle.flow_tables.specs.States.{IsStill, IsRefused}
 
 pub still_then : (inside : Bool) (a b c : State) → IsStill inside a b → IsStill inside b c → IsStill inside a c

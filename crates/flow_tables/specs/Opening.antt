@@ -1,12 +1,11 @@
 -- What opening reads and finds, and why it is refused.
-use Rattle.std.specs.Prelude.{◌≡◌, ◌≢◌, ◌⊎◌, ℕ, ℤ, pos, Bool, true, false, List, [], length, Some, Result, Ok, Err, ⊤, codes}
+use Rattle.std.specs.Prelude.{◌≡◌, ◌≢◌, ◌⊎◌, ℕ, ℤ, pos, Bool, true, false, List, [], length, Some, Ok, Err, ⊤, codes}
 use Rattle.std.specs.List.{AllByRecursion}
 use Rattle.sqlite.specs.declared.types.Value.TheVariants.{Int}
 use Rattle.sqlite.specs.declared.error.ErrorCode.TheVariants as code
 use Rattle.sqlite.specs.declared.error.Error.{Error}
 use Rattle.sqlite.specs.declared.error.Error.TheVariants.{SqliteFailure, QueryReturnedNoRows}
 use Rattle.sqlite.specs.Order.{Row}
-use Rattle.sqlite.specs.Tree.{Trees}
 use Rattle.sqlite.specs.Reading.{IsReadError}
 use Rattle.sqlite_value.specs.Order.{column}
 use Rattle.sqlite_trees.specs.declared.store.Store.{Ghosts}
@@ -25,7 +24,6 @@ use Rattle.flow_tables.specs.declared.fault.StoreFault.TheVariants as read
 use Rattle.flow_tables.specs.declared.open.OpenFault.{OpenFault}
 use Rattle.flow_tables.specs.declared.open.OpenFault.TheVariants.{NoMemory, StoreRefused, NotOurs, BadVersion, Damaged}
 use Rattle.flow_tables.specs.Layout.{format_sql}
-use Rattle.flow_tables.specs.Stored.{tables_in}
 use Rattle.flow_tables.specs.States.{HasEnded}
 use Rattle.flow_tables.specs.Reads.{IsReadFault}
 

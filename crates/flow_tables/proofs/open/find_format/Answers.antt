@@ -1,6 +1,5 @@
 use Rattle.std.proofs.Common.{◌≡◌, inl, inr, Err, sym, ap, subst}
 use Rattle.sqlite.specs.Held.{state}
-use Rattle.sqlite_value.specs.Order.{column}
 use Rattle.flow_tables.specs.Opening.{opening_fault, IsOfStore, HasCause}
 use Rattle.flow_tables.specs.declared.open.OpenFault.{OpenFault}
 use Rattle.flow_tables.proofs.Finding.{answered}
