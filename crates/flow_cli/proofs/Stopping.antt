@@ -15,8 +15,15 @@ use Rattle.flow_cli.specs.declared.fault.Fault.{Fault}
 use Rattle.flow_cli.specs.declared.fault.Fault.TheVariants as fault
 
 fault_by : (f : Fault) (X Y : Type 0) → (X → Y) → CausedFault f X → CausedFault f Y
-fault_by fault.StoreRefused X Y g h = g h
 fault_by fault.NoMemory X Y g h = tt
+fault_by (fault.Mismatch run event name) X Y g h = tt
+fault_by fault.NoRun X Y g h = tt
+fault_by fault.StoreRefused X Y g h = g h
+fault_by fault.NotOurs X Y g h = tt
+fault_by fault.BadVersion X Y g h = tt
+fault_by (fault.Damaged table run place cause) X Y g h = tt
+fault_by fault.Unknown X Y g h = tt
+fault_by fault.Halted X Y g h = tt
 fault_by fault.NoFile X Y g h = tt
 fault_by fault.BadUsage X Y g h = tt
 

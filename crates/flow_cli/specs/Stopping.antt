@@ -16,9 +16,7 @@ use Rattle.flow_cli.specs.declared.fault.Fault.TheVariants as fault
 -- E80 has this cause.
 abbrev pub CausedFault : Fault → Type 0 → Type 0
 CausedFault fault.StoreRefused cause = cause
-CausedFault fault.NoMemory cause = Unit {0}
-CausedFault fault.NoFile cause = Unit {0}
-CausedFault fault.BadUsage cause = Unit {0}
+CausedFault f cause = Unit {0}
 
 abbrev pub CausedStop : Stopped → Type 0 → Type 0
 CausedStop (stopped.Refused f) cause = CausedFault f cause

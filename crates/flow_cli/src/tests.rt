@@ -2,7 +2,7 @@ use crate::call::{Call, call_of};
 use crate::check::Verdict;
 use crate::command::{LineFault, command_of};
 use crate::drive::{Stopped, drive_lines, end_status};
-use crate::fault::{Fault, fault_line, status};
+use crate::fault::{Fault, Table, fault_line, status};
 use crate::reply::{Line, reply_line};
 use flow_base::code::Code;
 use flow_base::command::{Command, Description, Reply, TextFault};
@@ -66,9 +66,52 @@ fn faults(rt: HostRuntime) -> Result<(), Fail> {
     let a = rt.alloc();
     let rows = [
         (Fault::NoMemory, "flow: E01", 3),
+        (Fault::NoRun, "flow: E70", 1),
         (Fault::StoreRefused, "flow: E80", 3),
+        (Fault::NotOurs, "flow: E81", 3),
+        (Fault::BadVersion, "flow: E82", 3),
+        (Fault::Unknown, "flow: E84", 3),
+        (Fault::Halted, "flow: E85", 3),
         (Fault::NoFile, "flow: E93", 2),
         (Fault::BadUsage, "flow: E97", 2),
+    ];
+    for (fault, line, number) in rows {
+        let written = fault_line(a, &fault)?;
+        assert!(rt; written.as_str() == line);
+        assert_eq!(rt; status(&fault), number);
+    }
+    Ok(())
+}
+
+/// A damage of the run 1.
+fn damaged(table: Table, place: u64, cause: Option<Code>) -> Fault {
+    Fault::Damaged {
+        table,
+        run: 1,
+        place,
+        cause,
+    }
+}
+
+#[test]
+fn faults_with_details(rt: HostRuntime) -> Result<(), Fail> {
+    let a = rt.alloc();
+    let mismatch = Fault::Mismatch {
+        run: 1,
+        event: 2,
+        name: Code::OtherContent,
+    };
+    let rows = [
+        (mismatch, "flow: E68 1 2 E51", 1),
+        (
+            damaged(Table::Event, 3, Some(Code::SecondSpelling)),
+            "flow: E83 event 1 3 E32",
+            3,
+        ),
+        (damaged(Table::Run, 0, None), "flow: E83 run 1 0", 3),
+        (damaged(Table::Text, 2, None), "flow: E83 text 1 2", 3),
+        (damaged(Table::Timer, 4, None), "flow: E83 timer 1 4", 3),
+        (damaged(Table::Outbox, 5, None), "flow: E83 outbox 1 5", 3),
     ];
     for (fault, line, number) in rows {
         let written = fault_line(a, &fault)?;
