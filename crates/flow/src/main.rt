@@ -7,6 +7,7 @@ ghost use Rattle.flow_cli.specs.Driving.{stopped_status};
 use flow_check::language::Language;
 use flow_cli::call::{Call, call_of};
 use flow_cli::check::check_text;
+use flow_cli::deciding::Deciding;
 use flow_cli::drive::{Stopped, drive_lines, end_status};
 use flow_cli::fault::{Fault, fault_line};
 use flow_view::lists::Lists;
@@ -94,6 +95,10 @@ fn drive(rt: &HostRuntime) -> Result<u8, Stopped>
         return Err(Stopped::Refused(Fault::NoMemory));
     };
     let mut writer = io::writer(rt);
-    let mut lists = Lists::new(rt.alloc());
-    drive_lines(rt.alloc(), &Language, &mut lists, &mut reader, &mut writer)
+    let mut engine = Deciding {
+        alloc: rt.alloc(),
+        texts: &Language,
+        view: Lists::new(rt.alloc()),
+    };
+    drive_lines(rt.alloc(), &mut engine, &mut reader, &mut writer)
 }

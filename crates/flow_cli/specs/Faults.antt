@@ -6,6 +6,8 @@ use Rattle.flow_base.specs.declared.code.Code.TheVariants as code
 use Rattle.flow_base.specs.declared.command.Command.{Command}
 use Rattle.flow_base.specs.declared.fields.Refused.{Refused}
 use Rattle.flow_base.specs.declared.fields.Refused.TheVariants as refused
+use Rattle.flow_cli.specs.declared.answer.Stop.{Stop}
+use Rattle.flow_cli.specs.declared.answer.Stop.TheVariants as stop
 use Rattle.flow_cli.specs.declared.command.LineFault.{LineFault}
 use Rattle.flow_cli.specs.declared.command.LineFault.TheVariants as line_fault
 use Rattle.flow_view.specs.declared.fault.ViewFault.{ViewFault}
@@ -38,6 +40,12 @@ fault_code fault.BadUsage = code.BadUsage
 abbrev pub fault_of_view : ViewFault → Fault
 fault_of_view view_fault.NoMemory = fault.NoMemory
 fault_of_view view_fault.StoreRefused = fault.StoreRefused
+
+abbrev pub fault_of_stop : Stop → Fault
+fault_of_stop stop.NoMemory = fault.NoMemory
+fault_of_stop stop.StoreRefused = fault.StoreRefused
+fault_of_stop stop.Unknown = fault.Unknown
+fault_of_stop stop.Halted = fault.Halted
 
 -- what stands behind a fault's code, parted by spaces
 abbrev pub fault_details : Fault → List ℕ

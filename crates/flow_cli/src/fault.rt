@@ -3,6 +3,7 @@ ghost use Rattle.std.specs.Prelude.{◌≡◌, IfOk, string_bytes};
 ghost use Rattle.flow_cli.specs.Faults.{table_name, fault_code, fault_details, fault_text, fault_status};
 ghost use Rattle.flow_cli.specs.declared.fault.Fault.TheVariants.{Damaged};
 
+use crate::answer::Stop;
 use flow_base::code::Code;
 use flow_view::fault::ViewFault;
 use std::alloc::{AllocError, AllocFailed, Global};
@@ -179,6 +180,22 @@ impl From<ViewFault> for Fault {
         match fault {
             ViewFault::NoMemory => Fault::NoMemory,
             ViewFault::StoreRefused => Fault::StoreRefused,
+        }
+    }
+}
+
+impl From<Stop> for Fault {
+    ghost use Rattle.std.specs.Prelude.{◌≡◌};
+    ghost use Rattle.flow_cli.specs.Faults.{fault_of_stop};
+
+    ghost from_gives = { λ s e. e ≡ fault_of_stop s };
+
+    fn from(stop: Stop) -> Fault {
+        match stop {
+            Stop::NoMemory => Fault::NoMemory,
+            Stop::StoreRefused => Fault::StoreRefused,
+            Stop::Unknown => Fault::Unknown,
+            Stop::Halted => Fault::Halted,
         }
     }
 }
