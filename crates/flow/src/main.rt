@@ -51,8 +51,10 @@ fn work(rt: &HostRuntime) -> Result<u8, Stopped> {
     match call_of(rt.alloc(), words.as_slice()) {
         Ok(Call::Check(file)) => check(rt, file),
         Ok(Call::Drive("-")) => drive(rt),
+        // A store in memory begins with no run.
+        Ok(Call::History("-", _)) => Err(Stopped::Refused(Fault::NoRun)),
         // Stores in files come later.
-        Ok(Call::Drive(_)) => Err(Stopped::Refused(Fault::StoreRefused)),
+        Ok(Call::Drive(_) | Call::History(_, _)) => Err(Stopped::Refused(Fault::StoreRefused)),
         Err(fault) => Err(Stopped::Refused(fault)),
     }
 }

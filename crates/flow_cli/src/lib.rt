@@ -8,6 +8,7 @@ pub mod command;
 pub mod deciding;
 pub mod drive;
 pub mod fault;
+pub mod history;
 pub mod reply;
 #[cfg(test)]
 mod tests;

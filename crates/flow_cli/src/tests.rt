@@ -5,6 +5,7 @@ use crate::command::{LineFault, command_of};
 use crate::deciding::Deciding;
 use crate::drive::{Stopped, drive_lines, end_status};
 use crate::fault::{Fault, Table, fault_line, status};
+use crate::history::{history_line, write_history};
 use crate::reply::{Line, reply_line};
 use flow_base::code::Code;
 use flow_base::command::{Command, Description, Reply, TextFault};
@@ -36,7 +37,22 @@ fn calls(rt: HostRuntime) -> Result<(), Fail> {
             Ok(Call::Drive("-"))
         )
     );
+    assert!(rt;
+        matches!(
+            &call_of(a, &["flow", "history", "a.db", "9223372036854775807"]),
+            Ok(Call::History("a.db", run)) if run.get() == 9223372036854775807
+        )
+    );
+    for number in ["0", "9223372036854775808", "-1", "", "1 ", "one"] {
+        assert!(rt;
+            matches!(
+                &call_of(a, &["flow", "history", "a.db", number]),
+                Err(Fault::BadUsage)
+            )
+        );
+    }
     for words in [
+        ["flow", "history", "a.db"],
         ["flow", "check", "--help"],
         ["flow", "help", "check"],
         ["flow", "drive", "-x"],
@@ -402,6 +418,23 @@ fn replies(rt: HostRuntime) -> Result<(), Fail> {
             "{\"events\":[[1,\"WorkflowExecutionStarted\",{\"args\":[7,\"e\\\"\\n\"],\"at\":1000}],[2,\"WorkflowExecutionCompleted\",{\"at\":1000,\"value\":\"\"}]],\"reply\":\"history\"}",
         )?
     );
+    Ok(())
+}
+
+#[test]
+fn histories(rt: HostRuntime) -> Result<(), Fail> {
+    let a = rt.alloc();
+    let mut history = Sequence::new(a);
+    history.push(started(a)?)?;
+    history.push(ended(a)?)?;
+    let mut writer = Vec::new(a);
+    write_history(a, &mut writer, history.as_slice())?;
+    assert!(rt;
+        writer.as_slice()
+            == b"1 WorkflowExecutionStarted {\"args\":[7,\"e\\\"\\n\"],\"at\":1000}\n2 WorkflowExecutionCompleted {\"at\":1000,\"value\":\"\"}\n".as_slice()
+    );
+    let line = history_line(a, &ended(a)?)?;
+    assert!(rt; line.as_str() == "2 WorkflowExecutionCompleted {\"at\":1000,\"value\":\"\"}");
     Ok(())
 }
 
