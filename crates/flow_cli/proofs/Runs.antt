@@ -1,5 +1,5 @@
 -- The run that a word names.
-use Rattle.std.proofs.Common.{◌≡◌, ◌<◌, ◌≤◌, ◌^◌, ℕ, List, true, false, Option, Some, None, IfSome, refl, arith, ap, ◌∙◌, sym}
+use Rattle.std.proofs.Common.{◌≡◌, ◌<◌, ◌≤◌, ◌^◌, ℕ, List, false, Option, Some, None, IfSome, refl, arith, ap, ◌∙◌, sym}
 use Rattle.std.specs.Prelude.{IsSome, ◌↔◌}
 use Rattle.std.proofs.lemmas.Bool.{true≢false}
 use Rattle.std.specs.Str.Parse.{IsNumeral, digits_value, without_leading_plus}

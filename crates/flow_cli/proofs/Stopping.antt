@@ -1,6 +1,6 @@
 -- Causes of an early end.
 use Rattle.std.proofs.Common.{◌≡◌, ℕ, suc, List, [], ◌∷◌, ◌++◌, length, Option, Some, None, IfSome, refl, sym, ap, ◌∙◌, subst, arith, append_assoc, inl, inr}
-use Rattle.std.specs.Prelude.{◌⊎◌, ◌≤◌, ◌+◌, ◌^◌}
+use Rattle.std.specs.Prelude.{◌≤◌, ◌+◌, ◌^◌}
 use Rattle.std.specs.Io.BufRead.{drop_through}
 use Rattle.flow_base.specs.declared.code.Code.{Code}
 use Rattle.flow_base.specs.declared.command.Command.{Command}

@@ -10,8 +10,6 @@ use Rattle.flow_cli.specs.declared.answer.Stop.{Stop}
 use Rattle.flow_cli.specs.declared.answer.Stop.TheVariants as stop
 use Rattle.flow_cli.specs.declared.command.LineFault.{LineFault}
 use Rattle.flow_cli.specs.declared.command.LineFault.TheVariants as line_fault
-use Rattle.flow_view.specs.declared.fault.ViewFault.{ViewFault}
-use Rattle.flow_view.specs.declared.fault.ViewFault.TheVariants as view_fault
 use Rattle.flow_cli.specs.declared.fault.Fault.{Fault}
 use Rattle.flow_cli.specs.declared.fault.Fault.TheVariants as fault
 use Rattle.flow_cli.specs.declared.fault.Table.{Table}
@@ -36,10 +34,6 @@ fault_code fault.Unknown = code.Unknown
 fault_code fault.Halted = code.Halted
 fault_code fault.NoFile = code.NoFile
 fault_code fault.BadUsage = code.BadUsage
-
-abbrev pub fault_of_view : ViewFault → Fault
-fault_of_view view_fault.NoMemory = fault.NoMemory
-fault_of_view view_fault.StoreRefused = fault.StoreRefused
 
 abbrev pub fault_of_stop : Stop → Fault
 fault_of_stop stop.NoMemory = fault.NoMemory

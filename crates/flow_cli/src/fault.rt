@@ -5,7 +5,6 @@ ghost use Rattle.flow_cli.specs.declared.fault.Fault.TheVariants.{Damaged};
 
 use crate::answer::Stop;
 use flow_base::code::Code;
-use flow_view::fault::ViewFault;
 use std::alloc::{AllocError, AllocFailed, Global};
 
 /// A table of the store whose rows can be damaged.
@@ -167,20 +166,6 @@ impl<T: Drop> From<AllocFailed<T>> for Fault {
 
     fn from(_error: AllocFailed<T>) -> Fault {
         Fault::NoMemory
-    }
-}
-
-impl From<ViewFault> for Fault {
-    ghost use Rattle.std.specs.Prelude.{◌≡◌};
-    ghost use Rattle.flow_cli.specs.Faults.{fault_of_view};
-
-    ghost from_gives = { λ f e. e ≡ fault_of_view f };
-
-    fn from(fault: ViewFault) -> Fault {
-        match fault {
-            ViewFault::NoMemory => Fault::NoMemory,
-            ViewFault::StoreRefused => Fault::StoreRefused,
-        }
     }
 }
 
