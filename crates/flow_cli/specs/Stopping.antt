@@ -28,6 +28,12 @@ CausedStop (stopped.Refused f) cause too_many = CausedFault f cause too_many
 CausedStop (stopped.Input e) cause too_many = Unit {0}
 CausedStop (stopped.Output e) cause too_many = Unit {0}
 
+-- Memory ran out, or a write failed.
+abbrev pub StopsWriting : Stopped → Type 0
+StopsWriting (stopped.Refused f) = f ≡ fault.NoMemory
+StopsWriting (stopped.Input e) = ⊥
+StopsWriting (stopped.Output e) = Unit {0}
+
 -- the command of a line has this stop
 abbrev pub LineStops : Option Command → (Command → Stop → Type 0) → Stop → Type 0
 LineStops given stops s = (c : Command) × ((given ≡ Some c) × stops c s)
