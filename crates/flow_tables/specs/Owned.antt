@@ -1,5 +1,5 @@
 -- Tables as a value of the code: the book that they hold, and what becomes of it.
-use Rattle.std.specs.Prelude.{◌≡◌, ◌⊎◌, ℕ, ℤ, pos, true, false, Option, Some, None, IsTrue, Result, Ok, Err, MatchResult, option_map, refl}
+use Rattle.std.specs.Prelude.{◌≡◌, ◌⊎◌, ◌<ℤ◌, ℕ, ℤ, pos, true, false, Option, Some, None, IsTrue, Result, Ok, Err, MatchResult, IfErr, option_map, refl}
 use Rattle.std.specs.Coded.{Coded, code_by, coded×, coded_option}
 use Rattle.sqlite_trees.specs.declared.store.Store.{Ghosts}
 use Rattle.sqlite.specs.Effect.{Database}
@@ -14,6 +14,7 @@ use Rattle.flow_view.specs.contracts.fault.ViewFault as fault_row
 use Rattle.flow_rows.specs.declared.rows.RunRow.{RunRow}
 use Rattle.flow_rows.specs.Rows.{run_row}
 use Rattle.flow_rows.specs.Finding.{last_number}
+use Rattle.flow_rows.specs.Recalling.{IsOfTypes}
 use Rattle.flow_rows.specs.Told.{book_in, Tells}
 use Rattle.flow_tables.specs.Stored.{tables_in}
 use Rattle.flow_tables.specs.Layout.{no_schema}
@@ -113,6 +114,26 @@ abbrev pub RecallsRun : State → State → ℕ → RunRow → Result Run ViewFa
 RecallsRun old new number row result =
     (b : Book) (r : Run) → Tells (tables_in old.now.trees) b → nth b.runs number ≡ Some r → row ≡ run_row number r → Holds true old
     → MatchResult result (λ v. IsStill true old new × (v ≡ r)) (λ _. IsRefused true old new)
+
+-- A refusal has this behind it, where the tables tell a book.
+abbrev pub StopsRead : {A : Type 0} → State → Result A ViewFault → (Book → Type 0) → Type 0
+StopsRead old result why =
+    (b : Book) → Tells (tables_in old.now.trees) b → Holds true old → IfErr result (λ f. f ≡ fault.StoreRefused → why b)
+
+-- the same, of the run that has this row and stands at this number
+abbrev pub StopsRecall : State → ℕ → RunRow → Result Run ViewFault → (Run → Type 0) → Type 0
+StopsRecall old number row result why =
+    (b : Book) (r : Run) → Tells (tables_in old.now.trees) b → nth b.runs number ≡ Some r → row ≡ run_row number r → Holds true old
+    → IfErr result (λ f. f ≡ fault.StoreRefused → why r)
+
+-- A run is such as no value of the code can be: its flow or its request is longer than a key, say.
+abbrev pub HasOddRun : Book → Type 0
+HasOddRun b = (n : ℕ) × (r : Run) × (nth b.runs n ≡ Some r) × (IsOfTypes r → ⊥)
+
+-- a number that no text and no run has
+abbrev pub IsBelowOne : Option ℤ → Type 0
+IsBelowOne None = ⊥
+IsBelowOne (Some n) = n <ℤ pos 1
 
 -- a number as a column holds it
 abbrev pub as_number : Option ℕ → Option ℤ
