@@ -33,3 +33,4 @@ pub mod BookReads
 pub mod Owning
 pub mod Wholes
 pub mod Causes
+pub mod Reasons
