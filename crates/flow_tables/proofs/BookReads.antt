@@ -11,7 +11,7 @@ use Rattle.flow_view.specs.declared.fault.ViewFault.TheVariants as view
 use Rattle.flow_rows.specs.declared.rows.RunRow.{RunRow}
 use Rattle.flow_rows.specs.declared.rows.EventRow.{EventRow}
 use Rattle.flow_rows.specs.declared.rows.OutboxRow.{OutboxRow}
-use Rattle.flow_rows.specs.Rows.{Tables, run_row, event_row, task_row}
+use Rattle.flow_rows.specs.Rows.{Tables, run_row, event_row}
 use Rattle.flow_rows.specs.Finding.{last_number}
 use Rattle.flow_rows.specs.Recalling.{run_in, IsOfTypes}
 use Rattle.flow_rows.specs.Told.{Tells, run_told, IsTold}
@@ -19,10 +19,10 @@ use Rattle.flow_rows.proofs.Recalled.{run_in_told, run_back}
 use Rattle.flow_rows.proofs.BookTables.{nth_is}
 use Rattle.flow_rows.proofs.WholeChanges.{all_get}
 use Rattle.flow_rows.proofs.Finds.{run_read, event_rows_read, task_rows_read}
-use Rattle.flow_tables.specs.Owned.{ReadsBook, RecallsRun, StopsRecall, HasOddRun, IsBelowOne, as_number, as_count}
+use Rattle.flow_tables.specs.Owned.{RecallsRun, StopsRecall, HasOddRun, IsBelowOne, as_number, as_count}
 use Rattle.flow_tables.specs.Stored.{tables_in}
 use Rattle.flow_tables.proofs.Stops.{quiet_then}
-use Rattle.flow_tables.specs.States.{IsOver, Holds, IsStill, IsRefused, IsUndone}
+use Rattle.flow_tables.specs.States.{Holds, IsStill, IsRefused}
 
 same_numbers : (a b : Option ℕ) → option_map pos a ≡ option_map pos b → a ≡ b
 same_numbers None None e = refl
@@ -151,6 +151,7 @@ run_stops a b c k n row result W h still e stops = let it = no_some (run_row n) 
     odd : (it : (x : Run) × (nth k.runs n ≡ Some x) × (row ≡ run_row n x)) → W ⊎ (IsStill true b c × (IsOfTypes it.0 → ⊥)) → W ⊎ (IsStill true a c × HasOddRun k)
     odd it (inl w) = inl w
     odd it (inr o) = inr (still_then a b c still o.0, (n, it.0, it.1, o.1))
+
     go : (it : (x : Run) × (nth k.runs n ≡ Some x) × (row ≡ run_row n x)) (result : Result Run ViewFault) → IfErr result (λ f. f ≡ view.StoreRefused → W ⊎ (IsStill true b c × (IsOfTypes it.0 → ⊥)))
         → IfErr result (λ f. f ≡ view.StoreRefused → W ⊎ (IsStill true a c × HasOddRun k))
     go it (Ok v) s = tt

@@ -1,12 +1,12 @@
 -- What stands behind a refused statement.
-use Rattle.std.proofs.Common.{◌≡◌, ◌⊎◌, ◌≤◌, ◌<◌, ◌+◌, ◌^◌, inl, inr, List, ◌∷◌, length, ℕ, pos, false, true, true≢false, Ok, Err, Result, sym, subst, ◌∙◌, arith}
+use Rattle.std.proofs.Common.{◌≡◌, ◌≤◌, ◌<◌, ◌+◌, ◌^◌, inl, inr, List, ◌∷◌, length, ℕ, pos, false, true≢false, Ok, Err, Result, sym, subst, ◌∙◌, arith}
 use Rattle.std.specs.List.{AllByRecursion}
 use Rattle.std.specs.Prelude.{Bool, IsTrue, ◌↔◌, IfErr}
 use Rattle.sqlite_trees.specs.declared.store.Store.{Ghosts}
 use Rattle.sqlite.specs.declared.error.Error.{Error}
 use Rattle.sqlite.specs.Held.{Held, state}
 use Rattle.sqlite.specs.Order.{Row}
-use Rattle.sqlite.specs.State.{State, HasCleanDisk, Executes}
+use Rattle.sqlite.specs.State.{Executes}
 use Rattle.flow_base.specs.declared.event.Cmd.{Cmd}
 use Rattle.flow_base.specs.declared.event.What.TheVariants.{Came, Asked}
 use Rattle.flow_base.specs.declared.event.Event.{Event}

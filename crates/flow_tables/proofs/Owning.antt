@@ -1,7 +1,6 @@
 -- What tables keep true of their connection, call by call.
-use Rattle.std.proofs.Common.{◌≡◌, ◌⊎◌, inl, inr, ℕ, Bool, true, false, List, [], Option, Some, None, Result, Ok, Err, refl, sym, ap, subst, ◌∙◌, codes}
-use Rattle.std.specs.Prelude.{IsTrue, MatchResult, OnOk, IfOk, IfErr}
-use Rattle.sqlite.specs.Tree.{Trees}
+use Rattle.std.proofs.Common.{◌≡◌, ◌⊎◌, inl, inr, ℕ, Bool, true, List, [], Option, Some, None, Result, Ok, Err, refl, sym, ap, subst, ◌∙◌}
+use Rattle.std.specs.Prelude.{IsTrue, MatchResult, OnOk, IfOk}
 use Rattle.sqlite.specs.Effect.{Database}
 use Rattle.sqlite.specs.declared.error.Error.{Error}
 use Rattle.sqlite.specs.State.{State, HasCleanDisk, Survives, Shows, Executes, IsUnchanged, IsRolledBack}
@@ -10,13 +9,13 @@ use Rattle.flow_model.specs.Book.{Book, changed}
 use Rattle.flow_view.specs.declared.fault.ViewFault.{ViewFault}
 use Rattle.flow_tables.specs.declared.fault.Refusal.{Refusal}
 use Rattle.flow_tables.specs.Faults.{noted_fault, told_answer}
-use Rattle.flow_rows.specs.Told.{Tells, book_in, after_change, FitsTables}
+use Rattle.flow_rows.specs.Told.{Tells, after_change, FitsTables}
 use Rattle.flow_rows.proofs.Telling.{told}
 use Rattle.flow_rows.proofs.WholeChanges.{change_told}
-use Rattle.flow_tables.specs.Owned.{IsOwn, IsSure, Keeps, KeepsOn, LeavesEither, IsFileOf, ReadsBook, TellBook, IsNoted, book_of}
+use Rattle.flow_tables.specs.Owned.{IsOwn, IsSure, Keeps, KeepsOn, LeavesEither, ReadsBook, TellBook, IsNoted, book_of}
 use Rattle.flow_tables.specs.Stored.{tables_in}
 use Rattle.flow_tables.specs.States.{AreOurs, HasTables, IsOver, Holds, IsStill, IsRefused, IsUndone, HasBegun, HasCommitted, HasEnded, Changes}
-use Rattle.flow_tables.specs.Puts.{IsPart, IsCutShort}
+use Rattle.flow_tables.specs.Puts.{IsCutShort}
 use Rattle.flow_tables.proofs.Leaves.{error_leaves, was_clean}
 use Rattle.flow_tables.proofs.Stops.{IsSettled}
 
@@ -29,13 +28,16 @@ module _ (old new : State) where
 
   -- whatever was kept is kept on, where nothing is committed
   pub keeps_on : (ours : Type 0) → (ours → Survives old new (λ _. ⊥)) → (ours → HasCleanDisk new → LeavesCommit) → KeepsOn ours old new
-  keeps_on ours survived left fit clean = let survives = survived fit in let leaves = left fit in (was_clean old new _ survives clean, λ b keeps. record {
-    kept = λ up. let it = leaves clean in subst (λ (d : Database). HasTables d × Tells (tables_in d.trees) b) (sym (it.same up)) (keeps.kept (it.was_open up));
-    stops = λ db may. elim (survives.crash clean db may) [
-      | inl before ↦ keeps.stops db before
-      | inr none ↦ absurd none
-    ];
-  })
+  keeps_on ours survived left fit clean = let survives = survived fit in let leaves = left fit in (
+    was_clean old new _ survives clean,
+    λ b keeps. record {
+      kept = λ up. let it = leaves clean in subst (λ (d : Database). HasTables d × Tells (tables_in d.trees) b) (sym (it.same up)) (keeps.kept (it.was_open up));
+      stops = λ db may. elim (survives.crash clean db may) [
+        | inl before ↦ keeps.stops db before
+        | inr none ↦ absurd none
+      ];
+    },
+  )
 
   pub shows_leaves : (inside : Bool) (d : Database) → Shows old new d old.committed inside → LeavesCommit
   shows_leaves inside d h = record { was_open = λ _. h.was_open; same = λ _. h.committed_is }
@@ -183,7 +185,7 @@ module _ (old new : State) where
     pub put_book : (c : Change) → FitsTables (book_of old.now.trees) c → Changes old new (after_change c (tables_in old.now.trees)) → book_of new.now.trees ≡ changed (book_of old.now.trees) c
     put_book c fits done =
         told (tables_in new.now.trees) (changed (book_of old.now.trees) c)
-            (subst (λ t. Tells t (changed (book_of old.now.trees) c)) (sym done.tables) (change_told (tables_in old.now.trees) (book_of old.now.trees) c (own.whole inside none).1 fits))
+        (subst (λ t. Tells t (changed (book_of old.now.trees) c)) (sym done.tables) (change_told (tables_in old.now.trees) (book_of old.now.trees) c (own.whole inside none).1 fits))
 
 ---- A call of the view, once nothing hinders it
 
@@ -245,6 +247,7 @@ module _ (old new : State) (ours : Type 0) (ro rn : Option Refusal) (owned : our
       where
         up : IsTrue old.is_open
         up = ((owned fit (clean now)).whole inside none).0
+
         go : (r : Result Unit Refusal) → MatchResult r (λ _. FitsTables (book_of old.now.trees) c × Changes old new (after_change c (tables_in old.now.trees))) (λ _. IsCutShort old new)
             → LeavesCommit old new
         go (Ok v) h = record { was_open = λ _. up; same = λ _. h.1.committed }
