@@ -7,6 +7,7 @@ ghost use Rattle.flow_cli.specs.Driving.{stopped_status};
 use flow_check::language::Language;
 use flow_cli::call::{Call, call_of};
 use flow_cli::check::check_text;
+use flow_cli::deciding::Deciding;
 use flow_cli::drive::{Stopped, drive_lines, end_status};
 use flow_cli::fault::{Fault, fault_line};
 use flow_view::lists::Lists;
@@ -50,8 +51,10 @@ fn work(rt: &HostRuntime) -> Result<u8, Stopped> {
     match call_of(rt.alloc(), words.as_slice()) {
         Ok(Call::Check(file)) => check(rt, file),
         Ok(Call::Drive("-")) => drive(rt),
+        // A store in memory begins with no run.
+        Ok(Call::History("-", _)) => Err(Stopped::Refused(Fault::NoRun)),
         // Stores in files come later.
-        Ok(Call::Drive(_)) => Err(Stopped::Refused(Fault::StoreRefused)),
+        Ok(Call::Drive(_) | Call::History(_, _)) => Err(Stopped::Refused(Fault::StoreRefused)),
         Err(fault) => Err(Stopped::Refused(fault)),
     }
 }
@@ -94,6 +97,10 @@ fn drive(rt: &HostRuntime) -> Result<u8, Stopped>
         return Err(Stopped::Refused(Fault::NoMemory));
     };
     let mut writer = io::writer(rt);
-    let mut lists = Lists::new(rt.alloc());
-    drive_lines(rt.alloc(), &Language, &mut lists, &mut reader, &mut writer)
+    let mut engine = Deciding {
+        alloc: rt.alloc(),
+        texts: &Language,
+        view: Lists::new(rt.alloc()),
+    };
+    drive_lines(rt.alloc(), &mut engine, &mut reader, &mut writer)
 }

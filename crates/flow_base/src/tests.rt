@@ -106,6 +106,7 @@ fn trees_are_copied(rt: HostRuntime) -> Result<(), Fail> {
 #[test]
 fn refusals_print_two_digits(rt: HostRuntime) -> Result<(), Fail> {
     assert!(rt; Code::NoMemory.to_string(rt.alloc())?.as_str() == "E01");
+    assert!(rt; Code::Damaged.to_string(rt.alloc())?.as_str() == "E83");
     assert!(rt; Code::BadUsage.to_string(rt.alloc())?.as_str() == "E97");
     Ok(())
 }

@@ -5,7 +5,7 @@ use Rattle.std.proofs.BufReadLemmas.{take_through_nonempty}
 use Rattle.flow_cli.specs.Driving.{lines_of, begins_with}
 use Rattle.flow_cli.specs.Answering.{FirstLine}
 
-by_test : {G : Type 0} (b : Bool) → (b ≡ true → G) → (b ≡ false → G) → G
+pub by_test : {G : Type 0} (b : Bool) → (b ≡ true → G) → (b ≡ false → G) → G
 by_test true holds fails = holds refl
 by_test false holds fails = fails refl
 

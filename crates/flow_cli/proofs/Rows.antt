@@ -1,11 +1,11 @@
 -- What clap's getters give, in its rows; and words that are written out.
-use Rattle.std.proofs.Common.{◌≡◌, [], ◌∷◌, codes, Some, refl}
+use Rattle.std.proofs.Common.{◌≡◌, [], ◌∷◌, codes, Some, None, refl}
 use Rattle.clap.proofs.OnLiterals.{clap_on_literals}
 use Rattle.clap.proofs.WalkLemmas.{first_value-rows}
 use Rattle.clap.specs.Words.{Text, fault_of, first_of, first_value, rows_of}
 use Rattle.clap.specs.declared.error.kind.ErrorKind.TheVariants as kind
 use Rattle.clap.specs.declared.parser.matches.Found.{Found}
-use Rattle.flow_cli.specs.Calls.{flow, call_in, Check, Drive}
+use Rattle.flow_cli.specs.Calls.{flow, call_in, Check, Drive, History}
 
 pub first_in_rows : (f : Found) (id : Text) → first_value f id ≡ first_of id (rows_of f)
 first_in_rows f id = first_value-rows f id
@@ -25,6 +25,18 @@ drive_is_taken = refl
 drive_says : call_in (codes "flow" ∷ codes "drive" ∷ codes "-" ∷ []) ≡ Some (Drive (codes "-"))
 unfolding clap_on_literals
 drive_says = refl
+
+history_is_taken : fault_of flow (codes "flow" ∷ codes "history" ∷ codes "a" ∷ codes "12" ∷ []) ≡ []
+unfolding clap_on_literals
+history_is_taken = refl
+
+history_says : call_in (codes "flow" ∷ codes "history" ∷ codes "a" ∷ codes "12" ∷ []) ≡ Some (History (codes "a") 12)
+unfolding clap_on_literals
+history_says = refl
+
+run_none : call_in (codes "flow" ∷ codes "history" ∷ codes "a" ∷ codes "0" ∷ []) ≡ None
+unfolding clap_on_literals
+run_none = refl
 
 help_is_refused : fault_of flow (codes "flow" ∷ codes "--help" ∷ []) ≡ kind.DisplayHelp ∷ []
 unfolding clap_on_literals

@@ -1,54 +1,105 @@
 -- Causes of an early end.
-use Rattle.std.proofs.Common.{◌≡◌, ℕ, suc, List, [], ◌∷◌, ◌++◌, length, Option, Some, None, IfSome, refl, sym, ap, subst, arith, inl, inr}
-use Rattle.std.specs.Prelude.{◌⊎◌, ◌≤◌, ◌+◌, ◌^◌}
+use Rattle.std.proofs.Common.{◌≡◌, ℕ, suc, List, [], ◌∷◌, ◌++◌, length, Option, Some, None, IfSome, refl, sym, ap, ◌∙◌, subst, arith, append_assoc, inl, inr}
+use Rattle.std.specs.Prelude.{◌≤◌, ◌+◌, ◌^◌}
 use Rattle.std.specs.Io.BufRead.{drop_through}
+use Rattle.flow_base.specs.declared.code.Code.{Code}
+use Rattle.flow_base.specs.declared.command.Command.{Command}
 use Rattle.flow_model.specs.Apply.{Rules}
 use Rattle.flow_model.specs.Book.{Book}
-use Rattle.flow_machine.proofs.Sticking.{other_side}
+use Rattle.flow_cli.proofs.Answering.{answers-append}
 use Rattle.flow_cli.specs.Answering.{FirstLine, Answered}
 use Rattle.flow_cli.specs.Commands.{line_command}
-use Rattle.flow_cli.specs.Driving.{lines_of, book_after_line, book_after_lines}
-use Rattle.flow_cli.specs.Stopping.{CausedFault, CausedStop, StuckCommand, StuckWithin, EndsWithin, ReadLines}
+use Rattle.flow_cli.specs.Driving.{lines_of}
+use Rattle.flow_cli.specs.Faults.{fault_status, fault_of_stop}
+use Rattle.flow_cli.specs.Stopping.{CausedFault, CausedStop, LineStops, ComesNext, StoppedBy, ReadLines}
+use Rattle.flow_cli.specs.declared.answer.Stop.{Stop}
+use Rattle.flow_cli.specs.declared.answer.Stop.TheVariants as stop
 use Rattle.flow_cli.specs.declared.drive.Stopped.{Stopped}
 use Rattle.flow_cli.specs.declared.drive.Stopped.TheVariants as stopped
 use Rattle.flow_cli.specs.declared.fault.Fault.{Fault}
 use Rattle.flow_cli.specs.declared.fault.Fault.TheVariants as fault
 
-fault_by : (f : Fault) (X Y : Type 0) → (X → Y) → CausedFault f X → CausedFault f Y
-fault_by fault.StoreRefused X Y g h = g h
-fault_by fault.NoMemory X Y g h = tt
-fault_by fault.NoFile X Y g h = tt
-fault_by fault.BadUsage X Y g h = tt
+pub stop_status : (s : Stop) → fault_status (fault_of_stop s) ≡ 3
+stop_status stop.NoMemory = refl
+stop_status stop.StoreRefused = refl
+stop_status stop.Unknown = refl
+stop_status stop.Halted = refl
+
+-- the fault of a stop has the stop's cause
+stop_caused : (s : Stop) (X : Stop → Type 0) (P : Type 0) → X s → CausedFault (fault_of_stop s) X P
+stop_caused stop.NoMemory X P h = tt
+stop_caused stop.StoreRefused X P h = inl h
+stop_caused stop.Unknown X P h = h
+stop_caused stop.Halted X P h = h
+
+pub line_stops : (s : Stop) (line : List ℕ) (c : Command) (stops : Command → Stop → Type 0) → line_command line ≡ Some c → stops c s → CausedFault (fault_of_stop s) (LineStops (line_command line) stops) ⊥
+line_stops s line c stops given h = stop_caused s (LineStops (line_command line) stops) ⊥ (c, (given, h))
+
+fault_by : (f : Fault) (X Y : Stop → Type 0) (P Q : Type 0) → ((s : Stop) → X s → Y s) → (P → Q) → CausedFault f X P → CausedFault f Y Q
+fault_by fault.NoMemory X Y P Q g h c = tt
+fault_by (fault.Mismatch run event name) X Y P Q g h c = absurd c
+fault_by fault.NoRun X Y P Q g h c = absurd c
+fault_by fault.StoreRefused X Y P Q g h (inl c) = inl (g stop.StoreRefused c)
+fault_by fault.StoreRefused X Y P Q g h (inr c) = inr (h c)
+fault_by fault.NotOurs X Y P Q g h c = absurd c
+fault_by fault.BadVersion X Y P Q g h c = absurd c
+fault_by (fault.Damaged table run place cause) X Y P Q g h c = absurd c
+fault_by fault.Unknown X Y P Q g h c = g stop.Unknown c
+fault_by fault.Halted X Y P Q g h c = g stop.Halted c
+fault_by fault.NoFile X Y P Q g h c = absurd c
+fault_by fault.BadUsage X Y P Q g h c = absurd c
 
 -- An early end has every cause that follows from its cause.
-pub stop_by : (e : Stopped) (X Y : Type 0) → (X → Y) → CausedStop e X → CausedStop e Y
-stop_by (stopped.Refused f) X Y g h = fault_by f X Y g h
-stop_by (stopped.Input e) X Y g h = tt
-stop_by (stopped.Output e) X Y g h = tt
+pub stop_by : (e : Stopped) (X Y : Stop → Type 0) (P Q : Type 0) → ((s : Stop) → X s → Y s) → (P → Q) → CausedStop e X P → CausedStop e Y Q
+stop_by (stopped.Refused f) X Y P Q g h c = fault_by f X Y P Q g h c
+stop_by (stopped.Input e) X Y P Q g h c = tt
+stop_by (stopped.Output e) X Y P Q g h c = tt
 
-pub uncaused : (e : Stopped) (Y : Type 0) → CausedStop e ⊥ → CausedStop e Y
-uncaused e Y h = stop_by e ⊥ Y (λ x. absurd x) h
+pub uncaused : (e : Stopped) (Y : Stop → Type 0) (Q : Type 0) → CausedStop e (λ s. ⊥) ⊥ → CausedStop e Y Q
+uncaused e Y Q c = stop_by e (λ s. ⊥) Y ⊥ Q (λ s x. absurd x) (λ x. absurd x) c
 
--- the first line is stuck
-first_within : (u : Rules) (b : Book) (known left : Option (List ℕ)) (line : List ℕ) → IfSome known (λ bytes. FirstLine bytes line left) → StuckCommand u.program_of b (line_command line) → IfSome known (λ bytes. StuckWithin u b (lines_of bytes))
-first_within u b None left line first h = tt
-first_within u b (Some bytes) left line first h = subst (StuckWithin u b) (sym first.lines_are) (inl h)
+module _ (u : Rules) (given_up : Book → Command → Code → Type 0) where
+  -- the command of the first line comes next
+  first_next : (b : Book) (known left : Option (List ℕ)) (line : List ℕ) (c : Command) → IfSome known (λ bytes. FirstLine bytes line left) → line_command line ≡ Some c → IfSome known (λ bytes. ComesNext u given_up b bytes b c)
+  first_next b None left line c first given = tt
+  first_next b (Some bytes) left line c first given = record {
+    lines = [];
+    line = line;
+    later = lines_of (drop_through 10 bytes);
+    answers = [];
+    lines_are = first.lines_are;
+    answers_are = refl;
+    command_is = given;
+  }
 
-pub first_stuck : (u : Rules) (b : Book) (known left : Option (List ℕ)) (found line : List ℕ) (f : Fault) (Refuses Sure : Type 0) → IfSome known (λ bytes. FirstLine bytes found left) → line ≡ found → CausedFault f (Refuses ⊎ (Sure → StuckCommand u.program_of b (line_command line))) → CausedStop (stopped.Refused f) (Refuses ⊎ (Sure → IfSome known (λ bytes. StuckWithin u b (lines_of bytes))))
-first_stuck u b known left found line f Refuses Sure first same h =
-    let firsts = subst (λ l. IfSome known (λ bytes. FirstLine bytes l left)) (sym same) first in
-    fault_by f _ _ (other_side Refuses (Sure → StuckCommand u.program_of b (line_command line)) (Sure → IfSome known (λ bytes. StuckWithin u b (lines_of bytes))) (λ stuck sure. first_within u b known left line firsts (stuck sure))) h
+  -- a stop at the first line
+  pub first_stopped : (b : Book) (stops : Book → Command → Stop → Type 0) (sure : Type 0) (known left : Option (List ℕ)) (found line : List ℕ) (f : Fault) → IfSome known (λ bytes. FirstLine bytes found left) → line ≡ found → CausedFault f (LineStops (line_command line) (stops b)) ⊥ → CausedStop (stopped.Refused f) (StoppedBy u given_up stops sure b known) ⊥
+  first_stopped b stops sure known left found line f first same cause =
+      let firsts = subst (λ l. IfSome known (λ bytes. FirstLine bytes l left)) (sym same) first in
+      fault_by f (LineStops (line_command line) (stops b)) (StoppedBy u given_up stops sure b known) ⊥ ⊥
+      (λ s x. (b, (x.0, (x.1.1, λ _. first_next b known left line x.0 firsts x.1.0)))) (λ x. x) cause
 
-behind : (u : Rules) (b : Book) (xs ys : List (List ℕ)) → StuckWithin u (book_after_lines u b xs) ys → StuckWithin u b (xs ++ ys)
-behind u b [] ys h = h
-behind u b (x ∷ xs) ys h = inr (behind u (book_after_line u b x) xs ys h)
+  behind : (b b1 book : Book) (c : Command) (bytes : List ℕ) (left old new : Option (List ℕ)) (n : ℕ) (f : Answered u given_up b b1 bytes left old new n) → ComesNext u given_up b1 f.rest book c → ComesNext u given_up b bytes book c
+  behind b b1 book c bytes left old new n f w = record {
+    lines = f.lines ++ w.lines;
+    line = w.line;
+    later = w.later;
+    answers = f.answers ++ w.answers;
+    lines_are = f.lines_are ∙ ap (λ l. f.lines ++ l) w.lines_are ∙ sym (append_assoc f.lines w.lines (w.line ∷ w.later));
+    answers_are = answers-append u given_up b b1 book f.lines w.lines f.answers w.answers f.answers_are w.answers_are;
+    command_is = w.command_is;
+  }
 
--- what is stuck among the lines behind is stuck among them all
-pub stuck_later : (u : Rules) (b b1 : Book) (known left old new : Option (List ℕ)) (n : ℕ) → IfSome known (λ bytes. Answered u b b1 bytes left old new n) → IfSome left (λ bytes. StuckWithin u b1 (lines_of bytes)) → IfSome known (λ bytes. EndsWithin u b (lines_of bytes))
-stuck_later u b b1 None left old new n f h = tt
-stuck_later u b b1 (Some bytes) left old new n f h =
-    let stuck = subst (λ k. IfSome k (λ bytes. StuckWithin u b1 (lines_of bytes))) f.left_is h in
-    inl (subst (StuckWithin u b) (sym f.lines_are) (behind u b f.lines (lines_of f.rest) (subst (λ k. StuckWithin u k (lines_of f.rest)) f.book_is stuck)))
+  -- what comes next among the lines behind comes next among them all
+  next_later : (b b1 book : Book) (c : Command) (known left old new : Option (List ℕ)) (n : ℕ) → IfSome known (λ bytes. Answered u given_up b b1 bytes left old new n) → IfSome left (λ bytes. ComesNext u given_up b1 bytes book c) → IfSome known (λ bytes. ComesNext u given_up b bytes book c)
+  next_later b b1 book c None left old new n f w = tt
+  next_later b b1 book c (Some bytes) left old new n f w =
+      behind b b1 book c bytes left old new n f (subst (λ k. IfSome k (λ bytes. ComesNext u given_up b1 bytes book c)) f.left_is w)
+
+  pub stopped_later : (b b1 : Book) (e : Stopped) (stops : Book → Command → Stop → Type 0) (sure many : Type 0) (known left old new : Option (List ℕ)) (n : ℕ) → (sure → IfSome known (λ bytes. Answered u given_up b b1 bytes left old new n)) → CausedStop e (StoppedBy u given_up stops sure b1 left) ⊥ → CausedStop e (StoppedBy u given_up stops sure b known) many
+  stopped_later b b1 e stops sure many known left old new n f cause =
+      stop_by e (StoppedBy u given_up stops sure b1 left) (StoppedBy u given_up stops sure b known) ⊥ many
+      (λ s x. (x.0, (x.1.0, (x.1.1.0, λ h. next_later b b1 x.0 x.1.0 known left old new n (f h) (x.1.1.1 h))))) (λ x. absurd x) cause
 
 -- ---- how many lines were read
 
@@ -72,6 +123,6 @@ one_more_read n None left left1 f g = tt
 one_more_read n (Some bytes) left left1 f g = two_read n bytes left left1 f (subst (λ k. IfSome k (λ bytes. ReadLines 1 bytes left1)) f.left_is g)
 
 -- all that can be counted were read
-pub too_many : (u : Rules) (b : Book) (n : ℕ) (known left : Option (List ℕ)) → 2 ^ 64 ≤ n + 1 → IfSome known (λ bytes. ReadLines n bytes left) → IfSome known (λ bytes. EndsWithin u b (lines_of bytes))
-too_many u b n None left many f = tt
-too_many u b n (Some bytes) left many f = let x = f.count_is in inr (omega arith)
+pub too_many : (n : ℕ) (known left : Option (List ℕ)) → 2 ^ 64 ≤ n + 1 → IfSome known (λ bytes. ReadLines n bytes left) → IfSome known (λ bytes. 2 ^ 64 ≤ length (lines_of bytes) + 1)
+too_many n None left many f = tt
+too_many n (Some bytes) left many f = let x = f.count_is in omega arith

@@ -1,10 +1,12 @@
 -- The words of a command line, as clap reads them.
-use Rattle.std.specs.Prelude.{◌≡◌, List, [], Option, Some, None, codes, option_map, option_and_then, bytes_eq, true, if◌then◌else◌}
+use Rattle.std.specs.Prelude.{◌≡◌, ℕ, List, [], Option, Some, None, codes, option_map, option_and_then, bytes_eq, true, if◌then◌else◌}
 use Rattle.clap.specs.Words.{App, Row, Rule, Text, first_of, fault_of, new_app, new_rule, subcommand_of, with_rule, with_subcommand}
 use Rattle.clap.specs.declared.builder.ArgAction.TheVariants.{Set}
 use Rattle.clap.specs.Simple.{on_top}
+use Rattle.clap.specs.ValueTests.{is_unsigned_in}
+use Rattle.std.specs.Str.Parse.{digits_value, without_leading_plus}
 
--- ---- the program: `flow check FILE` and `flow drive DB`
+-- ---- the program: `flow check FILE`, `flow drive DB` and `flow history DB RUN`
 
 abbrev pub file : Rule
 file = record (new_rule (codes "FILE")) { required = true; action = Some Set }
@@ -18,19 +20,34 @@ base = record (new_rule (codes "DB")) { required = true; action = Some Set }
 abbrev pub drive : App
 drive = with_rule (new_app (codes "drive")) base
 
+abbrev pub run : Rule
+run = record (new_rule (codes "RUN")) { required = true; action = Some Set }
+
+abbrev pub history : App
+history = with_rule (with_rule (new_app (codes "history")) base) run
+
 abbrev pub flow : App
-flow = with_subcommand (with_subcommand (on_top (λ s. record s { subcommand_required = true }) (new_app (codes "flow"))) check.top) drive.top
+flow = with_subcommand (with_subcommand (with_subcommand (on_top (λ s. record s { subcommand_required = true }) (new_app (codes "flow"))) check.top) drive.top) history.top
 
 -- ---- a call, without where its texts lie in memory
 
 pub data Call : Type 0 where
   Check : Text → Call
   Drive : Text → Call
+  History : Text → ℕ → Call
+
+-- the run that a word names: a number in digits, perhaps behind a plus, from 1 to the last one
+abbrev pub run_in : Text → Option ℕ
+run_in word = if is_unsigned_in 1 9223372036854775807 word then Some (digits_value 10 (without_leading_plus word)) else None
+
+abbrev pub history_in : List Row → Option Call
+history_in rows = option_and_then (λ base. option_and_then (λ word. option_map (History base) (run_in word)) (first_of (codes "RUN") rows)) (first_of (codes "DB") rows)
 
 abbrev pub named_call : Text → List Row → Option Call
 named_call name rows =
     if bytes_eq name (codes "check") then option_map Check (first_of (codes "FILE") rows) else
-    (if bytes_eq name (codes "drive") then option_map Drive (first_of (codes "DB") rows) else None)
+    (if bytes_eq name (codes "drive") then option_map Drive (first_of (codes "DB") rows) else
+    (if bytes_eq name (codes "history") then history_in rows else None))
 
 -- the call that clap's matches of the words are
 abbrev pub call_in : List Text → Option Call

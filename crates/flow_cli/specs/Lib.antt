@@ -5,5 +5,7 @@ pub mod Commands
 pub mod Replies
 pub mod Verdicts
 pub mod Driving
-pub mod Stopping
+pub mod Applied
 pub mod Answering
+pub mod Stopping
+pub mod Histories

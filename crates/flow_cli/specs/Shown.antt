@@ -6,3 +6,4 @@ use Rattle.flow_cli.specs.declared.call.Call.TheVariants as call
 abbrev pub shown : Call → pure.Call
 shown (call.Check file) = pure.Check file.now
 shown (call.Drive base) = pure.Drive base.now
+shown (call.History base run) = pure.History base.now run

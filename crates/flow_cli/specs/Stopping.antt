@@ -1,43 +1,57 @@
--- What stands behind E80 where answering ends before the input does.
-use Rattle.std.specs.Prelude.{◌≡◌, ◌≤◌, ◌+◌, ◌^◌, ◌⊎◌, ℕ, List, [], ◌∷◌, length, Option, Some, None, Result}
-use Rattle.flow_base.specs.Syntax.{Bytes, Program}
+-- What stands behind a fault that ends answering before the input does.
+use Rattle.std.specs.Prelude.{◌≡◌, ◌⊎◌, ◌+◌, ℕ, List, ◌∷◌, ◌++◌, length, Option, Some, IfSome}
+use Rattle.flow_base.specs.declared.code.Code.{Code}
 use Rattle.flow_base.specs.declared.command.Command.{Command}
-use Rattle.flow_base.specs.declared.command.TextFault.{TextFault}
 use Rattle.flow_model.specs.Apply.{Rules}
 use Rattle.flow_model.specs.Book.{Book}
-use Rattle.flow_machine.specs.Stuck.{IsStuck}
+use Rattle.flow_cli.specs.Answering.{AreAnswers}
 use Rattle.flow_cli.specs.Commands.{line_command}
-use Rattle.flow_cli.specs.Driving.{lines_of, book_after_line}
+use Rattle.flow_cli.specs.Driving.{lines_of}
+use Rattle.flow_cli.specs.declared.answer.Stop.{Stop}
+use Rattle.flow_cli.specs.declared.answer.Stop.TheVariants as stop
 use Rattle.flow_cli.specs.declared.drive.Stopped.{Stopped}
 use Rattle.flow_cli.specs.declared.drive.Stopped.TheVariants as stopped
 use Rattle.flow_cli.specs.declared.fault.Fault.{Fault}
 use Rattle.flow_cli.specs.declared.fault.Fault.TheVariants as fault
+use Rattle.flow_cli.specs.declared.reply.Line.{Line}
 
--- E80 has this cause.
-abbrev pub CausedFault : Fault → Type 0 → Type 0
-CausedFault fault.StoreRefused cause = cause
-CausedFault fault.NoMemory cause = Unit {0}
-CausedFault fault.NoFile cause = Unit {0}
-CausedFault fault.BadUsage cause = Unit {0}
+-- E80 has this stop's cause, or there are too many lines; E84 and E85 have their stop's. No other fault but E01 is met.
+abbrev pub CausedFault : Fault → (Stop → Type 0) → Type 0 → Type 0
+CausedFault fault.NoMemory cause too_many = Unit {0}
+CausedFault fault.StoreRefused cause too_many = cause stop.StoreRefused ⊎ too_many
+CausedFault fault.Unknown cause too_many = cause stop.Unknown
+CausedFault fault.Halted cause too_many = cause stop.Halted
+CausedFault f cause too_many = ⊥
 
-abbrev pub CausedStop : Stopped → Type 0 → Type 0
-CausedStop (stopped.Refused f) cause = CausedFault f cause
-CausedStop (stopped.Input e) cause = Unit {0}
-CausedStop (stopped.Output e) cause = Unit {0}
+abbrev pub CausedStop : Stopped → (Stop → Type 0) → Type 0 → Type 0
+CausedStop (stopped.Refused f) cause too_many = CausedFault f cause too_many
+CausedStop (stopped.Input e) cause too_many = Unit {0}
+CausedStop (stopped.Output e) cause too_many = Unit {0}
 
--- the command of a line, where it has one, can't be decided
-abbrev pub StuckCommand : (Bytes → Result Program TextFault) → Book → Option Command → Type 0
-StuckCommand program_of b None = ⊥
-StuckCommand program_of b (Some c) = IsStuck program_of b c
+-- Memory ran out, or a write failed.
+abbrev pub StopsWriting : Stopped → Type 0
+StopsWriting (stopped.Refused f) = f ≡ fault.NoMemory
+StopsWriting (stopped.Input e) = ⊥
+StopsWriting (stopped.Output e) = Unit {0}
 
--- that of one of several lines can't, over the book that those before it leave
-abbrev pub StuckWithin : Rules → Book → List (List ℕ) → Type 0
-StuckWithin u b [] = ⊥
-StuckWithin u b (l ∷ ls) = StuckCommand u.program_of b (line_command l) ⊎ StuckWithin u (book_after_line u b l) ls
+-- the command of a line has this stop
+abbrev pub LineStops : Option Command → (Command → Stop → Type 0) → Stop → Type 0
+LineStops given stops s = (c : Command) × ((given ≡ Some c) × stops c s)
 
--- or there are more lines than can be counted
-abbrev pub EndsWithin : Rules → Book → List (List ℕ) → Type 0
-EndsWithin u b ls = StuckWithin u b ls ⊎ (2 ^ 64 ≤ length ls + 1)
+-- a command is that of a line, over the book that the lines before it left
+pub record ComesNext (u : Rules) (given_up : Book → Command → Code → Type 0) (b : Book) (bytes : List ℕ) (book : Book) (c : Command) : Type 0 where
+  pub lines : List (List ℕ)
+  pub line : List ℕ
+  pub later : List (List ℕ)
+  pub answers : List Line
+  pub lines_are : lines_of bytes ≡ lines ++ (line ∷ later)
+  pub answers_are : AreAnswers u given_up b book lines answers
+  pub command_is : line_command line ≡ Some c
+
+-- One command over one book has this stop. Where all is sure and the bytes are known, it is that of a line of theirs.
+abbrev pub StoppedBy : Rules → (Book → Command → Code → Type 0) → (Book → Command → Stop → Type 0) → Type 0 → Book → Option (List ℕ) → Stop → Type 0
+StoppedBy u given_up stops sure b known s =
+    (book : Book) × ((c : Command) × (stops book c s × (sure → IfSome known (λ bytes. ComesNext u given_up b bytes book c))))
 
 -- so many lines of the bytes were read, and the others are left
 pub record ReadLines (n : ℕ) (bytes : List ℕ) (left : Option (List ℕ)) : Type 0 where

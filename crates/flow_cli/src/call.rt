@@ -2,13 +2,14 @@
 ghost use Rattle.std.specs.Prelude.{◌≡◌, ◌⊎◌, IfOk, IfErr, false, map, option_map, option_and_then};
 ghost use Rattle.clap.specs.Words.{app_of, rule_of, found_of, rows_of, first_of, subcommand_rows_of};
 ghost use Rattle.clap.specs.declared.builder.command.Command.TheViews.{out-Command as fields_of};
-ghost use Rattle.flow_cli.specs.Calls.{flow, check, drive, file, base, named_call, IsCall};
+ghost use Rattle.flow_cli.specs.Calls.{flow, check, drive, history, file, base, run, run_in, history_in, named_call, IsCall};
 ghost use Rattle.flow_cli.specs.Calls.{Call as Pure};
 ghost use Rattle.flow_cli.specs.Shown.{shown};
 
 use crate::fault::Fault;
 use clap::error::ErrorKind;
 use clap::{Arg, ArgAction, ArgMatches, Command};
+use flow_base::number::RunId;
 use std::alloc::{AllocError, Global};
 use std::convert::AsStr;
 
@@ -19,6 +20,8 @@ pub enum Call<'a> {
     Check(&'a str),
     /// Answer command lines over this store; `-` is a store in memory.
     Drive(&'a str),
+    /// Tell the history of a run of this store.
+    History(&'a str, RunId),
 }
 
 fn file_arg<'a>(alloc: Global) -> Arg<'a>
@@ -51,16 +54,36 @@ fn drive_command<'a>(alloc: Global) -> Result<Command<'a>, AllocError>
     Ok(Command::new(alloc, "drive").arg(base_arg(alloc))?)
 }
 
+fn run_arg<'a>(alloc: Global) -> Arg<'a>
+    ensures rule { rule_of result ≡ run }
+    ensures local { result.global ≡ false }
+{
+    Arg::new(alloc, "RUN").required(true).action(ArgAction::Set)
+}
+
+fn history_command<'a>(alloc: Global) -> Result<Command<'a>, AllocError>
+    ensures app { IfOk result (λ c. app_of c ≡ history) }
+    ensures local { IfOk result (λ c. (fields_of c).has_globals ≡ false) }
+{
+    Ok(
+        Command::new(alloc, "history")
+            .arg(base_arg(alloc))?
+            .arg(run_arg(alloc))?,
+    )
+}
+
 fn flow_command<'a>(alloc: Global) -> Result<Command<'a>, AllocError>
     ensures app { IfOk result (λ c. app_of c ≡ flow) }
 {
     let check = check_command(alloc)?;
     let drive = drive_command(alloc)?;
+    let history = history_command(alloc)?;
     Ok(
         Command::new(alloc, "flow")
             .subcommand_required(true)
             .subcommand(check)?
-            .subcommand(drive)?,
+            .subcommand(drive)?
+            .subcommand(history)?,
     )
 }
 
@@ -69,6 +92,24 @@ fn text_of<'a>(found: &ArgMatches<'a>, id: &str) -> Option<&'a str>
     ensures { option_map (λ t. t.now) result ≡ first_of id.now (rows_of (found_of found.now)) }
 {
     found.get_str(id)
+}
+
+/// The run of a number that is written out: digits, perhaps behind a plus.
+fn run_of(word: &str) -> Option<RunId>
+    ensures { result ≡ run_in word.now }
+{
+    match word.parse::<u64>() {
+        Ok(number) => RunId::new(number),
+        Err(_) => None,
+    }
+}
+
+fn history_call<'a>(found: &ArgMatches<'a>) -> Option<Call<'a>>
+    ensures { option_map shown result ≡ history_in (rows_of (found_of found.now)) }
+{
+    let base = text_of(found, "DB")?;
+    let run = run_of(text_of(found, "RUN")?)?;
+    Some(Call::History(base, run))
 }
 
 fn named_call<'a>(name: &str, found: &ArgMatches<'a>) -> Option<Call<'a>>
@@ -83,6 +124,7 @@ fn named_call<'a>(name: &str, found: &ArgMatches<'a>) -> Option<Call<'a>>
             Some(base) => Some(Call::Drive(base)),
             None => None,
         },
+        "history" => history_call(found),
         _ => None,
     }
 }

@@ -1,18 +1,67 @@
 //! What a program may end with in place of its work.
 ghost use Rattle.std.specs.Prelude.{◌≡◌, IfOk, string_bytes};
-ghost use Rattle.flow_cli.specs.Faults.{fault_code, fault_text, fault_status};
+ghost use Rattle.flow_cli.specs.Faults.{table_name, fault_code, fault_details, fault_text, fault_status};
+ghost use Rattle.flow_cli.specs.declared.fault.Fault.TheVariants.{Damaged};
 
+use crate::answer::Stop;
 use flow_base::code::Code;
-use flow_view::fault::ViewFault;
 use std::alloc::{AllocError, AllocFailed, Global};
 
-/// Why a program didn't do its work.
+/// A table of the store whose rows can be damaged.
+#[derive(Clone, Copy, Debug, PartialEq, Eq)]
+pub enum Table {
+    Text,
+    Run,
+    Event,
+    Timer,
+    Outbox,
+}
+
+impl Table {
+    /// The table's name in the store.
+    pub fn name(self) -> &'static str
+        ensures { result.now ≡ table_name self }
+    {
+        match self {
+            Table::Text => "text",
+            Table::Run => "run",
+            Table::Event => "event",
+            Table::Timer => "timer",
+            Table::Outbox => "outbox",
+        }
+    }
+}
+
+/// Why a program didn't do its work. Numbers of runs and events are those of the store, places those of its damages.
 #[derive(Clone, Copy, Debug, PartialEq, Eq, thiserror::Error)]
 pub enum Fault {
     #[error("E01 out of memory")]
     NoMemory,
+    #[error("E68 run {run} doesn't replay: {name} at {event}")]
+    Mismatch {
+        run: u64,
+        event: u64,
+        name: Code,
+    },
+    #[error("E70 no such run")]
+    NoRun,
     #[error("E80 the store refused")]
     StoreRefused,
+    #[error("E81 the tables aren't ours")]
+    NotOurs,
+    #[error("E82 another format")]
+    BadVersion,
+    #[error("E83 damaged at {place} of {run}")]
+    Damaged {
+        table: Table,
+        run: u64,
+        place: u64,
+        cause: Option<Code>,
+    },
+    #[error("E84 not known whether it was kept")]
+    Unknown,
+    #[error("E85 halted")]
+    Halted,
     #[error("E93 no program file")]
     NoFile,
     #[error("E97 bad usage")]
@@ -26,10 +75,49 @@ impl Fault {
     {
         match self {
             Fault::NoMemory => Code::NoMemory,
+            Fault::Mismatch { .. } => Code::Mismatch,
+            Fault::NoRun => Code::NoRun,
             Fault::StoreRefused => Code::StoreRefused,
+            Fault::NotOurs => Code::NotOurs,
+            Fault::BadVersion => Code::BadVersion,
+            Fault::Damaged { .. } => Code::Damaged,
+            Fault::Unknown => Code::Unknown,
+            Fault::Halted => Code::Halted,
             Fault::NoFile => Code::NoFile,
             Fault::BadUsage => Code::BadUsage,
         }
+    }
+}
+
+fn damage_details(
+    alloc: Global,
+    table: Table,
+    run: u64,
+    place: u64,
+    cause: Option<Code>,
+) -> Result<String, AllocError>
+    ensures { IfOk result (λ s. string_bytes s ≡ fault_details (Damaged table run place cause)) }
+{
+    let table = table.name();
+    match cause {
+        Some(cause) => format!(in alloc; " {table} {run} {place} {cause}"),
+        None => format!(in alloc; " {table} {run} {place}"),
+    }
+}
+
+/// What stands behind the code of a fault.
+fn details(alloc: Global, fault: &Fault) -> Result<String, AllocError>
+    ensures { IfOk result (λ s. string_bytes s ≡ fault_details fault.now) }
+{
+    match *fault {
+        Fault::Mismatch { run, event, name } => format!(in alloc; " {run} {event} {name}"),
+        Fault::Damaged {
+            table,
+            run,
+            place,
+            cause,
+        } => damage_details(alloc, table, run, place, cause),
+        _ => Ok(String::new(alloc)),
     }
 }
 
@@ -38,7 +126,8 @@ pub fn fault_line(alloc: Global, fault: &Fault) -> Result<String, AllocError>
     ensures { IfOk result (λ line. string_bytes line ≡ fault_text fault.now) }
 {
     let code = fault.code();
-    format!(in alloc; "flow: {code}")
+    let details = details(alloc, fault)?;
+    format!(in alloc; "flow: {code}{details}")
 }
 
 /// The status that a program ends with after the fault.
@@ -46,8 +135,15 @@ pub fn status(fault: &Fault) -> u8
     ensures { result ≡ fault_status fault.now }
 {
     match fault {
+        Fault::Mismatch { .. } | Fault::NoRun => 1,
         Fault::NoFile | Fault::BadUsage => 2,
-        Fault::NoMemory | Fault::StoreRefused => 3,
+        Fault::NoMemory
+        | Fault::StoreRefused
+        | Fault::NotOurs
+        | Fault::BadVersion
+        | Fault::Damaged { .. }
+        | Fault::Unknown
+        | Fault::Halted => 3,
     }
 }
 
@@ -73,16 +169,18 @@ impl<T: Drop> From<AllocFailed<T>> for Fault {
     }
 }
 
-impl From<ViewFault> for Fault {
+impl From<Stop> for Fault {
     ghost use Rattle.std.specs.Prelude.{◌≡◌};
-    ghost use Rattle.flow_cli.specs.Faults.{fault_of_view};
+    ghost use Rattle.flow_cli.specs.Faults.{fault_of_stop};
 
-    ghost from_gives = { λ f e. e ≡ fault_of_view f };
+    ghost from_gives = { λ s e. e ≡ fault_of_stop s };
 
-    fn from(fault: ViewFault) -> Fault {
-        match fault {
-            ViewFault::NoMemory => Fault::NoMemory,
-            ViewFault::StoreRefused => Fault::StoreRefused,
+    fn from(stop: Stop) -> Fault {
+        match stop {
+            Stop::NoMemory => Fault::NoMemory,
+            Stop::StoreRefused => Fault::StoreRefused,
+            Stop::Unknown => Fault::Unknown,
+            Stop::Halted => Fault::Halted,
         }
     }
 }

@@ -1,8 +1,11 @@
+use crate::answer::{Answer, Answering, Stop};
 use crate::call::{Call, call_of};
 use crate::check::Verdict;
 use crate::command::{LineFault, command_of};
+use crate::deciding::Deciding;
 use crate::drive::{Stopped, drive_lines, end_status};
-use crate::fault::{Fault, fault_line, status};
+use crate::fault::{Fault, Table, fault_line, status};
+use crate::history::{history_line, write_history};
 use crate::reply::{Line, reply_line};
 use flow_base::code::Code;
 use flow_base::command::{Command, Description, Reply, TextFault};
@@ -34,7 +37,22 @@ fn calls(rt: HostRuntime) -> Result<(), Fail> {
             Ok(Call::Drive("-"))
         )
     );
+    assert!(rt;
+        matches!(
+            &call_of(a, &["flow", "history", "a.db", "9223372036854775807"]),
+            Ok(Call::History("a.db", run)) if run.get() == 9223372036854775807
+        )
+    );
+    for number in ["0", "9223372036854775808", "-1", "", "1 ", "one"] {
+        assert!(rt;
+            matches!(
+                &call_of(a, &["flow", "history", "a.db", number]),
+                Err(Fault::BadUsage)
+            )
+        );
+    }
     for words in [
+        ["flow", "history", "a.db"],
         ["flow", "check", "--help"],
         ["flow", "help", "check"],
         ["flow", "drive", "-x"],
@@ -66,9 +84,52 @@ fn faults(rt: HostRuntime) -> Result<(), Fail> {
     let a = rt.alloc();
     let rows = [
         (Fault::NoMemory, "flow: E01", 3),
+        (Fault::NoRun, "flow: E70", 1),
         (Fault::StoreRefused, "flow: E80", 3),
+        (Fault::NotOurs, "flow: E81", 3),
+        (Fault::BadVersion, "flow: E82", 3),
+        (Fault::Unknown, "flow: E84", 3),
+        (Fault::Halted, "flow: E85", 3),
         (Fault::NoFile, "flow: E93", 2),
         (Fault::BadUsage, "flow: E97", 2),
+    ];
+    for (fault, line, number) in rows {
+        let written = fault_line(a, &fault)?;
+        assert!(rt; written.as_str() == line);
+        assert_eq!(rt; status(&fault), number);
+    }
+    Ok(())
+}
+
+/// A damage of the run 1.
+fn damaged(table: Table, place: u64, cause: Option<Code>) -> Fault {
+    Fault::Damaged {
+        table,
+        run: 1,
+        place,
+        cause,
+    }
+}
+
+#[test]
+fn faults_with_details(rt: HostRuntime) -> Result<(), Fail> {
+    let a = rt.alloc();
+    let mismatch = Fault::Mismatch {
+        run: 1,
+        event: 2,
+        name: Code::OtherContent,
+    };
+    let rows = [
+        (mismatch, "flow: E68 1 2 E51", 1),
+        (
+            damaged(Table::Event, 3, Some(Code::SecondSpelling)),
+            "flow: E83 event 1 3 E32",
+            3,
+        ),
+        (damaged(Table::Run, 0, None), "flow: E83 run 1 0", 3),
+        (damaged(Table::Text, 2, None), "flow: E83 text 1 2", 3),
+        (damaged(Table::Timer, 4, None), "flow: E83 timer 1 4", 3),
+        (damaged(Table::Outbox, 5, None), "flow: E83 outbox 1 5", 3),
     ];
     for (fault, line, number) in rows {
         let written = fault_line(a, &fault)?;
@@ -361,6 +422,23 @@ fn replies(rt: HostRuntime) -> Result<(), Fail> {
 }
 
 #[test]
+fn histories(rt: HostRuntime) -> Result<(), Fail> {
+    let a = rt.alloc();
+    let mut history = Sequence::new(a);
+    history.push(started(a)?)?;
+    history.push(ended(a)?)?;
+    let mut writer = Vec::new(a);
+    write_history(a, &mut writer, history.as_slice())?;
+    assert!(rt;
+        writer.as_slice()
+            == b"1 WorkflowExecutionStarted {\"args\":[7,\"e\\\"\\n\"],\"at\":1000}\n2 WorkflowExecutionCompleted {\"at\":1000,\"value\":\"\"}\n".as_slice()
+    );
+    let line = history_line(a, &ended(a)?)?;
+    assert!(rt; line.as_str() == "2 WorkflowExecutionCompleted {\"at\":1000,\"value\":\"\"}");
+    Ok(())
+}
+
+#[test]
 fn verdicts(rt: HostRuntime) -> Result<(), Fail> {
     let a = rt.alloc();
     let broken = Verdict::Broken(TextFault {
@@ -373,11 +451,19 @@ fn verdicts(rt: HostRuntime) -> Result<(), Fail> {
     Ok(())
 }
 
+fn over_lists<'a>(alloc: Global) -> Deciding<'a, Lists, Language> {
+    Deciding {
+        alloc,
+        texts: &Language,
+        view: Lists::new(alloc),
+    }
+}
+
 fn driven(alloc: Global, input: &[u8], wanted: &[u8]) -> Result<Option<u8>, Fail> {
     let mut reader = input;
     let mut writer = Vec::new(alloc);
-    let mut lists = Lists::new(alloc);
-    let Ok(status) = drive_lines(alloc, &Language, &mut lists, &mut reader, &mut writer) else {
+    let mut engine = over_lists(alloc);
+    let Ok(status) = drive_lines(alloc, &mut engine, &mut reader, &mut writer) else {
         return Ok(None);
     };
     if writer.as_slice() == wanted {
@@ -450,12 +536,135 @@ fn a_full_output_ends_it(rt: HostRuntime) -> Result<(), Fail> {
         bytes: Vec::new(a),
         room: 39,
     };
-    let mut lists = Lists::new(a);
-    let outcome = drive_lines(a, &Language, &mut lists, &mut reader, &mut writer);
+    let mut engine = over_lists(a);
+    let outcome = drive_lines(a, &mut engine, &mut reader, &mut writer);
     assert!(rt; matches!(&outcome, Err(Stopped::Output(_))));
     assert_eq!(rt; end_status(&outcome), 3);
     assert!(rt;
         writer.bytes.as_slice() == b"{\"code\":\"E70\",\"reply\":\"refused\"}\n{\"code".as_slice()
     );
+    Ok(())
+}
+
+/// Answers as another does, but for one command.
+#[derive(Drop)]
+struct Failing<E> {
+    inner: E,
+    /// How many commands come before that one.
+    before: u64,
+    /// Why it isn't answered: without a stop it is given up, with E80.
+    stop: Option<Stop>,
+}
+
+impl<E: Answering + Drop> Answering for Failing<E> {
+    ghost rules = { E.rules };
+
+    ghost book = { λ s. E.book s.inner };
+
+    ghost is_sure = { λ s. E.is_sure s.inner };
+
+    ghost follows = { λ a b. E.follows a.inner b.inner };
+
+    ghost gives_up = { λ b c k. Unit {0} };
+
+    ghost stops = { λ s b c k. Unit {0} };
+
+    fn answer(&mut self, command: Command) -> Result<Answer, Stop> {
+        if self.before == 0 {
+            self.before = u64::MAX;
+            return match self.stop {
+                Some(stop) => Err(stop),
+                None => Ok(Answer::NotApplied(Code::StoreRefused)),
+            };
+        }
+        self.before -= 1;
+        match self.inner.answer(command) {
+            Ok(Answer::Replied(reply)) => Ok(Answer::Replied(reply)),
+            Ok(Answer::NotApplied(code)) => Ok(Answer::NotApplied(code)),
+            Err(stop) => Err(stop),
+        }
+    }
+}
+
+/// What is written, with the command behind so many others given up or without an answer, and the final status.
+fn failed_at(
+    alloc: Global,
+    before: u64,
+    stop: Option<Stop>,
+    input: &[u8],
+    wanted: &[u8],
+) -> Option<u8> {
+    let mut reader = input;
+    let mut writer = Vec::new(alloc);
+    let mut engine = Failing {
+        inner: over_lists(alloc),
+        before,
+        stop,
+    };
+    let outcome = drive_lines(alloc, &mut engine, &mut reader, &mut writer);
+    if writer.as_slice() == wanted {
+        Some(end_status(&outcome))
+    } else {
+        None
+    }
+}
+
+#[test]
+fn a_command_that_is_given_up_changes_nothing(rt: HostRuntime) -> Result<(), Fail> {
+    let a = rt.alloc();
+    let register =
+        b"{\"do\":\"register\",\"src\":\"workflow a() {}\"}\n{\"do\":\"register\",\"src\":\"workflow b() {}\"}\n";
+    assert_eq!(rt;
+        failed_at(
+            a,
+            0,
+            None,
+            register,
+            b"{\"code\":\"E80\",\"reply\":\"not applied\"}\n{\"reply\":\"registered\",\"text\":1}\n"
+        ),
+        Some(3)
+    );
+    assert_eq!(rt;
+        failed_at(
+            a,
+            1,
+            None,
+            b"{\"do\":\"history\",\"run\":1}\nx\n{\"do\":\"history\",\"run\":1}\n",
+            b"{\"code\":\"E70\",\"reply\":\"refused\"}\n{\"code\":\"E02\",\"reply\":\"refused\"}\n{\"code\":\"E80\",\"reply\":\"not applied\"}\n"
+        ),
+        Some(3)
+    );
+    Ok(())
+}
+
+#[test]
+fn a_stop_ends_it(rt: HostRuntime) -> Result<(), Fail> {
+    let a = rt.alloc();
+    for stop in [
+        Stop::NoMemory,
+        Stop::StoreRefused,
+        Stop::Unknown,
+        Stop::Halted,
+    ] {
+        assert_eq!(rt;
+            failed_at(
+                a,
+                1,
+                Some(stop),
+                b"{\"do\":\"history\",\"run\":1}\nx\n{\"do\":\"history\",\"run\":1}\n{\"do\":\"history\",\"run\":1}\n",
+                b"{\"code\":\"E70\",\"reply\":\"refused\"}\n{\"code\":\"E02\",\"reply\":\"refused\"}\n"
+            ),
+            Some(3)
+        );
+    }
+    let codes = [
+        (Stop::NoMemory, Fault::NoMemory),
+        (Stop::StoreRefused, Fault::StoreRefused),
+        (Stop::Unknown, Fault::Unknown),
+        (Stop::Halted, Fault::Halted),
+    ];
+    for (stop, fault) in codes {
+        assert!(rt; Fault::from(stop) == fault);
+    }
     Ok(())
 }

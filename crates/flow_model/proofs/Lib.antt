@@ -10,4 +10,6 @@ pub mod Chains
 pub mod Positions
 pub mod Again
 pub mod OneMore
+pub mod Logs
 mod RunRows
+mod WorldRows

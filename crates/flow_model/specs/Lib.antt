@@ -21,3 +21,4 @@ pub mod Limits
 pub mod Parse
 pub mod Meaning
 pub mod World
+pub mod Logs

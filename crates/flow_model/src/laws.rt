@@ -1,3 +1,4 @@
+ghost use Rattle.flow_model.specs.Logs.{AfterCut, AfterOneMore, RepliesCut, RepliesInOrder};
 ghost use Rattle.flow_model.specs.Stands.{AtMostOne, NotBoth};
 ghost use Rattle.flow_model.specs.Turned.{TurnIsComputed, ComputedIsTurn, PositionIsComputed, OneMoreTurnStands, FirstTurnStands};
 
@@ -18,4 +19,13 @@ pub fn turns_are_computed()
 pub fn one_more_turn()
     ensures first { FirstTurnStands }
     ensures more { OneMoreTurnStands }
+{}
+
+/// Commands are applied one after the other: wherever a list of them is cut, the book and the replies are the same, and each
+/// has the reply that it gets over the book that those before it left.
+pub fn logs_are_cut_anywhere()
+    ensures after { AfterCut }
+    ensures replies { RepliesCut }
+    ensures one_more { AfterOneMore }
+    ensures in_order { RepliesInOrder }
 {}

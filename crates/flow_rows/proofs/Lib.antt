@@ -1,4 +1,6 @@
 pub mod Firsts
+pub mod RunParts
+pub mod TakenNames
 pub mod ReadsOn
 pub mod BookTexts
 pub mod Histories
@@ -14,5 +16,6 @@ pub mod WholeChanges
 pub mod Finds
 pub mod Singles
 pub mod Recalls
+pub mod NextRuns
 pub mod Recalled
 pub mod Laws

@@ -1,5 +1,7 @@
 pub mod Rows
 pub mod Damages
+pub mod Rising
+pub mod Taken
 pub mod Reading
 pub mod Standing
 pub mod Changes

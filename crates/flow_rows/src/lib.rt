@@ -5,11 +5,13 @@ pub mod damage;
 pub mod events;
 pub mod found;
 pub mod outbox;
+pub mod part;
 pub mod recall;
 pub mod rows;
 pub mod runs;
 pub mod single;
 pub mod strays;
+pub mod taken;
 #[cfg(test)]
 mod tests;
 pub mod texts;

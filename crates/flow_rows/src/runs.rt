@@ -1,11 +1,16 @@
-ghost use Rattle.std.specs.Prelude.{◌≡◌, ◌+◌, ◌<◌, ◌^◌, [], pos, not};
+ghost use Rattle.std.specs.Prelude.{◌≡◌, ◌<◌, ◌^◌, [], List, IfOk, None, pos};
 ghost use Rattle.std.specs.List.{list_any};
+ghost use Rattle.flow_rows.specs.declared.rows.RunRow.{RunRow as ARow};
 ghost use Rattle.flow_rows.specs.Rows.{events_of};
 ghost use Rattle.flow_rows.specs.Damages as rule;
-ghost use Rattle.flow_rows.specs.Damages.{first_of, damages_of_runs, has_request, is_open_of};
+ghost use Rattle.flow_rows.specs.Damages.{first_of, damages_of_runs};
+ghost use Rattle.flow_rows.specs.Taken.{HasTaken};
 
 use crate::found::{Damage, Table};
+use crate::part::{is_rising, part};
 use crate::rows::{EventRow, RunRow};
+use crate::taken::Taken;
+use std::alloc::{AllocError, Global};
 
 /// Whether an event is of a kind that closes its run.
 fn closes(event: &EventRow) -> bool
@@ -26,40 +31,16 @@ fn is_closed(events: &[EventRow], run: i64) -> bool
     false
 }
 
-/// Whether a run has this request id.
-fn is_requested(runs: &[RunRow], request: &str) -> bool
-    ensures { result ≡ list_any (has_request request.now) runs.now }
-{
-    for run in runs {
-        if run.req.as_str() == request {
-            return true;
-        }
-    }
-    false
-}
-
-/// Whether a run of a flow is marked as open.
-fn is_taken(runs: &[RunRow], flow: &str) -> bool
-    ensures { result ≡ list_any (is_open_of flow.now) runs.now }
-{
-    for run in runs {
-        if run.isopen == 1 && run.flow.as_str() == flow {
-            return true;
-        }
-    }
-    false
-}
-
 fn flow_fits(flow: &str) -> bool
     ensures { result ≡ rule.flow_fits flow.now }
 {
     1 <= flow.len() && flow.len() <= 64
 }
 
-fn request_fits(before: &[RunRow], request: &str) -> bool
-    ensures { result ≡ rule.request_fits before.now request.now }
+fn request_fits(taken: &Taken, request: &str) -> bool
+    ensures { (before : List ARow) → HasTaken taken.now before → result ≡ rule.request_fits before request.now }
 {
-    request.len() <= 64 && (request.len() == 0 || !is_requested(before, request))
+    request.len() <= 64 && (request.len() == 0 || !taken.has_request(request))
 }
 
 fn mark_fits(events: &[EventRow], run: i64, mark: i64) -> bool
@@ -72,50 +53,68 @@ fn mark_fits(events: &[EventRow], run: i64, mark: i64) -> bool
     }
 }
 
-fn flow_is_free(before: &[RunRow], row: &RunRow) -> bool
-    ensures { result ≡ rule.flow_is_free before.now row.now }
+fn flow_is_free(taken: &Taken, row: &RunRow) -> bool
+    ensures { (before : List ARow) → HasTaken taken.now before → result ≡ rule.flow_is_free before row.now }
 {
-    row.isopen != 1 || !is_taken(before, row.flow.as_str())
+    row.isopen != 1 || !taken.has_flow(row.flow.as_str())
 }
 
 /// Whether run `n` is numbered and named, and its text is among so many.
-fn cells_fit(texts: usize, before: &[RunRow], n: usize, row: &RunRow) -> bool
+fn cells_fit(texts: usize, taken: &Taken, n: usize, row: &RunRow) -> bool
     requires texts { texts < 2 ^ 62 }
     requires runs { n < 2 ^ 62 }
-    ensures { result ≡ rule.cells_fit texts before.now n row.now }
+    ensures { (before : List ARow) → HasTaken taken.now before → result ≡ rule.cells_fit texts before n row.now }
 {
     row.num == n as i64
         && flow_fits(row.flow.as_str())
-        && request_fits(before, row.req.as_str())
+        && request_fits(taken, row.req.as_str())
         && 1 <= row.textnum
         && row.textnum <= texts as i64
 }
 
-/// Whether run `n` keeps the rules, where there are so many texts and these runs stand before it.
-fn run_fits(texts: usize, events: &[EventRow], before: &[RunRow], n: usize, row: &RunRow) -> bool
+/// Whether run `n` keeps the rules, where there are so many texts and the runs before it have taken this.
+fn run_fits(texts: usize, events: &[EventRow], taken: &Taken, n: usize, row: &RunRow) -> bool
     requires texts { texts < 2 ^ 62 }
     requires runs { n < 2 ^ 62 }
-    ensures { result ≡ rule.run_fits texts events.now before.now n row.now }
+    ensures { (before : List ARow) → HasTaken taken.now before → result ≡ rule.run_fits texts events.now before n row.now }
 {
-    cells_fit(texts, before, n, row)
+    cells_fit(texts, taken, n, row)
         && mark_fits(events, n as i64, row.isopen)
-        && flow_is_free(before, row)
+        && flow_is_free(taken, row)
+}
+
+/// Run `n` breaks a rule.
+fn broken(n: usize) -> Damage
+    requires { n < 2 ^ 62 }
+    ensures { result ≡ record { table = Table.Run; run = pos n; place = pos 0; cause = None } }
+{
+    Damage {
+        table: Table::Run,
+        run: n as i64,
+        place: 0,
+        cause: None,
+    }
 }
 
 /// The first damage of the runs.
-pub fn run_damage(texts: usize, events: &[EventRow], rows: &[RunRow]) -> Option<Damage>
+pub fn run_damage(
+    alloc: Global,
+    texts: usize,
+    events: &[EventRow],
+    rows: &[RunRow],
+) -> Result<Option<Damage>, AllocError>
     requires { texts < 2 ^ 62 }
-    ensures { result ≡ first_of (damages_of_runs texts events.now [] 1 rows.now) }
+    ensures { IfOk result (λ o. o ≡ first_of (damages_of_runs texts events.now [] 1 rows.now)) }
 {
+    let rising = is_rising(events);
+    let mut taken = Taken::none(alloc);
     for i in 0..rows.len() {
-        if !run_fits(texts, events, &rows[..i], i + 1, &rows[i]) {
-            return Some(Damage {
-                table: Table::Run,
-                run: i as i64 + 1,
-                place: 0,
-                cause: None,
-            });
+        let row = &rows[i];
+        let own = part(events, rising, i as u64 + 1);
+        if !run_fits(texts, own, &taken, i + 1, row) {
+            return Ok(Some(broken(i + 1)));
         }
+        taken.add(row)?;
     }
-    None
+    Ok(None)
 }

@@ -246,6 +246,20 @@ fn a_run_has_its_text_and_its_mark(rt: HostRuntime) -> Result<(), Fail> {
 }
 
 #[test]
+fn runs_may_lie_in_any_order(rt: HostRuntime) -> Result<(), Fail> {
+    let alloc = rt.alloc();
+    let mixed = [
+        EVENTS[4], EVENTS[0], EVENTS[1], EVENTS[6], EVENTS[2], EVENTS[5], EVENTS[3], EVENTS[7],
+    ];
+    assert!(rt; of_events(alloc, &mixed)?.is_none());
+    let gap = [
+        EVENTS[4], EVENTS[0], EVENTS[1], EVENTS[6], EVENTS[5], EVENTS[3], EVENTS[7],
+    ];
+    assert!(rt; of_events(alloc, &gap)? == at(Table::Event, 1, 3));
+    Ok(())
+}
+
+#[test]
 fn events_go_on_without_gap(rt: HostRuntime) -> Result<(), Fail> {
     let alloc = rt.alloc();
     let gap = [

@@ -34,3 +34,7 @@ pub mod Owning
 pub mod Wholes
 pub mod Causes
 pub mod Reasons
+pub mod WholeTables
+pub mod AnyFile
+pub mod Succession
+pub mod Opened

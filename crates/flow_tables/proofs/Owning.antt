@@ -12,7 +12,7 @@ use Rattle.flow_tables.specs.Faults.{noted_fault, told_answer}
 use Rattle.flow_rows.specs.Told.{Tells, after_change, FitsTables}
 use Rattle.flow_rows.proofs.Telling.{told}
 use Rattle.flow_rows.proofs.WholeChanges.{change_told}
-use Rattle.flow_tables.specs.Owned.{IsOwn, IsSure, Keeps, KeepsOn, LeavesEither, ReadsBook, TellBook, IsNoted, book_of}
+use Rattle.flow_tables.specs.Owned.{IsOwn, IsSure, Keeps, KeepsOn, LeavesWritten, IsFileOf, ReadsBook, TellBook, IsNoted, book_of}
 use Rattle.flow_tables.specs.Stored.{tables_in}
 use Rattle.flow_tables.specs.States.{AreOurs, HasTables, IsOver, Holds, IsStill, IsRefused, IsUndone, HasBegun, HasCommitted, HasEnded, Changes}
 use Rattle.flow_tables.specs.Puts.{IsCutShort}
@@ -282,11 +282,11 @@ begun_book old new r b h own keeps =
     ap (λ (d : Database). book_of d.trees) (h.1.now_is ∙ own.rest h.0 h.1.was_open) ∙ told (tables_in old.committed.trees) b (keeps.kept h.1.was_open).1
 
 -- a commit that was refused: a stop may leave what was kept, or what it wrote
-pub commit_unknown : (old new : State) (r : Option Refusal) (b : Book) → r ≡ None → old.in_transaction ≡ true → IsOwn old r → Survives old new (λ db. db ≡ old.now.trees) → HasCleanDisk new → Keeps old b
-    → LeavesEither new b (book_of old.now.trees)
-commit_unknown old new r b none inside own survives clean keeps db may = elim (survives.crash clean db may) [
+pub commit_unknown : (sure : Type 0) (old new : State) (r : Option Refusal) (b : Book) → sure → r ≡ None → old.in_transaction ≡ true → IsOwn old r → Survives old new (λ db. db ≡ old.now.trees) → HasCleanDisk new → Keeps old b
+    → LeavesWritten sure new b (book_of old.now.trees)
+commit_unknown sure old new r b is none inside own survives clean keeps db may = elim (survives.crash clean db may) [
   | inl before ↦ inl (keeps.stops db before)
-  | inr made ↦ inr (record {
+  | inr made ↦ inr (is, record {
     ours = subst AreOurs (sym made) (own.over (own.whole inside none).0).now.ours;
     tells = subst (λ d. Tells (tables_in d) (book_of old.now.trees)) (sym made) (own.whole inside none).1;
   })

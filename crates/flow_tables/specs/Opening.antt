@@ -1,13 +1,109 @@
--- What opening reads.
-use Rattle.std.specs.Prelude.{◌≡◌, ◌≢◌, ℤ, pos, [], Ok}
+-- What opening reads and finds, and why it is refused.
+use Rattle.std.specs.Prelude.{◌≡◌, ◌≢◌, ◌⊎◌, ℕ, ℤ, pos, Bool, true, false, List, [], length, Some, Ok, Err, ⊤, codes}
+use Rattle.std.specs.List.{AllByRecursion}
 use Rattle.sqlite.specs.declared.types.Value.TheVariants.{Int}
+use Rattle.sqlite.specs.declared.error.ErrorCode.TheVariants as code
+use Rattle.sqlite.specs.declared.error.Error.{Error}
+use Rattle.sqlite.specs.declared.error.Error.TheVariants.{SqliteFailure, QueryReturnedNoRows}
 use Rattle.sqlite.specs.Order.{Row}
+use Rattle.sqlite.specs.Reading.{IsReadError}
 use Rattle.sqlite_value.specs.Order.{column}
 use Rattle.sqlite_trees.specs.declared.store.Store.{Ghosts}
 use Rattle.sqlite.specs.Held.{Held, state}
-use Rattle.sqlite.specs.State.{State, QueriesRow}
+use Rattle.sqlite.specs.State.{State, Executes, QueriesRow}
+use Rattle.flow_base.specs.declared.code.Code.{Code}
+use Rattle.flow_base.specs.declared.code.Code.TheVariants as number
+use Rattle.flow_check.specs.Language.{is_program}
+use Rattle.flow_model.specs.Book.{Book}
+use Rattle.flow_rows.specs.declared.rows.StoreRows.{StoreRows}
+use Rattle.flow_rows.specs.Rows.{Tables, by_run, rows_of}
+use Rattle.flow_rows.specs.Damages.{first_damage}
+use Rattle.flow_rows.specs.Standing.{AreKept}
+use Rattle.flow_tables.specs.declared.fault.StoreFault.{StoreFault}
+use Rattle.flow_tables.specs.declared.fault.StoreFault.TheVariants as read
+use Rattle.flow_tables.specs.declared.open.OpenFault.{OpenFault}
+use Rattle.flow_tables.specs.declared.open.OpenFault.TheVariants.{NoMemory, StoreRefused, NotOurs, BadVersion, Damaged}
 use Rattle.flow_tables.specs.Layout.{format_sql}
+use Rattle.flow_tables.specs.States.{HasEnded}
+use Rattle.flow_tables.specs.Reads.{IsReadFault}
+
+---- The format
 
 -- The number of the format was read, and is another.
 abbrev pub HasOtherFormat : {S : Type 0} → Ghosts S → State → Type 0
 HasOtherFormat {S} g new = (old : Held S) × (row : Row) × (n : ℤ) × QueriesRow format_sql [] (state g old) new (Ok row) × (column row 0 ≡ Int n) × (n ≢ pos 1)
+
+---- How an error of the store is told
+
+-- E80 for memory, disk and size, E81 for all else; the want of memory by itself
+abbrev pub opening_fault : Error → OpenFault
+opening_fault (SqliteFailure code.OutOfMemory) = NoMemory
+opening_fault (SqliteFailure code.SystemIoFailure) = StoreRefused
+opening_fault (SqliteFailure code.DatabaseCorrupt) = StoreRefused
+opening_fault (SqliteFailure code.DiskFull) = StoreRefused
+opening_fault (SqliteFailure code.TooBig) = StoreRefused
+opening_fault (SqliteFailure code.Closed) = StoreRefused
+opening_fault _ = NotOurs
+
+abbrev pub read_fault_of : StoreFault → OpenFault
+read_fault_of read.NoMemory = NoMemory
+read_fault_of (read.Refused e) = opening_fault e
+
+abbrev pub open_fault_code : OpenFault → Code
+open_fault_code NoMemory = number.NoMemory
+open_fault_code StoreRefused = number.StoreRefused
+open_fault_code NotOurs = number.NotOurs
+open_fault_code BadVersion = number.BadVersion
+open_fault_code (Damaged d) = number.Damaged
+
+-- What reading the format answers where it is our number, or else where there is no such table.
+abbrev pub IsAnswered : Bool → State → State → Type 0
+IsAnswered true old new = (row : Row) × QueriesRow format_sql [] old new (Ok row) × (column row 0 ≡ Int (pos 1))
+IsAnswered false old new = (e : Error) × QueriesRow format_sql [] old new (Err e) × (e ≢ QueryReturnedNoRows) × (opening_fault e ≡ NotOurs)
+
+-- The format was read so, of what the last commit left at the start.
+abbrev pub HasFormat : {S : Type 0} → Ghosts S → State → Bool → Type 0
+HasFormat {S} g start is_there = (old new : Held S) × HasEnded start (state g old) × IsAnswered is_there (state g old) (state g new)
+
+---- What the rows say
+
+abbrev pub empty_book : Book
+empty_book = record { texts = []; runs = [] }
+
+-- Tables stand for a book: they are its rows, its texts are programs, and its runs keep the rules.
+pub record StandFor (t : Tables) (b : Book) : Type 0 where
+  pub texts : AllByRecursion (λ text. is_program text ≡ true) b.texts
+  pub runs : AreKept (length b.texts) [] b.runs
+  pub same : t ≡ rows_of b
+
+-- A damage that is told is the first one.
+abbrev pub IsFirstDamage : Tables → OpenFault → Type 0
+IsFirstDamage t (Damaged d) = (rows : StoreRows) × (by_run rows ≡ t) × (first_damage is_program rows ≡ Some d)
+IsFirstDamage t _ = ⊤
+
+-- The rows and the format are as they should be.
+abbrev pub IsOfStore : OpenFault → Type 0
+IsOfStore BadVersion = ⊥
+IsOfStore (Damaged d) = ⊥
+IsOfStore _ = ⊤
+
+---- Why it is refused
+
+-- A statement of the store was refused with this error, or a row of an answer can't be read.
+abbrev pub IsMet : {S : Type 0} → Ghosts S → Error → Type 0
+IsMet {S} g e =
+    (old new : Held S) × (sql : List ℕ)
+    × (Executes sql [] (state g old) (state g new) (Err e)
+    ⊎ (QueriesRow sql [] (state g old) (state g new) (Err e)
+    ⊎ (IsReadFault sql [] (state g old) (state g new) (read.Refused e)
+    ⊎ ((row : Row) × QueriesRow sql [] (state g old) (state g new) (Ok row) × IsReadError 0 (column row 0) e))))
+
+-- A transaction that runs can't be rolled back.
+abbrev pub GoesOnRunning : {S : Type 0} → Ghosts S → Type 0
+GoesOnRunning {S} g = (old new : Held S) × (e : Error) × Executes (codes "ROLLBACK") [] (state g old) (state g new) (Err e)
+
+-- The other faults have clauses of their own, and want of memory none.
+abbrev pub HasCause : {S : Type 0} → Ghosts S → OpenFault → Type 0
+HasCause g StoreRefused = GoesOnRunning g ⊎ ((e : Error) × IsMet g e × (opening_fault e ≡ StoreRefused))
+HasCause g NotOurs = (e : Error) × IsMet g e × (opening_fault e ≡ NotOurs)
+HasCause g _ = ⊤

@@ -113,6 +113,10 @@ pub record Keeps (s : State) (b : Book) : Type 0 where
 abbrev pub LeavesEither : State → Book → Book → Type 0
 LeavesEither s before after = (db : Trees) → s.may_leave db → IsFileOf db before ⊎ IsFileOf db after
 
+-- the same, of which the later one may be there only where what was written was sure
+abbrev pub LeavesWritten : Type 0 → State → Book → Book → Type 0
+LeavesWritten sure s before after = (db : Trees) → s.may_leave db → IsFileOf db before ⊎ (sure × IsFileOf db after)
+
 -- What was kept is kept on, whatever book it is.
 abbrev pub KeepsOn : Type 0 → State → State → Type 0
 KeepsOn ours old new = ours → HasCleanDisk new → HasCleanDisk old × ((b : Book) → Keeps old b → Keeps new b)

@@ -10,6 +10,8 @@ pub mod create;
 pub mod fault;
 pub mod look_ups;
 pub mod open;
+#[cfg(test)]
+mod open_tests;
 pub mod puts;
 #[cfg(test)]
 mod read_tests;
@@ -18,4 +20,7 @@ mod rows;
 pub mod stored;
 #[cfg(test)]
 mod tests;
+pub mod whole;
 pub mod whole_puts;
+#[cfg(test)]
+mod whole_tests;

@@ -23,8 +23,8 @@ fn change<S: Alter>(conn: &mut Connection<S>, sql: &str) -> bool {
 #[test]
 fn opens_twice(rt: HostRuntime) -> Result<(), Fail> {
     let mut conn = Connection::open_in_memory(rt.alloc())?;
-    assert!(rt; open(&mut conn).is_ok());
-    assert!(rt; open(&mut conn).is_ok());
+    assert!(rt; open(rt.alloc(), &mut conn).is_ok());
+    assert!(rt; open(rt.alloc(), &mut conn).is_ok());
     assert!(rt; create(&mut conn).is_err());
     assert!(rt; conn.is_autocommit());
     Ok(())
@@ -51,7 +51,7 @@ fn opening_ends_a_transaction(rt: HostRuntime) -> Result<(), Fail> {
     assert!(rt; create(&mut conn).is_ok());
     assert!(rt; begin(&mut conn).is_ok());
     assert!(rt; put(&mut conn));
-    assert!(rt; open(&mut conn).is_ok());
+    assert!(rt; open(rt.alloc(), &mut conn).is_ok());
     assert_eq!(rt; texts(&mut conn), 0);
     assert!(rt; undo(&mut conn));
     Ok(())
@@ -61,7 +61,7 @@ fn opening_ends_a_transaction(rt: HostRuntime) -> Result<(), Fail> {
 fn leaves_tables_of_others(rt: HostRuntime) -> Result<(), Fail> {
     let mut conn = Connection::open_in_memory(rt.alloc())?;
     assert!(rt; change(&mut conn, "CREATE TABLE meta (name TEXT) STRICT"));
-    assert_eq!(rt; open(&mut conn), Err(OpenFault::NotOurs));
+    assert_eq!(rt; open(rt.alloc(), &mut conn), Err(OpenFault::NotOurs));
     assert!(rt; conn.is_autocommit());
     assert_eq!(rt; texts(&mut conn), 99);
     Ok(())
@@ -70,10 +70,10 @@ fn leaves_tables_of_others(rt: HostRuntime) -> Result<(), Fail> {
 #[test]
 fn tells_another_format(rt: HostRuntime) -> Result<(), Fail> {
     let mut conn = Connection::open_in_memory(rt.alloc())?;
-    assert!(rt; open(&mut conn).is_ok());
+    assert!(rt; open(rt.alloc(), &mut conn).is_ok());
     assert!(rt; change(&mut conn, "UPDATE meta SET value = 3"));
-    assert_eq!(rt; open(&mut conn), Err(OpenFault::BadVersion));
+    assert_eq!(rt; open(rt.alloc(), &mut conn), Err(OpenFault::BadVersion));
     assert!(rt; change(&mut conn, "DELETE FROM meta"));
-    assert_eq!(rt; open(&mut conn), Err(OpenFault::NotOurs));
+    assert_eq!(rt; open(rt.alloc(), &mut conn), Err(OpenFault::NotOurs));
     Ok(())
 }

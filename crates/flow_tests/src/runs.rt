@@ -1,5 +1,6 @@
 //! Runs, as `flow drive -` tells them.
 use flow_check::language::Language;
+use flow_cli::deciding::Deciding;
 use flow_cli::drive::drive_lines;
 use flow_view::lists::Lists;
 use std::test::Fail;
@@ -44,8 +45,12 @@ fn replies_to(
     }
     let mut reader = input.as_bytes();
     let mut written: Vec<u8> = Vec::new(rt.alloc());
-    let mut lists = Lists::new(rt.alloc());
-    let status = drive_lines(rt.alloc(), &Language, &mut lists, &mut reader, &mut written)?;
+    let mut engine = Deciding {
+        alloc: rt.alloc(),
+        texts: &Language,
+        view: Lists::new(rt.alloc()),
+    };
+    let status = drive_lines(rt.alloc(), &mut engine, &mut reader, &mut written)?;
     Ok(status == wanted && written.as_slice() == expected.as_bytes())
 }
 

@@ -1,21 +1,23 @@
 -- Whatever happens, a stop leaves the log, or the log and the whole batch.
-use Rattle.std.proofs.Common.{◌≡◌, ℕ, suc, ◌+◌, ◌-◌, ◌≤◌, List, [], ◌∷◌, ◌++◌, map, length, take, drop, refl, sym, ap, ◌∙◌, subst, arith, append_assoc, Option, Some, None, Bool, true, false, ⊎_elim, inl, inr}
-use Rattle.std.specs.Prelude.{◌⊎◌, slice_get, nat_le, ◌&&◌}
+use Rattle.std.proofs.Common.{◌≡◌, ℕ, zero, suc, ◌+◌, ◌-◌, ◌≤◌, List, [], ◌∷◌, ◌++◌, length, take, drop, refl, sym, ◌∙◌, subst, arith, append_assoc, Option, Some, None, Bool, true, false, ⊎_elim, inl, inr}
+use Rattle.std.specs.Prelude.{◌⊎◌, slice_get, nat_le, ◌&&◌, Contains, if◌then◌else◌}
 use Rattle.std.specs.List.{AllByRecursion}
 use Rattle.std.proofs.lemmas.List.{take-append-drop, length-take, append-nil, length-append}
-use Rattle.flow_model.specs.World.{Machine, Entry, applied, after, Receipt, Stage, Idle, Writing, Committing, Halted, Stopped, World, first, Step, Submit, Report, Take, Write, WriteFails, CommitBegins, CommitDone, CommitFails, RefusedRollback, Publish, Dispatch, Crash, Reopen, submitted, changed_if, option_map, taken, entered, batch_limit, rolled_back, not_rolled_back, commit_begun, commit_done, commit_failed, receipts_of, published_in, dispatch, stopped, opened, Reopening, Next, Always, IsIn, HoldsAcknowledged, IsSafe, TakesOver, OpensAt, OpensWell, WorldIsSafe, WorldOpensWell}
+use Rattle.std.proofs.lemmas.List.Elements.{Contains-append_cases, Contains-append_left}
+use Rattle.flow_base.specs.declared.value.Value.{Value}
+use Rattle.flow_base.specs.declared.command.Command.{Command}
+use Rattle.flow_base.specs.declared.command.Command.TheVariants as command
+use Rattle.flow_base.specs.declared.command.Reply.{Reply}
+use Rattle.flow_model.specs.Book.{Book, nth}
+use Rattle.flow_model.specs.Apply.{Rules, after, replies}
+use Rattle.flow_model.specs.Sound.{IsSound}
+use Rattle.flow_model.specs.World.{Attempt, is_open_task, Receipt, Stage, Idle, Writing, Committing, Halted, Stopped, World, first, Step, Submit, Report, Take, Write, WriteFails, CommitBegins, CommitDone, CommitFails, RefusedRollback, Publish, Dispatch, Crash, Reopen, submitted, reported, batch_limit, taken, rolled_back, not_rolled_back, commit_begun, commit_done, commit_failed, receipts_from, published_in, dispatched_in, stopped, opened, Opens, Goes, Comes, IsIn, HoldsAcknowledged, IsSafe, TakesOver, WorldIsSafe, WorldOpensWell}
+use Rattle.flow_model.proofs.Logs.{replies_cut, length-replies, nth_next}
+use Rattle.flow_machine.specs.Soundness.{ReadsWellFormed}
+use Rattle.flow_machine.proofs.Keeps.{after_keeps}
+use Rattle.flow_machine.proofs.Places.{nth_kept}
 
--- a command keeps the book sound
-abbrev pub Kept : Machine → Type 0
-Kept m = (book : m.Book) (e : Entry m) → m.Sound book → m.Sound (applied m book e).1
-
-sound_after : (m : Machine) → Kept m → (es : List (Entry m)) (book : m.Book) → m.Sound book → m.Sound (after m book es)
-sound_after m k [] book s = s
-sound_after m k (e ∷ es) book s = sound_after m k es (applied m book e).1 (k book e s)
-
-after_more : (m : Machine) (book : m.Book) (es : List (Entry m)) (e : Entry m) → after m book (es ++ e ∷ []) ≡ (applied m (after m book es) e).1
-after_more m book [] e = refl
-after_more m book (x ∷ es) e = after_more m (applied m book x).1 es e
+-- Lists.
 
 all_into : {A : Type 0} (P Q : A → Type 0) → ((x : A) → P x → Q x) → (xs : List A) → AllByRecursion P xs → AllByRecursion Q xs
 all_into P Q f [] a = tt
@@ -25,250 +27,290 @@ all_joined : {A : Type 0} (P : A → Type 0) (xs ys : List A) → AllByRecursion
 all_joined P [] ys a b = b
 all_joined P (x ∷ xs) ys a b = (a.0, all_joined P xs ys a.1 b)
 
+of_one : {A : Type 0} (x y : A) → Contains (x ∷ []) y → y ≡ x
+of_one x y (zero, k, e) = sym e
+of_one x y (suc n, k, e) = absurd (omega (arith, k))
+
+in_one : {A : Type 0} (x : A) → Contains (x ∷ []) x
+in_one x = (0, omega arith, refl)
+
+-- Receipts.
+
 -- a longer log has what a shorter one had
-in_more : (m : Machine) (base : m.Book) (b more : List (Entry m)) (r : Receipt m) → IsIn m base b r → IsIn m base (b ++ more) r
-in_more m base b more r i =
+in_more : (u : Rules) (base : Book) (b more : List Command) (r : Receipt) → IsIn u base b r → IsIn u base (b ++ more) r
+in_more u base b more r i =
     record {
-      earlier = i.earlier;
-      later = i.later ++ more;
-      cut = ap (λ l. l ++ more) i.cut ∙ append_assoc i.earlier (r.command ∷ i.later) more;
-      place = i.place;
-      told = i.told;
+      command = nth_kept b more (r.opening + r.place) r.command i.command;
+      reply = subst (λ rs. nth rs (r.opening + r.place) ≡ Some r.reply) (sym (replies_cut u base b more)) (nth_kept (replies u base b) (replies u (after u base b) more) (r.opening + r.place) r.reply i.reply);
     }
 
-held_in_more : (m : Machine) (base : m.Book) (b more : List (Entry m)) (rs : List (Receipt m)) → AllByRecursion (IsIn m base b) rs → AllByRecursion (IsIn m base (b ++ more)) rs
-held_in_more m base b more rs a = all_into (IsIn m base b) (IsIn m base (b ++ more)) (in_more m base b more) rs a
+held_in_more : (u : Rules) (base : Book) (b more : List Command) (rs : List Receipt) → AllByRecursion (IsIn u base b) rs → AllByRecursion (IsIn u base (b ++ more)) rs
+held_in_more u base b more rs a = all_into (IsIn u base b) (IsIn u base (b ++ more)) (in_more u base b more) rs a
 
-receipts_in : (m : Machine) (base : m.Book) (opening before : ℕ) (pre es : List (Entry m)) → length pre ≡ opening + before → AllByRecursion (IsIn m base (pre ++ es)) (receipts_of m opening before (after m base pre) es)
-receipts_in m base opening before pre [] h = tt
-receipts_in m base opening before pre (e ∷ es) h =
-    let n : length (pre ++ e ∷ []) ≡ opening + suc before = omega (arith, length-append pre (e ∷ [])) in
-    let all = receipts_in m base opening (suc before) (pre ++ e ∷ []) es n in
-    let all1 = subst (λ l. AllByRecursion (IsIn m base l) (receipts_of m opening (suc before) (after m base (pre ++ e ∷ [])) es)) (append_assoc pre (e ∷ []) es) all in (
-      record { earlier = pre; later = es; cut = refl; place = h; told = refl },
-      subst (λ x. AllByRecursion (IsIn m base (pre ++ e ∷ es)) (receipts_of m opening (suc before) x es)) (after_more m base pre e) all1,
-    )
+-- receipts that are made of lists stand in them, where these lists begin behind as many others as the place says
+abbrev IsAt : List Command → List Reply → Receipt → Type 0
+IsAt b replies r = (nth b (r.opening + r.place) ≡ Some r.command) × (nth replies (r.opening + r.place) ≡ Some r.reply)
 
--- what a stop may leave at each stage: the batch is there only once its commit has begun
-abbrev LeftAt : {m : Machine} → World m → Stage → m.Book → Type 0
-LeftAt {m} w Idle x = x ≡ after m w.base w.log
-LeftAt {m} w Writing x = x ≡ after m w.base w.log
-LeftAt {m} w st x = (x ≡ after m w.base w.log) ⊎ (x ≡ after m w.base (w.log ++ w.batch))
+receipts_at : (opening place : ℕ) (pre cs : List Command) (done rs : List Reply) → opening + place ≡ suc (length pre) → length done ≡ length pre → AllByRecursion (IsAt (pre ++ cs) (done ++ rs)) (receipts_from opening place cs rs)
+receipts_at opening place pre [] done rs p q = tt
+receipts_at opening place pre (c ∷ cs) done [] p q = tt
+receipts_at opening place pre (c ∷ cs) done (r ∷ rs) p q =
+    let later = receipts_at opening (suc place) (pre ++ c ∷ []) cs (done ++ r ∷ []) rs (omega (arith, p, length-append pre (c ∷ []))) (omega (arith, q, length-append pre (c ∷ []), length-append done (r ∷ []))) in
+    let later1 = subst (λ l. AllByRecursion (IsAt l ((done ++ r ∷ []) ++ rs)) (receipts_from opening (suc place) cs rs)) (append_assoc pre (c ∷ []) cs) later in
+    let later2 = subst (λ l. AllByRecursion (IsAt (pre ++ c ∷ cs) l) (receipts_from opening (suc place) cs rs)) (append_assoc done (r ∷ []) rs) later1 in
+    ((nth_next pre c cs (opening + place) p, nth_next done r rs (opening + place) (omega (arith, p, q))), later2)
+
+-- What a stop may leave.
+
+-- the log, or the log and the whole batch
+abbrev IsEither : Rules → World → Book → Type 0
+IsEither u w x = (x ≡ after u w.base w.log) ⊎ (x ≡ after u w.base (w.log ++ w.batch))
+
+-- the batch is there only once its commit has begun
+abbrev LeftAt : Rules → World → Stage → Book → Type 0
+LeftAt u w Idle x = x ≡ after u w.base w.log
+LeftAt u w Writing x = x ≡ after u w.base w.log
+LeftAt u w st x = IsEither u w x
 
 -- after a crash one book is on the disk
-abbrev AloneAt : (m : Machine) → (m.Book → Type 0) → Stage → Type 0
-AloneAt m may Stopped = (x y : m.Book) → may x → may y → x ≡ y
-AloneAt m may st = Unit {0}
+abbrev AloneAt : List Book → Stage → Type 0
+AloneAt may Stopped = (x y : Book) → Contains may x → Contains may y → x ≡ y
+AloneAt may st = Unit {0}
 
-record Invariant {m : Machine} (w : World m) : Type 0 where
-  sound : m.Sound w.base
-  there : (x : m.Book) × w.may x
-  left : (x : m.Book) → w.may x → LeftAt w w.stage x
+record Invariant (u : Rules) (base : Book) (w : World) : Type 0 where
+  based : w.base ≡ base
+  there : (x : Book) × Contains w.may x
+  left : (x : Book) → Contains w.may x → LeftAt u w w.stage x
   order : (w.opening ≤ w.published) × (w.published ≤ length w.log)
-  told : HoldsAcknowledged w w.log
-  alone : AloneAt m w.may w.stage
+  told : HoldsAcknowledged u w w.log
+  alone : AloneAt w.may w.stage
 
-left_is : {m : Machine} (w : World m) (st : Stage) (x : m.Book) → LeftAt w st x → (x ≡ after m w.base w.log) ⊎ (x ≡ after m w.base (w.log ++ w.batch))
-left_is w Idle x l = inl l
-left_is w Writing x l = inl l
-left_is w Committing x l = l
-left_is w Halted x l = l
-left_is w Stopped x l = l
+left_is : (u : Rules) (w : World) (st : Stage) (x : Book) → LeftAt u w st x → IsEither u w x
+left_is u w Idle x l = inl l
+left_is u w Writing x l = inl l
+left_is u w Committing x l = l
+left_is u w Halted x l = l
+left_is u w Stopped x l = l
 
-at_first : (m : Machine) (base : m.Book) → m.Sound base → Invariant (first m base)
-at_first m base s = record { sound = s; there = (base, refl); left = λ x h. h; order = (omega arith, omega arith); told = tt; alone = tt }
+at_first : (u : Rules) (base : Book) → Invariant u base (first base)
+at_first u base =
+    record { based = refl; there = (base, in_one base); left = λ x h. of_one base x h; order = (omega arith, omega arith); told = tt; alone = tt }
 
-is_safe : (m : Machine) → Kept m → (w : World m) → Invariant w → IsSafe w
-is_safe m k w i = (
-  i.there,
-  λ x h.
-      ⊎_elim (λ (e : x ≡ after m w.base w.log).
+is_safe : (u : Rules) (base : Book) → ReadsWellFormed u → (w : World) → IsSound u base → Invariant u base w → (w.base ≡ base) × IsSafe u w
+is_safe u base f w s i =
+    let sound = subst (IsSound u) (sym i.based) s in (
+      i.based,
       record {
-        sound = subst m.Sound (sym e) (sound_after m k w.log w.base i.sound);
-        kept = w.log;
-        book_is = e;
-        whole = inl refl;
-        beginning = (w.batch, refl);
-        acknowledged = i.told;
-      })
-      (λ (e : x ≡ after m w.base (w.log ++ w.batch)).
-      record {
-        sound = subst m.Sound (sym e) (sound_after m k (w.log ++ w.batch) w.base i.sound);
-        kept = w.log ++ w.batch;
-        book_is = e;
-        whole = inr refl;
-        beginning = ([], sym (append-nil (w.log ++ w.batch)));
-        acknowledged = held_in_more m w.base w.log w.batch w.receipts i.told;
-      })
-      (left_is w w.stage x (i.left x h)),
-)
-
--- each step keeps it
-submits : {m : Machine} (w : World m) (st : Stage) (o : Option m.Command) → Invariant w → Invariant (submitted w st o)
-submits w Stopped o i = i
-submits w Idle None i = i
-submits w Writing None i = i
-submits w Committing None i = i
-submits w Halted None i = i
-submits w Idle (Some c) i = record { sound = i.sound; there = i.there; left = i.left; order = i.order; told = i.told; alone = i.alone }
-submits w Writing (Some c) i = record { sound = i.sound; there = i.there; left = i.left; order = i.order; told = i.told; alone = i.alone }
-submits w Committing (Some c) i = record { sound = i.sound; there = i.there; left = i.left; order = i.order; told = i.told; alone = i.alone }
-submits w Halted (Some c) i = record { sound = i.sound; there = i.there; left = i.left; order = i.order; told = i.told; alone = i.alone }
-
-either : {m : Machine} (b : Bool) (new old : World m) → Invariant new → Invariant old → Invariant (changed_if b new old)
-either true new old i j = i
-either false new old i j = j
-
-takes : {m : Machine} (w : World m) (st : Stage) (k : ℕ) → w.stage ≡ st → Invariant w → Invariant (taken w st k)
-takes {m} w Idle k e i =
-    either (nat_le 1 k && nat_le k batch_limit && nat_le k (length w.inbox))
-    (record w { batch = map (entered w) (take k w.inbox); inbox = drop k w.inbox; stage = Writing }) w
-    (record { sound = i.sound; there = i.there; left = λ x h. subst (λ s. LeftAt w s x) e (i.left x h); order = i.order; told = i.told; alone = tt }) i
-takes w Writing k e i = i
-takes w Committing k e i = i
-takes w Halted k e i = i
-takes w Stopped k e i = i
-
-rolls_back : {m : Machine} (w : World m) (st : Stage) → w.stage ≡ st → Invariant w → Invariant (rolled_back w st)
-rolls_back w Writing e i =
-    record { sound = i.sound; there = i.there; left = λ x h. subst (λ s. LeftAt w s x) e (i.left x h); order = i.order; told = i.told; alone = tt }
-rolls_back w Idle e i = i
-rolls_back w Committing e i = i
-rolls_back w Halted e i = i
-rolls_back w Stopped e i = i
-
-fails_to_roll_back : {m : Machine} (w : World m) (st : Stage) → w.stage ≡ st → Invariant w → Invariant (not_rolled_back w st)
-fails_to_roll_back w Writing e i =
-    record { sound = i.sound; there = i.there; left = λ x h. inl (subst (λ s. LeftAt w s x) e (i.left x h)); order = i.order; told = i.told; alone = tt }
-fails_to_roll_back w Idle e i = i
-fails_to_roll_back w Committing e i = i
-fails_to_roll_back w Halted e i = i
-fails_to_roll_back w Stopped e i = i
-
-begins_commit : {m : Machine} (w : World m) (st : Stage) → w.stage ≡ st → Invariant w → Invariant (commit_begun w st)
-begins_commit {m} w Writing e i =
-    record {
-      sound = i.sound;
-      there = (i.there.0, inl i.there.1);
-      left = λ x h.
-          ⊎_elim (λ (a : w.may x). inl (subst (λ s. LeftAt w s x) e (i.left x a))) (λ (b : x ≡ after m w.base (w.log ++ w.batch)). inr b) h;
-      order = i.order;
-      told = i.told;
-      alone = tt;
-    }
-begins_commit w Idle e i = i
-begins_commit w Committing e i = i
-begins_commit w Halted e i = i
-begins_commit w Stopped e i = i
-
-fails_commit : {m : Machine} (w : World m) (st : Stage) → w.stage ≡ st → Invariant w → Invariant (commit_failed w st)
-fails_commit w Committing e i =
-    record { sound = i.sound; there = i.there; left = λ x h. subst (λ s. LeftAt w s x) e (i.left x h); order = i.order; told = i.told; alone = tt }
-fails_commit w Idle e i = i
-fails_commit w Writing e i = i
-fails_commit w Halted e i = i
-fails_commit w Stopped e i = i
-
-commits : {m : Machine} (w : World m) (st : Stage) → Invariant w → Invariant (commit_done w st)
-commits {m} w Committing i =
-    record {
-      sound = i.sound;
-      there = (after m w.base (w.log ++ w.batch), refl);
-      left = λ x h. h;
-      order = (i.order.0, omega (arith, i.order.1, length-append w.log w.batch));
-      told = held_in_more m w.base w.log w.batch w.receipts i.told;
-      alone = tt;
-    }
-commits w Idle i = i
-commits w Writing i = i
-commits w Halted i = i
-commits w Stopped i = i
-
--- all of the log has its receipts
-receipts_held : {m : Machine} (w : World m) → Invariant w → AllByRecursion (IsIn m w.base w.log) (w.receipts ++ receipts_of m w.opening (w.published - w.opening) (after m w.base (take w.published w.log)) (drop w.published w.log))
-receipts_held {m} w i =
-    let n : length (take w.published w.log) ≡ w.opening + (w.published - w.opening) = omega (arith, length-take w.published w.log, i.order) in
-    let new = receipts_in m w.base w.opening (w.published - w.opening) (take w.published w.log) (drop w.published w.log) n in
-    all_joined (IsIn m w.base w.log) w.receipts (receipts_of m w.opening (w.published - w.opening) (after m w.base (take w.published w.log)) (drop w.published w.log)) i.told
-    (subst (λ l. AllByRecursion (IsIn m w.base l) (receipts_of m w.opening (w.published - w.opening) (after m w.base (take w.published w.log)) (drop w.published w.log))) (take-append-drop w.published w.log) new)
-
-publishes : {m : Machine} (w : World m) (st : Stage) → Invariant w → Invariant (published_in w st)
-publishes w Stopped i = i
-publishes w Idle i = record { sound = i.sound; there = i.there; left = i.left; order = (omega (arith, i.order), omega arith); told = receipts_held w i; alone = i.alone }
-publishes w Writing i = record { sound = i.sound; there = i.there; left = i.left; order = (omega (arith, i.order), omega arith); told = receipts_held w i; alone = i.alone }
-publishes w Committing i = record { sound = i.sound; there = i.there; left = i.left; order = (omega (arith, i.order), omega arith); told = receipts_held w i; alone = i.alone }
-publishes w Halted i = record { sound = i.sound; there = i.there; left = i.left; order = (omega (arith, i.order), omega arith); told = receipts_held w i; alone = i.alone }
-
-dispatches : {m : Machine} (w : World m) (st : Stage) (t : m.Task) → Invariant w → Invariant (dispatch w st t)
-dispatches w Stopped t i = i
-dispatches {m} w Idle t i = either (m.is_open (after m w.base w.log) t) (record w { dispatched = t ∷ w.dispatched }) w (record { sound = i.sound; there = i.there; left = i.left; order = i.order; told = i.told; alone = i.alone }) i
-dispatches {m} w Writing t i = either (m.is_open (after m w.base w.log) t) (record w { dispatched = t ∷ w.dispatched }) w (record { sound = i.sound; there = i.there; left = i.left; order = i.order; told = i.told; alone = i.alone }) i
-dispatches {m} w Committing t i = either (m.is_open (after m w.base w.log) t) (record w { dispatched = t ∷ w.dispatched }) w (record { sound = i.sound; there = i.there; left = i.left; order = i.order; told = i.told; alone = i.alone }) i
-dispatches {m} w Halted t i = either (m.is_open (after m w.base w.log) t) (record w { dispatched = t ∷ w.dispatched }) w (record { sound = i.sound; there = i.there; left = i.left; order = i.order; told = i.told; alone = i.alone }) i
-
-stops : {m : Machine} (w : World m) (found : m.Book) → w.may found → Invariant w → Invariant (stopped w found)
-stops {m} w found h i =
-    record {
-      sound = i.sound;
-      there = (found, refl);
-      left = λ x e. subst (λ y. (y ≡ after m w.base w.log) ⊎ (y ≡ after m w.base (w.log ++ w.batch))) (sym e) (left_is w w.stage found (i.left found h));
-      order = i.order;
-      told = i.told;
-      alone = λ x y a b. a ∙ sym b;
-    }
-
-opens : {m : Machine} (w : World m) (log : List (Entry m)) → TakesOver w log → Invariant w → Invariant (opened w log)
-opens w log t i = record { sound = i.sound; there = i.there; left = t.is_found; order = (omega arith, omega arith); told = t.acknowledged; alone = tt }
-
-took_over : {m : Machine} (w : World m) (st : Stage) → w.stage ≡ st → Invariant w → OpensAt w st
-took_over w Idle e i = tt
-took_over w Writing e i = tt
-took_over w Committing e i = tt
-took_over w Halted e i = tt
-took_over {m} w Stopped e i =
-    let alone = subst (λ s. AloneAt m w.may s) e i.alone in (
-      λ h. record { is_found = λ x a. alone x (after m w.base w.log) a h; whole = inl refl; acknowledged = i.told },
-      λ no. record {
-        is_found = λ x a.
-            ⊎_elim (λ (b : x ≡ after m w.base w.log). absurd (no (subst w.may b a))) (λ (b : x ≡ after m w.base (w.log ++ w.batch)). b)
-            (left_is w w.stage x (i.left x a));
-        whole = inr refl;
-        acknowledged = held_in_more m w.base w.log w.batch w.receipts i.told;
+        some = i.there;
+        each = λ x h.
+            ⊎_elim (λ (e : x ≡ after u w.base w.log).
+            record {
+              sound = subst (IsSound u) (sym e) (after_keeps u w.base w.log f sound);
+              kept = w.log;
+              book_is = e;
+              whole = inl refl;
+              beginning = (w.batch, refl);
+              acknowledged = i.told;
+            })
+            (λ (e : x ≡ after u w.base (w.log ++ w.batch)).
+            record {
+              sound = subst (IsSound u) (sym e) (after_keeps u w.base (w.log ++ w.batch) f sound);
+              kept = w.log ++ w.batch;
+              book_is = e;
+              whole = inr refl;
+              beginning = ([], sym (append-nil (w.log ++ w.batch)));
+              acknowledged = held_in_more u w.base w.log w.batch w.receipts i.told;
+            })
+            (left_is u w w.stage x (i.left x h));
       },
     )
 
-reopens : {m : Machine} (P : World m → Type 0) → ((v : World m) → Invariant v → P v) → (w : World m) (st : Stage) → w.stage ≡ st → Invariant w → Reopening w st P
-reopens P f w Idle e i = f w i
-reopens P f w Writing e i = f w i
-reopens P f w Committing e i = f w i
-reopens P f w Halted e i = f w i
-reopens P f w Stopped e i =
-    let t = took_over w Stopped e i in
-    (λ h. f (opened w w.log) (opens w w.log (t.0 h) i), λ no. f (opened w (w.log ++ w.batch)) (opens w (w.log ++ w.batch) (t.1 no) i))
+-- Each step keeps it.
 
--- wherever a step may lead
-steps_on : {m : Machine} (P : World m → Type 0) → ((v : World m) → Invariant v → P v) → (w : World m) → Invariant w → (s : Step m) → Next w s P
-steps_on P f w i (Submit c) = f (submitted w w.stage (Some c)) (submits w w.stage (Some c) i)
-steps_on {m} P f w i (Report n o) =
-    let c = option_map (λ t. m.report t o) (slice_get w.dispatched n) in f (submitted w w.stage c) (submits w w.stage c i)
-steps_on P f w i (Take k) = f (taken w w.stage k) (takes w w.stage k refl i)
-steps_on P f w i Write = f w i
-steps_on P f w i WriteFails = f (rolled_back w w.stage) (rolls_back w w.stage refl i)
-steps_on P f w i CommitBegins = f (commit_begun w w.stage) (begins_commit w w.stage refl i)
-steps_on P f w i CommitDone = f (commit_done w w.stage) (commits w w.stage i)
-steps_on P f w i CommitFails = f (commit_failed w w.stage) (fails_commit w w.stage refl i)
-steps_on P f w i RefusedRollback = f (not_rolled_back w w.stage) (fails_to_roll_back w w.stage refl i)
-steps_on P f w i Publish = f (published_in w w.stage) (publishes w w.stage i)
-steps_on P f w i (Dispatch t) = f (dispatch w w.stage t) (dispatches w w.stage t i)
-steps_on P f w i (Crash found) = λ h. f (stopped w found) (stops w found h i)
-steps_on P f w i Reopen = reopens P f w w.stage refl i
+-- a world that differs in what the invariant doesn't speak of
+submits : (u : Rules) (base : Book) (w : World) (st : Stage) (c : Command) → Invariant u base w → Invariant u base (submitted w st c)
+submits u base w Stopped c i = i
+submits u base w Idle c i = record { based = i.based; there = i.there; left = i.left; order = i.order; told = i.told; alone = i.alone }
+submits u base w Writing c i = record { based = i.based; there = i.there; left = i.left; order = i.order; told = i.told; alone = i.alone }
+submits u base w Committing c i = record { based = i.based; there = i.there; left = i.left; order = i.order; told = i.told; alone = i.alone }
+submits u base w Halted c i = record { based = i.based; there = i.there; left = i.left; order = i.order; told = i.told; alone = i.alone }
 
-always : {m : Machine} (P : World m → Type 0) → ((v : World m) → Invariant v → P v) → (ss : List (Step m)) (w : World m) → Invariant w → Always P ss w
-always P f [] w i = f w i
-always P f (s ∷ ss) w i = steps_on (Always P ss) (always P f ss) w i s
+reports : (u : Rules) (base : Book) (w : World) (st : Stage) (o : Option Attempt) (v : Value) (at : ℕ) → Invariant u base w → Invariant u base (reported w st o v at)
+reports u base w st None v at i = i
+reports u base w st (Some a) v at i = submits u base w st (command.Complete a.run a.event a.attempt v at) i
 
-pub safe : (m : Machine) → Kept m → WorldIsSafe m
-safe m k base ss s = always IsSafe (is_safe m k) ss (first m base) (at_first m base s)
+either : (u : Rules) (base : Book) (b : Bool) (new old : World) → Invariant u base new → Invariant u base old → Invariant u base (if b then new else old)
+either u base true new old i j = i
+either u base false new old i j = j
 
-pub opens_well : (m : Machine) → WorldOpensWell m
-opens_well m base ss s = always OpensWell (λ v i. took_over v v.stage refl i) ss (first m base) (at_first m base s)
+takes : (u : Rules) (base : Book) (w : World) (st : Stage) (k : ℕ) → w.stage ≡ st → Invariant u base w → Invariant u base (taken w st k)
+takes u base w Idle k e i =
+    either u base (nat_le 1 k && nat_le k batch_limit && nat_le k (length w.inbox))
+    (record w { batch = take k w.inbox; inbox = drop k w.inbox; stage = Writing }) w
+    (record { based = i.based; there = i.there; left = λ x h. subst (λ s. LeftAt u w s x) e (i.left x h); order = i.order; told = i.told; alone = tt }) i
+takes u base w Writing k e i = i
+takes u base w Committing k e i = i
+takes u base w Halted k e i = i
+takes u base w Stopped k e i = i
+
+rolls_back : (u : Rules) (base : Book) (w : World) (st : Stage) → w.stage ≡ st → Invariant u base w → Invariant u base (rolled_back w st)
+rolls_back u base w Writing e i =
+    record { based = i.based; there = i.there; left = λ x h. subst (λ s. LeftAt u w s x) e (i.left x h); order = i.order; told = i.told; alone = tt }
+rolls_back u base w Idle e i = i
+rolls_back u base w Committing e i = i
+rolls_back u base w Halted e i = i
+rolls_back u base w Stopped e i = i
+
+fails_to_roll_back : (u : Rules) (base : Book) (w : World) (st : Stage) → w.stage ≡ st → Invariant u base w → Invariant u base (not_rolled_back w st)
+fails_to_roll_back u base w Writing e i =
+    record { based = i.based; there = i.there; left = λ x h. inl (subst (λ s. LeftAt u w s x) e (i.left x h)); order = i.order; told = i.told; alone = tt }
+fails_to_roll_back u base w Idle e i = i
+fails_to_roll_back u base w Committing e i = i
+fails_to_roll_back u base w Halted e i = i
+fails_to_roll_back u base w Stopped e i = i
+
+begins_commit : (u : Rules) (base : Book) (w : World) (st : Stage) → w.stage ≡ st → Invariant u base w → Invariant u base (commit_begun u w st)
+begins_commit u base w Writing e i =
+    let more = after u w.base (w.log ++ w.batch) in
+    record {
+      based = i.based;
+      there = (i.there.0, Contains-append_left w.may (more ∷ []) i.there.0 i.there.1);
+      left = λ x h.
+          ⊎_elim (λ (a : Contains w.may x). inl (subst (λ s. LeftAt u w s x) e (i.left x a))) (λ (b : Contains (more ∷ []) x). inr (of_one more x b))
+          (Contains-append_cases w.may (more ∷ []) x h);
+      order = i.order;
+      told = i.told;
+      alone = tt;
+    }
+begins_commit u base w Idle e i = i
+begins_commit u base w Committing e i = i
+begins_commit u base w Halted e i = i
+begins_commit u base w Stopped e i = i
+
+fails_commit : (u : Rules) (base : Book) (w : World) (st : Stage) → w.stage ≡ st → Invariant u base w → Invariant u base (commit_failed w st)
+fails_commit u base w Committing e i =
+    record { based = i.based; there = i.there; left = λ x h. subst (λ s. LeftAt u w s x) e (i.left x h); order = i.order; told = i.told; alone = tt }
+fails_commit u base w Idle e i = i
+fails_commit u base w Writing e i = i
+fails_commit u base w Halted e i = i
+fails_commit u base w Stopped e i = i
+
+commits : (u : Rules) (base : Book) (w : World) (st : Stage) → Invariant u base w → Invariant u base (commit_done u w st)
+commits u base w Committing i =
+    let kept = after u w.base (w.log ++ w.batch) in
+    record {
+      based = i.based;
+      there = (kept, in_one kept);
+      left = λ x h. of_one kept x h;
+      order = (i.order.0, omega (arith, i.order.1, length-append w.log w.batch));
+      told = held_in_more u w.base w.log w.batch w.receipts i.told;
+      alone = tt;
+    }
+commits u base w Idle i = i
+commits u base w Writing i = i
+commits u base w Halted i = i
+commits u base w Stopped i = i
+
+-- all of the log has its receipts
+receipts_held : (u : Rules) (base : Book) (w : World) → Invariant u base w → AllByRecursion (IsIn u w.base w.log) (w.receipts ++ receipts_from w.opening (suc (w.published - w.opening)) (drop w.published w.log) (drop w.published (replies u w.base w.log)))
+receipts_held u base w i =
+    let told = replies u w.base w.log in
+    let here : length (take w.published w.log) ≡ w.published = omega (arith, length-take w.published w.log, i.order.1) in
+    let there : length (take w.published told) ≡ w.published = omega (arith, length-take w.published told, length-replies u w.base w.log, i.order.1) in
+    let new = receipts_at w.opening (suc (w.published - w.opening)) (take w.published w.log) (drop w.published w.log) (take w.published told) (drop w.published told) (omega (arith, here, i.order.0)) (there ∙ sym here) in
+    let new1 = subst (λ l. AllByRecursion (IsAt l (take w.published told ++ drop w.published told)) (receipts_from w.opening (suc (w.published - w.opening)) (drop w.published w.log) (drop w.published told))) (take-append-drop w.published w.log) new in
+    let new2 = subst (λ l. AllByRecursion (IsAt w.log l) (receipts_from w.opening (suc (w.published - w.opening)) (drop w.published w.log) (drop w.published told))) (take-append-drop w.published told) new1 in
+    all_joined (IsIn u w.base w.log) w.receipts (receipts_from w.opening (suc (w.published - w.opening)) (drop w.published w.log) (drop w.published told)) i.told
+    (all_into (IsAt w.log told) (IsIn u w.base w.log) (λ r h. record { command = h.0; reply = h.1 }) (receipts_from w.opening (suc (w.published - w.opening)) (drop w.published w.log) (drop w.published told)) new2)
+
+publishes : (u : Rules) (base : Book) (w : World) (st : Stage) → Invariant u base w → Invariant u base (published_in u w st)
+publishes u base w Stopped i = i
+publishes u base w Idle i = record { based = i.based; there = i.there; left = i.left; order = (omega (arith, i.order), omega arith); told = receipts_held u base w i; alone = i.alone }
+publishes u base w Writing i = record { based = i.based; there = i.there; left = i.left; order = (omega (arith, i.order), omega arith); told = receipts_held u base w i; alone = i.alone }
+publishes u base w Committing i = record { based = i.based; there = i.there; left = i.left; order = (omega (arith, i.order), omega arith); told = receipts_held u base w i; alone = i.alone }
+publishes u base w Halted i = record { based = i.based; there = i.there; left = i.left; order = (omega (arith, i.order), omega arith); told = receipts_held u base w i; alone = i.alone }
+
+handed_out : (u : Rules) (base : Book) (w : World) (a : Attempt) → Invariant u base w → Invariant u base (if is_open_task (after u w.base w.log) a then record w { dispatched = a ∷ w.dispatched } else w)
+handed_out u base w a i =
+    either u base (is_open_task (after u w.base w.log) a) (record w { dispatched = a ∷ w.dispatched }) w (record { based = i.based; there = i.there; left = i.left; order = i.order; told = i.told; alone = i.alone }) i
+
+dispatches : (u : Rules) (base : Book) (w : World) (st : Stage) (a : Attempt) → Invariant u base w → Invariant u base (dispatched_in u w st a)
+dispatches u base w Stopped a i = i
+dispatches u base w Idle a i = handed_out u base w a i
+dispatches u base w Writing a i = handed_out u base w a i
+dispatches u base w Committing a i = handed_out u base w a i
+dispatches u base w Halted a i = handed_out u base w a i
+
+stops : (u : Rules) (base : Book) (w : World) (found : Book) → Contains w.may found → Invariant u base w → Invariant u base (stopped w found)
+stops u base w found h i =
+    record {
+      based = i.based;
+      there = (found, in_one found);
+      left = λ x a. subst (IsEither u w) (sym (of_one found x a)) (left_is u w w.stage found (i.left found h));
+      order = i.order;
+      told = i.told;
+      alone = λ x y a b. of_one found x a ∙ sym (of_one found y b);
+    }
+
+-- Openings.
+
+took_over : (u : Rules) (base : Book) (w v : World) (st : Stage) → w.stage ≡ st → st ≡ Stopped → Invariant u base w → Opens u w st v → TakesOver u w v
+took_over u base w v Idle e n i o = absurd (cc n)
+took_over u base w v Writing e n i o = absurd (cc n)
+took_over u base w v Committing e n i o = absurd (cc n)
+took_over u base w v Halted e n i o = absurd (cc n)
+took_over u base w v Stopped e n i o =
+    let alone = subst (λ s. AloneAt w.may s) e i.alone in
+    ⊎_elim (λ (h : Contains w.may (after u w.base w.log) × (v ≡ opened w w.log)).
+    subst (TakesOver u w) (sym h.1) (record { is_found = λ x a. alone x (after u w.base w.log) a h.0; whole = inl refl; acknowledged = i.told }))
+    (λ (h : (Contains w.may (after u w.base w.log) → ⊥) × (v ≡ opened w (w.log ++ w.batch))).
+    subst (TakesOver u w) (sym h.1) (record {
+      is_found = λ x a.
+          ⊎_elim (λ (b : x ≡ after u w.base w.log). absurd (h.0 (subst (Contains w.may) b a))) (λ (b : x ≡ after u w.base (w.log ++ w.batch)). b)
+          (left_is u w w.stage x (i.left x a));
+      whole = inr refl;
+      acknowledged = held_in_more u w.base w.log w.batch w.receipts i.told;
+    })) o
+
+opens : (u : Rules) (base : Book) (w : World) (log : List Command) → TakesOver u w (opened w log) → Invariant u base w → Invariant u base (opened w log)
+opens u base w log t i =
+    record { based = i.based; there = i.there; left = t.is_found; order = (omega arith, omega arith); told = t.acknowledged; alone = tt }
+
+reopens : (u : Rules) (base : Book) (w v : World) (st : Stage) → w.stage ≡ st → Invariant u base w → Opens u w st v → Invariant u base v
+reopens u base w v Idle e i o = subst (Invariant u base) (sym o) i
+reopens u base w v Writing e i o = subst (Invariant u base) (sym o) i
+reopens u base w v Committing e i o = subst (Invariant u base) (sym o) i
+reopens u base w v Halted e i o = subst (Invariant u base) (sym o) i
+reopens u base w v Stopped e i o =
+    let t = took_over u base w v Stopped e refl i o in
+    ⊎_elim (λ (h : Contains w.may (after u w.base w.log) × (v ≡ opened w w.log)).
+    subst (Invariant u base) (sym h.1) (opens u base w w.log (subst (TakesOver u w) h.1 t) i))
+    (λ (h : (Contains w.may (after u w.base w.log) → ⊥) × (v ≡ opened w (w.log ++ w.batch))).
+    subst (Invariant u base) (sym h.1) (opens u base w (w.log ++ w.batch) (subst (TakesOver u w) h.1 t) i)) o
+
+-- wherever a step leads
+step_on : (u : Rules) (base : Book) (w : World) (s : Step) (v : World) → Invariant u base w → Goes u w s v → Invariant u base v
+step_on u base w (Submit c) v i g = subst (Invariant u base) (sym g) (submits u base w w.stage c i)
+step_on u base w (Report n value at) v i g = subst (Invariant u base) (sym g) (reports u base w w.stage (slice_get w.dispatched n) value at i)
+step_on u base w (Take k) v i g = subst (Invariant u base) (sym g) (takes u base w w.stage k refl i)
+step_on u base w Write v i g = subst (Invariant u base) (sym g) i
+step_on u base w WriteFails v i g = subst (Invariant u base) (sym g) (rolls_back u base w w.stage refl i)
+step_on u base w CommitBegins v i g = subst (Invariant u base) (sym g) (begins_commit u base w w.stage refl i)
+step_on u base w CommitDone v i g = subst (Invariant u base) (sym g) (commits u base w w.stage i)
+step_on u base w CommitFails v i g = subst (Invariant u base) (sym g) (fails_commit u base w w.stage refl i)
+step_on u base w RefusedRollback v i g = subst (Invariant u base) (sym g) (fails_to_roll_back u base w w.stage refl i)
+step_on u base w Publish v i g = subst (Invariant u base) (sym g) (publishes u base w w.stage i)
+step_on u base w (Dispatch a) v i g = subst (Invariant u base) (sym g) (dispatches u base w w.stage a i)
+step_on u base w (Crash found) v i g = subst (Invariant u base) (sym g.1) (stops u base w found g.0 i)
+step_on u base w Reopen v i g = reopens u base w v w.stage refl i g
+
+-- wherever steps lead
+steps_on : (u : Rules) (base : Book) (ss : List Step) (w v : World) → Invariant u base w → Comes u w ss v → Invariant u base v
+steps_on u base [] w v i c = subst (Invariant u base) (sym c) i
+steps_on u base (s ∷ ss) w v i (x, (g, c)) = steps_on u base ss x v (step_on u base w s x i g) c
+
+pub safe : (u : Rules) → ReadsWellFormed u → WorldIsSafe u
+safe u f base ss w s c = is_safe u base f w s (steps_on u base ss (first base) w (at_first u base) c)
+
+pub opens_well : (u : Rules) → WorldOpensWell u
+opens_well u base ss w v c n g = took_over u base w v w.stage refl n (steps_on u base ss (first base) w (at_first u base) c) g

@@ -1,0 +1,174 @@
+-- What opening finds, and why it is refused.
+use Rattle.std.proofs.Common.{◌≡◌, ◌≢◌, inl, inr, ℤ, pos, negsuc, List, [], map, Bool, true, false, if◌then◌else◌, nat_eq, None, Ok, Err, Result, OnOk, IfErr, refl, sym, ap, subst, ◌∙◌}
+use Rattle.std.specs.Prelude.{IfOk}
+use Rattle.sqlite.specs.declared.error.ErrorCode.{ErrorCode}
+use Rattle.sqlite.specs.declared.error.ErrorCode.TheVariants as code
+use Rattle.sqlite.specs.declared.error.Error.{Error}
+use Rattle.sqlite.specs.declared.error.Error.TheVariants.{SqliteFailure}
+use Rattle.sqlite_trees.specs.declared.store.Store.{Ghosts}
+use Rattle.sqlite_trees.specs.declared.error.StoreError.{StoreError}
+use Rattle.sqlite_trees.specs.declared.error.StoreError.TheVariants.{OutOfMemory, Io, Corrupt, Full, Broken, Unstorable}
+use Rattle.sqlite.specs.State.{State, Fails, QueriesRow, store_error}
+use Rattle.sqlite.specs.declared.types.Value.{Value}
+use Rattle.sqlite.specs.declared.types.Value.TheVariants.{Int}
+use Rattle.sqlite.specs.Order.{Row}
+use Rattle.sqlite_value.specs.Order.{column}
+use Rattle.flow_base.specs.declared.book.Run.{Run}
+use Rattle.flow_rows.specs.Rows.{Tables, run_at, of_run, event_row, timer_row, timers_left, task_row}
+use Rattle.flow_rows.specs.Told.{Tells}
+use Rattle.flow_tables.specs.declared.open.OpenFault.{OpenFault}
+use Rattle.flow_tables.specs.declared.open.OpenFault.TheVariants.{NoMemory, StoreRefused, NotOurs, BadVersion, Damaged}
+use Rattle.flow_tables.specs.declared.fault.StoreFault.{StoreFault}
+use Rattle.flow_tables.specs.declared.fault.StoreFault.TheVariants as read
+use Rattle.flow_tables.specs.Layout.{format_sql}
+use Rattle.flow_tables.specs.States.{HasTables, HasEnded, IsAtRest, IsRefusal, no_tables}
+use Rattle.flow_tables.specs.Reads.{IsRowsFault}
+use Rattle.flow_tables.proofs.Leaves.{rest_ended, rolled_back_ended}
+use Rattle.flow_tables.proofs.Transactions.{ends_again}
+use Rattle.flow_tables.proofs.Finding.{read_leaves, format_answer, at_rest}
+use Rattle.flow_check.specs.Language.{is_program}
+use Rattle.flow_model.specs.Book.{Book}
+use Rattle.flow_rows.proofs.Laws.{book_undamaged}
+use Rattle.flow_tables.specs.Opening.{opening_fault, read_fault_of, empty_book, IsOfStore, IsFirstDamage, StandFor, IsMet, HasCause}
+
+---- The faults of the store
+
+code_of_store : (c : ErrorCode) → IsOfStore (opening_fault (SqliteFailure c))
+code_of_store code.OutOfMemory = tt
+code_of_store code.SystemIoFailure = tt
+code_of_store code.DatabaseCorrupt = tt
+code_of_store code.DiskFull = tt
+code_of_store code.TooBig = tt
+code_of_store code.Closed = tt
+code_of_store _ = tt
+
+pub of_store : (e : Error) → IsOfStore (opening_fault e)
+of_store (SqliteFailure c) = code_of_store c
+of_store _ = tt
+
+pub caused : {S : Type 0} (g : Ghosts S) (e : Error) → IsMet g e → HasCause g (opening_fault e)
+caused g e met = by_fault (opening_fault e) refl
+  where
+    by_fault : (f : OpenFault) → opening_fault e ≡ f → HasCause g f
+    by_fault NoMemory is = tt
+    by_fault StoreRefused is = inr (e, met, is)
+    by_fault NotOurs is = (e, met, is)
+    by_fault BadVersion is = tt
+    by_fault (Damaged d) is = tt
+
+told_otherwise : (c : StoreError) → opening_fault (store_error c) ≢ NotOurs
+told_otherwise OutOfMemory is = let e = is in cc
+told_otherwise Io is = let e = is in cc
+told_otherwise Corrupt is = let e = is in cc
+told_otherwise Full is = let e = is in cc
+told_otherwise Broken is = let e = is in cc
+told_otherwise Unstorable is = let e = is in cc
+
+-- what is told as E81 is no failure of the store
+pub no_failure : (old new : State) (e : Error) → opening_fault e ≡ NotOurs → (x : Error) → e ≡ x → ¬ Fails old new ⊥ x
+no_failure old new e is x same fails = told_otherwise fails.0 (subst (λ y. opening_fault y ≡ NotOurs) fails.1 (subst (λ y. opening_fault y ≡ NotOurs) same is))
+
+pub refusal_met : {S : Type 0} (g : Ghosts S) (e : Error) → IsRefusal g e → IsMet g e
+refusal_met g e h = (h.0, h.1, h.2, inl h.3)
+
+pub read_caused : {S : Type 0} (g : Ghosts S) (f : StoreFault) → IsRowsFault g f → HasCause g (read_fault_of f)
+read_caused g read.NoMemory h = tt
+read_caused g (read.Refused e) h = caused g e (h.0, h.1, h.2, inr (inr (inl h.3)))
+
+---- Reading the format
+
+module _ (old new : State) where
+  pub format_rests : (r : Result Row Error) → QueriesRow format_sql [] old new r → IsAtRest old → HasEnded old new
+  format_rests r h rest = elim (read_leaves old new r h) [
+    | inl same ↦ rest_ended old new rest (inl same)
+    | inr failed ↦ rolled_back_ended old new failed.2.3
+  ]
+
+  pub is_ours : (row : Row) → HasTables old.now → QueriesRow format_sql [] old new (Ok row) → column row 0 ≡ Int (pos 1)
+  is_ours row has h = ap (λ r. column r 0) (format_answer old new row has h)
+
+same_number : {m n : ℤ} → Int m ≡ Int n → m ≡ n
+same_number e = cc
+
+-- the number is ours, so it is no other
+pub not_other : {A : Type 0} (v : Value) → v ≡ Int (pos 1) → (n : ℤ) × (v ≡ Int n) × (n ≢ pos 1) → A
+not_other v ours other = absurd (other.2 (same_number (sym other.1 ∙ ours)))
+
+---- Results
+
+pub if_ok : {T E : Type 0} (P Q : T → Type 0) (r : Result T E) → ((x : T) → P x → Q x) → IfOk r P → IfOk r Q
+if_ok P Q (Ok x) f h = f x h
+if_ok P Q (Err e) f h = tt
+
+pub if_err : {T E : Type 0} (P Q : E → Type 0) (r : Result T E) → ((e : E) → P e → Q e) → IfErr r P → IfErr r Q
+if_err P Q (Ok x) f h = tt
+if_err P Q (Err e) f h = f e h
+
+pub same_fault : {T : Type 0} {a b : OpenFault} → ◌≡◌ {A = Result T OpenFault} (Err a) (Err b) → a ≡ b
+same_fault e = cc
+
+pub any_ok : {T E A : Type 0} (r : Result T E) → A → OnOk r A
+any_ok (Ok x) a = a
+any_ok (Err e) a = tt
+
+pub any_err : {T E : Type 0} (P : E → Type 0) (r : Result T E) → ((e : E) → P e) → IfErr r P
+any_err P (Ok x) f = tt
+any_err P (Err e) f = f e
+
+pub both_err : {T E : Type 0} (P Q : E → Type 0) (r : Result T E) → IfErr r P → IfErr r Q → IfErr r (λ e. P e × Q e)
+both_err P Q (Ok x) p q = tt
+both_err P Q (Err e) p q = (p, q)
+
+pub never_told : {T : Type 0} (b : OpenFault) (r : Result T OpenFault) → IfErr r (λ f. f ≢ b) → r ≢ Err b
+never_told b (Ok x) h is = let e = is in cc
+never_told b (Err f) h is = h (same_fault is)
+
+pub not_version : (f : OpenFault) → IsOfStore f → f ≢ BadVersion
+not_version f of is = subst IsOfStore is of
+
+---- Damages
+
+-- what the store refuses is no damage
+pub harmless : (t : Tables) (f : OpenFault) → IsOfStore f → IsFirstDamage t f
+harmless t NoMemory of = tt
+harmless t StoreRefused of = tt
+harmless t NotOurs of = tt
+harmless t BadVersion of = tt
+harmless t (Damaged d) of = absurd of
+
+-- tables that stand for a book have none
+pub undamaged : (t : Tables) (b : Book) → StandFor t b → (f : OpenFault) → f ≢ BadVersion → IsFirstDamage t f → IsOfStore f
+undamaged t b stand NoMemory other first = tt
+undamaged t b stand StoreRefused other first = tt
+undamaged t b stand NotOurs other first = tt
+undamaged t b stand BadVersion other first = other refl
+undamaged t b stand (Damaged d) other first =
+    absurd (let some = first.2 in let none = book_undamaged is_program first.0 b stand.texts stand.runs (first.1 ∙ stand.same) in cc)
+
+---- One call after another
+
+pub rests_on : (a b c : State) → HasEnded a b → (IsAtRest b → HasEnded b c) → HasEnded a c
+rests_on a b c one two = ends_again a b c one (two (at_rest a b one))
+
+---- No tables
+
+none_there : {A : Type 0} (f : Run → List A) (z : ℤ) → [] ≡ of_run (run_at empty_book z) f
+none_there f (pos n) = either (nat_eq n 0)
+  where
+    either : (b : Bool) → [] ≡ of_run (if b then None else None) f
+    either true = refl
+    either false = refl
+none_there f (negsuc n) = refl
+
+-- Tables without rows tell the empty book.
+pub none_tell : Tells no_tables empty_book
+none_tell = record {
+  same = λ i. record {
+    texts = [];
+    runs = [];
+    events = λ z. none_there (λ r. map (event_row z) r.history) z i;
+    timers = λ z. none_there (λ r. map (timer_row z) (timers_left r.history)) z i;
+    outbox = λ z. none_there (λ r. map (task_row z) r.tasks) z i;
+  };
+  runs = tt;
+}

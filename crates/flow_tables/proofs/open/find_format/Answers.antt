@@ -1,0 +1,48 @@
+use Rattle.std.proofs.Common.{◌≡◌, inl, inr, Err, sym, ap, subst}
+use Rattle.sqlite.specs.Held.{state}
+use Rattle.flow_tables.specs.Opening.{opening_fault, IsOfStore, HasCause}
+use Rattle.flow_tables.specs.declared.open.OpenFault.{OpenFault}
+use Rattle.flow_tables.proofs.Finding.{answered}
+use Rattle.flow_tables.proofs.Opened.{of_store, caused, format_rests, is_ours, not_other, same_fault, if_err}
+use Rattle.flow_tables.proofs.open.find_format.Goals as goal
+
+pub returns-in-Ok-check_format-clause-ended : goal.returns-in-Ok-check_format-clause-ended
+returns-in-Ok-check_format-clause-ended g c clean rest =
+    format_rests (state g.S.Store c.args.conn.now) (state g.S.Store c.format_row.new.conn) _ (c.in-Ok.ensures.queries clean) rest
+
+pub returns-in-Ok-clause-version : goal.returns-in-Ok-clause-version
+returns-in-Ok-clause-version g c clean e =
+    let v = c.in-Err-check_format.ensures.version (ap Err (same_fault e)) in
+    (c.args.conn.now, _, v.0, c.in-Ok.ensures.queries clean, v.1, v.2)
+
+pub returns-in-Ok-clause-ours : goal.returns-in-Ok-clause-ours
+returns-in-Ok-clause-ours g c clean has =
+    let old = state g.S.Store c.args.conn.now in
+    let new = state g.S.Store c.format_row.new.conn in
+    let asked = c.in-Ok.ensures.queries clean in
+    let ours = is_ours old new _ (has (answered old new _ asked).0.was_open) asked in
+    elim c.in-Err-check_format.ensures.cause [
+      | inl other ↦ not_other _ ours (c.in-Err-check_format.ensures.version (ap Err other))
+      | inr misread ↦ subst IsOfStore (sym misread.2) (of_store misread.0)
+    ]
+
+pub returns-in-Ok-clause-ended : goal.returns-in-Ok-clause-ended
+returns-in-Ok-clause-ended g c clean rest =
+    format_rests (state g.S.Store c.args.conn.now) (state g.S.Store c.format_row.new.conn) _ (c.in-Ok.ensures.queries clean) rest
+
+pub returns-in-Ok-clause-cause : goal.returns-in-Ok-clause-cause
+returns-in-Ok-clause-cause g c clean = elim c.in-Err-check_format.ensures.cause [
+  | inl other ↦ subst (HasCause g.S.Store) (sym other) tt
+  | inr misread ↦ subst (HasCause g.S.Store) (sym misread.2)
+      (caused g.S.Store misread.0 (c.args.conn.now, c.format_row.new.conn, _, inr (inr (inr (_, c.in-Ok.ensures.queries clean, misread.1)))))
+]
+
+pub returns-clause-ended : goal.returns-clause-ended
+returns-clause-ended g c clean rest =
+    format_rests (state g.S.Store c.args.conn.now) (state g.S.Store c.format_row.new.conn) _ (c.in-Err.ensures.queries clean) rest
+
+pub returns-clause-cause : goal.returns-clause-cause
+returns-clause-cause g c clean =
+    if_err (λ (f : OpenFault). f ≡ opening_fault c.in-Err.error) (HasCause g.S.Store) c.no_format.result
+    (λ f is. subst (HasCause g.S.Store) (sym is) (caused g.S.Store c.in-Err.error (c.args.conn.now, c.format_row.new.conn, _, inr (inl (c.in-Err.ensures.queries clean)))))
+    c.no_format.ensures.fault
