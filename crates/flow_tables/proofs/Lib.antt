@@ -38,3 +38,4 @@ pub mod WholeTables
 pub mod AnyFile
 pub mod Succession
 pub mod Opened
+pub mod OpenTables

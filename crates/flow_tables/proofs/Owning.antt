@@ -286,10 +286,13 @@ pub commit_unknown : (sure : Type 0) (old new : State) (r : Option Refusal) (b :
     → LeavesWritten sure new b (book_of old.now.trees)
 commit_unknown sure old new r b is none inside own survives clean keeps db may = elim (survives.crash clean db may) [
   | inl before ↦ inl (keeps.stops db before)
-  | inr made ↦ inr (is, record {
-    ours = subst AreOurs (sym made) (own.over (own.whole inside none).0).now.ours;
-    tells = subst (λ d. Tells (tables_in d) (book_of old.now.trees)) (sym made) (own.whole inside none).1;
-  })
+  | inr made ↦ inr (
+    is,
+    record {
+      ours = subst AreOurs (sym made) (own.over (own.whole inside none).0).now.ours;
+      tells = subst (λ d. Tells (tables_in d) (book_of old.now.trees)) (sym made) (own.whole inside none).1;
+    },
+  )
 ]
 
 -- and the book that it showed is kept, where it wasn't
