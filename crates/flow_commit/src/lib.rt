@@ -5,4 +5,6 @@ pub mod batch;
 pub mod keeper;
 pub mod outcome;
 pub mod stamp;
+#[cfg(test)]
+mod tests;
 mod transaction;

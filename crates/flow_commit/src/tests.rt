@@ -1,0 +1,142 @@
+//! Single commands committed over a store in memory, with ample memory.
+use crate::batch::Batch;
+use crate::keeper::Keeper;
+use crate::outcome::Outcome;
+use flow_base::code::Code;
+use flow_base::command::{Command, Reply};
+use flow_base::number::{EventId, Moment, RunId, TextNo};
+use flow_base::sequence::Sequence;
+use flow_base::text::{Key, RawText};
+use flow_base::value::Value;
+use flow_machine::taken::{Receipt, Taken};
+use flow_tables::stored::Tables;
+use sqlite::{Alter, Connection};
+use std::alloc::Global;
+use std::test::Fail;
+
+const A: &str =
+    "workflow a(n: int) { activity c(int, text) -> int; let r = 0; r = call c(n, \"eur\"); return r + 1; }";
+
+fn register(alloc: Global) -> Result<Command, Fail> {
+    Ok(Command::Register(RawText::new(alloc, A)?))
+}
+
+fn start(alloc: Global) -> Result<Command, Fail> {
+    let request = Key::new(alloc, "q")?;
+    let flow = Key::new(alloc, "f")?;
+    let text = TextNo::new(1).ok_or("no text")?;
+    let arguments = Sequence::from_vec(vec![in alloc; Value::Int(7)]?);
+    let at = Moment::new(1000).ok_or("no moment")?;
+    Ok(Command::Start(request, flow, text, arguments, at))
+}
+
+fn complete() -> Result<Command, Fail> {
+    let run = RunId::new(1).ok_or("no run")?;
+    let event = EventId::new(2).ok_or("no event")?;
+    let at = Moment::new(1500).ok_or("no moment")?;
+    Ok(Command::Complete(run, event, 1, Value::Int(41), at))
+}
+
+fn opened<S: Alter>(alloc: Global, conn: Connection<S>) -> Result<Keeper<S>, Fail> {
+    match Tables::open(alloc, conn) {
+        Ok(tables) => Ok(Keeper::over(alloc, tables)),
+        Err((_, _)) => Err(Fail::from("not opened")),
+    }
+}
+
+fn closed<S: Alter>(keeper: Keeper<S>) -> Connection<S> {
+    keeper.into_tables().into_connection()
+}
+
+// Its receipt, where it is kept.
+fn committed<S: Alter>(keeper: &mut Keeper<S>, batch: Batch) -> Option<Receipt> {
+    match keeper.commit(batch) {
+        Outcome::Kept(receipts, stamp) => {
+            stamp.discard();
+            let mut receipts = receipts;
+            receipts.pop()
+        }
+        Outcome::NotApplied(_, _) => None,
+        Outcome::Unknown(_) => None,
+        Outcome::Halted(_) => None,
+    }
+}
+
+fn kept<S: Alter>(
+    alloc: Global,
+    keeper: &mut Keeper<S>,
+    ticket: u64,
+    command: Command,
+) -> Result<Receipt, Fail> {
+    match Batch::one(alloc, Taken { ticket, command }) {
+        Ok(batch) => match committed(keeper, batch) {
+            Some(receipt) => Ok(receipt),
+            None => Err(Fail::from("not kept")),
+        },
+        Err((_, _)) => Err(Fail::from("no batch")),
+    }
+}
+
+fn count<S: Alter>(conn: &mut Connection<S>, sql: &str) -> usize {
+    match conn.query_all(sql, &[]) {
+        Ok(rows) => rows.len(),
+        Err(_) => 99,
+    }
+}
+
+#[test]
+fn receipts_stand_at_their_places(rt: HostRuntime) -> Result<(), Fail> {
+    let alloc = rt.alloc();
+    let mut keeper = opened(alloc, Connection::open_in_memory(alloc)?)?;
+    let first = kept(alloc, &mut keeper, 5, register(alloc)?)?;
+    assert!(rt; first.ticket == 5 && first.place == 1);
+    assert!(rt; matches!(first.reply, Reply::Registered(text) if text.get() == 1));
+    let second = kept(alloc, &mut keeper, 4, start(alloc)?)?;
+    assert!(rt; second.ticket == 4 && second.place == 2);
+    assert!(rt; matches!(second.reply, Reply::Started(run) if run.get() == 1));
+    Ok(())
+}
+
+// After the first two commands the outbox holds the activity, after its report it is empty and the run isn't open.
+#[test]
+fn the_outbox_holds_what_is_open(rt: HostRuntime) -> Result<(), Fail> {
+    let alloc = rt.alloc();
+    let mut keeper = opened(alloc, Connection::open_in_memory(alloc)?)?;
+    kept(alloc, &mut keeper, 1, register(alloc)?)?;
+    kept(alloc, &mut keeper, 2, start(alloc)?)?;
+    let mut conn = closed(keeper);
+    assert_eq!(rt; count(&mut conn, "SELECT run FROM outbox"), 1);
+    assert_eq!(rt; count(&mut conn, "SELECT run FROM outbox WHERE run = 1 AND id = 2 AND attempt = 1 AND ready = 1000"), 1);
+    assert_eq!(rt; count(&mut conn, "SELECT num FROM run WHERE num = 1 AND isopen = 1"), 1);
+    Ok(())
+}
+
+#[test]
+fn a_report_empties_the_outbox(rt: HostRuntime) -> Result<(), Fail> {
+    let alloc = rt.alloc();
+    let mut keeper = opened(alloc, Connection::open_in_memory(alloc)?)?;
+    kept(alloc, &mut keeper, 1, register(alloc)?)?;
+    kept(alloc, &mut keeper, 2, start(alloc)?)?;
+    // It goes on behind a closing and an opening.
+    let mut keeper = opened(alloc, closed(keeper))?;
+    let receipt = kept(alloc, &mut keeper, 3, complete()?)?;
+    assert!(rt; receipt.place == 1 && matches!(receipt.reply, Reply::Recorded(_, event) if event.get() == 3));
+    let mut conn = closed(keeper);
+    assert_eq!(rt; count(&mut conn, "SELECT run FROM outbox"), 0);
+    assert_eq!(rt; count(&mut conn, "SELECT num FROM run WHERE num = 1 AND isopen = 0"), 1);
+    assert_eq!(rt; count(&mut conn, "SELECT id FROM event WHERE run = 1"), 4);
+    Ok(())
+}
+
+// A refused command is kept too, and changes nothing.
+#[test]
+fn a_refusal_changes_nothing(rt: HostRuntime) -> Result<(), Fail> {
+    let alloc = rt.alloc();
+    let mut keeper = opened(alloc, Connection::open_in_memory(alloc)?)?;
+    let receipt = kept(alloc, &mut keeper, 1, complete()?)?;
+    assert!(rt; matches!(receipt.reply, Reply::Refused(Code::NoRun)));
+    assert!(rt; !keeper.is_halted());
+    let mut conn = closed(keeper);
+    assert_eq!(rt; count(&mut conn, "SELECT num FROM run"), 0);
+    Ok(())
+}
