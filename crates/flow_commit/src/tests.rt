@@ -37,7 +37,7 @@ fn complete() -> Result<Command, Fail> {
     Ok(Command::Complete(run, event, 1, Value::Int(41), at))
 }
 
-fn opened<S: Alter>(alloc: Global, conn: Connection<S>) -> Result<Keeper<S>, Fail> {
+fn opened<S: Alter + Drop>(alloc: Global, conn: Connection<S>) -> Result<Keeper<S>, Fail> {
     match Tables::open(alloc, conn) {
         Ok(tables) => Ok(Keeper::over(alloc, tables)),
         Err((_, _)) => Err(Fail::from("not opened")),
@@ -62,7 +62,7 @@ fn committed<S: Alter>(keeper: &mut Keeper<S>, batch: Batch) -> Option<Receipt> 
     }
 }
 
-fn kept<S: Alter>(
+fn kept<S: Alter + Drop>(
     alloc: Global,
     keeper: &mut Keeper<S>,
     ticket: u64,
@@ -106,8 +106,20 @@ fn the_outbox_holds_what_is_open(rt: HostRuntime) -> Result<(), Fail> {
     kept(alloc, &mut keeper, 2, start(alloc)?)?;
     let mut conn = closed(keeper);
     assert_eq!(rt; count(&mut conn, "SELECT run FROM outbox"), 1);
-    assert_eq!(rt; count(&mut conn, "SELECT run FROM outbox WHERE run = 1 AND id = 2 AND attempt = 1 AND ready = 1000"), 1);
-    assert_eq!(rt; count(&mut conn, "SELECT num FROM run WHERE num = 1 AND isopen = 1"), 1);
+    assert_eq!(rt;
+        count(
+            &mut conn,
+            "SELECT run FROM outbox WHERE run = 1 AND id = 2 AND attempt = 1 AND ready = 1000"
+        ),
+        1
+    );
+    assert_eq!(rt;
+        count(
+            &mut conn,
+            "SELECT num FROM run WHERE num = 1 AND isopen = 1"
+        ),
+        1
+    );
     Ok(())
 }
 
@@ -120,10 +132,18 @@ fn a_report_empties_the_outbox(rt: HostRuntime) -> Result<(), Fail> {
     // It goes on behind a closing and an opening.
     let mut keeper = opened(alloc, closed(keeper))?;
     let receipt = kept(alloc, &mut keeper, 3, complete()?)?;
-    assert!(rt; receipt.place == 1 && matches!(receipt.reply, Reply::Recorded(_, event) if event.get() == 3));
+    assert!(rt;
+        receipt.place == 1 && matches!(receipt.reply, Reply::Recorded(_, event) if event.get() == 3)
+    );
     let mut conn = closed(keeper);
     assert_eq!(rt; count(&mut conn, "SELECT run FROM outbox"), 0);
-    assert_eq!(rt; count(&mut conn, "SELECT num FROM run WHERE num = 1 AND isopen = 0"), 1);
+    assert_eq!(rt;
+        count(
+            &mut conn,
+            "SELECT num FROM run WHERE num = 1 AND isopen = 0"
+        ),
+        1
+    );
     assert_eq!(rt; count(&mut conn, "SELECT id FROM event WHERE run = 1"), 4);
     Ok(())
 }
