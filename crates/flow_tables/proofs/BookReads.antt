@@ -1,23 +1,28 @@
 -- What reads of rows tell of the book.
-use Rattle.std.proofs.Common.{◌≡◌, ◌⊎◌, inl, inr, ℕ, zero, suc, ℤ, pos, true, List, Option, Some, None, Result, Ok, Err, refl, sym, ap, subst, ◌∙◌, arith}
-use Rattle.std.specs.Prelude.{MatchResult, IfOk, option_map}
+use Rattle.std.proofs.Common.{◌≡◌, ◌⊎◌, inl, inr, ◌≤◌, ◌+◌, ℕ, zero, suc, ℤ, pos, Bool, true, false, if◌then◌else◌, List, [], ◌∷◌, map, Option, Some, None, Result, Ok, Err, refl, sym, ap, subst, ◌∙◌, arith}
+use Rattle.std.specs.Prelude.{MatchResult, IfOk, IfErr, option_map}
+use Rattle.std.specs.List.{AllByRecursion}
+use Rattle.std.proofs.lemmas.Int.{ints}
 use Rattle.sqlite.specs.State.{State, HasCleanDisk, Survives}
 use Rattle.flow_base.specs.declared.book.Run.{Run}
-use Rattle.flow_model.specs.Book.{Book, nth}
+use Rattle.flow_model.specs.Book.{Book, nth, first_from}
 use Rattle.flow_view.specs.declared.fault.ViewFault.{ViewFault}
+use Rattle.flow_view.specs.declared.fault.ViewFault.TheVariants as view
 use Rattle.flow_rows.specs.declared.rows.RunRow.{RunRow}
 use Rattle.flow_rows.specs.declared.rows.EventRow.{EventRow}
 use Rattle.flow_rows.specs.declared.rows.OutboxRow.{OutboxRow}
-use Rattle.flow_rows.specs.Rows.{Tables, run_row}
+use Rattle.flow_rows.specs.Rows.{Tables, run_row, event_row}
 use Rattle.flow_rows.specs.Finding.{last_number}
-use Rattle.flow_rows.specs.Recalling.{run_in}
-use Rattle.flow_rows.specs.Told.{Tells, run_told}
-use Rattle.flow_rows.proofs.Recalled.{run_in_told}
-use Rattle.flow_rows.proofs.Finds.{run_read}
-use Rattle.flow_tables.specs.Owned.{ReadsBook, RecallsRun, as_number, as_count}
+use Rattle.flow_rows.specs.Recalling.{run_in, IsOfTypes}
+use Rattle.flow_rows.specs.Told.{Tells, run_told, IsTold}
+use Rattle.flow_rows.proofs.Recalled.{run_in_told, run_back}
+use Rattle.flow_rows.proofs.BookTables.{nth_is}
+use Rattle.flow_rows.proofs.WholeChanges.{all_get}
+use Rattle.flow_rows.proofs.Finds.{run_read, event_rows_read, task_rows_read}
+use Rattle.flow_tables.specs.Owned.{RecallsRun, StopsRecall, HasOddRun, IsBelowOne, as_number, as_count}
 use Rattle.flow_tables.specs.Stored.{tables_in}
 use Rattle.flow_tables.proofs.Stops.{quiet_then}
-use Rattle.flow_tables.specs.States.{IsOver, Holds, IsStill, IsRefused, IsUndone}
+use Rattle.flow_tables.specs.States.{Holds, IsStill, IsRefused}
 
 same_numbers : (a b : Option ℕ) → option_map pos a ≡ option_map pos b → a ≡ b
 same_numbers None None e = refl
@@ -93,3 +98,61 @@ run_then a b c k n row result h still e recalls = let it = no_some (run_row n) (
         → MatchResult result (λ v. IsStill true a c × (Some v ≡ nth k.runs n)) (λ _. IsRefused true a c)
     go it (Ok v) r = (still_then a b c still r.0, ap Some r.1 ∙ sym it.1)
     go it (Err f) r = still_refused a b c still r
+
+---- Why a read is refused
+
+one_more : (v : Bool) (m k : ℕ) (o : Option ℕ) → 1 ≤ m → (o ≡ Some k → 1 ≤ k) → (if v then Some m else o) ≡ Some k → 1 ≤ k
+one_more true m k o least later h = let same : m ≡ k = (cc) in subst (λ j. 1 ≤ j) same least
+one_more false m k o least later h = later h
+
+from_one : {A : Type 0} (p : A → Bool) (m k : ℕ) (xs : List A) → 1 ≤ m → first_from p m xs ≡ Some k → 1 ≤ k
+from_one p m k [] least h = absurd (cc)
+from_one p m k (x ∷ xs) least h = one_more (p x) m k (first_from p (m + 1) xs) least (from_one p (m + 1) k xs (omega (arith, least))) h
+
+none_below : {A : Type 0} (p : A → Bool) (xs : List A) (o : Option ℕ) → first_from p 1 xs ≡ o → IsBelowOne (option_map pos o) → ⊥
+none_below p xs None is h = h
+none_below p xs (Some k) is h = let least = from_one p 1 k xs (omega arith) is in grind (arith, ints)
+
+-- no text and no run has a number below 1
+pub number_stops : {A : Type 0} (p : A → Bool) (xs : List A) (W : Type 0) (r : Result (Option ℕ) ViewFault) (found : Option ℤ) → IfErr r (λ _. IsBelowOne found)
+    → found ≡ option_map pos (first_from p 1 xs) → IfErr r (λ f. f ≡ view.StoreRefused → W)
+number_stops p xs W (Ok x) found h e = tt
+number_stops p xs W (Err f) found h e = λ same. absurd (none_below p xs (first_from p 1 xs) refl (subst IsBelowOne e h))
+
+no_low_count : (n : ℕ) → IsBelowOne (last_number n) → ⊥
+no_low_count zero h = h
+no_low_count (suc k) h = grind (arith, ints)
+
+pub count_stops : (W : Type 0) (r : Result ℕ ViewFault) (found : Option ℤ) (n : ℕ) → IfErr r (λ _. IsBelowOne found) → found ≡ last_number n → IfErr r (λ f. f ≡ view.StoreRefused → W)
+count_stops W (Ok x) found n h e = tt
+count_stops W (Err f) found n h e = λ same. absurd (no_low_count n (subst IsBelowOne e h))
+
+told_at : (b : Book) (n : ℕ) (r : Run) → AllByRecursion IsTold b.runs → nth b.runs n ≡ Some r → IsTold r
+told_at b zero r all at = absurd (let clash = at in cc)
+told_at b (suc k) r all at = all_get IsTold b.runs k r all (sym (nth_is b.runs k) ∙ at)
+
+-- a run of the code's types is read from its rows
+pub odd_run : (t : Tables) (b : Book) (n : ℕ) (r : Run) (row : RunRow) (events : List EventRow) (tasks : List OutboxRow) → Tells t b → nth b.runs n ≡ Some r → row ≡ run_row n r
+    → events ≡ t.events (pos n) → tasks ≡ t.outbox (pos n) → None ≡ run_in row events tasks → IsOfTypes r → ⊥
+odd_run t b n r row events tasks h at is e k none fits = let clash = none ∙ read in cc
+  where
+    read : run_in row events tasks ≡ Some r
+    read =
+        ap (λ y. run_in y events tasks) is ∙ ap (λ y. run_in (run_row n r) y tasks) (e ∙ event_rows_read t b n r h at)
+        ∙ ap (λ y. run_in (run_row n r) (map (event_row (pos n)) r.history) y) (k ∙ task_rows_read t b n r h at)
+        ∙ run_back n (pos n) r (told_at b n r h.runs at) fits
+
+-- a run that wasn't recalled after its row was read
+pub run_stops : (a b c : State) (k : Book) (n : ℕ) (row : RunRow) (result : Result Run ViewFault) (W : Type 0) → Tells (tables_in a.now.trees) k → IsStill true a b
+    → Some row ≡ option_map (run_row n) (nth k.runs n) → StopsRecall b n row result (λ r. W ⊎ (IsStill true b c × (IsOfTypes r → ⊥)))
+    → IfErr result (λ f. f ≡ view.StoreRefused → W ⊎ (IsStill true a c × HasOddRun k))
+run_stops a b c k n row result W h still e stops = let it = no_some (run_row n) (nth k.runs n) row e in go it result (stops k it.0 (tells_still a b k still h) it.1 it.2 (λ _. still.0))
+  where
+    odd : (it : (x : Run) × (nth k.runs n ≡ Some x) × (row ≡ run_row n x)) → W ⊎ (IsStill true b c × (IsOfTypes it.0 → ⊥)) → W ⊎ (IsStill true a c × HasOddRun k)
+    odd it (inl w) = inl w
+    odd it (inr o) = inr (still_then a b c still o.0, (n, it.0, it.1, o.1))
+
+    go : (it : (x : Run) × (nth k.runs n ≡ Some x) × (row ≡ run_row n x)) (result : Result Run ViewFault) → IfErr result (λ f. f ≡ view.StoreRefused → W ⊎ (IsStill true b c × (IsOfTypes it.0 → ⊥)))
+        → IfErr result (λ f. f ≡ view.StoreRefused → W ⊎ (IsStill true a c × HasOddRun k))
+    go it (Ok v) s = tt
+    go it (Err f) s = λ same. odd it (s same)

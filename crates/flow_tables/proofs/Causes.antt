@@ -1,5 +1,5 @@
 -- What stands behind a refused statement.
-use Rattle.std.proofs.Common.{◌≡◌, ◌⊎◌, ◌≤◌, ◌+◌, inl, inr, List, ◌∷◌, ℕ, pos, false, true≢false, Ok, Err, Result, sym, subst, ◌∙◌, arith}
+use Rattle.std.proofs.Common.{◌≡◌, ◌≤◌, ◌<◌, ◌+◌, ◌^◌, inl, inr, List, ◌∷◌, length, ℕ, pos, false, true≢false, Ok, Err, Result, sym, subst, ◌∙◌, arith}
 use Rattle.std.specs.List.{AllByRecursion}
 use Rattle.std.specs.Prelude.{Bool, IsTrue, ◌↔◌, IfErr}
 use Rattle.sqlite_trees.specs.declared.store.Store.{Ghosts}
@@ -8,18 +8,20 @@ use Rattle.sqlite.specs.Held.{Held, state}
 use Rattle.sqlite.specs.Order.{Row}
 use Rattle.sqlite.specs.State.{Executes}
 use Rattle.flow_base.specs.declared.event.Cmd.{Cmd}
-use Rattle.flow_base.specs.declared.event.What.TheVariants.{Asked}
+use Rattle.flow_base.specs.declared.event.What.TheVariants.{Came, Asked}
 use Rattle.flow_base.specs.declared.event.Event.{Event}
 use Rattle.flow_base.specs.declared.book.Turn.{Turn}
 use Rattle.flow_model.specs.Turned.{traces}
-use Rattle.flow_view.specs.declared.fault.ViewFault.{ViewFault}
-use Rattle.flow_view.specs.declared.fault.ViewFault.TheVariants as view
 use Rattle.flow_events.specs.Row.{IsWithinLimits}
 use Rattle.flow_events.specs.Body.{text_of}
 use Rattle.flow_events.specs.Kinds.{kind_number, kind_of}
 use Rattle.flow_events.proofs.Laws.{row_within}
 use Rattle.flow_rows.specs.Told.{IsReadable}
-use Rattle.flow_tables.specs.Faults.{WasRefused}
+use Rattle.sqlite.specs.declared.error.ErrorCode.TheVariants.{OutOfMemory}
+use Rattle.sqlite.specs.declared.error.Error.TheVariants.{SqliteFailure}
+use Rattle.flow_tables.specs.declared.fault.Refusal.{Refusal}
+use Rattle.flow_tables.specs.declared.fault.Refusal.TheVariants.{NoMemory, Stopped, Unfit}
+use Rattle.flow_tables.specs.Faults.{WasRefused, Because, refusal_of}
 use Rattle.flow_tables.specs.Puts.{AreUnfit, IsUnfitTurn}
 
 pub refused_so : {S : Type 0} (g : Ghosts S) (old new : Held S) (sql : List ℕ) (params : Row) (e : Error) → Executes sql params (state g old) (state g new) (Err e) → WasRefused g (state g new)
@@ -48,20 +50,50 @@ rest_read at k k' rest more c is counts all =
     let both = subst (λ l. AllByRecursion IsReadable (traces k at l)) is all in
     subst (λ n. AllByRecursion IsReadable (traces n at more)) (sym counts) both.1
 
-pub event_stops : (W : Type 0) (from at k : ℕ) (cs rest more : List Cmd) (c : Cmd) (e : Event) → rest ≡ c ∷ more → e ≡ record { id = k; at = at; what = Asked c }
-    → (AllByRecursion IsReadable (traces from at cs) → AllByRecursion IsReadable (traces k at rest)) → W ⊎ (IsReadable e → ⊥) → W ⊎ AreUnfit from at cs
-event_stops W from at k cs rest more c e is event left (inl w) = inl w
-event_stops W from at k cs rest more c e is event left (inr unread) = inr (inl (λ all. unread (first_read at k rest more c e is event (left all))))
+---- Why a turn is refused
 
-commands_unfit : (W : Type 0) (count : ℕ) (turn : Turn) → W ⊎ AreUnfit (count + 2) turn.at turn.commands → W ⊎ IsUnfitTurn count turn
-commands_unfit W count turn (inl w) = inl w
-commands_unfit W count turn (inr (inl unread)) = inr (inl (λ all. unread (subst (λ n. AllByRecursion IsReadable (traces n turn.at turn.commands)) (next count) all.1)))
+pub because_on : (W V U T : Type 0) (f : Refusal) → (W → V) → (U → T) → Because f W U → Because f V T
+because_on W V U T NoMemory stop unfit h = h
+because_on W V U T Stopped stop unfit h = stop h
+because_on W V U T Unfit stop unfit h = unfit h
+
+store_so : (W U : Type 0) (e : Error) → W → Because (refusal_of e) W U
+store_so W U (SqliteFailure OutOfMemory) w = tt
+store_so W U e w = w
+
+-- a statement's error
+pub stopped_so : (W U : Type 0) (f : Refusal) (e : Error) → f ≡ refusal_of e → W → Because f W U
+stopped_so W U f e is w = subst (λ x. Because x W U) (sym is) (store_so W U e w)
+
+-- a number past the last one
+pub asked_stops : (W : Type 0) (from at i : ℕ) (cs : List Cmd) (f : Refusal) → i < length cs → Because f ⊥ (1 ≤ from + i → 2 ^ 63 ≤ from + i) → Because f W (1 ≤ from → AreUnfit from at cs)
+asked_stops W from at i cs f within h =
+    because_on ⊥ W (1 ≤ from + i → 2 ^ 63 ≤ from + i) (1 ≤ from → AreUnfit from at cs) f (λ none. absurd none) (λ past one. let it = past (omega (arith, one)) in inr (omega (arith, within, it))) h
+
+pub event_stops : (W : Type 0) (from at k : ℕ) (cs rest more : List Cmd) (c : Cmd) (e : Event) (f : Refusal) → rest ≡ c ∷ more → e ≡ record { id = k; at = at; what = Asked c }
+    → (AllByRecursion IsReadable (traces from at cs) → AllByRecursion IsReadable (traces k at rest)) → Because f W (IsReadable e → ⊥) → Because f W (1 ≤ from → AreUnfit from at cs)
+event_stops W from at k cs rest more c e f is event left h =
+    because_on W W (IsReadable e → ⊥) (1 ≤ from → AreUnfit from at cs) f (λ w. w) (λ unread one. inl (λ all. unread (first_read at k rest more c e is event (left all)))) h
+
+pub came_stops : (W : Type 0) (count : ℕ) (turn : Turn) (f : Refusal) → Because f ⊥ (1 ≤ count + 1 → 2 ^ 63 ≤ count + 1) → Because f W (IsUnfitTurn count turn)
+came_stops W count turn f h =
+    because_on ⊥ W (1 ≤ count + 1 → 2 ^ 63 ≤ count + 1) (IsUnfitTurn count turn) f (λ none. absurd none) (λ past. let it = past (omega arith) in inr (omega (arith, it))) h
+
+pub input_stops : (W : Type 0) (count : ℕ) (turn : Turn) (e : Event) (f : Refusal) → e ≡ record { id = count + 1; at = turn.at; what = Came turn.input } → Because f W (IsReadable e → ⊥)
+    → Because f W (IsUnfitTurn count turn)
+input_stops W count turn e f event h =
+    because_on W W (IsReadable e → ⊥) (IsUnfitTurn count turn) f (λ w. w) (λ unread. inl (λ all. unread (subst IsReadable (sym event) all.0))) h
+
+commands_unfit : (count : ℕ) (turn : Turn) → AreUnfit (count + 2) turn.at turn.commands → IsUnfitTurn count turn
+commands_unfit count turn (inl unread) = inl (λ all. unread (subst (λ n. AllByRecursion IsReadable (traces n turn.at turn.commands)) (next count) all.1))
   where
     next : (n : ℕ) → n + 1 + 1 ≡ n + 2
     next n = omega arith
-commands_unfit W count turn (inr (inr past)) = inr (inr past)
+commands_unfit count turn (inr past) = inr past
 
-pub commands_stop : (W : Type 0) (count : ℕ) (turn : Turn) (cs : List Cmd) (r : Result Unit ViewFault) → cs ≡ turn.commands
-    → IfErr r (λ f. f ≡ view.StoreRefused → 1 ≤ count + 2 → W ⊎ AreUnfit (count + 2) turn.at cs) → IfErr r (λ f. f ≡ view.StoreRefused → W ⊎ IsUnfitTurn count turn)
+pub commands_stop : (W : Type 0) (count : ℕ) (turn : Turn) (cs : List Cmd) (r : Result Unit Refusal) → cs ≡ turn.commands
+    → IfErr r (λ f. Because f W (1 ≤ count + 2 → AreUnfit (count + 2) turn.at cs)) → IfErr r (λ f. Because f W (IsUnfitTurn count turn))
 commands_stop W count turn cs (Ok u) same h = tt
-commands_stop W count turn cs (Err f) same h = λ refused. commands_unfit W count turn (subst (λ l. W ⊎ AreUnfit (count + 2) turn.at l) same (h refused (omega arith)))
+commands_stop W count turn cs (Err f) same h =
+    because_on W W (1 ≤ count + 2 → AreUnfit (count + 2) turn.at cs) (IsUnfitTurn count turn) f (λ w. w)
+    (λ unfit. commands_unfit count turn (subst (λ l. AreUnfit (count + 2) turn.at l) same (unfit (omega arith)))) h

@@ -33,6 +33,7 @@ pub mod BookReads
 pub mod Owning
 pub mod Wholes
 pub mod Causes
+pub mod Reasons
 pub mod WholeTables
 pub mod AnyFile
 pub mod Succession

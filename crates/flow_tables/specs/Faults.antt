@@ -1,6 +1,6 @@
 -- How an error of the store is told: the want of memory by itself, all else as the store's refusal. And what stands behind
 -- a refusal.
-use Rattle.std.specs.Prelude.{◌⊎◌, ℕ, List, Err}
+use Rattle.std.specs.Prelude.{◌⊎◌, ℕ, List, Result, Ok, Err}
 use Rattle.sqlite_trees.specs.declared.store.Store.{Ghosts}
 use Rattle.sqlite.specs.Held.{Held, state}
 use Rattle.sqlite.specs.Order.{Row}
@@ -12,6 +12,8 @@ use Rattle.flow_view.specs.declared.fault.ViewFault.{ViewFault}
 use Rattle.flow_view.specs.declared.fault.ViewFault.TheVariants as view
 use Rattle.flow_tables.specs.declared.fault.StoreFault.{StoreFault}
 use Rattle.flow_tables.specs.declared.fault.StoreFault.TheVariants.{NoMemory, Refused}
+use Rattle.flow_tables.specs.declared.fault.Refusal.{Refusal}
+use Rattle.flow_tables.specs.declared.fault.Refusal.TheVariants as refusal
 use Rattle.flow_tables.specs.Reads.{AreMisread}
 
 abbrev pub fault_of : Error → StoreFault
@@ -35,3 +37,36 @@ WasMisread {S} g new =
 
 abbrev pub IsStopped : {S : Type 0} → Ghosts S → State → Type 0
 IsStopped g new = WasRefused g new ⊎ WasMisread g new
+
+---- Refusals
+
+-- An error of a statement stops the change.
+abbrev pub refusal_of : Error → Refusal
+refusal_of (SqliteFailure OutOfMemory) = refusal.NoMemory
+refusal_of e = refusal.Stopped
+
+-- and so does a fault of a read
+abbrev pub read_refusal : StoreFault → Refusal
+read_refusal NoMemory = refusal.NoMemory
+read_refusal (Refused e) = refusal.Stopped
+
+-- what a view tells of a refusal
+abbrev pub told_fault : Refusal → ViewFault
+told_fault refusal.NoMemory = view.NoMemory
+told_fault refusal.Stopped = view.StoreRefused
+told_fault refusal.Unfit = view.StoreRefused
+
+abbrev pub told_answer : {A : Type 0} → Result A Refusal → Result A ViewFault
+told_answer (Ok v) = Ok v
+told_answer (Err r) = Err (told_fault r)
+
+-- what is noted of a read that failed so
+abbrev pub noted_fault : ViewFault → Refusal
+noted_fault view.NoMemory = refusal.NoMemory
+noted_fault view.StoreRefused = refusal.Stopped
+
+-- What stands behind a refusal: the one where the store stopped the change, the other where it doesn't fit.
+abbrev pub Because : Refusal → Type 0 → Type 0 → Type 0
+Because refusal.NoMemory stopped unfit = Unit {0}
+Because refusal.Stopped stopped unfit = stopped
+Because refusal.Unfit stopped unfit = unfit

@@ -1,8 +1,7 @@
 -- Tables as a value of the code: the book that they hold, and what becomes of it.
-use Rattle.std.specs.Prelude.{◌≡◌, ◌⊎◌, ℕ, ℤ, pos, true, false, Option, Some, None, IsTrue, Result, Ok, Err, MatchResult, option_map, refl}
+use Rattle.std.specs.Prelude.{◌≡◌, ◌⊎◌, ◌<ℤ◌, ℕ, ℤ, pos, true, false, Option, Some, None, IsTrue, Result, Ok, Err, MatchResult, IfErr, option_map, refl}
 use Rattle.std.specs.Coded.{Coded, code_by, coded×, coded_option}
 use Rattle.sqlite_trees.specs.declared.store.Store.{Ghosts}
-use Rattle.sqlite.specs.Effect.{Database}
 use Rattle.sqlite.specs.Tree.{Trees}
 use Rattle.sqlite.specs.Held.{Held, held_code, state}
 use Rattle.sqlite.specs.State.{State, HasCleanDisk}
@@ -10,10 +9,14 @@ use Rattle.flow_base.specs.declared.book.Run.{Run}
 use Rattle.flow_model.specs.Book.{Book, nth, no_book}
 use Rattle.flow_view.specs.declared.fault.ViewFault.{ViewFault}
 use Rattle.flow_view.specs.declared.fault.ViewFault.TheVariants as fault
-use Rattle.flow_view.specs.contracts.fault.ViewFault as fault_row
+use Rattle.flow_tables.specs.declared.fault.Refusal.{Refusal}
+use Rattle.flow_tables.specs.declared.fault.Refusal.TheVariants as refusal
+use Rattle.flow_tables.specs.contracts.fault.Refusal as refusal_row
+use Rattle.flow_tables.specs.Faults.{IsStopped}
 use Rattle.flow_rows.specs.declared.rows.RunRow.{RunRow}
 use Rattle.flow_rows.specs.Rows.{run_row}
 use Rattle.flow_rows.specs.Finding.{last_number}
+use Rattle.flow_rows.specs.Recalling.{IsOfTypes}
 use Rattle.flow_rows.specs.Told.{book_in, Tells}
 use Rattle.flow_tables.specs.Stored.{tables_in}
 use Rattle.flow_tables.specs.Layout.{no_schema}
@@ -23,12 +26,12 @@ use Rattle.flow_tables.specs.States.{AreOurs, HasTables, IsOver, Holds, IsStill,
 -- as it was handed in.
 pub record Stored (S : Type 0) : Type 0 where
   pub held : Held S
-  pub refused : Option ViewFault
+  pub refused : Option Refusal
   pub opened : Held S
 
 abbrev pub stored_code : {S : Type 0} → Coded S → Coded (Stored S)
 stored_code {S} store =
-    code_by (Held S × (Option ViewFault × Held S)) (coded× (held_code store) (coded× (coded_option fault_row.the_row.coded) (held_code store)))
+    code_by (Held S × (Option Refusal × Held S)) (coded× (held_code store) (coded× (coded_option refusal_row.the_row.coded) (held_code store)))
     (λ t. (t.held, (t.refused, t.opened)))
     (λ p. record { held = p.0; refused = p.1.0; opened = p.1.1 })
     (λ _. refl)
@@ -44,7 +47,7 @@ abbrev pub TellBook : Trees → Type 0
 TellBook db = Tells (tables_in db) (book_of db)
 
 -- What the tables keep true of a connection whose disk is clean.
-pub record IsOwn (s : State) (refused : Option ViewFault) : Type 0 where
+pub record IsOwn (s : State) (refused : Option Refusal) : Type 0 where
   pub over : IsTrue s.is_open → IsOver s.in_transaction s
   pub kept : IsTrue s.is_open → TellBook s.committed.trees
   -- at rest the connection shows what was committed
@@ -67,7 +70,7 @@ abbrev pub IsFit : {S : Type 0} → Ghosts S → Stored S → Type 0
 IsFit g t = IsOurs (state g t.opened) × HasCleanDisk (state g t.held)
 
 -- Nothing was refused in the transaction that runs, so it shows a book.
-pub record IsSure (ours : Type 0) (s : State) (refused : Option ViewFault) : Type 0 where
+pub record IsSure (ours : Type 0) (s : State) (refused : Option Refusal) : Type 0 where
   pub fit : ours
   pub clean : HasCleanDisk s
   pub mode : s.in_transaction ≡ true
@@ -76,9 +79,25 @@ pub record IsSure (ours : Type 0) (s : State) (refused : Option ViewFault) : Typ
 abbrev pub is_sure : {S : Type 0} → Ghosts S → Stored S → Type 0
 is_sure g t = IsSure (IsOurs (state g t.opened)) (state g t.held) t.refused
 
--- A transaction that was refused something, or none runs.
-abbrev pub Refuses : State → Option ViewFault → Type 0
-Refuses s refused = (refused ≡ Some fault.StoreRefused) ⊎ (s.in_transaction ≡ false)
+-- A run is such as no value of the code can be: its flow or its request is longer than a key, say.
+abbrev pub HasOddRun : Book → Type 0
+HasOddRun b = (n : ℕ) × (r : Run) × (nth b.runs n ≡ Some r) × (IsOfTypes r → ⊥)
+
+-- What stops a read: the store, or a run of the book that no value of the code can be.
+abbrev pub IsReason : {S : Type 0} → Ghosts S → State → Type 0
+IsReason g s = IsStopped g s ⊎ HasOddRun (book_of s.now.trees)
+
+-- Where it is noted that the transaction was stopped, it was. The connection is then as the refusal left it.
+abbrev pub IsWhy : {S : Type 0} → Ghosts S → State → Option Refusal → Type 0
+IsWhy g s (Some refusal.Stopped) = IsReason g s
+IsWhy g s _ = Unit {0}
+
+-- The transaction was stopped; or a change was put that doesn't fit, as `put_change` says; or none runs.
+abbrev pub RefusesSo : {S : Type 0} → Ghosts S → Type 0 → State → Option Refusal → Type 0
+RefusesSo g fit s refused = ((refused ≡ Some refusal.Stopped) × (fit → IsReason g s)) ⊎ ((refused ≡ Some refusal.Unfit) ⊎ (s.in_transaction ≡ false))
+
+abbrev pub Refuses : {S : Type 0} → Ghosts S → Stored S → Type 0
+Refuses g t = RefusesSo g (IsFit g t) (state_of g t) t.refused
 
 -- the trees of a file hold this book
 pub record IsFileOf (db : Trees) (b : Book) : Type 0 where
@@ -118,6 +137,22 @@ RecallsRun old new number row result =
     (b : Book) (r : Run) → Tells (tables_in old.now.trees) b → nth b.runs number ≡ Some r → row ≡ run_row number r → Holds true old
     → MatchResult result (λ v. IsStill true old new × (v ≡ r)) (λ _. IsRefused true old new)
 
+-- A refusal has this behind it, where the tables tell a book.
+abbrev pub StopsRead : {A : Type 0} → State → Result A ViewFault → (Book → Type 0) → Type 0
+StopsRead old result why =
+    (b : Book) → Tells (tables_in old.now.trees) b → Holds true old → IfErr result (λ f. f ≡ fault.StoreRefused → why b)
+
+-- the same, of the run that has this row and stands at this number
+abbrev pub StopsRecall : State → ℕ → RunRow → Result Run ViewFault → (Run → Type 0) → Type 0
+StopsRecall old number row result why =
+    (b : Book) (r : Run) → Tells (tables_in old.now.trees) b → nth b.runs number ≡ Some r → row ≡ run_row number r → Holds true old
+    → IfErr result (λ f. f ≡ fault.StoreRefused → why r)
+
+-- a number that no text and no run has
+abbrev pub IsBelowOne : Option ℤ → Type 0
+IsBelowOne None = ⊥
+IsBelowOne (Some n) = n <ℤ pos 1
+
 -- a number as a column holds it
 abbrev pub as_number : Option ℕ → Option ℤ
 as_number o = option_map pos o
@@ -127,9 +162,9 @@ abbrev pub as_count : ℕ → Option ℤ
 as_count n = last_number n
 
 -- A refusal is noted, and nothing else.
-abbrev pub IsNoted : {A : Type 0} → Result A ViewFault → Option ViewFault → Option ViewFault → Type 0
-IsNoted (Ok v) old new = new ≡ old
-IsNoted (Err f) old new = new ≡ Some f
+abbrev pub IsNoted : {A E : Type 0} → (E → Refusal) → Result A E → Option Refusal → Option Refusal → Type 0
+IsNoted note (Ok v) old new = new ≡ old
+IsNoted note (Err f) old new = new ≡ Some (note f)
 
 ---- Opening
 

@@ -19,6 +19,8 @@ pub mod reads;
 mod rows;
 pub mod stored;
 #[cfg(test)]
+mod stored_tests;
+#[cfg(test)]
 mod tests;
 pub mod whole;
 pub mod whole_puts;
