@@ -1,5 +1,5 @@
 -- Answers to batches, with one more behind them.
-use Rattle.std.proofs.Common.{◌≡◌, ℕ, ◌+◌, true, false, true≢false, List, [], ◌∷◌, ◌++◌, length, map, refl, sym, ap, ◌∙◌, subst, arith, append-nil, append_assoc, length-append}
+use Rattle.std.proofs.Common.{◌≡◌, ℕ, suc, ◌+◌, true, false, true≢false, List, [], ◌∷◌, ◌++◌, length, map, refl, sym, ap, ◌∙◌, subst, arith, append-nil, append_assoc, length-append}
 use Rattle.std.proofs.lemmas.List.{length-map, map-append}
 use Rattle.flow_base.specs.declared.command.Reply.{Reply}
 use Rattle.flow_model.specs.Book.{Book}
@@ -11,7 +11,7 @@ use Rattle.flow_engine.specs.declared.done.Done.{Done}
 use Rattle.flow_engine.specs.declared.done.Done.TheVariants as done
 use Rattle.flow_engine.specs.Driving.{AreAnswers, all_halted, has_unknown, gathered, if_unknown, reply_of, replies_of, kept_of, in_hand}
 
-off : {A : Type 0} → true ≡ false → A
+pub off : {A : Type 0} → true ≡ false → A
 off e = absurd (true≢false e)
 
 -- as many answers as batches

@@ -1,5 +1,5 @@
 -- What becomes of batches that are committed one after the other.
-use Rattle.std.specs.Prelude.{◌≡◌, ◌+◌, ℕ, Bool, true, false, Unit, List, [], ◌∷◌, ◌++◌, length, map}
+use Rattle.std.specs.Prelude.{◌≡◌, ◌+◌, ℕ, Bool, true, false, List, [], ◌∷◌, ◌++◌, length, map}
 use Rattle.sqlite_trees.specs.declared.store.Store.{Ghosts}
 use Rattle.flow_base.specs.declared.command.Command.{Command}
 use Rattle.flow_base.specs.declared.command.Reply.{Reply}
