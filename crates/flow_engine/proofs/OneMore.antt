@@ -61,27 +61,31 @@ module _ {S : Type 0} (g : Ghosts S) (old : Keeping S) (b : Book) where
     goes_on : has_unknown ds ≡ false → (d : Done) → HasDone g mid new (after rules b (kept_of bs ds)) batch d → Reached new (bs ++ batch ∷ []) (ds ++ d ∷ [])
     goes_on known (done.Kept rs) one =
         let leads = subst (λ u. LeadsTo g old mid b u (kept_of bs ds) (in_hand bs ds)) known was.1 in
-        let told = one.1.told ∙ ap (λ n. receipts_of n (after rules b (kept_of bs ds)) batch) (leads.counts refl) in
-        (answers_more old.kept b bs ds batch (done.Kept rs) known was.0 (told, tt),
-         leads_as new false (has_unknown (ds ++ done.Kept rs ∷ [])) _ _ _ _ (known_behind ds (done.Kept rs) refl ∙ known) (kept_now (done.Kept rs)) refl
-             (lead_kept mid new (kept_of bs ds) (in_hand bs ds) (in_hand (bs ++ batch ∷ []) (ds ++ done.Kept rs ∷ [])) batch rs.items leads one.1))
+        let told = one.1.told ∙ ap (λ n. receipts_of n (after rules b (kept_of bs ds)) batch) (leads.counts refl) in (
+          answers_more old.kept b bs ds batch (done.Kept rs) known was.0 (told, tt),
+          leads_as new false (has_unknown (ds ++ done.Kept rs ∷ [])) _ _ _ _ (known_behind ds (done.Kept rs) refl ∙ known) (kept_now (done.Kept rs)) refl
+              (lead_kept mid new (kept_of bs ds) (in_hand bs ds) (in_hand (bs ++ batch ∷ []) (ds ++ done.Kept rs ∷ [])) batch rs.items leads one.1),
+        )
     goes_on known (done.NotApplied f) one =
-        let leads = subst (λ u. LeadsTo g old mid b u (kept_of bs ds) (in_hand bs ds)) known was.1 in
-        (answers_more old.kept b bs ds batch (done.NotApplied f) known was.0 tt,
-         leads_as new false (has_unknown (ds ++ done.NotApplied f ∷ [])) _ _ _ _ (known_behind ds (done.NotApplied f) refl ∙ known) (kept_now (done.NotApplied f) ∙ append-nil (kept_of bs ds)) refl
-             (lead_refused mid new (kept_of bs ds) (in_hand bs ds) (in_hand (bs ++ batch ∷ []) (ds ++ done.NotApplied f ∷ [])) leads one.1))
-    goes_on known done.Unknown one =
-        (answers_more old.kept b bs ds batch done.Unknown known was.0 refl,
-         leads_as new true (has_unknown (ds ++ done.Unknown ∷ [])) _ _ _ _ (unknown_behind ds) (kept_now done.Unknown ∙ append-nil (kept_of bs ds)) (hand_now done.Unknown ∙ ap (λ l. l ++ commands_of batch) (none_in_hand bs ds known))
-             (lead_unknown mid new (kept_of bs ds) batch one.1))
+        let leads = subst (λ u. LeadsTo g old mid b u (kept_of bs ds) (in_hand bs ds)) known was.1 in (
+          answers_more old.kept b bs ds batch (done.NotApplied f) known was.0 tt,
+          leads_as new false (has_unknown (ds ++ done.NotApplied f ∷ [])) _ _ _ _ (known_behind ds (done.NotApplied f) refl ∙ known) (kept_now (done.NotApplied f) ∙ append-nil (kept_of bs ds)) refl
+              (lead_refused mid new (kept_of bs ds) (in_hand bs ds) (in_hand (bs ++ batch ∷ []) (ds ++ done.NotApplied f ∷ [])) leads one.1),
+        )
+    goes_on known done.Unknown one = (
+      answers_more old.kept b bs ds batch done.Unknown known was.0 refl,
+      leads_as new true (has_unknown (ds ++ done.Unknown ∷ [])) _ _ _ _ (unknown_behind ds) (kept_now done.Unknown ∙ append-nil (kept_of bs ds)) (hand_now done.Unknown ∙ ap (λ l. l ++ commands_of batch) (none_in_hand bs ds known))
+          (lead_unknown mid new (kept_of bs ds) batch one.1),
+    )
     goes_on known done.Halted one = off (sym one.0 ∙ was.1.halted ∙ known)
 
     -- over one that has halted
     stays : has_unknown ds ≡ true → new ≡ mid → Reached new (bs ++ batch ∷ []) (ds ++ done.Halted ∷ [])
     stays unknown same =
-        let leads = subst (λ k. LeadsTo g old k b (has_unknown ds) (kept_of bs ds) (in_hand bs ds)) (sym same) was.1 in
-        (halted_more old.kept b bs ds batch unknown was.0,
-         leads_as new (has_unknown ds) (has_unknown (ds ++ done.Halted ∷ [])) _ _ _ _ (known_behind ds done.Halted refl) (kept_now done.Halted ∙ append-nil (kept_of bs ds)) (hand_now done.Halted ∙ append-nil (in_hand bs ds)) leads)
+        let leads = subst (λ k. LeadsTo g old k b (has_unknown ds) (kept_of bs ds) (in_hand bs ds)) (sym same) was.1 in (
+          halted_more old.kept b bs ds batch unknown was.0,
+          leads_as new (has_unknown ds) (has_unknown (ds ++ done.Halted ∷ [])) _ _ _ _ (known_behind ds done.Halted refl) (kept_now done.Halted ∙ append-nil (kept_of bs ds)) (hand_now done.Halted ∙ append-nil (in_hand bs ds)) leads,
+        )
 
     one_more : (d : Done) → ((k : Book) → KeepsBook g mid k → HasDone g mid new k batch d) → (mid.halted ≡ true → new ≡ mid) → (mid.halted ≡ true → d ≡ done.Halted) → (u : Bool) → has_unknown ds ≡ u → Reached new (bs ++ batch ∷ []) (ds ++ d ∷ [])
     one_more d does halted later true e =

@@ -4,3 +4,5 @@
 pub mod done;
 pub mod drive;
 pub mod engine;
+#[cfg(test)]
+mod tests;
