@@ -1,0 +1,143 @@
+-- One more batch that is committed.
+use Rattle.std.proofs.Common.{◌≡◌, ◌⊎◌, inl, inr, ℕ, ◌+◌, Bool, true, false, true≢false, List, [], ◌∷◌, ◌++◌, length, refl, sym, ap, ◌∙◌, subst, arith, append-nil, append_assoc, length-append}
+use Rattle.std.proofs.lemmas.List.{length-map}
+use Rattle.sqlite_trees.specs.declared.store.Store.{Ghosts}
+use Rattle.flow_base.specs.declared.command.Command.{Command}
+use Rattle.flow_model.specs.Book.{Book}
+use Rattle.flow_model.specs.Apply.{after}
+use Rattle.flow_model.proofs.Logs.{after_cut}
+use Rattle.flow_machine.specs.declared.taken.Taken.{Taken}
+use Rattle.flow_machine.specs.declared.taken.Receipt.{Receipt}
+use Rattle.flow_tables.specs.Owned.{state_of, LeavesEither}
+use Rattle.flow_commit.specs.Keeping.{Keeping, rules, IsFit, KeepsBook, HasKept, HasRefused, IsUnknown, command_of, commands_of, receipts_of}
+use Rattle.flow_engine.specs.declared.done.Done.{Done}
+use Rattle.flow_engine.specs.declared.done.Done.TheVariants as done
+use Rattle.flow_engine.specs.Driving.{HasDone, AreAnswers, LeadsTo, Drives, all_halted, has_unknown, if_kept, if_unknown, kept_of, in_hand}
+use Rattle.flow_engine.proofs.Gathering.{off, same_length, gathered_more, unknown_behind, known_behind, none_in_hand, answers_more, all_halted_more, halted_more, replies_told}
+
+module _ {S : Type 0} (g : Ghosts S) (old : Keeping S) (b : Book) where
+  abbrev Leads : Keeping S → Bool → List Command → List Command → Type 0
+  Leads new u kept hand = LeadsTo g old new b u kept hand
+
+  leads_as : (new : Keeping S) (u u' : Bool) (k k' h h' : List Command) → u' ≡ u → k' ≡ k → h' ≡ h → Leads new u k h → Leads new u' k' h'
+  leads_as new u u' k k' h h' same_u same_k same_h leads =
+      subst (λ x. Leads new x k' h') (sym same_u) (subst (λ x. Leads new u x h') (sym same_k) (subst (λ x. Leads new u k x) (sym same_h) leads))
+
+  -- the same engine, which keeps the book, with anything in hand
+  lead_kept : (mid new : Keeping S) (k h h' : List Command) (batch : List Taken) (rs : List Receipt) → Leads mid false k h → HasKept g mid new (after rules b k) batch rs → Leads new false (k ++ commands_of batch) h'
+  lead_kept mid new k h h' batch rs was one =
+      let book = subst (λ x. KeepsBook g new x) (sym (after_cut rules b k (commands_of batch))) one.book in
+      let long : length (k ++ commands_of batch) ≡ length k + length batch = length-append k (commands_of batch) ∙ ap (λ n. length k + n) (length-map batch command_of) in
+      let before : mid.kept ≡ old.kept + length k = was.counts refl in
+      let counts : new.kept ≡ mid.kept + length batch = one.counts in
+      record { halted = one.goes_on; book = λ _. book; counts = λ _. omega (arith, long, before, counts); stops = λ db may. inl (book.stops db may) }
+
+  lead_refused : (mid new : Keeping S) (k h h' : List Command) → Leads mid false k h → HasRefused g mid new (after rules b k) → Leads new false k h'
+  lead_refused mid new k h h' was one =
+      record { halted = one.goes_on; book = λ _. one.book; counts = λ _. one.counts ∙ was.counts refl; stops = λ db may. inl (one.book.stops db may) }
+
+  lead_unknown : (mid new : Keeping S) (k : List Command) (batch : List Taken) → IsUnknown g mid new (after rules b k) batch → Leads new true k (commands_of batch)
+  lead_unknown mid new k batch one =
+      record {
+        halted = one.halted;
+        book = λ e. off e;
+        counts = λ e. off e;
+        stops = subst (λ x. LeavesEither (state_of g new.stored) (after rules b k) x) (sym (after_cut rules b k (commands_of batch))) one.either;
+      }
+
+  -- The batches so far have these answers, and the engine is where they lead.
+  abbrev pub Reached : Keeping S → List (List Taken) → List Done → Type 0
+  Reached now bs ds = AreAnswers old.kept b bs ds × LeadsTo g old now b (has_unknown ds) (kept_of bs ds) (in_hand bs ds)
+
+  module _ (mid new : Keeping S) (bs : List (List Taken)) (ds : List Done) (batch : List Taken) (was : Reached mid bs ds) where
+    -- what is kept and in hand with one more
+    kept_now : (d : Done) → kept_of (bs ++ batch ∷ []) (ds ++ d ∷ []) ≡ kept_of bs ds ++ if_kept batch d
+    kept_now d = gathered_more if_kept bs ds batch d (same_length old.kept b bs ds was.0)
+
+    hand_now : (d : Done) → in_hand (bs ++ batch ∷ []) (ds ++ d ∷ []) ≡ in_hand bs ds ++ if_unknown batch d
+    hand_now d = gathered_more if_unknown bs ds batch d (same_length old.kept b bs ds was.0)
+
+    -- over an engine that keeps the book
+    goes_on : has_unknown ds ≡ false → (d : Done) → HasDone g mid new (after rules b (kept_of bs ds)) batch d → Reached new (bs ++ batch ∷ []) (ds ++ d ∷ [])
+    goes_on known (done.Kept rs) one =
+        let leads = subst (λ u. LeadsTo g old mid b u (kept_of bs ds) (in_hand bs ds)) known was.1 in
+        let told = one.1.told ∙ ap (λ n. receipts_of n (after rules b (kept_of bs ds)) batch) (leads.counts refl) in (
+          answers_more old.kept b bs ds batch (done.Kept rs) known was.0 (told, tt),
+          leads_as new false (has_unknown (ds ++ done.Kept rs ∷ [])) _ _ _ _ (known_behind ds (done.Kept rs) refl ∙ known) (kept_now (done.Kept rs)) refl
+              (lead_kept mid new (kept_of bs ds) (in_hand bs ds) (in_hand (bs ++ batch ∷ []) (ds ++ done.Kept rs ∷ [])) batch rs.items leads one.1),
+        )
+    goes_on known (done.NotApplied f) one =
+        let leads = subst (λ u. LeadsTo g old mid b u (kept_of bs ds) (in_hand bs ds)) known was.1 in (
+          answers_more old.kept b bs ds batch (done.NotApplied f) known was.0 tt,
+          leads_as new false (has_unknown (ds ++ done.NotApplied f ∷ [])) _ _ _ _ (known_behind ds (done.NotApplied f) refl ∙ known) (kept_now (done.NotApplied f) ∙ append-nil (kept_of bs ds)) refl
+              (lead_refused mid new (kept_of bs ds) (in_hand bs ds) (in_hand (bs ++ batch ∷ []) (ds ++ done.NotApplied f ∷ [])) leads one.1),
+        )
+    goes_on known done.Unknown one = (
+      answers_more old.kept b bs ds batch done.Unknown known was.0 refl,
+      leads_as new true (has_unknown (ds ++ done.Unknown ∷ [])) _ _ _ _ (unknown_behind ds) (kept_now done.Unknown ∙ append-nil (kept_of bs ds)) (hand_now done.Unknown ∙ ap (λ l. l ++ commands_of batch) (none_in_hand bs ds known))
+          (lead_unknown mid new (kept_of bs ds) batch one.1),
+    )
+    goes_on known done.Halted one = off (sym one.0 ∙ was.1.halted ∙ known)
+
+    -- over one that has halted
+    stays : has_unknown ds ≡ true → new ≡ mid → Reached new (bs ++ batch ∷ []) (ds ++ done.Halted ∷ [])
+    stays unknown same =
+        let leads = subst (λ k. LeadsTo g old k b (has_unknown ds) (kept_of bs ds) (in_hand bs ds)) (sym same) was.1 in (
+          halted_more old.kept b bs ds batch unknown was.0,
+          leads_as new (has_unknown ds) (has_unknown (ds ++ done.Halted ∷ [])) _ _ _ _ (known_behind ds done.Halted refl) (kept_now done.Halted ∙ append-nil (kept_of bs ds)) (hand_now done.Halted ∙ append-nil (in_hand bs ds)) leads,
+        )
+
+    one_more : (d : Done) → ((k : Book) → KeepsBook g mid k → HasDone g mid new k batch d) → (mid.halted ≡ true → new ≡ mid) → (mid.halted ≡ true → d ≡ done.Halted) → (u : Bool) → has_unknown ds ≡ u → Reached new (bs ++ batch ∷ []) (ds ++ d ∷ [])
+    one_more d does halted later true e =
+        let stopped = was.1.halted ∙ e in
+        subst (λ x. Reached new (bs ++ batch ∷ []) (ds ++ x ∷ [])) (sym (later stopped)) (stays e (halted stopped))
+    one_more d does halted later false e = goes_on e d (does (after rules b (kept_of bs ds)) (was.1.book e))
+
+---- The loop
+
+-- The batches behind have these answers, and these are left.
+pub record Drove {S : Type 0} (g : Ghosts S) (old now : Keeping S) (whole left : List (List Taken)) (ds : List Done) : Type 0 where
+  pub behind : List (List Taken)
+  pub split : whole ≡ behind ++ left
+  pub fit : IsFit g now → IsFit g old
+  pub reached : IsFit g now → (b : Book) → KeepsBook g old b → old.halted ≡ false → Reached g old b now behind ds
+  pub halted : old.halted ≡ true → now ≡ old
+  pub later : old.halted ≡ true → ds ≡ all_halted behind
+
+pub none_yet : {S : Type 0} (g : Ghosts S) (old : Keeping S) (whole left : List (List Taken)) (ds : List Done) → whole ≡ left → ds ≡ [] → Drove g old old whole left ds
+none_yet {S = S} g old whole left ds all none = record {
+  behind = [];
+  split = all;
+  fit = λ h. h;
+  reached = λ fit b keeps goes. subst (λ l. Reached g old b old [] l) (sym none) (tt, record { halted = goes; book = λ _. keeps; counts = λ _. omega arith; stops = λ db may. inl (keeps.stops db may) });
+  halted = λ _. refl;
+  later = λ _. none;
+}
+
+pub drove_more : {S : Type 0} (g : Ghosts S) (old mid new : Keeping S) (whole now left : List (List Taken)) (ds : List Done) (batch : List Taken) (d : Done) → now ≡ batch ∷ left → Drove g old mid whole now ds
+    → (IsFit g new → IsFit g mid) → (IsFit g new → (b : Book) → KeepsBook g mid b → HasDone g mid new b batch d) → (mid.halted ≡ true → new ≡ mid) → (mid.halted ≡ true → d ≡ done.Halted)
+    → Drove g old new whole left (ds ++ d ∷ [])
+drove_more {S = S} g old mid new whole now left ds batch d next was fit does halted later = record {
+  behind = was.behind ++ batch ∷ [];
+  split = was.split ∙ ap (λ l. was.behind ++ l) next ∙ sym (append_assoc was.behind (batch ∷ []) left);
+  fit = λ h. was.fit (fit h);
+  reached = λ h b keeps goes. one_more g old b mid new was.behind ds batch (was.reached (fit h) b keeps goes) d (does h) halted later (has_unknown ds) refl;
+  halted = λ h. halted (ap (λ (k : Keeping S). k.halted) (was.halted h) ∙ h) ∙ was.halted h;
+  later = λ h. ap (λ x. ds ++ x ∷ []) (later (ap (λ (k : Keeping S). k.halted) (was.halted h) ∙ h)) ∙ all_halted_more was.behind ds batch (was.later h);
+}
+
+module _ {S : Type 0} (g : Ghosts S) (old new : Keeping S) (whole left : List (List Taken)) (ds : List Done) (drove : Drove g old new whole left ds) (none : left ≡ []) where
+  all_behind : drove.behind ≡ whole
+  all_behind = sym (drove.split ∙ ap (λ l. drove.behind ++ l) none ∙ append-nil drove.behind)
+
+  pub drives : IsFit g new → (b : Book) → KeepsBook g old b → old.halted ≡ false → Drives g old new b whole ds
+  drives fit b keeps goes =
+      let all = subst (λ bs. Reached g old b new bs ds) all_behind (drove.reached fit b keeps goes) in
+      record { answers = all.0; replies = replies_told old.kept b whole ds all.0; leads = all.1 }
+
+  pub all_later : old.halted ≡ true → ds ≡ all_halted whole
+  all_later h = drove.later h ∙ ap all_halted all_behind
+
+pub none_left : {A : Type 0} (xs : List A) → length xs ≡ 0 → xs ≡ []
+none_left [] e = refl
+none_left (x ∷ xs) e = absurd (omega (arith, e))

@@ -1,0 +1,35 @@
+use Rattle.std.proofs.Common.{◌≡◌, ◌+◌, ◌≤◌, length, ◌∷◌, sym, ap, ◌∙◌, subst, arith, vec_len, vec_capacity}
+use Rattle.std.specs.Vec.Iter.{into_iter_items, into_iter_len}
+use Rattle.flow_machine.proofs.Keeps.{after_keeps}
+use Rattle.flow_machine.proofs.Meaning.{reads_well_formed}
+use Rattle.flow_commit.specs.Keeping.{rules}
+use Rattle.flow_engine.proofs.OneMore.{Drove, drove_more, drives, none_left}
+use Rattle.flow_engine.proofs.drive.drive.Goals as goal
+
+pub loop-batch-preserved : goal.loop-batch-preserved
+loop-batch-preserved g c =
+    let was = c.loop-batch.invariant in
+    let next = c.in-Some.ensures.steps in
+    let pushed = c.push_reserved.ensures in
+    let shorter : into_iter_len c.next.new.self + 1 ≡ into_iter_len c.loop-batch.batch-iterator = next.1 in
+    let items : length (into_iter_items c.loop-batch.batch-iterator) ≡ length (into_iter_items c.next.new.self) + 1 = ap length next.0 ∙ omega arith in
+    let left : into_iter_len c.loop-batch.batch-iterator ≡ length (into_iter_items c.loop-batch.batch-iterator) = was.left in
+    let room : vec_len c.loop-batch.dones + into_iter_len c.loop-batch.batch-iterator ≤ vec_capacity c.loop-batch.dones = was.room in
+    let long : vec_len c.push_reserved.new.self ≡ vec_len c.loop-batch.dones + 1 = pushed.len in
+    let wide : vec_capacity c.push_reserved.new.self ≡ vec_capacity c.loop-batch.dones = pushed.capacity in
+    record {
+      left = omega (arith, shorter, items, left);
+      room = omega (arith, shorter, room, long, wide);
+      drove =
+          subst (Drove g.S.Store c.args.engine.now c.done_with.new.engine c.args.batches.items (into_iter_items c.next.new.self)) (sym pushed.items)
+          (drove_more g.S.Store c.args.engine.now c.loop-batch.engine c.done_with.new.engine c.args.batches.items (into_iter_items c.loop-batch.batch-iterator) (into_iter_items c.next.new.self) c.loop-batch.dones.items c.in-Some.batch c.done_with.result next.0 was.drove
+          c.done_with.ensures.fit c.done_with.ensures.does c.done_with.ensures.halted c.done_with.ensures.later);
+    }
+
+pub returns-clause-drives : goal.returns-clause-drives
+returns-clause-drives g c =
+    drives g.S.Store c.args.engine.now c.loop-batch.engine c.args.batches.items (into_iter_items c.loop-batch.batch-iterator) c.loop-batch.dones.items c.loop-batch.invariant.drove
+    (none_left (into_iter_items c.loop-batch.batch-iterator) (sym c.loop-batch.invariant.left ∙ c.in-None.ensures.steps.0))
+
+pub returns-clause-sound : goal.returns-clause-sound
+returns-clause-sound g c b sound l m e = after_keeps rules b l reads_well_formed sound

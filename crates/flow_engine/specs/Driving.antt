@@ -1,0 +1,105 @@
+-- What becomes of batches that are committed one after the other.
+use Rattle.std.specs.Prelude.{◌≡◌, ◌+◌, ℕ, Bool, true, false, List, [], ◌∷◌, ◌++◌, length, map}
+use Rattle.sqlite_trees.specs.declared.store.Store.{Ghosts}
+use Rattle.flow_base.specs.declared.command.Command.{Command}
+use Rattle.flow_base.specs.declared.command.Reply.{Reply}
+use Rattle.flow_model.specs.Book.{Book}
+use Rattle.flow_model.specs.Apply.{after, replies}
+use Rattle.flow_model.specs.Sound.{IsSound}
+use Rattle.flow_machine.specs.declared.taken.Taken.{Taken}
+use Rattle.flow_machine.specs.declared.taken.Receipt.{Receipt}
+use Rattle.flow_tables.specs.Owned.{state_of, LeavesEither}
+use Rattle.flow_commit.specs.Keeping.{Keeping, rules, KeepsBook, HasKept, HasRefused, IsUnknown, commands_of, receipts_of}
+use Rattle.flow_engine.specs.declared.done.Done.{Done}
+use Rattle.flow_engine.specs.declared.done.Done.TheVariants as done
+
+-- What one commit has done, by what became of the batch.
+abbrev pub HasDone : {S : Type 0} → Ghosts S → Keeping S → Keeping S → Book → List Taken → Done → Type 0
+HasDone g old new b batch (done.Kept receipts) = (old.halted ≡ false) × HasKept g old new b batch receipts.items
+HasDone g old new b batch (done.NotApplied f) = (old.halted ≡ false) × HasRefused g old new b
+HasDone g old new b batch done.Unknown = (old.halted ≡ false) × IsUnknown g old new b batch
+HasDone g old new b batch done.Halted = (old.halted ≡ true) × (new ≡ old)
+
+---- Answers to batches, in their order
+
+-- every batch is answered that the engine had halted before
+abbrev pub all_halted : List (List Taken) → List Done
+all_halted batches = map (λ _. done.Halted) batches
+
+-- The answers to batches, from a book behind so many commands. A kept batch is answered by its receipts, and the next one is
+-- applied to the book after it; one that isn't applied changes nothing; after one of which nobody knows all are halted.
+abbrev pub AreAnswers : ℕ → Book → List (List Taken) → List Done → Type 0
+AreAnswers kept b [] [] = Unit {0}
+AreAnswers kept b [] (d ∷ ds) = ⊥
+AreAnswers kept b (batch ∷ batches) [] = ⊥
+AreAnswers kept b (batch ∷ batches) (done.Kept receipts ∷ ds) =
+    (receipts.items ≡ receipts_of kept b batch) × AreAnswers (kept + length batch) (after rules b (commands_of batch)) batches ds
+AreAnswers kept b (batch ∷ batches) (done.NotApplied f ∷ ds) = AreAnswers kept b batches ds
+AreAnswers kept b (batch ∷ batches) (done.Unknown ∷ ds) = ds ≡ all_halted batches
+AreAnswers kept b (batch ∷ batches) (done.Halted ∷ ds) = ⊥
+
+abbrev pub has_unknown : List Done → Bool
+has_unknown [] = false
+has_unknown (done.Kept receipts ∷ ds) = has_unknown ds
+has_unknown (done.NotApplied f ∷ ds) = has_unknown ds
+has_unknown (done.Unknown ∷ ds) = true
+has_unknown (done.Halted ∷ ds) = has_unknown ds
+
+-- what batches and their answers have, one after the other
+abbrev pub gathered : {A : Type 0} → (List Taken → Done → List A) → List (List Taken) → List Done → List A
+gathered f [] ds = []
+gathered f (batch ∷ batches) [] = []
+gathered f (batch ∷ batches) (d ∷ ds) = f batch d ++ gathered f batches ds
+
+abbrev pub if_kept : List Taken → Done → List Command
+if_kept batch (done.Kept receipts) = commands_of batch
+if_kept batch (done.NotApplied f) = []
+if_kept batch done.Unknown = []
+if_kept batch done.Halted = []
+
+abbrev pub if_unknown : List Taken → Done → List Command
+if_unknown batch (done.Kept receipts) = []
+if_unknown batch (done.NotApplied f) = []
+if_unknown batch done.Unknown = commands_of batch
+if_unknown batch done.Halted = []
+
+abbrev pub reply_of : Receipt → Reply
+reply_of r = r.reply
+
+abbrev pub replies_in : List Taken → Done → List Reply
+replies_in batch (done.Kept receipts) = map reply_of receipts.items
+replies_in batch (done.NotApplied f) = []
+replies_in batch done.Unknown = []
+replies_in batch done.Halted = []
+
+-- the commands of the kept batches, in their order
+abbrev pub kept_of : List (List Taken) → List Done → List Command
+kept_of batches ds = gathered if_kept batches ds
+
+-- the commands of the batch of which nobody knows, if there is one
+abbrev pub in_hand : List (List Taken) → List Done → List Command
+in_hand batches ds = gathered if_unknown batches ds
+
+-- the replies in the receipts of all kept batches
+abbrev pub replies_of : List (List Taken) → List Done → List Reply
+replies_of batches ds = gathered replies_in batches ds
+
+---- Where they lead
+
+-- The engine has kept these commands of a book. While it hasn't halted it keeps the book after them; a stop leaves this book or,
+-- where a batch is in hand, the one after the whole batch.
+pub record LeadsTo {S : Type 0} (g : Ghosts S) (old new : Keeping S) (b : Book) (halts : Bool) (kept hand : List Command) : Type 0 where
+  pub halted : new.halted ≡ halts
+  pub book : halts ≡ false → KeepsBook g new (after rules b kept)
+  pub counts : halts ≡ false → new.kept ≡ old.kept + length kept
+  pub stops : LeavesEither (state_of g new.stored) (after rules b kept) (after rules b (kept ++ hand))
+
+-- Batches that are committed one after the other, over an engine that keeps this book.
+pub record Drives {S : Type 0} (g : Ghosts S) (old new : Keeping S) (b : Book) (batches : List (List Taken)) (dones : List Done) : Type 0 where
+  pub answers : AreAnswers old.kept b batches dones
+  pub replies : replies_of batches dones ≡ replies rules b (kept_of batches dones)
+  pub leads : LeadsTo g old new b (has_unknown dones) (kept_of batches dones) (in_hand batches dones)
+
+-- From a sound book every book that is reached is sound: that after any beginning of these commands.
+abbrev pub ReachesSound : Book → List Command → Type 0
+ReachesSound b commands = IsSound rules b → (l m : List Command) → l ++ m ≡ commands → IsSound rules (after rules b l)

@@ -1,0 +1,60 @@
+//! Batches, one after the other.
+ghost use Rattle.std.specs.Prelude.{◌≡◌, ◌++◌, true, false, IfOk, IfErr};
+ghost use Rattle.flow_model.specs.Book.{Book};
+ghost use Rattle.flow_commit.specs.Keeping.{IsFit, KeepsBook};
+ghost use Rattle.flow_engine.specs.declared.done.Done.TheVariants as dones;
+ghost use Rattle.flow_engine.specs.Driving.{HasDone, Drives, ReachesSound, all_halted, kept_of, in_hand};
+
+use crate::done::Done;
+use crate::engine::Engine;
+use flow_commit::batch::Batch;
+use flow_commit::outcome::Outcome;
+use sqlite::Alter;
+use std::alloc::{AllocError, Global};
+
+/// Commits a batch and gives its stamp up.
+fn done_with<S: Alter>(engine: &mut Engine<S>, batch: Batch) -> Done
+    ensures fit { IsFit S.Store engine.new → IsFit S.Store engine.old }
+    ensures does { IsFit S.Store engine.new → (b : Book) → KeepsBook S.Store engine.old b → HasDone S.Store engine.old engine.new b batch result }
+    ensures halted { engine.old.halted ≡ true → engine.new ≡ engine.old }
+    ensures later { engine.old.halted ≡ true → result ≡ dones.Halted }
+{
+    match engine.commit(batch) {
+        Outcome::Kept(receipts, stamp) => {
+            stamp.discard();
+            Done::Kept(receipts)
+        }
+        Outcome::NotApplied(_, fault) => Done::NotApplied(fault),
+        Outcome::Unknown(_) => Done::Unknown,
+        Outcome::Halted(_) => Done::Halted,
+    }
+}
+
+/// Commits batches one after the other, and tells what became of each.
+///
+/// # Failure
+/// E01, before the first batch: they come back, and nothing has changed.
+pub fn drive<S: Alter>(
+    alloc: Global,
+    engine: &mut Engine<S>,
+    batches: Vec<Batch>,
+) -> Result<Vec<Done>, (Vec<Batch>, AllocError)>
+    ensures fit { IsFit S.Store engine.new → IsFit S.Store engine.old }
+    ensures drives { IsFit S.Store engine.new → (b : Book) → KeepsBook S.Store engine.old b → engine.old.halted ≡ false → IfOk result (λ ds. Drives S.Store engine.old engine.new b batches.items ds.items) }
+    // Every book on the way is sound, and so is the one that a batch in hand may have led to.
+    ensures sound { IfOk result (λ ds. (b : Book) → ReachesSound b (kept_of batches.items ds.items ++ in_hand batches.items ds.items)) }
+    // An engine that has halted does nothing.
+    ensures halted { engine.old.halted ≡ true → engine.new ≡ engine.old }
+    ensures later { engine.old.halted ≡ true → IfOk result (λ ds. ds.items ≡ all_halted batches.items) }
+    ensures back { IfErr result (λ e. e.0 ≡ batches) }
+    ensures same { IfErr result (λ _. engine.new ≡ engine.old) }
+{
+    let mut dones = Vec::new(alloc);
+    if dones.reserve(batches.len()).is_err() {
+        return Err((batches, AllocError));
+    }
+    for batch in batches {
+        dones.push_reserved(done_with(engine, batch));
+    }
+    Ok(dones)
+}

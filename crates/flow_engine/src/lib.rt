@@ -1,0 +1,8 @@
+//! The engine over a store.
+#![tactic(auto)]
+
+pub mod done;
+pub mod drive;
+pub mod engine;
+#[cfg(test)]
+mod tests;

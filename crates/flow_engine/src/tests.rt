@@ -1,0 +1,188 @@
+//! Lists of batches over a store in memory, with ample memory.
+use crate::done::Done;
+use crate::drive::drive;
+use crate::engine::Engine;
+use flow_base::code::Code;
+use flow_base::command::{Command, Reply};
+use flow_base::number::{EventId, Moment, RunId, TextNo};
+use flow_base::sequence::Sequence;
+use flow_base::text::{Key, RawText};
+use flow_base::value::Value;
+use flow_commit::batch::Batch;
+use flow_commit::keeper::Keeper;
+use flow_machine::taken::Taken;
+use flow_tables::stored::Tables;
+use sqlite::{Alter, Connection};
+use std::alloc::Global;
+use std::test::Fail;
+
+const A: &str =
+    "workflow a(n: int) { activity c(int, text) -> int; let r = 0; r = call c(n, \"eur\"); return r + 1; }";
+
+fn register(alloc: Global) -> Result<Command, Fail> {
+    Ok(Command::Register(RawText::new(alloc, A)?))
+}
+
+fn start(alloc: Global) -> Result<Command, Fail> {
+    let text = TextNo::new(1).ok_or("no text")?;
+    let at = Moment::new(1000).ok_or("no moment")?;
+    let arguments = Sequence::from_vec(vec![in alloc; Value::Int(7)]?);
+    let request = Key::new(alloc, "q")?;
+    let flow = Key::new(alloc, "f")?;
+    Ok(Command::Start(request, flow, text, arguments, at))
+}
+
+fn complete() -> Result<Command, Fail> {
+    let run = RunId::new(1).ok_or("no run")?;
+    let event = EventId::new(2).ok_or("no event")?;
+    let at = Moment::new(1500).ok_or("no moment")?;
+    Ok(Command::Complete(run, event, 1, Value::Int(41), at))
+}
+
+fn history() -> Result<Command, Fail> {
+    Ok(Command::History(RunId::new(1).ok_or("no run")?))
+}
+
+fn batch(alloc: Global, ticket: u64, command: Command) -> Result<Batch, Fail> {
+    match Batch::one(alloc, Taken { ticket, command }) {
+        Ok(batch) => Ok(batch),
+        Err((_, _)) => Err(Fail::from("no batch")),
+    }
+}
+
+fn begun(alloc: Global) -> Result<Vec<Batch>, Fail> {
+    let first = batch(alloc, 7, register(alloc)?)?;
+    let second = batch(alloc, 5, start(alloc)?)?;
+    Ok(vec![in alloc; first, second]?)
+}
+
+fn reported(alloc: Global) -> Result<Vec<Batch>, Fail> {
+    let first = batch(alloc, 3, complete()?)?;
+    let second = batch(alloc, 1, complete()?)?;
+    Ok(vec![in alloc; first, second]?)
+}
+
+fn asked(alloc: Global) -> Result<Vec<Batch>, Fail> {
+    let first = batch(alloc, 2, history()?)?;
+    Ok(vec![in alloc; first]?)
+}
+
+fn opened<S: Alter + Drop>(alloc: Global, conn: Connection<S>) -> Result<Engine<S>, Fail> {
+    match Tables::open(alloc, conn) {
+        Ok(tables) => Ok(Engine::over(alloc, Keeper::over(alloc, tables))),
+        Err((_, _)) => Err(Fail::from("not opened")),
+    }
+}
+
+fn driven<S: Alter>(
+    alloc: Global,
+    engine: &mut Engine<S>,
+    batches: Vec<Batch>,
+) -> Result<Vec<Done>, Fail> {
+    match drive(alloc, engine, batches) {
+        Ok(dones) => Ok(dones),
+        Err((_, _)) => Err(Fail::from("no room")),
+    }
+}
+
+// The reply to a batch that was kept with this ticket and at this place.
+fn reply(done: Option<&Done>, ticket: u64, place: u64) -> Option<&Reply> {
+    match done {
+        Some(Done::Kept(receipts)) => match receipts.as_slice() {
+            [receipt] => {
+                if receipt.ticket == ticket && receipt.place == place {
+                    return Some(&receipt.reply);
+                }
+                None
+            }
+            _ => None,
+        },
+        _ => None,
+    }
+}
+
+fn is_begun(dones: &[Done]) -> bool {
+    let is_registered =
+        matches!(reply(dones.get(0), 7, 1), Some(Reply::Registered(text)) if text.get() == 1);
+    let is_started =
+        matches!(reply(dones.get(1), 5, 2), Some(Reply::Started(run)) if run.get() == 1);
+    dones.len() == 2 && is_registered && is_started
+}
+
+fn is_reported(dones: &[Done], place: u64, next: u64) -> bool {
+    let is_recorded =
+        matches!(reply(dones.get(0), 3, place), Some(Reply::Recorded(_, event)) if event.get() == 3);
+    let is_refused = matches!(
+        reply(dones.get(1), 1, next),
+        Some(Reply::Refused(Code::NotOpen))
+    );
+    dones.len() == 2 && is_recorded && is_refused
+}
+
+fn events(dones: &[Done], place: u64) -> usize {
+    match reply(dones.get(0), 2, place) {
+        Some(Reply::History(events)) => events.as_slice().len(),
+        _ => 99,
+    }
+}
+
+fn events_now<S: Alter>(alloc: Global, engine: &mut Engine<S>, place: u64) -> Result<usize, Fail> {
+    let dones = driven(alloc, engine, asked(alloc)?)?;
+    Ok(events(dones.as_slice(), place))
+}
+
+fn begin<S: Alter>(alloc: Global, engine: &mut Engine<S>) -> Result<bool, Fail> {
+    let dones = driven(alloc, engine, begun(alloc)?)?;
+    Ok(is_begun(dones.as_slice()))
+}
+
+fn report<S: Alter>(
+    alloc: Global,
+    engine: &mut Engine<S>,
+    place: u64,
+    next: u64,
+) -> Result<bool, Fail> {
+    let dones = driven(alloc, engine, reported(alloc)?)?;
+    Ok(is_reported(dones.as_slice(), place, next))
+}
+
+#[test]
+fn batches_of_one_are_kept(rt: HostRuntime) -> Result<(), Fail> {
+    let alloc = rt.alloc();
+    let mut engine = opened(alloc, Connection::open_in_memory(alloc)?)?;
+    assert!(rt; begin(alloc, &mut engine)?);
+    assert!(rt; report(alloc, &mut engine, 3, 4)?);
+    assert!(rt; !engine.is_halted());
+    Ok(())
+}
+
+#[test]
+fn no_batch_has_no_answer(rt: HostRuntime) -> Result<(), Fail> {
+    let alloc = rt.alloc();
+    let mut engine = opened(alloc, Connection::open_in_memory(alloc)?)?;
+    let dones = driven(alloc, &mut engine, Vec::new(alloc))?;
+    assert!(rt; dones.is_empty());
+    Ok(())
+}
+
+#[test]
+fn an_open_run_is_there_again(rt: HostRuntime) -> Result<(), Fail> {
+    let alloc = rt.alloc();
+    let mut engine = opened(alloc, Connection::open_in_memory(alloc)?)?;
+    assert!(rt; begin(alloc, &mut engine)?);
+    let mut again = opened(alloc, engine.into_connection())?;
+    assert_eq!(rt; events_now(alloc, &mut again, 1)?, 2);
+    Ok(())
+}
+
+#[test]
+fn a_report_is_there_again(rt: HostRuntime) -> Result<(), Fail> {
+    let alloc = rt.alloc();
+    let mut engine = opened(alloc, Connection::open_in_memory(alloc)?)?;
+    assert!(rt; begin(alloc, &mut engine)?);
+    let mut again = opened(alloc, engine.into_connection())?;
+    assert!(rt; report(alloc, &mut again, 1, 2)?);
+    let mut last = opened(alloc, again.into_connection())?;
+    assert_eq!(rt; events_now(alloc, &mut last, 1)?, 4);
+    Ok(())
+}
