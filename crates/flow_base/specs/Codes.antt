@@ -39,9 +39,15 @@ code_number c.AlreadyOpen = 62
 code_number c.NotOpen = 64
 code_number c.OldAttempt = 65
 code_number c.WrongType = 66
+code_number c.Mismatch = 68
 code_number c.HistoryFull = 69
 code_number c.NoRun = 70
 code_number c.StoreRefused = 80
+code_number c.NotOurs = 81
+code_number c.BadVersion = 82
+code_number c.Damaged = 83
+code_number c.Unknown = 84
+code_number c.Halted = 85
 code_number c.NoFile = 93
 code_number c.BadUsage = 97
 

@@ -76,12 +76,24 @@ pub enum Code {
     OldAttempt,
     /// E66: the value has the wrong type.
     WrongType,
+    /// E68: a run doesn't replay under its text.
+    Mismatch,
     /// E69: the history is full.
     HistoryFull,
     /// E70: no such run.
     NoRun,
     /// E80: the store refused a statement.
     StoreRefused,
+    /// E81: the file has other tables than ours.
+    NotOurs,
+    /// E82: the tables have another format.
+    BadVersion,
+    /// E83: the rows stand for no book.
+    Damaged,
+    /// E84: whether the batch was kept isn't known before the store is opened again.
+    Unknown,
+    /// E85: the keeper is halted until the store is opened again.
+    Halted,
     /// E93: a program file can't be read.
     NoFile,
     /// E97: bad usage.
@@ -129,9 +141,15 @@ impl Code {
             Code::NotOpen => 64,
             Code::OldAttempt => 65,
             Code::WrongType => 66,
+            Code::Mismatch => 68,
             Code::HistoryFull => 69,
             Code::NoRun => 70,
             Code::StoreRefused => 80,
+            Code::NotOurs => 81,
+            Code::BadVersion => 82,
+            Code::Damaged => 83,
+            Code::Unknown => 84,
+            Code::Halted => 85,
             Code::NoFile => 93,
             Code::BadUsage => 97,
         }
