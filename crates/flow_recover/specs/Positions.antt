@@ -1,5 +1,5 @@
 -- Where the open runs of a book stand, and what keeps a book from having such positions.
-use Rattle.std.specs.Prelude.{◌≡◌, ◌⊎◌, ◌≤◌, ◌<◌, ◌+◌, ◌^◌, ℕ, true, false, List, [], ◌∷◌, length, Option, Some, None, Result, Ok, Err, if◌then◌else◌}
+use Rattle.std.specs.Prelude.{◌≡◌, ◌⊎◌, ◌≤◌, ◌<◌, ◌+◌, ◌^◌, ℕ, true, false, List, [], ◌∷◌, ◌++◌, length, Option, Some, None, Result, Ok, Err, if◌then◌else◌}
 use Rattle.flow_base.specs.Syntax.{Bytes, Program}
 use Rattle.flow_base.specs.declared.event.Wrong.{Wrong}
 use Rattle.flow_base.specs.declared.book.Run.{Run}
@@ -49,6 +49,11 @@ ArePositions u b qs = AreOf u b (open_from 1 b.runs) qs
 abbrev pub IsFound : Meaning → Book → ℕ → Run → Option Position → Type 0
 IsFound u b n r None = is_open (state_of r.history) ≡ false
 IsFound u b n r (Some q) = (is_open (state_of r.history) ≡ true) × IsPosition u b n r q
+
+-- these positions and what was found at the next run
+abbrev pub with_found : List Position → Option Position → List Position
+with_found qs None = qs
+with_found qs (Some q) = qs ++ q ∷ []
 
 ---- Refusals
 
