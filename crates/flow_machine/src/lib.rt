@@ -8,4 +8,5 @@ pub mod laws;
 mod report;
 #[cfg(test)]
 mod tests;
+pub mod taken;
 mod turns;

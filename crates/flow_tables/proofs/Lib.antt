@@ -29,3 +29,7 @@ pub mod Reading
 pub mod Found
 pub mod Asked
 pub mod Parts
+pub mod BookReads
+pub mod Owning
+pub mod Wholes
+pub mod Causes

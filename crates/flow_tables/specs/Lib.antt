@@ -6,3 +6,4 @@ pub mod Opening
 pub mod Faults
 pub mod Reads
 pub mod Puts
+pub mod Owned

@@ -1,0 +1,26 @@
+-- How transactions and commits end.
+use Rattle.std.specs.Prelude.{◌≡◌, true, false, List}
+use Rattle.sqlite_trees.specs.declared.store.Store.{Ghosts}
+use Rattle.flow_base.specs.declared.command.Command.{Command}
+use Rattle.flow_model.specs.Book.{Book}
+use Rattle.flow_model.specs.Apply.{outcome, after_one}
+use Rattle.flow_machine.specs.declared.taken.Taken.{Taken}
+use Rattle.flow_tables.specs.Owned.{Stored, state_of, Keeps, LeavesEither}
+use Rattle.flow_commit.specs.declared.outcome.Outcome.{Outcome}
+use Rattle.flow_commit.specs.declared.outcome.Outcome.TheVariants as outcomes
+use Rattle.flow_commit.specs.declared.transaction.End.{End}
+use Rattle.flow_commit.specs.declared.transaction.End.TheVariants as end
+use Rattle.flow_commit.specs.Keeping.{Keeping, rules, HasKept, HasRefused, IsUnknown}
+
+-- how a transaction has ended that was to apply a command to a book
+abbrev pub EndsAs : {S : Type 0} → Ghosts S → Stored S → Book → Command → End → Type 0
+EndsAs g new b c (end.Kept reply) = (reply ≡ (outcome rules b c).reply) × Keeps (state_of g new) (after_one rules b c)
+EndsAs g new b c (end.Refused f) = Keeps (state_of g new) b
+EndsAs g new b c end.Unknown = LeavesEither (state_of g new) b (after_one rules b c)
+
+-- what a commit has done, by its outcome
+abbrev pub HasCommitted : {S : Type 0} → Ghosts S → Keeping S → Keeping S → Book → List Taken → Outcome → Type 0
+HasCommitted g old new b batch (outcomes.Kept receipts stamp) = (old.halted ≡ false) × (stamp ≡ new.kept) × HasKept g old new b batch receipts.items
+HasCommitted g old new b batch (outcomes.NotApplied back f) = (old.halted ≡ false) × (back ≡ batch) × HasRefused g old new b
+HasCommitted g old new b batch (outcomes.Unknown back) = (old.halted ≡ false) × (back ≡ batch) × IsUnknown g old new b batch
+HasCommitted g old new b batch (outcomes.Halted back) = (old.halted ≡ true) × (back ≡ batch) × (new ≡ old)

@@ -1,0 +1,73 @@
+-- What a keeper keeps, and what becomes of a batch.
+use Rattle.std.specs.Prelude.{◌≡◌, ◌+◌, ℕ, Bool, true, false, List, [], ◌∷◌, length, map, refl}
+use Rattle.std.specs.Coded.{Coded, code_by, coded×, coded_ℕ, coded_bool, coded_list}
+use Rattle.sqlite_trees.specs.declared.store.Store.{Ghosts}
+use Rattle.flow_base.specs.declared.command.Command.{Command}
+use Rattle.flow_check.specs.Language.{meaning_of}
+use Rattle.flow_model.specs.Book.{Book}
+use Rattle.flow_model.specs.Apply.{Rules, rules_of, outcome, after, after_one}
+use Rattle.flow_machine.specs.declared.taken.Taken.{Taken}
+use Rattle.flow_machine.specs.declared.taken.Receipt.{Receipt}
+use Rattle.flow_machine.specs.contracts.taken.Taken as taken_row
+use Rattle.flow_tables.specs.Owned as tables
+use Rattle.flow_tables.specs.Owned.{Stored, stored_code, state_of, Keeps, LeavesEither}
+
+-- The value of a keeper: its tables, how many commands it has kept since they were opened, and whether it has halted.
+pub record Keeping (S : Type 0) : Type 0 where
+  pub stored : Stored S
+  pub kept : ℕ
+  pub halted : Bool
+
+abbrev pub keeping_code : {S : Type 0} → Coded S → Coded (Keeping S)
+keeping_code {S} store =
+    code_by (Stored S × (ℕ × Bool)) (coded× (stored_code store) (coded× coded_ℕ coded_bool)) (λ k. (k.stored, (k.kept, k.halted)))
+    (λ p. record { stored = p.0; kept = p.1.0; halted = p.1.1 }) (λ _. refl)
+
+-- the rules of the product
+abbrev pub rules : Rules
+rules = rules_of meaning_of
+
+-- The tables that were opened were ours or none, and the disk has told no lie so far.
+abbrev pub IsFit : {S : Type 0} → Ghosts S → Keeping S → Type 0
+IsFit g k = tables.IsFit g k.stored
+
+-- The keeper keeps this book, and each stop at this moment leaves it.
+abbrev pub KeepsBook : {S : Type 0} → Ghosts S → Keeping S → Book → Type 0
+KeepsBook g k b = Keeps (state_of g k.stored) b
+
+---- A batch
+
+abbrev pub batch_code : Coded (List Taken)
+batch_code = coded_list taken_row.the_row.coded
+
+abbrev pub command_of : Taken → Command
+command_of t = t.command
+
+abbrev pub commands_of : List Taken → List Command
+commands_of ts = map command_of ts
+
+abbrev pub receipt_of : ℕ → Book → Taken → Receipt
+receipt_of place b t = record { ticket = t.ticket; place = place; command = t.command; reply = (outcome rules b t.command).reply }
+
+-- The receipts of a batch that is applied to a book behind so many commands: the replies of apply, at their places.
+abbrev pub receipts_of : ℕ → Book → List Taken → List Receipt
+receipts_of kept b [] = []
+receipts_of kept b (t ∷ ts) = receipt_of (kept + 1) b t ∷ receipts_of (kept + 1) (after_one rules b t.command) ts
+
+-- The batch is kept: the book is what apply makes of it.
+pub record HasKept {S : Type 0} (g : Ghosts S) (old new : Keeping S) (b : Book) (batch : List Taken) (receipts : List Receipt) : Type 0 where
+  pub book : KeepsBook g new (after rules b (commands_of batch))
+  pub told : receipts ≡ receipts_of old.kept b batch
+  pub counts : new.kept ≡ old.kept + length batch
+  pub goes_on : new.halted ≡ false
+
+-- It isn't, and nothing has changed.
+pub record HasRefused {S : Type 0} (g : Ghosts S) (old new : Keeping S) (b : Book) : Type 0 where
+  pub book : KeepsBook g new b
+  pub counts : new.kept ≡ old.kept
+  pub goes_on : new.halted ≡ false
+
+-- Nobody knows: a stop may leave the book before it or the book after it. The keeper has halted.
+pub record IsUnknown {S : Type 0} (g : Ghosts S) (old new : Keeping S) (b : Book) (batch : List Taken) : Type 0 where
+  pub either : LeavesEither (state_of g new.stored) b (after rules b (commands_of batch))
+  pub halted : new.halted ≡ true

@@ -1,0 +1,95 @@
+-- What reads of rows tell of the book.
+use Rattle.std.proofs.Common.{◌≡◌, ◌⊎◌, inl, inr, ℕ, zero, suc, ℤ, pos, true, List, Option, Some, None, Result, Ok, Err, refl, sym, ap, subst, ◌∙◌, arith}
+use Rattle.std.specs.Prelude.{MatchResult, IfOk, option_map}
+use Rattle.sqlite.specs.State.{State, HasCleanDisk, Survives}
+use Rattle.flow_base.specs.declared.book.Run.{Run}
+use Rattle.flow_model.specs.Book.{Book, nth}
+use Rattle.flow_view.specs.declared.fault.ViewFault.{ViewFault}
+use Rattle.flow_rows.specs.declared.rows.RunRow.{RunRow}
+use Rattle.flow_rows.specs.declared.rows.EventRow.{EventRow}
+use Rattle.flow_rows.specs.declared.rows.OutboxRow.{OutboxRow}
+use Rattle.flow_rows.specs.Rows.{Tables, run_row}
+use Rattle.flow_rows.specs.Finding.{last_number}
+use Rattle.flow_rows.specs.Recalling.{run_in}
+use Rattle.flow_rows.specs.Told.{Tells, run_told}
+use Rattle.flow_rows.proofs.Recalled.{run_in_told}
+use Rattle.flow_rows.proofs.Finds.{run_read}
+use Rattle.flow_tables.specs.Owned.{ReadsBook, RecallsRun, as_number, as_count}
+use Rattle.flow_tables.specs.Stored.{tables_in}
+use Rattle.flow_tables.proofs.Stops.{quiet_then}
+use Rattle.flow_tables.specs.States.{IsOver, Holds, IsStill, IsRefused, IsUndone}
+
+same_numbers : (a b : Option ℕ) → option_map pos a ≡ option_map pos b → a ≡ b
+same_numbers None None e = refl
+same_numbers None (Some n) e = absurd (cc)
+same_numbers (Some m) None e = absurd (cc)
+same_numbers (Some m) (Some n) e = cc
+
+same_counts : (a b : ℕ) → last_number a ≡ last_number b → a ≡ b
+same_counts zero zero e = refl
+same_counts zero (suc n) e = absurd (cc)
+same_counts (suc m) zero e = absurd (cc)
+same_counts (suc m) (suc n) e = cc
+
+module _ (old new : State) where
+  -- a number that was found is that of the book
+  pub number_told : (r : Result (Option ℕ) ViewFault) (found : Option ℤ) (o : Option ℕ) → IfOk r (λ x. found ≡ as_number x) → IsStill true old new → found ≡ option_map pos o
+      → MatchResult r (λ v. IsStill true old new × (v ≡ o)) (λ _. IsRefused true old new)
+  number_told (Ok x) found o h still e = (still, same_numbers x o (sym h ∙ e))
+  number_told (Err f) found o h still e = inl still
+
+  pub count_told : (r : Result ℕ ViewFault) (found : Option ℤ) (n : ℕ) → IfOk r (λ x. found ≡ as_count x) → IsStill true old new → found ≡ last_number n
+      → MatchResult r (λ v. IsStill true old new × (v ≡ n)) (λ _. IsRefused true old new)
+  count_told (Ok x) found n h still e = (still, same_counts x n (sym h ∙ e))
+  count_told (Err f) found n h still e = inl still
+
+module _ (a b c : State) where
+  pub still_then : IsStill true a b → IsStill true b c → IsStill true a c
+  still_then one two = (two.0, two.1 ∙ one.1, two.2 ∙ one.2)
+
+  pub still_refused : IsStill true a b → IsRefused true b c → IsRefused true a c
+  still_refused one (inl still) = inl (still_then one still)
+  still_refused one (inr undone) =
+      inr (record {
+        mode = undone.mode;
+        over = λ up. let u = undone.over up in (u.0, u.1 ∙ one.2, u.2 ∙ one.2);
+      })
+
+-- tables that are as they were tell what they told
+pub tells_still : (a b : State) (k : Book) → IsStill true a b → Tells (tables_in a.now.trees) k → Tells (tables_in b.now.trees) k
+tells_still a b k still h = subst (λ d. Tells (tables_in d.trees) k) (sym still.1) h
+
+-- the run that was read from its rows
+pub recalled : (t : Tables) (b : Book) (n : ℕ) (r x : Run) (row : RunRow) (events : List EventRow) (tasks : List OutboxRow) → Tells t b → nth b.runs n ≡ Some r → row ≡ run_row n r
+    → events ≡ t.events (pos n) → tasks ≡ t.outbox (pos n) → Some x ≡ run_in row events tasks → x ≡ r
+recalled t b n r x row events tasks h at is e k found =
+    sym (run_in_told row events tasks x (sym found)) ∙ told
+  where
+    told : run_told events tasks row ≡ r
+    told = ap (λ y. run_told y tasks row) e ∙ ap (λ y. run_told (t.events (pos n)) y row) k ∙ ap (λ y. run_told (t.events (pos n)) (t.outbox (pos n)) y) is ∙ run_read t b n r h at
+
+-- a call after a read that changed nothing
+pub second_survives : (a b c : State) → Survives a b (λ _. ⊥) → (Holds true b → Survives b c (λ _. ⊥)) → (HasCleanDisk b → IsStill true a b) → Survives a c (λ _. ⊥)
+second_survives a b c one two still = quiet_then a b c one (two (λ clean. (still clean).0))
+
+no_some : {A B : Type 0} (f : A → B) (o : Option A) (y : B) → Some y ≡ option_map f o → (x : A) × (o ≡ Some x) × (y ≡ f x)
+no_some f None y e = absurd (cc)
+no_some f (Some x) y e = (x, refl, (cc))
+
+no_none : {A B : Type 0} (f : A → B) (o : Option A) → None ≡ option_map f o → None ≡ o
+no_none f None e = refl
+no_none f (Some x) e = absurd (cc)
+
+-- where no row has the number, there is no such run
+pub no_run : (n : ℕ) (o : Option Run) → None ≡ option_map (run_row n) o → None ≡ o
+no_run n o e = no_none (run_row n) o e
+
+-- a run that was recalled after its row was read
+pub run_then : (a b c : State) (k : Book) (n : ℕ) (row : RunRow) (result : Result Run ViewFault) → Tells (tables_in a.now.trees) k → IsStill true a b → Some row ≡ option_map (run_row n) (nth k.runs n)
+    → RecallsRun b c n row result → MatchResult result (λ v. IsStill true a c × (Some v ≡ nth k.runs n)) (λ _. IsRefused true a c)
+run_then a b c k n row result h still e recalls = let it = no_some (run_row n) (nth k.runs n) row e in go it result (recalls k it.0 (tells_still a b k still h) it.1 it.2 (λ _. still.0))
+  where
+    go : (it : (x : Run) × (nth k.runs n ≡ Some x) × (row ≡ run_row n x)) (result : Result Run ViewFault) → MatchResult result (λ v. IsStill true b c × (v ≡ it.0)) (λ _. IsRefused true b c)
+        → MatchResult result (λ v. IsStill true a c × (Some v ≡ nth k.runs n)) (λ _. IsRefused true a c)
+    go it (Ok v) r = (still_then a b c still r.0, ap Some r.1 ∙ sym it.1)
+    go it (Err f) r = still_refused a b c still r

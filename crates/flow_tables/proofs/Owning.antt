@@ -1,0 +1,294 @@
+-- What tables keep true of their connection, call by call.
+use Rattle.std.proofs.Common.{◌≡◌, ◌⊎◌, inl, inr, ℕ, Bool, true, false, List, [], Option, Some, None, Result, Ok, Err, refl, sym, ap, subst, ◌∙◌, codes}
+use Rattle.std.specs.Prelude.{IsTrue, MatchResult, OnOk, IfOk, IfErr}
+use Rattle.sqlite.specs.Tree.{Trees}
+use Rattle.sqlite.specs.Effect.{Database}
+use Rattle.sqlite.specs.declared.error.Error.{Error}
+use Rattle.sqlite.specs.State.{State, HasCleanDisk, Survives, Shows, Executes, IsUnchanged, IsRolledBack}
+use Rattle.flow_base.specs.declared.book.Change.{Change}
+use Rattle.flow_model.specs.Book.{Book, changed}
+use Rattle.flow_view.specs.declared.fault.ViewFault.{ViewFault}
+use Rattle.flow_view.specs.declared.fault.ViewFault.TheVariants as fault
+use Rattle.flow_rows.specs.Told.{Tells, book_in, after_change, FitsTables}
+use Rattle.flow_rows.proofs.Telling.{told}
+use Rattle.flow_rows.proofs.WholeChanges.{change_told}
+use Rattle.flow_tables.specs.Owned.{IsOwn, IsSure, Keeps, KeepsOn, LeavesWritten, IsFileOf, ReadsBook, TellBook, Refuses, IsNoted, book_of}
+use Rattle.flow_tables.specs.Stored.{tables_in}
+use Rattle.flow_tables.specs.States.{AreOurs, HasTables, IsOver, Holds, IsStill, IsRefused, IsUndone, HasBegun, HasCommitted, HasEnded, Changes}
+use Rattle.flow_tables.specs.Puts.{IsPart, IsCutShort}
+use Rattle.flow_tables.proofs.Leaves.{error_leaves, was_clean}
+use Rattle.flow_tables.proofs.Stops.{IsSettled}
+
+module _ (old new : State) where
+  ---- What keeps the last commit
+
+  pub record LeavesCommit : Type 0 where
+    pub was_open : IsTrue new.is_open → IsTrue old.is_open
+    pub same : IsTrue new.is_open → new.committed ≡ old.committed
+
+  -- whatever was kept is kept on, where nothing is committed
+  pub keeps_on : (ours : Type 0) → (ours → Survives old new (λ _. ⊥)) → (ours → HasCleanDisk new → LeavesCommit) → KeepsOn ours old new
+  keeps_on ours survived left fit clean = let survives = survived fit in let leaves = left fit in (was_clean old new _ survives clean, λ b keeps. record {
+    kept = λ up. let it = leaves clean in subst (λ (d : Database). HasTables d × Tells (tables_in d.trees) b) (sym (it.same up)) (keeps.kept (it.was_open up));
+    stops = λ db may. elim (survives.crash clean db may) [
+      | inl before ↦ keeps.stops db before
+      | inr none ↦ absurd none
+    ];
+  })
+
+  pub shows_leaves : (inside : Bool) (d : Database) → Shows old new d old.committed inside → LeavesCommit
+  shows_leaves inside d h = record { was_open = λ _. h.was_open; same = λ _. h.committed_is }
+
+  pub ended_leaves : HasEnded old new → LeavesCommit
+  ended_leaves h = record { was_open = h.was_open; same = λ up. (h.back up).1 }
+
+  pub rolled_back_leaves : IsRolledBack old new → LeavesCommit
+  rolled_back_leaves h = record { was_open = h.was_open; same = λ up. (h.undone up).1 }
+
+  pub left_leaves : IsUnchanged old new ⊎ IsRolledBack old new → LeavesCommit
+  left_leaves (inl same) = shows_leaves old.in_transaction old.now same.0
+  left_leaves (inr undone) = rolled_back_leaves undone
+
+  pub error_commits_nothing : (sql : List ℕ) (e : Error) → Executes sql [] old new (Err e) → LeavesCommit
+  error_commits_nothing sql e h = left_leaves (error_leaves old new sql [] e h)
+
+  -- over an open connection
+  pub undone_leaves : IsTrue old.is_open → IsUndone old new → LeavesCommit
+  undone_leaves up h = record { was_open = λ _. up; same = λ shown. (h.over shown).2 }
+
+  pub refused_leaves : IsTrue old.is_open → IsRefused true old new → LeavesCommit
+  refused_leaves up (inl still) = record { was_open = λ _. up; same = λ _. still.2 }
+  refused_leaves up (inr undone) = undone_leaves up undone
+
+  pub cut_leaves : IsTrue old.is_open → IsCutShort old new → LeavesCommit
+  cut_leaves up (inl part) = record { was_open = λ _. up; same = λ _. part.committed }
+  cut_leaves up (inr undone) = undone_leaves up undone
+
+  ---- What the tables keep true
+
+  pub own_same : (r : Option ViewFault) → IsOwn old r → Shows old new old.now old.committed old.in_transaction → IsOwn new r
+  own_same r own h = record {
+    over = λ up. let was = own.over h.was_open in record {
+      is_open = up;
+      mode = refl;
+      now = subst HasTables (sym h.now_is) was.now;
+      committed = subst HasTables (sym h.committed_is) was.committed;
+    };
+    kept = λ up. subst (λ (d : Database). TellBook d.trees) (sym h.committed_is) (own.kept h.was_open);
+    rest = λ mode up. h.now_is ∙ own.rest (sym h.mode ∙ mode) h.was_open ∙ sym h.committed_is;
+    whole = λ mode none. (h.is_open, subst (λ (d : Database). TellBook d.trees) (sym h.now_is) (own.whole (sym h.mode ∙ mode) none).1);
+  }
+
+  -- a transaction that has begun shows what is kept
+  pub own_begun : (r : Option ViewFault) → IsOwn old r → HasBegun old new → IsOwn new None
+  own_begun r own h =
+      let back : new.now ≡ old.committed = h.1.now_is ∙ own.rest h.0 h.1.was_open in
+      record {
+        over = λ up. let was = own.over h.1.was_open in record {
+          is_open = up;
+          mode = refl;
+          now = subst HasTables (sym h.1.now_is) was.now;
+          committed = subst HasTables (sym h.1.committed_is) was.committed;
+        };
+        kept = λ up. subst (λ (d : Database). TellBook d.trees) (sym h.1.committed_is) (own.kept h.1.was_open);
+        rest = λ mode up. back ∙ sym h.1.committed_is;
+        whole = λ mode none. (h.1.is_open, subst (λ (d : Database). TellBook d.trees) (sym back) (own.kept h.1.was_open));
+      }
+
+  -- what has ended shows the last commit
+  pub own_ended : (r s : Option ViewFault) → IsOwn old r → HasEnded old new → IsOwn new s
+  own_ended r s own h = record {
+    over = λ up. let was = own.over (h.was_open up) in record {
+      is_open = up;
+      mode = refl;
+      now = subst HasTables (sym (h.back up).0) was.committed;
+      committed = subst HasTables (sym (h.back up).1) was.committed;
+    };
+    kept = λ up. subst (λ (d : Database). TellBook d.trees) (sym (h.back up).1) (own.kept (h.was_open up));
+    rest = λ mode up. (h.back up).0 ∙ sym (h.back up).1;
+    whole = λ mode none. absurd (let e = sym h.mode ∙ mode in cc);
+  }
+
+  pub own_left : (r : Option ViewFault) → IsOwn old r → IsUnchanged old new ⊎ IsRolledBack old new → IsOwn new r
+  own_left r own (inl same) = own_same r own same.0
+  own_left r own (inr undone) = own_ended r r own (record { was_open = undone.was_open; mode = undone.autocommit; back = undone.undone })
+
+  pub own_error : (r : Option ViewFault) (sql : List ℕ) (e : Error) → IsOwn old r → Executes sql [] old new (Err e) → IsOwn new r
+  own_error r sql e own h = own_left r own (error_leaves old new sql [] e h)
+
+  -- what was committed is kept
+  pub own_committed : (r s : Option ViewFault) → r ≡ None → IsOwn old r → HasCommitted old new → IsOwn new s
+  own_committed r s none own h =
+      let inside : old.in_transaction ≡ true = h.0 in
+      record {
+        over = λ up. let was = own.over h.1.was_open in record {
+          is_open = up;
+          mode = refl;
+          now = subst HasTables (sym h.1.now_is) was.now;
+          committed = subst HasTables (sym h.1.committed_is) was.now;
+        };
+        kept = λ up. subst (λ (d : Database). TellBook d.trees) (sym h.1.committed_is) (own.whole inside none).1;
+        rest = λ mode up. h.1.now_is ∙ sym h.1.committed_is;
+        whole = λ mode _. absurd (let e = sym h.1.mode ∙ mode in cc);
+      }
+
+  module _ (r : Option ViewFault) (own : IsOwn old r) (inside : old.in_transaction ≡ true) (none : r ≡ None) where
+    up_now : IsTrue old.is_open
+    up_now = (own.whole inside none).0
+
+    pub own_over : IsOver true old
+    own_over = subst (λ b. IsOver b old) inside (own.over up_now)
+
+    pub own_still : (s : Option ViewFault) → IsStill true old new → IsOwn new s
+    own_still s still = record {
+      over = λ up. subst (λ b. IsOver b new) (sym still.0.mode) still.0;
+      kept = λ up. subst (λ (d : Database). TellBook d.trees) (sym still.2) (own.kept up_now);
+      rest = λ mode up. absurd (let e = sym still.0.mode ∙ mode in cc);
+      whole = λ mode _. (still.0.is_open, subst (λ (d : Database). TellBook d.trees) (sym still.1) (own.whole inside none).1);
+    }
+
+    pub own_undone : (s : Option ViewFault) → IsUndone old new → IsOwn new s
+    own_undone s undone = record {
+      over = λ up. subst (λ b. IsOver b new) (sym undone.mode) (undone.over up).0;
+      kept = λ up. subst (λ (d : Database). TellBook d.trees) (sym (undone.over up).2) (own.kept up_now);
+      rest = λ mode up. (undone.over up).1 ∙ sym (undone.over up).2;
+      whole = λ mode _. absurd (let e = sym undone.mode ∙ mode in cc);
+    }
+
+    pub own_refused : (s : Option ViewFault) → IsRefused true old new → IsOwn new s
+    own_refused s (inl still) = own_still s still
+    own_refused s (inr undone) = own_undone s undone
+
+    pub own_cut : (f : ViewFault) → IsCutShort old new → IsOwn new (Some f)
+    own_cut f (inl part) = record {
+      over = λ up. subst (λ b. IsOver b new) (sym part.over.mode) part.over;
+      kept = λ up. subst (λ (d : Database). TellBook d.trees) (sym part.committed) (own.kept up_now);
+      rest = λ mode up. absurd (let e = sym part.over.mode ∙ mode in cc);
+      whole = λ mode e. absurd (cc);
+    }
+    own_cut f (inr undone) = own_undone (Some f) undone
+
+    pub own_put : (s : Option ViewFault) (c : Change) → FitsTables (book_of old.now.trees) c → Changes old new (after_change c (tables_in old.now.trees)) → IsOwn new s
+    own_put s c fits done =
+        let tells : Tells (tables_in new.now.trees) (changed (book_of old.now.trees) c) = subst (λ t. Tells t (changed (book_of old.now.trees) c)) (sym done.tables) (change_told (tables_in old.now.trees) (book_of old.now.trees) c (own.whole inside none).1 fits) in
+        record {
+          over = λ up. subst (λ b. IsOver b new) (sym done.over.mode) done.over;
+          kept = λ up. subst (λ (d : Database). TellBook d.trees) (sym done.committed) (own.kept up_now);
+          rest = λ mode up. absurd (let e = sym done.over.mode ∙ mode in cc);
+          whole = λ mode _. (done.over.is_open, subst (λ b. Tells (tables_in new.now.trees) b) (sym (told (tables_in new.now.trees) (changed (book_of old.now.trees) c) tells)) tells);
+        }
+
+    -- the book that the tables then show
+    pub put_book : (c : Change) → FitsTables (book_of old.now.trees) c → Changes old new (after_change c (tables_in old.now.trees)) → book_of new.now.trees ≡ changed (book_of old.now.trees) c
+    put_book c fits done =
+        told (tables_in new.now.trees) (changed (book_of old.now.trees) c)
+            (subst (λ t. Tells t (changed (book_of old.now.trees) c)) (sym done.tables) (change_told (tables_in old.now.trees) (book_of old.now.trees) c (own.whole inside none).1 fits))
+
+---- A call of the view, once nothing hinders it
+
+module _ (old new : State) (ours : Type 0) (ro rn : Option ViewFault) (owned : ours → HasCleanDisk old → IsOwn old ro) (none : ro ≡ None) (inside : old.in_transaction ≡ true) (clean : HasCleanDisk new → HasCleanDisk old) where
+  pub holds : ours → Holds true old
+  holds fit was = own_over old new ro (owned fit was) inside none
+
+  module _ {A : Type 0} (result : Result A ViewFault) (value : Book → A) (reads : HasCleanDisk new → ReadsBook old new result value) (noted : IsNoted result ro rn) where
+    told_at : ours → (now : HasCleanDisk new) → MatchResult result (λ v. IsStill true old new × (v ≡ value (book_of old.now.trees))) (λ _. IsRefused true old new)
+    told_at fit now = reads now (book_of old.now.trees) ((owned fit (clean now)).whole inside none).1 (holds fit)
+
+    pub read_own : ours → HasCleanDisk new → IsOwn new rn
+    read_own fit now = go result (told_at fit now)
+      where
+        go : (r : Result A ViewFault) → MatchResult r (λ v. IsStill true old new × (v ≡ value (book_of old.now.trees))) (λ _. IsRefused true old new) → IsOwn new rn
+        go (Ok v) h = own_still old new ro (owned fit (clean now)) inside none rn h.0
+        go (Err f) h = own_refused old new ro (owned fit (clean now)) inside none rn h
+
+    pub read_leaves : ours → HasCleanDisk new → LeavesCommit old new
+    read_leaves fit now = go result (told_at fit now)
+      where
+        go : (r : Result A ViewFault) → MatchResult r (λ v. IsStill true old new × (v ≡ value (book_of old.now.trees))) (λ _. IsRefused true old new) → LeavesCommit old new
+        go (Ok v) h = refused_leaves old new ((owned fit (clean now)).whole inside none).0 (inl h.0)
+        go (Err f) h = refused_leaves old new ((owned fit (clean now)).whole inside none).0 h
+
+    pub read_told : IfOk result (λ v. IsSure ours new rn → (book_of new.now.trees ≡ book_of old.now.trees) × (v ≡ value (book_of old.now.trees)))
+    read_told = go result (λ fit now. told_at fit now)
+      where
+        go : (r : Result A ViewFault) → (ours → HasCleanDisk new → MatchResult r (λ v. IsStill true old new × (v ≡ value (book_of old.now.trees))) (λ _. IsRefused true old new))
+            → IfOk r (λ v. IsSure ours new rn → (book_of new.now.trees ≡ book_of old.now.trees) × (v ≡ value (book_of old.now.trees)))
+        go (Ok v) h = λ sure. let it = h sure.fit sure.clean in (ap (λ (d : Database). book_of d.trees) it.0.1, it.1)
+        go (Err f) h = tt
+
+  pub follows_on : (a : State) → (Holds true old → Survives old new (λ _. ⊥)) → (ours → HasCleanDisk new → LeavesCommit old new) → KeepsOn ours a old → KeepsOn ours a new
+  follows_on a survives leaves before fit now =
+      let on = keeps_on old new ours (λ fit. survives (holds fit)) leaves fit now in
+      let was = before fit on.0 in
+      (was.0, λ b h. on.1 b (was.1 b h))
+
+  pub sure_on : IsSure ours new rn → IsSure ours old ro
+  sure_on h = record { fit = h.fit; clean = clean h.clean; mode = inside; none = none }
+
+  module _ (result : Result Unit ViewFault) (c : Change)
+      (put : (b : Book) → Tells (tables_in old.now.trees) b → Holds true old → HasCleanDisk new
+      → MatchResult result (λ _. FitsTables b c × Changes old new (after_change c (tables_in old.now.trees))) (λ _. IsCutShort old new)) (noted : IsNoted result ro rn) where
+    put_at : ours → (now : HasCleanDisk new) → MatchResult result (λ _. FitsTables (book_of old.now.trees) c × Changes old new (after_change c (tables_in old.now.trees))) (λ _. IsCutShort old new)
+    put_at fit now = put (book_of old.now.trees) ((owned fit (clean now)).whole inside none).1 (holds fit) now
+
+    pub put_own : ours → HasCleanDisk new → IsOwn new rn
+    put_own fit now = go result (put_at fit now) noted
+      where
+        go : (r : Result Unit ViewFault) → MatchResult r (λ _. FitsTables (book_of old.now.trees) c × Changes old new (after_change c (tables_in old.now.trees))) (λ _. IsCutShort old new)
+            → IsNoted r ro rn → IsOwn new rn
+        go (Ok v) h n = own_put old new ro (owned fit (clean now)) inside none rn c h.0 h.1
+        go (Err f) h n = subst (λ s. IsOwn new s) (sym n) (own_cut old new ro (owned fit (clean now)) inside none f h)
+
+    pub put_leaves : ours → HasCleanDisk new → LeavesCommit old new
+    put_leaves fit now = go result (put_at fit now)
+      where
+        up : IsTrue old.is_open
+        up = ((owned fit (clean now)).whole inside none).0
+        go : (r : Result Unit ViewFault) → MatchResult r (λ _. FitsTables (book_of old.now.trees) c × Changes old new (after_change c (tables_in old.now.trees))) (λ _. IsCutShort old new)
+            → LeavesCommit old new
+        go (Ok v) h = record { was_open = λ _. up; same = λ _. h.1.committed }
+        go (Err f) h = cut_leaves old new up h
+
+    pub put_told : OnOk result (IsSure ours new rn → book_of new.now.trees ≡ changed (book_of old.now.trees) c)
+    put_told = go result (λ fit now. put_at fit now)
+      where
+        go : (r : Result Unit ViewFault) → (ours → (now : HasCleanDisk new) → MatchResult r (λ _. FitsTables (book_of old.now.trees) c × Changes old new (after_change c (tables_in old.now.trees))) (λ _. IsCutShort old new))
+            → OnOk r (IsSure ours new rn → book_of new.now.trees ≡ changed (book_of old.now.trees) c)
+        go (Ok v) h = λ sure. let it = h sure.fit sure.clean in put_book old new ro (owned sure.fit (clean sure.clean)) inside none c it.0 it.1
+        go (Err f) h = tt
+
+---- The ends of a transaction
+
+-- what is kept is the book that was read off, and each stop leaves it
+pub keeps_now : (s : State) (r : Option ViewFault) (b : Book) → IsSettled s → IsOwn s r → IsTrue s.is_open → book_of s.committed.trees ≡ b → Keeps s b
+keeps_now s r b law own up is = record {
+  kept = λ _. it;
+  stops = λ db may. let same = law db up may in record {
+    ours = subst AreOurs (sym same) it.0.ours;
+    tells = subst (λ d. Tells (tables_in d) b) (sym same) it.1;
+  };
+}
+  where
+    it : HasTables s.committed × Tells (tables_in s.committed.trees) b
+    it = ((own.over up).committed, subst (λ k. Tells (tables_in s.committed.trees) k) is (own.kept up))
+
+-- the book that a transaction shows when it begins
+pub begun_book : (old new : State) (r : Option ViewFault) (b : Book) → HasBegun old new → IsOwn old r → Keeps old b → book_of new.now.trees ≡ b
+begun_book old new r b h own keeps =
+    ap (λ (d : Database). book_of d.trees) (h.1.now_is ∙ own.rest h.0 h.1.was_open) ∙ told (tables_in old.committed.trees) b (keeps.kept h.1.was_open).1
+
+-- a commit that was refused: a stop may leave what was kept, or what it wrote
+pub commit_unknown : (sure : Type 0) (old new : State) (r : Option ViewFault) (b : Book) → sure → r ≡ None → old.in_transaction ≡ true → IsOwn old r → Survives old new (λ db. db ≡ old.now.trees) → HasCleanDisk new → Keeps old b
+    → LeavesWritten sure new b (book_of old.now.trees)
+commit_unknown sure old new r b is none inside own survives clean keeps db may = elim (survives.crash clean db may) [
+  | inl before ↦ inl (keeps.stops db before)
+  | inr made ↦ inr (is, record {
+    ours = subst AreOurs (sym made) (own.over (own.whole inside none).0).now.ours;
+    tells = subst (λ d. Tells (tables_in d) (book_of old.now.trees)) (sym made) (own.whole inside none).1;
+  })
+]
+
+-- and the book that it showed is kept, where it wasn't
+pub commit_kept : (old new : State) (r s : Option ViewFault) → r ≡ None → IsSettled new → IsOwn old r → HasCommitted old new → Keeps new (book_of old.now.trees)
+commit_kept old new r s none law own h =
+    keeps_now new s (book_of old.now.trees) law (own_committed old new r s none own h) h.1.is_open (ap (λ (d : Database). book_of d.trees) h.1.committed_is)

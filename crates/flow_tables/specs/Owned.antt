@@ -1,0 +1,142 @@
+-- Tables as a value of the code: the book that they hold, and what becomes of it.
+use Rattle.std.specs.Prelude.{◌≡◌, ◌⊎◌, ℕ, ℤ, pos, true, false, Option, Some, None, IsTrue, Result, Ok, Err, MatchResult, option_map, refl}
+use Rattle.std.specs.Coded.{Coded, code_by, coded×, coded_option}
+use Rattle.sqlite_trees.specs.declared.store.Store.{Ghosts}
+use Rattle.sqlite.specs.Effect.{Database}
+use Rattle.sqlite.specs.Tree.{Trees}
+use Rattle.sqlite.specs.Held.{Held, held_code, state}
+use Rattle.sqlite.specs.State.{State, HasCleanDisk}
+use Rattle.flow_base.specs.declared.book.Run.{Run}
+use Rattle.flow_model.specs.Book.{Book, nth, no_book}
+use Rattle.flow_view.specs.declared.fault.ViewFault.{ViewFault}
+use Rattle.flow_view.specs.declared.fault.ViewFault.TheVariants as fault
+use Rattle.flow_view.specs.contracts.fault.ViewFault as fault_row
+use Rattle.flow_rows.specs.declared.rows.RunRow.{RunRow}
+use Rattle.flow_rows.specs.Rows.{run_row}
+use Rattle.flow_rows.specs.Finding.{last_number}
+use Rattle.flow_rows.specs.Told.{book_in, Tells}
+use Rattle.flow_tables.specs.Stored.{tables_in}
+use Rattle.flow_tables.specs.Layout.{no_schema}
+use Rattle.flow_tables.specs.States.{AreOurs, HasTables, IsOver, Holds, IsStill, IsRefused}
+
+-- The value: the connection, why the rest of the transaction is refused, if it is, and, for contracts alone, the connection
+-- as it was handed in.
+pub record Stored (S : Type 0) : Type 0 where
+  pub held : Held S
+  pub refused : Option ViewFault
+  pub opened : Held S
+
+abbrev pub stored_code : {S : Type 0} → Coded S → Coded (Stored S)
+stored_code {S} store =
+    code_by (Held S × (Option ViewFault × Held S)) (coded× (held_code store) (coded× (coded_option fault_row.the_row.coded) (held_code store)))
+    (λ t. (t.held, (t.refused, t.opened)))
+    (λ p. record { held = p.0; refused = p.1.0; opened = p.1.1 })
+    (λ _. refl)
+
+abbrev pub state_of : {S : Type 0} → Ghosts S → Stored S → State
+state_of g t = state g t.held
+
+abbrev pub book_of : Trees → Book
+book_of db = book_in (tables_in db)
+
+-- the rows tell the book that is read off them
+abbrev pub TellBook : Trees → Type 0
+TellBook db = Tells (tables_in db) (book_of db)
+
+-- What the tables keep true of a connection whose disk is clean.
+pub record IsOwn (s : State) (refused : Option ViewFault) : Type 0 where
+  pub over : IsTrue s.is_open → IsOver s.in_transaction s
+  pub kept : IsTrue s.is_open → TellBook s.committed.trees
+  -- at rest the connection shows what was committed
+  pub rest : s.in_transaction ≡ false → IsTrue s.is_open → s.now ≡ s.committed
+  -- a transaction in which nothing was refused shows a book
+  pub whole : s.in_transaction ≡ true → refused ≡ None → IsTrue s.is_open × TellBook s.now.trees
+
+---- The book
+
+-- the book that the connection shows
+abbrev pub book_now : {S : Type 0} → Ghosts S → Stored S → Book
+book_now g t = book_of (state_of g t).now.trees
+
+-- What is said of the book is said of our tables with any rows, or of none, as the file that was opened has them.
+abbrev pub IsOurs : State → Type 0
+IsOurs s = HasCleanDisk s → HasTables s.committed ⊎ (s.committed.schema ≡ no_schema)
+
+-- and of a disk that has told no lie so far
+abbrev pub IsFit : {S : Type 0} → Ghosts S → Stored S → Type 0
+IsFit g t = IsOurs (state g t.opened) × HasCleanDisk (state g t.held)
+
+-- Nothing was refused in the transaction that runs, so it shows a book.
+pub record IsSure (ours : Type 0) (s : State) (refused : Option ViewFault) : Type 0 where
+  pub fit : ours
+  pub clean : HasCleanDisk s
+  pub mode : s.in_transaction ≡ true
+  pub none : refused ≡ None
+
+abbrev pub is_sure : {S : Type 0} → Ghosts S → Stored S → Type 0
+is_sure g t = IsSure (IsOurs (state g t.opened)) (state g t.held) t.refused
+
+-- A transaction that was refused something, or none runs.
+abbrev pub Refuses : State → Option ViewFault → Type 0
+Refuses s refused = (refused ≡ Some fault.StoreRefused) ⊎ (s.in_transaction ≡ false)
+
+-- the trees of a file hold this book
+pub record IsFileOf (db : Trees) (b : Book) : Type 0 where
+  pub ours : AreOurs db
+  pub tells : Tells (tables_in db) b
+
+-- The last commit left this book, as far as the connection is open, and each stop at this moment leaves it.
+pub record Keeps (s : State) (b : Book) : Type 0 where
+  pub kept : IsTrue s.is_open → HasTables s.committed × Tells (tables_in s.committed.trees) b
+  pub stops : (db : Trees) → s.may_leave db → IsFileOf db b
+
+-- each stop at this moment leaves one of these books
+abbrev pub LeavesEither : State → Book → Book → Type 0
+LeavesEither s before after = (db : Trees) → s.may_leave db → IsFileOf db before ⊎ IsFileOf db after
+
+-- the same, of which the later one may be there only where what was written was sure
+abbrev pub LeavesWritten : Type 0 → State → Book → Book → Type 0
+LeavesWritten sure s before after = (db : Trees) → s.may_leave db → IsFileOf db before ⊎ (sure × IsFileOf db after)
+
+-- What was kept is kept on, whatever book it is.
+abbrev pub KeepsOn : Type 0 → State → State → Type 0
+KeepsOn ours old new = ours → HasCleanDisk new → HasCleanDisk old × ((b : Book) → Keeps old b → Keeps new b)
+
+abbrev pub Follows : {S : Type 0} → Ghosts S → Stored S → Stored S → Type 0
+Follows g a b = (b.opened ≡ a.opened) × KeepsOn (IsOurs (state g b.opened)) (state_of g a) (state_of g b)
+
+---- Reads of the book, within a transaction
+
+-- The answer is this of the book that the tables tell, which are as they were; a refusal has changed nothing, or ended it.
+abbrev pub ReadsBook : {A : Type 0} → State → State → Result A ViewFault → (Book → A) → Type 0
+ReadsBook old new result value =
+    (b : Book) → Tells (tables_in old.now.trees) b → Holds true old → MatchResult result (λ v. IsStill true old new × (v ≡ value b)) (λ _. IsRefused true old new)
+
+-- the same, of the run that has this row and stands at this number
+abbrev pub RecallsRun : State → State → ℕ → RunRow → Result Run ViewFault → Type 0
+RecallsRun old new number row result =
+    (b : Book) (r : Run) → Tells (tables_in old.now.trees) b → nth b.runs number ≡ Some r → row ≡ run_row number r → Holds true old
+    → MatchResult result (λ v. IsStill true old new × (v ≡ r)) (λ _. IsRefused true old new)
+
+-- a number as a column holds it
+abbrev pub as_number : Option ℕ → Option ℤ
+as_number o = option_map pos o
+
+-- so many, as their last number, from 1 on
+abbrev pub as_count : ℕ → Option ℤ
+as_count n = last_number n
+
+-- A refusal is noted, and nothing else.
+abbrev pub IsNoted : {A : Type 0} → Result A ViewFault → Option ViewFault → Option ViewFault → Type 0
+IsNoted (Ok v) old new = new ≡ old
+IsNoted (Err f) old new = new ≡ Some f
+
+---- Opening
+
+-- The book that a file holds when it is opened: our tables tell it, or there are none and it is the empty one.
+abbrev pub IsFound : State → Book → Type 0
+IsFound s b = (HasTables s.committed × Tells (tables_in s.committed.trees) b) ⊎ ((s.committed.schema ≡ no_schema) × (b ≡ no_book))
+
+-- A stop leaves what a stop before could leave, or the tables made for this book.
+abbrev pub LeavesMade : State → State → Book → Type 0
+LeavesMade old new b = (db : Trees) → new.may_leave db → old.may_leave db ⊎ IsFileOf db b
