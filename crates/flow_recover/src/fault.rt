@@ -5,6 +5,7 @@ use flow_base::code::Code;
 use flow_base::event::Wrong;
 use flow_base::number::RunId;
 use flow_match::fault::code_of;
+use flow_tables::open::OpenFault;
 use std::alloc::{AllocError, AllocFailed};
 
 /// Why the positions of a book weren't found.
@@ -36,6 +37,17 @@ impl RecoverFault {
             RecoverFault::Mismatch { .. } => Code::Mismatch,
         }
     }
+}
+
+/// Why a store wasn't opened.
+#[derive(Debug, Drop, thiserror::Error)]
+pub enum OpeningFault {
+    /// Its tables were refused.
+    #[error("the tables were refused")]
+    Tables(OpenFault),
+    /// Its open runs have no positions.
+    #[error("{0}")]
+    Positions(RecoverFault),
 }
 
 impl From<AllocError> for RecoverFault {
