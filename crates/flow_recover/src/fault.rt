@@ -1,5 +1,5 @@
 ghost use Rattle.std.specs.Prelude.{◌≡◌};
-ghost use Rattle.flow_recover.specs.Codes.{recover_fault_code};
+ghost use Rattle.flow_recover.specs.Codes.{recover_fault_code, opening_fault_code};
 
 use flow_base::code::Code;
 use flow_base::event::Wrong;
@@ -43,11 +43,23 @@ impl RecoverFault {
 #[derive(Debug, Drop, thiserror::Error)]
 pub enum OpeningFault {
     /// Its tables were refused.
-    #[error("the tables were refused")]
+    #[error("{} the tables were refused", .0.code())]
     Tables(OpenFault),
     /// Its open runs have no positions.
     #[error("{0}")]
     Positions(RecoverFault),
+}
+
+impl OpeningFault {
+    /// The number of the refusal.
+    pub fn code(&self) -> Code
+        ensures { result ≡ opening_fault_code self.now }
+    {
+        match self {
+            OpeningFault::Tables(fault) => fault.code(),
+            OpeningFault::Positions(fault) => fault.code(),
+        }
+    }
 }
 
 impl From<AllocError> for RecoverFault {
