@@ -2,7 +2,7 @@ use Rattle.std.proofs.Common.{◌≡◌, inl, inr, Err, sym, ap, subst}
 use Rattle.sqlite.specs.Held.{state}
 use Rattle.flow_tables.specs.Opening.{opening_fault, IsOfStore, HasCause}
 use Rattle.flow_tables.specs.declared.open.OpenFault.{OpenFault}
-use Rattle.flow_tables.proofs.Finding.{answered}
+use Rattle.flow_tables.proofs.Finding.{answered, blank_never_reads}
 use Rattle.flow_tables.proofs.Opened.{of_store, caused, format_rests, is_ours, not_other, same_fault, if_err}
 use Rattle.flow_tables.proofs.open.find_format.Goals as goal
 
@@ -25,6 +25,13 @@ returns-in-Ok-clause-ours g c clean has =
       | inl other ↦ not_other _ ours (c.in-Err-check_format.ensures.version (ap Err other))
       | inr misread ↦ subst IsOfStore (sym misread.2) (of_store misread.0)
     ]
+
+pub returns-in-Ok-clause-blank : goal.returns-in-Ok-clause-blank
+returns-in-Ok-clause-blank g c clean none =
+    let old = state g.S.Store c.args.conn.now in
+    let new = state g.S.Store c.format_row.new.conn in
+    let asked = c.in-Ok.ensures.queries clean in
+    absurd (blank_never_reads old new _ (none (answered old new _ asked).0.was_open) asked)
 
 pub returns-in-Ok-clause-ended : goal.returns-in-Ok-clause-ended
 returns-in-Ok-clause-ended g c clean rest =

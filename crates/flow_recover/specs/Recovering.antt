@@ -1,0 +1,74 @@
+-- What the opening of a store gives.
+use Rattle.std.specs.Prelude.{◌≡◌, ◌⊎◌, ℕ, List}
+use Rattle.sqlite_trees.specs.declared.store.Store.{Ghosts}
+use Rattle.sqlite.specs.Held.{Held}
+use Rattle.sqlite.specs.State.{State}
+use Rattle.flow_base.specs.declared.event.Wrong.{Wrong}
+use Rattle.flow_check.specs.Language.{meaning_of}
+use Rattle.flow_model.specs.Book.{Book}
+use Rattle.flow_model.specs.Sound.{IsSound}
+use Rattle.flow_tables.specs.declared.open.OpenFault.{OpenFault}
+use Rattle.flow_tables.specs.Faults.{WasRefused}
+use Rattle.flow_tables.specs.Layout.{no_schema}
+use Rattle.flow_tables.specs.Stored.{tables_in}
+use Rattle.flow_tables.specs.States.{HasTables}
+use Rattle.flow_tables.specs.Opening.{StandFor, IsOfStore}
+use Rattle.flow_tables.specs.Owned.{Stored, IsFound, Keeps, Refuses, state_of}
+use Rattle.flow_commit.specs.Keeping.{Keeping, KeepsBook, rules}
+use Rattle.flow_recover.specs.declared.positions.Position.{Position}
+use Rattle.flow_recover.specs.declared.fault.RecoverFault.{RecoverFault}
+use Rattle.flow_recover.specs.declared.fault.RecoverFault.TheVariants as fault
+use Rattle.flow_recover.specs.declared.fault.OpeningFault.{OpeningFault}
+use Rattle.flow_recover.specs.declared.fault.OpeningFault.TheVariants as opening
+use Rattle.flow_recover.specs.Positions.{ArePositions, IsLeastMismatch, LacksProgram, PassesNumbers}
+
+-- The keeper keeps the book that was found, and these are the positions of its open runs.
+pub record IsRecovered {S : Type 0} (g : Ghosts S) (from : State) (k : Keeping S) (qs : List Position) : Type 0 where
+  pub book : Book
+  pub found : IsFound from book
+  pub kept : KeepsBook g k book
+  pub positions : ArePositions meaning_of book qs
+
+-- A store holds nothing that could be refused: its tables stand for a sound book, or it has none.
+abbrev pub HoldsSound : State → Type 0
+HoldsSound s = ((b : Book) × HasTables s.committed × StandFor (tables_in s.committed.trees) b × IsSound rules b) ⊎ (s.committed.schema ≡ no_schema)
+
+---- Refusals
+
+-- the tables were refused, and this is true of their fault
+abbrev pub OfTables : OpeningFault → (OpenFault → Type 0) → Type 0
+OfTables (opening.Tables f) is = is f
+OfTables (opening.Positions f) is = Unit {0}
+
+-- the tables were opened
+abbrev pub IsOfPositions : OpeningFault → Type 0
+IsOfPositions (opening.Tables f) = ⊥
+IsOfPositions (opening.Positions f) = Unit {0}
+
+-- where they were opened, this is true of what was refused then
+abbrev pub OfPositions : OpeningFault → (RecoverFault → Type 0) → Type 0
+OfPositions (opening.Tables f) is = Unit {0}
+OfPositions (opening.Positions f) is = is f
+
+-- Tables that were opened over this connection were refused a statement.
+abbrev pub IsStopping : {S : Type 0} → Ghosts S → Held S → Type 0
+IsStopping {S} g opened = (t : Stored S) × (t.opened ≡ opened) × (WasRefused g (state_of g t) ⊎ Refuses g t)
+
+-- Each refusal of the positions of a book, with what stands behind it; want of memory has no more.
+abbrev pub HasReason : {S : Type 0} → Ghosts S → Held S → Book → RecoverFault → Type 0
+HasReason g opened b fault.NoMemory = Unit {0}
+HasReason g opened b fault.StoreRefused = IsStopping g opened ⊎ (LacksProgram meaning_of b ⊎ PassesNumbers b)
+HasReason g opened b (fault.Mismatch run place name) = IsLeastMismatch meaning_of b run place name
+
+-- The book that was found is kept, and the refusal has its reason in it or in the store.
+pub record IsKeptOn {S : Type 0} (g : Ghosts S) (opened : Held S) (from to : State) (f : RecoverFault) : Type 0 where
+  pub book : Book
+  pub found : IsFound from book
+  pub kept : Keeps to book
+  pub reason : HasReason g opened book f
+
+-- What is told of a store that holds nothing to refuse: that it failed, or that it isn't ours to add to.
+abbrev pub IsOwnFault : OpeningFault → Type 0
+IsOwnFault (opening.Tables f) = IsOfStore f
+IsOwnFault (opening.Positions (fault.Mismatch run place name)) = ⊥
+IsOwnFault (opening.Positions f) = Unit {0}
