@@ -4,6 +4,7 @@
 ghost use Rattle.std.specs.Prelude.{◌≡◌, ◌≤◌, IfOk, IfErr};
 ghost use Rattle.flow_cli.specs.Driving.{stopped_status};
 
+use flow_base::number::RunId;
 use flow_check::language::Language;
 use flow_cli::call::{Call, call_of};
 use flow_cli::check::check_text;
@@ -11,7 +12,6 @@ use flow_cli::drive::{Stopped, drive_lines, end_status};
 use flow_cli::fault::{Fault, fault_line};
 use flow_cli::history::write_history;
 use flow_cli::keeping::{Keeping, history_from};
-use flow_base::number::RunId;
 use sqlite::{Alter, Connection, Error, ErrorCode, File, FileStore, MemStore};
 use std::io::{BufReader, ErrorKind};
 use std::process::ExitCode;
@@ -51,13 +51,19 @@ fn say_fault(rt: &HostRuntime, fault: &Fault) {
 fn work(rt: &HostRuntime) -> Result<u8, Stopped> {
     let words = words(rt)?;
     match call_of(rt.alloc(), words.as_slice()) {
-        Ok(Call::Check(file)) => check(rt, file),
-        Ok(Call::Drive("-")) => drive_memory(rt),
-        Ok(Call::Drive(file)) => drive_file(rt, file),
-        // A store in memory begins with no run.
-        Ok(Call::History("-", _)) => Err(Stopped::Refused(Fault::NoRun)),
-        Ok(Call::History(file, run)) => history(rt, file, run),
+        Ok(call) => perform(rt, &call),
         Err(fault) => Err(Stopped::Refused(fault)),
+    }
+}
+
+fn perform(rt: &HostRuntime, call: &Call<'_>) -> Result<u8, Stopped> {
+    match call {
+        Call::Check(file) => check(rt, file),
+        Call::Drive("-") => drive_memory(rt),
+        Call::Drive(file) => drive_file(rt, file),
+        // A store in memory begins with no run.
+        Call::History("-", _) => Err(Stopped::Refused(Fault::NoRun)),
+        Call::History(file, run) => history(rt, file, *run),
     }
 }
 
