@@ -4,13 +4,15 @@
 ghost use Rattle.std.specs.Prelude.{◌≡◌, ◌≤◌, IfOk, IfErr};
 ghost use Rattle.flow_cli.specs.Driving.{stopped_status};
 
+use flow_base::number::RunId;
 use flow_check::language::Language;
 use flow_cli::call::{Call, call_of};
 use flow_cli::check::check_text;
-use flow_cli::deciding::Deciding;
 use flow_cli::drive::{Stopped, drive_lines, end_status};
 use flow_cli::fault::{Fault, fault_line};
-use flow_view::lists::Lists;
+use flow_cli::history::write_history;
+use flow_cli::keeping::{Keeping, history_from};
+use sqlite::{Alter, Connection, Error, ErrorCode, File, FileStore, MemStore};
 use std::io::{BufReader, ErrorKind};
 use std::process::ExitCode;
 use std::{env, fs, io};
@@ -49,13 +51,19 @@ fn say_fault(rt: &HostRuntime, fault: &Fault) {
 fn work(rt: &HostRuntime) -> Result<u8, Stopped> {
     let words = words(rt)?;
     match call_of(rt.alloc(), words.as_slice()) {
-        Ok(Call::Check(file)) => check(rt, file),
-        Ok(Call::Drive("-")) => drive(rt),
-        // A store in memory begins with no run.
-        Ok(Call::History("-", _)) => Err(Stopped::Refused(Fault::NoRun)),
-        // Stores in files come later.
-        Ok(Call::Drive(_) | Call::History(_, _)) => Err(Stopped::Refused(Fault::StoreRefused)),
+        Ok(call) => perform(rt, &call),
         Err(fault) => Err(Stopped::Refused(fault)),
+    }
+}
+
+fn perform(rt: &HostRuntime, call: &Call<'_>) -> Result<u8, Stopped> {
+    match call {
+        Call::Check(file) => check(rt, file),
+        Call::Drive("-") => drive_memory(rt),
+        Call::Drive(file) => drive_file(rt, file),
+        // A store in memory begins with no run.
+        Call::History("-", _) => Err(Stopped::Refused(Fault::NoRun)),
+        Call::History(file, run) => history(rt, file, *run),
     }
 }
 
@@ -88,19 +96,63 @@ fn check(rt: &HostRuntime, file: &str) -> Result<u8, Stopped> {
     }
 }
 
-/// Answers command lines over a store in memory: the status is 0, 1 where some line was no command, and 3 on an early end.
-fn drive(rt: &HostRuntime) -> Result<u8, Stopped>
-    ensures done { IfOk result (λ n. n ≤ 1) }
+/// The tables of a store, for a keeper.
+fn keep<S: Alter + Drop>(rt: &HostRuntime, conn: Connection<S>) -> Result<Keeping<S>, Stopped> {
+    match Keeping::open(rt.alloc(), conn) {
+        Ok(keeping) => Ok(keeping),
+        Err((fault, _)) => Err(Stopped::Refused(fault)),
+    }
+}
+
+/// The store in this file, which is made where there is none.
+fn open_file(rt: &HostRuntime, file: &str) -> Result<Keeping<FileStore<File>>, Stopped> {
+    match Connection::open(rt, file) {
+        Ok(conn) => keep(rt, conn),
+        Err(Error::SqliteFailure(ErrorCode::OutOfMemory)) => Err(Stopped::Refused(Fault::NoMemory)),
+        Err(_) => Err(Stopped::Refused(Fault::StoreRefused)),
+    }
+}
+
+fn open_memory(rt: &HostRuntime) -> Result<Keeping<MemStore>, Stopped> {
+    let conn = Connection::open_in_memory(rt.alloc())?;
+    keep(rt, conn)
+}
+
+/// Copies the log of a file into the file. What was kept is kept in either, and the next opening reads both.
+fn close_file(keeping: Keeping<FileStore<File>>) {
+    let _ = keeping.into_connection().close();
+}
+
+fn drive_file(rt: &HostRuntime, file: &str) -> Result<u8, Stopped> {
+    let mut keeping = open_file(rt, file)?;
+    let outcome = drive(rt, &mut keeping);
+    close_file(keeping);
+    outcome
+}
+
+fn drive_memory(rt: &HostRuntime) -> Result<u8, Stopped> {
+    let mut keeping = open_memory(rt)?;
+    drive(rt, &mut keeping)
+}
+
+/// Answers command lines over a store: the status is 0, 1 where some line was no command, and 3 where some command was
+/// given up and on an early end.
+fn drive<S: Alter>(rt: &HostRuntime, keeping: &mut Keeping<S>) -> Result<u8, Stopped>
+    ensures done { IfOk result (λ n. n ≤ 3) }
     ensures early { IfErr result (λ e. stopped_status e ≡ 3) }
 {
     let Ok(mut reader) = BufReader::new(rt.alloc(), rt.reader()) else {
         return Err(Stopped::Refused(Fault::NoMemory));
     };
     let mut writer = io::writer(rt);
-    let mut engine = Deciding {
-        alloc: rt.alloc(),
-        texts: &Language,
-        view: Lists::new(rt.alloc()),
-    };
-    drive_lines(rt.alloc(), &mut engine, &mut reader, &mut writer)
+    drive_lines(rt.alloc(), keeping, &mut reader, &mut writer)
+}
+
+fn history(rt: &HostRuntime, file: &str, run: RunId) -> Result<u8, Stopped> {
+    let mut keeping = open_file(rt, file)?;
+    let events = history_from(&mut keeping, run);
+    close_file(keeping);
+    let mut writer = io::writer(rt);
+    write_history(rt.alloc(), &mut writer, events?.as_slice())?;
+    Ok(0)
 }

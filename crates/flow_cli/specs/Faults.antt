@@ -1,5 +1,6 @@
 -- Faults of the programs: their codes, their lines, and the status that follows.
 use Rattle.std.specs.Prelude.{◌≡◌, ℕ, List, [], ◌++◌, codes, decimal, Option, Some, None, Result, Ok, Err}
+use Rattle.std.specs.Fmt.{signed_decimal}
 use Rattle.flow_base.specs.Codes.{code_text}
 use Rattle.flow_base.specs.declared.code.Code.{Code}
 use Rattle.flow_base.specs.declared.code.Code.TheVariants as code
@@ -44,9 +45,9 @@ fault_of_stop stop.Halted = fault.Halted
 -- what stands behind a fault's code, parted by spaces
 abbrev pub fault_details : Fault → List ℕ
 fault_details (fault.Mismatch run event name) = codes " " ++ (decimal run ++ (codes " " ++ (decimal event ++ (codes " " ++ code_text name))))
-fault_details (fault.Damaged table run place None) = codes " " ++ (table_name table ++ (codes " " ++ (decimal run ++ (codes " " ++ decimal place))))
+fault_details (fault.Damaged table run place None) = codes " " ++ (table_name table ++ (codes " " ++ (signed_decimal run ++ (codes " " ++ signed_decimal place))))
 fault_details (fault.Damaged table run place (Some cause)) =
-    codes " " ++ (table_name table ++ (codes " " ++ (decimal run ++ (codes " " ++ (decimal place ++ (codes " " ++ code_text cause))))))
+    codes " " ++ (table_name table ++ (codes " " ++ (signed_decimal run ++ (codes " " ++ (signed_decimal place ++ (codes " " ++ code_text cause))))))
 fault_details f = []
 
 -- the line on standard error

@@ -32,7 +32,7 @@ impl Table {
     }
 }
 
-/// Why a program didn't do its work. Numbers of runs and events are those of the store, places those of its damages.
+/// Why a program didn't do its work. The numbers of a damage are those of its rows, which may be below zero.
 #[derive(Clone, Copy, Debug, PartialEq, Eq, thiserror::Error)]
 pub enum Fault {
     #[error("E01 out of memory")]
@@ -54,8 +54,8 @@ pub enum Fault {
     #[error("E83 damaged at {place} of {run}")]
     Damaged {
         table: Table,
-        run: u64,
-        place: u64,
+        run: i64,
+        place: i64,
         cause: Option<Code>,
     },
     #[error("E84 not known whether it was kept")]
@@ -92,8 +92,8 @@ impl Fault {
 fn damage_details(
     alloc: Global,
     table: Table,
-    run: u64,
-    place: u64,
+    run: i64,
+    place: i64,
     cause: Option<Code>,
 ) -> Result<String, AllocError>
     ensures { IfOk result (λ s. string_bytes s ≡ fault_details (Damaged table run place cause)) }

@@ -9,6 +9,7 @@ pub mod deciding;
 pub mod drive;
 pub mod fault;
 pub mod history;
+pub mod keeping;
 pub mod reply;
 #[cfg(test)]
 mod tests;

@@ -102,7 +102,7 @@ fn faults(rt: HostRuntime) -> Result<(), Fail> {
 }
 
 /// A damage of the run 1.
-fn damaged(table: Table, place: u64, cause: Option<Code>) -> Fault {
+fn damaged(table: Table, place: i64, cause: Option<Code>) -> Fault {
     Fault::Damaged {
         table,
         run: 1,
@@ -129,7 +129,7 @@ fn faults_with_details(rt: HostRuntime) -> Result<(), Fail> {
         (damaged(Table::Run, 0, None), "flow: E83 run 1 0", 3),
         (damaged(Table::Text, 2, None), "flow: E83 text 1 2", 3),
         (damaged(Table::Timer, 4, None), "flow: E83 timer 1 4", 3),
-        (damaged(Table::Outbox, 5, None), "flow: E83 outbox 1 5", 3),
+        (damaged(Table::Outbox, -5, None), "flow: E83 outbox 1 -5", 3),
     ];
     for (fault, line, number) in rows {
         let written = fault_line(a, &fault)?;
