@@ -1,7 +1,6 @@
 -- Answers to batches, with one more behind them.
 use Rattle.std.proofs.Common.{◌≡◌, ℕ, suc, ◌+◌, true, false, true≢false, List, [], ◌∷◌, ◌++◌, length, map, refl, sym, ap, ◌∙◌, subst, arith, append-nil, append_assoc, length-append}
 use Rattle.std.proofs.lemmas.List.{length-map, map-append}
-use Rattle.flow_base.specs.declared.command.Reply.{Reply}
 use Rattle.flow_model.specs.Book.{Book}
 use Rattle.flow_model.specs.Apply.{after, after_one, replies}
 use Rattle.flow_model.proofs.Logs.{after_cut, replies_cut}
@@ -9,7 +8,7 @@ use Rattle.flow_machine.specs.declared.taken.Taken.{Taken}
 use Rattle.flow_commit.specs.Keeping.{rules, command_of, commands_of, receipt_of, receipts_of}
 use Rattle.flow_engine.specs.declared.done.Done.{Done}
 use Rattle.flow_engine.specs.declared.done.Done.TheVariants as done
-use Rattle.flow_engine.specs.Driving.{AreAnswers, all_halted, has_unknown, gathered, if_unknown, reply_of, replies_of, kept_of, in_hand}
+use Rattle.flow_engine.specs.Driving.{AreAnswers, all_halted, has_unknown, gathered, reply_of, replies_of, kept_of, in_hand}
 
 pub off : {A : Type 0} → true ≡ false → A
 off e = absurd (true≢false e)

@@ -4,6 +4,7 @@ use crate::drive::drive;
 use crate::engine::Engine;
 use flow_base::code::Code;
 use flow_base::command::{Command, Reply};
+use flow_base::event::{Cmd, Event, What};
 use flow_base::number::{EventId, Moment, RunId, TextNo};
 use flow_base::sequence::Sequence;
 use flow_base::text::{Key, RawText};
@@ -21,6 +22,19 @@ const A: &str =
 
 fn register(alloc: Global) -> Result<Command, Fail> {
     Ok(Command::Register(RawText::new(alloc, A)?))
+}
+
+fn register_empty(alloc: Global) -> Result<Command, Fail> {
+    Ok(Command::Register(RawText::new(alloc, "workflow e() {}")?))
+}
+
+fn start_empty(alloc: Global) -> Result<Command, Fail> {
+    let text = TextNo::new(1).ok_or("no text")?;
+    let at = Moment::new(0).ok_or("no moment")?;
+    let request = Key::new(alloc, "q")?;
+    let flow = Key::new(alloc, "f")?;
+    let arguments = Sequence::from_vec(Vec::new(alloc));
+    Ok(Command::Start(request, flow, text, arguments, at))
 }
 
 fn start(alloc: Global) -> Result<Command, Fail> {
@@ -53,6 +67,12 @@ fn batch(alloc: Global, ticket: u64, command: Command) -> Result<Batch, Fail> {
 fn begun(alloc: Global) -> Result<Vec<Batch>, Fail> {
     let first = batch(alloc, 7, register(alloc)?)?;
     let second = batch(alloc, 5, start(alloc)?)?;
+    Ok(vec![in alloc; first, second]?)
+}
+
+fn ended_at_once(alloc: Global) -> Result<Vec<Batch>, Fail> {
+    let first = batch(alloc, 1, register_empty(alloc)?)?;
+    let second = batch(alloc, 2, start_empty(alloc)?)?;
     Ok(vec![in alloc; first, second]?)
 }
 
@@ -126,6 +146,24 @@ fn events(dones: &[Done], place: u64) -> usize {
     }
 }
 
+// Its second event, with which it ended.
+fn ends_with_nothing(dones: &[Done], place: u64) -> bool {
+    match reply(dones.get(0), 2, place) {
+        Some(Reply::History(events)) => match events.as_slice() {
+            [_, event] => is_end(event),
+            _ => false,
+        },
+        _ => false,
+    }
+}
+
+fn is_end(event: &Event) -> bool {
+    match &event.what {
+        What::Asked(Cmd::Complete(Value::Text(text))) => text.as_str().is_empty(),
+        _ => false,
+    }
+}
+
 fn events_now<S: Alter>(alloc: Global, engine: &mut Engine<S>, place: u64) -> Result<usize, Fail> {
     let dones = driven(alloc, engine, asked(alloc)?)?;
     Ok(events(dones.as_slice(), place))
@@ -184,5 +222,15 @@ fn a_report_is_there_again(rt: HostRuntime) -> Result<(), Fail> {
     assert!(rt; report(alloc, &mut again, 1, 2)?);
     let mut last = opened(alloc, again.into_connection())?;
     assert_eq!(rt; events_now(alloc, &mut last, 1)?, 4);
+    Ok(())
+}
+
+#[test]
+fn a_flow_with_nothing_to_do_ends(rt: HostRuntime) -> Result<(), Fail> {
+    let alloc = rt.alloc();
+    let mut engine = opened(alloc, Connection::open_in_memory(alloc)?)?;
+    driven(alloc, &mut engine, ended_at_once(alloc)?)?;
+    let dones = driven(alloc, &mut engine, asked(alloc)?)?;
+    assert!(rt; ends_with_nothing(dones.as_slice(), 3));
     Ok(())
 }
