@@ -1,9 +1,8 @@
 -- What becomes of a store while it is opened.
-use Rattle.std.proofs.Common.{◌≡◌, ◌⊎◌, ℕ, inl, inr, [], length, refl, sym, ◌∙◌, subst, Result, Ok, Err}
+use Rattle.std.proofs.Common.{◌≡◌, inl, inr, [], length, refl, sym, ◌∙◌, subst, Err}
 use Rattle.sqlite_trees.specs.declared.store.Store.{Ghosts}
-use Rattle.sqlite.specs.Held.{Held, state}
+use Rattle.sqlite.specs.Held.{state}
 use Rattle.sqlite.specs.State.{State, HasCleanDisk}
-use Rattle.flow_base.specs.declared.event.Wrong.{Wrong}
 use Rattle.flow_check.specs.Language.{meaning_of}
 use Rattle.flow_model.specs.Book.{Book, no_book}
 use Rattle.flow_model.specs.Sound.{IsSound}
@@ -22,8 +21,8 @@ use Rattle.flow_recover.specs.declared.fault.RecoverFault.{RecoverFault}
 use Rattle.flow_recover.specs.declared.fault.RecoverFault.TheVariants as fault
 use Rattle.flow_recover.specs.declared.fault.OpeningFault.{OpeningFault}
 use Rattle.flow_recover.specs.declared.fault.OpeningFault.TheVariants as opening
-use Rattle.flow_recover.specs.Positions.{IsLeastMismatch, LacksProgram, PassesNumbers, Caused, Names}
-use Rattle.flow_recover.specs.Recovering.{HoldsSound, OfTables, IsOfPositions, OfPositions, IsStopping, HasReason, IsKeptOn, IsOwnFault}
+use Rattle.flow_recover.specs.Positions.{IsLeastMismatch, Names}
+use Rattle.flow_recover.specs.Recovering.{HoldsSound, OfTables, IsOfPositions, OfPositions, IsKeptOn, IsOwnFault}
 use Rattle.flow_recover.proofs.Refusing.{no_mismatch}
 
 pub follows_then : {S : Type 0} (g : Ghosts S) (a b c : Stored S) → Follows g a b → Follows g b c → Follows g a c
@@ -64,23 +63,19 @@ sound_ours s sound clean = elim (sound clean) [ inl h ↦ inl h.1 | inr none ↦
 
 ---- Refusals
 
-module _ {S : Type 0} (g : Ghosts S) where
-  -- what was told of the positions, and its cause
-  pub has_reason : (opened : Held S) (b : Book) (f : RecoverFault) → Names {A = Unit {0}} (Err f) (IsLeastMismatch meaning_of b)
-      → Caused {A = Unit {0}} (Err f) (IsStopping g opened ⊎ (LacksProgram meaning_of b ⊎ PassesNumbers b)) → HasReason g opened b f
-  has_reason opened b fault.NoMemory named cause = tt
-  has_reason opened b fault.StoreRefused named cause = cause
-  has_reason opened b (fault.Mismatch run place name) named cause = named
+-- it names a run of this book
+abbrev pub NamesIn : Book → RecoverFault → Type 0
+NamesIn b f = Names {A = Unit {0}} (Err f) (IsLeastMismatch meaning_of b)
 
-  pub kept_on : (opened : Held S) (from to : State) (b : Book) (f : OpeningFault) → IsFound from b → Keeps to b → OfPositions f (HasReason g opened b) → OfPositions f (IsKeptOn g opened from to)
-  kept_on opened from to b (opening.Tables f) found keeps h = tt
-  kept_on opened from to b (opening.Positions f) found keeps h = record { book = b; found = found; kept = keeps; reason = h }
+pub kept_on : (from to : State) (b : Book) (f : OpeningFault) → IsFound from b → Keeps to b → OfPositions f (NamesIn b) → OfPositions f (IsKeptOn from to)
+kept_on from to b (opening.Tables f) found keeps h = tt
+kept_on from to b (opening.Positions f) found keeps h = record { book = b; found = found; kept = keeps; mismatch = h }
 
-  pub own_fault : (opened : Held S) (b : Book) (f : OpeningFault) → IsSound rules b → IsOfPositions f → OfPositions f (HasReason g opened b) → IsOwnFault f
-  own_fault opened b (opening.Tables f) sound is h = absurd is
-  own_fault opened b (opening.Positions fault.NoMemory) sound is h = tt
-  own_fault opened b (opening.Positions fault.StoreRefused) sound is h = tt
-  own_fault opened b (opening.Positions (fault.Mismatch run place name)) sound is h = no_mismatch meaning_of b sound run place name h.here
+pub own_fault : (b : Book) (f : OpeningFault) → IsSound rules b → IsOfPositions f → OfPositions f (NamesIn b) → IsOwnFault f
+own_fault b (opening.Tables f) sound is h = absurd is
+own_fault b (opening.Positions fault.NoMemory) sound is h = tt
+own_fault b (opening.Positions fault.StoreRefused) sound is h = tt
+own_fault b (opening.Positions (fault.Mismatch run place name)) sound is h = no_mismatch meaning_of b sound run place name h.here
 
 -- nothing is told of tables that were opened
 pub none_of_tables : (f : OpeningFault) (P : OpenFault → Type 0) → IsOfPositions f → OfTables f P

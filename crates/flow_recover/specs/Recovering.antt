@@ -1,26 +1,23 @@
 -- What the opening of a store gives.
-use Rattle.std.specs.Prelude.{◌≡◌, ◌⊎◌, ℕ, List}
+use Rattle.std.specs.Prelude.{◌≡◌, ◌⊎◌, List, Err}
 use Rattle.sqlite_trees.specs.declared.store.Store.{Ghosts}
-use Rattle.sqlite.specs.Held.{Held}
 use Rattle.sqlite.specs.State.{State}
-use Rattle.flow_base.specs.declared.event.Wrong.{Wrong}
 use Rattle.flow_check.specs.Language.{meaning_of}
 use Rattle.flow_model.specs.Book.{Book}
 use Rattle.flow_model.specs.Sound.{IsSound}
 use Rattle.flow_tables.specs.declared.open.OpenFault.{OpenFault}
-use Rattle.flow_tables.specs.Faults.{WasRefused}
 use Rattle.flow_tables.specs.Layout.{no_schema}
 use Rattle.flow_tables.specs.Stored.{tables_in}
 use Rattle.flow_tables.specs.States.{HasTables}
 use Rattle.flow_tables.specs.Opening.{StandFor, IsOfStore}
-use Rattle.flow_tables.specs.Owned.{Stored, IsFound, Keeps, Refuses, state_of}
+use Rattle.flow_tables.specs.Owned.{IsFound, Keeps}
 use Rattle.flow_commit.specs.Keeping.{Keeping, KeepsBook, rules}
 use Rattle.flow_recover.specs.declared.positions.Position.{Position}
 use Rattle.flow_recover.specs.declared.fault.RecoverFault.{RecoverFault}
 use Rattle.flow_recover.specs.declared.fault.RecoverFault.TheVariants as fault
 use Rattle.flow_recover.specs.declared.fault.OpeningFault.{OpeningFault}
 use Rattle.flow_recover.specs.declared.fault.OpeningFault.TheVariants as opening
-use Rattle.flow_recover.specs.Positions.{ArePositions, IsLeastMismatch, LacksProgram, PassesNumbers}
+use Rattle.flow_recover.specs.Positions.{ArePositions, IsLeastMismatch, Names}
 
 -- The keeper keeps the book that was found, and these are the positions of its open runs.
 pub record IsRecovered {S : Type 0} (g : Ghosts S) (from : State) (k : Keeping S) (qs : List Position) : Type 0 where
@@ -50,22 +47,13 @@ abbrev pub OfPositions : OpeningFault → (RecoverFault → Type 0) → Type 0
 OfPositions (opening.Tables f) is = Unit {0}
 OfPositions (opening.Positions f) is = is f
 
--- Tables that were opened over this connection were refused a statement.
-abbrev pub IsStopping : {S : Type 0} → Ghosts S → Held S → Type 0
-IsStopping {S} g opened = (t : Stored S) × (t.opened ≡ opened) × (WasRefused g (state_of g t) ⊎ Refuses g t)
-
--- Each refusal of the positions of a book, with what stands behind it; want of memory has no more.
-abbrev pub HasReason : {S : Type 0} → Ghosts S → Held S → Book → RecoverFault → Type 0
-HasReason g opened b fault.NoMemory = Unit {0}
-HasReason g opened b fault.StoreRefused = IsStopping g opened ⊎ (LacksProgram meaning_of b ⊎ PassesNumbers b)
-HasReason g opened b (fault.Mismatch run place name) = IsLeastMismatch meaning_of b run place name
-
--- The book that was found is kept, and the refusal has its reason in it or in the store.
-pub record IsKeptOn {S : Type 0} (g : Ghosts S) (opened : Held S) (from to : State) (f : RecoverFault) : Type 0 where
+-- The book that was found is kept. Where it is E68, this is the least of its open runs whose history doesn't stand, with its
+-- first mismatch.
+pub record IsKeptOn (from to : State) (f : RecoverFault) : Type 0 where
   pub book : Book
   pub found : IsFound from book
   pub kept : Keeps to book
-  pub reason : HasReason g opened book f
+  pub mismatch : Names {A = Unit {0}} (Err f) (IsLeastMismatch meaning_of book)
 
 -- What is told of a store that holds nothing to refuse: that it failed, or that it isn't ours to add to.
 abbrev pub IsOwnFault : OpeningFault → Type 0

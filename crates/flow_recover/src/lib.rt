@@ -5,4 +5,6 @@ pub mod fault;
 pub mod positions;
 pub mod recover;
 #[cfg(test)]
+mod store_tests;
+#[cfg(test)]
 mod tests;

@@ -20,12 +20,12 @@ use std::test::Fail;
 const A: &str =
     "workflow a(n: int) { activity c(int, text) -> int; let r = 0; r = call c(n, \"eur\"); return r + 1; }";
 
-fn register(alloc: Global) -> Result<Command, Fail> {
+pub fn register(alloc: Global) -> Result<Command, Fail> {
     Ok(Command::Register(RawText::new(alloc, A)?))
 }
 
 // A run of the text, under a flow of this name, which waits on its activity.
-fn start(alloc: Global, name: &str) -> Result<Command, Fail> {
+pub fn start(alloc: Global, name: &str) -> Result<Command, Fail> {
     let request = Key::new(alloc, name)?;
     let flow = Key::new(alloc, name)?;
     let text = TextNo::new(1).ok_or("no text")?;
@@ -34,7 +34,7 @@ fn start(alloc: Global, name: &str) -> Result<Command, Fail> {
     Ok(Command::Start(request, flow, text, arguments, at))
 }
 
-fn complete(run: u64) -> Result<Command, Fail> {
+pub fn complete(run: u64) -> Result<Command, Fail> {
     let run = RunId::new(run).ok_or("no run")?;
     let event = EventId::new(2).ok_or("no event")?;
     let at = Moment::new(1500).ok_or("no moment")?;
@@ -102,7 +102,7 @@ fn is_refused(answer: &Result<Vec<Position>, RecoverFault>) -> bool {
     }
 }
 
-fn is_waiting(position: &Position, run: u64) -> bool {
+pub fn is_waiting(position: &Position, run: u64) -> bool {
     let is_named = position.run.get() == run && position.text.get() == 1;
     match position.tasks.as_slice() {
         [task] => is_named && task.event.get() == 2 && task.attempt == 1,
