@@ -6,7 +6,7 @@ mod description;
 mod kinds;
 pub mod laws;
 mod report;
+pub mod taken;
 #[cfg(test)]
 mod tests;
-pub mod taken;
 mod turns;
