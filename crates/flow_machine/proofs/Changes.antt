@@ -22,8 +22,8 @@ use Rattle.flow_model.specs.Apply.{Rules, program_at, program_if}
 use Rattle.flow_model.specs.Sound.{IsSoundTask, IsSoundRun, IsSound}
 use Rattle.flow_model.proofs.OneMore.{stands_on, stands_first}
 use Rattle.flow_machine.specs.Soundness.{ReadsWellFormed}
-use Rattle.flow_machine.proofs.Tries.{well_formed_tried}
-use Rattle.flow_machine.proofs.Leaves.{turn_leaves, stands_left, still_closed}
+use Rattle.flow_model.proofs.Tries.{well_formed_tried}
+use Rattle.flow_model.proofs.Leaves.{turn_leaves, stands_left, still_closed}
 use Rattle.flow_machine.proofs.Places.{get_set, get_push, nth_kept, nth_place}
 use Rattle.flow_machine.proofs.Tasks.{turn_attempts, turn_activities}
 
@@ -76,7 +76,7 @@ sound_text u b body h =
 abbrev pub NoneOpen : Book → Bytes → Type 0
 NoneOpen b flow = (j : ℕ) (r : Run) → slice_get b.runs j ≡ Some r → r.flow ≡ flow → is_open (state_of r.history) ≡ false
 
-not_first : (t : Bool) (n : ℕ) (o : Option ℕ) → (if t then Some n else o) ≡ None → (t ≡ false) × (o ≡ None)
+pub not_first : (t : Bool) (n : ℕ) (o : Option ℕ) → (if t then Some n else o) ≡ None → (t ≡ false) × (o ≡ None)
 not_first true n o e = absurd (none-some n (sym e))
 not_first false n o e = (refl, e)
 

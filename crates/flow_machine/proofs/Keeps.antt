@@ -33,8 +33,8 @@ use Rattle.flow_model.specs.Apply.{Rules, Outcome, says, none_there, must_be, mu
 use Rattle.flow_model.specs.Sound.{IsSoundRun, IsSound}
 use Rattle.flow_model.proofs.Positions.{position_computed, turned_is}
 use Rattle.flow_machine.specs.Soundness.{ReadsWellFormed, NoBookIsSound, SoundAfter}
-use Rattle.flow_machine.proofs.Tries.{well_formed_tried}
-use Rattle.flow_machine.proofs.Leaves.{stands_left, delivered_open, terminates, continued_closed, turn_state}
+use Rattle.flow_model.proofs.Tries.{well_formed_tried}
+use Rattle.flow_model.proofs.Leaves.{stands_left, delivered_open, terminates, continued_closed, turn_state}
 use Rattle.flow_machine.proofs.Places.{get_all, get_set_same, nth_place}
 use Rattle.flow_machine.proofs.Changes.{NoneOpen, text_well_formed, sound_text, none_open, sound_run, first_run, put_run, was, sound_turn, turn_run}
 

@@ -3,12 +3,12 @@ pub mod Causes
 pub mod Continuing
 pub mod Awaited
 pub mod Waiting
+pub mod Holding
 pub mod Reading
 pub mod Unstuck
 pub mod Sticking
-pub mod Tries
-pub mod Leaves
 pub mod Places
 pub mod Tasks
 pub mod Changes
 pub mod Keeps
+pub mod Orderly

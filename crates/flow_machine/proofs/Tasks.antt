@@ -16,7 +16,7 @@ use Rattle.flow_model.specs.Turned.{traces, turn_events}
 use Rattle.flow_model.specs.Open.{without, tasks_asked, tasks_came, tasks_after_one, tasks_after, open_activities}
 use Rattle.flow_model.specs.Book.{nth, with_turn}
 use Rattle.flow_model.specs.Sound.{IsSoundTask}
-use Rattle.flow_machine.proofs.Tries.{AskedWell}
+use Rattle.flow_model.proofs.Tries.{AskedWell}
 use Rattle.flow_machine.proofs.Places.{get_past, nth_at, nth_kept}
 
 ---- Attempts

@@ -15,7 +15,8 @@ use Rattle.flow_model.specs.Book.{Book, nth, text_number, requested, open_run}
 use Rattle.flow_model.specs.Apply.{Rules, program_if, program_at, on_task, refuse_unless, task_at, gives_kind, report_refusal}
 use Rattle.flow_model.specs.Sound.{IsSoundRun, IsSound}
 use Rattle.flow_model.proofs.Chains.{not_both}
-use Rattle.flow_machine.specs.Soundness.{IsProgram, TextsRead, NumbersEnd, SoundDecides}
+use Rattle.flow_model.specs.Sound.{IsProgram}
+use Rattle.flow_machine.specs.Soundness.{TextsRead, NumbersEnd, SoundDecides}
 use Rattle.flow_machine.specs.Stuck.{HasMismatch, CantDeliver, CantRecord, unless_there, where_there, where_holds, needs, IsFull, StuckRegister, StuckStart, StuckInput, StuckComplete, IsStuck}
 use Rattle.flow_machine.proofs.Places.{get_all, nth_place}
 use Rattle.flow_machine.proofs.Waiting.{completion_taken}

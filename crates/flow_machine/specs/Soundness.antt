@@ -1,11 +1,11 @@
--- Commands keep a book sound, and over a sound book each can be decided.
+-- Commands keep a book sound and orderly, and over a sound book each can be decided.
 use Rattle.std.specs.Prelude.{◌≡◌, ◌⊎◌, List, All, length, Ok}
 use Rattle.flow_base.specs.Syntax.{Bytes, Program}
 use Rattle.flow_base.specs.declared.command.Command.{Command}
 use Rattle.flow_model.specs.WellFormed.{WellFormed}
 use Rattle.flow_model.specs.Book.{Book, no_book}
 use Rattle.flow_model.specs.Apply.{Rules, after}
-use Rattle.flow_model.specs.Sound.{IsSound}
+use Rattle.flow_model.specs.Sound.{IsSound, IsProgram, IsOrderly}
 use Rattle.flow_machine.specs.Stuck.{IsFull, IsStuck}
 
 -- Each text that is a program at all is a well-formed one. Without this a call might be tried no times, and its activity would
@@ -21,8 +21,13 @@ NoBookIsSound = (u : Rules) → IsSound u no_book
 abbrev pub SoundAfter : Type 0
 SoundAfter = (u : Rules) (b : Book) (cs : List Command) → ReadsWellFormed u → IsSound u b → IsSound u (after u b cs)
 
-abbrev pub IsProgram : Rules → Bytes → Type 0
-IsProgram u text = (p : Program) × (u.program_of text ≡ Ok p)
+-- A book in which nothing is recorded yet is orderly.
+abbrev pub NoBookIsOrderly : Type 0
+NoBookIsOrderly = (u : Rules) → IsOrderly u no_book
+
+-- From an orderly book commands lead to orderly books alone, whatever texts mean.
+abbrev pub OrderlyAfter : Type 0
+OrderlyAfter = (u : Rules) (b : Book) (cs : List Command) → IsOrderly u b → IsOrderly u (after u b cs)
 
 -- Each text of the book is a program. `IsSound` says so of those alone that have a run.
 abbrev pub TextsRead : Rules → Book → Type 0

@@ -1,5 +1,5 @@
 ghost use Rattle.flow_check.specs.Language.{meaning_of};
-ghost use Rattle.flow_machine.specs.Soundness.{NoBookIsSound, NoTextUnread, ReadsWellFormed, SoundAfter, SoundDecides, TextsReadAfter};
+ghost use Rattle.flow_machine.specs.Soundness.{NoBookIsOrderly, NoBookIsSound, NoTextUnread, OrderlyAfter, ReadsWellFormed, SoundAfter, SoundDecides, TextsReadAfter};
 ghost use Rattle.flow_model.specs.Apply.{rules_of};
 
 /// Commands lead from a book in which nothing is recorded, and from any sound book, to sound books alone.
@@ -15,4 +15,11 @@ pub fn sound_decides()
     ensures nothing { NoTextUnread }
     ensures after { TextsReadAfter }
     ensures decides { SoundDecides }
+{}
+
+/// Commands lead from a book in which nothing is recorded, and from any orderly book, to orderly books alone: they store no text
+/// but programs, and no request starts a second run.
+pub fn orderly_after()
+    ensures nothing { NoBookIsOrderly }
+    ensures after { OrderlyAfter }
 {}

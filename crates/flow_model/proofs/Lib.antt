@@ -11,5 +11,8 @@ pub mod Positions
 pub mod Again
 pub mod OneMore
 pub mod Logs
+pub mod Tries
+pub mod Leaves
+pub mod Starts
 mod RunRows
 mod WorldRows

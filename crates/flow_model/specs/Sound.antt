@@ -1,6 +1,6 @@
--- Which books are sound.
-use Rattle.std.specs.Prelude.{◌≡◌, ◌≤◌, ℕ, true, map, All, Option, Some, slice_get}
-use Rattle.flow_base.specs.Syntax.{Program}
+-- Which books are sound, and which are orderly.
+use Rattle.std.specs.Prelude.{◌≡◌, ◌≤◌, ℕ, true, map, All, Option, Some, Ok, slice_get}
+use Rattle.flow_base.specs.Syntax.{Bytes, Program}
 use Rattle.flow_base.specs.declared.event.Cmd.TheVariants.{Schedule}
 use Rattle.flow_base.specs.declared.event.What.TheVariants.{Asked}
 use Rattle.flow_base.specs.declared.event.Event.{Event}
@@ -35,3 +35,14 @@ pub record IsSound (u : Rules) (b : Book) : Type 0 where
   pub runs : All (IsSoundRun u b) b.runs
   pub one_open : (i j : ℕ) (r s : Run) → slice_get b.runs i ≡ Some r → slice_get b.runs j ≡ Some s → r.flow ≡ s.flow
       → is_open (state_of r.history) ≡ true → is_open (state_of s.history) ≡ true → i ≡ j
+
+-- The text is a program.
+abbrev pub IsProgram : Rules → Bytes → Type 0
+IsProgram u text = (p : Program) × (u.program_of text ≡ Ok p)
+
+-- What commands keep beside: each text is a program, and no two runs were started by the same request. A sound book may have
+-- a text without a run that is none, and a request twice; a book that commands make has neither.
+pub record IsOrderly (u : Rules) (b : Book) : Type 0 where
+  pub texts : All (IsProgram u) b.texts
+  pub requests : (i j : ℕ) (r s : Run) (q : Bytes) → slice_get b.runs i ≡ Some r → slice_get b.runs j ≡ Some s
+      → r.request ≡ Some q → s.request ≡ Some q → i ≡ j

@@ -19,3 +19,4 @@ pub mod Recalls
 pub mod NextRuns
 pub mod Recalled
 pub mod Laws
+pub mod Stood

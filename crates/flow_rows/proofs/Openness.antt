@@ -69,7 +69,7 @@ first_on s id at (Asked (Complete v)) one = absurd (let same = one in cc)
 first_on s id at (Asked (Fail c t)) one = absurd (let same = one in cc)
 first_on s id at (Asked (ContinueAsNew vs)) one = absurd (let same = one in cc)
 
-later : (i : ℕ) → 1 < i → nat_eq i 1 ≡ false
+pub later : (i : ℕ) → 1 < i → nat_eq i 1 ≡ false
 later i h = by_case (nat_eq i 1) refl
   where
     by_case : (b : Bool) → nat_eq i 1 ≡ b → nat_eq i 1 ≡ false

@@ -25,16 +25,25 @@ use Rattle.flow_model.specs.Turned.{traces, turn_events}
 use Rattle.flow_model.specs.Stands.{Leads, Stands}
 use Rattle.flow_model.specs.Apply.{continued}
 use Rattle.flow_model.specs.Open.{state_asked, state_came, state_after_one, state_after, state_of, moment_after, moment_of}
-use Rattle.flow_machine.proofs.Tries.{TriedBlock, TriedRest, TriedIf, AskedWell, GoesOn, MovesWell, moves_well, replaced_tried, completed_tried, failed_tried, fired_tried}
+use Rattle.flow_model.proofs.Tries.{TriedBlock, TriedRest, TriedIf, AskedWell, GoesOn, MovesWell, moves_well, replaced_tried, completed_tried, failed_tried, fired_tried}
 
 -- how commands leave a run
 abbrev pub states_asked : State → List Cmd → State
 states_asked s [] = s
 states_asked s (c ∷ cs) = states_asked (state_asked s c) cs
 
+-- each of the commands is asked of an open run
+abbrev pub AskedOpen : State → List Cmd → Type 0
+AskedOpen s [] = Unit {0}
+AskedOpen s (c ∷ cs) = (is_open s ≡ true) × AskedOpen (state_asked s c) cs
+
 states_push : (s : State) (cs : List Cmd) (c : Cmd) → states_asked s (cs ++ c ∷ []) ≡ state_asked (states_asked s cs) c
 states_push s [] c = refl
 states_push s (d ∷ cs) c = states_push (state_asked s d) cs c
+
+open_push : (s : State) (cs : List Cmd) (c : Cmd) → AskedOpen s cs → is_open (states_asked s cs) ≡ true → AskedOpen s (cs ++ c ∷ [])
+open_push s [] c h o = (o, tt)
+open_push s (d ∷ cs) c h o = (h.0, open_push (state_asked s d) cs c h.1 o)
 
 open_state : (s : State) → is_open s ≡ true → s ≡ state.Open
 open_state state.Unbegun e = cc
@@ -75,6 +84,7 @@ goes_on_well (ContinueAsNew vs) h = tt
 record Fares (s : State) (p : Progress) : Type 0 where
   pub tried : TriedRest p.rest
   pub asked : All AskedWell p.asked
+  pub going : AskedOpen s p.asked
   pub leaves : states_asked s p.asked ≡ p.state
 
 abbrev FaresIf : State → Option Progress → Type 0
@@ -86,16 +96,18 @@ ended_fares s p c o w h =
     record {
       tried = tt;
       asked = All-push AskedWell p.asked c h.asked w;
+      going = open_push s p.asked c h.going (ap is_open (h.leaves ∙ o));
       leaves = states_push s p.asked c ∙ ap (λ (x : State). state_asked x c) (h.leaves ∙ o) ∙ closes c;
     }
 
 after_fares : (s : State) (p : Progress) (m : Move) → p.state ≡ state.Open → MovesWell m → Fares s p → FaresIf s (after_move p m)
 after_fares s p Stays o w h = tt
-after_fares s p (Goes r t) o w h = record { tried = w; asked = h.asked; leaves = h.leaves }
+after_fares s p (Goes r t) o w h = record { tried = w; asked = h.asked; going = h.going; leaves = h.leaves }
 after_fares s p (Asks r t c) o w h =
     record {
       tried = w.0;
       asked = All-push AskedWell p.asked c h.asked (goes_on_well c w.1);
+      going = open_push s p.asked c h.going (ap is_open (h.leaves ∙ o));
       leaves = states_push s p.asked c ∙ ap (λ (x : State). state_asked x c) h.leaves ∙ goes_on_as p.state c w.1;
     }
 after_fares s p (Ends c) o w h = ended_fares s p c o w h
@@ -178,6 +190,7 @@ deliver_begins p k (input.Terminated text) b h =
 pub record Leaves (s : State) (at : ℕ) (i : Input) (cs : List Cmd) (k : Configuration) : Type 0 where
   pub tried : TriedRest k.rest
   pub asked : All AskedWell cs
+  pub going : AskedOpen (state_came s i) cs
   pub leaves : states_asked (state_came s i) cs ≡ k.state
   pub moment : k.moment ≡ at
 
@@ -186,19 +199,26 @@ pub turn_leaves : (p : Program) (answers : Answers) (old : Configuration) (at : 
 turn_leaves p answers old at i cs new b h t =
     let s = state_came old.state i in
     let first : Begins s t.start = subst (BeginsIf s) t.delivered (deliver_begins p old i b h) in
-    let fares : Fares s t.start = record { tried = first.tried; asked = subst (All AskedWell) (sym first.asked) (All-nil AskedWell); leaves = ap (states_asked s) first.asked ∙ sym first.begins } in
+    let fares : Fares s t.start =
+    record {
+      tried = first.tried;
+      asked = subst (All AskedWell) (sym first.asked) (All-nil AskedWell);
+      going = subst (AskedOpen s) (sym first.asked) tt;
+      leaves = ap (states_asked s) first.asked ∙ sym first.begins;
+    } in
     let last = steps_fare t.count (frame p old at i answers) s t.start t.last fares t.runs in
     record {
       tried = subst (λ (q : Configuration). TriedRest q.rest) (sym t.leaves) last.tried;
       asked = subst (All AskedWell) (sym t.asks) last.asked;
+      going = subst (AskedOpen s) (sym t.asks) last.going;
       leaves = ap (states_asked s) t.asks ∙ last.leaves ∙ sym (ap (λ (q : Configuration). q.state) t.leaves);
       moment = ap (λ (q : Configuration). q.moment) t.leaves;
     }
 
-came_state : (s : State) (e : Event) (i : Input) → e.what ≡ Came i → state_after_one s e ≡ state_came s i
+pub came_state : (s : State) (e : Event) (i : Input) → e.what ≡ Came i → state_after_one s e ≡ state_came s i
 came_state s e i h = ap (λ (w : What). elim w [ Came j ↦ state_came s j | Asked c ↦ state_asked s c ]) h
 
-asked_state : (s : State) (e : Event) (c : Cmd) → e.what ≡ Asked c → state_after_one s e ≡ state_asked s c
+pub asked_state : (s : State) (e : Event) (c : Cmd) → e.what ≡ Asked c → state_after_one s e ≡ state_asked s c
 asked_state s e c h = ap (λ (w : What). elim w [ Came j ↦ state_came s j | Asked d ↦ state_asked s d ]) h
 
 -- How a standing history leaves its run.

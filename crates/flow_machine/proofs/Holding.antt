@@ -1,0 +1,152 @@
+-- What each change of a command keeps, commands keep: a text that is a program, a run of a new request, a run that another one
+-- continues as, and a turn.
+use Rattle.std.proofs.Common.{◌≡◌, ℕ, ◌+◌, List, [], ◌∷◌, length, map, max, refl, Option, Some, None, Result, Ok, Err, Bool, true, false}
+use Rattle.std.specs.Prelude.{nat_le, if◌then◌else◌}
+use Rattle.flow_base.specs.Syntax.{Bytes, Program}
+use Rattle.flow_base.specs.declared.value.Value.{Value}
+use Rattle.flow_base.specs.declared.event.Cmd.{Cmd}
+use Rattle.flow_base.specs.declared.event.Input.{Input}
+use Rattle.flow_base.specs.declared.event.Input.TheVariants.{ActivityCompleted, Terminated}
+use Rattle.flow_base.specs.declared.book.Task.{Task}
+use Rattle.flow_base.specs.declared.book.Timer.{Timer}
+use Rattle.flow_base.specs.declared.book.Run.{Run}
+use Rattle.flow_base.specs.declared.book.Turn.{Turn}
+use Rattle.flow_base.specs.declared.book.Change.TheVariants.{AddText, AddTurn, AddRun}
+use Rattle.flow_base.specs.declared.code.Code.{Code}
+use Rattle.flow_base.specs.declared.code.Code.TheVariants.{NoText, BadArguments, AlreadyOpen, NoRun}
+use Rattle.flow_base.specs.declared.command.Command.{Command}
+use Rattle.flow_base.specs.declared.command.Command.TheVariants as command
+use Rattle.flow_base.specs.declared.command.TextFault.{TextFault}
+use Rattle.flow_base.specs.declared.command.Reply.{Reply}
+use Rattle.flow_base.specs.declared.command.Reply.TheVariants as reply
+use Rattle.flow_model.specs.Deliver.{all_fit}
+use Rattle.flow_model.specs.Turn.{Fresh}
+use Rattle.flow_model.specs.Turned.{turned, position_of}
+use Rattle.flow_model.specs.Open.{open_timers, state_of, moment_of}
+use Rattle.flow_model.specs.Book.{Book, nth, text_number, requested, open_run, changed, changed_by}
+use Rattle.flow_model.specs.Apply.{Rules, Outcome, says, none_there, must_be, must_hold, tested, if_sound, program_if, program_at, first_turn, continued, run_from, next_run, history_limit, turn_made, recorded, input_recorded, report_refusal, on_program, register, start, complete, describe, history, outcome, after_one, after}
+use Rattle.flow_model.specs.Sound.{IsProgram}
+
+-- A property of books that the changes keep which commands make.
+pub record IsKept (u : Rules) (P : Book → Type 0) : Type 0 where
+  pub text : (b : Book) (body : Bytes) → P b → IsProgram u body → P (changed b (AddText body))
+  pub run : (b : Book) (request flow : Bytes) (n : ℕ) (t : Turn) → P b → requested b request ≡ None → P (changed b (AddRun flow (Some request) n t))
+  pub next : (b : Book) (flow : Bytes) (n : ℕ) (t : Turn) → P b → P (changed b (AddRun flow None n t))
+  pub turn : (b : Book) (n : ℕ) (t : Turn) → P b → P (changed b (AddTurn n t))
+
+abbrev Keeps : (Book → Type 0) → Book → Outcome → Type 0
+Keeps P b o = P (changed_by b o.changes)
+
+---- Tests
+
+module _ (P : Book → Type 0) (b : Book) (h : P b) where
+  none_keeps : {A : Type 0} (o : Option A) (answer : A → Reply) (next : Outcome) → (o ≡ None → Keeps P b next) → Keeps P b (none_there o answer next)
+  none_keeps None answer next f = f refl
+  none_keeps (Some x) answer next f = h
+
+  must_keeps : {A : Type 0} (o : Option A) (c : Code) (next : A → Outcome) → ((x : A) → Keeps P b (next x)) → Keeps P b (must_be o c next)
+  must_keeps None c next f = h
+  must_keeps (Some x) c next f = f x
+
+  hold_keeps : (t : Bool) (c : Code) (next : Outcome) → Keeps P b next → Keeps P b (must_hold t c next)
+  hold_keeps true c next f = f
+  hold_keeps false c next f = h
+
+  tested_keeps : (o : Option Code) (next : Outcome) → Keeps P b next → Keeps P b (tested o next)
+  tested_keeps None next f = f
+  tested_keeps (Some c) next f = h
+
+  sound_keeps : {A : Type 0} (o : Option A) (next : A → Outcome) → ((x : A) → Keeps P b (next x)) → Keeps P b (if_sound o next)
+  sound_keeps None next f = h
+  sound_keeps (Some x) next f = f x
+
+  program_keeps : (r : Result Program TextFault) (next : Program → Outcome) → ((p : Program) → r ≡ Ok p → Keeps P b (next p)) → Keeps P b (on_program r next)
+  program_keeps (Ok p) next f = f p refl
+  program_keeps (Err fault) next f = h
+
+---- Commands
+
+module _ (u : Rules) (P : Book → Type 0) (k : IsKept u P) where
+  next_keeps : (b : Book) (p : Program) (r : Run) (at : ℕ) (o : Option (List Value)) → P b → P (changed_by b (next_run p r at o))
+  next_keeps b p r at None h = h
+  next_keeps b p r at (Some vs) h =
+      elim (first_turn p at vs) as (λ o. P (changed_by b (run_from r o))) [ None ↦ h | Some t ↦ k.next b r.flow r.text t h ]
+
+  made_keeps : (b : Book) (p : Program) (r : Run) (n at : ℕ) (i : Input) (cs : List Cmd) → P b → Keeps P b (turn_made u.limit p r n at i cs)
+  made_keeps b p r n at i cs h =
+      let t : Turn = record { at = at; input = i; commands = cs } in
+      let full : Turn = record { at = at; input = Terminated history_limit; commands = [] } in
+      elim (nat_le (length r.history + 1 + length cs) u.limit) as (λ x. Keeps P b (
+      if x
+      then record { reply = reply.Recorded n (length r.history + 1); changes = AddTurn n t ∷ next_run p r at (continued cs) }
+      else record { reply = reply.Full n (length r.history + 1); changes = AddTurn n full ∷ [] })) [
+        | true ↦ next_keeps (changed b (AddTurn n t)) p r at (continued cs) (k.turn b n t h)
+        | false ↦ k.turn b n full h
+      ]
+
+  input_keeps : (b : Book) (r : Run) (n at : ℕ) (i : Input) → P b → Keeps P b (input_recorded u b r n at i)
+  unfolding input_recorded recorded
+  input_keeps b r n at i h =
+      let now : ℕ = max at (moment_of r.history) in
+      sound_keeps P b h (program_at u.program_of b r.text) (λ p. recorded u.limit p r n at i)
+      (λ p. sound_keeps P b h (position_of p r.history) (λ q. if_sound (turned p Fresh q now i) (λ t. turn_made u.limit p r n now i t.0))
+      (λ q. sound_keeps P b h (turned p Fresh q now i) (λ t. turn_made u.limit p r n now i t.0)
+      (λ t. made_keeps b p r n now i t.0 h)))
+
+  register_keeps : (b : Book) (body : Bytes) → P b → Keeps P b (register u.program_of b body)
+  unfolding register
+  register_keeps b body h =
+      let adds : Outcome = record { reply = reply.Registered (length b.texts + 1); changes = AddText body ∷ [] } in
+      program_keeps P b h (u.program_of body) (λ p. none_there (text_number b body) reply.Registered adds)
+      (λ p e. none_keeps P b h (text_number b body) reply.Registered adds (λ g. k.text b body h (p, e)))
+
+  start_keeps : (b : Book) (request flow : Bytes) (text : ℕ) (vs : List Value) (at : ℕ) → P b → Keeps P b (start u.program_of b request flow text vs at)
+  unfolding start
+  start_keeps b request flow text vs at h =
+      let adds : Turn → Outcome = λ t. record { reply = reply.Started (length b.runs + 1); changes = AddRun flow (Some request) text t ∷ [] } in
+      let begins : Program → Outcome = λ p. if_sound (first_turn p at vs) adds in
+      let alone : Program → Outcome = λ p. none_there (open_run b flow) (λ n. reply.Refused AlreadyOpen) (begins p) in
+      let fits : Program → Outcome = λ p. must_hold (all_fit p.parameters vs) BadArguments (alone p) in
+      let read : Bytes → Outcome = λ body. if_sound (program_if (u.program_of body)) fits in
+      none_keeps P b h (requested b request) reply.Duplicate (must_be (nth b.texts text) NoText read)
+      (λ new. must_keeps P b h (nth b.texts text) NoText read
+      (λ body. sound_keeps P b h (program_if (u.program_of body)) fits
+      (λ p. hold_keeps P b h (all_fit p.parameters vs) BadArguments (alone p)
+      (none_keeps P b h (open_run b flow) (λ n. reply.Refused AlreadyOpen) (begins p)
+      (λ none. sound_keeps P b h (first_turn p at vs) adds (λ t. k.run b request flow text t h new))))))
+
+  complete_keeps : (b : Book) (n event attempt : ℕ) (v : Value) (at : ℕ) → P b → Keeps P b (complete u b n event attempt v at)
+  unfolding complete
+  complete_keeps b n event attempt v at h =
+      let takes : Run → Outcome = λ r. input_recorded u b r n at (ActivityCompleted event v) in
+      must_keeps P b h (nth b.runs n) NoRun (λ r. tested (report_refusal r event attempt v) (takes r))
+      (λ r. tested_keeps P b h (report_refusal r event attempt v) (takes r) (input_keeps b r n at (ActivityCompleted event v) h))
+
+  describe_keeps : (b : Book) (n : ℕ) → P b → Keeps P b (describe b n)
+  unfolding describe
+  describe_keeps b n h = elim (nth b.runs n) as (λ o. Keeps P b (must_be o NoRun (λ r. says (reply.Run (record {
+    flow = r.flow;
+    text = r.text;
+    state = state_of r.history;
+    events = length r.history;
+    activities = map (λ (t : Task). t.event) r.tasks;
+    timers = map (λ (t : Timer). t.id) (open_timers r.history);
+  }))))) [ None ↦ h | Some r ↦ h ]
+
+  history_keeps : (b : Book) (n : ℕ) → P b → Keeps P b (history b n)
+  unfolding history
+  history_keeps b n h = must_keeps P b h (nth b.runs n) NoRun (λ r. says (reply.History r.history)) (λ r. h)
+
+  -- one command
+  pub one_keeps : (b : Book) (c : Command) → P b → P (after_one u b c)
+  unfolding outcome
+  one_keeps b (command.Register body) h = register_keeps b body h
+  one_keeps b (command.Start request flow text vs at) h = start_keeps b request flow text vs at h
+  one_keeps b (command.Complete run event attempt v at) h = complete_keeps b run event attempt v at h
+  one_keeps b (command.Describe run) h = describe_keeps b run h
+  one_keeps b (command.History run) h = history_keeps b run h
+
+  -- and several
+  pub all_keep : (b : Book) (cs : List Command) → P b → P (after u b cs)
+  all_keep b [] h = h
+  all_keep b (c ∷ cs) h = all_keep (after_one u b c) cs (one_keeps b c h)
