@@ -1,5 +1,5 @@
 -- Each text of a book is a program, and commands keep it so.
-use Rattle.std.proofs.Common.{◌≡◌, ℕ, ◌-◌, Some, None}
+use Rattle.std.proofs.Common.{ℕ, ◌-◌, Some, None}
 use Rattle.std.specs.Prelude.{slice_set}
 use Rattle.std.proofs.lemmas.List.Elements.{All-nil, All-push}
 use Rattle.flow_base.specs.declared.book.Turn.{Turn}

@@ -1,5 +1,5 @@
 -- Which books are sound, and which are orderly.
-use Rattle.std.specs.Prelude.{◌≡◌, ◌≤◌, ℕ, true, map, All, Option, Some, Ok, slice_get}
+use Rattle.std.specs.Prelude.{◌≡◌, ◌≤◌, ℕ, true, map, All, Some, Ok, slice_get}
 use Rattle.flow_base.specs.Syntax.{Bytes, Program}
 use Rattle.flow_base.specs.declared.event.Cmd.TheVariants.{Schedule}
 use Rattle.flow_base.specs.declared.event.What.TheVariants.{Asked}

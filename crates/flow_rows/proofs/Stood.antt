@@ -1,5 +1,5 @@
 -- Tables stand for a sound and orderly book that they tell: its texts are programs, and its runs keep the rules of the tables.
-use Rattle.std.proofs.Common.{◌≡◌, ◌≢◌, ℕ, zero, suc, ◌+◌, ◌<◌, ◌≤◌, pos, List, [], ◌∷◌, ◌++◌, map, length, Bool, true, false, not, if◌then◌else◌, Option, Some, None, Result, Ok, Err, is_ok, slice_get, refl, sym, ap, ◌∙◌, subst, arith}
+use Rattle.std.proofs.Common.{◌≡◌, ℕ, zero, suc, ◌+◌, ◌<◌, ◌≤◌, pos, List, [], ◌∷◌, ◌++◌, map, length, Bool, true, false, not, if◌then◌else◌, Option, Some, None, Result, Ok, Err, is_ok, slice_get, refl, sym, ap, ◌∙◌, subst, arith}
 use Rattle.std.specs.Prelude.{All}
 use Rattle.std.specs.List.{AllByRecursion}
 use Rattle.std.specs.Ordering.{int_eq}
@@ -201,5 +201,5 @@ pub stood : (b : Book) → AllByRecursion IsTold b.runs → AllByRecursion IsOfT
 stood b told types sound orderly = (
   texts_are b.texts (recursion_from_All (IsProgram (rules_of meaning_of)) b.texts orderly.texts),
   runs_kept (rules_of meaning_of) b sound orderly (length b.texts) [] b.runs refl
-  (kept_runs b b.runs (recursion_from_All (IsSoundRun (rules_of meaning_of) b) b.runs sound.runs) told types),
+      (kept_runs b b.runs (recursion_from_All (IsSoundRun (rules_of meaning_of) b) b.runs sound.runs) told types),
 )
