@@ -6,5 +6,6 @@ pub mod Reading
 pub mod Standing
 pub mod Changes
 pub mod Finding
+pub mod Typed
 pub mod Told
 pub mod Recalling

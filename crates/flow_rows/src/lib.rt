@@ -16,3 +16,4 @@ pub mod taken;
 mod tests;
 pub mod texts;
 pub mod timers;
+pub mod typed;

@@ -13,13 +13,13 @@ use Rattle.flow_rows.specs.declared.rows.EventRow.{EventRow}
 use Rattle.flow_rows.specs.declared.rows.OutboxRow.{OutboxRow}
 use Rattle.flow_rows.specs.Rows.{Tables, run_row, event_row}
 use Rattle.flow_rows.specs.Finding.{last_number}
-use Rattle.flow_rows.specs.Recalling.{run_in, IsOfTypes}
+use Rattle.flow_rows.specs.Recalling.{run_in}
 use Rattle.flow_rows.specs.Told.{Tells, run_told, IsTold}
 use Rattle.flow_rows.proofs.Recalled.{run_in_told, run_back}
 use Rattle.flow_rows.proofs.BookTables.{nth_is}
 use Rattle.flow_rows.proofs.WholeChanges.{all_get}
 use Rattle.flow_rows.proofs.Finds.{run_read, event_rows_read, task_rows_read}
-use Rattle.flow_tables.specs.Owned.{RecallsRun, StopsRecall, HasOddRun, IsBelowOne, as_number, as_count}
+use Rattle.flow_tables.specs.Owned.{RecallsRun, StopsRecall, IsBelowOne, as_number, as_count}
 use Rattle.flow_tables.specs.Stored.{tables_in}
 use Rattle.flow_tables.proofs.Stops.{quiet_then}
 use Rattle.flow_tables.specs.States.{Holds, IsStill, IsRefused}
@@ -131,28 +131,18 @@ told_at : (b : Book) (n : ℕ) (r : Run) → AllByRecursion IsTold b.runs → nt
 told_at b zero r all at = absurd (let clash = at in cc)
 told_at b (suc k) r all at = all_get IsTold b.runs k r all (sym (nth_is b.runs k) ∙ at)
 
--- a run of the code's types is read from its rows
-pub odd_run : (t : Tables) (b : Book) (n : ℕ) (r : Run) (row : RunRow) (events : List EventRow) (tasks : List OutboxRow) → Tells t b → nth b.runs n ≡ Some r → row ≡ run_row n r
-    → events ≡ t.events (pos n) → tasks ≡ t.outbox (pos n) → None ≡ run_in row events tasks → IsOfTypes r → ⊥
-odd_run t b n r row events tasks h at is e k none fits = let clash = none ∙ read in cc
+-- the run that rows tell is read from them
+pub never_unread : (t : Tables) (b : Book) (n : ℕ) (r : Run) (row : RunRow) (events : List EventRow) (tasks : List OutboxRow) → Tells t b → nth b.runs n ≡ Some r → row ≡ run_row n r
+    → events ≡ t.events (pos n) → tasks ≡ t.outbox (pos n) → None ≡ run_in row events tasks → ⊥
+never_unread t b n r row events tasks h at is e k none = let clash = none ∙ read in cc
   where
     read : run_in row events tasks ≡ Some r
     read =
         ap (λ y. run_in y events tasks) is ∙ ap (λ y. run_in (run_row n r) y tasks) (e ∙ event_rows_read t b n r h at)
         ∙ ap (λ y. run_in (run_row n r) (map (event_row (pos n)) r.history) y) (k ∙ task_rows_read t b n r h at)
-        ∙ run_back n (pos n) r (told_at b n r h.runs at) fits
+        ∙ run_back n (pos n) r (told_at b n r h.runs at)
 
 -- a run that wasn't recalled after its row was read
-pub run_stops : (a b c : State) (k : Book) (n : ℕ) (row : RunRow) (result : Result Run ViewFault) (W : Type 0) → Tells (tables_in a.now.trees) k → IsStill true a b
-    → Some row ≡ option_map (run_row n) (nth k.runs n) → StopsRecall b n row result (λ r. W ⊎ (IsStill true b c × (IsOfTypes r → ⊥)))
-    → IfErr result (λ f. f ≡ view.StoreRefused → W ⊎ (IsStill true a c × HasOddRun k))
-run_stops a b c k n row result W h still e stops = let it = no_some (run_row n) (nth k.runs n) row e in go it result (stops k it.0 (tells_still a b k still h) it.1 it.2 (λ _. still.0))
-  where
-    odd : (it : (x : Run) × (nth k.runs n ≡ Some x) × (row ≡ run_row n x)) → W ⊎ (IsStill true b c × (IsOfTypes it.0 → ⊥)) → W ⊎ (IsStill true a c × HasOddRun k)
-    odd it (inl w) = inl w
-    odd it (inr o) = inr (still_then a b c still o.0, (n, it.0, it.1, o.1))
-
-    go : (it : (x : Run) × (nth k.runs n ≡ Some x) × (row ≡ run_row n x)) (result : Result Run ViewFault) → IfErr result (λ f. f ≡ view.StoreRefused → W ⊎ (IsStill true b c × (IsOfTypes it.0 → ⊥)))
-        → IfErr result (λ f. f ≡ view.StoreRefused → W ⊎ (IsStill true a c × HasOddRun k))
-    go it (Ok v) s = tt
-    go it (Err f) s = λ same. odd it (s same)
+pub run_stops : (a b : State) (k : Book) (n : ℕ) (row : RunRow) (result : Result Run ViewFault) (W : Type 0) → Tells (tables_in a.now.trees) k → IsStill true a b
+    → Some row ≡ option_map (run_row n) (nth k.runs n) → StopsRecall b n row result W → IfErr result (λ f. f ≡ view.StoreRefused → W)
+run_stops a b k n row result W h still e stops = let it = no_some (run_row n) (nth k.runs n) row e in stops k it.0 (tells_still a b k still h) it.1 it.2 (λ _. still.0)

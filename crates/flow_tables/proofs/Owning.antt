@@ -9,6 +9,7 @@ use Rattle.flow_model.specs.Book.{Book, changed}
 use Rattle.flow_view.specs.declared.fault.ViewFault.{ViewFault}
 use Rattle.flow_tables.specs.declared.fault.Refusal.{Refusal}
 use Rattle.flow_tables.specs.Faults.{noted_fault, told_answer}
+use Rattle.flow_rows.specs.Typed.{IsTypedChange}
 use Rattle.flow_rows.specs.Told.{Tells, after_change, FitsTables}
 use Rattle.flow_rows.proofs.Telling.{told}
 use Rattle.flow_rows.proofs.WholeChanges.{change_told}
@@ -171,9 +172,9 @@ module _ (old new : State) where
     }
     own_cut f (inr undone) = own_undone (Some f) undone
 
-    pub own_put : (s : Option Refusal) (c : Change) → FitsTables (book_of old.now.trees) c → Changes old new (after_change c (tables_in old.now.trees)) → IsOwn new s
-    own_put s c fits done =
-        let tells : Tells (tables_in new.now.trees) (changed (book_of old.now.trees) c) = subst (λ t. Tells t (changed (book_of old.now.trees) c)) (sym done.tables) (change_told (tables_in old.now.trees) (book_of old.now.trees) c (own.whole inside none).1 fits) in
+    pub own_put : (s : Option Refusal) (c : Change) → IsTypedChange c → FitsTables (book_of old.now.trees) c → Changes old new (after_change c (tables_in old.now.trees)) → IsOwn new s
+    own_put s c typed fits done =
+        let tells : Tells (tables_in new.now.trees) (changed (book_of old.now.trees) c) = subst (λ t. Tells t (changed (book_of old.now.trees) c)) (sym done.tables) (change_told (tables_in old.now.trees) (book_of old.now.trees) c (own.whole inside none).1 fits typed) in
         record {
           over = λ up. subst (λ b. IsOver b new) (sym done.over.mode) done.over;
           kept = λ up. subst (λ (d : Database). TellBook d.trees) (sym done.committed) (own.kept up_now);
@@ -182,10 +183,10 @@ module _ (old new : State) where
         }
 
     -- the book that the tables then show
-    pub put_book : (c : Change) → FitsTables (book_of old.now.trees) c → Changes old new (after_change c (tables_in old.now.trees)) → book_of new.now.trees ≡ changed (book_of old.now.trees) c
-    put_book c fits done =
+    pub put_book : (c : Change) → IsTypedChange c → FitsTables (book_of old.now.trees) c → Changes old new (after_change c (tables_in old.now.trees)) → book_of new.now.trees ≡ changed (book_of old.now.trees) c
+    put_book c typed fits done =
         told (tables_in new.now.trees) (changed (book_of old.now.trees) c)
-        (subst (λ t. Tells t (changed (book_of old.now.trees) c)) (sym done.tables) (change_told (tables_in old.now.trees) (book_of old.now.trees) c (own.whole inside none).1 fits))
+        (subst (λ t. Tells t (changed (book_of old.now.trees) c)) (sym done.tables) (change_told (tables_in old.now.trees) (book_of old.now.trees) c (own.whole inside none).1 fits typed))
 
 ---- A call of the view, once nothing hinders it
 
@@ -234,12 +235,12 @@ module _ (old new : State) (ours : Type 0) (ro rn : Option Refusal) (owned : our
     put_at : ours → (now : HasCleanDisk new) → MatchResult result (λ _. FitsTables (book_of old.now.trees) c × Changes old new (after_change c (tables_in old.now.trees))) (λ _. IsCutShort old new)
     put_at fit now = put (book_of old.now.trees) ((owned fit (clean now)).whole inside none).1 (holds fit) now
 
-    pub put_own : ours → HasCleanDisk new → IsOwn new rn
-    put_own fit now = go result (put_at fit now) noted
+    pub put_own : IsTypedChange c → ours → HasCleanDisk new → IsOwn new rn
+    put_own typed fit now = go result (put_at fit now) noted
       where
         go : (r : Result Unit Refusal) → MatchResult r (λ _. FitsTables (book_of old.now.trees) c × Changes old new (after_change c (tables_in old.now.trees))) (λ _. IsCutShort old new)
             → IsNoted (λ x. x) r ro rn → IsOwn new rn
-        go (Ok v) h n = own_put old new ro (owned fit (clean now)) inside none rn c h.0 h.1
+        go (Ok v) h n = own_put old new ro (owned fit (clean now)) inside none rn c typed h.0 h.1
         go (Err f) h n = subst (λ s. IsOwn new s) (sym n) (own_cut old new ro (owned fit (clean now)) inside none f h)
 
     pub put_leaves : ours → HasCleanDisk new → LeavesCommit old new
@@ -253,12 +254,12 @@ module _ (old new : State) (ours : Type 0) (ro rn : Option Refusal) (owned : our
         go (Ok v) h = record { was_open = λ _. up; same = λ _. h.1.committed }
         go (Err f) h = cut_leaves old new up h
 
-    pub put_told : OnOk (told_answer result) (IsSure ours new rn → book_of new.now.trees ≡ changed (book_of old.now.trees) c)
-    put_told = go result (λ fit now. put_at fit now)
+    pub put_told : IsTypedChange c → OnOk (told_answer result) (IsSure ours new rn → book_of new.now.trees ≡ changed (book_of old.now.trees) c)
+    put_told typed = go result (λ fit now. put_at fit now)
       where
         go : (r : Result Unit Refusal) → (ours → (now : HasCleanDisk new) → MatchResult r (λ _. FitsTables (book_of old.now.trees) c × Changes old new (after_change c (tables_in old.now.trees))) (λ _. IsCutShort old new))
             → OnOk (told_answer r) (IsSure ours new rn → book_of new.now.trees ≡ changed (book_of old.now.trees) c)
-        go (Ok v) h = λ sure. let it = h sure.fit sure.clean in put_book old new ro (owned sure.fit (clean sure.clean)) inside none c it.0 it.1
+        go (Ok v) h = λ sure. let it = h sure.fit sure.clean in put_book old new ro (owned sure.fit (clean sure.clean)) inside none c typed it.0 it.1
         go (Err f) h = tt
 
 ---- The ends of a transaction

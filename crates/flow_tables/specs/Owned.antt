@@ -16,7 +16,6 @@ use Rattle.flow_tables.specs.Faults.{IsStopped}
 use Rattle.flow_rows.specs.declared.rows.RunRow.{RunRow}
 use Rattle.flow_rows.specs.Rows.{run_row}
 use Rattle.flow_rows.specs.Finding.{last_number}
-use Rattle.flow_rows.specs.Recalling.{IsOfTypes}
 use Rattle.flow_rows.specs.Told.{book_in, Tells}
 use Rattle.flow_tables.specs.Stored.{tables_in}
 use Rattle.flow_tables.specs.Layout.{no_schema}
@@ -79,22 +78,14 @@ pub record IsSure (ours : Type 0) (s : State) (refused : Option Refusal) : Type 
 abbrev pub is_sure : {S : Type 0} → Ghosts S → Stored S → Type 0
 is_sure g t = IsSure (IsOurs (state g t.opened)) (state g t.held) t.refused
 
--- A run is such as no value of the code can be: its flow or its request is longer than a key, say.
-abbrev pub HasOddRun : Book → Type 0
-HasOddRun b = (n : ℕ) × (r : Run) × (nth b.runs n ≡ Some r) × (IsOfTypes r → ⊥)
-
--- What stops a read: the store, or a run of the book that no value of the code can be.
-abbrev pub IsReason : {S : Type 0} → Ghosts S → State → Type 0
-IsReason g s = IsStopped g s ⊎ HasOddRun (book_of s.now.trees)
-
--- Where it is noted that the transaction was stopped, it was. The connection is then as the refusal left it.
+-- Where it is noted that the transaction was stopped, the store stopped it. The connection is then as the refusal left it.
 abbrev pub IsWhy : {S : Type 0} → Ghosts S → State → Option Refusal → Type 0
-IsWhy g s (Some refusal.Stopped) = IsReason g s
+IsWhy g s (Some refusal.Stopped) = IsStopped g s
 IsWhy g s _ = Unit {0}
 
--- The transaction was stopped; or a change was put that doesn't fit, as `put_change` says; or none runs.
+-- The store stopped the transaction; or a change was put that doesn't fit, as `put_change` says; or none runs.
 abbrev pub RefusesSo : {S : Type 0} → Ghosts S → Type 0 → State → Option Refusal → Type 0
-RefusesSo g fit s refused = ((refused ≡ Some refusal.Stopped) × (fit → IsReason g s)) ⊎ ((refused ≡ Some refusal.Unfit) ⊎ (s.in_transaction ≡ false))
+RefusesSo g fit s refused = ((refused ≡ Some refusal.Stopped) × (fit → IsStopped g s)) ⊎ ((refused ≡ Some refusal.Unfit) ⊎ (s.in_transaction ≡ false))
 
 abbrev pub Refuses : {S : Type 0} → Ghosts S → Stored S → Type 0
 Refuses g t = RefusesSo g (IsFit g t) (state_of g t) t.refused
@@ -138,15 +129,15 @@ RecallsRun old new number row result =
     → MatchResult result (λ v. IsStill true old new × (v ≡ r)) (λ _. IsRefused true old new)
 
 -- A refusal has this behind it, where the tables tell a book.
-abbrev pub StopsRead : {A : Type 0} → State → Result A ViewFault → (Book → Type 0) → Type 0
+abbrev pub StopsRead : {A : Type 0} → State → Result A ViewFault → Type 0 → Type 0
 StopsRead old result why =
-    (b : Book) → Tells (tables_in old.now.trees) b → Holds true old → IfErr result (λ f. f ≡ fault.StoreRefused → why b)
+    (b : Book) → Tells (tables_in old.now.trees) b → Holds true old → IfErr result (λ f. f ≡ fault.StoreRefused → why)
 
 -- the same, of the run that has this row and stands at this number
-abbrev pub StopsRecall : State → ℕ → RunRow → Result Run ViewFault → (Run → Type 0) → Type 0
+abbrev pub StopsRecall : State → ℕ → RunRow → Result Run ViewFault → Type 0 → Type 0
 StopsRecall old number row result why =
     (b : Book) (r : Run) → Tells (tables_in old.now.trees) b → nth b.runs number ≡ Some r → row ≡ run_row number r → Holds true old
-    → IfErr result (λ f. f ≡ fault.StoreRefused → why r)
+    → IfErr result (λ f. f ≡ fault.StoreRefused → why)
 
 -- a number that no text and no run has
 abbrev pub IsBelowOne : Option ℤ → Type 0
