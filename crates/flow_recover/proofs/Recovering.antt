@@ -1,8 +1,16 @@
 -- What becomes of a store while it is opened.
-use Rattle.std.proofs.Common.{◌≡◌, inl, inr, [], length, refl, sym, ◌∙◌, subst, Err}
+use Rattle.std.proofs.Common.{◌≡◌, inl, inr, [], length, refl, sym, ap, ◌∙◌, subst, Err}
+use Rattle.std.proofs.Math.Logic.{∥∥₁_elim}
+use Rattle.std.specs.Prelude.{IsTrue}
 use Rattle.sqlite_trees.specs.declared.store.Store.{Ghosts}
+use Rattle.sqlite_trees.specs.Props.{Trees-set}
+use Rattle.sqlite.specs.Disk.{MoreFaults}
+use Rattle.sqlite.specs.Tree.{Trees}
+use Rattle.sqlite.specs.Effect.{Database}
 use Rattle.sqlite.specs.Held.{state}
-use Rattle.sqlite.specs.State.{State, HasCleanDisk}
+use Rattle.sqlite.specs.State.{State, HasCleanDisk, Opens, IsLive}
+use Rattle.sqlite.specs.Steps.{FailsToOpen}
+use Rattle.sqlite.specs.declared.error.Error.{Error}
 use Rattle.flow_check.specs.Language.{meaning_of}
 use Rattle.flow_model.specs.Book.{Book, no_book}
 use Rattle.flow_model.specs.Sound.{IsSound}
@@ -15,14 +23,16 @@ use Rattle.flow_tables.specs.Layout.{schema, no_schema}
 use Rattle.flow_tables.specs.Stored.{tables_in}
 use Rattle.flow_tables.specs.declared.open.OpenFault.{OpenFault}
 use Rattle.flow_tables.specs.Opening.{StandFor}
-use Rattle.flow_tables.specs.Owned.{Stored, Follows, IsOurs, IsFound, Keeps, LeavesMade}
+use Rattle.flow_tables.specs.States.{AreOurs, HasTables, HasEnded}
+use Rattle.flow_tables.specs.Owned.{Stored, Follows, IsOurs, IsFound, IsFileOf, Keeps, LeavesMade}
+use Rattle.flow_tables.proofs.Stops.{IsSettled, opened_over}
 use Rattle.flow_commit.specs.Keeping.{rules}
 use Rattle.flow_recover.specs.declared.fault.RecoverFault.{RecoverFault}
 use Rattle.flow_recover.specs.declared.fault.RecoverFault.TheVariants as fault
 use Rattle.flow_recover.specs.declared.fault.OpeningFault.{OpeningFault}
 use Rattle.flow_recover.specs.declared.fault.OpeningFault.TheVariants as opening
 use Rattle.flow_recover.specs.Positions.{IsLeastMismatch, Names}
-use Rattle.flow_recover.specs.Recovering.{HoldsSound, OfTables, IsOfPositions, OfPositions, IsKeptOn, IsOwnFault}
+use Rattle.flow_recover.specs.Recovering.{HoldsSound, IsOpenedOver, IsOfDisk, IsWell, OfTables, IsOfPositions, OfPositions, IsKeptOn, IsOwnFault}
 use Rattle.flow_recover.proofs.Refusing.{no_mismatch}
 
 pub follows_then : {S : Type 0} (g : Ghosts S) (a b c : Stored S) → Follows g a b → Follows g b c → Follows g a c
@@ -60,6 +70,56 @@ sound_found s (inr none) = (no_book, inr (none, refl), nothing_sound rules)
 
 pub sound_ours : (s : State) → (HasCleanDisk s → HoldsSound s) → IsOurs s
 sound_ours s sound clean = elim (sound clean) [ inl h ↦ inl h.1 | inr none ↦ inr none ]
+
+---- Opening anew
+
+-- A store with the trees of a book isn't refused for what they are.
+pub refused_by_disk : {S : Type 0} (g : Ghosts S) (old new : S) (e : Error) (b : Book) → FailsToOpen (g.view old).trees (MoreFaults (g.faults old) (g.faults new)) e
+    → IsFileOf (g.view old).trees b → IsOfDisk g old new e
+refused_by_disk g old new e b (inl none) file = absurd (none.1 schema file.ours.sound)
+refused_by_disk g old new e b (inr failed) file = failed
+
+-- What is found is what the files hold, which is one database.
+pub held_opened : (s : State) (Holds : Trees → Type 0) (db : Trees) → Opens s × IsLive s → ((d : Trees) → Holds d → s.committed.trees ≡ d) → ∥ Holds db ∥₁ → IsOpenedOver s db
+held_opened s Holds db opened found held = record {
+  opens = opened.0;
+  live = opened.1;
+  trees = ap (λ (d : Database). d.trees) opened.0.clean ∙ ∥∥₁_elim held (Trees-set s.committed.trees db) (found db);
+}
+
+---- A book that is there
+
+-- A connection that was just opened over a file of a book keeps it.
+pub opened_keeps : (s : State) (db : Trees) (b : Book) → IsSettled s → IsFileOf db b → IsOpenedOver s db → IsTrue s.is_open × Keeps s b
+opened_keeps s db b law file over =
+    let up : IsTrue s.is_open = over.opens.is_open in
+    let same : s.committed.trees ≡ db = sym (ap (λ (d : Database). d.trees) over.opens.clean) ∙ over.trees in
+    let has : HasTables s.committed = (opened_over s over.opens over.live (subst AreOurs (sym over.trees) file.ours)).committed in (
+      up,
+      record {
+        kept = λ _. (has, subst (λ d. Tells (tables_in d) b) (sym same) file.tells);
+        stops = λ left may. subst (λ d. IsFileOf d b) (sym (law left up may ∙ same)) file;
+      },
+    )
+
+-- what an open connection keeps is found
+pub kept_found : (s : State) (b : Book) → IsTrue s.is_open × Keeps s b → IsFound s b
+kept_found s b h = inl (h.1.kept h.0)
+
+-- Tables that tell a book which is well stand for it.
+well_stands : (t : Tables) (b : Book) → Tells t b → IsWell b → StandFor t b
+well_stands t b tells well = record { texts = well.texts; runs = well.runs; same = tells.same }
+
+pub well_sound : (s : State) (b : Book) → IsFound s b → IsWell b → HoldsSound s
+well_sound s b (inl h) well = inl (b, h.0, well_stands (tables_in s.committed.trees) b h.1 well, well.sound)
+well_sound s b (inr h) well = inr h.0
+
+-- a refusal that ended what ran keeps what was kept
+pub ended_keeps : (old new : State) (b : Book) → HasEnded old new → LeavesMade old new b → Keeps old b → Keeps new b
+ended_keeps old new b ended leaves keeps = record {
+  kept = λ up. subst (λ (d : Database). HasTables d × Tells (tables_in d.trees) b) (sym (ended.back up).1) (keeps.kept (ended.was_open up));
+  stops = λ db may. elim (leaves db may) [ inl before ↦ keeps.stops db before | inr made ↦ made ];
+}
 
 ---- Refusals
 

@@ -1,17 +1,24 @@
 -- What the opening of a store gives.
-use Rattle.std.specs.Prelude.{◌≡◌, ◌⊎◌, List, Err}
+use Rattle.std.specs.Prelude.{◌≡◌, ◌⊎◌, true, List, [], length, Err}
+use Rattle.std.specs.List.{AllByRecursion}
 use Rattle.sqlite_trees.specs.declared.store.Store.{Ghosts}
-use Rattle.sqlite.specs.State.{State}
-use Rattle.flow_check.specs.Language.{meaning_of}
+use Rattle.sqlite_trees.specs.declared.error.StoreError.{StoreError}
+use Rattle.sqlite_rules.specs.Calls.{Excuses}
+use Rattle.sqlite.specs.Disk.{MoreFaults}
+use Rattle.sqlite.specs.Tree.{Trees}
+use Rattle.sqlite.specs.declared.error.Error.{Error}
+use Rattle.sqlite.specs.State.{State, Opens, IsLive, store_error}
+use Rattle.flow_check.specs.Language.{meaning_of, is_program}
 use Rattle.flow_model.specs.Book.{Book}
 use Rattle.flow_model.specs.Sound.{IsSound}
+use Rattle.flow_rows.specs.Standing.{AreKept}
 use Rattle.flow_tables.specs.declared.open.OpenFault.{OpenFault}
 use Rattle.flow_tables.specs.Layout.{no_schema}
 use Rattle.flow_tables.specs.Stored.{tables_in}
 use Rattle.flow_tables.specs.States.{HasTables}
 use Rattle.flow_tables.specs.Opening.{StandFor, IsOfStore}
 use Rattle.flow_tables.specs.Owned.{IsFound, Keeps}
-use Rattle.flow_commit.specs.Keeping.{Keeping, KeepsBook, rules}
+use Rattle.flow_commit.specs.Keeping.{Keeping, IsFit, KeepsBook, rules}
 use Rattle.flow_recover.specs.declared.positions.Position.{Position}
 use Rattle.flow_recover.specs.declared.fault.RecoverFault.{RecoverFault}
 use Rattle.flow_recover.specs.declared.fault.RecoverFault.TheVariants as fault
@@ -29,6 +36,29 @@ pub record IsRecovered {S : Type 0} (g : Ghosts S) (from : State) (k : Keeping S
 -- A store holds nothing that could be refused: its tables stand for a sound book, or it has none.
 abbrev pub HoldsSound : State → Type 0
 HoldsSound s = ((b : Book) × HasTables s.committed × StandFor (tables_in s.committed.trees) b × IsSound rules b) ⊎ (s.committed.schema ≡ no_schema)
+
+---- A book that is there
+
+-- A connection that was just opened over these trees, as the store opens after a stop. `reopen` gives it, from `opens` and
+-- `trees` of `Connection::over`; and so do `opened` and `found` of `open_files`, where the two files hold these trees.
+pub record IsOpenedOver (s : State) (db : Trees) : Type 0 where
+  pub opens : Opens s
+  pub live : IsLive s
+  pub trees : s.now.trees ≡ db
+
+-- A store was refused for memory, or for a failure of its disk since it was handed in.
+abbrev pub IsOfDisk : {S : Type 0} → Ghosts S → S → S → Error → Type 0
+IsOfDisk g old new e = (cause : StoreError) × (e ≡ store_error cause) × Excuses (MoreFaults (g.faults old) (g.faults new)) ⊥ cause
+
+-- The keeper keeps this book, and these are the positions of its open runs.
+abbrev pub IsBack : {S : Type 0} → Ghosts S → Keeping S → List Position → Book → Type 0
+IsBack g k qs b = IsFit g k × KeepsBook g k b × ArePositions meaning_of b qs
+
+-- Nothing of this book can be refused: its texts are programs, its runs keep the rules of the tables, and it is sound.
+pub record IsWell (b : Book) : Type 0 where
+  pub texts : AllByRecursion (λ text. is_program text ≡ true) b.texts
+  pub runs : AreKept (length b.texts) [] b.runs
+  pub sound : IsSound rules b
 
 ---- Refusals
 

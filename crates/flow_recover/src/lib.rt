@@ -4,6 +4,7 @@
 pub mod fault;
 pub mod positions;
 pub mod recover;
+pub mod reopen;
 #[cfg(test)]
 mod store_tests;
 #[cfg(test)]

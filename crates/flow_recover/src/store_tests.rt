@@ -2,15 +2,19 @@
 use crate::fault::{OpeningFault, RecoverFault};
 use crate::positions::Position;
 use crate::recover::recover;
+use crate::reopen::reopen;
 use crate::tests::{complete, is_waiting, register, start};
 use flow_base::code::Code;
 use flow_base::command::Command;
 use flow_base::event::Wrong;
+use flow_check::language::Language;
 use flow_commit::batch::Batch;
 use flow_commit::keeper::Keeper;
 use flow_commit::outcome::Outcome;
+use flow_machine::decide::decide;
 use flow_machine::taken::Taken;
 use flow_tables::open::OpenFault;
+use flow_tables::stored::Tables;
 use sqlite::{Connection, MemStore};
 use std::alloc::Global;
 use std::string::ToString;
@@ -104,6 +108,32 @@ fn changed(
     Ok(conn)
 }
 
+// What a stop leaves of it, opened anew.
+fn stopped(alloc: Global, conn: Connection<MemStore>) -> Result<Connection<MemStore>, Fail> {
+    match reopen(alloc, conn.into_store()) {
+        Ok(conn) => Ok(conn),
+        Err((_, _)) => Err(Fail::from("not opened anew")),
+    }
+}
+
+fn decided(alloc: Global, tables: &mut Tables<MemStore>, command: &Command) -> bool {
+    tables.begin().is_ok() && decide(alloc, &Language, tables, command).is_ok()
+}
+
+// The store within a transaction that has applied one command more.
+fn within(
+    alloc: Global,
+    conn: Connection<MemStore>,
+    command: Command,
+) -> Result<Connection<MemStore>, Fail> {
+    let (keeper, _) = opened(alloc, conn)?;
+    let mut tables = keeper.into_tables();
+    if !decided(alloc, &mut tables, &command) {
+        return Err(Fail::from("not decided"));
+    }
+    Ok(tables.into_connection())
+}
+
 fn is_one_waiting(list: &[Position]) -> bool {
     match list {
         [position] => is_waiting(position, 1),
@@ -134,6 +164,35 @@ fn a_closed_run_has_none(rt: HostRuntime) -> Result<(), Fail> {
     let conn = begun(alloc, Connection::open_in_memory(alloc)?)?;
     let conn = behind(alloc, conn, complete(1)?)?;
     let (_, list) = opened(alloc, conn)?;
+    assert!(rt; list.is_empty());
+    Ok(())
+}
+
+#[test]
+fn a_stop_within_a_transaction_leaves_the_last_commit(rt: HostRuntime) -> Result<(), Fail> {
+    let alloc = rt.alloc();
+    let conn = begun(alloc, Connection::open_in_memory(alloc)?)?;
+    let conn = within(alloc, conn, complete(1)?)?;
+    let (_, list) = opened(alloc, stopped(alloc, conn)?)?;
+    assert!(rt; is_one_waiting(list.as_slice()));
+    Ok(())
+}
+
+#[test]
+fn a_transaction_that_runs_is_rolled_back(rt: HostRuntime) -> Result<(), Fail> {
+    let alloc = rt.alloc();
+    let conn = begun(alloc, Connection::open_in_memory(alloc)?)?;
+    let (_, list) = opened(alloc, within(alloc, conn, complete(1)?)?)?;
+    assert!(rt; is_one_waiting(list.as_slice()));
+    Ok(())
+}
+
+#[test]
+fn what_was_committed_is_there_after_a_stop(rt: HostRuntime) -> Result<(), Fail> {
+    let alloc = rt.alloc();
+    let conn = begun(alloc, Connection::open_in_memory(alloc)?)?;
+    let conn = behind(alloc, stopped(alloc, conn)?, complete(1)?)?;
+    let (_, list) = opened(alloc, stopped(alloc, conn)?)?;
     assert!(rt; list.is_empty());
     Ok(())
 }
