@@ -6,3 +6,4 @@ pub mod Runs
 pub mod Answering
 pub mod Stopping
 pub mod Histories
+pub mod Committed

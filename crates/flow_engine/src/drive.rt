@@ -10,7 +10,7 @@ use crate::engine::Engine;
 use flow_commit::batch::Batch;
 use flow_commit::outcome::Outcome;
 use sqlite::Alter;
-use std::alloc::{AllocError, Global};
+use std::alloc::AllocError;
 
 /// Commits a batch and gives its stamp up.
 fn done_with<S: Alter>(engine: &mut Engine<S>, batch: Batch) -> Done
@@ -35,7 +35,6 @@ fn done_with<S: Alter>(engine: &mut Engine<S>, batch: Batch) -> Done
 /// # Failure
 /// E01, before the first batch: they come back, and nothing has changed.
 pub fn drive<S: Alter>(
-    alloc: Global,
     engine: &mut Engine<S>,
     batches: Vec<Batch>,
 ) -> Result<Vec<Done>, (Vec<Batch>, AllocError)>
@@ -49,7 +48,7 @@ pub fn drive<S: Alter>(
     ensures back { IfErr result (λ e. e.0 ≡ batches) }
     ensures same { IfErr result (λ _. engine.new ≡ engine.old) }
 {
-    let mut dones = Vec::new(alloc);
+    let mut dones = Vec::new(engine.alloc());
     if dones.reserve(batches.len()).is_err() {
         return Err((batches, AllocError));
     }

@@ -10,10 +10,9 @@ use flow_base::sequence::Sequence;
 use flow_base::text::{Key, RawText};
 use flow_base::value::Value;
 use flow_commit::batch::Batch;
-use flow_commit::keeper::Keeper;
 use flow_machine::taken::Taken;
-use flow_tables::stored::Tables;
-use sqlite::{Alter, Connection};
+use flow_recover::fault::OpeningFault;
+use sqlite::{Alter, Connection, MemStore};
 use std::alloc::Global;
 use std::test::Fail;
 
@@ -88,18 +87,14 @@ fn asked(alloc: Global) -> Result<Vec<Batch>, Fail> {
 }
 
 fn opened<S: Alter + Drop>(alloc: Global, conn: Connection<S>) -> Result<Engine<S>, Fail> {
-    match Tables::open(alloc, conn) {
-        Ok(tables) => Ok(Engine::over(alloc, Keeper::over(alloc, tables))),
+    match Engine::open(alloc, conn) {
+        Ok(engine) => Ok(engine),
         Err((_, _)) => Err(Fail::from("not opened")),
     }
 }
 
-fn driven<S: Alter>(
-    alloc: Global,
-    engine: &mut Engine<S>,
-    batches: Vec<Batch>,
-) -> Result<Vec<Done>, Fail> {
-    match drive(alloc, engine, batches) {
+fn driven<S: Alter>(engine: &mut Engine<S>, batches: Vec<Batch>) -> Result<Vec<Done>, Fail> {
+    match drive(engine, batches) {
         Ok(dones) => Ok(dones),
         Err((_, _)) => Err(Fail::from("no room")),
     }
@@ -165,12 +160,12 @@ fn is_end(event: &Event) -> bool {
 }
 
 fn events_now<S: Alter>(alloc: Global, engine: &mut Engine<S>, place: u64) -> Result<usize, Fail> {
-    let dones = driven(alloc, engine, asked(alloc)?)?;
+    let dones = driven(engine, asked(alloc)?)?;
     Ok(events(dones.as_slice(), place))
 }
 
 fn begin<S: Alter>(alloc: Global, engine: &mut Engine<S>) -> Result<bool, Fail> {
-    let dones = driven(alloc, engine, begun(alloc)?)?;
+    let dones = driven(engine, begun(alloc)?)?;
     Ok(is_begun(dones.as_slice()))
 }
 
@@ -180,7 +175,7 @@ fn report<S: Alter>(
     place: u64,
     next: u64,
 ) -> Result<bool, Fail> {
-    let dones = driven(alloc, engine, reported(alloc)?)?;
+    let dones = driven(engine, reported(alloc)?)?;
     Ok(is_reported(dones.as_slice(), place, next))
 }
 
@@ -198,7 +193,7 @@ fn batches_of_one_are_kept(rt: HostRuntime) -> Result<(), Fail> {
 fn no_batch_has_no_answer(rt: HostRuntime) -> Result<(), Fail> {
     let alloc = rt.alloc();
     let mut engine = opened(alloc, Connection::open_in_memory(alloc)?)?;
-    let dones = driven(alloc, &mut engine, Vec::new(alloc))?;
+    let dones = driven(&mut engine, Vec::new(alloc))?;
     assert!(rt; dones.is_empty());
     Ok(())
 }
@@ -208,7 +203,7 @@ fn an_open_run_is_there_again(rt: HostRuntime) -> Result<(), Fail> {
     let alloc = rt.alloc();
     let mut engine = opened(alloc, Connection::open_in_memory(alloc)?)?;
     assert!(rt; begin(alloc, &mut engine)?);
-    let mut again = opened(alloc, engine.into_connection())?;
+    let mut again = opened(alloc, engine.close())?;
     assert_eq!(rt; events_now(alloc, &mut again, 1)?, 2);
     Ok(())
 }
@@ -218,9 +213,9 @@ fn a_report_is_there_again(rt: HostRuntime) -> Result<(), Fail> {
     let alloc = rt.alloc();
     let mut engine = opened(alloc, Connection::open_in_memory(alloc)?)?;
     assert!(rt; begin(alloc, &mut engine)?);
-    let mut again = opened(alloc, engine.into_connection())?;
+    let mut again = opened(alloc, engine.close())?;
     assert!(rt; report(alloc, &mut again, 1, 2)?);
-    let mut last = opened(alloc, again.into_connection())?;
+    let mut last = opened(alloc, again.close())?;
     assert_eq!(rt; events_now(alloc, &mut last, 1)?, 4);
     Ok(())
 }
@@ -229,8 +224,37 @@ fn a_report_is_there_again(rt: HostRuntime) -> Result<(), Fail> {
 fn a_flow_with_nothing_to_do_ends(rt: HostRuntime) -> Result<(), Fail> {
     let alloc = rt.alloc();
     let mut engine = opened(alloc, Connection::open_in_memory(alloc)?)?;
-    driven(alloc, &mut engine, ended_at_once(alloc)?)?;
-    let dones = driven(alloc, &mut engine, asked(alloc)?)?;
+    driven(&mut engine, ended_at_once(alloc)?)?;
+    let dones = driven(&mut engine, asked(alloc)?)?;
     assert!(rt; ends_with_nothing(dones.as_slice(), 3));
+    Ok(())
+}
+
+// The store of a run that waits on its activity, changed by a statement.
+fn changed(alloc: Global, sql: &str) -> Result<Connection<MemStore>, Fail> {
+    let mut engine = opened(alloc, Connection::open_in_memory(alloc)?)?;
+    begin(alloc, &mut engine)?;
+    let mut conn = engine.close();
+    conn.execute_batch(sql)?;
+    Ok(conn)
+}
+
+fn is_mismatch(answer: &Result<Engine<MemStore>, (OpeningFault, Connection<MemStore>)>) -> bool {
+    match answer {
+        Ok(_) => false,
+        Err((fault, _)) => fault.code() == Code::Mismatch,
+    }
+}
+
+// Its rows tell a book, but the program asks for another argument than its second event has.
+#[test]
+fn a_run_that_does_not_replay_is_refused(rt: HostRuntime) -> Result<(), Fail> {
+    let alloc = rt.alloc();
+    let conn = changed(
+        alloc,
+        "UPDATE event SET body = replace(body, 'eur', 'usd') WHERE id = 2",
+    )?;
+    let answer = Engine::open(alloc, conn);
+    assert!(rt; is_mismatch(&answer));
     Ok(())
 }

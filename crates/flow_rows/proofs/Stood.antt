@@ -33,7 +33,7 @@ use Rattle.flow_rows.specs.Rows.{activities_left}
 use Rattle.flow_rows.specs.Damages.{tries_of, tries_at}
 use Rattle.flow_rows.specs.Standing.{AreEvents, AreTasks, IsKept, AreApart, AreKept}
 use Rattle.flow_rows.specs.Told.{AreRead, IsTold}
-use Rattle.flow_rows.specs.Recalling.{IsTaskOfTypes, IsOfTypes}
+use Rattle.flow_rows.specs.Typed.{IsTaskOfTypes}
 use Rattle.flow_rows.proofs.Agreed.{get_middle}
 use Rattle.flow_rows.proofs.BookTables.{nth_is}
 use Rattle.flow_rows.proofs.Openness.{later}
@@ -135,26 +135,26 @@ left_is false ts none = none refl
 
 ---- Each run
 
-kept_run : (b : Book) (r : Run) → IsSoundRun (rules_of meaning_of) b r → IsTold r → IsOfTypes r → IsKept (length b.texts) r
-kept_run b r sound told types =
+kept_run : (b : Book) (r : Run) → IsSoundRun (rules_of meaning_of) b r → IsTold r → IsKept (length b.texts) r
+kept_run b r sound told =
     let there = text_there b r.text sound.program sound.its_text in
     let tried = well_formed_tried sound.program (text_well_formed b r.text sound.program there) in
     let left : open_activities r.history ≡ activities_left r.history =
     left_is (is_open (state_of r.history)) (open_activities r.history) (none_left sound.program r.history sound.place tried sound.stands)
     in
     record {
-      flow = types.flow;
-      request = types.request;
+      flow = told.types.flow;
+      request = told.types.request;
       text = there.place;
       begun = sound.stands.0;
       events = all_events r.history told.events (starts_once sound.program r.history sound.place tried sound.stands);
-      tasks = are_tasks r r.tasks (activities_left r.history) (sound.activities ∙ ap (map (λ (t : Task). t.event)) left) sound.attempts types.tasks;
+      tasks = are_tasks r r.tasks (activities_left r.history) (sound.activities ∙ ap (map (λ (t : Task). t.event)) left) sound.attempts told.types.tasks;
     }
 
-kept_runs : (b : Book) (rs : List Run) → AllByRecursion (IsSoundRun (rules_of meaning_of) b) rs → AllByRecursion IsTold rs → AllByRecursion IsOfTypes rs
+kept_runs : (b : Book) (rs : List Run) → AllByRecursion (IsSoundRun (rules_of meaning_of) b) rs → AllByRecursion IsTold rs
     → AllByRecursion (IsKept (length b.texts)) rs
-kept_runs b [] sound told types = tt
-kept_runs b (r ∷ rs) sound told types = (kept_run b r sound.0 told.0 types.0, kept_runs b rs sound.1 told.1 types.1)
+kept_runs b [] sound told = tt
+kept_runs b (r ∷ rs) sound told = (kept_run b r sound.0 told.0, kept_runs b rs sound.1 told.1)
 
 ---- One run beside another
 
@@ -196,10 +196,10 @@ texts_are : (ts : List Bytes) → AllByRecursion (IsProgram (rules_of meaning_of
 texts_are [] all = tt
 texts_are (t ∷ ts) all = (ap is_ok all.0.1, texts_are ts all.1)
 
-pub stood : (b : Book) → AllByRecursion IsTold b.runs → AllByRecursion IsOfTypes b.runs → IsSound (rules_of meaning_of) b → IsOrderly (rules_of meaning_of) b
+pub stood : (b : Book) → AllByRecursion IsTold b.runs → IsSound (rules_of meaning_of) b → IsOrderly (rules_of meaning_of) b
     → AllByRecursion (λ text. is_program text ≡ true) b.texts × AreKept (length b.texts) [] b.runs
-stood b told types sound orderly = (
+stood b told sound orderly = (
   texts_are b.texts (recursion_from_All (IsProgram (rules_of meaning_of)) b.texts orderly.texts),
   runs_kept (rules_of meaning_of) b sound orderly (length b.texts) [] b.runs refl
-      (kept_runs b b.runs (recursion_from_All (IsSoundRun (rules_of meaning_of) b) b.runs sound.runs) told types),
+      (kept_runs b b.runs (recursion_from_All (IsSoundRun (rules_of meaning_of) b) b.runs sound.runs) told),
 )
