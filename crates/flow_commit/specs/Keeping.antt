@@ -6,6 +6,7 @@ use Rattle.flow_base.specs.declared.command.Command.{Command}
 use Rattle.flow_check.specs.Language.{meaning_of}
 use Rattle.flow_model.specs.Book.{Book}
 use Rattle.flow_model.specs.Apply.{Rules, rules_of, outcome, after, after_one}
+use Rattle.flow_model.specs.Sound.{IsSound, IsOrderly}
 use Rattle.flow_machine.specs.declared.taken.Taken.{Taken}
 use Rattle.flow_machine.specs.declared.taken.Receipt.{Receipt}
 use Rattle.flow_machine.specs.contracts.taken.Taken as taken_row
@@ -26,6 +27,11 @@ keeping_code {S} store =
 -- the rules of the product
 abbrev pub rules : Rules
 rules = rules_of meaning_of
+
+-- A book such as commands make from the empty one: it is sound, its texts are programs, and no request started two runs.
+pub record IsWell (b : Book) : Type 0 where
+  pub sound : IsSound rules b
+  pub orderly : IsOrderly rules b
 
 -- The tables that were opened were ours or none, and the disk has told no lie so far.
 abbrev pub IsFit : {S : Type 0} → Ghosts S → Keeping S → Type 0

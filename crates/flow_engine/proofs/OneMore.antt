@@ -1,18 +1,22 @@
 -- One more batch that is committed.
-use Rattle.std.proofs.Common.{◌≡◌, inl, ◌+◌, Bool, true, false, List, [], ◌∷◌, ◌++◌, length, refl, sym, ap, ◌∙◌, subst, arith, append-nil, append_assoc, length-append}
+use Rattle.std.proofs.Common.{◌≡◌, inl, inr, ◌+◌, Bool, true, false, List, [], ◌∷◌, ◌++◌, length, refl, sym, ap, ◌∙◌, subst, arith, append-nil, append_assoc, length-append}
 use Rattle.std.proofs.lemmas.List.{length-map}
 use Rattle.sqlite_trees.specs.declared.store.Store.{Ghosts}
 use Rattle.flow_base.specs.declared.command.Command.{Command}
 use Rattle.flow_model.specs.Book.{Book}
 use Rattle.flow_model.specs.Apply.{after}
 use Rattle.flow_model.proofs.Logs.{after_cut}
+use Rattle.flow_machine.proofs.Keeps.{after_keeps}
+use Rattle.flow_machine.proofs.Meaning.{reads_well_formed}
+use Rattle.flow_machine.proofs.Orderly.{orderly_after}
+use Rattle.sqlite.specs.Tree.{Trees}
 use Rattle.flow_machine.specs.declared.taken.Taken.{Taken}
 use Rattle.flow_machine.specs.declared.taken.Receipt.{Receipt}
 use Rattle.flow_tables.specs.Owned.{state_of, LeavesEither}
-use Rattle.flow_commit.specs.Keeping.{Keeping, rules, IsFit, KeepsBook, HasKept, HasRefused, IsUnknown, command_of, commands_of, receipts_of}
+use Rattle.flow_commit.specs.Keeping.{Keeping, rules, IsFit, IsWell, KeepsBook, HasKept, HasRefused, IsUnknown, command_of, commands_of, receipts_of}
 use Rattle.flow_engine.specs.declared.done.Done.{Done}
 use Rattle.flow_engine.specs.declared.done.Done.TheVariants as done
-use Rattle.flow_engine.specs.Driving.{HasDone, AreAnswers, LeadsTo, Drives, all_halted, has_unknown, if_kept, if_unknown, kept_of, in_hand}
+use Rattle.flow_engine.specs.Driving.{HasDone, AreAnswers, LeadsTo, Drives, IsLeft, all_halted, has_unknown, if_kept, if_unknown, kept_of, in_hand}
 use Rattle.flow_engine.proofs.Gathering.{off, same_length, gathered_more, unknown_behind, known_behind, none_in_hand, answers_more, all_halted_more, halted_more, replies_told}
 
 module _ {S : Type 0} (g : Ghosts S) (old : Keeping S) (b : Book) where
@@ -141,3 +145,19 @@ module _ {S : Type 0} (g : Ghosts S) (old new : Keeping S) (whole left : List (L
 pub none_left : {A : Type 0} (xs : List A) → length xs ≡ 0 → xs ≡ []
 none_left [] e = refl
 none_left (x ∷ xs) e = absurd (omega (arith, e))
+
+---- Books such as commands make
+
+pub after_well : (b : Book) (l : List Command) → IsWell b → IsWell (after rules b l)
+after_well b l well = record { sound = after_keeps rules b l reads_well_formed well.sound; orderly = orderly_after rules b l well.orderly }
+
+-- what a stop leaves is found again
+pub left_well : {S : Type 0} (g : Ghosts S) (old new : Keeping S) (b : Book) (batches : List (List Taken)) (dones : List Done) → IsWell b → Drives g old new b batches dones
+    → (db : Trees) → (state_of g new.stored).may_leave db → IsLeft db b (kept_of batches dones) (in_hand batches dones)
+left_well g old new b batches dones well drove db may =
+    let kept = kept_of batches dones in
+    let hand = in_hand batches dones in
+    elim (drove.leads.stops db may) [
+      | inl before ↦ record { commands = kept; are = inl refl; file = before; well = after_well b kept well }
+      | inr whole ↦ record { commands = kept ++ hand; are = inr refl; file = whole; well = after_well b (kept ++ hand) well }
+    ]

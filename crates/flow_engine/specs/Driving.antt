@@ -1,5 +1,5 @@
 -- What becomes of batches that are committed one after the other.
-use Rattle.std.specs.Prelude.{◌≡◌, ◌+◌, ℕ, Bool, true, false, List, [], ◌∷◌, ◌++◌, length, map}
+use Rattle.std.specs.Prelude.{◌≡◌, ◌⊎◌, ◌+◌, ℕ, Bool, true, false, List, [], ◌∷◌, ◌++◌, length, map}
 use Rattle.sqlite_trees.specs.declared.store.Store.{Ghosts}
 use Rattle.flow_base.specs.declared.command.Command.{Command}
 use Rattle.flow_base.specs.declared.command.Reply.{Reply}
@@ -8,8 +8,9 @@ use Rattle.flow_model.specs.Apply.{after, replies}
 use Rattle.flow_model.specs.Sound.{IsSound}
 use Rattle.flow_machine.specs.declared.taken.Taken.{Taken}
 use Rattle.flow_machine.specs.declared.taken.Receipt.{Receipt}
-use Rattle.flow_tables.specs.Owned.{state_of, LeavesEither}
-use Rattle.flow_commit.specs.Keeping.{Keeping, rules, KeepsBook, HasKept, HasRefused, IsUnknown, commands_of, receipts_of}
+use Rattle.sqlite.specs.Tree.{Trees}
+use Rattle.flow_tables.specs.Owned.{state_of, IsFileOf, LeavesEither}
+use Rattle.flow_commit.specs.Keeping.{Keeping, rules, IsWell, KeepsBook, HasKept, HasRefused, IsUnknown, commands_of, receipts_of}
 use Rattle.flow_engine.specs.declared.done.Done.{Done}
 use Rattle.flow_engine.specs.declared.done.Done.TheVariants as done
 
@@ -103,3 +104,15 @@ pub record Drives {S : Type 0} (g : Ghosts S) (old new : Keeping S) (b : Book) (
 -- From a sound book every book that is reached is sound: that after any beginning of these commands.
 abbrev pub ReachesSound : Book → List Command → Type 0
 ReachesSound b commands = IsSound rules b → (l m : List Command) → l ++ m ≡ commands → IsSound rules (after rules b l)
+
+-- The same of a book such as commands make.
+abbrev pub ReachesWell : Book → List Command → Type 0
+ReachesWell b commands = IsWell b → (l m : List Command) → l ++ m ≡ commands → IsWell (after rules b l)
+
+-- A file holds the book after the commands that were kept, or after these and the whole batch in hand; and it is a book such as
+-- commands make, so that an opening refuses nothing of it.
+pub record IsLeft (db : Trees) (b : Book) (kept hand : List Command) : Type 0 where
+  pub commands : List Command
+  pub are : (commands ≡ kept) ⊎ (commands ≡ kept ++ hand)
+  pub file : IsFileOf db (after rules b commands)
+  pub well : IsWell (after rules b commands)

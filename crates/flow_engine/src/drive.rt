@@ -1,9 +1,11 @@
 //! Batches, one after the other.
 ghost use Rattle.std.specs.Prelude.{◌≡◌, ◌++◌, true, false, IfOk, IfErr};
 ghost use Rattle.flow_model.specs.Book.{Book};
-ghost use Rattle.flow_commit.specs.Keeping.{IsFit, KeepsBook};
+ghost use Rattle.sqlite.specs.Tree.{Trees};
+ghost use Rattle.flow_tables.specs.Owned.{state_of};
+ghost use Rattle.flow_commit.specs.Keeping.{IsFit, IsWell, KeepsBook};
 ghost use Rattle.flow_engine.specs.declared.done.Done.TheVariants as dones;
-ghost use Rattle.flow_engine.specs.Driving.{HasDone, Drives, ReachesSound, all_halted, kept_of, in_hand};
+ghost use Rattle.flow_engine.specs.Driving.{HasDone, Drives, IsLeft, ReachesSound, ReachesWell, all_halted, kept_of, in_hand};
 
 use crate::done::Done;
 use crate::engine::Engine;
@@ -42,6 +44,10 @@ pub fn drive<S: Alter>(
     ensures drives { IsFit S.Store engine.new → (b : Book) → KeepsBook S.Store engine.old b → engine.old.halted ≡ false → IfOk result (λ ds. Drives S.Store engine.old engine.new b batches.items ds.items) }
     // Every book on the way is sound, and so is the one that a batch in hand may have led to.
     ensures sound { IfOk result (λ ds. (b : Book) → ReachesSound b (kept_of batches.items ds.items ++ in_hand batches.items ds.items)) }
+    ensures well { IfOk result (λ ds. (b : Book) → ReachesWell b (kept_of batches.items ds.items ++ in_hand batches.items ds.items)) }
+    // So whatever a stop leaves at this moment is found again, and nothing of it is refused.
+    ensures leaves { IsFit S.Store engine.new → (b : Book) → IsWell b → KeepsBook S.Store engine.old b → engine.old.halted ≡ false
+        → IfOk result (λ ds. (db : Trees) → (state_of S.Store engine.new.stored).may_leave db → IsLeft db b (kept_of batches.items ds.items) (in_hand batches.items ds.items)) }
     // An engine that has halted does nothing.
     ensures halted { engine.old.halted ≡ true → engine.new ≡ engine.old }
     ensures later { engine.old.halted ≡ true → IfOk result (λ ds. ds.items ≡ all_halted batches.items) }

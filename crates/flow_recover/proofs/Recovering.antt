@@ -18,6 +18,7 @@ use Rattle.flow_machine.proofs.Keeps.{nothing_sound}
 use Rattle.flow_rows.specs.Rows.{Tables}
 use Rattle.flow_rows.specs.Told.{Tells}
 use Rattle.flow_rows.proofs.Agreed.{kept_all}
+use Rattle.flow_rows.proofs.Stood.{stood}
 use Rattle.flow_rows.proofs.Telling.{told, all_told}
 use Rattle.flow_tables.specs.Layout.{schema, no_schema}
 use Rattle.flow_tables.specs.Stored.{tables_in}
@@ -26,13 +27,13 @@ use Rattle.flow_tables.specs.Opening.{StandFor}
 use Rattle.flow_tables.specs.States.{AreOurs, HasTables, HasEnded}
 use Rattle.flow_tables.specs.Owned.{Stored, Follows, IsOurs, IsFound, IsFileOf, Keeps, LeavesMade}
 use Rattle.flow_tables.proofs.Stops.{IsSettled, opened_over}
-use Rattle.flow_commit.specs.Keeping.{rules}
+use Rattle.flow_commit.specs.Keeping.{rules, IsWell}
 use Rattle.flow_recover.specs.declared.fault.RecoverFault.{RecoverFault}
 use Rattle.flow_recover.specs.declared.fault.RecoverFault.TheVariants as fault
 use Rattle.flow_recover.specs.declared.fault.OpeningFault.{OpeningFault}
 use Rattle.flow_recover.specs.declared.fault.OpeningFault.TheVariants as opening
 use Rattle.flow_recover.specs.Positions.{IsLeastMismatch, Names}
-use Rattle.flow_recover.specs.Recovering.{HoldsSound, IsOpenedOver, IsOfDisk, IsWell, OfTables, IsOfPositions, OfPositions, IsKeptOn, IsOwnFault}
+use Rattle.flow_recover.specs.Recovering.{HoldsSound, IsOpenedOver, IsOfDisk, OfTables, IsOfPositions, OfPositions, IsKeptOn, IsOwnFault}
 use Rattle.flow_recover.proofs.Refusing.{no_mismatch}
 
 pub follows_then : {S : Type 0} (g : Ghosts S) (a b c : Stored S) → Follows g a b → Follows g b c → Follows g a c
@@ -108,7 +109,7 @@ kept_found s b h = inl (h.1.kept h.0)
 
 -- Tables that tell a book which is well stand for it.
 well_stands : (t : Tables) (b : Book) → Tells t b → IsWell b → StandFor t b
-well_stands t b tells well = record { texts = well.texts; runs = well.runs; same = tells.same }
+well_stands t b tells well = let stands = stood b tells.runs well.sound well.orderly in record { texts = stands.0; runs = stands.1; same = tells.same }
 
 pub well_sound : (s : State) (b : Book) → IsFound s b → IsWell b → HoldsSound s
 well_sound s b (inl h) well = inl (b, h.0, well_stands (tables_in s.committed.trees) b h.1 well, well.sound)

@@ -1,6 +1,5 @@
 -- What the opening of a store gives.
 use Rattle.std.specs.Prelude.{◌≡◌, ◌⊎◌, true, List, [], length, Err}
-use Rattle.std.specs.List.{AllByRecursion}
 use Rattle.sqlite_trees.specs.declared.store.Store.{Ghosts}
 use Rattle.sqlite_trees.specs.declared.error.StoreError.{StoreError}
 use Rattle.sqlite_rules.specs.Calls.{Excuses}
@@ -8,10 +7,9 @@ use Rattle.sqlite.specs.Disk.{MoreFaults}
 use Rattle.sqlite.specs.Tree.{Trees}
 use Rattle.sqlite.specs.declared.error.Error.{Error}
 use Rattle.sqlite.specs.State.{State, Opens, IsLive, store_error}
-use Rattle.flow_check.specs.Language.{meaning_of, is_program}
+use Rattle.flow_check.specs.Language.{meaning_of}
 use Rattle.flow_model.specs.Book.{Book}
 use Rattle.flow_model.specs.Sound.{IsSound}
-use Rattle.flow_rows.specs.Standing.{AreKept}
 use Rattle.flow_tables.specs.declared.open.OpenFault.{OpenFault}
 use Rattle.flow_tables.specs.Layout.{no_schema}
 use Rattle.flow_tables.specs.Stored.{tables_in}
@@ -53,12 +51,6 @@ IsOfDisk g old new e = (cause : StoreError) × (e ≡ store_error cause) × Excu
 -- The keeper keeps this book, and these are the positions of its open runs.
 abbrev pub IsBack : {S : Type 0} → Ghosts S → Keeping S → List Position → Book → Type 0
 IsBack g k qs b = IsFit g k × KeepsBook g k b × ArePositions meaning_of b qs
-
--- Nothing of this book can be refused: its texts are programs, its runs keep the rules of the tables, and it is sound.
-pub record IsWell (b : Book) : Type 0 where
-  pub texts : AllByRecursion (λ text. is_program text ≡ true) b.texts
-  pub runs : AreKept (length b.texts) [] b.runs
-  pub sound : IsSound rules b
 
 ---- Refusals
 

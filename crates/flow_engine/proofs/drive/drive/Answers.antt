@@ -3,7 +3,7 @@ use Rattle.std.specs.Vec.Iter.{into_iter_items, into_iter_len}
 use Rattle.flow_machine.proofs.Keeps.{after_keeps}
 use Rattle.flow_machine.proofs.Meaning.{reads_well_formed}
 use Rattle.flow_commit.specs.Keeping.{rules}
-use Rattle.flow_engine.proofs.OneMore.{Drove, drove_more, drives, none_left}
+use Rattle.flow_engine.proofs.OneMore.{Drove, drove_more, drives, none_left, after_well, left_well}
 use Rattle.flow_engine.proofs.drive.drive.Goals as goal
 
 pub loop-batch-preserved : goal.loop-batch-preserved
@@ -33,3 +33,11 @@ returns-clause-drives g c =
 
 pub returns-clause-sound : goal.returns-clause-sound
 returns-clause-sound g c b sound l m e = after_keeps rules b l reads_well_formed sound
+
+pub returns-clause-well : goal.returns-clause-well
+returns-clause-well g c b well l m e = after_well b l well
+
+pub returns-clause-leaves : goal.returns-clause-leaves
+returns-clause-leaves g c fit b well keeps goes_on =
+    left_well g.S.Store c.args.engine.now c.loop-batch.engine b c.args.batches.items c.loop-batch.dones.items well
+    (returns-clause-drives g c fit b keeps goes_on)
