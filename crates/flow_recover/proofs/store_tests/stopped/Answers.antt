@@ -1,12 +1,14 @@
-use Rattle.std.proofs.Common.{sym, ◌∙◌}
+use Rattle.std.proofs.Common.{refl, sym, ◌∙◌}
 use Rattle.flow_recover.proofs.store_tests.stopped.Goals as goal
 
+-- A store in memory is always open.
 pub reopen-requires : goal.reopen-requires
-reopen-requires g c clean =
+reopen-requires c clean =
     let undone = c.into_store.ensures.undone in
+    let kept = undone.kept clean in
     record {
-      sound = (undone.undone tt).1;
+      sound = (undone.undone refl).1;
       numbered = c.into_store.ensures.numbered clean;
-      clean = (undone.undone tt).0 ∙ sym ((undone.kept clean).committed tt);
-      unmarked = (undone.kept clean).marks tt;
+      clean = (undone.undone refl).0 ∙ sym (kept.committed refl);
+      unmarked = kept.marks refl;
     }
