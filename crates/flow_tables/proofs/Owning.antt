@@ -226,9 +226,9 @@ module _ (old new : State) (ours : Type 0) (ro rn : Option Refusal) (owned : our
   pub follows_on : (a : State) → (Holds true old → Survives old new (λ _. ⊥)) → (ours → HasCleanDisk new → LeavesCommit old new) → KeepsOn ours a old → WasUp ours a old → KeepsOn ours a new × WasUp ours a new
   follows_on a survives leaves before up = (
     λ fit now.
-    let on = keeps_on old new ours (λ fit. survives (holds fit)) leaves fit now in
-    let was = before fit on.0 in
-    (was.0, λ b h. on.1 b (was.1 b h)),
+        let on = keeps_on old new ours (λ fit. survives (holds fit)) leaves fit now in
+        let was = before fit on.0 in
+        (was.0, λ b h. on.1 b (was.1 b h)),
     λ fit now shown. up fit (clean now) ((leaves fit now).was_open shown),
   )
 
