@@ -31,6 +31,14 @@ rules = rules_of meaning_of
 abbrev pub IsFit : {S : Type 0} → Ghosts S → Keeping S → Type 0
 IsFit g k = tables.IsFit g k.stored
 
+-- the connection is open
+abbrev pub IsUp : {S : Type 0} → Ghosts S → Keeping S → Type 0
+IsUp g k = tables.IsUp g k.stored
+
+-- the book that the last commit left, read off the tables
+abbrev pub kept_book : {S : Type 0} → Ghosts S → Keeping S → Book
+kept_book g k = tables.kept_book g k.stored
+
 -- The keeper keeps this book, and each stop at this moment leaves it.
 abbrev pub KeepsBook : {S : Type 0} → Ghosts S → Keeping S → Book → Type 0
 KeepsBook g k b = Keeps (state_of g k.stored) b

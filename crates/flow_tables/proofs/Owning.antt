@@ -12,7 +12,7 @@ use Rattle.flow_tables.specs.Faults.{noted_fault, told_answer}
 use Rattle.flow_rows.specs.Told.{Tells, after_change, FitsTables}
 use Rattle.flow_rows.proofs.Telling.{told}
 use Rattle.flow_rows.proofs.WholeChanges.{change_told}
-use Rattle.flow_tables.specs.Owned.{IsOwn, IsSure, Keeps, KeepsOn, LeavesWritten, IsFileOf, ReadsBook, TellBook, IsNoted, book_of}
+use Rattle.flow_tables.specs.Owned.{IsOwn, IsSure, Keeps, KeepsOn, WasUp, LeavesWritten, IsFileOf, ReadsBook, TellBook, IsNoted, book_of}
 use Rattle.flow_tables.specs.Stored.{tables_in}
 use Rattle.flow_tables.specs.States.{AreOurs, HasTables, IsOver, Holds, IsStill, IsRefused, IsUndone, HasBegun, HasCommitted, HasEnded, Changes}
 use Rattle.flow_tables.specs.Puts.{IsCutShort}
@@ -38,6 +38,10 @@ module _ (old new : State) where
       ];
     },
   )
+
+  -- nothing opens a connection that was shut
+  pub was_up : (ours : Type 0) → (ours → HasCleanDisk new → LeavesCommit) → WasUp ours old new
+  was_up ours left fit clean up = (left fit clean).was_open up
 
   pub shows_leaves : (inside : Bool) (d : Database) → Shows old new d old.committed inside → LeavesCommit
   shows_leaves inside d h = record { was_open = λ _. h.was_open; same = λ _. h.committed_is }
@@ -219,11 +223,14 @@ module _ (old new : State) (ours : Type 0) (ro rn : Option Refusal) (owned : our
         go (Ok v) h = λ sure. let it = h sure.fit sure.clean in (ap (λ (d : Database). book_of d.trees) it.0.1, it.1)
         go (Err f) h = tt
 
-  pub follows_on : (a : State) → (Holds true old → Survives old new (λ _. ⊥)) → (ours → HasCleanDisk new → LeavesCommit old new) → KeepsOn ours a old → KeepsOn ours a new
-  follows_on a survives leaves before fit now =
-      let on = keeps_on old new ours (λ fit. survives (holds fit)) leaves fit now in
-      let was = before fit on.0 in
-      (was.0, λ b h. on.1 b (was.1 b h))
+  pub follows_on : (a : State) → (Holds true old → Survives old new (λ _. ⊥)) → (ours → HasCleanDisk new → LeavesCommit old new) → KeepsOn ours a old → WasUp ours a old → KeepsOn ours a new × WasUp ours a new
+  follows_on a survives leaves before up = (
+    λ fit now.
+    let on = keeps_on old new ours (λ fit. survives (holds fit)) leaves fit now in
+    let was = before fit on.0 in
+    (was.0, λ b h. on.1 b (was.1 b h)),
+    λ fit now shown. up fit (clean now) ((leaves fit now).was_open shown),
+  )
 
   pub sure_on : IsSure ours new rn → IsSure ours old ro
   sure_on h = record { fit = h.fit; clean = clean h.clean; mode = inside; none = none }

@@ -1,6 +1,6 @@
 -- How an error of the store is told: the want of memory by itself, all else as the store's refusal. And what stands behind
 -- a refusal.
-use Rattle.std.specs.Prelude.{◌⊎◌, ℕ, List, Result, Ok, Err}
+use Rattle.std.specs.Prelude.{◌≡◌, ◌≢◌, ◌⊎◌, ℕ, List, [], true, Result, Ok, Err}
 use Rattle.sqlite_trees.specs.declared.store.Store.{Ghosts}
 use Rattle.sqlite.specs.Held.{Held, state}
 use Rattle.sqlite.specs.Order.{Row}
@@ -29,6 +29,14 @@ view_fault (Refused e) = view.StoreRefused
 abbrev pub WasRefused : {S : Type 0} → Ghosts S → State → Type 0
 WasRefused {S} g new =
     (old : Held S) × (sql : List ℕ) × (params : Row) × (e : Error) × (Executes sql params (state g old) new (Err e) ⊎ FailsToQuery sql params (state g old) new e)
+
+-- This statement was refused, not for want of memory, and led from the one state to the other.
+abbrev pub WasStopped : List ℕ → State → State → Type 0
+WasStopped sql old new = (e : Error) × (e ≢ SqliteFailure OutOfMemory) × Executes sql [] old new (Err e)
+
+-- This statement was refused within a transaction.
+abbrev pub FailsWithin : List ℕ → State → State → Type 0
+FailsWithin sql old new = (old.in_transaction ≡ true) × ((e : Error) × Executes sql [] old new (Err e))
 
 -- A row of an answer can't be read.
 abbrev pub WasMisread : {S : Type 0} → Ghosts S → State → Type 0

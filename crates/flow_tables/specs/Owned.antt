@@ -61,6 +61,14 @@ pub record IsOwn (s : State) (refused : Option Refusal) : Type 0 where
 abbrev pub book_now : {S : Type 0} → Ghosts S → Stored S → Book
 book_now g t = book_of (state_of g t).now.trees
 
+-- the book that the last commit left, read off the tables
+abbrev pub kept_book : {S : Type 0} → Ghosts S → Stored S → Book
+kept_book g t = book_of (state_of g t).committed.trees
+
+-- the connection is open
+abbrev pub IsUp : {S : Type 0} → Ghosts S → Stored S → Type 0
+IsUp g t = IsTrue (state_of g t).is_open
+
 -- What is said of the book is said of our tables with any rows, or of none, as the file that was opened has them.
 abbrev pub IsOurs : State → Type 0
 IsOurs s = HasCleanDisk s → HasTables s.committed ⊎ (s.committed.schema ≡ no_schema)
@@ -99,6 +107,10 @@ RefusesSo g fit s refused = ((refused ≡ Some refusal.Stopped) × (fit → IsRe
 abbrev pub Refuses : {S : Type 0} → Ghosts S → Stored S → Type 0
 Refuses g t = RefusesSo g (IsFit g t) (state_of g t) t.refused
 
+-- Nothing more is done: the transaction was refused something, or none runs.
+abbrev pub IsHindered : {S : Type 0} → Ghosts S → Stored S → Type 0
+IsHindered g t = ((r : Refusal) × (t.refused ≡ Some r)) ⊎ ((state_of g t).in_transaction ≡ false)
+
 -- the trees of a file hold this book
 pub record IsFileOf (db : Trees) (b : Book) : Type 0 where
   pub ours : AreOurs db
@@ -121,8 +133,12 @@ LeavesWritten sure s before after = (db : Trees) → s.may_leave db → IsFileOf
 abbrev pub KeepsOn : Type 0 → State → State → Type 0
 KeepsOn ours old new = ours → HasCleanDisk new → HasCleanDisk old × ((b : Book) → Keeps old b → Keeps new b)
 
+-- what is open was open before
+abbrev pub WasUp : Type 0 → State → State → Type 0
+WasUp ours old new = ours → HasCleanDisk new → IsTrue new.is_open → IsTrue old.is_open
+
 abbrev pub Follows : {S : Type 0} → Ghosts S → Stored S → Stored S → Type 0
-Follows g a b = (b.opened ≡ a.opened) × KeepsOn (IsOurs (state g b.opened)) (state_of g a) (state_of g b)
+Follows g a b = (b.opened ≡ a.opened) × KeepsOn (IsOurs (state g b.opened)) (state_of g a) (state_of g b) × WasUp (IsOurs (state g b.opened)) (state_of g a) (state_of g b)
 
 ---- Reads of the book, within a transaction
 

@@ -1,5 +1,5 @@
 -- What a connection shows, and what became of it by a call.
-use Rattle.std.specs.Prelude.{◌≡◌, ◌⊎◌, ℕ, Bool, true, false, List, [], ◌∷◌, IsTrue, ⊤, Result, Ok, Err, MatchResult}
+use Rattle.std.specs.Prelude.{◌≡◌, ◌⊎◌, ℕ, Bool, true, false, List, [], ◌∷◌, IsTrue, ⊤, Result, Ok, Err, MatchResult, codes}
 use Rattle.std.specs.List.{AllByRecursion}
 use Rattle.sqlite_ast.specs.declared.Statement.{Statement}
 use Rattle.sqlite_ast.specs.declared.Statement.TheVariants as written
@@ -105,6 +105,10 @@ IsRefusal {S} g e = (old new : Held S) × (sql : List ℕ) × Executes sql [] (s
 -- A statement without parameters was run, or refused.
 abbrev pub RunsTo : List ℕ → State → State → Result (Unit {0}) Error → Type 0
 RunsTo sql old new r = MatchResult r (λ _. (count : ℕ) × Executes sql [] old new (Ok count)) (λ e. Executes sql [] old new (Err e))
+
+-- What ran was rolled back; where nothing ran nothing was done.
+abbrev pub HasGoneBack : {S : Type 0} → Ghosts S → Held S → Held S → Type 0
+HasGoneBack g old new = (((state g old).in_transaction ≡ false) × (new ≡ old)) ⊎ ((count : ℕ) × Executes (codes "ROLLBACK") [] (state g old) (state g new) (Ok count))
 
 ---- Making the tables
 

@@ -1,9 +1,9 @@
 //! A transaction of the store: its begin, its end, and the way back.
 
-ghost use Rattle.std.specs.Prelude.{◌≡◌, [], true, false, IsTrue, MatchResult, IfErr, Err, codes};
+ghost use Rattle.std.specs.Prelude.{◌≡◌, [], ℕ, true, false, IsTrue, MatchResult, OnOk, IfErr, Ok, Err, codes};
 ghost use Rattle.sqlite.specs.State.{HasCleanDisk, Survives, Executes};
 ghost use Rattle.sqlite.specs.Held.{state};
-ghost use Rattle.flow_tables.specs.States.{Holds, IsOver, IsStill, IsRefused, IsUndone, HasBegun, HasCommitted, HasEnded};
+ghost use Rattle.flow_tables.specs.States.{Holds, IsOver, IsStill, IsRefused, IsUndone, HasBegun, HasCommitted, HasEnded, HasGoneBack};
 
 use sqlite::{Alter, Connection, Error};
 
@@ -46,6 +46,7 @@ pub fn rollback<S: Alter>(conn: &mut Connection<S>) -> Result<(), Error>
     ensures undone { Holds true (state S.Store conn.old) → HasCleanDisk (state S.Store conn.new) → IsUndone (state S.Store conn.old) (state S.Store conn.new) }
     ensures cause { HasCleanDisk (state S.Store conn.new)
         → MatchResult result (λ _. IsTrue (state S.Store conn.old).in_transaction) (λ e. Executes (codes "ROLLBACK") [] (state S.Store conn.old) (state S.Store conn.new) (Err e)) }
+    ensures done { HasCleanDisk (state S.Store conn.new) → OnOk result ((count : ℕ) × Executes (codes "ROLLBACK") [] (state S.Store conn.old) (state S.Store conn.new) (Ok count)) }
     ensures ended { HasCleanDisk (state S.Store conn.new) → IsTrue (state S.Store conn.old).in_transaction → HasEnded (state S.Store conn.old) (state S.Store conn.new) }
     ensures open { HasCleanDisk (state S.Store conn.new) → IsTrue (state S.Store conn.new).is_open → IsTrue (state S.Store conn.old).is_open }
     ensures survives { Survives (state S.Store conn.old) (state S.Store conn.new) (λ _. ⊥) }
@@ -62,6 +63,8 @@ pub fn undo<S: Alter>(conn: &mut Connection<S>) -> bool
     ensures undone { Holds true (state S.Store conn.old) → HasCleanDisk (state S.Store conn.new) → IsUndone (state S.Store conn.old) (state S.Store conn.new) }
     ensures cause { HasCleanDisk (state S.Store conn.new) → result ≡ false
         → (e : _) × Executes (codes "ROLLBACK") [] (state S.Store conn.old) (state S.Store conn.new) (Err e) }
+    ensures inside { result ≡ false → (state S.Store conn.old).in_transaction ≡ true }
+    ensures done { HasCleanDisk (state S.Store conn.new) → result ≡ true → HasGoneBack S.Store conn.old conn.new }
     ensures survives { Survives (state S.Store conn.old) (state S.Store conn.new) (λ _. ⊥) }
 {
     if conn.is_autocommit() {
