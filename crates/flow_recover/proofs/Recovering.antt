@@ -32,6 +32,7 @@ follows_then g a b c f h = (
       let later = h.1 ours clean in
       let first = f.1 (subst (λ x. IsOurs (state g x)) h.0 ours) later.0 in
       (first.0, λ k keeps. later.1 k (first.1 k keeps)),
+  λ ours clean up. f.2 (subst (λ x. IsOurs (state g x)) h.0 ours) (h.1 ours clean).0 (h.2 ours clean up),
 )
 
 ---- The book that is found
