@@ -9,7 +9,9 @@ use flow_base::text::{Key, RawText};
 use flow_base::value::Value;
 use flow_machine::taken::{Receipt, Taken};
 use flow_tables::stored::Tables;
-use sqlite::{Alter, Connection, MemStore};
+use flow_view::fault::ViewFault;
+use sqlite::{Alter, Connection, FileStore, Files, MemStore, Options};
+use sqlite_disk::{Fuse, Memory};
 use std::alloc::Global;
 use std::test::Fail;
 
@@ -170,5 +172,70 @@ fn a_refusal_changes_nothing(rt: HostRuntime) -> Result<(), Fail> {
     assert!(rt; !keeper.is_halted());
     let mut conn = closed(keeper);
     assert_eq!(rt; count(&mut conn, "SELECT num FROM run"), 0);
+    Ok(())
+}
+
+// A store over files in memory, whose log fails from so many calls on.
+fn failing(
+    alloc: Global,
+    calls: u64,
+    cache_pages: usize,
+) -> Result<Keeper<FileStore<Fuse<Memory>>>, Fail> {
+    let files = Files {
+        log: Fuse::new(Memory::new(alloc), calls),
+        db: Fuse::new(Memory::new(alloc), u64::MAX),
+    };
+    if !files.may_be_used() {
+        return Err(Fail::from("not usable"));
+    }
+    let mut options = Options::new(1);
+    options.cache_pages = cache_pages;
+    match Connection::open_files(alloc, files, options) {
+        Ok(conn) => opened(alloc, conn),
+        Err((_, _)) => Err(Fail::from("no files")),
+    }
+}
+
+// The code that the program tells of it, and 0 where it is kept.
+fn ended<S: Alter>(keeper: &mut Keeper<S>, batch: Batch) -> u8 {
+    match keeper.commit(batch) {
+        Outcome::Kept(_, stamp) => {
+            stamp.discard();
+            0
+        }
+        Outcome::NotApplied(_, ViewFault::NoMemory) => 1,
+        Outcome::NotApplied(_, ViewFault::StoreRefused) => 80,
+        Outcome::Unknown(_) => 84,
+        Outcome::Halted(_) => 85,
+    }
+}
+
+fn given<S: Alter>(alloc: Global, keeper: &mut Keeper<S>, command: Command) -> Result<u8, Fail> {
+    match Batch::one(alloc, Taken { ticket: 1, command }) {
+        Ok(batch) => Ok(ended(keeper, batch)),
+        Err((_, _)) => Err(Fail::from("no batch")),
+    }
+}
+
+// With one page in memory a read of the second command fails. Nothing of it is kept, and the keeper goes on.
+#[test]
+fn a_read_that_fails_applies_nothing(rt: HostRuntime) -> Result<(), Fail> {
+    let alloc = rt.alloc();
+    let mut keeper = failing(alloc, 34, 1)?;
+    assert_eq!(rt; given(alloc, &mut keeper, register(alloc)?)?, 0);
+    assert_eq!(rt; given(alloc, &mut keeper, start(alloc)?)?, 80);
+    assert!(rt; !keeper.is_halted());
+    Ok(())
+}
+
+// With all pages in memory only the commit reaches the log. Nobody knows of it, and the keeper answers no more.
+#[test]
+fn a_commit_that_fails_halts(rt: HostRuntime) -> Result<(), Fail> {
+    let alloc = rt.alloc();
+    let mut keeper = failing(alloc, 30, 2000)?;
+    assert_eq!(rt; given(alloc, &mut keeper, register(alloc)?)?, 0);
+    assert_eq!(rt; given(alloc, &mut keeper, start(alloc)?)?, 84);
+    assert!(rt; keeper.is_halted());
+    assert_eq!(rt; given(alloc, &mut keeper, complete()?)?, 85);
     Ok(())
 }
