@@ -53,10 +53,10 @@ HasCommitted g old new b batch (outcomes.NotApplied back f) = (old.halted ≡ fa
 HasCommitted g old new b batch (outcomes.Unknown back) = (old.halted ≡ false) × (back ≡ batch) × IsUnknown g old new b batch
 HasCommitted g old new b batch (outcomes.Halted back) = (old.halted ≡ true) × (back ≡ batch) × (new ≡ old)
 
--- What the keeper notes of a batch, whatever the disk tells it: one that is kept is counted, and behind one of which nobody
--- knows it has halted.
+-- What the keeper notes of a batch, whatever the disk tells it: one that is kept is counted and has a receipt for each command,
+-- and behind one of which nobody knows it has halted.
 abbrev pub HasNoted : {S : Type 0} → Keeping S → Keeping S → List Taken → Outcome → Type 0
-HasNoted old new batch (outcomes.Kept receipts stamp) = (new.halted ≡ false) × (new.kept ≡ old.kept + length batch)
+HasNoted old new batch (outcomes.Kept receipts stamp) = (new.halted ≡ false) × (new.kept ≡ old.kept + length batch) × (length receipts.items ≡ length batch)
 HasNoted old new batch (outcomes.NotApplied back f) = (new.halted ≡ false) × (new.kept ≡ old.kept)
 HasNoted old new batch (outcomes.Unknown back) = (new.halted ≡ true) × (new.kept ≡ old.kept)
 HasNoted old new batch (outcomes.Halted back) = (new.halted ≡ true) × (new ≡ old)

@@ -2,12 +2,17 @@
 use Rattle.std.proofs.Common.{◌≡◌, ℕ, zero, suc, ◌+◌, ◌-◌, Bool, true, false, true≢false, List, [], ◌∷◌, Some, refl, sym, ap, ◌∙◌, subst}
 use Rattle.std.specs.Prelude.{slice_get, if◌then◌else◌}
 use Rattle.std.proofs.lemmas.Option.{none-some, same_Some}
+use Rattle.sqlite_trees.specs.declared.store.Store.{Ghosts}
 use Rattle.flow_base.specs.declared.book.Run.{Run}
+use Rattle.flow_check.specs.Language.{meaning_of}
 use Rattle.flow_model.specs.Book.{Book}
 use Rattle.flow_model.specs.Configuration.{is_open}
 use Rattle.flow_model.specs.Open.{state_of}
 use Rattle.flow_run.specs.Position.{config_of}
 use Rattle.flow_machine.proofs.Places.{nth_place}
+use Rattle.flow_commit.specs.Keeping.{Keeping}
+use Rattle.flow_recover.specs.Recovering as recovering
+use Rattle.flow_engine.specs.Opening.{IsBack}
 use Rattle.flow_recover.specs.declared.positions.Position.{Position}
 use Rattle.flow_recover.specs.Positions.{Meaning, open_from, AreOf, ArePositions, IsPosition, IsOpenRun, IsStanding}
 
@@ -38,3 +43,7 @@ module _ (u : Meaning) (b : Book) where
 
   pub open_stands : (qs : List Position) → ArePositions u b qs → (n : ℕ) (r : Run) → IsOpenRun b n r → IsStanding u b r
   open_stands qs are n r opened = each_stands 1 b.runs qs are (n - 1) r (nth_place b.runs n r opened.0) opened.1
+
+-- what stands where positions were found, the positions left out
+pub is_back : {S : Type 0} (g : Ghosts S) (k : Keeping S) (qs : List Position) (b : Book) → recovering.IsBack g k qs b → IsBack g k b
+is_back g k qs b h = record { fit = h.0; kept = h.1; stands = open_stands meaning_of b qs h.2 }
