@@ -12,3 +12,4 @@ pub mod Tasks
 pub mod Changes
 pub mod Keeps
 pub mod Orderly
+pub mod Limited

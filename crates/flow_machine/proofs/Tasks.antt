@@ -24,7 +24,7 @@ use Rattle.flow_machine.proofs.Places.{get_past, nth_at, nth_kept}
 asked_tasks : (r : Run) (n at : ℕ) (c : Cmd) (ts : List Task) → nth r.history n ≡ Some (record { id = n; at = at; what = Asked c }) → AskedWell c → All (IsSoundTask r) ts → All (IsSoundTask r) (tasks_asked ts n at c)
 asked_tasks r n at (Schedule a vs tries every k) ts e w h =
     All-push (IsSoundTask r) ts (record { event = n; attempt = 1; ready = at }) h
-    (record { first = omega arith; event = record { id = n; at = at; what = Asked (Schedule a vs tries every k) }; scheduled = e; tries = tries; asked = (a, (vs, (every, (k, refl)))); last = w })
+    (record { first = omega arith; event = record { id = n; at = at; what = Asked (Schedule a vs tries every k) }; scheduled = e; tries = tries; asked = (a, (vs, (every, (k, refl)))); last = w.1.0 })
 asked_tasks r n at (StartTimer d) ts e w h = h
 asked_tasks r n at (CancelTimer m) ts e w h = h
 asked_tasks r n at (RecordMarker id) ts e w h = h

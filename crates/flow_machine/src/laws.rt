@@ -1,4 +1,5 @@
 ghost use Rattle.flow_check.specs.Language.{meaning_of};
+ghost use Rattle.flow_machine.specs.Limits.{ChangesWithinLimits};
 ghost use Rattle.flow_machine.specs.Soundness.{NoBookIsOrderly, NoBookIsSound, NoTextUnread, OrderlyAfter, ReadsWellFormed, SoundAfter, SoundDecides, TextsReadAfter};
 ghost use Rattle.flow_model.specs.Apply.{rules_of};
 
@@ -22,4 +23,10 @@ pub fn sound_decides()
 pub fn orderly_after()
     ensures nothing { NoBookIsOrderly }
     ensures after { OrderlyAfter }
+{}
+
+/// What commands record of a sound book is such as rows take: at most 256 arguments, 1 to 20 attempts, a pause of at most a day;
+/// and no run that is there is started again.
+pub fn changes_fit()
+    ensures { ChangesWithinLimits }
 {}

@@ -78,7 +78,7 @@ goes_on_well (CancelTimer n) h = tt
 goes_on_well (RecordMarker id) h = tt
 goes_on_well (Complete v) h = tt
 goes_on_well (Fail c t) h = tt
-goes_on_well (ContinueAsNew vs) h = tt
+goes_on_well (ContinueAsNew vs) h = absurd h
 
 -- a run within a turn that began in this state
 record Fares (s : State) (p : Progress) : Type 0 where

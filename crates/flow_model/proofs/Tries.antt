@@ -1,9 +1,17 @@
--- In a well-formed program each call is tried at least once, and so is each activity that a turn of it asks for.
-use Rattle.std.proofs.Common.{◌≡◌, ℕ, zero, suc, ◌≤◌, List, [], ◌∷◌, ◌++◌, Contains, refl, arith, Option, Some, None, Result, Ok, Err, Bool, true, false}
-use Rattle.std.specs.Prelude.{if◌then◌else◌, nat_lt, nat_eq, drop}
-use Rattle.flow_base.specs.Syntax.{Bytes, Program, Statement, Let, Assign, Call, WaitSignal, WaitSignalFor, Sleep, If, While, Parallel, Patch, Return, FailWith, Continue, Block, End, Next, Otherwise, NoElse, Else, Branches, NoBranch, Branch}
+-- In a well-formed program each call is such as a row takes, with 1 to 20 attempts, a pause of at most a day and at most 256
+-- arguments, and so is each activity that a turn of it asks for. So is what a run continues with.
+use Rattle.std.proofs.Common.{◌≡◌, ℕ, suc, ◌+◌, ◌-◌, ◌≤◌, List, [], ◌∷◌, ◌++◌, length, map, Contains, refl, sym, ap, ◌∙◌, subst, arith, Option, Some, None, Result, Ok, Err, Bool, true, false, ◌||◌}
+use Rattle.std.specs.Prelude.{if◌then◌else◌, nat_lt, nat_eq, drop, bytes_eq}
+use Rattle.std.proofs.lemmas.Bool.{ltb-false, eqb-true, eqb-false}
+use Rattle.std.proofs.lemmas.Option.{same_Some}
+use Rattle.std.proofs.lemmas.List.{length-append, length-drop, length-map}
+use Rattle.flow_base.specs.Limits.{Within}
+use Rattle.flow_base.specs.Syntax.{Bytes, Program, Statement, Let, Assign, Call, WaitSignal, WaitSignalFor, Sleep, If, While, Parallel, Patch, Return, FailWith, Continue, Block, End, Next, Otherwise, NoElse, Else, Branches, NoBranch, Branch, Expression, Declared, Activity, Signal}
 use Rattle.flow_base.specs.declared.value.Value.{Value}
+use Rattle.flow_base.specs.declared.value.Kind.{Kind}
 use Rattle.flow_base.specs.declared.value.Kind.TheVariants.{Int}
+use Rattle.flow_base.specs.declared.syntax.Parameter.{Parameter}
+use Rattle.flow_base.specs.declared.syntax.TypeAt.{TypeAt}
 use Rattle.flow_base.specs.declared.event.Cause.{Cause}
 use Rattle.flow_base.specs.declared.event.Cause.TheVariants.{ActivityFailed, TurnBudget, WaitLimit, UserFail, ChainLimit}
 use Rattle.flow_base.specs.declared.event.Cmd.{Cmd}
@@ -12,18 +20,22 @@ use Rattle.flow_base.specs.declared.code.Code.{Code}
 use Rattle.flow_base.specs.declared.code.Code.TheVariants as code
 use Rattle.flow_base.specs.declared.command.TextFault.{TextFault}
 use Rattle.flow_model.specs.WellFormed as rule
-use Rattle.flow_model.specs.WellFormed.{Scope, WellFormed, faults, faults_of_statement, faults_of_block, faults_of_otherwise, faults_of_branches, faults_of_retry, out_of_range, behind, scope_of}
-use Rattle.flow_model.specs.Values.{value, values, due, is_true, text_of}
+use Rattle.flow_model.specs.WellFormed.{Scope, Signature, Types, Named, WellFormed, faults, faults_of_statement, faults_of_block, faults_of_otherwise, faults_of_branches, faults_of_retry, out_of_range, behind, scope_of}
+use Rattle.flow_model.specs.Values.{◌>>=◌, Variables, value, values, due, is_true, text_of}
 use Rattle.flow_model.specs.Rest.{Rest, Done, OnActivity, OnTimer, OnSignal, OnSignalFor, Raised, Then, Beside, rest_of, branches_of, rest_else, is_done}
 use Rattle.flow_model.specs.Step.{Store, Setting, Move, Stays, Goes, Asks, Ends, on_value, on_signal, oldest, waiting, wait_limit, test_limit, tested, picked, decide, patched, begin, around, first_of, followed_by, or_move, move, raise, set_in, take_signal, gives_of}
 use Rattle.flow_model.specs.Deliver.{replaced, or_rest, map_rest, when_completed, when_failed, when_fired}
 
--- each call within is tried at least once
+-- what a row takes of a call: so many arguments, attempts, and milliseconds between two of these
+abbrev pub TakesWell : ℕ → ℕ → ℕ → Type 0
+TakesWell arguments tries every = (arguments ≤ 256) × Within 1 20 tries × (every ≤ 86400000)
+
+-- each call within is such, and so are the arguments with which it continues
 abbrev mutual
   pub Tried : Statement → Type 0
   Tried (Let at name_at x e) = Unit {0}
   Tried (Assign at x e) = Unit {0}
-  Tried (Call at x activity_at a es r o) = (1 ≤ r.tries) × TriedElse o
+  Tried (Call at x activity_at a es r o) = TakesWell (length es) r.tries r.every × TriedElse o
   Tried (WaitSignal at x signal_at n) = Unit {0}
   Tried (WaitSignalFor at x signal_at n e b end) = TriedBlock b
   Tried (Sleep at e) = Unit {0}
@@ -33,7 +45,7 @@ abbrev mutual
   Tried (Patch at id_at id a a_end b b_end) = TriedBlock a × TriedBlock b
   Tried (Return at e) = Unit {0}
   Tried (FailWith at e) = Unit {0}
-  Tried (Continue at es) = Unit {0}
+  Tried (Continue at es) = length es ≤ 256
 
   pub TriedBlock : Block → Type 0
   TriedBlock End = Unit {0}
@@ -57,58 +69,155 @@ nil_right : {A : Type 0} (xs ys : List A) → xs ++ ys ≡ [] → ys ≡ []
 nil_right [] ys e = e
 nil_right (x ∷ xs) ys e = cc
 
-in_range : (n at : ℕ) → out_of_range 1 20 n at ≡ [] → 1 ≤ n
-in_range zero at e = cc
-in_range (suc n) at e = omega arith
+neither : (x y : Bool) (at : ℕ) → (if x || y then rule.fault code.BadRetry at else []) ≡ [] → (x ≡ false) × (y ≡ false)
+neither true y at e = cc
+neither false true at e = cc
+neither false false at e = (refl, refl)
+
+in_range : (least most n at : ℕ) → out_of_range least most n at ≡ [] → Within least most n
+in_range least most n at e = let no = neither (nat_lt n least) (nat_lt most n) at e in (ltb-false n least no.0, ltb-false most n no.1)
+
+---- At most 256
+
+counted : (b : Bool) (at : ℕ) → (if b then [] else rule.fault code.BadCount at) ≡ [] → b ≡ true
+counted true at e = refl
+counted false at e = cc
+
+few : (ks : List Kind) (es : List Expression) (at : ℕ) → length ks ≤ 256 → rule.wrong_count ks es at ≡ [] → length es ≤ 256
+few ks es at k e = let same : length es ≡ length ks = eqb-true (length es) (length ks) (counted (nat_eq (length es) (length ks)) at e) in omega (arith, same, k)
+
+few_arguments : (types : Types) (o : Option Signature) (at : ℕ) (es : List Expression) → ((g : Signature) → o ≡ Some g → length g.takes ≤ 256) → rule.faults_of_call types o at es ≡ [] → length es ≤ 256
+few_arguments types None at es k e = cc
+few_arguments types (Some g) at es k e = few g.takes es at (k g refl) (nil_left (rule.wrong_count g.takes es at) (rule.faults_of_arguments types g.takes es) e)
+
+-- where a statement stands, no activity takes more, and the program doesn't either
+abbrev IsSmall : Scope → Type 0
+IsSmall s = ((a : Bytes) (g : Signature) → s.activities a ≡ Some g → length g.takes ≤ 256) × (length s.parameters ≤ 256)
+
+behind_small : (s : Scope) (t : Statement) → IsSmall s → IsSmall (behind s t)
+behind_small s (Let at name_at x e) k = k
+behind_small s (Assign at x e) k = k
+behind_small s (Call at x activity_at a es r o) k = k
+behind_small s (WaitSignal at x signal_at n) k = k
+behind_small s (WaitSignalFor at x signal_at n e b end) k = k
+behind_small s (Sleep at e) k = k
+behind_small s (If at e a a_end b b_end) k = k
+behind_small s (While at e b end) k = k
+behind_small s (Parallel at bs) k = k
+behind_small s (Patch at id_at id a a_end b b_end) k = k
+behind_small s (Return at e) k = k
+behind_small s (FailWith at e) k = k
+behind_small s (Continue at es) k = k
+
+none_first : (c : Code) (ats : List ℕ) → rule.fault_at_first c ats ≡ [] → ats ≡ []
+none_first c [] e = refl
+none_first c (at ∷ ats) e = cc
+
+taken : (takes : List TypeAt) → rule.fault_at_first code.TooManyNames (map (λ (t : TypeAt). t.at) (drop rule.name_limit takes)) ≡ [] → length (rule.kinds_of takes) ≤ 256
+taken takes e =
+    let none = none_first code.TooManyNames (map (λ (t : TypeAt). t.at) (drop rule.name_limit takes)) e in
+    let left : length takes - 256 ≡ 0 = sym (length-drop 256 takes) ∙ sym (length-map (drop rule.name_limit takes) (λ (t : TypeAt). t.at)) ∙ ap length none in
+    let all : length (rule.kinds_of takes) ≡ length takes = length-map takes (λ (t : TypeAt). t.kind) in
+    omega (arith, left, all)
+
+takes_few : (ds : List Declared) → rule.faults_of_declarations ds ≡ [] → (a : Bytes) (g : Signature) → rule.activity_of ds a ≡ Some g → length g.takes ≤ 256
+takes_few [] e a g h = cc
+takes_few (Signal at name_at name carries ∷ ds) e a g h = takes_few ds e a g h
+takes_few (Activity at name_at name takes gives ∷ ds) e a g h =
+    let here : Signature = record { takes = rule.kinds_of takes; gives = gives } in
+    let own = rule.faults_of_declared (Activity at name_at name takes gives) in
+    elim (bytes_eq name a) as (λ t. (if t then Some here else rule.activity_of ds a) ≡ Some g → length g.takes ≤ 256) [
+      | true ↦ λ v. subst (λ (x : Signature). length x.takes ≤ 256) (same_Some here g v) (taken takes (nil_left own (rule.faults_of_declarations ds) e))
+      | false ↦ λ v. takes_few ds (nil_right own (rule.faults_of_declarations ds) e) a g v
+    ] h
+
+not_full : (b : Bool) (at : ℕ) → (if b then rule.fault code.TooManyNames at else []) ≡ [] → b ≡ false
+not_full true at e = cc
+not_full false at e = refl
+
+names_few : (before ns : List Named) → rule.faults_of_names before ns ≡ [] → length before ≤ 256 → length before + length ns ≤ 256
+names_few before [] e k = omega (arith, k)
+names_few before (n ∷ more) e k =
+    let twice = rule.declared_twice before n in
+    let many = rule.one_too_many before n in
+    let later = rule.faults_of_names (before ++ n ∷ []) more in
+    let full = nat_eq (length before) rule.name_limit in
+    let room : full ≡ false = not_full full n.at (nil_right twice many (nil_left (twice ++ many) later e)) in
+    let apart = eqb-false (length before) 256 room in
+    let longer : length (before ++ n ∷ []) ≡ length before + 1 = length-append before (n ∷ []) in
+    let shorter : length before + 1 ≤ 256 = omega (arith, k, apart) in
+    let rest = names_few (before ++ n ∷ []) more (nil_right (twice ++ many) later e) (omega (arith, shorter, longer)) in
+    omega (arith, rest, longer)
+
+parameters_few : (p : Program) → rule.faults_of_names [] (rule.names_of p) ≡ [] → length (scope_of p).parameters ≤ 256
+parameters_few p e =
+    let ps = map rule.name_of_parameter p.parameters in
+    let ds = map rule.name_of_declared p.declarations in
+    let b = rule.names_of_block p.body in
+    let all = names_few [] (rule.names_of p) e (omega arith) in
+    let whole : length (ps ++ ds ++ b) ≡ length (ps ++ ds) + length b = length-append (ps ++ ds) b in
+    let front : length (ps ++ ds) ≡ length ps + length ds = length-append ps ds in
+    let named : length ps ≡ length p.parameters = length-map p.parameters rule.name_of_parameter in
+    let kinds : length (scope_of p).parameters ≡ length p.parameters = length-map p.parameters (λ (q : Parameter). q.kind) in
+    omega (arith, all, whole, front, named, kinds)
+
+---- Statements
 
 mutual
-  tried : (s : Scope) (t : Statement) → faults_of_statement s t ≡ [] → Tried t
-  tried s (Let at name_at x e) h = tt
-  tried s (Assign at x e) h = tt
-  tried s (Call at x activity_at a es r o) h =
+  tried : (s : Scope) (t : Statement) → IsSmall s → faults_of_statement s t ≡ [] → Tried t
+  tried s (Let at name_at x e) k h = tt
+  tried s (Assign at x e) k h = tt
+  tried s (Call at x activity_at a es r o) k h =
       let called = rule.faults_of_call s.types (s.activities a) activity_at es in
       let assigned = rule.faults_of_assigned (s.types x) at (rule.given (s.activities a)) at in
-      let retry = nil_right (called ++ assigned) (faults_of_retry r) (nil_left (called ++ assigned ++ faults_of_retry r) (faults_of_otherwise s o) h) in (
-        in_range r.tries r.tries_at (nil_left (out_of_range 1 20 r.tries r.tries_at) (out_of_range 0 86400000 r.every r.every_at) retry),
-        tried_else s o (nil_right (called ++ assigned ++ faults_of_retry r) (faults_of_otherwise s o) h),
+      let front = nil_left (called ++ assigned ++ faults_of_retry r) (faults_of_otherwise s o) h in
+      let call = nil_left called assigned (nil_left (called ++ assigned) (faults_of_retry r) front) in
+      let retry = nil_right (called ++ assigned) (faults_of_retry r) front in
+      let tries = out_of_range 1 20 r.tries r.tries_at in
+      let every = out_of_range 0 86400000 r.every r.every_at in (
+        (few_arguments s.types (s.activities a) activity_at es (k.0 a) call, in_range 1 20 r.tries r.tries_at (nil_left tries every retry), (in_range 0 86400000 r.every r.every_at (nil_right tries every retry)).1),
+        tried_else s o k (nil_right (called ++ assigned ++ faults_of_retry r) (faults_of_otherwise s o) h),
       )
-  tried s (WaitSignal at x signal_at n) h = tt
-  tried s (WaitSignalFor at x signal_at n e b end) h =
+  tried s (WaitSignal at x signal_at n) k h = tt
+  tried s (WaitSignalFor at x signal_at n e b end) k h =
       let known = rule.unknown_signal (s.signals n) signal_at in
       let assigned = rule.faults_of_assigned (s.types x) at (s.signals n) at in
       let wanted = rule.faults_of_wanted s.types Int e in
-      tried_block s b (nil_right (known ++ assigned ++ wanted) (faults_of_block s b) h)
-  tried s (Sleep at e) h = tt
-  tried s (If at e a a_end b b_end) h =
+      tried_block s b k (nil_right (known ++ assigned ++ wanted) (faults_of_block s b) h)
+  tried s (Sleep at e) k h = tt
+  tried s (If at e a a_end b b_end) k h =
       let wanted = rule.faults_of_wanted s.types Int e in
       let h1 = nil_left (wanted ++ faults_of_block s a) (faults_of_block s b) h in
-      (tried_block s a (nil_right wanted (faults_of_block s a) h1), tried_block s b (nil_right (wanted ++ faults_of_block s a) (faults_of_block s b) h))
-  tried s (While at e b end) h =
+      (tried_block s a k (nil_right wanted (faults_of_block s a) h1), tried_block s b k (nil_right (wanted ++ faults_of_block s a) (faults_of_block s b) h))
+  tried s (While at e b end) k h =
       let wanted = rule.faults_of_wanted s.types Int e in
-      tried_block s b (nil_right wanted (faults_of_block s b) h)
-  tried s (Parallel at bs) h =
+      tried_block s b k (nil_right wanted (faults_of_block s b) h)
+  tried s (Parallel at bs) k h =
       let inside : Scope = record s { in_parallel = true } in
       let many = rule.fault_at_first code.TooManyBranches (drop rule.branch_limit (rule.branch_places bs)) in
-      tried_branches inside bs (nil_right many (faults_of_branches inside bs) h)
-  tried s (Patch at id_at id a a_end b b_end) h =
-      (tried_block s a (nil_left (faults_of_block s a) (faults_of_block s b) h), tried_block s b (nil_right (faults_of_block s a) (faults_of_block s b) h))
-  tried s (Return at e) h = tt
-  tried s (FailWith at e) h = tt
-  tried s (Continue at es) h = tt
+      tried_branches inside bs k (nil_right many (faults_of_branches inside bs) h)
+  tried s (Patch at id_at id a a_end b b_end) k h =
+      (tried_block s a k (nil_left (faults_of_block s a) (faults_of_block s b) h), tried_block s b k (nil_right (faults_of_block s a) (faults_of_block s b) h))
+  tried s (Return at e) k h = tt
+  tried s (FailWith at e) k h = tt
+  tried s (Continue at es) k h =
+      let count = rule.wrong_count s.parameters es at in
+      let arguments = rule.faults_of_arguments s.types s.parameters es in
+      few s.parameters es at k.1 (nil_left count arguments (nil_left (count ++ arguments) (rule.ends_in_parallel s at) h))
 
-  tried_block : (s : Scope) (b : Block) → faults_of_block s b ≡ [] → TriedBlock b
-  tried_block s End h = tt
-  tried_block s (Next t b) h =
-      (tried s t (nil_left (faults_of_statement s t) (faults_of_block (behind s t) b) h), tried_block (behind s t) b (nil_right (faults_of_statement s t) (faults_of_block (behind s t) b) h))
+  tried_block : (s : Scope) (b : Block) → IsSmall s → faults_of_block s b ≡ [] → TriedBlock b
+  tried_block s End k h = tt
+  tried_block s (Next t b) k h =
+      (tried s t k (nil_left (faults_of_statement s t) (faults_of_block (behind s t) b) h), tried_block (behind s t) b (behind_small s t k) (nil_right (faults_of_statement s t) (faults_of_block (behind s t) b) h))
 
-  tried_else : (s : Scope) (o : Otherwise) → faults_of_otherwise s o ≡ [] → TriedElse o
-  tried_else s NoElse h = tt
-  tried_else s (Else b end) h = tried_block s b h
+  tried_else : (s : Scope) (o : Otherwise) → IsSmall s → faults_of_otherwise s o ≡ [] → TriedElse o
+  tried_else s NoElse k h = tt
+  tried_else s (Else b end) k h = tried_block s b k h
 
-  tried_branches : (s : Scope) (bs : Branches) → faults_of_branches s bs ≡ [] → TriedBranches bs
-  tried_branches s NoBranch h = tt
-  tried_branches s (Branch at b end bs) h =
-      (tried_block s b (nil_left (faults_of_block s b) (faults_of_branches s bs) h), tried_branches s bs (nil_right (faults_of_block s b) (faults_of_branches s bs) h))
+  tried_branches : (s : Scope) (bs : Branches) → IsSmall s → faults_of_branches s bs ≡ [] → TriedBranches bs
+  tried_branches s NoBranch k h = tt
+  tried_branches s (Branch at b end bs) k h =
+      (tried_block s b k (nil_left (faults_of_block s b) (faults_of_branches s bs) h), tried_branches s bs k (nil_right (faults_of_block s b) (faults_of_branches s bs) h))
 
 no_fault : (fs : List TextFault) → ((c : Code) (at : ℕ) → Contains fs (record { code = c; at = at }) → ⊥) → fs ≡ []
 no_fault [] h = refl
@@ -119,7 +228,20 @@ pub well_formed_tried : (p : Program) → WellFormed p → TriedBlock p.body
 well_formed_tried p w =
     let names = rule.faults_of_names [] (rule.names_of p) in
     let types = rule.faults_of_declarations p.declarations in
-    tried_block (scope_of p) p.body (nil_right (names ++ types) (faults_of_block (scope_of p) p.body) (no_fault (faults p) w))
+    let body = faults_of_block (scope_of p) p.body in
+    let none = no_fault (faults p) w in
+    let front = nil_left (names ++ types) body none in
+    tried_block (scope_of p) p.body (takes_few p.declarations (nil_right names types front), parameters_few p (nil_left names types front)) (nil_right (names ++ types) body none)
+
+-- and its parameters
+pub few_parameters : (p : Program) → WellFormed p → length p.parameters ≤ 256
+few_parameters p w =
+    let names = rule.faults_of_names [] (rule.names_of p) in
+    let types = rule.faults_of_declarations p.declarations in
+    let body = faults_of_block (scope_of p) p.body in
+    let few = parameters_few p (nil_left names types (nil_left (names ++ types) body (no_fault (faults p) w))) in
+    let kinds : length (scope_of p).parameters ≡ length p.parameters = length-map p.parameters (λ (q : Parameter). q.kind) in
+    omega (arith, few, kinds)
 
 ---- Moves
 
@@ -133,19 +255,19 @@ TriedRest (Raised c t) = Unit {0}
 TriedRest (Then r b) = TriedRest r × TriedBlock b
 TriedRest (Beside a b) = TriedRest a × TriedRest b
 
--- what a turn may ask: activities that are tried
+-- what a turn may ask: such as a row takes
 abbrev pub AskedWell : Cmd → Type 0
-AskedWell (Schedule a vs n m k) = 1 ≤ n
+AskedWell (Schedule a vs n m k) = TakesWell (length vs) n m
 AskedWell (StartTimer d) = Unit {0}
 AskedWell (CancelTimer n) = Unit {0}
 AskedWell (RecordMarker id) = Unit {0}
 AskedWell (Complete v) = Unit {0}
 AskedWell (Fail c t) = Unit {0}
-AskedWell (ContinueAsNew vs) = Unit {0}
+AskedWell (ContinueAsNew vs) = length vs ≤ 256
 
 -- what it may ask and go on
 abbrev pub GoesOn : Cmd → Type 0
-GoesOn (Schedule a vs n m k) = 1 ≤ n
+GoesOn (Schedule a vs n m k) = TakesWell (length vs) n m
 GoesOn (StartTimer d) = Unit {0}
 GoesOn (CancelTimer n) = Unit {0}
 GoesOn (RecordMarker id) = Unit {0}
@@ -162,6 +284,23 @@ MovesWell (Ends c) = AskedWell c
 on_value_well : {A : Type 0} (r : Result A Cause) (f : A → Move) → ((v : A) → MovesWell (f v)) → MovesWell (on_value r f)
 on_value_well (Ok v) f h = h v
 on_value_well (Err c) f h = tt
+
+on_value_if : {A : Type 0} (r : Result A Cause) (f : A → Move) → ((v : A) → r ≡ Ok v → MovesWell (f v)) → MovesWell (on_value r f)
+on_value_if (Ok v) f h = h v refl
+on_value_if (Err c) f h = tt
+
+-- as many values as expressions
+one_behind : (v : Value) (q : Result (List Value) Cause) (n : ℕ) (vs : List Value) → ((ws : List Value) → q ≡ Ok ws → length ws ≡ n) → (q >>= (λ ws. Ok (v ∷ ws))) ≡ Ok vs → length vs ≡ suc n
+one_behind v (Ok ws) n vs f e = let same : v ∷ ws ≡ vs = cc in sym (ap length same) ∙ ap suc (f ws refl)
+one_behind v (Err c) n vs f e = cc
+
+one_more_value : (r : Result Value Cause) (q : Result (List Value) Cause) (n : ℕ) (vs : List Value) → ((ws : List Value) → q ≡ Ok ws → length ws ≡ n) → (r >>= (λ v. q >>= (λ ws. Ok (v ∷ ws)))) ≡ Ok vs → length vs ≡ suc n
+one_more_value (Ok v) q n vs f e = one_behind v q n vs f e
+one_more_value (Err c) q n vs f e = cc
+
+as_many : (vars : Variables) (at : ℕ) (es : List Expression) (vs : List Value) → values vars at es ≡ Ok vs → length vs ≡ length es
+as_many vars at [] vs e = let same : [] ≡ vs = cc in sym (ap length same)
+as_many vars at (x ∷ es) vs e = one_more_value (value vars at x) (values vars at es) (length es) vs (λ ws g. as_many vars at es ws g) e
 
 on_signal_well : (o : Option Value) (f : Value → Move) (m : Move) → ((v : Value) → MovesWell (f v)) → MovesWell m → MovesWell (on_signal o f m)
 on_signal_well None f m h k = k
@@ -211,8 +350,11 @@ begins_well s t (While at e b end) h =
 begins_well s t (Call at x activity_at a es r o) h =
     let gives = gives_of s.activities a in
     let asks = λ (vs : List Value). Asks (OnActivity s.event x gives o) t (Schedule a vs r.tries r.every gives) in
-    on_value_well (values t.variables s.at es) (λ vs. waiting s (asks vs))
-    (λ vs. if_well (nat_lt s.waits wait_limit) (asks vs) (raise WaitLimit) (h.1, h.0) tt)
+    on_value_if (values t.variables s.at es) (λ vs. waiting s (asks vs))
+    (λ vs e.
+    let many : length vs ≡ length es = as_many t.variables s.at es vs e in
+    let takes : TakesWell (length vs) r.tries r.every = subst (λ n. TakesWell n r.tries r.every) (sym many) h.0 in
+    if_well (nat_lt s.waits wait_limit) (asks vs) (raise WaitLimit) (h.1, takes) tt)
 begins_well s t (Sleep at e) h =
     on_value_well (due t.variables s.at e) (λ d. waiting s (Asks (OnTimer s.event) t (StartTimer d)))
     (λ d. if_well (nat_lt s.waits wait_limit) (Asks (OnTimer s.event) t (StartTimer d)) (raise WaitLimit) (tt, tt) tt)
@@ -231,8 +373,10 @@ begins_well s t (FailWith at e) h =
     on_value_well (value t.variables s.at e) (λ v. Ends (Fail UserFail (text_of v))) (λ v. tt)
 begins_well s t (Continue at es) h =
     let ends = λ (vs : List Value). if s.is_first then raise ChainLimit else Ends (ContinueAsNew vs) in
-    on_value_well (values t.variables s.at es) ends
-    (λ vs. if_well s.is_first (raise ChainLimit) (Ends (ContinueAsNew vs)) tt tt)
+    on_value_if (values t.variables s.at es) ends
+    (λ vs e.
+    let many : length vs ≡ length es = as_many t.variables s.at es vs e in
+    if_well s.is_first (raise ChainLimit) (Ends (ContinueAsNew vs)) tt (subst (λ n. n ≤ 256) (sym many) h))
 
 followed_tried : (b : Block) (r : Rest) → TriedBlock b → TriedRest r → TriedRest (followed_by b r)
 followed_tried End r h k = k
