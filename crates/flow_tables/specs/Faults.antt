@@ -25,10 +25,17 @@ abbrev pub view_fault : StoreFault → ViewFault
 view_fault NoMemory = view.NoMemory
 view_fault (Refused e) = view.StoreRefused
 
--- A statement was refused, and left the connection as it is now.
+-- A statement was refused with this error, and left the connection as it is now.
+abbrev pub IsRefusedWith : {S : Type 0} → Ghosts S → State → Error → Type 0
+IsRefusedWith {S} g new e =
+    (old : Held S) × (sql : List ℕ) × (params : Row) × (Executes sql params (state g old) new (Err e) ⊎ FailsToQuery sql params (state g old) new e)
+
 abbrev pub WasRefused : {S : Type 0} → Ghosts S → State → Type 0
-WasRefused {S} g new =
-    (old : Held S) × (sql : List ℕ) × (params : Row) × (e : Error) × (Executes sql params (state g old) new (Err e) ⊎ FailsToQuery sql params (state g old) new e)
+WasRefused g new = (e : Error) × IsRefusedWith g new e
+
+-- the same, and not for want of memory
+abbrev pub WasDenied : {S : Type 0} → Ghosts S → State → Type 0
+WasDenied g new = (e : Error) × (e ≢ SqliteFailure OutOfMemory) × IsRefusedWith g new e
 
 -- This statement was refused, not for want of memory, and led from the one state to the other.
 abbrev pub WasStopped : List ℕ → State → State → Type 0
