@@ -24,13 +24,12 @@ use Rattle.flow_model.specs.Rest.{Rest, Done, OnActivity, OnTimer, OnSignal, OnS
 use Rattle.flow_model.specs.Configuration.{Configuration, first_configuration, none_decided, is_open}
 use Rattle.flow_model.specs.Values.{with_variable}
 use Rattle.flow_model.specs.Step.{Move, Stays, Goes, Asks, Ends, move}
-use Rattle.flow_model.specs.Deliver.{Progress, deliver, begun, bound, all_fit, completed, with_rest, start_from, has_kind, signal_fits, target_of, replaced, or_rest, map_rest, when_completed, when_failed, when_fired}
+use Rattle.flow_model.specs.Deliver.{Progress, deliver, begun, bound, all_fit, completed, with_rest, start_from, has_kind, signal_fits, target_of, awaited_kind, replaced, or_rest, map_rest, when_completed, when_failed, when_fired}
 use Rattle.flow_model.specs.Turn.{Frame, Answers, Recorded, Turn, frame, steps, next, go_on, setting, ended, after_move, left_by}
 use Rattle.flow_model.specs.Stands.{Leads, Stands}
 use Rattle.flow_model.specs.Open.{tasks_asked, tasks_came, tasks_after_one, tasks_after, open_activities}
 use Rattle.flow_model.specs.Book.{nth}
 use Rattle.flow_model.specs.Apply.{task_at, gives_kind}
-use Rattle.flow_model.specs.Shown.{awaited_kind}
 use Rattle.flow_model.proofs.Awaits.{completes, fails, takes_value}
 use Rattle.flow_machine.proofs.Places.{nth_at}
 use Rattle.flow_machine.proofs.Tasks.{events_of, kept_events}

@@ -1,19 +1,13 @@
 -- Where an input can be delivered.
-use Rattle.std.proofs.Common.{◌≡◌, ℕ, List, [], ◌∷◌, map, refl, sym, ap, ◌∙◌, Option, Some, None, Bool, true, false, is_some}
-use Rattle.std.specs.Prelude.{◌&&◌, if◌then◌else◌, nat_eq}
+use Rattle.std.proofs.Common.{◌≡◌, ℕ, refl, sym, ap, ◌∙◌, Option, Some, None, Bool, true, false, is_some}
+use Rattle.std.specs.Prelude.{if◌then◌else◌, nat_eq}
 use Rattle.std.proofs.lemmas.Bool.{true≢false}
-use Rattle.flow_base.specs.Syntax.{Bytes, signals_of}
-use Rattle.flow_base.specs.Shown.{shown_declaration}
+use Rattle.flow_base.specs.Syntax.{Bytes}
 use Rattle.flow_base.specs.declared.value.Value.{Value}
 use Rattle.flow_base.specs.declared.value.Kind.{Kind}
-use Rattle.flow_base.specs.declared.syntax.Declaration.{Declaration}
-use Rattle.flow_base.specs.declared.syntax.Declaration.TheVariants as declaration
 use Rattle.flow_model.specs.Rest.{Rest, Done, OnActivity, OnTimer, OnSignal, OnSignalFor, Raised, Then, Beside}
 use Rattle.flow_model.specs.Configuration.{Configuration, is_open}
-use Rattle.flow_model.specs.Deliver.{Progress, or_rest, map_rest, replaced, has_kind, signal_fits, target_of, when_completed, when_failed, when_fired, start_from, with_rest, completed}
-use Rattle.flow_model.specs.Shown.{shown_rest, awaited_kind}
-use Rattle.flow_model.specs.declared.rest.Rest.{Rest as CodeRest}
-use Rattle.flow_model.specs.declared.rest.Rest.TheVariants as code
+use Rattle.flow_model.specs.Deliver.{Progress, or_rest, map_rest, replaced, has_kind, target_of, awaited_kind, when_completed, when_failed, start_from, with_rest, completed}
 
 some_map : (f : Rest → Rest) (o : Option Rest) → is_some (map_rest f o) ≡ is_some o
 some_map f None = refl
@@ -84,30 +78,3 @@ takes_value k n v kind is e = rw is (some_completed k n v (target_of n k.rest) (
 pub takes_failure : (k : Configuration) (n : ℕ) (text : Bytes) → is_open k.state ≡ true
     → is_some (if is_open k.state then with_rest k (replaced (when_failed n text) k.rest) else None) ≡ is_some (awaited_kind (target_of n k.rest))
 takes_failure k n text is = rw is (some_started k (replaced (when_failed n text) k.rest) ∙ fails n text k.rest ∙ sym (some_kind (target_of n k.rest)))
-
--- the language of now declares no signals
-pub no_signals : (ds : List Declaration) → signals_of (map shown_declaration ds) ≡ []
-no_signals [] = refl
-no_signals (declaration.Activity at name_at name takes gives ∷ ds) = no_signals ds
-
-and_false : (b : Bool) (p : Progress) → ◌≡◌ {A = Option Progress} (if b && false then Some p else None) None
-and_false true p = refl
-and_false false p = refl
-
-pub no_signal : (ds : List Declaration) (b : Bool) (name : Bytes) (v : Value) (p : Progress) → ◌≡◌ {A = Option Progress} (if b && signal_fits (signals_of (map shown_declaration ds)) name v then Some p else None) None
-no_signal ds b name v p = rw (no_signals ds) (and_false b p)
-
--- nor does it start timers
-pub no_timer : (n : ℕ) (r : CodeRest) → replaced (when_fired n) (shown_rest r) ≡ None
-no_timer n code.Done = refl
-no_timer n (code.OnActivity m x k) = refl
-no_timer n (code.Raised c t) = refl
-no_timer n (code.Beside' p a q b) = rw (no_timer n a) (rw (no_timer n b))
-no_timer n (code.Then' p r b i) = rw (no_timer n r)
-
-if_none : (b : Bool) → ◌≡◌ {A = Option Progress} (if b then None else None) None
-if_none true = refl
-if_none false = refl
-
-pub no_fire : (k : Configuration) (n : ℕ) → replaced (when_fired n) k.rest ≡ None → ◌≡◌ {A = Option Progress} (if is_open k.state then with_rest k (replaced (when_fired n) k.rest) else None) None
-no_fire k n e = rw e (if_none (is_open k.state))

@@ -1,11 +1,8 @@
 pub mod FirstFault
 pub mod WellFormedRows
 mod BookRows
-pub mod Lists
 pub mod Awaits
-pub mod Lefts
 pub mod Weight
-pub mod Turns
 pub mod Chains
 pub mod Positions
 pub mod Again

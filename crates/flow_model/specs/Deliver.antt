@@ -74,6 +74,11 @@ target_of n (Then r b) = target_of n r
 target_of n (Beside a b) = elim (target_of n a) [ None ↦ target_of n b | Some x ↦ Some x ]
 target_of n r = None
 
+-- the type that a wait on an activity wants
+abbrev pub awaited_kind : Option (Bytes × Kind) → Option Kind
+awaited_kind None = None
+awaited_kind (Some x) = Some x.1
+
 -- a wait on an activity is over: its call is done
 abbrev pub when_completed : ℕ → Rest → Option Rest
 when_completed n (OnActivity m x k o) = if nat_eq m n then Some Done else None

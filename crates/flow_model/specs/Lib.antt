@@ -14,7 +14,6 @@ pub mod Tokens
 pub mod Book
 pub mod Apply
 pub mod Sound
-pub mod Shown
 pub mod Lexeme
 pub mod Grammar
 pub mod Limits

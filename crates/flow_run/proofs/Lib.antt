@@ -1,1 +1,5 @@
 pub mod First
+pub mod Lefts
+pub mod Stores
+pub mod Turns
+pub mod Unheard

@@ -1,8 +1,8 @@
 -- The refusals of a run, and their numbers.
 use Rattle.flow_base.specs.declared.code.Code.{Code}
 use Rattle.flow_base.specs.declared.code.Code.TheVariants as code
-use Rattle.flow_model.specs.declared.plain.TurnFault.{TurnFault}
-use Rattle.flow_model.specs.declared.plain.TurnFault.TheVariants as plain
+use Rattle.flow_run.specs.declared.plain.TurnFault.{TurnFault}
+use Rattle.flow_run.specs.declared.plain.TurnFault.TheVariants as plain
 use Rattle.flow_run.specs.declared.fault.RunFault.{RunFault}
 use Rattle.flow_run.specs.declared.fault.RunFault.TheVariants as fault
 

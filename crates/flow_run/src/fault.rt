@@ -1,8 +1,8 @@
 ghost use Rattle.std.specs.Prelude.{◌≡◌};
 ghost use Rattle.flow_run.specs.Codes.{run_fault_code};
 
+use crate::plain::TurnFault;
 use flow_base::code::Code;
-use flow_model::plain::TurnFault;
 use std::alloc::AllocError;
 
 /// Why a run did not go on.

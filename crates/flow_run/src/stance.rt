@@ -7,18 +7,18 @@ ghost use Rattle.flow_model.specs.Configuration.{first_configuration, is_closed}
 ghost use Rattle.flow_model.specs.Deliver.{deliver, all_fit};
 ghost use Rattle.flow_model.specs.Turn.{Turn};
 ghost use Rattle.flow_model.specs.Turned.{turned};
-ghost use Rattle.flow_model.specs.Shown.{shown_answers, waits_of};
+ghost use Rattle.flow_run.specs.Shown.{shown_answers, waits_of};
 ghost use Rattle.flow_run.specs.Position.{config_of};
 
 use crate::fault::RunFault;
+pub use crate::plain::Answers;
+use crate::plain::{PlainRun, plain_turn, unbegun};
+pub use crate::rest::OpenWait;
 use flow_base::event::{Cmd, Input, State, copy_values};
 use flow_base::number::Moment;
 use flow_base::text::Key;
 use flow_base::value::Value;
 use flow_check::checked::Checked;
-pub use flow_model::plain::Answers;
-use flow_model::plain::{PlainRun, plain_turn, unbegun};
-pub use flow_model::rest::OpenWait;
 use std::alloc::Global;
 
 /// The position of a run between two turns. It is used with the program with which it was made, by the caller's

@@ -8,7 +8,7 @@ use flow_check::check::check;
 use flow_check::checked::Checked;
 use flow_match::fault::ReplayFault;
 use flow_match::replay::replay;
-use flow_model::rest::OpenWait;
+use flow_run::rest::OpenWait;
 use flow_run::stance::Stance;
 use flow_syntax::parse::parse;
 use std::test::Fail;

@@ -8,7 +8,7 @@ use flow_base::value::{Kind, Value};
 use flow_check::check::check;
 use flow_check::checked::Checked;
 use flow_match::matching::matches;
-use flow_model::plain::{PlainRun, plain_turn, unbegun};
+use flow_run::plain::{PlainRun, plain_turn, unbegun};
 use flow_run::stance::{Answers, Stance, turn};
 use flow_syntax::parse::parse;
 use std::test::Fail;

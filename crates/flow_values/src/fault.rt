@@ -26,3 +26,9 @@ impl From<AllocError> for Fault {
         Fault::NoMemory
     }
 }
+
+impl<T: Drop> From<AllocFailed<T>> for Fault {
+    fn from(_error: AllocFailed<T>) -> Fault {
+        Fault::NoMemory
+    }
+}

@@ -3,5 +3,4 @@
 
 pub mod evaluate;
 pub mod fault;
-#[cfg(test)]
-mod tests;
+pub mod named;

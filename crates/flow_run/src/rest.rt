@@ -1,0 +1,104 @@
+ghost use Rattle.std.specs.Prelude.{◌≡◌, ◌++◌, IfOk, OnOk, map};
+ghost use Rattle.flow_base.specs.Shown.{shown_stmt};
+ghost use Rattle.flow_run.specs.Shown.{shown_rest, waits_of};
+ghost use Rattle.flow_model.specs.Deliver.{target_of, awaited_kind};
+
+use flow_base::event::Cause;
+use flow_base::number::EventId;
+use flow_base::syntax::Stmt;
+use flow_base::text::{Key, Text};
+use flow_base::value::Kind;
+use std::alloc::{AllocError, Global};
+
+/// What is left of a program, as far as the language of now gets.
+#[derive(Debug, Drop)]
+pub enum Rest {
+    Done,
+    /// The event that scheduled the activity, the variable that waits for it, and the type that it gives.
+    OnActivity(u64, Key, Kind),
+    /// An activity failed: the run is to fail, with this text.
+    Raised(Cause, Text),
+    /// What goes on, and then the statements of a list from this number on.
+    Then(Box<Rest>, Vec<Stmt>, usize),
+    /// Two branches side by side.
+    Beside(Box<Rest>, Box<Rest>),
+}
+
+/// An open wait: the event that began it, and what waits.
+#[derive(Debug, Drop)]
+pub enum OpenWait {
+    /// The event that scheduled the activity, the variable, and the type that the activity gives.
+    Activity(u64, Key, Kind),
+    /// The event that started the timer.
+    Timer(u64),
+    /// The variable and the signal.
+    Signal(Key, Key),
+    /// The variable, the signal, and the event that started the timer.
+    SignalFor(Key, Key, u64),
+}
+
+impl Rest {
+    pub fn copy(&self, alloc: Global) -> Result<Rest, AllocError>
+        ensures { IfOk result (λ r. shown_rest r ≡ shown_rest self.now) }
+    {
+        match self {
+            Rest::Done => Ok(Rest::Done),
+            Rest::OnActivity(n, x, k) => Ok(Rest::OnActivity(*n, x.copy(alloc)?, *k)),
+            Rest::Raised(c, t) => Ok(Rest::Raised(*c, t.copy(alloc)?)),
+            Rest::Then(r, b, i) => {
+                let r = Box::new(alloc, r.copy(alloc)?)?;
+                Ok(Rest::Then(r, copy_stmts(alloc, b)?, *i))
+            }
+            Rest::Beside(a, b) => {
+                let a = Box::new(alloc, a.copy(alloc)?)?;
+                let b = Box::new(alloc, b.copy(alloc)?)?;
+                Ok(Rest::Beside(a, b))
+            }
+        }
+    }
+
+    /// Puts its open waits behind those of a list, from the left.
+    pub fn add_waits(&self, alloc: Global, list: &mut Vec<OpenWait>) -> Result<(), AllocError>
+        ensures { OnOk result (list.new.items ≡ list.old.items ++ waits_of (shown_rest self.now)) }
+    {
+        match self {
+            Rest::Done => Ok(()),
+            Rest::OnActivity(n, x, k) => {
+                list.push(OpenWait::Activity(*n, x.copy(alloc)?, *k))?;
+                Ok(())
+            }
+            Rest::Raised(_, _) => Ok(()),
+            Rest::Then(r, _, _) => r.add_waits(alloc, list),
+            Rest::Beside(a, b) => {
+                a.add_waits(alloc, list)?;
+                b.add_waits(alloc, list)
+            }
+        }
+    }
+
+    /// The type of what the activity gives that a wait is on.
+    pub fn awaited(&self, event: EventId) -> Option<Kind>
+        ensures { result ≡ awaited_kind (target_of event (shown_rest self.now)) }
+    {
+        match self {
+            Rest::OnActivity(n, _, k) => { if *n == event.get() { Some(*k) } else { None } }
+            Rest::Then(r, _, _) => r.awaited(event),
+            Rest::Beside(a, b) => match a.awaited(event) {
+                Some(k) => Some(k),
+                None => b.awaited(event),
+            },
+            _ => None,
+        }
+    }
+}
+
+/// The same statements.
+pub fn copy_stmts(alloc: Global, stmts: &[Stmt]) -> Result<Vec<Stmt>, AllocError>
+    ensures { IfOk result (λ v. map shown_stmt v.items ≡ map shown_stmt stmts.now) }
+{
+    let mut list = Vec::new(alloc);
+    for s in stmts {
+        list.push(s.copy(alloc)?)?;
+    }
+    Ok(list)
+}

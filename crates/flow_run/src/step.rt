@@ -1,0 +1,306 @@
+ghost use Rattle.std.specs.Prelude.{◌≡◌, ◌<◌, ◌+◌, IfOk, MatchOption, map, min, length, OnOk, []};
+ghost use Rattle.flow_base.specs.Syntax.{End, Next, Let as ALet, Call as ACall, Return as AReturn, once, NoElse, activities_of};
+ghost use Rattle.flow_base.specs.Shown.{shown_stmt, shown_declaration, shown_expr};
+ghost use Rattle.flow_model.specs.Rest as tree;
+ghost use Rattle.flow_model.specs.Step as model;
+ghost use Rattle.flow_run.specs.Shown.{shown_rest, shown_store, shown_move, shown_setting, left_from, KeepsRest, Begins};
+
+use crate::decided::Decided;
+use crate::plain::Answers;
+use crate::rest::Rest;
+use flow_base::event::{Cause, Cmd};
+use flow_base::number::Moment;
+use flow_base::sequence::Sequence;
+use flow_base::syntax::{Declaration, Expr, Stmt};
+use flow_base::text::{Key, Text};
+use flow_base::value::{Kind, Value};
+use flow_values::evaluate::{eval, eval_all};
+use flow_values::fault::Fault;
+use flow_values::named::NamedValues;
+use std::alloc::Global;
+
+/// What the steps of a turn change beside the rest.
+#[derive(Drop)]
+pub struct Store {
+    pub variables: NamedValues,
+    pub buffer: NamedValues,
+    pub decided: Decided,
+    /// `while` conditions that this turn has tested.
+    pub tests: u32,
+}
+
+/// What the steps of a turn only read.
+#[derive(Drop)]
+pub struct Setting<'a> {
+    pub declarations: &'a [Declaration],
+    pub at: Moment,
+    pub is_first: bool,
+    /// The open waits of the whole run, or 32 where they are more.
+    pub waits: u32,
+    /// The id of the next command's event.
+    pub event: u64,
+    pub answers: Answers<'a>,
+    /// The commands of this turn so far.
+    pub taken: usize,
+}
+
+/// What one step did.
+#[derive(Drop)]
+pub enum Moved {
+    Stays(Rest),
+    Goes(Rest),
+    Asks(Rest, Cmd),
+    Ends(Cmd),
+}
+
+/// The leftmost place that can step does.
+pub fn step(alloc: Global, s: &Setting, t: &mut Store, rest: Rest) -> Result<Moved, Fault>
+    ensures step { IfOk result (λ m. shown_move t.new m ≡ model.move (shown_setting s.now) (shown_store t.old) (shown_rest rest)) }
+    ensures kept { IfOk result (λ m. KeepsRest t.old (shown_rest rest) t.new m) }
+{
+    match rest {
+        Rest::Done => Ok(Moved::Stays(Rest::Done)),
+        Rest::OnActivity(n, x, k) => Ok(Moved::Stays(Rest::OnActivity(n, x, k))),
+        Rest::Raised(c, text) => Ok(Moved::Ends(Cmd::Fail(c, text))),
+        Rest::Then(r, b, i) => {
+            if is_done(&r) {
+                first_of(alloc, s, t, Box::into_inner(r), b, i)
+            } else {
+                let m = step(alloc, s, t, Box::into_inner(r))?;
+                let n = before(alloc, m, b, i)?;
+                Ok(n)
+            }
+        }
+        Rest::Beside(a, b) => match step(alloc, s, t, Box::into_inner(a))? {
+            Moved::Stays(a) => {
+                let a = Box::new(alloc, a)?;
+                let m = step(alloc, s, t, Box::into_inner(b))?;
+                with_left(alloc, a, m)
+            }
+            Moved::Goes(r) => with_right(alloc, Moved::Goes(r), b),
+            Moved::Asks(r, c) => with_right(alloc, Moved::Asks(r, c), b),
+            Moved::Ends(c) => Ok(Moved::Ends(c)),
+        },
+    }
+}
+
+/// Whether nothing is left.
+pub fn is_done(rest: &Rest) -> bool
+    ensures { result ≡ tree.is_done (shown_rest rest.now) }
+{
+    match rest {
+        Rest::Done => true,
+        Rest::Then(r, b, i) => is_done(r) && is_end(b, *i),
+        Rest::Beside(a, b) => is_done(a) && is_done(b),
+        _ => false,
+    }
+}
+
+fn is_end(stmts: &[Stmt], i: usize) -> bool
+    ensures { result ≡ tree.is_end (left_from stmts.now i) }
+{
+    match first(stmts, i) {
+        None => true,
+        Some(_) => false,
+    }
+}
+
+// The first statement of what is left of a list.
+fn first<'a>(stmts: &'a [Stmt], i: usize) -> Option<&'a Stmt>
+    ensures { MatchOption result (left_from stmts.now i ≡ End) (λ s. (i < length stmts.now) × (left_from stmts.now i ≡ Next (shown_stmt s.now) (left_from stmts.now (i + 1)))) }
+{
+    if i >= stmts.len() {
+        return None;
+    }
+    Some(&stmts[i])
+}
+
+/// How many waits are open, or 32 where they are more.
+pub fn open_waits(rest: &Rest) -> u32
+    ensures { result ≡ min (tree.open_waits (shown_rest rest.now)) 32 }
+{
+    match rest {
+        Rest::OnActivity(_, _, _) => 1,
+        Rest::Then(r, _, _) => open_waits(r),
+        Rest::Beside(a, b) => (open_waits(a) + open_waits(b)).min(32),
+        _ => 0,
+    }
+}
+
+// The first statement of what is left of a list begins.
+fn first_of(
+    alloc: Global,
+    s: &Setting,
+    t: &mut Store,
+    r: Rest,
+    b: Vec<Stmt>,
+    i: usize,
+) -> Result<Moved, Fault>
+    ensures step { IfOk result (λ m. shown_move t.new m ≡ model.first_of (shown_setting s.now) (shown_store t.old) (left_from b.items i)) }
+    ensures kept { IfOk result (λ m. KeepsRest t.old (tree.Then (shown_rest r) (left_from b.items i)) t.new m) }
+{
+    match first(&b, i) {
+        None => Ok(Moved::Stays(Rest::Then(Box::new(alloc, r)?, b, i))),
+        Some(stmt) => {
+            let m = begin(alloc, s, t, stmt)?;
+            let n = followed(alloc, m, b, i + 1)?;
+            Ok(n)
+        }
+    }
+}
+
+// A statement begins.
+fn begin(alloc: Global, s: &Setting, t: &mut Store, stmt: &Stmt) -> Result<Moved, Fault>
+    ensures step { IfOk result (λ m. shown_move t.new m ≡ model.begin (shown_setting s.now) (shown_store t.old) (shown_stmt stmt.now)) }
+    ensures kept { IfOk result (λ m. Begins t.old t.new m) }
+{
+    match stmt {
+        Stmt::Let(_, _, x, e) => assign(alloc, s, t, x, e),
+        Stmt::Assign(_, x, e) => assign(alloc, s, t, x, e),
+        Stmt::Call(_, x, _, a, es) => call(alloc, s, t, x, a, es),
+        Stmt::Return(_, e) => finish(alloc, s, t, e),
+    }
+}
+
+fn assign(
+    alloc: Global,
+    s: &Setting,
+    t: &mut Store,
+    name: &Key,
+    e: &Expr,
+) -> Result<Moved, Fault>
+    ensures step { IfOk result (λ m. shown_move t.new m ≡ model.begin (shown_setting s.now) (shown_store t.old) (ALet 0 0 name.now (shown_expr e.now))) }
+    ensures kept { IfOk result (λ m. Begins t.old t.new m) }
+{
+    match eval(alloc, &t.variables, s.at, e)? {
+        Ok(v) => {
+            set(alloc, t, name, v)?;
+            Ok(Moved::Goes(Rest::Done))
+        }
+        Err(c) => Ok(Moved::Ends(raise(alloc, c))),
+    }
+}
+
+fn call(
+    alloc: Global,
+    s: &Setting,
+    t: &Store,
+    into: &Key,
+    activity: &Key,
+    es: &[Expr],
+) -> Result<Moved, Fault>
+    ensures step { IfOk result (λ m. shown_move t.now m ≡ model.begin (shown_setting s.now) (shown_store t.now) (ACall 0 into.now 0 activity.now (map shown_expr es.now) once NoElse)) }
+    ensures kept { IfOk result (λ m. Begins t.now t.now m) }
+{
+    match eval_all(alloc, &t.variables, s.at, es)? {
+        Ok(values) => {
+            if s.waits < 32 {
+                let kind = gives(s.declarations, activity);
+                let asked = Cmd::Schedule(
+                    activity.copy(alloc)?,
+                    Sequence::from_vec(values),
+                    1,
+                    0,
+                    kind,
+                );
+                Ok(Moved::Asks(Rest::OnActivity(s.event, into.copy(alloc)?, kind), asked))
+            } else {
+                Ok(Moved::Ends(raise(alloc, Cause::WaitLimit)))
+            }
+        }
+        Err(c) => Ok(Moved::Ends(raise(alloc, c))),
+    }
+}
+
+fn finish(alloc: Global, s: &Setting, t: &Store, e: &Expr) -> Result<Moved, Fault>
+    ensures step { IfOk result (λ m. shown_move t.now m ≡ model.begin (shown_setting s.now) (shown_store t.now) (AReturn 0 (shown_expr e.now))) }
+    ensures kept { IfOk result (λ m. Begins t.now t.now m) }
+{
+    match eval(alloc, &t.variables, s.at, e)? {
+        Ok(v) => Ok(Moved::Ends(Cmd::Complete(v))),
+        Err(c) => Ok(Moved::Ends(raise(alloc, c))),
+    }
+}
+
+// What an activity gives, by its declaration.
+fn gives(declarations: &[Declaration], name: &Key) -> Kind
+    ensures { result ≡ model.gives_of (activities_of (map shown_declaration declarations.now)) name.now }
+{
+    for d in declarations {
+        match d {
+            Declaration::Activity(_, _, a, _, kind) => {
+                if a.is(name) {
+                    return *kind;
+                }
+            }
+        }
+    }
+    Kind::Int
+}
+
+fn raise(alloc: Global, cause: Cause) -> Cmd
+    ensures { result ≡ Cmd.Fail cause [] }
+{
+    Cmd::Fail(cause, Text::empty(alloc))
+}
+
+// A variable gets a value.
+fn set(alloc: Global, t: &mut Store, name: &Key, v: Value) -> Result<(), Fault>
+    ensures { OnOk result (shown_store t.new ≡ model.set_in (shown_store t.old) name.now v) }
+{
+    t.variables.set(alloc, name, v)?;
+    Ok(())
+}
+
+// What a step does, with the statements after it.
+fn before(alloc: Global, m: Moved, b: Vec<Stmt>, i: usize) -> Result<Moved, Fault>
+    ensures step { IfOk result (λ n. (t : Store) → shown_move t n ≡ model.around (λ r. tree.Then r (left_from b.items i)) (shown_move t m)) }
+    ensures kept { IfOk result (λ n. (old new : Store) (r : tree.Rest) → KeepsRest old r new m → KeepsRest old (tree.Then r (left_from b.items i)) new n) }
+    ensures begun { IfOk result (λ n. (old new : Store) (r : tree.Rest) → Begins old new m → KeepsRest old r new n) }
+{
+    match m {
+        Moved::Stays(r) => Ok(Moved::Stays(Rest::Then(Box::new(alloc, r)?, b, i))),
+        Moved::Goes(r) => Ok(Moved::Goes(Rest::Then(Box::new(alloc, r)?, b, i))),
+        Moved::Asks(r, c) => Ok(Moved::Asks(Rest::Then(Box::new(alloc, r)?, b, i), c)),
+        Moved::Ends(c) => Ok(Moved::Ends(c)),
+    }
+}
+
+// What the step of a statement does, with the statements after it: an empty list isn't kept.
+fn followed(alloc: Global, m: Moved, b: Vec<Stmt>, i: usize) -> Result<Moved, Fault>
+    ensures step { IfOk result (λ n. (t : Store) → shown_move t n ≡ model.around (model.followed_by (left_from b.items i)) (shown_move t m)) }
+    ensures begun { IfOk result (λ n. (old new : Store) (r : tree.Rest) → Begins old new m → KeepsRest old r new n) }
+{
+    if is_end(&b, i) {
+        Ok(m)
+    } else {
+        let n = before(alloc, m, b, i)?;
+        Ok(n)
+    }
+}
+
+// What the left branch does, with the right one.
+fn with_right(alloc: Global, m: Moved, b: Box<Rest>) -> Result<Moved, Fault>
+    ensures step { IfOk result (λ n. (t : Store) → shown_move t n ≡ model.around (λ r. tree.Beside r (shown_rest b.value)) (shown_move t m)) }
+    ensures kept { IfOk result (λ n. (old new : Store) (r : tree.Rest) → KeepsRest old r new m → KeepsRest old (tree.Beside r (shown_rest b.value)) new n) }
+{
+    match m {
+        Moved::Stays(r) => Ok(Moved::Stays(Rest::Beside(Box::new(alloc, r)?, b))),
+        Moved::Goes(r) => Ok(Moved::Goes(Rest::Beside(Box::new(alloc, r)?, b))),
+        Moved::Asks(r, c) => Ok(Moved::Asks(Rest::Beside(Box::new(alloc, r)?, b), c)),
+        Moved::Ends(c) => Ok(Moved::Ends(c)),
+    }
+}
+
+// What the right branch does, with the left one.
+fn with_left(alloc: Global, a: Box<Rest>, m: Moved) -> Result<Moved, Fault>
+    ensures step { IfOk result (λ n. (t : Store) → shown_move t n ≡ model.around (λ r. tree.Beside (shown_rest a.value) r) (shown_move t m)) }
+    ensures kept { IfOk result (λ n. (old new : Store) (r : tree.Rest) → KeepsRest old r new m → KeepsRest old (tree.Beside (shown_rest a.value) r) new n) }
+{
+    match m {
+        Moved::Stays(r) => Ok(Moved::Stays(Rest::Beside(a, Box::new(alloc, r)?))),
+        Moved::Goes(r) => Ok(Moved::Goes(Rest::Beside(a, Box::new(alloc, r)?))),
+        Moved::Asks(r, c) => Ok(Moved::Asks(Rest::Beside(a, Box::new(alloc, r)?), c)),
+        Moved::Ends(c) => Ok(Moved::Ends(c)),
+    }
+}

@@ -1,0 +1,11 @@
+//! Tests of values, turns and replays: of the calls of `flow_values`, `flow_run` and `flow_match`.
+#![tactic(auto)]
+
+#[cfg(test)]
+mod plain_turns;
+#[cfg(test)]
+mod replays;
+#[cfg(test)]
+mod turns;
+#[cfg(test)]
+mod values;
