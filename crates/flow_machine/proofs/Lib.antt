@@ -13,3 +13,4 @@ pub mod Changes
 pub mod Keeps
 pub mod Orderly
 pub mod Limited
+pub mod Started

@@ -5,8 +5,7 @@ pub mod decide;
 mod description;
 mod kinds;
 pub mod laws;
+mod puts;
 mod report;
 pub mod taken;
-#[cfg(test)]
-mod tests;
 mod turns;

@@ -5,6 +5,4 @@ pub mod fault;
 pub mod history;
 pub mod lists;
 pub mod run;
-#[cfg(test)]
-mod tests;
 pub mod view;

@@ -1,12 +1,12 @@
 //! Each call that allocates, run once with ample memory.
-use crate::lists::Lists;
-use crate::view::View;
 use flow_base::book::{Change, Run, Turn};
 use flow_base::event::{Cmd, Input};
 use flow_base::number::{EventId, Moment, RunId, TextNo};
 use flow_base::sequence::Sequence;
 use flow_base::text::{Key, RawText};
 use flow_base::value::{Kind, Value};
+use flow_view::lists::Lists;
+use flow_view::view::View;
 use std::alloc::Global;
 use std::test::Fail;
 

@@ -1,5 +1,5 @@
 //! Each command decided over plain lists, with ample memory.
-use crate::decide::{decide, decide_all};
+use flow_machine::decide::{decide, decide_all};
 use flow_base::code::Code;
 use flow_base::command::{Command, Reply};
 use flow_base::event::{Cmd, State, What};

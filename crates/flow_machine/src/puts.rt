@@ -1,0 +1,48 @@
+//! Changes that a command makes: listed, and put into a view.
+ghost use Rattle.std.specs.Prelude.{◌≡◌, ◌∷◌, [], IfOk, OnOk};
+ghost use Rattle.flow_model.specs.Book.{changed_by};
+ghost use Rattle.flow_view.specs.Reading.{Caused};
+
+use flow_base::book::Change;
+use flow_view::fault::ViewFault;
+use flow_view::view::View;
+use std::alloc::{AllocError, Global};
+
+/// A list of this change alone.
+pub fn one(alloc: Global, change: Change) -> Result<Vec<Change>, AllocError>
+    ensures { IfOk result (λ v. v.items ≡ change ∷ []) }
+{
+    let mut changes = Vec::new(alloc);
+    changes.push(change)?;
+    Ok(changes)
+}
+
+/// Puts changes into a view, in their order.
+pub fn put_all<V: View>(view: &mut V, changes: &[Change]) -> Result<(), ViewFault>
+    ensures put { OnOk result (V.is_sure view.new → V.book view.new ≡ changed_by (V.book view.old) changes.now) }
+    ensures cause { Caused result (V.refuses view.new) }
+    ensures sure { V.is_sure view.new → V.is_sure view.old }
+    ensures follows { (a : V) → V.follows a view.old → V.follows a view.new }
+{
+    for change in changes {
+        view.put(change)?;
+    }
+    Ok(())
+}
+
+/// Puts a change into a view, and lists it.
+pub fn put_one<V: View>(
+    alloc: Global,
+    view: &mut V,
+    change: Change,
+) -> Result<Vec<Change>, ViewFault>
+    ensures listed { IfOk result (λ v. v.items ≡ change ∷ []) }
+    ensures put { OnOk result (V.is_sure view.new → V.book view.new ≡ changed_by (V.book view.old) (change ∷ [])) }
+    ensures cause { Caused result (V.refuses view.new) }
+    ensures sure { V.is_sure view.new → V.is_sure view.old }
+    ensures follows { (a : V) → V.follows a view.old → V.follows a view.new }
+{
+    let changes = one(alloc, change)?;
+    put_all(view, &changes)?;
+    Ok(changes)
+}

@@ -1,0 +1,7 @@
+//! Tests of `flow_view` and `flow_machine`: a book in plain lists, and each command decided over it.
+#![tactic(auto)]
+
+#[cfg(test)]
+mod decisions;
+#[cfg(test)]
+mod lists;
