@@ -7,14 +7,14 @@ use Rattle.flow_base.specs.declared.code.Code.TheVariants as code
 use Rattle.flow_base.specs.declared.command.Command.{Command}
 use Rattle.flow_base.specs.declared.fields.Refused.{Refused}
 use Rattle.flow_base.specs.declared.fields.Refused.TheVariants as refused
+use Rattle.flow_rows.specs.declared.found.Table.{Table}
+use Rattle.flow_rows.specs.declared.found.Table.TheVariants as table
 use Rattle.flow_cli.specs.declared.answer.Stop.{Stop}
 use Rattle.flow_cli.specs.declared.answer.Stop.TheVariants as stop
 use Rattle.flow_cli.specs.declared.command.LineFault.{LineFault}
 use Rattle.flow_cli.specs.declared.command.LineFault.TheVariants as line_fault
 use Rattle.flow_cli.specs.declared.fault.Fault.{Fault}
 use Rattle.flow_cli.specs.declared.fault.Fault.TheVariants as fault
-use Rattle.flow_cli.specs.declared.fault.Table.{Table}
-use Rattle.flow_cli.specs.declared.fault.Table.TheVariants as table
 
 abbrev pub table_name : Table → List ℕ
 table_name table.Text = codes "text"

@@ -5,32 +5,8 @@ ghost use Rattle.flow_cli.specs.declared.fault.Fault.TheVariants.{Damaged};
 
 use crate::answer::Stop;
 use flow_base::code::Code;
+use flow_rows::found::Table;
 use std::alloc::{AllocError, AllocFailed, Global};
-
-/// A table of the store whose rows can be damaged.
-#[derive(Clone, Copy, Debug, PartialEq, Eq)]
-pub enum Table {
-    Text,
-    Run,
-    Event,
-    Timer,
-    Outbox,
-}
-
-impl Table {
-    /// The table's name in the store.
-    pub fn name(self) -> &'static str
-        ensures { result.now ≡ table_name self }
-    {
-        match self {
-            Table::Text => "text",
-            Table::Run => "run",
-            Table::Event => "event",
-            Table::Timer => "timer",
-            Table::Outbox => "outbox",
-        }
-    }
-}
 
 /// Why a program didn't do its work. The numbers of a damage are those of its rows, which may be below zero.
 #[derive(Clone, Copy, Debug, PartialEq, Eq, thiserror::Error)]
@@ -89,6 +65,19 @@ impl Fault {
     }
 }
 
+/// The table's name in the store.
+fn table_name(table: Table) -> &'static str
+    ensures { result.now ≡ table_name table }
+{
+    match table {
+        Table::Text => "text",
+        Table::Run => "run",
+        Table::Event => "event",
+        Table::Timer => "timer",
+        Table::Outbox => "outbox",
+    }
+}
+
 fn damage_details(
     alloc: Global,
     table: Table,
@@ -98,7 +87,7 @@ fn damage_details(
 ) -> Result<String, AllocError>
     ensures { IfOk result (λ s. string_bytes s ≡ fault_details (Damaged table run place cause)) }
 {
-    let table = table.name();
+    let table = table_name(table);
     match cause {
         Some(cause) => format!(in alloc; " {table} {run} {place} {cause}"),
         None => format!(in alloc; " {table} {run} {place}"),

@@ -10,8 +10,4 @@ pub mod drive;
 pub mod fault;
 pub mod history;
 pub mod keeping;
-#[cfg(test)]
-mod keeping_tests;
 pub mod reply;
-#[cfg(test)]
-mod tests;

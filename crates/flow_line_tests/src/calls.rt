@@ -1,0 +1,77 @@
+//! Words, as `clap` reads them.
+use flow_cli::call::{Call, call_of};
+use flow_cli::fault::Fault;
+use std::alloc::Global;
+use std::test::Fail;
+
+fn is_check(alloc: Global, words: &[&str], file: &str) -> bool {
+    match &call_of(alloc, words) {
+        Ok(Call::Check(found)) => *found == file,
+        _ => false,
+    }
+}
+
+fn is_drive(alloc: Global, words: &[&str], base: &str) -> bool {
+    match &call_of(alloc, words) {
+        Ok(Call::Drive(found)) => *found == base,
+        _ => false,
+    }
+}
+
+fn is_history(alloc: Global, words: &[&str], base: &str, number: u64) -> bool {
+    match &call_of(alloc, words) {
+        Ok(Call::History(found, run)) => *found == base && run.get() == number,
+        _ => false,
+    }
+}
+
+fn is_usage(alloc: Global, words: &[&str]) -> bool {
+    matches!(&call_of(alloc, words), Err(Fault::BadUsage))
+}
+
+#[test]
+fn calls(rt: HostRuntime) -> Result<(), Fail> {
+    let a = rt.alloc();
+    assert!(rt; is_check(a, &["flow", "check", "a.flow"], "a.flow"));
+    assert!(rt; is_drive(a, &["flow", "drive", "-"], "-"));
+    assert!(rt; is_drive(a, &["flow", "drive", "--", "-"], "-"));
+    assert!(rt;
+        is_history(
+            a,
+            &["flow", "history", "a.db", "9223372036854775807"],
+            "a.db",
+            9223372036854775807
+        )
+    );
+    Ok(())
+}
+
+#[test]
+fn other_words_are_no_run(rt: HostRuntime) -> Result<(), Fail> {
+    for number in ["0", "9223372036854775808", "-1", "", "1 ", "one"] {
+        assert!(rt; is_usage(rt.alloc(), &["flow", "history", "a.db", number]));
+    }
+    Ok(())
+}
+
+#[test]
+fn other_words_are_no_call(rt: HostRuntime) -> Result<(), Fail> {
+    let calls: [&[&str]; 12] = [
+        &["flow", "history", "a.db"],
+        &["flow", "check", "--help"],
+        &["flow", "help", "check"],
+        &["flow", "drive", "-x"],
+        &["flow", "check"],
+        &["flow", "drive"],
+        &["flow", "-h"],
+        &["flow", "--version"],
+        &["flow", "run"],
+        &["flow", ""],
+        &["flow"],
+        &["flow", "drive", "-", "-"],
+    ];
+    for words in calls {
+        assert!(rt; is_usage(rt.alloc(), words));
+    }
+    Ok(())
+}
