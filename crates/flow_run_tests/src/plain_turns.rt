@@ -1,61 +1,16 @@
 //! Plain turns of small programs, with ample memory.
-use flow_run::plain::{Answers, PlainRun, TurnFault, plain_turn, unbegun};
 use flow_base::event::{Cmd, Input, State};
 use flow_base::number::{EventId, Moment};
 use flow_base::sequence::Sequence;
-use flow_base::syntax::{Declaration, Expr, Program, Stmt};
-use flow_base::text::{Key, Text};
+use flow_base::syntax::Program;
+use flow_base::text::Text;
 use flow_base::value::{Kind, Value};
+use flow_run::plain::{Answers, PlainRun, TurnFault, plain_turn, unbegun};
+use flow_syntax::parse::parse;
 use std::alloc::Global;
 use std::test::Fail;
 
-fn moment(at: u64) -> Result<Moment, Fail> {
-    Ok(Moment::new(at).ok_or("no moment")?)
-}
-
-// A program without parameters.
-fn program(
-    alloc: Global,
-    declarations: Vec<Declaration>,
-    body: Vec<Stmt>,
-) -> Result<Program, Fail> {
-    let name = Key::new(alloc, "a")?;
-    Ok(Program {
-        at: 0,
-        name,
-        parameters: Vec::new(alloc),
-        parameters_end: 0,
-        declarations,
-        body,
-        body_end: 0,
-    })
-}
-
-// r = call c();
-fn call(alloc: Global) -> Result<Stmt, Fail> {
-    let into = Key::new(alloc, "r")?;
-    let activity = Key::new(alloc, "c")?;
-    Ok(Stmt::Call(0, into, 0, activity, Vec::new(alloc)))
-}
-
-// return r;
-fn end(alloc: Global) -> Result<Stmt, Fail> {
-    let name = Key::new(alloc, "r")?;
-    Ok(Stmt::Return(0, Expr::Var(0, name)))
-}
-
-// activity c() -> int;
-fn activity(alloc: Global) -> Result<Declaration, Fail> {
-    let name = Key::new(alloc, "c")?;
-    Ok(Declaration::Activity(0, 0, name, Vec::new(alloc), Kind::Int))
-}
-
-// workflow a() { activity c() -> int; r = call c(); return r; }
-fn caller(alloc: Global) -> Result<Program, Fail> {
-    let declarations = vec![in alloc; activity(alloc)?]?;
-    let body = vec![in alloc; call(alloc)?, end(alloc)?]?;
-    program(alloc, declarations, body)
-}
+const CALLER: &str = "workflow a() { activity c() -> int; r = call c(); return r; }";
 
 // The next turn of a run: its commands.
 fn next(
@@ -63,57 +18,84 @@ fn next(
     run: &mut PlainRun,
     program: &Program,
     at: u64,
-    input: Input,
+    input: &Input,
 ) -> Result<Vec<Cmd>, Fail> {
+    let at = Moment::new(at).ok_or("no moment")?;
     if run.events() > 100 {
         return Ok(Vec::new(alloc));
     }
-    Ok(plain_turn(alloc, run, program, moment(at)?, &input, Answers::Fresh)?)
+    Ok(plain_turn(alloc, run, program, at, input, Answers::Fresh)?)
+}
+
+// The first turn of a run that takes nothing.
+fn begin(alloc: Global, run: &mut PlainRun, program: &Program) -> Result<Vec<Cmd>, Fail> {
+    next(alloc, run, program, 10, &Input::Started(Sequence::new(alloc)))
+}
+
+// Whether a run ends with the empty text in its first turn.
+fn ends_empty(alloc: Global, run: &mut PlainRun, program: &Program) -> Result<bool, Fail> {
+    let commands = begin(alloc, run, program)?;
+    let wanted = Cmd::Complete(Value::Text(Text::empty(alloc)));
+    Ok(match commands.as_slice() {
+        [command] => command.is(&wanted),
+        _ => false,
+    })
 }
 
 #[test]
 fn an_empty_program_completes_with_the_empty_text(rt: HostRuntime) -> Result<(), Fail> {
-    let alloc = rt.alloc();
-    let program = program(alloc, Vec::new(alloc), Vec::new(alloc))?;
-    let mut run = unbegun(alloc);
-    let started = Input::Started(Sequence::new(alloc));
-    let commands = next(alloc, &mut run, &program, 10, started)?;
-    let wanted = Cmd::Complete(Value::Text(Text::empty(alloc)));
-    let is_told = match commands.as_slice() {
-        [command] => command.is(&wanted),
-        _ => false,
-    };
+    let program = parse(rt.alloc(), "workflow a() {}")?;
+    let mut run = unbegun(rt.alloc());
+    let is_told = ends_empty(rt.alloc(), &mut run, &program)?;
     assert!(rt; is_told);
     assert!(rt; run.state() == State::Completed);
     assert_eq!(rt; run.events(), 2);
     Ok(())
 }
 
-#[test]
-fn a_run_waits_for_its_activity(rt: HostRuntime) -> Result<(), Fail> {
-    let alloc = rt.alloc();
-    let program = caller(alloc)?;
-    let mut run = unbegun(alloc);
-    let started = Input::Started(Sequence::new(alloc));
-    let commands = next(alloc, &mut run, &program, 10, started)?;
-    assert!(rt; matches!(commands.as_slice(), [Cmd::Schedule(_, _, _, _, Kind::Int)]));
+// Whether a run asks for one activity that gives a number in its first turn.
+fn asks_for_a_number(alloc: Global, run: &mut PlainRun, program: &Program) -> Result<bool, Fail> {
+    let commands = begin(alloc, run, program)?;
+    Ok(matches!(commands.as_slice(), [Cmd::Schedule(_, _, _, _, Kind::Int)]))
+}
+
+// Whether a run ends with the number that the activity of its second event gave.
+fn ends_with_what_it_gets(
+    alloc: Global,
+    run: &mut PlainRun,
+    program: &Program,
+) -> Result<bool, Fail> {
     let scheduled = EventId::new(2).ok_or("no number of an event")?;
     let completed = Input::ActivityCompleted(scheduled, Value::Int(41));
-    let commands = next(alloc, &mut run, &program, 20, completed)?;
-    assert!(rt; matches!(commands.as_slice(), [Cmd::Complete(Value::Int(41))]));
+    let commands = next(alloc, run, program, 20, &completed)?;
+    Ok(matches!(commands.as_slice(), [Cmd::Complete(Value::Int(41))]))
+}
+
+#[test]
+fn a_run_waits_for_its_activity(rt: HostRuntime) -> Result<(), Fail> {
+    let program = parse(rt.alloc(), CALLER)?;
+    let mut run = unbegun(rt.alloc());
+    let asks = asks_for_a_number(rt.alloc(), &mut run, &program)?;
+    let ends = ends_with_what_it_gets(rt.alloc(), &mut run, &program)?;
+    assert!(rt; asks && ends);
     assert_eq!(rt; run.moment().get(), 20);
     Ok(())
 }
 
+// Whether a run that hasn't begun refuses to be ended, and how many events it has then.
+fn refuses_an_end(alloc: Global, program: &Program) -> Result<(bool, u64), Fail> {
+    let at = Moment::new(10).ok_or("no moment")?;
+    let mut run = unbegun(alloc);
+    let early = Input::Terminated(Text::empty(alloc));
+    let turn = plain_turn(alloc, &mut run, program, at, &early, Answers::Fresh);
+    Ok((matches!(turn, Err(TurnFault::NotAwaited)), run.events()))
+}
+
 #[test]
 fn a_run_refuses_what_it_does_not_await(rt: HostRuntime) -> Result<(), Fail> {
-    let alloc = rt.alloc();
-    let program = caller(alloc)?;
-    let mut run = unbegun(alloc);
-    let at = moment(10)?;
-    let early = Input::Terminated(Text::empty(alloc));
-    let refused = plain_turn(alloc, &mut run, &program, at, &early, Answers::Fresh);
-    assert!(rt; matches!(refused, Err(TurnFault::NotAwaited)));
-    assert_eq!(rt; run.events(), 0);
+    let program = parse(rt.alloc(), CALLER)?;
+    let (refuses, events) = refuses_an_end(rt.alloc(), &program)?;
+    assert!(rt; refuses);
+    assert_eq!(rt; events, 0);
     Ok(())
 }

@@ -1,50 +1,56 @@
-//! Each call run once with ample memory.
-use flow_values::evaluate::{due, eval};
+//! Expressions and delays, with ample memory.
 use flow_base::event::Cause;
 use flow_base::number::Moment;
-use flow_base::syntax::{Binary, Expr};
-use flow_base::text::Key;
+use flow_base::syntax::{Expr, Program, Stmt};
 use flow_base::value::Value;
+use flow_syntax::parse::parse;
+use flow_values::evaluate::{due, eval};
 use flow_values::named::NamedValues;
 use std::alloc::Global;
 use std::test::Fail;
 
-fn binary(alloc: Global, op: Binary, left: Expr, right: i64) -> Result<Expr, Fail> {
-    let left = Box::new(alloc, left)?;
-    let right = Box::new(alloc, Expr::Int(0, right))?;
-    Ok(Expr::Binary(op, left, right))
+// What a program returns first.
+fn returned(program: &Program) -> Result<&Expr, Fail> {
+    match program.body.as_slice() {
+        [Stmt::Return(_, e), ..] => Ok(e),
+        _ => Err(Fail::from("no return")),
+    }
+}
+
+// The value of what a program of this text returns, where nothing has a value, or its fault.
+fn value(alloc: Global, text: &str) -> Result<Result<Value, Cause>, Fail> {
+    let at = Moment::new(10).ok_or("no moment")?;
+    let program = parse(alloc, text)?;
+    let expr = returned(&program)?;
+    Ok(eval(alloc, &NamedValues::new(alloc), at, expr)?)
 }
 
 #[test]
 fn expressions_have_values_and_faults(rt: HostRuntime) -> Result<(), Fail> {
-    let alloc = rt.alloc();
-    let vars = NamedValues::new(alloc);
-    let at = Moment::new(10).ok_or("no moment")?;
-    let sum = binary(alloc, Binary::Add, Expr::Int(0, 2), 3)?;
-    let value = eval(alloc, &vars, at, &sum)?;
-    assert!(rt; matches!(value, Ok(Value::Int(5))));
-    let quotient = binary(alloc, Binary::Divide, sum, 0)?;
-    let value = eval(alloc, &vars, at, &quotient)?;
-    assert!(rt; matches!(value, Err(Cause::Arith)));
-    let missing = Expr::Var(0, Key::new(alloc, "x")?);
-    let value = eval(alloc, &vars, at, &missing)?;
-    assert!(rt; matches!(value, Ok(Value::Int(0))));
+    let sum = value(rt.alloc(), "workflow a() { return 2 + 3; }")?;
+    assert!(rt; matches!(sum, Ok(Value::Int(5))));
+    let quotient = value(rt.alloc(), "workflow a() { return (2 + 3) / 0; }")?;
+    assert!(rt; matches!(quotient, Err(Cause::Arith)));
+    let missing = value(rt.alloc(), "workflow a() { return x; }")?;
+    assert!(rt; matches!(missing, Ok(Value::Int(0))));
     Ok(())
+}
+
+// When a delay is over that begins at moment 10.
+fn over(alloc: Global, delay: i64) -> Result<Result<u64, Cause>, Fail> {
+    let at = Moment::new(10).ok_or("no moment")?;
+    let over = due(alloc, &NamedValues::new(alloc), at, &Expr::Int(0, delay))?;
+    Ok(over.map(|moment| moment.get()))
 }
 
 #[test]
 fn delays_are_over_when_they_are_due(rt: HostRuntime) -> Result<(), Fail> {
-    let alloc = rt.alloc();
-    let vars = NamedValues::new(alloc);
-    let at = Moment::new(10).ok_or("no moment")?;
     for (delay, wanted) in [(0, 10), (90, 100), (999999999999990, 1000000000000000)] {
-        let over = due(alloc, &vars, at, &Expr::Int(0, delay))?
-            .ok()
-            .ok_or("no moment")?;
-        assert_eq!(rt; over.get(), wanted);
+        let over = over(rt.alloc(), delay)?.ok().ok_or("no moment")?;
+        assert_eq!(rt; over, wanted);
     }
     for delay in [-1, 999999999999991] {
-        let over = due(alloc, &vars, at, &Expr::Int(0, delay))?;
+        let over = over(rt.alloc(), delay)?;
         assert!(rt; matches!(over, Err(Cause::BadDelay)));
     }
     Ok(())
