@@ -5,6 +5,7 @@ pub mod decide;
 mod description;
 mod kinds;
 pub mod laws;
+pub mod programs;
 mod puts;
 mod report;
 pub mod taken;

@@ -1,13 +1,13 @@
 //! Each command decided over plain lists, with ample memory.
-use flow_machine::decide::{decide, decide_all};
 use flow_base::code::Code;
-use flow_base::command::{Command, Reply};
-use flow_base::event::{Cmd, State, What};
+use flow_base::command::{Command, Description, Reply};
+use flow_base::event::{Cmd, Event, State, What};
 use flow_base::number::{EventId, Moment, RunId, TextNo};
 use flow_base::sequence::Sequence;
 use flow_base::text::{Key, RawText};
 use flow_base::value::Value;
 use flow_check::language::Language;
+use flow_machine::decide::{decide, decide_all};
 use flow_view::lists::Lists;
 use std::alloc::Global;
 use std::test::Fail;
@@ -15,17 +15,48 @@ use std::test::Fail;
 const A: &str =
     "workflow a(n: int) { activity c(int, text) -> int; let r = 0; r = call c(n, \"eur\"); return r + 1; }";
 
+/// What a reply tells, in numbers: a test then owns none of the reply's trees.
+#[derive(Clone, Copy, PartialEq, Eq)]
+enum Told {
+    Registered(u64),
+    Started(u64),
+    /// The run, and the event of the input.
+    Recorded(u64, u64),
+    Duplicate(u64),
+    /// How many events the run has, how many activities and how many timers are open.
+    Run(usize, usize, usize),
+    /// How many events.
+    History(usize),
+    Refused(Code),
+    BadText(Code, usize),
+    Full(u64, u64),
+}
+
+fn in_short(reply: &Reply) -> Told {
+    match reply {
+        Reply::Registered(text) => Told::Registered(text.get()),
+        Reply::Started(run) => Told::Started(run.get()),
+        Reply::Recorded(run, event) => Told::Recorded(run.get(), event.get()),
+        Reply::Duplicate(run) => Told::Duplicate(run.get()),
+        Reply::Run(run) => Told::Run(run.events, run.activities.len(), run.timers.len()),
+        Reply::History(events) => Told::History(events.len()),
+        Reply::Refused(code) => Told::Refused(*code),
+        Reply::BadText(fault) => Told::BadText(fault.code, fault.at),
+        Reply::Full(run, event) => Told::Full(run.get(), event.get()),
+    }
+}
+
 fn register(alloc: Global, body: &str) -> Result<Command, Fail> {
     Ok(Command::Register(RawText::new(alloc, body)?))
 }
 
 fn start(alloc: Global) -> Result<Command, Fail> {
+    let text = TextNo::new(1).ok_or("no text")?;
+    let at = Moment::new(1000).ok_or("no moment")?;
     let request = Key::new(alloc, "q")?;
     let flow = Key::new(alloc, "f")?;
-    let text = TextNo::new(1).ok_or("no text")?;
-    let arguments = Sequence::from_vec(vec![in alloc; Value::Int(7)]?);
-    let at = Moment::new(1000).ok_or("no moment")?;
-    Ok(Command::Start(request, flow, text, arguments, at))
+    let arguments = vec![in alloc; Value::Int(7)]?;
+    Ok(Command::Start(request, flow, text, Sequence::from_vec(arguments), at))
 }
 
 fn complete(event: u64) -> Result<Command, Fail> {
@@ -43,133 +74,180 @@ fn history(number: u64) -> Result<Command, Fail> {
     Ok(Command::History(RunId::new(number).ok_or("no run")?))
 }
 
-// A command is decided, and its changes are in the book.
-fn put(alloc: Global, book: &mut Lists, command: Command) -> Result<(Reply, usize), Fail> {
-    let (reply, changes) = decide(alloc, &Language, book, &command)?;
-    Ok((reply, changes.len()))
+// A command is decided, and its changes are in the book: what it was answered, and how many changes it made.
+fn put(alloc: Global, book: &mut Lists, command: &Command) -> Result<(Told, usize), Fail> {
+    let (reply, changes) = decide(alloc, &Language, book, command)?;
+    Ok((in_short(&reply), changes.len()))
 }
 
-// A book with the text.
-fn registered(alloc: Global) -> Result<Lists, Fail> {
-    let mut book = Lists::new(alloc);
-    put(alloc, &mut book, register(alloc, A)?)?;
-    Ok(book)
+fn put_text(alloc: Global, book: &mut Lists, body: &str) -> Result<(Told, usize), Fail> {
+    put(alloc, book, &register(alloc, body)?)
 }
 
-// A book with a run of the text, which waits on its activity.
-fn begun(alloc: Global) -> Result<Lists, Fail> {
-    let mut book = registered(alloc)?;
-    put(alloc, &mut book, start(alloc)?)?;
-    Ok(book)
+fn put_start(alloc: Global, book: &mut Lists) -> Result<(Told, usize), Fail> {
+    put(alloc, book, &start(alloc)?)
 }
 
-// A book with a run of the text, which has completed.
-fn ended(alloc: Global) -> Result<Lists, Fail> {
-    let mut book = begun(alloc)?;
-    put(alloc, &mut book, complete(2)?)?;
-    Ok(book)
+fn put_describe(alloc: Global, book: &mut Lists, number: u64) -> Result<(Told, usize), Fail> {
+    put(alloc, book, &describe(number)?)
+}
+
+fn put_history(alloc: Global, book: &mut Lists, number: u64) -> Result<(Told, usize), Fail> {
+    put(alloc, book, &history(number)?)
+}
+
+fn put_report(alloc: Global, book: &mut Lists) -> Result<(Told, usize), Fail> {
+    put(alloc, book, &complete(2)?)
+}
+
+// The book has a run of the text, which waits on its activity.
+fn begin(alloc: Global, book: &mut Lists) -> Result<(), Fail> {
+    put_text(alloc, book, A)?;
+    put_start(alloc, book)?;
+    Ok(())
+}
+
+// The book has a run of the text, which has completed.
+fn end(alloc: Global, book: &mut Lists) -> Result<(), Fail> {
+    begin(alloc, book)?;
+    put_report(alloc, book)?;
+    Ok(())
 }
 
 #[test]
 fn a_text_is_registered_once(rt: HostRuntime) -> Result<(), Fail> {
     let alloc = rt.alloc();
     let mut book = Lists::new(alloc);
-    let (reply, changes) = put(alloc, &mut book, register(alloc, A)?)?;
-    assert!(rt; matches!(reply, Reply::Registered(text) if text.get() == 1) && changes == 1);
-    let (reply, changes) = put(alloc, &mut book, register(alloc, A)?)?;
-    assert!(rt; matches!(reply, Reply::Registered(text) if text.get() == 1) && changes == 0);
+    let first = put_text(alloc, &mut book, A)?;
+    let second = put_text(alloc, &mut book, A)?;
+    assert!(rt; first == (Told::Registered(1), 1));
+    assert!(rt; second == (Told::Registered(1), 0));
     Ok(())
 }
 
 #[test]
 fn a_text_that_breaks_a_rule_is_refused(rt: HostRuntime) -> Result<(), Fail> {
     let alloc = rt.alloc();
-    let mut book = Lists::new(alloc);
-    let (reply, changes) = put(alloc, &mut book, register(alloc, "workflow x( { }")?)?;
-    let is_told =
-        matches!(reply, Reply::BadText(fault) if fault.at == 12 && fault.code == Code::Unexpected);
-    assert!(rt; is_told && changes == 0);
+    let answer = put_text(alloc, &mut Lists::new(alloc), "workflow x( { }")?;
+    assert!(rt; answer == (Told::BadText(Code::Unexpected, 12), 0));
     Ok(())
 }
 
 #[test]
 fn a_request_starts_one_run(rt: HostRuntime) -> Result<(), Fail> {
     let alloc = rt.alloc();
-    let mut book = registered(alloc)?;
-    let (reply, changes) = put(alloc, &mut book, start(alloc)?)?;
-    assert!(rt; matches!(reply, Reply::Started(run) if run.get() == 1) && changes == 1);
-    let (reply, changes) = put(alloc, &mut book, start(alloc)?)?;
-    assert!(rt; matches!(reply, Reply::Duplicate(run) if run.get() == 1) && changes == 0);
+    let mut book = Lists::new(alloc);
+    put_text(alloc, &mut book, A)?;
+    let first = put_start(alloc, &mut book)?;
+    let second = put_start(alloc, &mut book)?;
+    assert!(rt; first == (Told::Started(1), 1));
+    assert!(rt; second == (Told::Duplicate(1), 0));
     Ok(())
 }
 
 #[test]
 fn a_report_is_recorded(rt: HostRuntime) -> Result<(), Fail> {
     let alloc = rt.alloc();
-    let mut book = begun(alloc)?;
-    let (reply, changes) = put(alloc, &mut book, complete(2)?)?;
-    let is_recorded =
-        matches!(reply, Reply::Recorded(run, event) if run.get() == 1 && event.get() == 3);
-    assert!(rt; is_recorded && changes == 1);
-    let (reply, changes) = put(alloc, &mut book, complete(2)?)?;
-    assert!(rt; matches!(reply, Reply::Refused(Code::NotOpen)) && changes == 0);
+    let mut book = Lists::new(alloc);
+    begin(alloc, &mut book)?;
+    let first = put_report(alloc, &mut book)?;
+    let second = put_report(alloc, &mut book)?;
+    assert!(rt; first == (Told::Recorded(1, 3), 1));
+    assert!(rt; second == (Told::Refused(Code::NotOpen), 0));
     Ok(())
+}
+
+// The answer to one command, in a list: a list is let go of at less cost than a reply by itself.
+fn ask(alloc: Global, book: &mut Lists, command: Command) -> Result<Vec<Reply>, Fail> {
+    let mut commands = Vec::new(alloc);
+    commands.push(command)?;
+    Ok(decide_all(alloc, &Language, book, &commands)?)
+}
+
+fn is_open_run(run: &Description) -> bool {
+    let counts = (run.events, run.activities.len(), run.timers.len());
+    counts == (2, 1, 0) && run.state == State::Open && run.flow.as_str() == "f"
+}
+
+fn tells_open_run(replies: &[Reply]) -> bool {
+    match replies {
+        [Reply::Run(run)] => is_open_run(run),
+        _ => false,
+    }
+}
+
+// Whether the run is described as an open one that waits on its activity.
+fn is_described(alloc: Global, book: &mut Lists) -> Result<bool, Fail> {
+    let replies = ask(alloc, book, describe(1)?)?;
+    Ok(tells_open_run(&replies))
 }
 
 #[test]
 fn an_open_run_is_described(rt: HostRuntime) -> Result<(), Fail> {
     let alloc = rt.alloc();
-    let mut book = begun(alloc)?;
-    let (reply, _) = put(alloc, &mut book, describe(1)?)?;
-    let Reply::Run(run) = reply else {
-        return Err(Fail::from("no description"));
-    };
-    assert!(rt; run.state == State::Open && run.events == 2 && run.flow.as_str() == "f");
-    assert!(rt; run.activities.len() == 1 && run.timers.is_empty());
+    let mut book = Lists::new(alloc);
+    begin(alloc, &mut book)?;
+    let is_told = is_described(alloc, &mut book)?;
+    assert!(rt; is_told);
     Ok(())
+}
+
+fn ends_with_42(events: &[Event]) -> bool {
+    match events.last() {
+        Some(last) => {
+            let completed = matches!(&last.what, What::Asked(Cmd::Complete(Value::Int(42))));
+            completed && last.id.get() == 4 && last.at.get() == 1500
+        }
+        None => false,
+    }
+}
+
+fn tells_history(replies: &[Reply]) -> bool {
+    match replies {
+        [Reply::History(events)] => events.len() == 4 && ends_with_42(events.as_slice()),
+        _ => false,
+    }
+}
+
+// Whether the history of the run is told to its end.
+fn is_told_whole(alloc: Global, book: &mut Lists) -> Result<bool, Fail> {
+    let replies = ask(alloc, book, history(1)?)?;
+    Ok(tells_history(&replies))
 }
 
 #[test]
 fn a_history_is_told(rt: HostRuntime) -> Result<(), Fail> {
     let alloc = rt.alloc();
-    let mut book = ended(alloc)?;
-    let (reply, _) = put(alloc, &mut book, history(1)?)?;
-    let Reply::History(events) = reply else {
-        return Err(Fail::from("no history"));
-    };
-    let last = events.as_slice().last().ok_or("no event")?;
-    assert!(rt; events.len() == 4 && last.id.get() == 4 && last.at.get() == 1500);
-    assert!(rt; matches!(&last.what, What::Asked(Cmd::Complete(Value::Int(42)))));
+    let mut book = Lists::new(alloc);
+    end(alloc, &mut book)?;
+    let is_told = is_told_whole(alloc, &mut book)?;
+    assert!(rt; is_told);
     Ok(())
 }
 
 #[test]
 fn a_run_that_is_not_there_is_refused(rt: HostRuntime) -> Result<(), Fail> {
     let alloc = rt.alloc();
-    let mut book = begun(alloc)?;
-    let (reply, _) = put(alloc, &mut book, describe(2)?)?;
-    assert!(rt; matches!(reply, Reply::Refused(Code::NoRun)));
-    let (reply, _) = put(alloc, &mut book, history(2)?)?;
-    assert!(rt; matches!(reply, Reply::Refused(Code::NoRun)));
+    let mut book = Lists::new(alloc);
+    begin(alloc, &mut book)?;
+    let described = put_describe(alloc, &mut book, 2)?;
+    let history = put_history(alloc, &mut book, 2)?;
+    assert!(rt; described == (Told::Refused(Code::NoRun), 0));
+    assert!(rt; history == (Told::Refused(Code::NoRun), 0));
     Ok(())
 }
 
 fn path(alloc: Global) -> Result<Vec<Command>, Fail> {
-    Ok(vec![in alloc;
-        register(alloc, A)?,
-        start(alloc)?,
-        complete(2)?,
-        describe(1)?,
-    ]?)
+    let mut path = Vec::new(alloc);
+    path.push(register(alloc, A)?)?;
+    path.push(start(alloc)?)?;
+    path.push(complete(2)?)?;
+    path.push(describe(1)?)?;
+    Ok(path)
 }
 
-#[test]
-fn commands_are_decided_in_turn(rt: HostRuntime) -> Result<(), Fail> {
-    let alloc = rt.alloc();
-    let mut book = Lists::new(alloc);
-    let commands = path(alloc)?;
-    let replies = decide_all(alloc, &Language, &mut book, commands.as_slice())?;
-    let are_told = match replies.as_slice() {
+fn are_path(replies: &[Reply]) -> bool {
+    match replies {
         [
             Reply::Registered(_),
             Reply::Started(_),
@@ -177,7 +255,20 @@ fn commands_are_decided_in_turn(rt: HostRuntime) -> Result<(), Fail> {
             Reply::Run(run),
         ] => event.get() == 3 && run.events == 4 && run.state == State::Completed,
         _ => false,
-    };
+    }
+}
+
+// Whether a text, a start, a report and a question are answered in turn.
+fn is_path_told(alloc: Global, book: &mut Lists) -> Result<bool, Fail> {
+    let commands = path(alloc)?;
+    let replies = decide_all(alloc, &Language, book, &commands)?;
+    Ok(are_path(&replies))
+}
+
+#[test]
+fn commands_are_decided_in_turn(rt: HostRuntime) -> Result<(), Fail> {
+    let alloc = rt.alloc();
+    let are_told = is_path_told(alloc, &mut Lists::new(alloc))?;
     assert!(rt; are_told);
     Ok(())
 }

@@ -1,0 +1,48 @@
+//! The program that a text of a view is.
+ghost use Rattle.std.specs.Prelude.{◌≡◌, ◌⊎◌, IfOk, Ok, Some, None};
+ghost use Rattle.flow_check.specs.Shown.{shown_checked};
+ghost use Rattle.flow_model.specs.Apply.{program_at, program_if};
+ghost use Rattle.flow_view.specs.Reading.{Caused, Reads};
+
+use flow_base::number::TextNo;
+use flow_base::text::RawText;
+use flow_check::checked::Checked;
+use flow_check::texts::Texts;
+use flow_view::fault::ViewFault;
+use flow_view::view::View;
+use std::alloc::Global;
+
+/// The program of a stored text.
+///
+/// # Failure
+/// E80 where it is none.
+pub fn stored<T: Texts>(alloc: Global, texts: &T, body: &RawText) -> Result<Checked, ViewFault>
+    ensures program { IfOk result (λ p. T.meaning body.now ≡ Ok (shown_checked p)) }
+    ensures cause { Caused result (program_if (T.meaning body.now) ≡ None) }
+{
+    match texts.read(alloc, body)? {
+        Ok(program) => Ok(program),
+        Err(_) => Err(ViewFault::StoreRefused),
+    }
+}
+
+/// The program of a text of the view.
+///
+/// # Failure
+/// E80 where the text isn't there, or is no program.
+pub fn program_of<V: View, T: Texts>(
+    alloc: Global,
+    texts: &T,
+    view: &mut V,
+    text: TextNo,
+) -> Result<Checked, ViewFault>
+    ensures reads { IfOk result (λ p. Reads (V.is_sure view.new) (V.book view.old) (V.book view.new) (Some (shown_checked p)) (program_at T.meaning (V.book view.old) text)) }
+    ensures cause { Caused result (V.refuses view.new ⊎ (V.is_sure view.new → program_at T.meaning (V.book view.old) text ≡ None)) }
+    ensures sure { V.is_sure view.new → V.is_sure view.old }
+    ensures follows { (a : V) → V.follows a view.old → V.follows a view.new }
+{
+    match view.text(text)? {
+        Some(body) => stored(alloc, texts, &body),
+        None => Err(ViewFault::StoreRefused),
+    }
+}
