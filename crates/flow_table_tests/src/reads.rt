@@ -1,74 +1,16 @@
 //! Each read on tables in memory, within a transaction: the rows that are there, and nothing where there is none.
-use crate::changes::{insert_event, insert_run, insert_task, insert_text};
-use crate::control::begin;
-use crate::create::create;
-use crate::look_ups::{
-    last_event, open_run, requested_run, run_events, run_row, run_tasks, text_body, text_number,
-};
-use crate::reads::{last_run, last_text, runs, texts};
-use flow_base::number::{RunId, TextNo};
+use crate::rows::{Memory, add_event, add_run, add_task, add_text, no_rows, run};
+use flow_base::number::TextNo;
 use flow_base::text::{Key, RawText};
 use flow_base::value::ValueFault;
 use flow_rows::rows::{EventRow, OutboxRow, RunRow, TextRow};
-use sqlite::{Connection, Error, MemStore};
+use flow_tables::look_ups::{
+    last_event, open_run, requested_run, run_events, run_row, run_tasks, text_body, text_number,
+};
+use flow_tables::reads::{last_run, last_text, runs, texts};
+use sqlite::Error;
 use std::alloc::Global;
 use std::test::Fail;
-
-type Memory = Connection<MemStore>;
-
-fn add_text(alloc: Global, conn: &mut Memory, num: i64, body: &str) -> Result<(), Error> {
-    let body = RawText::new(alloc, body)?;
-    insert_text(conn, &TextRow { num, body })
-}
-
-fn add_run(
-    alloc: Global,
-    conn: &mut Memory,
-    num: i64,
-    flow: &str,
-    req: &str,
-    isopen: i64,
-) -> Result<(), Error> {
-    let flow = RawText::new(alloc, flow)?;
-    let req = RawText::new(alloc, req)?;
-    let row = RunRow {
-        num,
-        flow,
-        req,
-        textnum: 2,
-        isopen,
-    };
-    insert_run(conn, &row)
-}
-
-fn add_event(alloc: Global, conn: &mut Memory, run: i64, id: i64, body: &str) -> Result<(), Error> {
-    let body = RawText::new(alloc, body)?;
-    let row = EventRow {
-        run,
-        id,
-        kind: 7,
-        body,
-    };
-    insert_event(conn, &row)
-}
-
-fn add_task(conn: &mut Memory, run: i64, id: i64) -> Result<(), Error> {
-    let row = OutboxRow {
-        run,
-        id,
-        attempt: 3,
-        ready: 9,
-    };
-    insert_task(conn, &row)
-}
-
-/// New tables, in a transaction.
-fn no_rows(alloc: Global) -> Result<Memory, Error> {
-    let mut conn = Connection::open_in_memory(alloc)?;
-    create(&mut conn)?;
-    begin(&mut conn)?;
-    Ok(conn)
-}
 
 fn two_texts(alloc: Global) -> Result<Memory, Error> {
     let mut conn = no_rows(alloc)?;
@@ -80,14 +22,10 @@ fn two_texts(alloc: Global) -> Result<Memory, Error> {
 /// The second text's runs: two of one flow, of which the first is closed, and a closed one of another.
 fn three_runs(alloc: Global) -> Result<Memory, Error> {
     let mut conn = two_texts(alloc)?;
-    add_run(alloc, &mut conn, 1, "f", "p", 0)?;
-    add_run(alloc, &mut conn, 2, "f", "q", 1)?;
-    add_run(alloc, &mut conn, 3, "g", "r", 0)?;
+    add_run(alloc, &mut conn, 1, ("f", "p"), 2, 0)?;
+    add_run(alloc, &mut conn, 2, ("f", "q"), 2, 1)?;
+    add_run(alloc, &mut conn, 3, ("g", "r"), 2, 0)?;
     Ok(conn)
-}
-
-fn run(number: u64) -> Result<RunId, &'static str> {
-    RunId::new(number).ok_or("no run")
 }
 
 fn key(alloc: Global, text: &str) -> Result<Key, ValueFault> {
