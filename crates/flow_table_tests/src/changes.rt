@@ -158,12 +158,18 @@ fn whole_turn(alloc: Global) -> Result<Turn, &'static str> {
     })
 }
 
+/// Puts that turn, so that who calls it holds none.
+fn put_whole_turn(alloc: Global, conn: &mut Memory, number: u64) -> Result<bool, &'static str> {
+    let run = run(number)?;
+    let turn = whole_turn(alloc)?;
+    Ok(put_turn(alloc, conn, run, false, 0, &turn).is_ok())
+}
+
 #[test]
 fn a_turn_is_recorded(rt: HostRuntime) -> Result<(), Fail> {
     let alloc = rt.alloc();
     let mut conn = two_runs(alloc)?;
-    let turn = whole_turn(alloc)?;
-    assert!(rt; put_turn(alloc, &mut conn, run(2)?, false, 0, &turn).is_ok());
+    assert!(rt; put_whole_turn(alloc, &mut conn, 2)?);
     assert_eq!(rt;
         count(&mut conn, "SELECT count(*) FROM event WHERE run = 2")?,
         2
