@@ -3,13 +3,13 @@ use crate::rows::{Memory, add_event, add_run, add_task, add_text, no_rows, run};
 use flow_base::number::TextNo;
 use flow_base::text::{Key, RawText};
 use flow_rows::rows::{EventRow, OutboxRow, RunRow, TextRow};
+use flow_tables::fault::StoreFault;
 use flow_tables::look_ups::{
     last_event, open_run, requested_run, run_events, run_row, run_tasks, text_body, text_number,
 };
 use flow_tables::reads::{last_run, last_text, runs, texts};
 use sqlite::Error;
 use std::alloc::Global;
-use flow_tables::fault::StoreFault;
 use std::test::Fail;
 
 fn two_texts(alloc: Global) -> Result<Memory, Error> {
