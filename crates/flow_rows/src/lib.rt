@@ -12,8 +12,6 @@ pub mod runs;
 pub mod single;
 pub mod strays;
 pub mod taken;
-#[cfg(test)]
-mod tests;
 pub mod texts;
 pub mod timers;
 pub mod typed;

@@ -20,11 +20,6 @@ abbrev pub fault_of : Error → StoreFault
 fault_of (SqliteFailure OutOfMemory) = NoMemory
 fault_of e = Refused e
 
--- what a view tells of it
-abbrev pub view_fault : StoreFault → ViewFault
-view_fault NoMemory = view.NoMemory
-view_fault (Refused e) = view.StoreRefused
-
 -- A statement was refused with this error, and left the connection as it is now.
 abbrev pub IsRefusedWith : {S : Type 0} → Ghosts S → State → Error → Type 0
 IsRefusedWith {S} g new e =
@@ -70,6 +65,10 @@ abbrev pub told_fault : Refusal → ViewFault
 told_fault refusal.NoMemory = view.NoMemory
 told_fault refusal.Stopped = view.StoreRefused
 told_fault refusal.Unfit = view.StoreRefused
+
+-- and of a read that failed
+abbrev pub view_fault : StoreFault → ViewFault
+view_fault f = told_fault (read_refusal f)
 
 abbrev pub told_answer : {A : Type 0} → Result A Refusal → Result A ViewFault
 told_answer (Ok v) = Ok v

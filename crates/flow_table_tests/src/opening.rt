@@ -1,8 +1,8 @@
 //! Opening over the rows of a small history, and over each table damaged by one statement.
-use crate::create::create;
-use crate::open::{OpenFault, open};
 use flow_base::code::Code;
 use flow_rows::found::{Damage, Table};
+use flow_tables::create::create;
+use flow_tables::open::{OpenFault, open};
 use sqlite::{Connection, Error, MemStore};
 use std::alloc::Global;
 use std::test::Fail;

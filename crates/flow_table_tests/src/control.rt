@@ -1,6 +1,6 @@
-use crate::control::{begin, commit, rollback, undo};
-use crate::create::create;
-use crate::open::{OpenFault, open};
+use flow_tables::control::{begin, commit, rollback, undo};
+use flow_tables::create::create;
+use flow_tables::open::{OpenFault, open};
 use sqlite::{Alter, Connection, Error};
 use std::test::Fail;
 

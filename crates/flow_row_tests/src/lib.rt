@@ -1,0 +1,11 @@
+//! Tests of `flow_rows`: a small sound store, each rule of the tables broken once, and rows of one thing each.
+#![tactic(auto)]
+
+#[cfg(test)]
+mod damages;
+#[cfg(test)]
+mod recall;
+#[cfg(test)]
+mod single;
+#[cfg(test)]
+mod store;

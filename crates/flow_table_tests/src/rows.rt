@@ -1,0 +1,88 @@
+//! Rows put into tables in memory one by one, and what SQL counts there.
+use flow_base::number::{EventId, RunId};
+use flow_base::text::RawText;
+use flow_rows::rows::{EventRow, OutboxRow, RunRow, TextRow, TimerRow};
+use flow_tables::changes::{insert_event, insert_run, insert_task, insert_text, insert_timer};
+use flow_tables::control::begin;
+use flow_tables::create::create;
+use sqlite::{Connection, Error, MemStore};
+use std::alloc::Global;
+
+pub type Memory = Connection<MemStore>;
+
+/// New tables, in a transaction.
+pub fn no_rows(alloc: Global) -> Result<Memory, Error> {
+    let mut conn = Connection::open_in_memory(alloc)?;
+    create(&mut conn)?;
+    begin(&mut conn)?;
+    Ok(conn)
+}
+
+pub fn count(conn: &mut Memory, sql: &str) -> Result<i64, Error> {
+    conn.query_row(sql, &[])?.get(0)
+}
+
+pub fn add_text(alloc: Global, conn: &mut Memory, num: i64, body: &str) -> Result<(), Error> {
+    let body = RawText::new(alloc, body)?;
+    insert_text(conn, &TextRow { num, body })
+}
+
+/// Adds a run of the text of this number; its flow and its request are named.
+pub fn add_run(
+    alloc: Global,
+    conn: &mut Memory,
+    num: i64,
+    names: (&str, &str),
+    textnum: i64,
+    isopen: i64,
+) -> Result<(), Error> {
+    let flow = RawText::new(alloc, names.0)?;
+    let req = RawText::new(alloc, names.1)?;
+    let row = RunRow {
+        num,
+        flow,
+        req,
+        textnum,
+        isopen,
+    };
+    insert_run(conn, &row)
+}
+
+pub fn add_event(
+    alloc: Global,
+    conn: &mut Memory,
+    run: i64,
+    id: i64,
+    body: &str,
+) -> Result<(), Error> {
+    let body = RawText::new(alloc, body)?;
+    let row = EventRow {
+        run,
+        id,
+        kind: 7,
+        body,
+    };
+    insert_event(conn, &row)
+}
+
+pub fn add_timer(conn: &mut Memory, run: i64, id: i64) -> Result<(), Error> {
+    insert_timer(conn, &TimerRow { run, id, due: 8 })
+}
+
+pub fn add_task(conn: &mut Memory, run: i64, id: i64) -> Result<(), Error> {
+    let row = OutboxRow {
+        run,
+        id,
+        attempt: 3,
+        ready: 9,
+    };
+    insert_task(conn, &row)
+}
+
+pub fn run(number: u64) -> Result<RunId, &'static str> {
+    RunId::new(number).ok_or("no run")
+}
+
+pub fn event(number: u64) -> Result<EventId, &'static str> {
+    EventId::new(number).ok_or("no event")
+}
