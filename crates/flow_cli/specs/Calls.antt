@@ -8,20 +8,24 @@ use Rattle.std.specs.Str.Parse.{digits_value, without_leading_plus}
 
 -- ---- the program: `flow check FILE`, `flow drive DB` and `flow history DB RUN`
 
+-- an argument with one value, which has to be there
+abbrev pub needed : Text → Rule
+needed id = record (new_rule id) { required = true; action = Some Set }
+
 abbrev pub file : Rule
-file = record (new_rule (codes "FILE")) { required = true; action = Some Set }
+file = needed (codes "FILE")
 
 abbrev pub check : App
 check = with_rule (new_app (codes "check")) file
 
 abbrev pub base : Rule
-base = record (new_rule (codes "DB")) { required = true; action = Some Set }
+base = needed (codes "DB")
 
 abbrev pub drive : App
 drive = with_rule (new_app (codes "drive")) base
 
 abbrev pub run : Rule
-run = record (new_rule (codes "RUN")) { required = true; action = Some Set }
+run = needed (codes "RUN")
 
 abbrev pub history : App
 history = with_rule (with_rule (new_app (codes "history")) base) run

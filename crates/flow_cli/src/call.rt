@@ -2,7 +2,8 @@
 ghost use Rattle.std.specs.Prelude.{◌≡◌, ◌⊎◌, IfOk, IfErr, false, map, option_map, option_and_then};
 ghost use Rattle.clap.specs.Words.{app_of, rule_of, found_of, rows_of, first_of, subcommand_rows_of};
 ghost use Rattle.clap.specs.declared.builder.command.Command.TheViews.{out-Command as fields_of};
-ghost use Rattle.flow_cli.specs.Calls.{flow, check, drive, history, file, base, run, run_in, history_in, named_call, IsCall};
+ghost use Rattle.clap.specs.declared.error.kind.ErrorKind.TheVariants.{OutOfMemory};
+ghost use Rattle.flow_cli.specs.Calls.{flow, check, drive, history, needed, run_in, history_in, named_call, IsCall};
 ghost use Rattle.flow_cli.specs.Calls.{Call as Pure};
 ghost use Rattle.flow_cli.specs.Shown.{shown};
 
@@ -24,41 +25,26 @@ pub enum Call<'a> {
     History(&'a str, RunId),
 }
 
-fn file_arg<'a>(alloc: Global) -> Arg<'a>
-    ensures rule { rule_of result ≡ file }
+/// An argument with one value, which has to be there.
+fn needed_arg<'a>(alloc: Global, id: &'a str) -> Arg<'a>
+    ensures rule { rule_of result ≡ needed id.entry.now }
     ensures local { result.global ≡ false }
 {
-    Arg::new(alloc, "FILE")
-        .required(true)
-        .action(ArgAction::Set)
+    Arg::new(alloc, id).required(true).action(ArgAction::Set)
 }
 
 fn check_command<'a>(alloc: Global) -> Result<Command<'a>, AllocError>
     ensures app { IfOk result (λ c. app_of c ≡ check) }
     ensures local { IfOk result (λ c. (fields_of c).has_globals ≡ false) }
 {
-    Ok(Command::new(alloc, "check").arg(file_arg(alloc))?)
-}
-
-fn base_arg<'a>(alloc: Global) -> Arg<'a>
-    ensures rule { rule_of result ≡ base }
-    ensures local { result.global ≡ false }
-{
-    Arg::new(alloc, "DB").required(true).action(ArgAction::Set)
+    Ok(Command::new(alloc, "check").arg(needed_arg(alloc, "FILE"))?)
 }
 
 fn drive_command<'a>(alloc: Global) -> Result<Command<'a>, AllocError>
     ensures app { IfOk result (λ c. app_of c ≡ drive) }
     ensures local { IfOk result (λ c. (fields_of c).has_globals ≡ false) }
 {
-    Ok(Command::new(alloc, "drive").arg(base_arg(alloc))?)
-}
-
-fn run_arg<'a>(alloc: Global) -> Arg<'a>
-    ensures rule { rule_of result ≡ run }
-    ensures local { result.global ≡ false }
-{
-    Arg::new(alloc, "RUN").required(true).action(ArgAction::Set)
+    Ok(Command::new(alloc, "drive").arg(needed_arg(alloc, "DB"))?)
 }
 
 fn history_command<'a>(alloc: Global) -> Result<Command<'a>, AllocError>
@@ -67,8 +53,8 @@ fn history_command<'a>(alloc: Global) -> Result<Command<'a>, AllocError>
 {
     Ok(
         Command::new(alloc, "history")
-            .arg(base_arg(alloc))?
-            .arg(run_arg(alloc))?,
+            .arg(needed_arg(alloc, "DB"))?
+            .arg(needed_arg(alloc, "RUN"))?,
     )
 }
 
@@ -139,6 +125,16 @@ fn matched_call<'a>(found: &ArgMatches<'a>) -> Option<Call<'a>>
     }
 }
 
+fn fault_of_kind(kind: ErrorKind) -> Fault
+    ensures memory { kind ≡ OutOfMemory → result ≡ Fault.NoMemory }
+    ensures usage { (result ≡ Fault.NoMemory) ⊎ (result ≡ Fault.BadUsage) }
+{
+    match kind {
+        ErrorKind::OutOfMemory => Fault::NoMemory,
+        _ => Fault::BadUsage,
+    }
+}
+
 /// The call that the words are; the first word is the program's own.
 ///
 /// # Failure
@@ -158,9 +154,6 @@ pub fn call_of<'a, S: AsStr>(alloc: Global, words: &'a [S]) -> Result<Call<'a>, 
             Some(call) => Ok(call),
             None => Err(Fault::BadUsage),
         },
-        Err(e) => match e.kind() {
-            ErrorKind::OutOfMemory => Err(Fault::NoMemory),
-            _ => Err(Fault::BadUsage),
-        },
+        Err(error) => Err(fault_of_kind(error.kind())),
     }
 }
