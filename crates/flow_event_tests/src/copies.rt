@@ -74,7 +74,10 @@ fn sum(alloc: Global) -> Result<Expr, Fail> {
 
 /// Whether it gives a variable the sum of two expressions.
 fn is_let_of_sum(statement: &Stmt) -> bool {
-    matches!(statement, Stmt::Let(0, 4, _, Expr::Binary(Binary::Add, _, _)))
+    matches!(
+        statement,
+        Stmt::Let(0, 4, _, Expr::Binary(Binary::Add, _, _))
+    )
 }
 
 #[test]

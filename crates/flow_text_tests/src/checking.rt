@@ -49,7 +49,10 @@ const BROKEN: [(&str, Code, usize); 8] = [
 #[test]
 fn the_first_broken_rule_is_named(rt: HostRuntime) -> Result<(), Fail> {
     for (text, code, at) in BROKEN {
-        assert!(&rt; broken(rt.alloc(), text)? == Some((code, Some(at))), "{text}");
+        assert!(&rt;
+            broken(rt.alloc(), text)? == Some((code, Some(at))),
+            "{text}"
+        );
     }
     Ok(())
 }
@@ -95,10 +98,7 @@ fn names_are_at_most_256(rt: HostRuntime) -> Result<(), Fail> {
 }
 
 /// The same of a program with an activity that takes so many numbers and one more.
-fn broken_with_types(
-    alloc: Global,
-    count: usize,
-) -> Result<Option<(Code, Option<usize>)>, Fail> {
+fn broken_with_types(alloc: Global, count: usize) -> Result<Option<(Code, Option<usize>)>, Fail> {
     let takes = "int, ".repeat(alloc, count)?;
     let text = format!(in alloc; "workflow x() {{ activity f({takes}int) -> int; }}")?;
     broken(alloc, text.as_str())

@@ -118,7 +118,10 @@ fn expressions_have_limits(rt: HostRuntime) -> Result<(), Fail> {
         (["", "1", " + 1"], 64, None),
         (["", "1", " + 1"], 65, Some((Code::TooDeep, Some(280)))),
     ] {
-        assert!(&rt; fault_of_expression(rt.alloc(), parts, times)? == wanted, "{times}");
+        assert!(&rt;
+            fault_of_expression(rt.alloc(), parts, times)? == wanted,
+            "{times}"
+        );
     }
     Ok(())
 }
@@ -135,8 +138,14 @@ fn fault_behind_spaces(
 
 #[test]
 fn programs_have_65536_bytes_at_most(rt: HostRuntime) -> Result<(), Fail> {
-    for (spaces, wanted) in [(65510, None), (65511, Some((Code::TextTooLong, Some(65536))))] {
-        assert!(&rt; fault_behind_spaces(rt.alloc(), spaces)? == wanted, "{spaces}");
+    for (spaces, wanted) in [
+        (65510, None),
+        (65511, Some((Code::TextTooLong, Some(65536)))),
+    ] {
+        assert!(&rt;
+            fault_behind_spaces(rt.alloc(), spaces)? == wanted,
+            "{spaces}"
+        );
     }
     Ok(())
 }
@@ -164,7 +173,10 @@ fn names_and_texts_have_limits(rt: HostRuntime) -> Result<(), Fail> {
         (text, 4096, None),
         (text, 4097, Some((Code::BadToken, Some(22)))),
     ] {
-        assert!(&rt; fault_of_long_word(rt.alloc(), parts, bytes)? == wanted, "{bytes}");
+        assert!(&rt;
+            fault_of_long_word(rt.alloc(), parts, bytes)? == wanted,
+            "{bytes}"
+        );
     }
     Ok(())
 }

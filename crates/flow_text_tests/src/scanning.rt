@@ -49,10 +49,7 @@ const CUT: [(&str, &str); 29] = [
         "let a_1 = 42;",
         "Let 0 3, name a_1 4 7, Assign 8 9, int 42 10 12, Semicolon 12 13, ",
     ),
-    (
-        "\t\r\n \"h\u{e9}\" _x",
-        "text h\u{e9} 4 9, name _x 10 12, ",
-    ),
+    ("\t\r\n \"h\u{e9}\" _x", "text h\u{e9} 4 9, name _x 10 12, "),
     ("", ""),
     ("iff if", "name iff 0 3, If 4 6, "),
     ("7a", "int 7 0 1, name a 1 2, "),
@@ -75,10 +72,7 @@ const CUT: [(&str, &str); 29] = [
     ("##\n# \u{e9}", ""),
     ("\"#\"#\n1", "text # 0 3, int 1 5 6, "),
     // Escapes.
-    (
-        r#""a\"b\\c\n" 1"#,
-        "text a\"b\\c\n 0 11, int 1 12 13, ",
-    ),
+    (r#""a\"b\\c\n" 1"#, "text a\"b\\c\n 0 11, int 1 12 13, "),
     (r#" "\t""#, "E10 at 1"),
     (r#""\"#, "E10 at 0"),
     ("1 \"a", "int 1 0 1, E10 at 2"),
@@ -104,7 +98,8 @@ const CUT: [(&str, &str); 29] = [
 
 #[test]
 fn texts_are_cut_into_tokens(rt: HostRuntime) -> Result<(), Fail> {
-    for (text, wanted) in CUT {
+    for row in &CUT {
+        let (text, wanted) = *row;
         assert!(&rt; is_cut_as(rt.alloc(), text, wanted)?, "{text}");
     }
     Ok(())
@@ -127,17 +122,16 @@ fn tokens_before_a_fault_are_kept(rt: HostRuntime) -> Result<(), Fail> {
 fn names_have_64_bytes_at_most(rt: HostRuntime) -> Result<(), Fail> {
     for (bytes, wanted) in [(64, (1, None)), (65, (0, Some(0)))] {
         let name = "n".repeat(rt.alloc(), bytes)?;
-        assert!(&rt; count_and_fault(rt.alloc(), name.as_str())? == wanted, "{bytes}");
+        assert!(&rt;
+            count_and_fault(rt.alloc(), name.as_str())? == wanted,
+            "{bytes}"
+        );
     }
     Ok(())
 }
 
 /// The same of a text in quotes behind a space, which has so many escaped line feeds and then this end.
-fn of_line_feeds(
-    alloc: Global,
-    count: usize,
-    end: &str,
-) -> Result<(usize, Option<usize>), Fail> {
+fn of_line_feeds(alloc: Global, count: usize, end: &str) -> Result<(usize, Option<usize>), Fail> {
     let value = "\\n".repeat(alloc, count)?;
     let text = format!(in alloc; " \"{value}{end}\"")?;
     count_and_fault(alloc, text.as_str())

@@ -1,5 +1,4 @@
-use Rattle.std.proofs.Common.{ℕ, List, ◌∷◌, ◌++◌, map, ap, sym, subst, string_bytes, ◌∙◌}
-use Rattle.flow_base.specs.declared.token.Word.TheVariants as word
+use Rattle.std.proofs.Common.{ℕ, List, ◌++◌, ap, sym, subst, string_bytes, ◌∙◌}
 use Rattle.flow_model.specs.Lexeme.{lexemes}
 use Rattle.flow_base.specs.Shown.{shown_program}
 use Rattle.flow_syntax.specs.Print.{spaced, words_behind_keyword, program_words, HasTokens}
