@@ -46,14 +46,20 @@ const BROKEN: [(&str, Code, usize); 8] = [
     ),
 ];
 
+/// The number of the first program that breaks another rule, or breaks it at another place.
+fn first_other(alloc: Global, rows: &[(&str, Code, usize)]) -> Result<Option<usize>, Fail> {
+    for i in 0..rows.len() {
+        let (text, code, at) = rows[i];
+        if broken(alloc, text)? != Some((code, Some(at))) {
+            return Ok(Some(i));
+        }
+    }
+    Ok(None)
+}
+
 #[test]
 fn the_first_broken_rule_is_named(rt: HostRuntime) -> Result<(), Fail> {
-    for (text, code, at) in BROKEN {
-        assert!(&rt;
-            broken(rt.alloc(), text)? == Some((code, Some(at))),
-            "{text}"
-        );
-    }
+    assert_eq!(rt; first_other(rt.alloc(), &BROKEN)?, None);
     Ok(())
 }
 

@@ -46,11 +46,20 @@ const FAULTS: [(&str, Code, usize); 12] = [
     ),
 ];
 
+/// The number of the first text that has another fault.
+fn first_other_fault(alloc: Global, rows: &[(&str, Code, usize)]) -> Option<usize> {
+    for i in 0..rows.len() {
+        let (text, code, at) = rows[i];
+        if fault(alloc, text) != Some((code, Some(at))) {
+            return Some(i);
+        }
+    }
+    None
+}
+
 #[test]
 fn names_the_first_fault(rt: HostRuntime) {
-    for (text, code, at) in FAULTS {
-        assert!(&rt; fault(rt.alloc(), text) == Some((code, Some(at))), "{text}");
-    }
+    assert_eq!(rt; first_other_fault(rt.alloc(), &FAULTS), None);
 }
 
 /// Programs, each with what it prints as.
@@ -89,11 +98,20 @@ fn is_printed_as(alloc: Global, text: &str, wanted: &str) -> Result<bool, Fail> 
     Ok(once.as_str() == wanted && twice.as_str() == wanted)
 }
 
+/// The number of the first program that prints otherwise.
+fn first_other_print(alloc: Global, rows: &[(&str, &str)]) -> Result<Option<usize>, Fail> {
+    for i in 0..rows.len() {
+        let (text, wanted) = rows[i];
+        if !is_printed_as(alloc, text, wanted)? {
+            return Ok(Some(i));
+        }
+    }
+    Ok(None)
+}
+
 #[test]
 fn prints_its_tokens(rt: HostRuntime) -> Result<(), Fail> {
-    for (text, wanted) in PRINTED {
-        assert!(&rt; is_printed_as(rt.alloc(), text, wanted)?, "{text}");
-    }
+    assert_eq!(rt; first_other_print(rt.alloc(), &PRINTED)?, None);
     Ok(())
 }
 
@@ -202,11 +220,23 @@ const DEEP: [(&str, usize, Option<usize>); 10] = [
     ("+ { } ", 70, None),
 ];
 
+/// The number of the first row whose words pass the limit elsewhere.
+fn first_other_depth(
+    alloc: Global,
+    rows: &[(&str, usize, Option<usize>)],
+) -> Result<Option<usize>, Fail> {
+    for i in 0..rows.len() {
+        let (word, count, wanted) = rows[i];
+        if too_deep(alloc, word, count)? != wanted {
+            return Ok(Some(i));
+        }
+    }
+    Ok(None)
+}
+
 #[test]
 fn each_bracket_counts(rt: HostRuntime) -> Result<(), Fail> {
-    for (word, count, wanted) in DEEP {
-        assert!(&rt; too_deep(rt.alloc(), word, count)? == wanted, "{word}");
-    }
+    assert_eq!(rt; first_other_depth(rt.alloc(), &DEEP)?, None);
     Ok(())
 }
 
@@ -216,13 +246,23 @@ const OPERATORS: [&str; 17] = [
     "% ", "text ", "len ",
 ];
 
+/// Whether 64 of an operator may stand, and the 65th is where the limit is passed.
+fn is_counted(alloc: Global, operator: &str) -> Result<bool, Fail> {
+    let most = operator.repeat(alloc, 64)?;
+    Ok(too_deep(alloc, operator, 64)? == None && too_deep(alloc, operator, 65)? == Some(most.len()))
+}
+
+fn first_uncounted(alloc: Global, operators: &[&str]) -> Result<Option<usize>, Fail> {
+    for i in 0..operators.len() {
+        if !is_counted(alloc, operators[i])? {
+            return Ok(Some(i));
+        }
+    }
+    Ok(None)
+}
+
 #[test]
 fn each_operator_counts(rt: HostRuntime) -> Result<(), Fail> {
-    let alloc = rt.alloc();
-    for operator in OPERATORS {
-        assert!(&rt; too_deep(alloc, operator, 64)? == None, "{operator}");
-        let place = 64 * operator.len();
-        assert!(&rt; too_deep(alloc, operator, 65)? == Some(place), "{operator}");
-    }
+    assert_eq!(rt; first_uncounted(rt.alloc(), &OPERATORS)?, None);
     Ok(())
 }
