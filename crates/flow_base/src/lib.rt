@@ -11,8 +11,6 @@ pub mod names;
 pub mod number;
 pub mod sequence;
 pub mod syntax;
-#[cfg(test)]
-mod tests;
 pub mod text;
 pub mod token;
 pub mod value;

@@ -11,6 +11,4 @@ pub mod laws;
 pub mod names;
 pub mod scope;
 pub mod statement;
-#[cfg(test)]
-mod tests;
 pub mod texts;

@@ -1,11 +1,14 @@
 -- How what the parts of a production gave makes what it gives, over plain variables.
-use Rattle.std.proofs.Common.{◌≡◌, ◌∙◌, ℕ, suc, List, [], ◌∷◌, ◌++◌, length, refl, ap, sym, append_assoc}
+use Rattle.std.proofs.Common.{◌≡◌, ◌∙◌, ℕ, suc, List, [], ◌∷◌, ◌++◌, length, refl, ap, sym, subst, append_assoc}
 use Rattle.std.proofs.lemmas.List.{append-nil}
+use Rattle.flow_base.specs.declared.token.Word.TheVariants as word
+use Rattle.flow_base.specs.declared.token.Mark.{Mark}
 use Rattle.flow_model.specs.Lexeme.{Lexeme}
+use Rattle.flow_model.specs.Grammar.{marked}
 use Rattle.flow_syntax.specs.declared.fault.Stop.{Stop}
 use Rattle.flow_syntax.specs.declared.fault.Stop.TheVariants.{NoMemory, Unexpected}
 use Rattle.flow_syntax.specs.Machine.{Symbol, fault}
-use Rattle.flow_syntax.specs.Parsing.{Parsed, StopsAt}
+use Rattle.flow_syntax.specs.Parsing.{Parsed, StopsAt, IsNoMark, LacksMark, Lacks}
 
 -- A stop in a part is a stop of the whole.
 pub stops_in : (s s' : Symbol) (ts ts' : List Lexeme) (owes : List Symbol → List Symbol) → ((owed : List Symbol) → fault (s ∷ owed) ts ≡ fault (s' ∷ owes owed) ts') → (stop : Stop) → StopsAt s' ts' stop → StopsAt s ts stop
@@ -30,3 +33,15 @@ pub so_next : {R P M X Y Z : Type 0} (s : Symbol) (part : P → List Lexeme) (pa
 so_next s part part_of tokens more_tokens of with join step e z f ts rest next y so p = λ more end g.
     let r = so (step p.0 more) end (ap (λ v. v ++ end) (e p.0 more) ∙ append_assoc (part p.0) (more_tokens more) end ∙ ap (λ v. part p.0 ++ v) g ∙ p.1) in
     (r.0, r.1, r.2 ∙ f p.0 more ∙ ap (λ v. with (join z v) more) p.2)
+
+-- Tokens that do not begin with a mark do not begin with this one.
+pub lacks_no_mark : (m : Mark) (ts : List Lexeme) → LacksMark ts → Lacks m ts
+lacks_no_mark m [] h = tt
+lacks_no_mark m (t ∷ ts) h = λ e. subst IsNoMark e h
+
+same_mark : (m n : Mark) → word.Mark m ≡ word.Mark n → m ≡ n
+same_mark m n e = cc
+
+-- Nor do those that begin with another mark.
+pub lacks_other : (m n : Mark) (at : ℕ) (ts rest : List Lexeme) → ts ≡ marked at n ∷ rest → (n ≡ m → ⊥) → Lacks m ts
+lacks_other m n at ts rest e h = subst (Lacks m) (sym e) (λ g. h (same_mark n m g))

@@ -211,9 +211,11 @@ abbrev pub declarations_words : List Declared → List Word
 declarations_words [] = []
 declarations_words (d ∷ ds) = declared_words d ++ declarations_words ds
 
+abbrev pub words_behind_keyword : Program → List Word
+words_behind_keyword p = Name p.name ∷ (listed (map parameter_words p.parameters) ++ in_braces (declarations_words p.declarations ++ block_words p.body))
+
 abbrev pub program_words : Program → List Word
-program_words p =
-    Mark mark.Workflow ∷ Name p.name ∷ (listed (map parameter_words p.parameters) ++ in_braces (declarations_words p.declarations ++ block_words p.body))
+program_words p = Mark mark.Workflow ∷ words_behind_keyword p
 
 ---- Bytes
 

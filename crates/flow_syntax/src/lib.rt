@@ -12,5 +12,3 @@ pub mod print;
 pub mod printer;
 pub mod program;
 pub mod statement;
-#[cfg(test)]
-mod tests;

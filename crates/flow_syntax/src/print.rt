@@ -3,7 +3,7 @@ ghost use Rattle.std.specs.Prelude.{◌≡◌, ◌≤◌, ◌∷◌, ◌++◌, m
 ghost use Rattle.flow_base.specs.Syntax.{Bytes, Let, Assign, Call, Return, NoElse, once, Activity};
 ghost use Rattle.flow_base.specs.Shown.{shown_expr, shown_stmt, shown_block, shown_declaration, shown_program};
 ghost use Rattle.flow_model.specs.Meaning.{IsProgramOf};
-ghost use Rattle.flow_syntax.specs.Print.{spaced, fitted, in_parentheses, level, unary_words, expression_words, arguments_words, type_words, parameter_words, statement_words, block_words, declared_words, declarations_words, program_words, joined, AreReadAs, ArePrintable, HasTokens, IsTextOf, IsProgramAgain, HasLeastWords};
+ghost use Rattle.flow_syntax.specs.Print.{spaced, fitted, in_parentheses, level, unary_words, expression_words, arguments_words, type_words, parameter_words, statement_words, block_words, declared_words, declarations_words, words_behind_keyword, program_words, joined, AreReadAs, ArePrintable, HasTokens, IsTextOf, IsProgramAgain, HasLeastWords};
 
 use crate::levels::{binary_mark, left_level, level, right_level};
 use crate::listed::{Item, print_list};
@@ -204,6 +204,19 @@ fn declarations(out: &mut Printer, list: &[Declaration]) -> Result<(), AllocErro
     Ok(())
 }
 
+/// A program without its first word.
+fn behind_keyword(out: &mut Printer, program: &Program) -> Result<(), AllocError>
+    ensures { OnOk result (out.new ≡ out.old ++ spaced (words_behind_keyword (shown_program program.now))) }
+{
+    out.name(&program.name)?;
+    print_list(out, &program.parameters)?;
+    out.mark(Mark::BraceOpen)?;
+    declarations(out, &program.declarations)?;
+    statements(out, &program.body)?;
+    out.mark(Mark::BraceClose)?;
+    Ok(())
+}
+
 /// The text of a program: its tokens joined by one space, parentheses only where the grammar needs them. For a program
 /// that [`crate::parse::parse`] gave it is a text of the same program, up to places.
 pub fn print(alloc: Global, program: &Program) -> Result<String, AllocError>
@@ -222,11 +235,6 @@ pub fn print(alloc: Global, program: &Program) -> Result<String, AllocError>
     ensures least { OnOk result (HasLeastWords (shown_program program.now)) }
 {
     let mut out = Printer::new(alloc, "workflow")?;
-    out.name(&program.name)?;
-    print_list(&mut out, &program.parameters)?;
-    out.mark(Mark::BraceOpen)?;
-    declarations(&mut out, &program.declarations)?;
-    statements(&mut out, &program.body)?;
-    out.mark(Mark::BraceClose)?;
+    behind_keyword(&mut out, program)?;
     Ok(out.finish())
 }

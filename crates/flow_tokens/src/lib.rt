@@ -6,8 +6,6 @@ mod keyword;
 mod mark;
 mod run;
 mod scan;
-#[cfg(test)]
-mod tests;
 mod token_list;
 mod words;
 

@@ -1,9 +1,7 @@
-use Rattle.std.proofs.Common.{ℕ, List, ◌∷◌, ◌++◌, map, ap, sym, subst, string_bytes, ◌∙◌}
-use Rattle.flow_base.specs.declared.token.Word.TheVariants as word
+use Rattle.std.proofs.Common.{ℕ, List, ◌++◌, ap, sym, subst, string_bytes, ◌∙◌}
 use Rattle.flow_model.specs.Lexeme.{lexemes}
-use Rattle.flow_base.specs.Shown.{shown_declaration, shown_block, shown_program}
-use Rattle.flow_syntax.specs.Print.{spaced, listed, parameter_words, in_braces, declarations_words, block_words, program_words, HasTokens}
-use Rattle.flow_syntax.proofs.Printing.{words_then}
+use Rattle.flow_base.specs.Shown.{shown_program}
+use Rattle.flow_syntax.specs.Print.{spaced, words_behind_keyword, program_words, HasTokens}
 use Rattle.flow_syntax.proofs.PrintedPrograms.{program_read}
 use Rattle.flow_syntax.proofs.PrintedTokens.{program_scanned}
 use Rattle.flow_syntax.proofs.PrintedAgain.{program_printable, program_again, program_least}
@@ -11,12 +9,9 @@ use Rattle.flow_syntax.proofs.print.print.Goals as goal
 
 pub returns-clause-words : goal.returns-clause-words
 returns-clause-words c =
-    let parameters = rw c.deref.ensures.value at c.in_ok-print_list.ensures in
-    let declarations = rw c.deref-2.ensures.value at c.in_ok-declarations.ensures in
-    let statements = rw c.deref-3.ensures.value at c.in_ok-statements.ensures in
     c.finish.ensures
-    ∙ words_then _ _ _ _ _ c.in_ok-name.ensures (words_then _ _ _ _ _ parameters (words_then _ _ _ _ _ c.in_ok-mark.ensures (words_then _ _ _ _ _ (words_then _ _ _ _ _ declarations statements) c.in_ok-mark-2.ensures)))
-    ∙ ap (λ (t : List ℕ). t ++ spaced (word.Name c.args.program.now.name ∷ (listed (map parameter_words c.args.program.now.parameters.items) ++ in_braces (declarations_words (map shown_declaration c.args.program.now.declarations.items) ++ block_words (shown_block c.args.program.now.body.items))))) c.in_ok-out.ensures
+    ∙ c.in_ok-behind_keyword.ensures
+    ∙ ap (λ (t : List ℕ). t ++ spaced (words_behind_keyword (shown_program c.args.program.now))) c.in_ok-out.ensures
 
 pub returns-clause-tokens : goal.returns-clause-tokens
 returns-clause-tokens c = λ h.

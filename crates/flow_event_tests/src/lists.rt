@@ -1,7 +1,7 @@
 //! A count whose list is for contracts alone.
 ghost use Rattle.std.specs.Prelude.{◌≡◌, ◌+◌, ◌<◌, ◌^◌, [], ◌∷◌, ◌++◌, length};
 
-use crate::list::{Listed, Makes};
+use unseen::{Listed, Makes};
 
 struct Empty;
 

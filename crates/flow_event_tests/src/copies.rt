@@ -1,0 +1,89 @@
+//! Tests of copies: each equals what it copies.
+use flow_base::event::{Cmd, Event, Input, What, copy_events, copy_values};
+use flow_base::number::{EventId, Moment};
+use flow_base::sequence::Sequence;
+use flow_base::syntax::{Binary, Expr, Stmt};
+use flow_base::text::{Key, Text};
+use flow_base::value::{Kind, Value};
+use std::alloc::Global;
+use std::test::Fail;
+
+/// 7 and "eur".
+fn values(alloc: Global) -> Result<Sequence<Value>, Fail> {
+    let mut values = Sequence::new(alloc);
+    values.push(Value::Int(7))?;
+    values.push(Value::Text(Text::new(alloc, "eur")?))?;
+    Ok(values)
+}
+
+fn schedule(alloc: Global) -> Result<Cmd, Fail> {
+    let activity = Key::new(alloc, "charge")?;
+    let values = values(alloc)?;
+    Ok(Cmd::Schedule(activity, values, 1, 0, Kind::Int))
+}
+
+fn moment() -> Result<Moment, Fail> {
+    Ok(Moment::new(1000).ok_or("a moment")?)
+}
+
+fn event(id: u64, what: What) -> Result<Event, Fail> {
+    let at = moment()?;
+    let id = EventId::new(id).ok_or("an event")?;
+    Ok(Event { id, at, what })
+}
+
+#[test]
+fn values_are_copied(rt: HostRuntime) -> Result<(), Fail> {
+    let values = values(rt.alloc())?;
+    let copied = copy_values(rt.alloc(), values.as_slice())?;
+    assert!(rt; copied.len() == 2);
+    Ok(())
+}
+
+#[test]
+fn commands_are_copied(rt: HostRuntime) -> Result<(), Fail> {
+    let command = schedule(rt.alloc())?;
+    assert!(rt; command.copy(rt.alloc())?.is(&command));
+    assert!(rt; !Cmd::StartTimer(moment()?).is(&command));
+    Ok(())
+}
+
+/// A start and what is asked then.
+fn events(alloc: Global) -> Result<Vec<Event>, Fail> {
+    let mut events = Vec::new(alloc);
+    events.push(event(1, What::Came(Input::Started(values(alloc)?)))?)?;
+    events.push(event(2, What::Asked(schedule(alloc)?))?)?;
+    Ok(events)
+}
+
+#[test]
+fn events_are_copied(rt: HostRuntime) -> Result<(), Fail> {
+    let events = events(rt.alloc())?;
+    let copied = copy_events(rt.alloc(), events.as_slice())?;
+    assert!(rt; copied.len() == 2);
+    Ok(())
+}
+
+/// `1 + n`
+fn sum(alloc: Global) -> Result<Expr, Fail> {
+    let one = Box::new(alloc, Expr::Int(8, 1))?;
+    let name = Key::new(alloc, "n")?;
+    let name = Box::new(alloc, Expr::Var(12, name))?;
+    Ok(Expr::Binary(Binary::Add, one, name))
+}
+
+/// Whether it gives a variable the sum of two expressions.
+fn is_let_of_sum(statement: &Stmt) -> bool {
+    matches!(
+        statement,
+        Stmt::Let(0, 4, _, Expr::Binary(Binary::Add, _, _))
+    )
+}
+
+#[test]
+fn trees_are_copied(rt: HostRuntime) -> Result<(), Fail> {
+    let name = Key::new(rt.alloc(), "x")?;
+    let statement = Stmt::Let(0, 4, name, sum(rt.alloc())?);
+    assert!(rt; is_let_of_sum(&statement.copy(rt.alloc())?));
+    Ok(())
+}

@@ -1,0 +1,268 @@
+//! Tests of `parse` and `print`.
+use flow_base::code::Code;
+use flow_syntax::fault::ParseFault;
+use flow_syntax::limits::first_too_deep;
+use flow_syntax::parse::parse;
+use flow_syntax::print::print;
+use flow_tokens::tokens;
+use std::alloc::Global;
+use std::test::Fail;
+
+/// The number and the place of the fault of a text.
+fn fault(alloc: Global, text: &str) -> Option<(Code, Option<usize>)> {
+    match parse(alloc, text) {
+        Ok(_) => None,
+        Err(fault) => Some((fault.code(), fault.at())),
+    }
+}
+
+/// What a program prints as.
+fn printed(alloc: Global, text: &str) -> Result<String, ParseFault> {
+    let program = parse(alloc, text)?;
+    Ok(print(alloc, &program)?)
+}
+
+/// Texts, each with the number and the place of its fault.
+const FAULTS: [(&str, Code, usize); 12] = [
+    ("", Code::Unexpected, 0),
+    ("workflow x( { }", Code::Unexpected, 12),
+    ("workflow x() { let a = 1 ! 2; }", Code::BadToken, 25),
+    ("workflow x() { let a = 1 2 ! }", Code::Unexpected, 25),
+    ("workflow x() { let a = now; }", Code::Unexpected, 23),
+    ("workflow x() { sleep 1; }", Code::Unexpected, 15),
+    (
+        "workflow x() { a = call b() else { }; }",
+        Code::Unexpected,
+        28,
+    ),
+    ("workflow x() { return 1 < 2 < 3; }", Code::Unexpected, 28),
+    ("workflow x() { return 1", Code::Unexpected, 23),
+    ("workflow x() { return 1; } 2", Code::Unexpected, 27),
+    ("workflow x(a: int,) { }", Code::Unexpected, 18),
+    (
+        "workflow x() { let a = 1; activity b() -> int; }",
+        Code::Unexpected,
+        26,
+    ),
+];
+
+/// The number of the first text that has another fault.
+fn first_other_fault(alloc: Global, rows: &[(&str, Code, usize)]) -> Option<usize> {
+    for i in 0..rows.len() {
+        let (text, code, at) = rows[i];
+        if fault(alloc, text) != Some((code, Some(at))) {
+            return Some(i);
+        }
+    }
+    None
+}
+
+#[test]
+fn names_the_first_fault(rt: HostRuntime) {
+    assert_eq!(rt; first_other_fault(rt.alloc(), &FAULTS), None);
+}
+
+/// Programs, each with what it prints as.
+const PRINTED: [(&str, &str); 7] = [
+    ("workflow e() {}", "workflow e ( ) { }"),
+    (
+        "workflow a(n: int) { activity c(int, text) -> int; let r = 0; r = call c(n, \"eur\"); return r + 1; }",
+        "workflow a ( n : int ) { activity c ( int , text ) -> int ; let r = 0 ; r = call c ( n , \"eur\" ) ; return r + 1 ; }",
+    ),
+    (
+        "workflow e() { return (1 + 2) * ((3)) - (4 ++ 5); }",
+        "workflow e ( ) { return ( 1 + 2 ) * 3 - ( 4 ++ 5 ) ; }",
+    ),
+    (
+        "workflow e() { return (not (a == b) and c) or d; }",
+        "workflow e ( ) { return not a == b and c or d ; }",
+    ),
+    (
+        "workflow e() { return (not a) == b and (c and (d or e)); }",
+        "workflow e ( ) { return ( not a ) == b and ( c and ( d or e ) ) ; }",
+    ),
+    (
+        "workflow e() { return -(1) * -(2 + 3) < (4 / (5 % 6)); }",
+        "workflow e ( ) { return - 1 * - ( 2 + 3 ) < 4 / ( 5 % 6 ) ; }",
+    ),
+    (
+        "workflow e() { return text((len(\"a\\n\\\"\\\\\"))); }",
+        "workflow e ( ) { return text ( len ( \"a\\n\\\"\\\\\" ) ) ; }",
+    ),
+];
+
+/// Whether a program prints so, and what is printed prints as itself.
+fn is_printed_as(alloc: Global, text: &str, wanted: &str) -> Result<bool, Fail> {
+    let once = printed(alloc, text)?;
+    let twice = printed(alloc, once.as_str())?;
+    Ok(once.as_str() == wanted && twice.as_str() == wanted)
+}
+
+/// The number of the first program that prints otherwise.
+fn first_other_print(alloc: Global, rows: &[(&str, &str)]) -> Result<Option<usize>, Fail> {
+    for i in 0..rows.len() {
+        let (text, wanted) = rows[i];
+        if !is_printed_as(alloc, text, wanted)? {
+            return Ok(Some(i));
+        }
+    }
+    Ok(None)
+}
+
+#[test]
+fn prints_its_tokens(rt: HostRuntime) -> Result<(), Fail> {
+    assert_eq!(rt; first_other_print(rt.alloc(), &PRINTED)?, None);
+    Ok(())
+}
+
+/// The fault of a program that returns an expression: so often the first part, the second, so often the third.
+fn fault_of_expression(
+    alloc: Global,
+    parts: [&str; 3],
+    times: usize,
+) -> Result<Option<(Code, Option<usize>)>, Fail> {
+    let before = parts[0].repeat(alloc, times)?;
+    let behind = parts[2].repeat(alloc, times)?;
+    let middle = parts[1];
+    let text = format!(in alloc; "workflow e() {{ return {before}{middle}{behind}; }}")?;
+    Ok(fault(alloc, text.as_str()))
+}
+
+#[test]
+fn expressions_have_limits(rt: HostRuntime) -> Result<(), Fail> {
+    for (parts, times, wanted) in [
+        (["(", "1", ")"], 63, None),
+        (["(", "1", ")"], 64, Some((Code::TooDeep, Some(85)))),
+        (["", "1", " + 1"], 64, None),
+        (["", "1", " + 1"], 65, Some((Code::TooDeep, Some(280)))),
+    ] {
+        assert!(&rt;
+            fault_of_expression(rt.alloc(), parts, times)? == wanted,
+            "{times}"
+        );
+    }
+    Ok(())
+}
+
+/// The fault of a program of 26 bytes with so many spaces behind it.
+fn fault_behind_spaces(
+    alloc: Global,
+    spaces: usize,
+) -> Result<Option<(Code, Option<usize>)>, Fail> {
+    let end = " ".repeat(alloc, spaces)?;
+    let text = format!(in alloc; "workflow e() {{ return 1; }}{end}")?;
+    Ok(fault(alloc, text.as_str()))
+}
+
+#[test]
+fn programs_have_65536_bytes_at_most(rt: HostRuntime) -> Result<(), Fail> {
+    for (spaces, wanted) in [
+        (65510, None),
+        (65511, Some((Code::TextTooLong, Some(65536)))),
+    ] {
+        assert!(&rt;
+            fault_behind_spaces(rt.alloc(), spaces)? == wanted,
+            "{spaces}"
+        );
+    }
+    Ok(())
+}
+
+/// The fault of a program with a word of so many bytes between its two parts.
+fn fault_of_long_word(
+    alloc: Global,
+    parts: [&str; 2],
+    bytes: usize,
+) -> Result<Option<(Code, Option<usize>)>, Fail> {
+    let word = "n".repeat(alloc, bytes)?;
+    let before = parts[0];
+    let behind = parts[1];
+    let text = format!(in alloc; "{before}{word}{behind}")?;
+    Ok(fault(alloc, text.as_str()))
+}
+
+#[test]
+fn names_and_texts_have_limits(rt: HostRuntime) -> Result<(), Fail> {
+    let name = ["workflow ", "() { }"];
+    let text = ["workflow e() { return \"", "\"; }"];
+    for (parts, bytes, wanted) in [
+        (name, 64, None),
+        (name, 65, Some((Code::BadToken, Some(9)))),
+        (text, 4096, None),
+        (text, 4097, Some((Code::BadToken, Some(22)))),
+    ] {
+        assert!(&rt;
+            fault_of_long_word(rt.alloc(), parts, bytes)? == wanted,
+            "{bytes}"
+        );
+    }
+    Ok(())
+}
+
+/// The place at which so many words pass a limit.
+fn too_deep(alloc: Global, word: &str, count: usize) -> Result<Option<usize>, Fail> {
+    let text = word.repeat(alloc, count)?;
+    let found = tokens(alloc, text.as_str())?;
+    Ok(first_too_deep(&found.list).map(|(at, _)| at))
+}
+
+/// Words, each with a number of them and the place at which that many pass the limit of brackets or operators.
+const DEEP: [(&str, usize, Option<usize>); 10] = [
+    ("(", 64, None),
+    ("(", 65, Some(64)),
+    ("{", 64, None),
+    ("{", 65, Some(64)),
+    ("({", 32, None),
+    ("({", 33, Some(64)),
+    ("({})", 70, None),
+    ("+ , ", 70, None),
+    ("+ ; ", 70, None),
+    ("+ { } ", 70, None),
+];
+
+/// The number of the first row whose words pass the limit elsewhere.
+fn first_other_depth(
+    alloc: Global,
+    rows: &[(&str, usize, Option<usize>)],
+) -> Result<Option<usize>, Fail> {
+    for i in 0..rows.len() {
+        let (word, count, wanted) = rows[i];
+        if too_deep(alloc, word, count)? != wanted {
+            return Ok(Some(i));
+        }
+    }
+    Ok(None)
+}
+
+#[test]
+fn each_bracket_counts(rt: HostRuntime) -> Result<(), Fail> {
+    assert_eq!(rt; first_other_depth(rt.alloc(), &DEEP)?, None);
+    Ok(())
+}
+
+/// Each operator, with a space behind it.
+const OPERATORS: [&str; 17] = [
+    "or ", "and ", "not ", "== ", "!= ", "< ", "<= ", "> ", ">= ", "+ ", "- ", "++ ", "* ", "/ ",
+    "% ", "text ", "len ",
+];
+
+/// Whether 64 of an operator may stand, and the 65th is where the limit is passed.
+fn is_counted(alloc: Global, operator: &str) -> Result<bool, Fail> {
+    let most = operator.repeat(alloc, 64)?;
+    Ok(too_deep(alloc, operator, 64)? == None && too_deep(alloc, operator, 65)? == Some(most.len()))
+}
+
+fn first_uncounted(alloc: Global, operators: &[&str]) -> Result<Option<usize>, Fail> {
+    for i in 0..operators.len() {
+        if !is_counted(alloc, operators[i])? {
+            return Ok(Some(i));
+        }
+    }
+    Ok(None)
+}
+
+#[test]
+fn each_operator_counts(rt: HostRuntime) -> Result<(), Fail> {
+    assert_eq!(rt; first_uncounted(rt.alloc(), &OPERATORS)?, None);
+    Ok(())
+}
