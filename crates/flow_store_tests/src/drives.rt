@@ -1,55 +1,26 @@
-//! Lists of batches over a store in memory, with ample memory.
-use crate::done::Done;
-use crate::drive::drive;
-use crate::engine::Engine;
+//! Lists of batches driven over a store in memory, with ample memory.
+use crate::fixtures::{complete, register, register_text, start, start_with};
 use flow_base::code::Code;
 use flow_base::command::{Command, Reply};
 use flow_base::event::{Cmd, Event, What};
-use flow_base::number::{EventId, Moment, RunId, TextNo};
+use flow_base::number::RunId;
 use flow_base::sequence::Sequence;
-use flow_base::text::{Key, RawText};
 use flow_base::value::Value;
 use flow_commit::batch::Batch;
+use flow_engine::done::Done;
+use flow_engine::drive::drive;
+use flow_engine::engine::Engine;
 use flow_machine::taken::Taken;
-use flow_recover::fault::OpeningFault;
-use sqlite::{Alter, Connection, MemStore};
+use sqlite::{Connection, MemStore};
 use std::alloc::Global;
 use std::test::Fail;
 
-const A: &str =
-    "workflow a(n: int) { activity c(int, text) -> int; let r = 0; r = call c(n, \"eur\"); return r + 1; }";
-
-fn register(alloc: Global) -> Result<Command, Fail> {
-    Ok(Command::Register(RawText::new(alloc, A)?))
-}
-
 fn register_empty(alloc: Global) -> Result<Command, Fail> {
-    Ok(Command::Register(RawText::new(alloc, "workflow e() {}")?))
+    register_text(alloc, "workflow e() {}")
 }
 
 fn start_empty(alloc: Global) -> Result<Command, Fail> {
-    let text = TextNo::new(1).ok_or("no text")?;
-    let at = Moment::new(0).ok_or("no moment")?;
-    let request = Key::new(alloc, "q")?;
-    let flow = Key::new(alloc, "f")?;
-    let arguments = Sequence::from_vec(Vec::new(alloc));
-    Ok(Command::Start(request, flow, text, arguments, at))
-}
-
-fn start(alloc: Global) -> Result<Command, Fail> {
-    let text = TextNo::new(1).ok_or("no text")?;
-    let at = Moment::new(1000).ok_or("no moment")?;
-    let arguments = Sequence::from_vec(vec![in alloc; Value::Int(7)]?);
-    let request = Key::new(alloc, "q")?;
-    let flow = Key::new(alloc, "f")?;
-    Ok(Command::Start(request, flow, text, arguments, at))
-}
-
-fn complete() -> Result<Command, Fail> {
-    let run = RunId::new(1).ok_or("no run")?;
-    let event = EventId::new(2).ok_or("no event")?;
-    let at = Moment::new(1500).ok_or("no moment")?;
-    Ok(Command::Complete(run, event, 1, Value::Int(41), at))
+    start_with(alloc, "f", Sequence::from_vec(Vec::new(alloc)))
 }
 
 fn history() -> Result<Command, Fail> {
@@ -65,7 +36,7 @@ fn batch(alloc: Global, ticket: u64, command: Command) -> Result<Batch, Fail> {
 
 fn begun(alloc: Global) -> Result<Vec<Batch>, Fail> {
     let first = batch(alloc, 7, register(alloc)?)?;
-    let second = batch(alloc, 5, start(alloc)?)?;
+    let second = batch(alloc, 5, start(alloc, "f")?)?;
     Ok(vec![in alloc; first, second]?)
 }
 
@@ -76,8 +47,8 @@ fn ended_at_once(alloc: Global) -> Result<Vec<Batch>, Fail> {
 }
 
 fn reported(alloc: Global) -> Result<Vec<Batch>, Fail> {
-    let first = batch(alloc, 3, complete()?)?;
-    let second = batch(alloc, 1, complete()?)?;
+    let first = batch(alloc, 3, complete(1)?)?;
+    let second = batch(alloc, 1, complete(1)?)?;
     Ok(vec![in alloc; first, second]?)
 }
 
@@ -86,18 +57,58 @@ fn asked(alloc: Global) -> Result<Vec<Batch>, Fail> {
     Ok(vec![in alloc; first]?)
 }
 
-fn opened<S: Alter + Drop>(alloc: Global, conn: Connection<S>) -> Result<Engine<S>, Fail> {
+// What came of two lists, one driven after the other by an engine over the store.
+#[derive(Drop)]
+struct Driven {
+    first: Vec<Done>,
+    second: Vec<Done>,
+    is_halted: bool,
+}
+
+fn drive_twice(
+    engine: &mut Engine<MemStore>,
+    first: Vec<Batch>,
+    second: Vec<Batch>,
+) -> Result<Driven, Fail> {
+    match drive(engine, first) {
+        Ok(first) => match drive(engine, second) {
+            Ok(second) => Ok(Driven {
+                first,
+                second,
+                is_halted: engine.is_halted(),
+            }),
+            Err((_, _)) => Err(Fail::from("no room")),
+        },
+        Err((_, _)) => Err(Fail::from("no room")),
+    }
+}
+
+fn drive_over(
+    alloc: Global,
+    conn: Connection<MemStore>,
+    first: Vec<Batch>,
+    second: Vec<Batch>,
+) -> Result<(Driven, Connection<MemStore>), Fail> {
     match Engine::open(alloc, conn) {
-        Ok(engine) => Ok(engine),
+        Ok(engine) => {
+            let mut engine = engine;
+            let driven = drive_twice(&mut engine, first, second);
+            let conn = engine.close();
+            match driven {
+                Ok(driven) => Ok((driven, conn)),
+                Err(fail) => Err(fail),
+            }
+        }
         Err((_, _)) => Err(Fail::from("not opened")),
     }
 }
 
-fn driven<S: Alter>(engine: &mut Engine<S>, batches: Vec<Batch>) -> Result<Vec<Done>, Fail> {
-    match drive(engine, batches) {
-        Ok(dones) => Ok(dones),
-        Err((_, _)) => Err(Fail::from("no room")),
-    }
+fn driven_anew(
+    alloc: Global,
+    first: Vec<Batch>,
+    second: Vec<Batch>,
+) -> Result<(Driven, Connection<MemStore>), Fail> {
+    drive_over(alloc, Connection::open_in_memory(alloc)?, first, second)
 }
 
 // The reply to a batch that was kept with this ticket and at this place.
@@ -159,90 +170,82 @@ fn is_end(event: &Event) -> bool {
     }
 }
 
-fn events_now<S: Alter>(alloc: Global, engine: &mut Engine<S>, place: u64) -> Result<usize, Fail> {
-    let dones = driven(engine, asked(alloc)?)?;
-    Ok(events(dones.as_slice(), place))
-}
-
-fn begin<S: Alter>(alloc: Global, engine: &mut Engine<S>) -> Result<bool, Fail> {
-    let dones = driven(engine, begun(alloc)?)?;
-    Ok(is_begun(dones.as_slice()))
-}
-
-fn report<S: Alter>(
-    alloc: Global,
-    engine: &mut Engine<S>,
-    place: u64,
-    next: u64,
-) -> Result<bool, Fail> {
-    let dones = driven(engine, reported(alloc)?)?;
-    Ok(is_reported(dones.as_slice(), place, next))
-}
-
 #[test]
 fn batches_of_one_are_kept(rt: HostRuntime) -> Result<(), Fail> {
     let alloc = rt.alloc();
-    let mut engine = opened(alloc, Connection::open_in_memory(alloc)?)?;
-    assert!(rt; begin(alloc, &mut engine)?);
-    assert!(rt; report(alloc, &mut engine, 3, 4)?);
-    assert!(rt; !engine.is_halted());
+    let (driven, _) = driven_anew(alloc, begun(alloc)?, reported(alloc)?)?;
+    assert!(rt; is_begun(driven.first.as_slice()));
+    assert!(rt; is_reported(driven.second.as_slice(), 3, 4));
+    assert!(rt; !driven.is_halted);
     Ok(())
 }
 
 #[test]
 fn no_batch_has_no_answer(rt: HostRuntime) -> Result<(), Fail> {
     let alloc = rt.alloc();
-    let mut engine = opened(alloc, Connection::open_in_memory(alloc)?)?;
-    let dones = driven(&mut engine, Vec::new(alloc))?;
-    assert!(rt; dones.is_empty());
+    let (driven, _) = driven_anew(alloc, Vec::new(alloc), Vec::new(alloc))?;
+    assert!(rt; driven.first.is_empty() && driven.second.is_empty());
     Ok(())
+}
+
+// A store with a run that waits on its activity.
+fn waiting(alloc: Global) -> Result<Connection<MemStore>, Fail> {
+    let (_, conn) = driven_anew(alloc, begun(alloc)?, Vec::new(alloc))?;
+    Ok(conn)
 }
 
 #[test]
 fn an_open_run_is_there_again(rt: HostRuntime) -> Result<(), Fail> {
     let alloc = rt.alloc();
-    let mut engine = opened(alloc, Connection::open_in_memory(alloc)?)?;
-    assert!(rt; begin(alloc, &mut engine)?);
-    let mut again = opened(alloc, engine.close())?;
-    assert_eq!(rt; events_now(alloc, &mut again, 1)?, 2);
+    let batches = asked(alloc)?;
+    let (driven, _) = drive_over(alloc, waiting(alloc)?, batches, Vec::new(alloc))?;
+    assert_eq!(rt; events(driven.first.as_slice(), 1), 2);
     Ok(())
+}
+
+// A store with a run that has ended by its report.
+fn ended(alloc: Global) -> Result<(Driven, Connection<MemStore>), Fail> {
+    let batches = reported(alloc)?;
+    drive_over(alloc, waiting(alloc)?, batches, Vec::new(alloc))
+}
+
+fn history_of(alloc: Global, conn: Connection<MemStore>) -> Result<Driven, Fail> {
+    let batches = asked(alloc)?;
+    let (driven, _) = drive_over(alloc, conn, batches, Vec::new(alloc))?;
+    Ok(driven)
 }
 
 #[test]
 fn a_report_is_there_again(rt: HostRuntime) -> Result<(), Fail> {
     let alloc = rt.alloc();
-    let mut engine = opened(alloc, Connection::open_in_memory(alloc)?)?;
-    assert!(rt; begin(alloc, &mut engine)?);
-    let mut again = opened(alloc, engine.close())?;
-    assert!(rt; report(alloc, &mut again, 1, 2)?);
-    let mut last = opened(alloc, again.close())?;
-    assert_eq!(rt; events_now(alloc, &mut last, 1)?, 4);
+    let (report, conn) = ended(alloc)?;
+    let last = history_of(alloc, conn)?;
+    assert!(rt; is_reported(report.first.as_slice(), 1, 2));
+    assert_eq!(rt; events(last.first.as_slice(), 1), 4);
     Ok(())
 }
 
 #[test]
 fn a_flow_with_nothing_to_do_ends(rt: HostRuntime) -> Result<(), Fail> {
     let alloc = rt.alloc();
-    let mut engine = opened(alloc, Connection::open_in_memory(alloc)?)?;
-    driven(&mut engine, ended_at_once(alloc)?)?;
-    let dones = driven(&mut engine, asked(alloc)?)?;
-    assert!(rt; ends_with_nothing(dones.as_slice(), 3));
+    let (driven, _) = driven_anew(alloc, ended_at_once(alloc)?, asked(alloc)?)?;
+    assert!(rt; ends_with_nothing(driven.second.as_slice(), 3));
     Ok(())
+}
+
+fn is_mismatch(alloc: Global, conn: Connection<MemStore>) -> bool {
+    match Engine::open(alloc, conn) {
+        Ok(_) => false,
+        Err((fault, _)) => fault.code() == Code::Mismatch,
+    }
 }
 
 // The store of a run that waits on its activity, changed by a statement.
 fn changed(alloc: Global, sql: &str) -> Result<Connection<MemStore>, Fail> {
-    let mut engine = opened(alloc, Connection::open_in_memory(alloc)?)?;
-    begin(alloc, &mut engine)?;
-    let mut conn = engine.close();
-    conn.execute_batch(sql)?;
-    Ok(conn)
-}
-
-fn is_mismatch(answer: &Result<Engine<MemStore>, (OpeningFault, Connection<MemStore>)>) -> bool {
-    match answer {
-        Ok(_) => false,
-        Err((fault, _)) => fault.code() == Code::Mismatch,
+    let mut conn = waiting(alloc)?;
+    match conn.execute_batch(sql) {
+        Ok(_) => Ok(conn),
+        Err(_) => Err(Fail::from("not changed")),
     }
 }
 
@@ -254,7 +257,7 @@ fn a_run_that_does_not_replay_is_refused(rt: HostRuntime) -> Result<(), Fail> {
         alloc,
         "UPDATE event SET body = replace(body, 'eur', 'usd') WHERE id = 2",
     )?;
-    let answer = Engine::open(alloc, conn);
-    assert!(rt; is_mismatch(&answer));
+    let is_refused = is_mismatch(alloc, conn);
+    assert!(rt; is_refused);
     Ok(())
 }
