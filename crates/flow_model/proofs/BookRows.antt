@@ -1,24 +1,22 @@
 -- The book's definitions on worked rows, by computation.
-use Rattle.std.proofs.Common.{◌≡◌, ℕ, List, [], ◌∷◌, ◌++◌, Option, Some, None, refl}
+use Rattle.std.proofs.Common.{◌≡◌, ℕ, List, [], ◌∷◌, ◌++◌, refl}
 use Rattle.std.specs.Prelude.{codes, pos, Result, Ok, Err, bytes_eq, if◌then◌else◌}
-use Rattle.flow_base.specs.Syntax.{Bytes, Expression, Number, Literal, Variable, Combine, Statement, Let, Call, Return, block_of, once, NoElse, Activity, Program}
+use Rattle.flow_base.specs.Syntax.{Bytes, Number, Literal, Variable, Combine, Let, Call, Return, block_of, once, NoElse, Activity, Program}
 use Rattle.flow_base.specs.declared.syntax.Binary.TheVariants.{Add}
 use Rattle.flow_base.specs.declared.value.Value.{Value}
 use Rattle.flow_base.specs.declared.value.Value.TheVariants.{Int, Text}
 use Rattle.flow_base.specs.declared.value.Kind.TheVariants as kind
 use Rattle.flow_base.specs.declared.event.Cmd.TheVariants as cmd
 use Rattle.flow_base.specs.declared.event.Input.TheVariants as input
-use Rattle.flow_base.specs.declared.event.Cause.TheVariants as cause
 use Rattle.flow_base.specs.declared.event.State.TheVariants as state
 use Rattle.flow_base.specs.declared.event.What.TheVariants.{Came, Asked}
 use Rattle.flow_base.specs.declared.code.Code.TheVariants.{Unexpected, NoText, BadArguments, AlreadyOpen, NotOpen, OldAttempt, WrongType, NoRun}
 use Rattle.flow_base.specs.declared.command.Command.{Command}
 use Rattle.flow_base.specs.declared.command.Command.TheVariants as command
 use Rattle.flow_base.specs.declared.command.TextFault.{TextFault}
-use Rattle.flow_base.specs.declared.command.Reply.{Reply}
 use Rattle.flow_base.specs.declared.command.Reply.TheVariants as reply
 use Rattle.flow_model.specs.Turned.{turned, position_from}
-use Rattle.flow_model.specs.Book.{Book, no_book}
+use Rattle.flow_model.specs.Book.{no_book}
 use Rattle.flow_model.specs.Apply.{Rules, rules_of, outcome, register, start, complete, report_refusal, input_recorded, recorded, describe, history, after, replies}
 
 -- workflow a(n: int) { activity c(int, text) -> int; let r = 0; r = call c(n, "eur"); return r + 1; }

@@ -1,12 +1,11 @@
 -- The computed first fault is the first fault, and there is none exactly where the program is well formed.
-use Rattle.std.proofs.Common.{◌≡◌, ℕ, ◌<◌, ◌≤◌, Bool, true, false, List, [], ◌∷◌, ◌++◌, length, slice_index_or, zero, suc, Contains, Option, Some, None, ◌⊎◌, inl, inr, refl, sym, ap, subst, ◌∙◌, nat_eq, nat_lt, ◌≢◌, cond, arith}
+use Rattle.std.proofs.Common.{◌≡◌, ℕ, ◌<◌, ◌≤◌, Bool, true, false, List, [], ◌∷◌, ◌++◌, length, slice_index_or, zero, suc, Contains, Option, Some, None, ◌⊎◌, inl, inr, refl, sym, subst, nat_eq, nat_lt, ◌≢◌, cond, arith}
 use Rattle.std.proofs.lemmas.Bool.{ltb-true}
 use Rattle.std.proofs.lemmas.Bool.Decides.{eqb_tells, nat_tests}
 use Rattle.flow_base.specs.Codes.{code_number}
-use Rattle.flow_base.specs.declared.code.Code.{Code}
 use Rattle.flow_base.specs.declared.command.TextFault.{TextFault}
 use Rattle.flow_base.specs.Syntax.{Program}
-use Rattle.flow_model.specs.WellFormed.{faults, Breaks, WellFormed, IsNoLater, IsFirstFault, is_earlier, earlier, earliest, first_fault}
+use Rattle.flow_model.specs.WellFormed.{faults, WellFormed, IsNoLater, IsFirstFault, is_earlier, earlier, earliest, first_fault}
 
 -- more faults behind others
 pub earliest-append : (o : Option TextFault) (a b : List TextFault) → earliest o (a ++ b) ≡ earliest (earliest o a) b

@@ -14,7 +14,7 @@ use Rattle.flow_base.specs.declared.event.Input.TheVariants.{Started, Signaled, 
 use Rattle.flow_base.specs.declared.event.What.TheVariants.{Asked}
 use Rattle.flow_base.specs.declared.event.Wrong.TheVariants.{MissingEvent}
 use Rattle.flow_model.specs.Configuration.{Configuration, first_configuration}
-use Rattle.flow_model.specs.Turn.{Answers, Fresh, Recorded}
+use Rattle.flow_model.specs.Turn.{Fresh, Recorded}
 use Rattle.flow_model.specs.Turned.{turned}
 use Rattle.flow_model.specs.Stands.{FirstMismatch}
 

@@ -1,8 +1,6 @@
 -- The rules on the rows: what they say of small programs, by computation.
-use Rattle.std.proofs.Common.{◌≡◌, ℕ, List, [], ◌∷◌, Option, Some, None, refl, pos}
-use Rattle.flow_base.specs.declared.code.Code.{Code}
+use Rattle.std.proofs.Common.{◌≡◌, [], ◌∷◌, Some, None, refl, pos}
 use Rattle.flow_base.specs.declared.code.Code.TheVariants as code
-use Rattle.flow_base.specs.declared.command.TextFault.{TextFault}
 use Rattle.flow_base.specs.Syntax.{Program, Block, End, Next, Assign, Let, Number, Return, Variable}
 use Rattle.flow_model.specs.WellFormed.{first_fault}
 

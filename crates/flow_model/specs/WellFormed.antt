@@ -1,6 +1,6 @@
 -- Well formed: the checking rules. Each rule that a text breaks is a fault, with its number and its place; a program is well
 -- formed where it has none. Each function below has one case for each form of the language.
-use Rattle.std.specs.Prelude.{◌≡◌, ℕ, ◌<◌, ◌≤◌, Bool, true, false, not, ◌&&◌, ◌||◌, List, [], ◌∷◌, ◌++◌, map, length, drop, Contains, Option, Some, None, is_some, nat_eq, nat_lt, bytes_eq, if◌then◌else◌, ◌⊎◌}
+use Rattle.std.specs.Prelude.{◌≡◌, ℕ, ◌<◌, ◌≤◌, Bool, true, false, ◌&&◌, ◌||◌, List, [], ◌∷◌, ◌++◌, map, length, drop, Contains, Option, Some, None, nat_eq, nat_lt, bytes_eq, if◌then◌else◌, ◌⊎◌}
 use Rattle.std.specs.List.{list_any}
 use Rattle.flow_base.specs.Codes.{code_number}
 use Rattle.flow_base.specs.declared.code.Code.{Code}
@@ -9,7 +9,7 @@ use Rattle.flow_base.specs.declared.command.TextFault.{TextFault}
 use Rattle.flow_base.specs.declared.value.Kind.{Kind}
 use Rattle.flow_base.specs.declared.value.Kind.TheVariants.{Int, Text}
 use Rattle.flow_base.specs.declared.syntax.Unary.{Unary}
-use Rattle.flow_base.specs.declared.syntax.Unary.TheVariants.{Not, Negate, TextOf, Length}
+use Rattle.flow_base.specs.declared.syntax.Unary.TheVariants.{TextOf, Length}
 use Rattle.flow_base.specs.declared.syntax.Binary.{Binary}
 use Rattle.flow_base.specs.declared.syntax.Binary.TheVariants.{Equal, Differ, Join}
 use Rattle.flow_base.specs.declared.syntax.Parameter.{Parameter}

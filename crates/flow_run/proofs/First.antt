@@ -1,14 +1,13 @@
 -- The first turn of a run.
-use Rattle.std.proofs.Common.{◌≡◌, ℕ, List, [], ◌∷◌, Bool, true, false, Option, Some, None, refl, sym, ap, ◌∙◌, subst}
+use Rattle.std.proofs.Common.{◌≡◌, ℕ, List, Bool, true, false, Option, Some, None, refl, sym, ap, ◌∙◌, subst}
 use Rattle.std.specs.Prelude.{if◌then◌else◌}
 use Rattle.std.proofs.lemmas.Bool.{true≢false}
 use Rattle.flow_base.specs.Syntax.{Program}
 use Rattle.flow_base.specs.declared.value.Value.{Value}
 use Rattle.flow_base.specs.declared.event.Cmd.{Cmd}
-use Rattle.flow_base.specs.declared.event.Input.{Input}
 use Rattle.flow_base.specs.declared.event.Input.TheVariants as input
 use Rattle.flow_model.specs.Configuration.{Configuration, first_configuration, is_closed}
-use Rattle.flow_model.specs.Deliver.{Progress, deliver, begun, all_fit}
+use Rattle.flow_model.specs.Deliver.{Progress, deliver, all_fit}
 use Rattle.flow_model.specs.Turn.{Answers, Turn}
 use Rattle.flow_model.specs.Turned.{turned}
 

@@ -1,10 +1,9 @@
 -- What the plain run shows of itself: its configuration, and what its parts mean in the definitions.
-use Rattle.std.specs.Prelude.{◌≡◌, ℕ, ◌<◌, List, [], ◌∷◌, ◌++◌, map, drop, Option, Some, None, Bool, bytes_eq, if◌then◌else◌, length, slice_set, slice_index_or}
+use Rattle.std.specs.Prelude.{◌≡◌, ℕ, List, [], ◌∷◌, ◌++◌, map, drop, Option, Some, None, Bool}
 use Rattle.flow_base.specs.Syntax.{Bytes, Block, NoElse, activities_of, block_of}
 use Rattle.flow_base.specs.Shown.{shown_stmt, shown_declaration}
 use Rattle.flow_base.specs.declared.syntax.Stmt.{Stmt}
 use Rattle.flow_base.specs.declared.value.Value.{Value}
-use Rattle.flow_base.specs.declared.value.Kind.{Kind}
 use Rattle.flow_base.specs.declared.event.State.{State}
 use Rattle.flow_base.specs.declared.code.Code.{Code}
 use Rattle.flow_base.specs.declared.code.Code.TheVariants as code

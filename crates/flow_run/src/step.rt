@@ -162,13 +162,7 @@ fn begin(alloc: Global, s: &Setting, t: &mut Store, stmt: &Stmt) -> Result<Moved
     }
 }
 
-fn assign(
-    alloc: Global,
-    s: &Setting,
-    t: &mut Store,
-    name: &Key,
-    e: &Expr,
-) -> Result<Moved, Fault>
+fn assign(alloc: Global, s: &Setting, t: &mut Store, name: &Key, e: &Expr) -> Result<Moved, Fault>
     ensures step { IfOk result (λ m. shown_move t.new m ≡ model.begin (shown_setting s.now) (shown_store t.old) (ALet 0 0 name.now (shown_expr e.now))) }
     ensures kept { IfOk result (λ m. Begins t.old t.new m) }
 {

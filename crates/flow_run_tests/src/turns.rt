@@ -1,6 +1,6 @@
 //! The first turn of a run and those after it, with ample memory.
+use crate::numbers::moment;
 use flow_base::event::{Cmd, Input, State};
-use flow_base::number::Moment;
 use flow_base::text::Text;
 use flow_base::value::Value;
 use flow_check::check::check;
@@ -10,10 +10,6 @@ use flow_run::stance::{Answers, Stance, turn};
 use flow_syntax::parse::parse;
 use std::alloc::Global;
 use std::test::Fail;
-
-fn moment(at: u64) -> Result<Moment, Fail> {
-    Ok(Moment::new(at).ok_or("no moment")?)
-}
 
 fn program(alloc: Global) -> Result<Checked, Fail> {
     let program = parse(alloc, "workflow a(n: int) { return n; }")?;

@@ -1,6 +1,6 @@
 //! Expressions and delays, with ample memory.
+use crate::numbers::moment;
 use flow_base::event::Cause;
-use flow_base::number::Moment;
 use flow_base::syntax::{Expr, Program, Stmt};
 use flow_base::value::Value;
 use flow_syntax::parse::parse;
@@ -13,13 +13,13 @@ use std::test::Fail;
 fn returned(program: &Program) -> Result<&Expr, Fail> {
     match program.body.as_slice() {
         [Stmt::Return(_, e), ..] => Ok(e),
-        _ => Err(Fail::from("no return")),
+        _ => Err(Fail::from("other")),
     }
 }
 
 // The value of what a program of this text returns, where nothing has a value, or its fault.
 fn value(alloc: Global, text: &str) -> Result<Result<Value, Cause>, Fail> {
-    let at = Moment::new(10).ok_or("no moment")?;
+    let at = moment(10)?;
     let program = parse(alloc, text)?;
     let expr = returned(&program)?;
     Ok(eval(alloc, &NamedValues::new(alloc), at, expr)?)
@@ -38,16 +38,18 @@ fn expressions_have_values_and_faults(rt: HostRuntime) -> Result<(), Fail> {
 
 // When a delay is over that begins at moment 10.
 fn over(alloc: Global, delay: i64) -> Result<Result<u64, Cause>, Fail> {
-    let at = Moment::new(10).ok_or("no moment")?;
-    let over = due(alloc, &NamedValues::new(alloc), at, &Expr::Int(0, delay))?;
-    Ok(over.map(|moment| moment.get()))
+    let at = moment(10)?;
+    match due(alloc, &NamedValues::new(alloc), at, &Expr::Int(0, delay))? {
+        Ok(moment) => Ok(Ok(moment.get())),
+        Err(cause) => Ok(Err(cause)),
+    }
 }
 
 #[test]
 fn delays_are_over_when_they_are_due(rt: HostRuntime) -> Result<(), Fail> {
     for (delay, wanted) in [(0, 10), (90, 100), (999999999999990, 1000000000000000)] {
-        let over = over(rt.alloc(), delay)?.ok().ok_or("no moment")?;
-        assert_eq!(rt; over, wanted);
+        let over = over(rt.alloc(), delay)?;
+        assert!(rt; matches!(over, Ok(moment) if moment == wanted));
     }
     for delay in [-1, 999999999999991] {
         let over = over(rt.alloc(), delay)?;

@@ -251,12 +251,7 @@ fn join(alloc: Global, a: &Value, b: &Value) -> Result<Result<Value, Cause>, Fau
     }
 }
 
-fn combine(
-    alloc: Global,
-    op: Binary,
-    a: Value,
-    b: Value,
-) -> Result<Result<Value, Cause>, Fault>
+fn combine(alloc: Global, op: Binary, a: Value, b: Value) -> Result<Result<Value, Cause>, Fault>
     ensures { IfOk result (λ r. r ≡ combined op a b) }
 {
     match op {

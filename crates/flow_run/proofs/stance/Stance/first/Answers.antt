@@ -1,4 +1,4 @@
-use Rattle.std.proofs.Common.{◌≡◌, ◌+◌, arith, ap, Err}
+use Rattle.std.proofs.Common.{◌≡◌, arith, ap, Err}
 use Rattle.flow_check.specs.Shown.{shown_checked}
 use Rattle.flow_run.specs.Shown.{shown_answers}
 use Rattle.flow_run.specs.declared.fault.RunFault.TheVariants as fault
