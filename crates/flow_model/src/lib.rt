@@ -3,6 +3,7 @@
 
 pub mod decided;
 pub mod deliver;
+pub mod kinds;
 pub mod laws;
 pub mod named;
 pub mod plain;
