@@ -3,7 +3,6 @@
 
 pub mod decide;
 mod description;
-mod kinds;
 pub mod laws;
 pub mod programs;
 mod puts;

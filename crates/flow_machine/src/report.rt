@@ -2,12 +2,12 @@ ghost use Rattle.std.specs.Prelude.{◌≡◌};
 ghost use Rattle.flow_model.specs.Apply as apply;
 ghost use Rattle.flow_model.specs.Book.{nth};
 
-use crate::kinds::has_kind;
 use flow_base::book::{Run, Task};
 use flow_base::code::Code;
 use flow_base::event::{Cmd, Event, What};
 use flow_base::number::EventId;
 use flow_base::value::Value;
+use flow_model::kinds::has_kind;
 
 fn task_at(tasks: &[Task], event: EventId) -> Option<Task>
     ensures { result ≡ apply.task_at tasks.now event }
