@@ -1,10 +1,9 @@
 //! Each change on tables in memory, and what SQL finds then.
 use crate::rows::{
-    Memory, add_event, add_run, add_task, add_text, add_timer, count, event, no_rows, run,
+    Memory, add_event, add_run, add_task, add_text, add_timer, count, event, no_rows, run, tells,
+    turn,
 };
-use flow_base::book::Turn;
 use flow_base::event::{Cmd, Input};
-use flow_base::number::Moment;
 use flow_base::sequence::Sequence;
 use flow_base::value::Value;
 use flow_tables::changes::{delete_task, delete_tasks, delete_timer, delete_timers, mark_run};
@@ -25,20 +24,14 @@ fn two_runs(alloc: Global) -> Result<Memory, Error> {
 #[test]
 fn texts_and_runs_come(rt: HostRuntime) -> Result<(), Fail> {
     let mut conn = two_runs(rt.alloc())?;
-    assert_eq!(rt;
-        count(
-            &mut conn,
-            "SELECT count(*) FROM text WHERE num = 1 AND body = 'a'"
-        )?,
-        1
-    );
-    assert_eq!(rt;
-        count(
-            &mut conn,
-            "SELECT count(*) FROM run WHERE flow = 'f' AND req = 'q' AND textnum = 1 AND isopen = 1"
-        )?,
-        2
-    );
+    let wanted = [
+        ("SELECT count(*) FROM text WHERE num = 1 AND body = 'a'", 1),
+        (
+            "SELECT count(*) FROM run WHERE flow = 'f' AND req = 'q' AND textnum = 1 AND isopen = 1",
+            2,
+        ),
+    ];
+    assert!(rt; tells(&mut conn, &wanted)?);
     Ok(())
 }
 
@@ -47,36 +40,42 @@ fn an_event_comes(rt: HostRuntime) -> Result<(), Fail> {
     let alloc = rt.alloc();
     let mut conn = two_runs(alloc)?;
     add_event(alloc, &mut conn, 2, 5, "b")?;
-    assert_eq!(rt;
-        count(
-            &mut conn,
-            "SELECT count(*) FROM event WHERE run = 2 AND id = 5 AND kind = 7 AND body = 'b'"
-        )?,
-        1
-    );
+    let wanted = [(
+        "SELECT count(*) FROM event WHERE run = 2 AND id = 5 AND kind = 7 AND body = 'b'",
+        1,
+    )];
+    assert!(rt; tells(&mut conn, &wanted)?);
     Ok(())
+}
+
+fn add_timer_and_task(conn: &mut Memory) -> Result<(), Error> {
+    add_timer(conn, 2, 5)?;
+    add_task(conn, 1, 6)
 }
 
 #[test]
 fn a_timer_and_a_task_come(rt: HostRuntime) -> Result<(), Fail> {
     let mut conn = two_runs(rt.alloc())?;
-    add_timer(&mut conn, 2, 5)?;
-    add_task(&mut conn, 1, 6)?;
-    assert_eq!(rt;
-        count(
-            &mut conn,
-            "SELECT count(*) FROM timer WHERE run = 2 AND id = 5 AND due = 8"
-        )?,
-        1
-    );
-    assert_eq!(rt;
-        count(
-            &mut conn,
-            "SELECT count(*) FROM outbox WHERE run = 1 AND id = 6 AND attempt = 3 AND ready = 9"
-        )?,
-        1
-    );
+    add_timer_and_task(&mut conn)?;
+    let wanted = [
+        (
+            "SELECT count(*) FROM timer WHERE run = 2 AND id = 5 AND due = 8",
+            1,
+        ),
+        (
+            "SELECT count(*) FROM outbox WHERE run = 1 AND id = 6 AND attempt = 3 AND ready = 9",
+            1,
+        ),
+    ];
+    assert!(rt; tells(&mut conn, &wanted)?);
     Ok(())
+}
+
+/// Whether an event and a text that are there are refused again, and an event of no run.
+fn refuses(alloc: Global, conn: &mut Memory) -> bool {
+    add_event(alloc, conn, 2, 5, "b").is_err()
+        && add_event(alloc, conn, 3, 5, "b").is_err()
+        && add_text(alloc, conn, 2, "a").is_err()
 }
 
 #[test]
@@ -84,84 +83,81 @@ fn what_breaks_a_rule_is_refused(rt: HostRuntime) -> Result<(), Fail> {
     let alloc = rt.alloc();
     let mut conn = two_runs(alloc)?;
     add_event(alloc, &mut conn, 2, 5, "b")?;
-    assert!(rt; add_event(alloc, &mut conn, 2, 5, "b").is_err());
-    assert!(rt; add_event(alloc, &mut conn, 3, 5, "b").is_err());
-    assert!(rt; add_text(alloc, &mut conn, 2, "a").is_err());
-    assert_eq!(rt; count(&mut conn, "SELECT count(*) FROM event")?, 1);
+    assert!(rt; refuses(alloc, &mut conn));
+    assert!(rt; tells(&mut conn, &[("SELECT count(*) FROM event", 1)])?);
     Ok(())
+}
+
+const TASKS: &str = "SELECT sum(10 * run + id) FROM outbox";
+
+fn add_tasks(conn: &mut Memory) -> Result<(), Error> {
+    add_task(conn, 1, 5)?;
+    add_task(conn, 1, 6)?;
+    add_task(conn, 2, 5)
+}
+
+/// What is left of three tasks without the first, and without those of its run.
+fn tasks_left(conn: &mut Memory) -> Result<(i64, i64), Fail> {
+    add_tasks(conn)?;
+    delete_task(conn, run(1)?, event(5)?)?;
+    let others = count(conn, TASKS)?;
+    delete_tasks(conn, run(1)?)?;
+    Ok((others, count(conn, TASKS)?))
 }
 
 #[test]
 fn tasks_go(rt: HostRuntime) -> Result<(), Fail> {
     let mut conn = two_runs(rt.alloc())?;
-    add_task(&mut conn, 1, 5)?;
-    add_task(&mut conn, 1, 6)?;
-    add_task(&mut conn, 2, 5)?;
-    delete_task(&mut conn, run(1)?, event(5)?)?;
-    assert_eq!(rt;
-        count(&mut conn, "SELECT sum(10 * run + id) FROM outbox")?,
-        41
-    );
-    delete_tasks(&mut conn, run(1)?)?;
-    assert_eq!(rt;
-        count(&mut conn, "SELECT sum(10 * run + id) FROM outbox")?,
-        25
-    );
+    assert_eq!(rt; tasks_left(&mut conn)?, (41, 25));
     Ok(())
+}
+
+const TIMERS: &str = "SELECT sum(10 * run + id) FROM timer";
+
+fn add_timers(conn: &mut Memory) -> Result<(), Error> {
+    add_timer(conn, 1, 5)?;
+    add_timer(conn, 1, 6)?;
+    add_timer(conn, 2, 5)
+}
+
+/// The same of timers.
+fn timers_left(conn: &mut Memory) -> Result<(i64, i64), Fail> {
+    add_timers(conn)?;
+    delete_timer(conn, run(1)?, event(5)?)?;
+    let others = count(conn, TIMERS)?;
+    delete_timers(conn, run(1)?)?;
+    Ok((others, count(conn, TIMERS)?))
 }
 
 #[test]
 fn timers_go(rt: HostRuntime) -> Result<(), Fail> {
     let mut conn = two_runs(rt.alloc())?;
-    add_timer(&mut conn, 1, 5)?;
-    add_timer(&mut conn, 1, 6)?;
-    add_timer(&mut conn, 2, 5)?;
-    delete_timer(&mut conn, run(1)?, event(5)?)?;
-    assert_eq!(rt;
-        count(&mut conn, "SELECT sum(10 * run + id) FROM timer")?,
-        41
-    );
-    delete_timers(&mut conn, run(1)?)?;
-    assert_eq!(rt;
-        count(&mut conn, "SELECT sum(10 * run + id) FROM timer")?,
-        25
-    );
+    assert_eq!(rt; timers_left(&mut conn)?, (41, 25));
     Ok(())
+}
+
+const OPEN_RUNS: &str = "SELECT sum(num) FROM run WHERE isopen = 1";
+
+/// Which runs are open where the first was closed, and where it was opened again.
+fn open_runs(conn: &mut Memory) -> Result<(i64, i64), Fail> {
+    mark_run(conn, run(1)?, false)?;
+    let others = count(conn, OPEN_RUNS)?;
+    mark_run(conn, run(1)?, true)?;
+    Ok((others, count(conn, OPEN_RUNS)?))
 }
 
 #[test]
 fn a_run_is_marked(rt: HostRuntime) -> Result<(), Fail> {
     let mut conn = two_runs(rt.alloc())?;
-    mark_run(&mut conn, run(1)?, false)?;
-    assert_eq!(rt;
-        count(&mut conn, "SELECT sum(num) FROM run WHERE isopen = 1")?,
-        2
-    );
-    mark_run(&mut conn, run(1)?, true)?;
-    assert_eq!(rt;
-        count(&mut conn, "SELECT sum(num) FROM run WHERE isopen = 1")?,
-        3
-    );
+    assert_eq!(rt; open_runs(&mut conn)?, (2, 3));
     Ok(())
 }
 
-/// The turn in which a run starts and completes.
-fn whole_turn(alloc: Global) -> Result<Turn, &'static str> {
-    let mut commands = Sequence::new(alloc);
-    if commands.push(Cmd::Complete(Value::Int(7))).is_err() {
-        return Err("no memory");
-    }
-    Ok(Turn {
-        at: Moment::new(5).ok_or("no moment")?,
-        input: Input::Started(Sequence::new(alloc)),
-        commands,
-    })
-}
-
-/// Puts that turn, so that who calls it holds none.
-fn put_whole_turn(alloc: Global, conn: &mut Memory, number: u64) -> Result<bool, &'static str> {
-    let run = run(number)?;
-    let turn = whole_turn(alloc)?;
+/// Puts the turn in which run 2 starts and completes, so that who calls it holds none.
+fn put_whole_turn(alloc: Global, conn: &mut Memory) -> Result<bool, &'static str> {
+    let run = run(2)?;
+    let start = Input::Started(Sequence::new(alloc));
+    let turn = turn(alloc, start, Cmd::Complete(Value::Int(7)))?;
     Ok(put_turn(alloc, conn, run, false, 0, &turn).is_ok())
 }
 
@@ -169,14 +165,11 @@ fn put_whole_turn(alloc: Global, conn: &mut Memory, number: u64) -> Result<bool,
 fn a_turn_is_recorded(rt: HostRuntime) -> Result<(), Fail> {
     let alloc = rt.alloc();
     let mut conn = two_runs(alloc)?;
-    assert!(rt; put_whole_turn(alloc, &mut conn, 2)?);
-    assert_eq!(rt;
-        count(&mut conn, "SELECT count(*) FROM event WHERE run = 2")?,
-        2
-    );
-    assert_eq!(rt;
-        count(&mut conn, "SELECT isopen FROM run WHERE num = 2")?,
-        0
-    );
+    assert!(rt; put_whole_turn(alloc, &mut conn)?);
+    let wanted = [
+        ("SELECT count(*) FROM event WHERE run = 2", 2),
+        ("SELECT isopen FROM run WHERE num = 2", 0),
+    ];
+    assert!(rt; tells(&mut conn, &wanted)?);
     Ok(())
 }

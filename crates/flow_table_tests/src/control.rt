@@ -1,31 +1,60 @@
+//! Opening, transactions, and what others left in the file.
 use flow_tables::control::{begin, commit, rollback, undo};
 use flow_tables::create::create;
 use flow_tables::open::{OpenFault, open};
-use sqlite::{Alter, Connection, Error};
+use sqlite::{Connection, MemStore};
+use std::alloc::Global;
 use std::test::Fail;
 
-fn put<S: Alter>(conn: &mut Connection<S>) -> bool {
-    conn.execute("INSERT INTO text (num, body) VALUES (1, 'a')", &[])
-        .is_ok()
+type Memory = Connection<MemStore>;
+
+// Each call in a function without clauses, so that no test carries those of all.
+
+fn opens(alloc: Global, conn: &mut Memory) -> Result<(), OpenFault> {
+    open(alloc, conn)
 }
 
-fn texts<S: Alter>(conn: &mut Connection<S>) -> usize {
+fn makes(conn: &mut Memory) -> bool {
+    create(conn).is_ok()
+}
+
+fn begins(conn: &mut Memory) -> bool {
+    begin(conn).is_ok()
+}
+
+fn commits(conn: &mut Memory) -> bool {
+    commit(conn).is_ok()
+}
+
+fn rolls_back(conn: &mut Memory) -> bool {
+    rollback(conn).is_ok()
+}
+
+fn ends(conn: &mut Memory) -> bool {
+    undo(conn)
+}
+
+fn change(conn: &mut Memory, sql: &str) -> bool {
+    conn.execute(sql, &[]).is_ok()
+}
+
+fn put(conn: &mut Memory) -> bool {
+    change(conn, "INSERT INTO text (num, body) VALUES (1, 'a')")
+}
+
+fn texts(conn: &mut Memory) -> usize {
     match conn.query_all("SELECT num FROM text", &[]) {
         Ok(rows) => rows.len(),
         Err(_) => 99,
     }
 }
 
-fn change<S: Alter>(conn: &mut Connection<S>, sql: &str) -> bool {
-    conn.execute(sql, &[]).is_ok()
-}
-
 #[test]
 fn opens_twice(rt: HostRuntime) -> Result<(), Fail> {
     let mut conn = Connection::open_in_memory(rt.alloc())?;
-    assert!(rt; open(rt.alloc(), &mut conn).is_ok());
-    assert!(rt; open(rt.alloc(), &mut conn).is_ok());
-    assert!(rt; create(&mut conn).is_err());
+    assert_eq!(rt; opens(rt.alloc(), &mut conn), Ok(()));
+    assert_eq!(rt; opens(rt.alloc(), &mut conn), Ok(()));
+    assert!(rt; !makes(&mut conn));
     assert!(rt; conn.is_autocommit());
     Ok(())
 }
@@ -33,14 +62,9 @@ fn opens_twice(rt: HostRuntime) -> Result<(), Fail> {
 #[test]
 fn keeps_what_was_committed(rt: HostRuntime) -> Result<(), Fail> {
     let mut conn = Connection::open_in_memory(rt.alloc())?;
-    assert!(rt; create(&mut conn).is_ok());
-    assert!(rt; begin(&mut conn).is_ok());
-    assert!(rt; put(&mut conn));
-    assert!(rt; rollback(&mut conn).is_ok());
+    assert!(rt; makes(&mut conn) && begins(&mut conn) && put(&mut conn) && rolls_back(&mut conn));
     assert_eq!(rt; texts(&mut conn), 0);
-    assert!(rt; begin(&mut conn).is_ok());
-    assert!(rt; put(&mut conn));
-    assert!(rt; commit(&mut conn).is_ok());
+    assert!(rt; begins(&mut conn) && put(&mut conn) && commits(&mut conn));
     assert_eq!(rt; texts(&mut conn), 1);
     Ok(())
 }
@@ -48,12 +72,10 @@ fn keeps_what_was_committed(rt: HostRuntime) -> Result<(), Fail> {
 #[test]
 fn opening_ends_a_transaction(rt: HostRuntime) -> Result<(), Fail> {
     let mut conn = Connection::open_in_memory(rt.alloc())?;
-    assert!(rt; create(&mut conn).is_ok());
-    assert!(rt; begin(&mut conn).is_ok());
-    assert!(rt; put(&mut conn));
-    assert!(rt; open(rt.alloc(), &mut conn).is_ok());
+    assert!(rt; makes(&mut conn) && begins(&mut conn) && put(&mut conn));
+    assert_eq!(rt; opens(rt.alloc(), &mut conn), Ok(()));
     assert_eq!(rt; texts(&mut conn), 0);
-    assert!(rt; undo(&mut conn));
+    assert!(rt; ends(&mut conn));
     Ok(())
 }
 
@@ -61,7 +83,7 @@ fn opening_ends_a_transaction(rt: HostRuntime) -> Result<(), Fail> {
 fn leaves_tables_of_others(rt: HostRuntime) -> Result<(), Fail> {
     let mut conn = Connection::open_in_memory(rt.alloc())?;
     assert!(rt; change(&mut conn, "CREATE TABLE meta (name TEXT) STRICT"));
-    assert_eq!(rt; open(rt.alloc(), &mut conn), Err(OpenFault::NotOurs));
+    assert_eq!(rt; opens(rt.alloc(), &mut conn), Err(OpenFault::NotOurs));
     assert!(rt; conn.is_autocommit());
     assert_eq!(rt; texts(&mut conn), 99);
     Ok(())
@@ -70,10 +92,10 @@ fn leaves_tables_of_others(rt: HostRuntime) -> Result<(), Fail> {
 #[test]
 fn tells_another_format(rt: HostRuntime) -> Result<(), Fail> {
     let mut conn = Connection::open_in_memory(rt.alloc())?;
-    assert!(rt; open(rt.alloc(), &mut conn).is_ok());
+    assert_eq!(rt; opens(rt.alloc(), &mut conn), Ok(()));
     assert!(rt; change(&mut conn, "UPDATE meta SET value = 3"));
-    assert_eq!(rt; open(rt.alloc(), &mut conn), Err(OpenFault::BadVersion));
+    assert_eq!(rt; opens(rt.alloc(), &mut conn), Err(OpenFault::BadVersion));
     assert!(rt; change(&mut conn, "DELETE FROM meta"));
-    assert_eq!(rt; open(rt.alloc(), &mut conn), Err(OpenFault::NotOurs));
+    assert_eq!(rt; opens(rt.alloc(), &mut conn), Err(OpenFault::NotOurs));
     Ok(())
 }

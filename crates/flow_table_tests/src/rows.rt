@@ -1,5 +1,8 @@
 //! Rows put into tables in memory one by one, and what SQL counts there.
-use flow_base::number::{EventId, RunId};
+use flow_base::book::Turn;
+use flow_base::event::{Cmd, Input};
+use flow_base::number::{EventId, Moment, RunId};
+use flow_base::sequence::Sequence;
 use flow_base::text::RawText;
 use flow_rows::rows::{EventRow, OutboxRow, RunRow, TextRow, TimerRow};
 use flow_tables::changes::{insert_event, insert_run, insert_task, insert_text, insert_timer};
@@ -20,6 +23,16 @@ pub fn no_rows(alloc: Global) -> Result<Memory, Error> {
 
 pub fn count(conn: &mut Memory, sql: &str) -> Result<i64, Error> {
     conn.query_row(sql, &[])?.get(0)
+}
+
+/// Whether SQL counts these numbers.
+pub fn tells(conn: &mut Memory, wanted: &[(&str, i64)]) -> Result<bool, Error> {
+    for (sql, number) in wanted {
+        if count(conn, sql)? != *number {
+            return Ok(false);
+        }
+    }
+    Ok(true)
 }
 
 pub fn add_text(alloc: Global, conn: &mut Memory, num: i64, body: &str) -> Result<(), Error> {
@@ -85,4 +98,18 @@ pub fn run(number: u64) -> Result<RunId, &'static str> {
 
 pub fn event(number: u64) -> Result<EventId, &'static str> {
     EventId::new(number).ok_or("no event")
+}
+
+/// A turn that asks for one thing.
+pub fn turn(alloc: Global, input: Input, command: Cmd) -> Result<Turn, &'static str> {
+    let mut commands = Sequence::new(alloc);
+    if commands.push(command).is_err() {
+        return Err("no memory");
+    }
+    let at = Moment::new(5).ok_or("no moment")?;
+    Ok(Turn {
+        at,
+        input,
+        commands,
+    })
 }
