@@ -25,9 +25,21 @@ fn what_is_new_is_numbered(rt: HostRuntime) -> Result<(), Fail> {
     let text = TextNo::new(2).ok_or("a text")?;
     let run = RunId::new(1).ok_or("a run")?;
     let a = rt.alloc();
-    assert!(rt; is_reply(a, Reply::Registered(text), "{\"reply\":\"registered\",\"text\":2}"));
+    assert!(rt;
+        is_reply(
+            a,
+            Reply::Registered(text),
+            "{\"reply\":\"registered\",\"text\":2}"
+        )
+    );
     assert!(rt; is_reply(a, Reply::Started(run), "{\"reply\":\"started\",\"run\":1}"));
-    assert!(rt; is_reply(a, Reply::Duplicate(run), "{\"reply\":\"duplicate\",\"run\":1}"));
+    assert!(rt;
+        is_reply(
+            a,
+            Reply::Duplicate(run),
+            "{\"reply\":\"duplicate\",\"run\":1}"
+        )
+    );
     Ok(())
 }
 
@@ -61,7 +73,13 @@ fn refusals_have_their_code(rt: HostRuntime) -> Result<(), Fail> {
         code: Code::Unexpected,
         at: 12,
     });
-    assert!(rt; is_reply(a, bad_text, "{\"at\":12,\"code\":\"E11\",\"reply\":\"refused\"}"));
+    assert!(rt;
+        is_reply(
+            a,
+            bad_text,
+            "{\"at\":12,\"code\":\"E11\",\"reply\":\"refused\"}"
+        )
+    );
     assert!(rt; is_line(a, Line::Bad, "{\"code\":\"E02\",\"reply\":\"refused\"}"));
     let given_up = Line::NotApplied(Code::NoMemory);
     assert!(rt; is_line(a, given_up, "{\"code\":\"E01\",\"reply\":\"not applied\"}"));
