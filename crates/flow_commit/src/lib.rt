@@ -5,6 +5,4 @@ pub mod batch;
 pub mod keeper;
 pub mod outcome;
 pub mod stamp;
-#[cfg(test)]
-mod tests;
 mod transaction;

@@ -4,5 +4,3 @@
 pub mod done;
 pub mod drive;
 pub mod engine;
-#[cfg(test)]
-mod tests;

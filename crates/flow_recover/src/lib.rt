@@ -5,7 +5,3 @@ pub mod fault;
 pub mod positions;
 pub mod recover;
 pub mod reopen;
-#[cfg(test)]
-mod store_tests;
-#[cfg(test)]
-mod tests;

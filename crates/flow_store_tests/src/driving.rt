@@ -1,7 +1,7 @@
 //! Lists of batches over a store in memory, with ample memory.
-use crate::done::Done;
-use crate::drive::drive;
-use crate::engine::Engine;
+use flow_engine::done::Done;
+use flow_engine::drive::drive;
+use flow_engine::engine::Engine;
 use flow_base::code::Code;
 use flow_base::command::{Command, Reply};
 use flow_base::event::{Cmd, Event, What};

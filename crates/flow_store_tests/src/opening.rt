@@ -1,9 +1,9 @@
 //! Opening a store in memory, after what a keeper has kept in it, with ample memory.
-use crate::fault::{OpeningFault, RecoverFault};
-use crate::positions::Position;
-use crate::recover::recover;
-use crate::reopen::reopen;
-use crate::tests::{complete, is_waiting, register, start};
+use flow_recover::fault::{OpeningFault, RecoverFault};
+use flow_recover::positions::Position;
+use flow_recover::recover::recover;
+use flow_recover::reopen::reopen;
+use crate::positions::{complete, is_waiting, register, start};
 use flow_base::code::Code;
 use flow_base::command::Command;
 use flow_base::event::Wrong;

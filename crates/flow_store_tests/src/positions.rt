@@ -1,6 +1,6 @@
 //! Positions of small books, with ample memory.
-use crate::fault::RecoverFault;
-use crate::positions::{Position, positions};
+use flow_recover::fault::RecoverFault;
+use flow_recover::positions::{Position, positions};
 use flow_base::book::{Change, Turn};
 use flow_base::code::Code;
 use flow_base::command::Command;

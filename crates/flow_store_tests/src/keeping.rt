@@ -1,7 +1,7 @@
 //! Single commands committed over a store in memory, with ample memory.
-use crate::batch::Batch;
-use crate::keeper::Keeper;
-use crate::outcome::Outcome;
+use flow_commit::batch::Batch;
+use flow_commit::keeper::Keeper;
+use flow_commit::outcome::Outcome;
 use flow_base::command::{Command, Reply};
 use flow_base::number::{EventId, Moment, RunId, TextNo};
 use flow_base::sequence::Sequence;
