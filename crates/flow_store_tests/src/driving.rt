@@ -1,260 +1,209 @@
 //! Lists of batches over a store in memory, with ample memory.
+use crate::calls::{Call, Named, Told, are_all_kept, batch, let_go, told_by};
+use flow_base::code::Code;
+use flow_commit::batch::Batch;
 use flow_engine::done::Done;
 use flow_engine::drive::drive;
 use flow_engine::engine::Engine;
-use flow_base::code::Code;
-use flow_base::command::{Command, Reply};
-use flow_base::event::{Cmd, Event, What};
-use flow_base::number::{EventId, Moment, RunId, TextNo};
-use flow_base::sequence::Sequence;
-use flow_base::text::{Key, RawText};
-use flow_base::value::Value;
-use flow_commit::batch::Batch;
-use flow_machine::taken::Taken;
-use flow_recover::fault::OpeningFault;
-use sqlite::{Alter, Connection, MemStore};
+use flow_view::fault::ViewFault;
+use sqlite::{Alter, Connection};
 use std::alloc::Global;
 use std::test::Fail;
 
-const A: &str =
-    "workflow a(n: int) { activity c(int, text) -> int; let r = 0; r = call c(n, \"eur\"); return r + 1; }";
-
-fn register(alloc: Global) -> Result<Command, Fail> {
-    Ok(Command::Register(RawText::new(alloc, A)?))
-}
-
-fn register_empty(alloc: Global) -> Result<Command, Fail> {
-    Ok(Command::Register(RawText::new(alloc, "workflow e() {}")?))
-}
-
-fn start_empty(alloc: Global) -> Result<Command, Fail> {
-    let text = TextNo::new(1).ok_or("no text")?;
-    let at = Moment::new(0).ok_or("no moment")?;
-    let request = Key::new(alloc, "q")?;
-    let flow = Key::new(alloc, "f")?;
-    let arguments = Sequence::from_vec(Vec::new(alloc));
-    Ok(Command::Start(request, flow, text, arguments, at))
-}
-
-fn start(alloc: Global) -> Result<Command, Fail> {
-    let text = TextNo::new(1).ok_or("no text")?;
-    let at = Moment::new(1000).ok_or("no moment")?;
-    let arguments = Sequence::from_vec(vec![in alloc; Value::Int(7)]?);
-    let request = Key::new(alloc, "q")?;
-    let flow = Key::new(alloc, "f")?;
-    Ok(Command::Start(request, flow, text, arguments, at))
-}
-
-fn complete() -> Result<Command, Fail> {
-    let run = RunId::new(1).ok_or("no run")?;
-    let event = EventId::new(2).ok_or("no event")?;
-    let at = Moment::new(1500).ok_or("no moment")?;
-    Ok(Command::Complete(run, event, 1, Value::Int(41), at))
-}
-
-fn history() -> Result<Command, Fail> {
-    Ok(Command::History(RunId::new(1).ok_or("no run")?))
-}
-
-fn batch(alloc: Global, ticket: u64, command: Command) -> Result<Batch, Fail> {
-    match Batch::one(alloc, Taken { ticket, command }) {
-        Ok(batch) => Ok(batch),
-        Err((_, _)) => Err(Fail::from("no batch")),
+fn told(done: &Done, is_halted: bool) -> Told {
+    match done {
+        Done::Kept(receipts) => told_by(receipts.as_slice(), is_halted),
+        Done::NotApplied(ViewFault::NoMemory) => Told::Refused(1, is_halted),
+        Done::NotApplied(ViewFault::StoreRefused) => Told::Refused(80, is_halted),
+        Done::Unknown => Told::Refused(84, is_halted),
+        Done::Halted => Told::Refused(85, is_halted),
     }
 }
 
-fn begun(alloc: Global) -> Result<Vec<Batch>, Fail> {
-    let first = batch(alloc, 7, register(alloc)?)?;
-    let second = batch(alloc, 5, start(alloc)?)?;
-    Ok(vec![in alloc; first, second]?)
-}
-
-fn ended_at_once(alloc: Global) -> Result<Vec<Batch>, Fail> {
-    let first = batch(alloc, 1, register_empty(alloc)?)?;
-    let second = batch(alloc, 2, start_empty(alloc)?)?;
-    Ok(vec![in alloc; first, second]?)
-}
-
-fn reported(alloc: Global) -> Result<Vec<Batch>, Fail> {
-    let first = batch(alloc, 3, complete()?)?;
-    let second = batch(alloc, 1, complete()?)?;
-    Ok(vec![in alloc; first, second]?)
-}
-
-fn asked(alloc: Global) -> Result<Vec<Batch>, Fail> {
-    let first = batch(alloc, 2, history()?)?;
-    Ok(vec![in alloc; first]?)
-}
-
-fn opened<S: Alter + Drop>(alloc: Global, conn: Connection<S>) -> Result<Engine<S>, Fail> {
-    match Engine::open(alloc, conn) {
-        Ok(engine) => Ok(engine),
-        Err((_, _)) => Err(Fail::from("not opened")),
+fn all_told(alloc: Global, dones: &[Done], is_halted: bool) -> Result<Vec<Told>, Fail> {
+    let mut list = Vec::new(alloc);
+    for done in dones {
+        list.push(told(done, is_halted))?;
     }
+    Ok(list)
 }
 
-fn driven<S: Alter>(engine: &mut Engine<S>, batches: Vec<Batch>) -> Result<Vec<Done>, Fail> {
+fn batches(alloc: Global, calls: &[(u64, Call)]) -> Result<Vec<Batch>, Fail> {
+    let mut list = Vec::new(alloc);
+    for (ticket, call) in calls {
+        list.push(batch(alloc, *ticket, *call)?)?;
+    }
+    Ok(list)
+}
+
+fn drive_batches<S: Alter>(
+    alloc: Global,
+    engine: &mut Engine<S>,
+    batches: Vec<Batch>,
+) -> Result<Vec<Told>, Fail> {
     match drive(engine, batches) {
-        Ok(dones) => Ok(dones),
+        Ok(dones) => all_told(alloc, dones.as_slice(), engine.is_halted()),
         Err((_, _)) => Err(Fail::from("no room")),
     }
 }
 
-// The reply to a batch that was kept with this ticket and at this place.
-fn reply(done: Option<&Done>, ticket: u64, place: u64) -> Option<&Reply> {
-    match done {
-        Some(Done::Kept(receipts)) => match receipts.as_slice() {
-            [receipt] => {
-                if receipt.ticket == ticket && receipt.place == place {
-                    return Some(&receipt.reply);
-                }
-                None
-            }
-            _ => None,
-        },
-        _ => None,
-    }
-}
-
-fn is_begun(dones: &[Done]) -> bool {
-    let is_registered =
-        matches!(reply(dones.get(0), 7, 1), Some(Reply::Registered(text)) if text.get() == 1);
-    let is_started =
-        matches!(reply(dones.get(1), 5, 2), Some(Reply::Started(run)) if run.get() == 1);
-    dones.len() == 2 && is_registered && is_started
-}
-
-fn is_reported(dones: &[Done], place: u64, next: u64) -> bool {
-    let is_recorded =
-        matches!(reply(dones.get(0), 3, place), Some(Reply::Recorded(_, event)) if event.get() == 3);
-    let is_refused = matches!(
-        reply(dones.get(1), 1, next),
-        Some(Reply::Refused(Code::NotOpen))
-    );
-    dones.len() == 2 && is_recorded && is_refused
-}
-
-fn events(dones: &[Done], place: u64) -> usize {
-    match reply(dones.get(0), 2, place) {
-        Some(Reply::History(events)) => events.as_slice().len(),
-        _ => 99,
-    }
-}
-
-// Its second event, with which it ended.
-fn ends_with_nothing(dones: &[Done], place: u64) -> bool {
-    match reply(dones.get(0), 2, place) {
-        Some(Reply::History(events)) => match events.as_slice() {
-            [_, event] => is_end(event),
-            _ => false,
-        },
-        _ => false,
-    }
-}
-
-fn is_end(event: &Event) -> bool {
-    match &event.what {
-        What::Asked(Cmd::Complete(Value::Text(text))) => text.as_str().is_empty(),
-        _ => false,
-    }
-}
-
-fn events_now<S: Alter>(alloc: Global, engine: &mut Engine<S>, place: u64) -> Result<usize, Fail> {
-    let dones = driven(engine, asked(alloc)?)?;
-    Ok(events(dones.as_slice(), place))
-}
-
-fn begin<S: Alter>(alloc: Global, engine: &mut Engine<S>) -> Result<bool, Fail> {
-    let dones = driven(engine, begun(alloc)?)?;
-    Ok(is_begun(dones.as_slice()))
-}
-
-fn report<S: Alter>(
+/// What an engine tells of these calls, each with its ticket, as one list of batches.
+fn drive_calls<S: Alter>(
     alloc: Global,
     engine: &mut Engine<S>,
-    place: u64,
-    next: u64,
-) -> Result<bool, Fail> {
-    let dones = driven(engine, reported(alloc)?)?;
-    Ok(is_reported(dones.as_slice(), place, next))
+    calls: &[(u64, Call)],
+) -> Result<Vec<Told>, Fail> {
+    drive_batches(alloc, engine, batches(alloc, calls)?)
+}
+
+type Answers = (Result<Vec<Told>, Fail>, Result<Vec<Told>, Fail>);
+
+/// What one engine tells of two lists of calls, and the store that it leaves.
+fn drive_two<S: Alter>(
+    alloc: Global,
+    conn: Connection<S>,
+    calls: &[(u64, Call)],
+    more: &[(u64, Call)],
+) -> (Answers, Connection<S>) {
+    match Engine::open(alloc, conn) {
+        Ok(engine) => {
+            let mut engine = engine;
+            let first = drive_calls(alloc, &mut engine, calls);
+            let second = drive_calls(alloc, &mut engine, more);
+            ((first, second), engine.close())
+        }
+        Err((_, conn)) => (unopened(), conn),
+    }
+}
+
+fn unopened() -> Answers {
+    (Err(Fail::from("not opened")), Err(Fail::from("not opened")))
+}
+
+fn drive_new(
+    alloc: Global,
+    calls: &[(u64, Call)],
+    more: &[(u64, Call)],
+) -> Result<Answers, Fail> {
+    Ok(drive_over(alloc, Connection::open_in_memory(alloc)?, calls, more))
+}
+
+fn drive_over<S: Alter + Drop>(
+    alloc: Global,
+    conn: Connection<S>,
+    calls: &[(u64, Call)],
+    more: &[(u64, Call)],
+) -> Answers {
+    let (answers, conn) = drive_two(alloc, conn, calls, more);
+    let_go(conn);
+    answers
+}
+
+const BEGUN: [(u64, Call); 2] = [(7, Call::Register), (5, Call::Start)];
+
+/// What is told in three lives of one store: of the start of a run that waits on its activity, and of these calls.
+fn drive_on<S: Alter + Drop>(
+    alloc: Global,
+    conn: Connection<S>,
+    calls: &[(u64, Call)],
+    last: &[(u64, Call)],
+) -> (Answers, Result<Vec<Told>, Fail>) {
+    let ((begun, _), conn) = drive_two(alloc, conn, &BEGUN, &[]);
+    let ((second, _), conn) = drive_two(alloc, conn, calls, &[]);
+    let ((third, _), conn) = drive_two(alloc, conn, last, &[]);
+    let_go(conn);
+    ((begun, second), third)
 }
 
 #[test]
 fn batches_of_one_are_kept(rt: HostRuntime) -> Result<(), Fail> {
-    let alloc = rt.alloc();
-    let mut engine = opened(alloc, Connection::open_in_memory(alloc)?)?;
-    assert!(rt; begin(alloc, &mut engine)?);
-    assert!(rt; report(alloc, &mut engine, 3, 4)?);
-    assert!(rt; !engine.is_halted());
+    let reported = [(3, Call::Complete), (1, Call::Complete)];
+    let (first, second) = drive_new(rt.alloc(), &BEGUN, &reported)?;
+    let begun = [Told::Kept(7, 1, Named::Text(1)), Told::Kept(5, 2, Named::Run(1))];
+    let refused = Named::Code(Code::NotOpen.number());
+    let ended = [Told::Kept(3, 3, Named::Event(3)), Told::Kept(1, 4, refused)];
+    assert!(rt; first?.as_slice() == begun.as_slice());
+    assert!(rt; second?.as_slice() == ended.as_slice());
     Ok(())
 }
 
 #[test]
 fn no_batch_has_no_answer(rt: HostRuntime) -> Result<(), Fail> {
-    let alloc = rt.alloc();
-    let mut engine = opened(alloc, Connection::open_in_memory(alloc)?)?;
-    let dones = driven(&mut engine, Vec::new(alloc))?;
-    assert!(rt; dones.is_empty());
+    let (first, _) = drive_new(rt.alloc(), &[], &[])?;
+    assert!(rt; first?.is_empty());
     Ok(())
 }
 
 #[test]
 fn an_open_run_is_there_again(rt: HostRuntime) -> Result<(), Fail> {
-    let alloc = rt.alloc();
-    let mut engine = opened(alloc, Connection::open_in_memory(alloc)?)?;
-    assert!(rt; begin(alloc, &mut engine)?);
-    let mut again = opened(alloc, engine.close())?;
-    assert_eq!(rt; events_now(alloc, &mut again, 1)?, 2);
+    let conn = Connection::open_in_memory(rt.alloc())?;
+    let ((begun, found), _) = drive_on(rt.alloc(), conn, &[(2, Call::History)], &[]);
+    let wanted = [Told::Kept(2, 1, Named::Events(2, false))];
+    assert!(rt; are_all_kept(&begun) && found?.as_slice() == wanted.as_slice());
     Ok(())
 }
 
 #[test]
 fn a_report_is_there_again(rt: HostRuntime) -> Result<(), Fail> {
-    let alloc = rt.alloc();
-    let mut engine = opened(alloc, Connection::open_in_memory(alloc)?)?;
-    assert!(rt; begin(alloc, &mut engine)?);
-    let mut again = opened(alloc, engine.close())?;
-    assert!(rt; report(alloc, &mut again, 1, 2)?);
-    let mut last = opened(alloc, again.close())?;
-    assert_eq!(rt; events_now(alloc, &mut last, 1)?, 4);
+    let conn = Connection::open_in_memory(rt.alloc())?;
+    let reported = [(3, Call::Complete), (1, Call::Complete)];
+    let ((begun, ended), found) = drive_on(rt.alloc(), conn, &reported, &[(2, Call::History)]);
+    let refused = Named::Code(Code::NotOpen.number());
+    let wanted = [Told::Kept(3, 1, Named::Event(3)), Told::Kept(1, 2, refused)];
+    let history = [Told::Kept(2, 1, Named::Events(4, false))];
+    assert!(rt; are_all_kept(&begun) && ended?.as_slice() == wanted.as_slice());
+    assert!(rt; found?.as_slice() == history.as_slice());
     Ok(())
 }
 
 #[test]
 fn a_flow_with_nothing_to_do_ends(rt: HostRuntime) -> Result<(), Fail> {
-    let alloc = rt.alloc();
-    let mut engine = opened(alloc, Connection::open_in_memory(alloc)?)?;
-    driven(&mut engine, ended_at_once(alloc)?)?;
-    let dones = driven(&mut engine, asked(alloc)?)?;
-    assert!(rt; ends_with_nothing(dones.as_slice(), 3));
+    let calls = [(1, Call::RegisterEmpty), (2, Call::StartEmpty)];
+    let (_, found) = drive_new(rt.alloc(), &calls, &[(2, Call::History)])?;
+    let wanted = [Told::Kept(2, 3, Named::Events(2, true))];
+    assert!(rt; found?.as_slice() == wanted.as_slice());
     Ok(())
 }
 
-// The store of a run that waits on its activity, changed by a statement.
-fn changed(alloc: Global, sql: &str) -> Result<Connection<MemStore>, Fail> {
-    let mut engine = opened(alloc, Connection::open_in_memory(alloc)?)?;
-    begin(alloc, &mut engine)?;
-    let mut conn = engine.close();
-    conn.execute_batch(sql)?;
-    Ok(conn)
+/// The code of an opening that is refused.
+fn open_code<S: Alter + Drop>(alloc: Global, conn: Connection<S>) -> u8 {
+    match Engine::open(alloc, conn) {
+        Ok(engine) => {
+            let_go(engine.close());
+            0
+        }
+        Err((fault, conn)) => {
+            let_go(conn);
+            fault.code().number()
+        }
+    }
 }
 
-fn is_mismatch(answer: &Result<Engine<MemStore>, (OpeningFault, Connection<MemStore>)>) -> bool {
-    match answer {
-        Ok(_) => false,
-        Err((fault, _)) => fault.code() == Code::Mismatch,
+/// The same, over the store of a run that waits on its activity, changed by a statement.
+fn changed_code<S: Alter + Drop>(
+    alloc: Global,
+    conn: Connection<S>,
+    sql: &str,
+) -> Result<u8, Fail> {
+    let ((begun, _), conn) = drive_two(alloc, conn, &BEGUN, &[]);
+    let mut conn = conn;
+    let is_changed = conn.execute_batch(sql).is_ok();
+    let code = open_code(alloc, conn);
+    if is_changed && are_all_kept(&begun) {
+        Ok(code)
+    } else {
+        Err(Fail::from("not changed"))
     }
 }
 
 // Its rows tell a book, but the program asks for another argument than its second event has.
 #[test]
 fn a_run_that_does_not_replay_is_refused(rt: HostRuntime) -> Result<(), Fail> {
-    let alloc = rt.alloc();
-    let conn = changed(
-        alloc,
+    let code = changed_code(
+        rt.alloc(),
+        Connection::open_in_memory(rt.alloc())?,
         "UPDATE event SET body = replace(body, 'eur', 'usd') WHERE id = 2",
     )?;
-    let answer = Engine::open(alloc, conn);
-    assert!(rt; is_mismatch(&answer));
+    assert_eq!(rt; code, Code::Mismatch.number());
     Ok(())
 }

@@ -1,92 +1,84 @@
+// CHIEF TO HELPER 7: stop here and read /work/h7/NOTE-FROM-CHIEF.md (these tests are written already, in /work/s).
 //! Single commands committed over a store in memory, with ample memory.
+use crate::calls::{Call, Named, Told, are_all_kept, batch, let_go, told_by};
 use flow_commit::batch::Batch;
 use flow_commit::keeper::Keeper;
 use flow_commit::outcome::Outcome;
-use flow_base::command::{Command, Reply};
-use flow_base::number::{EventId, Moment, RunId, TextNo};
-use flow_base::sequence::Sequence;
-use flow_base::text::{Key, RawText};
-use flow_base::value::Value;
-use flow_machine::taken::{Receipt, Taken};
 use flow_tables::stored::Tables;
 use flow_view::fault::ViewFault;
-use sqlite::{Alter, Connection, FileStore, Files, MemStore, Options};
+use sqlite::{Alter, Connection, FileStore, Files, Options};
 use sqlite_disk::{Fuse, Memory};
 use std::alloc::Global;
 use std::test::Fail;
 
-const A: &str =
-    "workflow a(n: int) { activity c(int, text) -> int; let r = 0; r = call c(n, \"eur\"); return r + 1; }";
-
-fn register(alloc: Global) -> Result<Command, Fail> {
-    Ok(Command::Register(RawText::new(alloc, A)?))
-}
-
-fn start(alloc: Global) -> Result<Command, Fail> {
-    let request = Key::new(alloc, "q")?;
-    let flow = Key::new(alloc, "f")?;
-    let text = TextNo::new(1).ok_or("no text")?;
-    let arguments = Sequence::from_vec(vec![in alloc; Value::Int(7)]?);
-    let at = Moment::new(1000).ok_or("no moment")?;
-    Ok(Command::Start(request, flow, text, arguments, at))
-}
-
-fn complete() -> Result<Command, Fail> {
-    let run = RunId::new(1).ok_or("no run")?;
-    let event = EventId::new(2).ok_or("no event")?;
-    let at = Moment::new(1500).ok_or("no moment")?;
-    Ok(Command::Complete(run, event, 1, Value::Int(41), at))
-}
-
-fn opened<S: Alter + Drop>(alloc: Global, conn: Connection<S>) -> Result<Keeper<S>, Fail> {
-    match Tables::open(alloc, conn) {
-        Ok(tables) => Ok(Keeper::over(alloc, tables)),
-        Err((_, _)) => Err(Fail::from("not opened")),
-    }
-}
-
-fn closed<S: Alter>(keeper: Keeper<S>) -> Connection<S> {
-    keeper.into_tables().into_connection()
-}
-
-// Its receipt, where it is kept.
-fn committed<S: Alter>(keeper: &mut Keeper<S>, batch: Batch) -> Option<Receipt> {
-    match keeper.commit(batch) {
+fn told(outcome: Outcome, is_halted: bool) -> Told {
+    match outcome {
         Outcome::Kept(receipts, stamp) => {
             stamp.discard();
-            let mut receipts = receipts;
-            receipts.pop()
+            told_by(receipts.as_slice(), is_halted)
         }
-        Outcome::NotApplied(_, _) => None,
-        Outcome::Unknown(_) => None,
-        Outcome::Halted(_) => None,
+        Outcome::NotApplied(_, ViewFault::NoMemory) => Told::Refused(1, is_halted),
+        Outcome::NotApplied(_, ViewFault::StoreRefused) => Told::Refused(80, is_halted),
+        Outcome::Unknown(_) => Told::Refused(84, is_halted),
+        Outcome::Halted(_) => Told::Refused(85, is_halted),
     }
 }
 
-fn kept<S: Alter + Drop>(
+fn committed<S: Alter>(keeper: &mut Keeper<S>, batch: Batch) -> Told {
+    let outcome = keeper.commit(batch);
+    told(outcome, keeper.is_halted())
+}
+
+/// What one keeper tells of these calls, each with its ticket.
+fn all_committed<S: Alter>(
     alloc: Global,
     keeper: &mut Keeper<S>,
-    ticket: u64,
-    command: Command,
-) -> Result<Receipt, Fail> {
-    match Batch::one(alloc, Taken { ticket, command }) {
-        Ok(batch) => match committed(keeper, batch) {
-            Some(receipt) => Ok(receipt),
-            None => Err(Fail::from("not kept")),
-        },
-        Err((_, _)) => Err(Fail::from("no batch")),
+    calls: &[(u64, Call)],
+) -> Result<Vec<Told>, Fail> {
+    let mut list = Vec::new(alloc);
+    for (ticket, call) in calls {
+        let one = committed(keeper, batch(alloc, *ticket, *call)?);
+        list.push(one)?;
+    }
+    Ok(list)
+}
+
+/// What a keeper that is opened for these calls alone tells of them, and the store behind them.
+fn keep<S: Alter>(
+    alloc: Global,
+    conn: Connection<S>,
+    calls: &[(u64, Call)],
+) -> (Result<Vec<Told>, Fail>, Connection<S>) {
+    match Tables::open(alloc, conn) {
+        Ok(tables) => {
+            let mut keeper = Keeper::over(alloc, tables);
+            let told = all_committed(alloc, &mut keeper, calls);
+            (told, keeper.into_tables().into_connection())
+        }
+        Err((_, conn)) => (Err(Fail::from("not opened")), conn),
     }
 }
 
-// The number that a reply names, and of a refusal its code.
-fn answered(reply: &Reply) -> u64 {
-    match reply {
-        Reply::Registered(text) => text.get(),
-        Reply::Started(run) => run.get(),
-        Reply::Recorded(_, event) => event.get(),
-        Reply::Refused(code) => code.number() as u64,
-        _ => 0,
-    }
+fn keep_over<S: Alter + Drop>(
+    alloc: Global,
+    conn: Connection<S>,
+    calls: &[(u64, Call)],
+) -> Result<Vec<Told>, Fail> {
+    let (told, conn) = keep(alloc, conn, calls);
+    let_go(conn);
+    told
+}
+
+fn keep_in_memory(alloc: Global, calls: &[(u64, Call)]) -> Result<Vec<Told>, Fail> {
+    keep_over(alloc, Connection::open_in_memory(alloc)?, calls)
+}
+
+#[test]
+fn receipts_stand_at_their_places(rt: HostRuntime) -> Result<(), Fail> {
+    let told = keep_in_memory(rt.alloc(), &[(5, Call::Register), (4, Call::Start)])?;
+    let wanted = [Told::Kept(5, 1, Named::Text(1)), Told::Kept(4, 2, Named::Run(1))];
+    assert!(rt; told.as_slice() == wanted.as_slice());
+    Ok(())
 }
 
 fn count<S: Alter>(conn: &mut Connection<S>, sql: &str) -> usize {
@@ -96,91 +88,104 @@ fn count<S: Alter>(conn: &mut Connection<S>, sql: &str) -> usize {
     }
 }
 
-// A store with a run that waits on its activity.
-fn begun(alloc: Global) -> Result<Connection<MemStore>, Fail> {
-    let mut keeper = opened(alloc, Connection::open_in_memory(alloc)?)?;
-    kept(alloc, &mut keeper, 1, register(alloc)?)?;
-    kept(alloc, &mut keeper, 2, start(alloc)?)?;
-    Ok(closed(keeper))
+fn counts<S: Alter>(
+    alloc: Global,
+    conn: &mut Connection<S>,
+    sqls: &[&str],
+) -> Result<Vec<usize>, Fail> {
+    let mut list = Vec::new(alloc);
+    for sql in sqls {
+        let rows = count(conn, *sql);
+        list.push(rows)?;
+    }
+    Ok(list)
 }
 
-#[test]
-fn receipts_stand_at_their_places(rt: HostRuntime) -> Result<(), Fail> {
-    let alloc = rt.alloc();
-    let mut keeper = opened(alloc, Connection::open_in_memory(alloc)?)?;
-    let first = kept(alloc, &mut keeper, 5, register(alloc)?)?;
-    assert!(rt; first.ticket == 5 && first.place == 1);
-    assert_eq!(rt; answered(&first.reply), 1);
-    let second = kept(alloc, &mut keeper, 4, start(alloc)?)?;
-    assert!(rt; second.ticket == 4 && second.place == 2);
-    assert_eq!(rt; answered(&second.reply), 1);
-    Ok(())
+/// How many rows these statements find behind calls that are all kept. Some are made once the store was closed and opened
+/// again.
+fn counts_behind<S: Alter + Drop>(
+    alloc: Global,
+    conn: Connection<S>,
+    calls: &[(u64, Call)],
+    later: &[(u64, Call)],
+    sqls: &[&str],
+) -> Result<Vec<usize>, Fail> {
+    let (first, conn) = keep(alloc, conn, calls);
+    let (second, conn) = keep(alloc, conn, later);
+    let mut conn = conn;
+    let found = counts(alloc, &mut conn, sqls);
+    let_go(conn);
+    if are_all_kept(&first) && are_all_kept(&second) {
+        found
+    } else {
+        Err(Fail::from("not kept"))
+    }
 }
 
 // After the first two commands the outbox holds the activity, after its report it is empty and the run isn't open.
 #[test]
 fn the_outbox_holds_what_is_open(rt: HostRuntime) -> Result<(), Fail> {
-    let alloc = rt.alloc();
-    let mut conn = begun(alloc)?;
-    assert_eq!(rt; count(&mut conn, "SELECT run FROM outbox"), 1);
-    assert_eq!(rt;
-        count(
-            &mut conn,
-            "SELECT run FROM outbox WHERE run = 1 AND id = 2 AND attempt = 1 AND ready = 1000"
-        ),
-        1
-    );
-    assert_eq!(rt;
-        count(
-            &mut conn,
-            "SELECT num FROM run WHERE num = 1 AND isopen = 1"
-        ),
-        1
-    );
+    let found = counts_behind(
+        rt.alloc(),
+        Connection::open_in_memory(rt.alloc())?,
+        &[(1, Call::Register), (2, Call::Start)],
+        &[],
+        &[
+            "SELECT run FROM outbox",
+            "SELECT run FROM outbox WHERE run = 1 AND id = 2 AND attempt = 1 AND ready = 1000",
+            "SELECT num FROM run WHERE num = 1 AND isopen = 1",
+        ],
+    )?;
+    assert!(rt; found.as_slice() == [1, 1, 1].as_slice());
     Ok(())
 }
 
 // The same store behind a closing, an opening and the activity's report.
-fn reported(alloc: Global) -> Result<Connection<MemStore>, Fail> {
-    let mut keeper = opened(alloc, begun(alloc)?)?;
-    kept(alloc, &mut keeper, 3, complete()?)?;
-    Ok(closed(keeper))
-}
-
 #[test]
 fn a_report_empties_the_outbox(rt: HostRuntime) -> Result<(), Fail> {
-    let mut conn = reported(rt.alloc())?;
-    assert_eq!(rt; count(&mut conn, "SELECT run FROM outbox"), 0);
-    assert_eq!(rt;
-        count(
-            &mut conn,
-            "SELECT num FROM run WHERE num = 1 AND isopen = 0"
-        ),
-        1
-    );
-    assert_eq!(rt; count(&mut conn, "SELECT id FROM event WHERE run = 1"), 4);
+    let found = counts_behind(
+        rt.alloc(),
+        Connection::open_in_memory(rt.alloc())?,
+        &[(1, Call::Register), (2, Call::Start)],
+        &[(3, Call::Complete)],
+        &[
+            "SELECT run FROM outbox",
+            "SELECT num FROM run WHERE num = 1 AND isopen = 0",
+            "SELECT id FROM event WHERE run = 1",
+        ],
+    )?;
+    assert!(rt; found.as_slice() == [0, 1, 4].as_slice());
     Ok(())
 }
 
-// A refused command is kept too, and changes nothing.
+// A refused command is kept too, and the keeper goes on.
+#[test]
+fn a_refusal_is_kept(rt: HostRuntime) -> Result<(), Fail> {
+    let told = keep_in_memory(rt.alloc(), &[(1, Call::Complete), (2, Call::Register)])?;
+    let wanted = [Told::Kept(1, 1, Named::Code(70)), Told::Kept(2, 2, Named::Text(1))];
+    assert!(rt; told.as_slice() == wanted.as_slice());
+    Ok(())
+}
+
 #[test]
 fn a_refusal_changes_nothing(rt: HostRuntime) -> Result<(), Fail> {
-    let alloc = rt.alloc();
-    let mut keeper = opened(alloc, Connection::open_in_memory(alloc)?)?;
-    let receipt = kept(alloc, &mut keeper, 1, complete()?)?;
-    assert_eq!(rt; answered(&receipt.reply), 70);
-    assert!(rt; !keeper.is_halted());
-    let mut conn = closed(keeper);
-    assert_eq!(rt; count(&mut conn, "SELECT num FROM run"), 0);
+    let found = counts_behind(
+        rt.alloc(),
+        Connection::open_in_memory(rt.alloc())?,
+        &[(1, Call::Complete)],
+        &[],
+        &["SELECT num FROM run"],
+    )?;
+    assert!(rt; found.as_slice() == [0].as_slice());
     Ok(())
 }
 
-// A store over files in memory, whose log fails from so many calls on.
+/// A store over files in memory, whose log fails from so many calls on.
 fn failing(
     alloc: Global,
     calls: u64,
     cache_pages: usize,
-) -> Result<Keeper<FileStore<Fuse<Memory>>>, Fail> {
+) -> Result<Connection<FileStore<Fuse<Memory>>>, Fail> {
     let files = Files {
         log: Fuse::new(Memory::new(alloc), calls),
         db: Fuse::new(Memory::new(alloc), u64::MAX),
@@ -191,51 +196,33 @@ fn failing(
     let mut options = Options::new(1);
     options.cache_pages = cache_pages;
     match Connection::open_files(alloc, files, options) {
-        Ok(conn) => opened(alloc, conn),
+        Ok(conn) => Ok(conn),
         Err((_, _)) => Err(Fail::from("no files")),
-    }
-}
-
-// The code that the program tells of it, and 0 where it is kept.
-fn ended<S: Alter>(keeper: &mut Keeper<S>, batch: Batch) -> u8 {
-    match keeper.commit(batch) {
-        Outcome::Kept(_, stamp) => {
-            stamp.discard();
-            0
-        }
-        Outcome::NotApplied(_, ViewFault::NoMemory) => 1,
-        Outcome::NotApplied(_, ViewFault::StoreRefused) => 80,
-        Outcome::Unknown(_) => 84,
-        Outcome::Halted(_) => 85,
-    }
-}
-
-fn given<S: Alter>(alloc: Global, keeper: &mut Keeper<S>, command: Command) -> Result<u8, Fail> {
-    match Batch::one(alloc, Taken { ticket: 1, command }) {
-        Ok(batch) => Ok(ended(keeper, batch)),
-        Err((_, _)) => Err(Fail::from("no batch")),
     }
 }
 
 // With one page in memory a read of the second command fails. Nothing of it is kept, and the keeper goes on.
 #[test]
 fn a_read_that_fails_applies_nothing(rt: HostRuntime) -> Result<(), Fail> {
-    let alloc = rt.alloc();
-    let mut keeper = failing(alloc, 34, 1)?;
-    assert_eq!(rt; given(alloc, &mut keeper, register(alloc)?)?, 0);
-    assert_eq!(rt; given(alloc, &mut keeper, start(alloc)?)?, 80);
-    assert!(rt; !keeper.is_halted());
+    let told = keep_over(
+        rt.alloc(),
+        failing(rt.alloc(), 34, 1)?,
+        &[(1, Call::Register), (1, Call::Start)],
+    )?;
+    let wanted = [Told::Kept(1, 1, Named::Text(1)), Told::Refused(80, false)];
+    assert!(rt; told.as_slice() == wanted.as_slice());
     Ok(())
 }
 
 // With all pages in memory only the commit reaches the log. Nobody knows of it, and the keeper answers no more.
 #[test]
 fn a_commit_that_fails_halts(rt: HostRuntime) -> Result<(), Fail> {
-    let alloc = rt.alloc();
-    let mut keeper = failing(alloc, 30, 2000)?;
-    assert_eq!(rt; given(alloc, &mut keeper, register(alloc)?)?, 0);
-    assert_eq!(rt; given(alloc, &mut keeper, start(alloc)?)?, 84);
-    assert!(rt; keeper.is_halted());
-    assert_eq!(rt; given(alloc, &mut keeper, complete()?)?, 85);
+    let told = keep_over(
+        rt.alloc(),
+        failing(rt.alloc(), 30, 2000)?,
+        &[(1, Call::Register), (1, Call::Start), (1, Call::Complete)],
+    )?;
+    let wanted = [Told::Kept(1, 1, Named::Text(1)), Told::Refused(84, true), Told::Refused(85, true)];
+    assert!(rt; told.as_slice() == wanted.as_slice());
     Ok(())
 }
