@@ -1,4 +1,3 @@
-// CHIEF TO HELPER 7: stop here and read /work/h7/NOTE-FROM-CHIEF.md (these tests are written already, in /work/s).
 //! Calls on a store, and what is told of them in plain numbers.
 //!
 //! Whoever owns a keeper, an engine or a connection lets it go at each of its exits, and that is what a proof costs. So the
@@ -13,7 +12,6 @@ use flow_commit::batch::Batch;
 use flow_machine::taken::{Receipt, Taken};
 use sqlite::{Alter, Connection};
 use std::alloc::Global;
-use std::test::Fail;
 
 const A: &str =
     "workflow a(n: int) { activity c(int, text) -> int; let r = 0; r = call c(n, \"eur\"); return r + 1; }";
@@ -57,45 +55,45 @@ pub enum Told {
     Refused(u8, bool),
 }
 
-pub fn register(alloc: Global) -> Result<Command, Fail> {
-    Ok(Command::Register(RawText::new(alloc, A)?))
+pub fn register(alloc: Global) -> Option<Command> {
+    Some(Command::Register(RawText::new(alloc, A).ok()?))
 }
 
 /// A run of the text, under a flow of this name, which waits on its activity.
-pub fn start(alloc: Global, name: &str) -> Result<Command, Fail> {
-    let text = TextNo::new(1).ok_or("no text")?;
-    let at = Moment::new(1000).ok_or("no moment")?;
-    let arguments = Sequence::from_vec(vec![in alloc; Value::Int(7)]?);
-    let request = Key::new(alloc, name)?;
-    let flow = Key::new(alloc, name)?;
-    Ok(Command::Start(request, flow, text, arguments, at))
+pub fn start(alloc: Global, name: &str) -> Option<Command> {
+    let text = TextNo::new(1)?;
+    let at = Moment::new(1000)?;
+    let request = Key::new(alloc, name).ok()?;
+    let flow = Key::new(alloc, name).ok()?;
+    let arguments = Sequence::from_vec(vec![in alloc; Value::Int(7)].ok()?);
+    Some(Command::Start(request, flow, text, arguments, at))
 }
 
-pub fn complete(run: u64) -> Result<Command, Fail> {
-    let run = RunId::new(run).ok_or("no run")?;
-    let event = EventId::new(2).ok_or("no event")?;
-    let at = Moment::new(1500).ok_or("no moment")?;
-    Ok(Command::Complete(run, event, 1, Value::Int(41), at))
+pub fn complete(run: u64) -> Option<Command> {
+    let run = RunId::new(run)?;
+    let event = EventId::new(2)?;
+    let at = Moment::new(1500)?;
+    Some(Command::Complete(run, event, 1, Value::Int(41), at))
 }
 
-fn register_empty(alloc: Global) -> Result<Command, Fail> {
-    Ok(Command::Register(RawText::new(alloc, "workflow e() {}")?))
+fn register_empty(alloc: Global) -> Option<Command> {
+    Some(Command::Register(RawText::new(alloc, "workflow e() {}").ok()?))
 }
 
-fn start_empty(alloc: Global) -> Result<Command, Fail> {
-    let text = TextNo::new(1).ok_or("no text")?;
-    let at = Moment::new(0).ok_or("no moment")?;
-    let request = Key::new(alloc, "q")?;
-    let flow = Key::new(alloc, "f")?;
+fn start_empty(alloc: Global) -> Option<Command> {
+    let text = TextNo::new(1)?;
+    let at = Moment::new(0)?;
+    let request = Key::new(alloc, "q").ok()?;
+    let flow = Key::new(alloc, "f").ok()?;
     let arguments = Sequence::from_vec(Vec::new(alloc));
-    Ok(Command::Start(request, flow, text, arguments, at))
+    Some(Command::Start(request, flow, text, arguments, at))
 }
 
-fn history() -> Result<Command, Fail> {
-    Ok(Command::History(RunId::new(1).ok_or("no run")?))
+fn history() -> Option<Command> {
+    Some(Command::History(RunId::new(1)?))
 }
 
-pub fn command(alloc: Global, call: Call) -> Result<Command, Fail> {
+pub fn command(alloc: Global, call: Call) -> Option<Command> {
     match call {
         Call::Register => register(alloc),
         Call::Start => start(alloc, "f"),
@@ -107,11 +105,11 @@ pub fn command(alloc: Global, call: Call) -> Result<Command, Fail> {
 }
 
 /// The batch of a call with this ticket.
-pub fn batch(alloc: Global, ticket: u64, call: Call) -> Result<Batch, Fail> {
+pub fn batch(alloc: Global, ticket: u64, call: Call) -> Option<Batch> {
     let command = command(alloc, call)?;
     match Batch::one(alloc, Taken { ticket, command }) {
-        Ok(batch) => Ok(batch),
-        Err((_, _)) => Err(Fail::from("no batch")),
+        Ok(batch) => Some(batch),
+        Err((_, _)) => None,
     }
 }
 
@@ -129,7 +127,7 @@ fn ends_empty(events: &[Event]) -> bool {
     }
 }
 
-fn named(reply: &Reply) -> Named {
+fn named_by(reply: &Reply) -> Named {
     match reply {
         Reply::Registered(text) => Named::Text(text.get()),
         Reply::Started(run) => Named::Run(run.get()),
@@ -149,7 +147,7 @@ pub fn told_by(receipts: &[Receipt], is_halted: bool) -> Told {
             if is_halted {
                 return Told::Refused(0, true);
             }
-            Told::Kept(receipt.ticket, receipt.place, named(&receipt.reply))
+            Told::Kept(receipt.ticket, receipt.place, named_by(&receipt.reply))
         }
         _ => Told::Refused(0, is_halted),
     }
@@ -163,10 +161,10 @@ fn are_kept(told: &[Told]) -> bool {
     are
 }
 
-pub fn are_all_kept(told: &Result<Vec<Told>, Fail>) -> bool {
+pub fn are_all_kept(told: &Option<Vec<Told>>) -> bool {
     match told {
-        Ok(told) => are_kept(told.as_slice()),
-        Err(_) => false,
+        Some(told) => are_kept(told.as_slice()),
+        None => false,
     }
 }
 

@@ -1,4 +1,3 @@
-// CHIEF TO HELPER 7: stop here and read /work/h7/NOTE-FROM-CHIEF.md (these tests are written already, in /work/s).
 //! Single commands committed over a store in memory, with ample memory.
 use crate::calls::{Call, Named, Told, are_all_kept, batch, let_go, told_by};
 use flow_commit::batch::Batch;
@@ -34,13 +33,13 @@ fn all_committed<S: Alter>(
     alloc: Global,
     keeper: &mut Keeper<S>,
     calls: &[(u64, Call)],
-) -> Result<Vec<Told>, Fail> {
+) -> Option<Vec<Told>> {
     let mut list = Vec::new(alloc);
     for (ticket, call) in calls {
         let one = committed(keeper, batch(alloc, *ticket, *call)?);
-        list.push(one)?;
+        list.push(one).ok()?;
     }
-    Ok(list)
+    Some(list)
 }
 
 /// What a keeper that is opened for these calls alone tells of them, and the store behind them.
@@ -48,14 +47,14 @@ fn keep<S: Alter>(
     alloc: Global,
     conn: Connection<S>,
     calls: &[(u64, Call)],
-) -> (Result<Vec<Told>, Fail>, Connection<S>) {
+) -> (Option<Vec<Told>>, Connection<S>) {
     match Tables::open(alloc, conn) {
         Ok(tables) => {
             let mut keeper = Keeper::over(alloc, tables);
             let told = all_committed(alloc, &mut keeper, calls);
             (told, keeper.into_tables().into_connection())
         }
-        Err((_, conn)) => (Err(Fail::from("not opened")), conn),
+        Err((_, conn)) => (None, conn),
     }
 }
 
@@ -63,20 +62,25 @@ fn keep_over<S: Alter + Drop>(
     alloc: Global,
     conn: Connection<S>,
     calls: &[(u64, Call)],
-) -> Result<Vec<Told>, Fail> {
+) -> Option<Vec<Told>> {
     let (told, conn) = keep(alloc, conn, calls);
     let_go(conn);
     told
 }
 
-fn keep_in_memory(alloc: Global, calls: &[(u64, Call)]) -> Result<Vec<Told>, Fail> {
-    keep_over(alloc, Connection::open_in_memory(alloc)?, calls)
+fn keep_in_memory(alloc: Global, calls: &[(u64, Call)]) -> Option<Vec<Told>> {
+    keep_over(alloc, Connection::open_in_memory(alloc).ok()?, calls)
 }
 
 #[test]
 fn receipts_stand_at_their_places(rt: HostRuntime) -> Result<(), Fail> {
-    let told = keep_in_memory(rt.alloc(), &[(5, Call::Register), (4, Call::Start)])?;
-    let wanted = [Told::Kept(5, 1, Named::Text(1)), Told::Kept(4, 2, Named::Run(1))];
+    let told = keep_in_memory(rt.alloc(), &[(5, Call::Register), (4, Call::Start)]).ok_or(
+        "not opened",
+    )?;
+    let wanted = [
+        Told::Kept(5, 1, Named::Text(1)),
+        Told::Kept(4, 2, Named::Run(1)),
+    ];
     assert!(rt; told.as_slice() == wanted.as_slice());
     Ok(())
 }
@@ -88,17 +92,13 @@ fn count<S: Alter>(conn: &mut Connection<S>, sql: &str) -> usize {
     }
 }
 
-fn counts<S: Alter>(
-    alloc: Global,
-    conn: &mut Connection<S>,
-    sqls: &[&str],
-) -> Result<Vec<usize>, Fail> {
+fn counts<S: Alter>(alloc: Global, conn: &mut Connection<S>, sqls: &[&str]) -> Option<Vec<usize>> {
     let mut list = Vec::new(alloc);
     for sql in sqls {
         let rows = count(conn, *sql);
-        list.push(rows)?;
+        list.push(rows).ok()?;
     }
-    Ok(list)
+    Some(list)
 }
 
 /// How many rows these statements find behind calls that are all kept. Some are made once the store was closed and opened
@@ -109,7 +109,7 @@ fn counts_behind<S: Alter + Drop>(
     calls: &[(u64, Call)],
     later: &[(u64, Call)],
     sqls: &[&str],
-) -> Result<Vec<usize>, Fail> {
+) -> Option<Vec<usize>> {
     let (first, conn) = keep(alloc, conn, calls);
     let (second, conn) = keep(alloc, conn, later);
     let mut conn = conn;
@@ -118,7 +118,7 @@ fn counts_behind<S: Alter + Drop>(
     if are_all_kept(&first) && are_all_kept(&second) {
         found
     } else {
-        Err(Fail::from("not kept"))
+        None
     }
 }
 
@@ -135,7 +135,8 @@ fn the_outbox_holds_what_is_open(rt: HostRuntime) -> Result<(), Fail> {
             "SELECT run FROM outbox WHERE run = 1 AND id = 2 AND attempt = 1 AND ready = 1000",
             "SELECT num FROM run WHERE num = 1 AND isopen = 1",
         ],
-    )?;
+    )
+    .ok_or("not kept")?;
     assert!(rt; found.as_slice() == [1, 1, 1].as_slice());
     Ok(())
 }
@@ -153,7 +154,8 @@ fn a_report_empties_the_outbox(rt: HostRuntime) -> Result<(), Fail> {
             "SELECT num FROM run WHERE num = 1 AND isopen = 0",
             "SELECT id FROM event WHERE run = 1",
         ],
-    )?;
+    )
+    .ok_or("not kept")?;
     assert!(rt; found.as_slice() == [0, 1, 4].as_slice());
     Ok(())
 }
@@ -161,8 +163,13 @@ fn a_report_empties_the_outbox(rt: HostRuntime) -> Result<(), Fail> {
 // A refused command is kept too, and the keeper goes on.
 #[test]
 fn a_refusal_is_kept(rt: HostRuntime) -> Result<(), Fail> {
-    let told = keep_in_memory(rt.alloc(), &[(1, Call::Complete), (2, Call::Register)])?;
-    let wanted = [Told::Kept(1, 1, Named::Code(70)), Told::Kept(2, 2, Named::Text(1))];
+    let told = keep_in_memory(rt.alloc(), &[(1, Call::Complete), (2, Call::Register)]).ok_or(
+        "not opened",
+    )?;
+    let wanted = [
+        Told::Kept(1, 1, Named::Code(70)),
+        Told::Kept(2, 2, Named::Text(1)),
+    ];
     assert!(rt; told.as_slice() == wanted.as_slice());
     Ok(())
 }
@@ -175,7 +182,8 @@ fn a_refusal_changes_nothing(rt: HostRuntime) -> Result<(), Fail> {
         &[(1, Call::Complete)],
         &[],
         &["SELECT num FROM run"],
-    )?;
+    )
+    .ok_or("not kept")?;
     assert!(rt; found.as_slice() == [0].as_slice());
     Ok(())
 }
@@ -208,7 +216,8 @@ fn a_read_that_fails_applies_nothing(rt: HostRuntime) -> Result<(), Fail> {
         rt.alloc(),
         failing(rt.alloc(), 34, 1)?,
         &[(1, Call::Register), (1, Call::Start)],
-    )?;
+    )
+    .ok_or("not opened")?;
     let wanted = [Told::Kept(1, 1, Named::Text(1)), Told::Refused(80, false)];
     assert!(rt; told.as_slice() == wanted.as_slice());
     Ok(())
@@ -221,8 +230,13 @@ fn a_commit_that_fails_halts(rt: HostRuntime) -> Result<(), Fail> {
         rt.alloc(),
         failing(rt.alloc(), 30, 2000)?,
         &[(1, Call::Register), (1, Call::Start), (1, Call::Complete)],
-    )?;
-    let wanted = [Told::Kept(1, 1, Named::Text(1)), Told::Refused(84, true), Told::Refused(85, true)];
+    )
+    .ok_or("not opened")?;
+    let wanted = [
+        Told::Kept(1, 1, Named::Text(1)),
+        Told::Refused(84, true),
+        Told::Refused(85, true),
+    ];
     assert!(rt; told.as_slice() == wanted.as_slice());
     Ok(())
 }

@@ -1,4 +1,3 @@
-// CHIEF TO HELPER 7: stop here and read /work/h7/NOTE-FROM-CHIEF.md (these tests are written already, in /work/s).
 //! Tests over a store: what a keeper keeps in it, what is found when it is opened, and what an engine does with batches.
 #![tactic(auto)]
 

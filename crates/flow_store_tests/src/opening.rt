@@ -118,17 +118,17 @@ fn keep<S: Alter>(alloc: Global, conn: Connection<S>, batch: Batch) -> (bool, Co
 
 fn keep_call<S: Alter>(alloc: Global, conn: Connection<S>, call: Call) -> (bool, Connection<S>) {
     match batch(alloc, 1, call) {
-        Ok(batch) => keep(alloc, conn, batch),
-        Err(_) => (false, conn),
+        Some(batch) => keep(alloc, conn, batch),
+        None => (false, conn),
     }
 }
 
 fn decided<S: Alter>(alloc: Global, tables: &mut Tables<S>, call: Call) -> bool {
     match command(alloc, call) {
-        Ok(command) => {
+        Some(command) => {
             tables.begin().is_ok() && decide(alloc, &Language, tables, &command).is_ok()
         }
-        Err(_) => false,
+        None => false,
     }
 }
 
@@ -168,7 +168,11 @@ fn where_true<S: Alter + Drop>(answer: (bool, Connection<S>)) -> Option<Connecti
     }
 }
 
-fn step(alloc: Global, conn: Connection<MemStore>, step: Step) -> Option<Connection<MemStore>> {
+fn take_step(
+    alloc: Global,
+    conn: Connection<MemStore>,
+    step: Step,
+) -> Option<Connection<MemStore>> {
     match step {
         Step::Keep(call) => where_true(keep_call(alloc, conn, call)),
         Step::Apply(call) => where_true(apply(alloc, conn, call)),
@@ -184,7 +188,7 @@ fn behind(
 ) -> Option<Connection<MemStore>> {
     match steps {
         [] => Some(conn),
-        [first, rest @ ..] => match step(alloc, conn, *first) {
+        [first, rest @ ..] => match take_step(alloc, conn, *first) {
             Some(conn) => behind(alloc, conn, rest),
             None => None,
         },
@@ -198,7 +202,7 @@ fn look_once<S: Alter + Drop>(alloc: Global, conn: Connection<S>) -> Found {
 }
 
 /// What is found in a new store behind these steps.
-fn found(alloc: Global, steps: &[Step]) -> Result<Found, Fail> {
+fn look_behind(alloc: Global, steps: &[Step]) -> Result<Found, Fail> {
     match behind(alloc, Connection::open_in_memory(alloc)?, steps) {
         Some(conn) => Ok(look_once(alloc, conn)),
         None => Err(Fail::from("a step failed")),
@@ -207,57 +211,84 @@ fn found(alloc: Global, steps: &[Step]) -> Result<Found, Fail> {
 
 #[test]
 fn an_empty_store_has_no_position(rt: HostRuntime) -> Result<(), Fail> {
-    assert!(rt; found(rt.alloc(), &[])? == Found::Nothing);
+    assert!(rt; look_behind(rt.alloc(), &[])? == Found::Nothing);
     Ok(())
 }
 
 #[test]
 fn a_run_that_waits_has_a_position(rt: HostRuntime) -> Result<(), Fail> {
     let steps = [Step::Keep(Call::Register), Step::Keep(Call::Start)];
-    assert!(rt; found(rt.alloc(), &steps)? == Found::OneWaiting);
+    assert!(rt; look_behind(rt.alloc(), &steps)? == Found::OneWaiting);
     Ok(())
 }
 
 #[test]
 fn a_closed_run_has_none(rt: HostRuntime) -> Result<(), Fail> {
-    let steps = [Step::Keep(Call::Register), Step::Keep(Call::Start), Step::Keep(Call::Complete)];
-    assert!(rt; found(rt.alloc(), &steps)? == Found::Nothing);
+    let steps = [
+        Step::Keep(Call::Register),
+        Step::Keep(Call::Start),
+        Step::Keep(Call::Complete),
+    ];
+    assert!(rt; look_behind(rt.alloc(), &steps)? == Found::Nothing);
     Ok(())
 }
 
 #[test]
 fn a_stop_within_a_transaction_leaves_the_last_commit(rt: HostRuntime) -> Result<(), Fail> {
-    let steps = [Step::Keep(Call::Register), Step::Keep(Call::Start), Step::Apply(Call::Complete), Step::Stop];
-    assert!(rt; found(rt.alloc(), &steps)? == Found::OneWaiting);
+    let steps = [
+        Step::Keep(Call::Register),
+        Step::Keep(Call::Start),
+        Step::Apply(Call::Complete),
+        Step::Stop,
+    ];
+    assert!(rt; look_behind(rt.alloc(), &steps)? == Found::OneWaiting);
     Ok(())
 }
 
 #[test]
 fn a_transaction_that_runs_is_rolled_back(rt: HostRuntime) -> Result<(), Fail> {
-    let steps = [Step::Keep(Call::Register), Step::Keep(Call::Start), Step::Apply(Call::Complete)];
-    assert!(rt; found(rt.alloc(), &steps)? == Found::OneWaiting);
+    let steps = [
+        Step::Keep(Call::Register),
+        Step::Keep(Call::Start),
+        Step::Apply(Call::Complete),
+    ];
+    assert!(rt; look_behind(rt.alloc(), &steps)? == Found::OneWaiting);
     Ok(())
 }
 
 #[test]
 fn what_was_committed_is_there_after_a_stop(rt: HostRuntime) -> Result<(), Fail> {
-    let steps = [Step::Keep(Call::Register), Step::Keep(Call::Start), Step::Stop, Step::Keep(Call::Complete), Step::Stop];
-    assert!(rt; found(rt.alloc(), &steps)? == Found::Nothing);
+    let steps = [
+        Step::Keep(Call::Register),
+        Step::Keep(Call::Start),
+        Step::Stop,
+        Step::Keep(Call::Complete),
+        Step::Stop,
+    ];
+    assert!(rt; look_behind(rt.alloc(), &steps)? == Found::Nothing);
     Ok(())
 }
 
 // Its rows tell a book, but the program asks for another argument than its second event has.
 #[test]
 fn a_run_that_does_not_replay_is_refused(rt: HostRuntime) -> Result<(), Fail> {
-    let steps = [Step::Keep(Call::Register), Step::Keep(Call::Start), Step::Change("UPDATE event SET body = replace(body, 'eur', 'usd') WHERE id = 2")];
-    assert!(rt; found(rt.alloc(), &steps)? == Found::Mismatch);
+    let steps = [
+        Step::Keep(Call::Register),
+        Step::Keep(Call::Start),
+        Step::Change("UPDATE event SET body = replace(body, 'eur', 'usd') WHERE id = 2"),
+    ];
+    assert!(rt; look_behind(rt.alloc(), &steps)? == Found::Mismatch);
     Ok(())
 }
 
 #[test]
 fn rows_that_tell_no_book_are_refused(rt: HostRuntime) -> Result<(), Fail> {
-    let steps = [Step::Keep(Call::Register), Step::Keep(Call::Start), Step::Change("DELETE FROM outbox")];
-    assert!(rt; found(rt.alloc(), &steps)? == Found::Refused(Code::Damaged.number()));
+    let steps = [
+        Step::Keep(Call::Register),
+        Step::Keep(Call::Start),
+        Step::Change("DELETE FROM outbox"),
+    ];
+    assert!(rt; look_behind(rt.alloc(), &steps)? == Found::Refused(Code::Damaged.number()));
     Ok(())
 }
 

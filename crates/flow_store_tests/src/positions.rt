@@ -1,8 +1,5 @@
-// CHIEF TO HELPER 7: stop here and read /work/h7/NOTE-FROM-CHIEF.md (these tests are written already, in /work/s).
 //! Positions of small books, with ample memory.
 use crate::calls::{complete, register, start};
-use flow_recover::fault::RecoverFault;
-use flow_recover::positions::{Position, positions};
 use flow_base::book::{Change, Turn};
 use flow_base::code::Code;
 use flow_base::command::Command;
@@ -13,6 +10,8 @@ use flow_base::text::Key;
 use flow_base::value::Value;
 use flow_check::language::Language;
 use flow_machine::decide::decide_all;
+use flow_recover::fault::RecoverFault;
+use flow_recover::positions::{Position, positions};
 use flow_view::lists::Lists;
 use flow_view::view::View;
 use std::alloc::Global;
@@ -22,11 +21,11 @@ use std::test::Fail;
 // The first of three runs has completed, the others wait.
 fn path(alloc: Global) -> Result<Vec<Command>, Fail> {
     Ok(vec![in alloc;
-        register(alloc)?,
-        start(alloc, "f")?,
-        start(alloc, "g")?,
-        start(alloc, "h")?,
-        complete(1)?,
+        register(alloc).ok_or("no command")?,
+        start(alloc, "f").ok_or("no command")?,
+        start(alloc, "g").ok_or("no command")?,
+        start(alloc, "h").ok_or("no command")?,
+        complete(1).ok_or("no command")?,
     ]?)
 }
 
