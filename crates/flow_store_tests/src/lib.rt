@@ -1,0 +1,13 @@
+//! Tests over a store: what a keeper keeps in it, what is found when it is opened, and what an engine does with batches.
+#![tactic(auto)]
+
+#[cfg(test)]
+mod calls;
+#[cfg(test)]
+mod driving;
+#[cfg(test)]
+mod keeping;
+#[cfg(test)]
+mod opening;
+#[cfg(test)]
+mod positions;

@@ -1,0 +1,153 @@
+//! Positions of small books, with ample memory.
+use crate::calls::{complete, register, start};
+use flow_base::book::{Change, Turn};
+use flow_base::code::Code;
+use flow_base::command::Command;
+use flow_base::event::{Cmd, Input, State, Wrong};
+use flow_base::number::{Moment, RunId, TextNo};
+use flow_base::sequence::Sequence;
+use flow_base::text::Key;
+use flow_base::value::Value;
+use flow_check::language::Language;
+use flow_machine::decide::decide_all;
+use flow_recover::fault::RecoverFault;
+use flow_recover::positions::{Position, positions};
+use flow_view::lists::Lists;
+use flow_view::view::View;
+use std::alloc::Global;
+use std::string::ToString;
+use std::test::Fail;
+
+// The first of three runs has completed, the others wait.
+fn path(alloc: Global) -> Result<Vec<Command>, Fail> {
+    Ok(vec![in alloc;
+        register(alloc).ok_or("no command")?,
+        start(alloc, "f").ok_or("no command")?,
+        start(alloc, "g").ok_or("no command")?,
+        start(alloc, "h").ok_or("no command")?,
+        complete(1).ok_or("no command")?,
+    ]?)
+}
+
+fn begun(alloc: Global) -> Result<Lists, Fail> {
+    let mut book = Lists::new(alloc);
+    decide_all(alloc, &Language, &mut book, path(alloc)?.as_slice())?;
+    Ok(book)
+}
+
+fn found(alloc: Global, book: &mut Lists) -> Result<Vec<Position>, Fail> {
+    Ok(positions(alloc, &Language, book)?)
+}
+
+// The first turn of a run, with no command behind the start.
+fn idle_turn(alloc: Global) -> Result<Turn, Fail> {
+    Ok(Turn {
+        at: Moment::new(1000).ok_or("no moment")?,
+        input: Input::Started(Sequence::from_vec(vec![in alloc; Value::Int(7)]?)),
+        commands: Sequence::new(alloc),
+    })
+}
+
+// A run whose text is of this number.
+fn idle_run(alloc: Global, text: u64) -> Result<Change, Fail> {
+    let flow = Key::new(alloc, "i")?;
+    let text = TextNo::new(text).ok_or("no text")?;
+    Ok(Change::AddRun(flow, None, text, idle_turn(alloc)?))
+}
+
+// The history of this run lacks its second event.
+fn lacks_its_second_event(fault: &RecoverFault, number: u64) -> bool {
+    match fault {
+        RecoverFault::Mismatch { run, event, name } => {
+            run.get() == number && *event == 2 && matches!(name, Wrong::MissingEvent)
+        }
+        _ => false,
+    }
+}
+
+fn is_unreplayable(answer: &Result<Vec<Position>, RecoverFault>, number: u64) -> bool {
+    match answer {
+        Ok(_) => false,
+        Err(fault) => lacks_its_second_event(fault, number) && fault.code() == Code::Mismatch,
+    }
+}
+
+fn is_refused(answer: &Result<Vec<Position>, RecoverFault>) -> bool {
+    match answer {
+        Ok(_) => false,
+        Err(fault) => matches!(fault, RecoverFault::StoreRefused),
+    }
+}
+
+pub fn is_waiting(position: &Position, run: u64) -> bool {
+    let is_named = position.run.get() == run && position.text.get() == 1;
+    match position.tasks.as_slice() {
+        [task] => is_named && task.event.get() == 2 && task.attempt == 1,
+        _ => false,
+    }
+}
+
+#[test]
+fn an_empty_book_has_no_position(rt: HostRuntime) -> Result<(), Fail> {
+    let alloc = rt.alloc();
+    let mut book = Lists::new(alloc);
+    assert!(rt; found(alloc, &mut book)?.is_empty());
+    Ok(())
+}
+
+#[test]
+fn each_open_run_has_a_position(rt: HostRuntime) -> Result<(), Fail> {
+    let alloc = rt.alloc();
+    let mut book = begun(alloc)?;
+    let list = found(alloc, &mut book)?;
+    match list.as_slice() {
+        [first, second] => assert!(rt; is_waiting(first, 2) && is_waiting(second, 3)),
+        _ => return Err(Fail::from("not two positions")),
+    }
+    Ok(())
+}
+
+#[test]
+fn a_position_is_that_of_replay(rt: HostRuntime) -> Result<(), Fail> {
+    let alloc = rt.alloc();
+    let mut book = begun(alloc)?;
+    let list = found(alloc, &mut book)?;
+    let stance = &list.as_slice().first().ok_or("no position")?.stance;
+    assert!(rt; stance.state() == State::Open && stance.events() == 2);
+    assert!(rt; stance.moment().get() == 1000);
+    Ok(())
+}
+
+#[test]
+fn the_least_run_that_does_not_replay_is_named(rt: HostRuntime) -> Result<(), Fail> {
+    let alloc = rt.alloc();
+    let mut book = begun(alloc)?;
+    book.put(&idle_run(alloc, 1)?)?;
+    book.put(&idle_run(alloc, 1)?)?;
+    let answer = positions(alloc, &Language, &mut book);
+    assert!(rt; is_unreplayable(&answer, 4));
+    Ok(())
+}
+
+#[test]
+fn a_mismatch_is_told(rt: HostRuntime) -> Result<(), Fail> {
+    let alloc = rt.alloc();
+    let run = RunId::new(4).ok_or("no run")?;
+    let fault = RecoverFault::Mismatch {
+        run,
+        event: 2,
+        name: Wrong::MissingEvent,
+    };
+    assert!(rt; fault.to_string(alloc)?.as_str() == "E68 run 4: E52 at 2");
+    Ok(())
+}
+
+#[test]
+fn a_run_without_a_text_is_refused(rt: HostRuntime) -> Result<(), Fail> {
+    let alloc = rt.alloc();
+    let mut book = begun(alloc)?;
+    book.put(&idle_run(alloc, 2)?)?;
+    let answer = positions(alloc, &Language, &mut book);
+    assert!(rt; is_refused(&answer));
+    Ok(())
+}
