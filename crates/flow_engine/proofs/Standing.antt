@@ -12,7 +12,7 @@ use Rattle.flow_run.specs.Position.{config_of}
 use Rattle.flow_machine.proofs.Places.{nth_place}
 use Rattle.flow_commit.specs.Keeping.{Keeping}
 use Rattle.flow_recover.specs.Recovering as recovering
-use Rattle.flow_engine.specs.Opening.{IsBack}
+use Rattle.flow_engine.specs.Opening.{KeepsAgain}
 use Rattle.flow_recover.specs.declared.positions.Position.{Position}
 use Rattle.flow_recover.specs.Positions.{Meaning, open_from, AreOf, ArePositions, IsPosition, IsOpenRun, IsStanding}
 
@@ -45,5 +45,5 @@ module _ (u : Meaning) (b : Book) where
   open_stands qs are n r opened = each_stands 1 b.runs qs are (n - 1) r (nth_place b.runs n r opened.0) opened.1
 
 -- what stands where positions were found, the positions left out
-pub is_back : {S : Type 0} (g : Ghosts S) (k : Keeping S) (qs : List Position) (b : Book) → recovering.IsBack g k qs b → IsBack g k b
-is_back g k qs b h = record { fit = h.0; kept = h.1; stands = open_stands meaning_of b qs h.2 }
+pub keeps_again : {S : Type 0} (g : Ghosts S) (k : Keeping S) (qs : List Position) (b : Book) → recovering.IsBack g k qs b → KeepsAgain g k b
+keeps_again g k qs b h = record { fit = h.0; kept = h.1; stands = open_stands meaning_of b qs h.2 }

@@ -28,7 +28,7 @@ pub record IsOpened {S : Type 0} (g : Ghosts S) (from : State) (k : Keeping S) :
   pub stands : AllStand book
 
 -- The engine keeps this book again, as an engine before it did.
-pub record IsBack {S : Type 0} (g : Ghosts S) (k : Keeping S) (b : Book) : Type 0 where
+pub record KeepsAgain {S : Type 0} (g : Ghosts S) (k : Keeping S) (b : Book) : Type 0 where
   pub fit : IsFit g k
   pub kept : KeepsBook g k b
   pub stands : AllStand b
