@@ -34,7 +34,7 @@ pub enum Call {
 }
 
 /// What a reply names.
-#[derive(Clone, Copy, Debug, PartialEq, Eq)]
+#[derive(Clone, Copy, PartialEq, Eq)]
 pub enum Named {
     Text(u64),
     Run(u64),
@@ -48,7 +48,7 @@ pub enum Named {
 
 /// What is told of a call: of one that is kept, and after which more is answered, the ticket, the place, and what the reply
 /// names.
-#[derive(Clone, Copy, Debug, PartialEq, Eq)]
+#[derive(Clone, Copy, PartialEq, Eq)]
 pub enum Told {
     Kept(u64, u64, Named),
     /// The code (0 of none), and whether nothing is answered any more.
@@ -164,6 +164,14 @@ fn are_kept(told: &[Told]) -> bool {
 pub fn are_all_kept(told: &Option<Vec<Told>>) -> bool {
     match told {
         Some(told) => are_kept(told.as_slice()),
+        None => false,
+    }
+}
+
+/// Whether this is told, and no more.
+pub fn is_told(told: &Option<Vec<Told>>, wanted: &[Told]) -> bool {
+    match told {
+        Some(told) => told.as_slice() == wanted,
         None => false,
     }
 }

@@ -1,5 +1,5 @@
 //! Lists of batches over a store in memory, with ample memory.
-use crate::calls::{Call, Named, Told, are_all_kept, batch, let_go, told_by};
+use crate::calls::{Call, Named, Told, are_all_kept, batch, is_told, let_go, told_by};
 use flow_base::code::Code;
 use flow_commit::batch::Batch;
 use flow_engine::done::Done;
@@ -76,6 +76,17 @@ fn drive_two<S: Alter>(
     }
 }
 
+/// The same of one list.
+fn drive_one<S: Alter>(
+    alloc: Global,
+    conn: Connection<S>,
+    calls: &[(u64, Call)],
+) -> (Option<Vec<Told>>, Connection<S>) {
+    let (answers, conn) = drive_two(alloc, conn, calls, &[]);
+    let (first, _) = answers;
+    (first, conn)
+}
+
 fn drive_new(alloc: Global, calls: &[(u64, Call)], more: &[(u64, Call)]) -> Result<Answers, Fail> {
     Ok(drive_over(alloc, Connection::open_in_memory(alloc)?, calls, more))
 }
@@ -99,12 +110,12 @@ fn drive_on<S: Alter + Drop>(
     conn: Connection<S>,
     calls: &[(u64, Call)],
     last: &[(u64, Call)],
-) -> (Answers, Option<Vec<Told>>) {
-    let ((begun, _), conn) = drive_two(alloc, conn, &BEGUN, &[]);
-    let ((second, _), conn) = drive_two(alloc, conn, calls, &[]);
-    let ((third, _), conn) = drive_two(alloc, conn, last, &[]);
+) -> (Option<Vec<Told>>, Option<Vec<Told>>, Option<Vec<Told>>) {
+    let (begun, conn) = drive_one(alloc, conn, &BEGUN);
+    let (second, conn) = drive_one(alloc, conn, calls);
+    let (third, conn) = drive_one(alloc, conn, last);
     let_go(conn);
-    ((begun, second), third)
+    (begun, second, third)
 }
 
 #[test]
@@ -117,24 +128,23 @@ fn batches_of_one_are_kept(rt: HostRuntime) -> Result<(), Fail> {
     ];
     let refused = Named::Code(Code::NotOpen.number());
     let ended = [Told::Kept(3, 3, Named::Event(3)), Told::Kept(1, 4, refused)];
-    assert!(rt; first.ok_or("not driven")?.as_slice() == begun.as_slice());
-    assert!(rt; second.ok_or("not driven")?.as_slice() == ended.as_slice());
+    assert!(rt; is_told(&first, &begun) && is_told(&second, &ended));
     Ok(())
 }
 
 #[test]
 fn no_batch_has_no_answer(rt: HostRuntime) -> Result<(), Fail> {
     let (first, _) = drive_new(rt.alloc(), &[], &[])?;
-    assert!(rt; first.ok_or("not driven")?.is_empty());
+    assert!(rt; is_told(&first, &[]));
     Ok(())
 }
 
 #[test]
 fn an_open_run_is_there_again(rt: HostRuntime) -> Result<(), Fail> {
     let conn = Connection::open_in_memory(rt.alloc())?;
-    let ((begun, found), _) = drive_on(rt.alloc(), conn, &[(2, Call::History)], &[]);
+    let (begun, found, _) = drive_on(rt.alloc(), conn, &[(2, Call::History)], &[]);
     let wanted = [Told::Kept(2, 1, Named::Events(2, false))];
-    assert!(rt; are_all_kept(&begun) && found.ok_or("not driven")?.as_slice() == wanted.as_slice());
+    assert!(rt; are_all_kept(&begun) && is_told(&found, &wanted));
     Ok(())
 }
 
@@ -142,12 +152,11 @@ fn an_open_run_is_there_again(rt: HostRuntime) -> Result<(), Fail> {
 fn a_report_is_there_again(rt: HostRuntime) -> Result<(), Fail> {
     let conn = Connection::open_in_memory(rt.alloc())?;
     let reported = [(3, Call::Complete), (1, Call::Complete)];
-    let ((begun, ended), found) = drive_on(rt.alloc(), conn, &reported, &[(2, Call::History)]);
+    let (begun, ended, found) = drive_on(rt.alloc(), conn, &reported, &[(2, Call::History)]);
     let refused = Named::Code(Code::NotOpen.number());
     let wanted = [Told::Kept(3, 1, Named::Event(3)), Told::Kept(1, 2, refused)];
     let history = [Told::Kept(2, 1, Named::Events(4, false))];
-    assert!(rt; are_all_kept(&begun) && ended.ok_or("not driven")?.as_slice() == wanted.as_slice());
-    assert!(rt; found.ok_or("not driven")?.as_slice() == history.as_slice());
+    assert!(rt; are_all_kept(&begun) && is_told(&ended, &wanted) && is_told(&found, &history));
     Ok(())
 }
 
@@ -156,7 +165,7 @@ fn a_flow_with_nothing_to_do_ends(rt: HostRuntime) -> Result<(), Fail> {
     let calls = [(1, Call::RegisterEmpty), (2, Call::StartEmpty)];
     let (_, found) = drive_new(rt.alloc(), &calls, &[(2, Call::History)])?;
     let wanted = [Told::Kept(2, 3, Named::Events(2, true))];
-    assert!(rt; found.ok_or("not driven")?.as_slice() == wanted.as_slice());
+    assert!(rt; is_told(&found, &wanted));
     Ok(())
 }
 
@@ -180,7 +189,7 @@ fn changed_code<S: Alter + Drop>(
     conn: Connection<S>,
     sql: &str,
 ) -> Result<u8, Fail> {
-    let ((begun, _), conn) = drive_two(alloc, conn, &BEGUN, &[]);
+    let (begun, conn) = drive_one(alloc, conn, &BEGUN);
     let mut conn = conn;
     let is_changed = conn.execute_batch(sql).is_ok();
     let code = open_code(alloc, conn);

@@ -1,5 +1,5 @@
 //! Single commands committed over a store in memory, with ample memory.
-use crate::calls::{Call, Named, Told, are_all_kept, batch, let_go, told_by};
+use crate::calls::{Call, Named, Told, are_all_kept, batch, is_told, let_go, told_by};
 use flow_commit::batch::Batch;
 use flow_commit::keeper::Keeper;
 use flow_commit::outcome::Outcome;
@@ -74,14 +74,12 @@ fn keep_in_memory(alloc: Global, calls: &[(u64, Call)]) -> Option<Vec<Told>> {
 
 #[test]
 fn receipts_stand_at_their_places(rt: HostRuntime) -> Result<(), Fail> {
-    let told = keep_in_memory(rt.alloc(), &[(5, Call::Register), (4, Call::Start)]).ok_or(
-        "not opened",
-    )?;
+    let told = keep_in_memory(rt.alloc(), &[(5, Call::Register), (4, Call::Start)]);
     let wanted = [
         Told::Kept(5, 1, Named::Text(1)),
         Told::Kept(4, 2, Named::Run(1)),
     ];
-    assert!(rt; told.as_slice() == wanted.as_slice());
+    assert!(rt; is_told(&told, &wanted));
     Ok(())
 }
 
@@ -163,14 +161,12 @@ fn a_report_empties_the_outbox(rt: HostRuntime) -> Result<(), Fail> {
 // A refused command is kept too, and the keeper goes on.
 #[test]
 fn a_refusal_is_kept(rt: HostRuntime) -> Result<(), Fail> {
-    let told = keep_in_memory(rt.alloc(), &[(1, Call::Complete), (2, Call::Register)]).ok_or(
-        "not opened",
-    )?;
+    let told = keep_in_memory(rt.alloc(), &[(1, Call::Complete), (2, Call::Register)]);
     let wanted = [
         Told::Kept(1, 1, Named::Code(70)),
         Told::Kept(2, 2, Named::Text(1)),
     ];
-    assert!(rt; told.as_slice() == wanted.as_slice());
+    assert!(rt; is_told(&told, &wanted));
     Ok(())
 }
 
@@ -216,10 +212,9 @@ fn a_read_that_fails_applies_nothing(rt: HostRuntime) -> Result<(), Fail> {
         rt.alloc(),
         failing(rt.alloc(), 34, 1)?,
         &[(1, Call::Register), (1, Call::Start)],
-    )
-    .ok_or("not opened")?;
+    );
     let wanted = [Told::Kept(1, 1, Named::Text(1)), Told::Refused(80, false)];
-    assert!(rt; told.as_slice() == wanted.as_slice());
+    assert!(rt; is_told(&told, &wanted));
     Ok(())
 }
 
@@ -230,13 +225,12 @@ fn a_commit_that_fails_halts(rt: HostRuntime) -> Result<(), Fail> {
         rt.alloc(),
         failing(rt.alloc(), 30, 2000)?,
         &[(1, Call::Register), (1, Call::Start), (1, Call::Complete)],
-    )
-    .ok_or("not opened")?;
+    );
     let wanted = [
         Told::Kept(1, 1, Named::Text(1)),
         Told::Refused(84, true),
         Told::Refused(85, true),
     ];
-    assert!(rt; told.as_slice() == wanted.as_slice());
+    assert!(rt; is_told(&told, &wanted));
     Ok(())
 }

@@ -20,7 +20,7 @@ use std::string::ToString;
 use std::test::Fail;
 
 /// What is found in a store that is opened.
-#[derive(Clone, Copy, Debug, PartialEq, Eq)]
+#[derive(Clone, Copy, PartialEq, Eq)]
 enum Found {
     /// No position, and a keeper that goes on.
     Nothing,

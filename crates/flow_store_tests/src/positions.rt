@@ -9,7 +9,7 @@ use flow_base::sequence::Sequence;
 use flow_base::text::Key;
 use flow_base::value::Value;
 use flow_check::language::Language;
-use flow_machine::decide::decide_all;
+use flow_machine::decide::decide;
 use flow_recover::fault::RecoverFault;
 use flow_recover::positions::{Position, positions};
 use flow_view::lists::Lists;
@@ -18,21 +18,29 @@ use std::alloc::Global;
 use std::string::ToString;
 use std::test::Fail;
 
+fn is_decided(alloc: Global, book: &mut Lists, command: Option<Command>) -> bool {
+    match command {
+        Some(command) => decide(alloc, &Language, book, &command).is_ok(),
+        None => false,
+    }
+}
+
 // The first of three runs has completed, the others wait.
-fn path(alloc: Global) -> Result<Vec<Command>, Fail> {
-    Ok(vec![in alloc;
-        register(alloc).ok_or("no command")?,
-        start(alloc, "f").ok_or("no command")?,
-        start(alloc, "g").ok_or("no command")?,
-        start(alloc, "h").ok_or("no command")?,
-        complete(1).ok_or("no command")?,
-    ]?)
+fn is_begun(alloc: Global, book: &mut Lists) -> bool {
+    is_decided(alloc, book, register(alloc))
+        && is_decided(alloc, book, start(alloc, "f"))
+        && is_decided(alloc, book, start(alloc, "g"))
+        && is_decided(alloc, book, start(alloc, "h"))
+        && is_decided(alloc, book, complete(1))
 }
 
 fn begun(alloc: Global) -> Result<Lists, Fail> {
     let mut book = Lists::new(alloc);
-    decide_all(alloc, &Language, &mut book, path(alloc)?.as_slice())?;
-    Ok(book)
+    if is_begun(alloc, &mut book) {
+        Ok(book)
+    } else {
+        Err(Fail::from("not begun"))
+    }
 }
 
 fn found(alloc: Global, book: &mut Lists) -> Result<Vec<Position>, Fail> {
@@ -40,19 +48,28 @@ fn found(alloc: Global, book: &mut Lists) -> Result<Vec<Position>, Fail> {
 }
 
 // The first turn of a run, with no command behind the start.
-fn idle_turn(alloc: Global) -> Result<Turn, Fail> {
-    Ok(Turn {
-        at: Moment::new(1000).ok_or("no moment")?,
-        input: Input::Started(Sequence::from_vec(vec![in alloc; Value::Int(7)]?)),
+fn idle_turn(alloc: Global) -> Option<Turn> {
+    let at = Moment::new(1000)?;
+    let arguments = Sequence::from_vec(vec![in alloc; Value::Int(7)].ok()?);
+    Some(Turn {
+        at,
+        input: Input::Started(arguments),
         commands: Sequence::new(alloc),
     })
 }
 
 // A run whose text is of this number.
-fn idle_run(alloc: Global, text: u64) -> Result<Change, Fail> {
-    let flow = Key::new(alloc, "i")?;
-    let text = TextNo::new(text).ok_or("no text")?;
-    Ok(Change::AddRun(flow, None, text, idle_turn(alloc)?))
+fn idle_run(alloc: Global, text: u64) -> Option<Change> {
+    let text = TextNo::new(text)?;
+    let flow = Key::new(alloc, "i").ok()?;
+    Some(Change::AddRun(flow, None, text, idle_turn(alloc)?))
+}
+
+fn is_added(alloc: Global, book: &mut Lists, text: u64) -> bool {
+    match idle_run(alloc, text) {
+        Some(run) => book.put(&run).is_ok(),
+        None => false,
+    }
 }
 
 // The history of this run lacks its second event.
@@ -122,10 +139,9 @@ fn a_position_is_that_of_replay(rt: HostRuntime) -> Result<(), Fail> {
 fn the_least_run_that_does_not_replay_is_named(rt: HostRuntime) -> Result<(), Fail> {
     let alloc = rt.alloc();
     let mut book = begun(alloc)?;
-    book.put(&idle_run(alloc, 1)?)?;
-    book.put(&idle_run(alloc, 1)?)?;
+    let are_added = is_added(alloc, &mut book, 1) && is_added(alloc, &mut book, 1);
     let answer = positions(alloc, &Language, &mut book);
-    assert!(rt; is_unreplayable(&answer, 4));
+    assert!(rt; are_added && is_unreplayable(&answer, 4));
     Ok(())
 }
 
@@ -146,8 +162,8 @@ fn a_mismatch_is_told(rt: HostRuntime) -> Result<(), Fail> {
 fn a_run_without_a_text_is_refused(rt: HostRuntime) -> Result<(), Fail> {
     let alloc = rt.alloc();
     let mut book = begun(alloc)?;
-    book.put(&idle_run(alloc, 2)?)?;
+    let was_added = is_added(alloc, &mut book, 2);
     let answer = positions(alloc, &Language, &mut book);
-    assert!(rt; is_refused(&answer));
+    assert!(rt; was_added && is_refused(&answer));
     Ok(())
 }
