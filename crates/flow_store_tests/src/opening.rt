@@ -186,13 +186,14 @@ fn behind(
     conn: Connection<MemStore>,
     steps: &[Step],
 ) -> Option<Connection<MemStore>> {
-    match steps {
-        [] => Some(conn),
-        [first, rest @ ..] => match take_step(alloc, conn, *first) {
-            Some(conn) => behind(alloc, conn, rest),
-            None => None,
-        },
+    let mut conn = conn;
+    for step in steps {
+        match take_step(alloc, conn, *step) {
+            Some(next) => conn = next,
+            None => return None,
+        }
     }
+    Some(conn)
 }
 
 fn look_once<S: Alter + Drop>(alloc: Global, conn: Connection<S>) -> Found {
