@@ -1,6 +1,8 @@
 //! `flow`: checks programs of workflows, and answers command lines.
 #![tactic(auto)]
 
+mod opening;
+
 ghost use Rattle.std.specs.Prelude.{◌≡◌, ◌≤◌, IfOk, IfErr};
 ghost use Rattle.flow_cli.specs.Driving.{stopped_status};
 
@@ -10,8 +12,9 @@ use flow_cli::call::{Call, call_of};
 use flow_cli::check::check_text;
 use flow_cli::drive::{Stopped, drive_lines, end_status};
 use flow_cli::fault::{Fault, fault_line};
-use flow_cli::history::write_history;
-use flow_cli::keeping::{Keeping, history_from};
+use flow_cli::history::{history_from, write_history};
+use flow_engine::engine::Engine;
+use opening::open_engine;
 use sqlite::{Alter, Connection, Error, ErrorCode, File, FileStore, MemStore};
 use std::io::{BufReader, ErrorKind};
 use std::process::ExitCode;
@@ -96,48 +99,47 @@ fn check(rt: &HostRuntime, file: &str) -> Result<u8, Stopped> {
     }
 }
 
-/// The tables of a store, for a keeper.
-fn keep<S: Alter + Drop>(rt: &HostRuntime, conn: Connection<S>) -> Result<Keeping<S>, Stopped> {
-    match Keeping::open(rt.alloc(), conn) {
-        Ok(keeping) => Ok(keeping),
+fn open<S: Alter + Drop>(rt: &HostRuntime, conn: Connection<S>) -> Result<Engine<S>, Stopped> {
+    match open_engine(rt.alloc(), conn) {
+        Ok(engine) => Ok(engine),
         Err((fault, _)) => Err(Stopped::Refused(fault)),
     }
 }
 
 /// The store in this file, which is made where there is none.
-fn open_file(rt: &HostRuntime, file: &str) -> Result<Keeping<FileStore<File>>, Stopped> {
+fn open_file(rt: &HostRuntime, file: &str) -> Result<Engine<FileStore<File>>, Stopped> {
     match Connection::open(rt, file) {
-        Ok(conn) => keep(rt, conn),
+        Ok(conn) => open(rt, conn),
         Err(Error::SqliteFailure(ErrorCode::OutOfMemory)) => Err(Stopped::Refused(Fault::NoMemory)),
         Err(_) => Err(Stopped::Refused(Fault::StoreRefused)),
     }
 }
 
-fn open_memory(rt: &HostRuntime) -> Result<Keeping<MemStore>, Stopped> {
+fn open_memory(rt: &HostRuntime) -> Result<Engine<MemStore>, Stopped> {
     let conn = Connection::open_in_memory(rt.alloc())?;
-    keep(rt, conn)
+    open(rt, conn)
 }
 
 /// Copies the log of a file into the file. What was kept is kept in either, and the next opening reads both.
-fn close_file(keeping: Keeping<FileStore<File>>) {
-    let _ = keeping.into_connection().close();
+fn close_file(engine: Engine<FileStore<File>>) {
+    let _ = engine.close().close();
 }
 
 fn drive_file(rt: &HostRuntime, file: &str) -> Result<u8, Stopped> {
-    let mut keeping = open_file(rt, file)?;
-    let outcome = drive(rt, &mut keeping);
-    close_file(keeping);
+    let mut engine = open_file(rt, file)?;
+    let outcome = drive(rt, &mut engine);
+    close_file(engine);
     outcome
 }
 
 fn drive_memory(rt: &HostRuntime) -> Result<u8, Stopped> {
-    let mut keeping = open_memory(rt)?;
-    drive(rt, &mut keeping)
+    let mut engine = open_memory(rt)?;
+    drive(rt, &mut engine)
 }
 
 /// Answers command lines over a store: the status is 0, 1 where some line was no command, and 3 where some command was
 /// given up and on an early end.
-fn drive<S: Alter>(rt: &HostRuntime, keeping: &mut Keeping<S>) -> Result<u8, Stopped>
+fn drive<S: Alter>(rt: &HostRuntime, engine: &mut Engine<S>) -> Result<u8, Stopped>
     ensures done { IfOk result (λ n. n ≤ 3) }
     ensures early { IfErr result (λ e. stopped_status e ≡ 3) }
 {
@@ -145,13 +147,13 @@ fn drive<S: Alter>(rt: &HostRuntime, keeping: &mut Keeping<S>) -> Result<u8, Sto
         return Err(Stopped::Refused(Fault::NoMemory));
     };
     let mut writer = io::writer(rt);
-    drive_lines(rt.alloc(), keeping, &mut reader, &mut writer)
+    drive_lines(rt.alloc(), engine, &mut reader, &mut writer)
 }
 
 fn history(rt: &HostRuntime, file: &str, run: RunId) -> Result<u8, Stopped> {
-    let mut keeping = open_file(rt, file)?;
-    let events = history_from(&mut keeping, run);
-    close_file(keeping);
+    let mut engine = open_file(rt, file)?;
+    let events = history_from(&mut engine, run);
+    close_file(engine);
     let mut writer = io::writer(rt);
     write_history(rt.alloc(), &mut writer, events?.as_slice())?;
     Ok(0)

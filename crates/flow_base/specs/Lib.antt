@@ -9,3 +9,4 @@ pub mod Codec
 pub mod Leaves
 pub mod Gives
 pub mod Fields
+pub mod Effects

@@ -4,6 +4,7 @@
 pub mod book;
 pub mod code;
 pub mod command;
+pub mod effect;
 pub mod encoding;
 pub mod event;
 pub mod fields;

@@ -6,4 +6,3 @@ pub mod Runs
 pub mod Answering
 pub mod Stopping
 pub mod Histories
-pub mod Committed

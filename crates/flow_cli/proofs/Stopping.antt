@@ -1,5 +1,5 @@
 -- Causes of an early end.
-use Rattle.std.proofs.Common.{◌≡◌, ℕ, suc, List, [], ◌∷◌, ◌++◌, length, Option, Some, None, IfSome, refl, sym, ap, ◌∙◌, subst, arith, append_assoc, inl, inr}
+use Rattle.std.proofs.Common.{◌≡◌, ℕ, suc, List, [], ◌∷◌, ◌++◌, length, Option, Some, None, IfSome, refl, sym, ap, ◌∙◌, subst, arith, append_assoc}
 use Rattle.std.specs.Prelude.{◌≤◌, ◌+◌, ◌^◌}
 use Rattle.std.specs.Io.BufRead.{drop_through}
 use Rattle.flow_base.specs.declared.code.Code.{Code}
@@ -12,23 +12,19 @@ use Rattle.flow_cli.specs.Commands.{line_command}
 use Rattle.flow_cli.specs.Driving.{lines_of}
 use Rattle.flow_cli.specs.Faults.{fault_status, fault_of_stop}
 use Rattle.flow_cli.specs.Stopping.{CausedFault, CausedStop, LineStops, ComesNext, StoppedBy, ReadLines}
-use Rattle.flow_cli.specs.declared.answer.Stop.{Stop}
-use Rattle.flow_cli.specs.declared.answer.Stop.TheVariants as stop
+use Rattle.flow_machine.specs.declared.answer.Stop.{Stop}
+use Rattle.flow_machine.specs.declared.answer.Stop.TheVariants as stop
 use Rattle.flow_cli.specs.declared.drive.Stopped.{Stopped}
 use Rattle.flow_cli.specs.declared.drive.Stopped.TheVariants as stopped
 use Rattle.flow_cli.specs.declared.fault.Fault.{Fault}
 use Rattle.flow_cli.specs.declared.fault.Fault.TheVariants as fault
 
 pub stop_status : (s : Stop) → fault_status (fault_of_stop s) ≡ 3
-stop_status stop.NoMemory = refl
-stop_status stop.StoreRefused = refl
 stop_status stop.Unknown = refl
 stop_status stop.Halted = refl
 
 -- the fault of a stop has the stop's cause
 stop_caused : (s : Stop) (X : Stop → Type 0) (P : Type 0) → X s → CausedFault (fault_of_stop s) X P
-stop_caused stop.NoMemory X P h = tt
-stop_caused stop.StoreRefused X P h = inl h
 stop_caused stop.Unknown X P h = h
 stop_caused stop.Halted X P h = h
 
@@ -39,8 +35,7 @@ fault_by : (f : Fault) (X Y : Stop → Type 0) (P Q : Type 0) → ((s : Stop) �
 fault_by fault.NoMemory X Y P Q g h c = tt
 fault_by (fault.Mismatch run event name) X Y P Q g h c = absurd c
 fault_by fault.NoRun X Y P Q g h c = absurd c
-fault_by fault.StoreRefused X Y P Q g h (inl c) = inl (g stop.StoreRefused c)
-fault_by fault.StoreRefused X Y P Q g h (inr c) = inr (h c)
+fault_by fault.StoreRefused X Y P Q g h c = h c
 fault_by fault.NotOurs X Y P Q g h c = absurd c
 fault_by fault.BadVersion X Y P Q g h c = absurd c
 fault_by (fault.Damaged table run place cause) X Y P Q g h c = absurd c

@@ -7,7 +7,7 @@ use Rattle.flow_base.specs.declared.code.Code.{Code}
 use Rattle.flow_base.specs.declared.command.Command.{Command}
 use Rattle.flow_model.specs.Apply.{Rules, outcome, after_one}
 use Rattle.flow_model.specs.Book.{Book}
-use Rattle.flow_cli.specs.Applied.{IsGivenUp}
+use Rattle.flow_machine.specs.Answers.{IsGivenUp}
 use Rattle.flow_cli.specs.Commands.{line_command}
 use Rattle.flow_cli.specs.Driving.{lines_of, written, final_status, WritesBeginning}
 use Rattle.flow_cli.specs.declared.drive.Stopped.{Stopped}

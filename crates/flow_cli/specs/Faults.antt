@@ -9,8 +9,8 @@ use Rattle.flow_base.specs.declared.fields.Refused.{Refused}
 use Rattle.flow_base.specs.declared.fields.Refused.TheVariants as refused
 use Rattle.flow_rows.specs.declared.found.Table.{Table}
 use Rattle.flow_rows.specs.declared.found.Table.TheVariants as table
-use Rattle.flow_cli.specs.declared.answer.Stop.{Stop}
-use Rattle.flow_cli.specs.declared.answer.Stop.TheVariants as stop
+use Rattle.flow_machine.specs.declared.answer.Stop.{Stop}
+use Rattle.flow_machine.specs.declared.answer.Stop.TheVariants as stop
 use Rattle.flow_cli.specs.declared.command.LineFault.{LineFault}
 use Rattle.flow_cli.specs.declared.command.LineFault.TheVariants as line_fault
 use Rattle.flow_cli.specs.declared.fault.Fault.{Fault}
@@ -37,8 +37,6 @@ fault_code fault.NoFile = code.NoFile
 fault_code fault.BadUsage = code.BadUsage
 
 abbrev pub fault_of_stop : Stop → Fault
-fault_of_stop stop.NoMemory = fault.NoMemory
-fault_of_stop stop.StoreRefused = fault.StoreRefused
 fault_of_stop stop.Unknown = fault.Unknown
 fault_of_stop stop.Halted = fault.Halted
 

@@ -5,8 +5,6 @@ pub mod Commands
 pub mod Replies
 pub mod Verdicts
 pub mod Driving
-pub mod Applied
 pub mod Answering
 pub mod Stopping
 pub mod Histories
-pub mod Kept

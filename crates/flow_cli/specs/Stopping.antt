@@ -1,5 +1,5 @@
 -- What stands behind a fault that ends answering before the input does.
-use Rattle.std.specs.Prelude.{◌≡◌, ◌⊎◌, ◌+◌, ℕ, List, ◌∷◌, ◌++◌, length, Option, Some, IfSome}
+use Rattle.std.specs.Prelude.{◌≡◌, ◌+◌, ℕ, List, ◌∷◌, ◌++◌, length, Option, Some, IfSome}
 use Rattle.flow_base.specs.declared.code.Code.{Code}
 use Rattle.flow_base.specs.declared.command.Command.{Command}
 use Rattle.flow_model.specs.Apply.{Rules}
@@ -7,18 +7,18 @@ use Rattle.flow_model.specs.Book.{Book}
 use Rattle.flow_cli.specs.Answering.{AreAnswers}
 use Rattle.flow_cli.specs.Commands.{line_command}
 use Rattle.flow_cli.specs.Driving.{lines_of}
-use Rattle.flow_cli.specs.declared.answer.Stop.{Stop}
-use Rattle.flow_cli.specs.declared.answer.Stop.TheVariants as stop
+use Rattle.flow_machine.specs.declared.answer.Stop.{Stop}
+use Rattle.flow_machine.specs.declared.answer.Stop.TheVariants as stop
 use Rattle.flow_cli.specs.declared.drive.Stopped.{Stopped}
 use Rattle.flow_cli.specs.declared.drive.Stopped.TheVariants as stopped
 use Rattle.flow_cli.specs.declared.fault.Fault.{Fault}
 use Rattle.flow_cli.specs.declared.fault.Fault.TheVariants as fault
 use Rattle.flow_cli.specs.declared.reply.Line.{Line}
 
--- E80 has this stop's cause, or there are too many lines; E84 and E85 have their stop's. No other fault but E01 is met.
+-- E80 comes where there are too many lines; E84 and E85 have their stop's cause. No other fault but E01 is met.
 abbrev pub CausedFault : Fault → (Stop → Type 0) → Type 0 → Type 0
 CausedFault fault.NoMemory cause too_many = Unit {0}
-CausedFault fault.StoreRefused cause too_many = cause stop.StoreRefused ⊎ too_many
+CausedFault fault.StoreRefused cause too_many = too_many
 CausedFault fault.Unknown cause too_many = cause stop.Unknown
 CausedFault fault.Halted cause too_many = cause stop.Halted
 CausedFault f cause too_many = ⊥

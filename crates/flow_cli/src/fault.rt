@@ -3,8 +3,8 @@ ghost use Rattle.std.specs.Prelude.{◌≡◌, IfOk, string_bytes};
 ghost use Rattle.flow_cli.specs.Faults.{table_name, fault_code, fault_details, fault_text, fault_status};
 ghost use Rattle.flow_cli.specs.declared.fault.Fault.TheVariants.{Damaged};
 
-use crate::answer::Stop;
 use flow_base::code::Code;
+use flow_machine::answer::Stop;
 use flow_rows::found::Table;
 use std::alloc::{AllocError, AllocFailed, Global};
 
@@ -166,8 +166,6 @@ impl From<Stop> for Fault {
 
     fn from(stop: Stop) -> Fault {
         match stop {
-            Stop::NoMemory => Fault::NoMemory,
-            Stop::StoreRefused => Fault::StoreRefused,
             Stop::Unknown => Fault::Unknown,
             Stop::Halted => Fault::Halted,
         }

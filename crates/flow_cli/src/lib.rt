@@ -1,13 +1,10 @@
 //! The programs: what words, lines and files mean to `flow`, and what it answers.
 #![tactic(auto)]
 
-pub mod answer;
 pub mod call;
 pub mod check;
 pub mod command;
-pub mod deciding;
 pub mod drive;
 pub mod fault;
 pub mod history;
-pub mod keeping;
 pub mod reply;

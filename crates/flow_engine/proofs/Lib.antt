@@ -1,3 +1,4 @@
+pub mod Committed
 pub mod Gathering
 pub mod OneMore
 pub mod Standing

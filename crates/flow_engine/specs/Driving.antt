@@ -21,6 +21,14 @@ HasDone g old new b batch (done.NotApplied f) = (old.halted ≡ false) × HasRef
 HasDone g old new b batch done.Unknown = (old.halted ≡ false) × IsUnknown g old new b batch
 HasDone g old new b batch done.Halted = (old.halted ≡ true) × (new ≡ old)
 
+-- What is noted of a batch, whatever the disk tells: one that is kept is counted and has a receipt for each command, and behind
+-- one of which nobody knows the engine has halted.
+abbrev pub IsNoted : {S : Type 0} → Keeping S → Keeping S → List Taken → Done → Type 0
+IsNoted old new batch (done.Kept receipts) = (new.halted ≡ false) × (new.kept ≡ old.kept + length batch) × (length receipts.items ≡ length batch)
+IsNoted old new batch (done.NotApplied f) = (new.halted ≡ false) × (new.kept ≡ old.kept)
+IsNoted old new batch done.Unknown = (new.halted ≡ true) × (new.kept ≡ old.kept)
+IsNoted old new batch done.Halted = (new.halted ≡ true) × (new ≡ old)
+
 ---- Answers to batches, in their order
 
 -- every batch is answered that the engine had halted before

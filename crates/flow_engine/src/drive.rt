@@ -1,11 +1,11 @@
 //! Batches, one after the other.
-ghost use Rattle.std.specs.Prelude.{◌≡◌, ◌++◌, true, false, IfOk, IfErr};
+ghost use Rattle.std.specs.Prelude.{◌≡◌, ◌⊎◌, ◌++◌, true, false, IfOk, IfErr};
 ghost use Rattle.flow_model.specs.Book.{Book};
 ghost use Rattle.sqlite.specs.Tree.{Trees};
 ghost use Rattle.flow_tables.specs.Owned.{state_of};
-ghost use Rattle.flow_commit.specs.Keeping.{IsFit, IsWell, KeepsBook};
+ghost use Rattle.flow_commit.specs.Keeping.{IsFit, IsUp, IsWell, KeepsBook, kept_book};
 ghost use Rattle.flow_engine.specs.declared.done.Done.TheVariants as dones;
-ghost use Rattle.flow_engine.specs.Driving.{HasDone, Drives, IsLeft, ReachesSound, ReachesWell, all_halted, kept_of, in_hand};
+ghost use Rattle.flow_engine.specs.Driving.{HasDone, IsNoted, Drives, IsLeft, ReachesSound, ReachesWell, all_halted, kept_of, in_hand};
 
 use crate::done::Done;
 use crate::engine::Engine;
@@ -15,11 +15,15 @@ use sqlite::Alter;
 use std::alloc::AllocError;
 
 /// Commits a batch and gives its stamp up.
-fn done_with<S: Alter>(engine: &mut Engine<S>, batch: Batch) -> Done
+pub(crate) fn done_with<S: Alter>(engine: &mut Engine<S>, batch: Batch) -> Done
     ensures fit { IsFit S.Store engine.new → IsFit S.Store engine.old }
     ensures does { IsFit S.Store engine.new → (b : Book) → KeepsBook S.Store engine.old b → HasDone S.Store engine.old engine.new b batch result }
     ensures halted { engine.old.halted ≡ true → engine.new ≡ engine.old }
     ensures later { engine.old.halted ≡ true → result ≡ dones.Halted }
+    ensures same { engine.new.stored.opened ≡ engine.old.stored.opened }
+    ensures noted { IsNoted engine.old engine.new batch result }
+    ensures up { IsFit S.Store engine.new → IsUp S.Store engine.new → IsUp S.Store engine.old }
+    ensures own { IsFit S.Store engine.new → IsUp S.Store engine.old → (engine.new ≡ engine.old) ⊎ KeepsBook S.Store engine.old (kept_book S.Store engine.old) }
 {
     match engine.commit(batch) {
         Outcome::Kept(receipts, stamp) => {

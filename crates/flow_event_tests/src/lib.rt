@@ -4,6 +4,8 @@
 #[cfg(test)]
 mod copies;
 #[cfg(test)]
+mod effects;
+#[cfg(test)]
 mod lists;
 #[cfg(test)]
 mod rows;

@@ -1,4 +1,4 @@
-//! Tests of the program's calls: from words, lines and a store to what is written.
+//! Tests of words and lines: what is read of them, and what is written.
 #![tactic(auto)]
 
 #[cfg(test)]
@@ -10,12 +10,6 @@ mod faults;
 #[cfg(test)]
 mod histories;
 #[cfg(test)]
-mod keeping;
-#[cfg(test)]
-mod lines;
-#[cfg(test)]
 mod replies;
-#[cfg(test)]
-mod stops;
 #[cfg(test)]
 mod verdicts;

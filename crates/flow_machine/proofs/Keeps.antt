@@ -27,14 +27,14 @@ use Rattle.flow_model.specs.Turn as turn
 use Rattle.flow_model.specs.Turn.{Fresh, is_started}
 use Rattle.flow_model.specs.Turned.{turned, position_of}
 use Rattle.flow_model.specs.Stands.{Stands}
-use Rattle.flow_model.specs.Open.{open_timers, state_came, state_of, moment_of}
+use Rattle.flow_model.specs.Open.{open_timers, state_of, moment_of}
 use Rattle.flow_model.specs.Book.{Book, no_book, nth, text_number, requested, open_run, unbegun_run, with_turn, changed, changed_by}
 use Rattle.flow_model.specs.Apply.{Rules, Outcome, says, none_there, must_be, must_hold, tested, if_sound, program_if, program_at, first_turn, continued, run_from, next_run, history_limit, turn_made, recorded, input_recorded, report_refusal, on_program, register, start, complete, describe, history, outcome, after_one, after}
 use Rattle.flow_model.specs.Sound.{IsSoundRun, IsSound}
 use Rattle.flow_model.proofs.Positions.{position_computed, turned_is}
 use Rattle.flow_machine.specs.Soundness.{ReadsWellFormed, NoBookIsSound, SoundAfter}
 use Rattle.flow_model.proofs.Tries.{well_formed_tried}
-use Rattle.flow_model.proofs.Leaves.{stands_left, delivered_open, terminates, continued_closed, turn_state}
+use Rattle.flow_model.proofs.Leaves.{state_came, stands_left, delivered_open, terminates, continued_closed, turn_state}
 use Rattle.flow_machine.proofs.Places.{get_all, get_set_same, nth_place}
 use Rattle.flow_machine.proofs.Changes.{NoneOpen, text_well_formed, sound_text, none_open, sound_run, first_run, put_run, was, sound_turn, turn_run}
 

@@ -7,13 +7,16 @@ use Rattle.flow_base.specs.declared.event.Cmd.{Cmd}
 use Rattle.flow_base.specs.declared.event.Cmd.TheVariants.{Schedule, StartTimer, CancelTimer, RecordMarker, Complete, Fail, ContinueAsNew}
 use Rattle.flow_base.specs.declared.event.Input.{Input}
 use Rattle.flow_base.specs.declared.event.Input.TheVariants as input
-use Rattle.flow_base.specs.declared.event.What.TheVariants.{Came, Asked}
+use Rattle.flow_base.specs.declared.event.What.TheVariants.{Asked}
 use Rattle.flow_base.specs.declared.event.Event.{Event}
+use Rattle.flow_base.specs.declared.effect.Effect.{Effect}
+use Rattle.flow_base.specs.declared.effect.Effect.TheVariants as effect
 use Rattle.flow_base.specs.declared.book.Task.{Task}
 use Rattle.flow_base.specs.declared.book.Turn.{Turn}
 use Rattle.flow_base.specs.declared.book.Run.{Run}
+use Rattle.flow_base.specs.Effects.{effect_of, effect_of_input, effect_of_command}
 use Rattle.flow_model.specs.Turned.{traces, turn_events}
-use Rattle.flow_model.specs.Open.{without, tasks_asked, tasks_came, tasks_after_one, tasks_after, open_activities}
+use Rattle.flow_model.specs.Open.{without, tasks_by, tasks_after_one, tasks_after, open_activities}
 use Rattle.flow_model.specs.Book.{nth, with_turn}
 use Rattle.flow_model.specs.Sound.{IsSoundTask}
 use Rattle.flow_model.proofs.Tries.{AskedWell}
@@ -21,7 +24,7 @@ use Rattle.flow_machine.proofs.Places.{get_past, nth_at, nth_kept}
 
 ---- Attempts
 
-asked_tasks : (r : Run) (n at : ℕ) (c : Cmd) (ts : List Task) → nth r.history n ≡ Some (record { id = n; at = at; what = Asked c }) → AskedWell c → All (IsSoundTask r) ts → All (IsSoundTask r) (tasks_asked ts n at c)
+asked_tasks : (r : Run) (n at : ℕ) (c : Cmd) (ts : List Task) → nth r.history n ≡ Some (record { id = n; at = at; what = Asked c }) → AskedWell c → All (IsSoundTask r) ts → All (IsSoundTask r) (tasks_by ts n at (effect_of_command c))
 asked_tasks r n at (Schedule a vs tries every k) ts e w h =
     All-push (IsSoundTask r) ts (record { event = n; attempt = 1; ready = at }) h
     (record { first = omega arith; event = record { id = n; at = at; what = Asked (Schedule a vs tries every k) }; scheduled = e; tries = tries; asked = (a, (vs, (every, (k, refl)))); last = w.1.0 })
@@ -39,17 +42,17 @@ traced_tasks r n at (c ∷ cs) ts f w h =
     let e : Event = record { id = n; at = at; what = Asked c } in
     let first : n + 0 ≡ n = omega arith in
     let here : nth r.history n ≡ Some e = subst (λ m. nth r.history m ≡ Some e) first (f 0 e refl) in
-    traced_tasks r (n + 1) at cs (tasks_asked ts n at c)
+    traced_tasks r (n + 1) at cs (tasks_by ts n at (effect_of_command c))
     (λ i d g. let next : n + suc i ≡ n + 1 + i = omega arith in subst (λ m. nth r.history m ≡ Some d) next (f (suc i) d g))
     (All-tail AskedWell c cs w) (asked_tasks r n at c ts here (All-head AskedWell c cs w) h)
 
-came_tasks : (r : Run) (ts : List Task) (i : Input) → All (IsSoundTask r) ts → All (IsSoundTask r) (tasks_came ts i)
-came_tasks r ts (input.Started vs) h = h
-came_tasks r ts (input.Signaled a q v) h = h
-came_tasks r ts (input.ActivityCompleted n v) h = All-filter (λ (t : Task). not (nat_eq t.event n)) (IsSoundTask r) ts h
-came_tasks r ts (input.ActivityFailed n t) h = All-filter (λ (t : Task). not (nat_eq t.event n)) (IsSoundTask r) ts h
-came_tasks r ts (input.TimerFired n) h = h
-came_tasks r ts (input.Terminated t) h = All-nil (IsSoundTask r)
+came_tasks : (r : Run) (ts : List Task) (id at : ℕ) (i : Input) → All (IsSoundTask r) ts → All (IsSoundTask r) (tasks_by ts id at (effect_of_input i))
+came_tasks r ts id at (input.Started vs) h = h
+came_tasks r ts id at (input.Signaled a q v) h = h
+came_tasks r ts id at (input.ActivityCompleted n v) h = All-filter (λ (t : Task). not (nat_eq t.event n)) (IsSoundTask r) ts h
+came_tasks r ts id at (input.ActivityFailed n t) h = All-filter (λ (t : Task). not (nat_eq t.event n)) (IsSoundTask r) ts h
+came_tasks r ts id at (input.TimerFired n) h = h
+came_tasks r ts id at (input.Terminated t) h = All-nil (IsSoundTask r)
 
 kept_task : (r : Run) (t : Turn) (k : Task) → IsSoundTask r k → IsSoundTask (with_turn t r) k
 kept_task r t k s =
@@ -69,12 +72,12 @@ turn_attempts r t w h =
     let es = turn_events n t.at t.input t.commands in
     let q = with_turn t r in
     let kept : All (IsSoundTask q) r.tasks = All-weaker (IsSoundTask r) (IsSoundTask q) (λ k s. kept_task r t k s) r.tasks h in
-    traced_tasks q (n + 1) t.at t.commands (tasks_came r.tasks t.input)
+    traced_tasks q (n + 1) t.at t.commands (tasks_by r.tasks n t.at (effect_of_input t.input))
     (λ i e g.
     let place : n + 1 + i ≡ suc (length r.history + suc i) = omega arith in
     let there : length r.history + suc i ≡ length r.history + suc i = refl in
     nth_at (r.history ++ es) (n + 1 + i) (length r.history + suc i) place ∙ get_past r.history es (length r.history + suc i) (suc i) there ∙ g)
-    w (came_tasks q r.tasks t.input kept)
+    w (came_tasks q r.tasks n t.at t.input kept)
 
 ---- Which are open
 
@@ -89,37 +92,23 @@ kept_events n (t ∷ ts) =
       | false ↦ kept_events n ts
     ]
 
-same_asked : (ts us : List Task) (id at : ℕ) (c : Cmd) → events_of ts ≡ events_of us → events_of (tasks_asked ts id at c) ≡ events_of (tasks_asked us id at c)
-same_asked ts us id at (Schedule a vs n m k) e =
-    let new : List Task = record { event = id; attempt = 1; ready = at } ∷ [] in
-    map-append (λ (t : Task). t.event) ts new ∙ ap (λ l. l ++ id ∷ []) e ∙ sym (map-append (λ (t : Task). t.event) us new)
-same_asked ts us id at (StartTimer d) e = e
-same_asked ts us id at (CancelTimer m) e = e
-same_asked ts us id at (RecordMarker p) e = e
-same_asked ts us id at (Complete v) e = refl
-same_asked ts us id at (Fail c t) e = refl
-same_asked ts us id at (ContinueAsNew vs) e = refl
-
 same_without : (n : ℕ) (ts us : List Task) → events_of ts ≡ events_of us → events_of (without n ts) ≡ events_of (without n us)
 same_without n ts us e = kept_events n ts ∙ ap (filter (λ m. not (nat_eq m n))) e ∙ sym (kept_events n us)
 
-same_came : (ts us : List Task) (i : Input) → events_of ts ≡ events_of us → events_of (tasks_came ts i) ≡ events_of (tasks_came us i)
-same_came ts us (input.Started vs) e = e
-same_came ts us (input.Signaled a r v) e = e
-same_came ts us (input.ActivityCompleted n v) e = same_without n ts us e
-same_came ts us (input.ActivityFailed n t) e = same_without n ts us e
-same_came ts us (input.TimerFired n) e = e
-same_came ts us (input.Terminated t) e = refl
+same_by : (ts us : List Task) (id at : ℕ) (e : Effect) → events_of ts ≡ events_of us → events_of (tasks_by ts id at e) ≡ events_of (tasks_by us id at e)
+same_by ts us id at effect.Begins e = e
+same_by ts us id at effect.OpensActivity e =
+    let new : List Task = record { event = id; attempt = 1; ready = at } ∷ [] in
+    map-append (λ (t : Task). t.event) ts new ∙ ap (λ l. l ++ id ∷ []) e ∙ sym (map-append (λ (t : Task). t.event) us new)
+same_by ts us id at (effect.OpensTimer due) e = e
+same_by ts us id at (effect.EndsActivity n) e = same_without n ts us e
+same_by ts us id at (effect.EndsTimer n) e = e
+same_by ts us id at (effect.Closes s) e = refl
+same_by ts us id at effect.Nothing e = e
 
 same_after : (ts us : List Task) (es : List Event) → events_of ts ≡ events_of us → events_of (tasks_after ts es) ≡ events_of (tasks_after us es)
 same_after ts us [] e = e
-same_after ts us (d ∷ es) e =
-    let one : events_of (tasks_after_one ts d) ≡ events_of (tasks_after_one us d) =
-    elim (d.what) as (λ w. events_of (elim w [ Came i ↦ tasks_came ts i | Asked c ↦ tasks_asked ts d.id d.at c ]) ≡ events_of (elim w [ Came i ↦ tasks_came us i | Asked c ↦ tasks_asked us d.id d.at c ])) [
-      | Came i ↦ same_came ts us i e
-      | Asked c ↦ same_asked ts us d.id d.at c e
-    ]
-    in same_after (tasks_after_one ts d) (tasks_after_one us d) es one
+same_after ts us (d ∷ es) e = same_after (tasks_after_one ts d) (tasks_after_one us d) es (same_by ts us d.id d.at (effect_of d.what) e)
 
 appended_tasks : (ts : List Task) (h es : List Event) → tasks_after ts (h ++ es) ≡ tasks_after (tasks_after ts h) es
 appended_tasks ts [] es = refl

@@ -20,6 +20,7 @@ use Rattle.flow_base.specs.declared.event.Event.{Event}
 use Rattle.flow_base.specs.declared.event.State.{State}
 use Rattle.flow_base.specs.declared.event.State.TheVariants as state
 use Rattle.flow_base.specs.declared.book.Task.{Task}
+use Rattle.flow_base.specs.Effects.{effect_of, effect_of_input, effect_of_command}
 use Rattle.flow_model.specs.Rest.{Rest, Done, OnActivity, OnTimer, OnSignal, OnSignalFor, Raised, Then, Beside, rest_of, rest_else, is_done}
 use Rattle.flow_model.specs.Configuration.{Configuration, first_configuration, none_decided, is_open}
 use Rattle.flow_model.specs.Values.{with_variable}
@@ -27,7 +28,7 @@ use Rattle.flow_model.specs.Step.{Move, Stays, Goes, Asks, Ends, move}
 use Rattle.flow_model.specs.Deliver.{Progress, deliver, begun, bound, all_fit, completed, with_rest, start_from, has_kind, signal_fits, target_of, awaited_kind, replaced, or_rest, map_rest, when_completed, when_failed, when_fired}
 use Rattle.flow_model.specs.Turn.{Frame, Answers, Recorded, Turn, frame, steps, next, go_on, setting, ended, after_move, left_by}
 use Rattle.flow_model.specs.Stands.{Leads, Stands}
-use Rattle.flow_model.specs.Open.{tasks_asked, tasks_came, tasks_after_one, tasks_after, open_activities}
+use Rattle.flow_model.specs.Open.{tasks_by, tasks_after_one, tasks_after, open_activities}
 use Rattle.flow_model.specs.Book.{nth}
 use Rattle.flow_model.specs.Apply.{task_at, gives_kind}
 use Rattle.flow_model.proofs.Awaits.{completes, fails, takes_value}
@@ -445,15 +446,15 @@ gone_numbers n (o ∷ os) =
 same_gone : (n : ℕ) (ts : List Task) (os : List Activity) → events_of ts ≡ numbers os → events_of (filter (λ (t : Task). not (nat_eq t.event n)) ts) ≡ numbers (gone n os)
 same_gone n ts os e = kept_events n ts ∙ ap (filter (λ m. not (nat_eq m n))) e ∙ sym (gone_numbers n os)
 
-same_came : (ts : List Task) (os : List Activity) (i : Input) → events_of ts ≡ numbers os → events_of (tasks_came ts i) ≡ numbers (opens_came os i)
-same_came ts os (input.Started vs) e = e
-same_came ts os (input.Signaled name request v) e = e
-same_came ts os (input.ActivityCompleted n v) e = same_gone n ts os e
-same_came ts os (input.ActivityFailed n text) e = same_gone n ts os e
-same_came ts os (input.TimerFired n) e = e
-same_came ts os (input.Terminated text) e = refl
+same_came : (ts : List Task) (os : List Activity) (id at : ℕ) (i : Input) → events_of ts ≡ numbers os → events_of (tasks_by ts id at (effect_of_input i)) ≡ numbers (opens_came os i)
+same_came ts os id at (input.Started vs) e = e
+same_came ts os id at (input.Signaled name request v) e = e
+same_came ts os id at (input.ActivityCompleted n v) e = same_gone n ts os e
+same_came ts os id at (input.ActivityFailed n text) e = same_gone n ts os e
+same_came ts os id at (input.TimerFired n) e = e
+same_came ts os id at (input.Terminated text) e = refl
 
-same_asked : (ts : List Task) (os : List Activity) (id at : ℕ) (c : Cmd) → events_of ts ≡ numbers os → events_of (tasks_asked ts id at c) ≡ numbers (opens_asked os id c)
+same_asked : (ts : List Task) (os : List Activity) (id at : ℕ) (c : Cmd) → events_of ts ≡ numbers os → events_of (tasks_by ts id at (effect_of_command c)) ≡ numbers (opens_asked os id c)
 same_asked ts os id at (Schedule a vs n m k) e =
     let new : List Task = record { event = id; attempt = 1; ready = at } ∷ [] in
     let one : List Activity = (id, k) ∷ [] in
@@ -470,8 +471,8 @@ same_after ts os [] e = e
 same_after ts os (d ∷ h) e =
     let ones : List Activity = elim d.what [ Came i ↦ opens_came os i | AskedFor c ↦ opens_asked os d.id c ] in
     let one : events_of (tasks_after_one ts d) ≡ numbers ones =
-    elim (d.what) as (λ w. events_of (elim w [ Came i ↦ tasks_came ts i | AskedFor c ↦ tasks_asked ts d.id d.at c ]) ≡ numbers (elim w [ Came i ↦ opens_came os i | AskedFor c ↦ opens_asked os d.id c ])) [
-      | Came i ↦ same_came ts os i e
+    elim (d.what) as (λ w. events_of (tasks_by ts d.id d.at (effect_of w)) ≡ numbers (elim w [ Came i ↦ opens_came os i | AskedFor c ↦ opens_asked os d.id c ])) [
+      | Came i ↦ same_came ts os d.id d.at i e
       | AskedFor c ↦ same_asked ts os d.id d.at c e
     ]
     in same_after (tasks_after_one ts d) ones h one

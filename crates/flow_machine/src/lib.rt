@@ -1,6 +1,7 @@
-//! Decides commands over a view of a book.
+//! Decides commands over a view of a book, and says what it is to answer them.
 #![tactic(auto)]
 
+pub mod answer;
 pub mod decide;
 mod description;
 pub mod laws;

@@ -15,6 +15,7 @@ use Rattle.flow_base.specs.declared.event.What.TheVariants.{Came, Asked}
 use Rattle.flow_base.specs.declared.event.Event.{Event}
 use Rattle.flow_base.specs.declared.event.State.{State}
 use Rattle.flow_base.specs.declared.event.State.TheVariants as state
+use Rattle.flow_base.specs.Effects.{effect_of, effect_of_input, effect_of_command, state_by}
 use Rattle.flow_model.specs.Rest.{Rest, Done, rest_of, is_done}
 use Rattle.flow_model.specs.Configuration.{Configuration, first_configuration, none_decided, is_open}
 use Rattle.flow_model.specs.Step.{Move, Stays, Goes, Asks, Ends, move}
@@ -24,10 +25,17 @@ use Rattle.flow_model.specs.Turn.{Frame, Answers, Fresh, Recorded, Turn, is_star
 use Rattle.flow_model.specs.Turned.{traces, turn_events}
 use Rattle.flow_model.specs.Stands.{Leads, Stands}
 use Rattle.flow_model.specs.Apply.{continued}
-use Rattle.flow_model.specs.Open.{state_asked, state_came, state_after_one, state_after, state_of, moment_after, moment_of}
+use Rattle.flow_model.specs.Open.{state_after_one, state_after, state_of, moment_after, moment_of}
 use Rattle.flow_model.proofs.Tries.{TriedBlock, TriedRest, TriedIf, AskedWell, GoesOn, MovesWell, moves_well, replaced_tried, completed_tried, failed_tried, fired_tried}
 
--- how commands leave a run
+-- how an input and a command leave a run
+abbrev pub state_came : State → Input → State
+state_came s i = state_by s (effect_of_input i)
+
+abbrev pub state_asked : State → Cmd → State
+state_asked s c = state_by s (effect_of_command c)
+
+-- how commands leave it
 abbrev pub states_asked : State → List Cmd → State
 states_asked s [] = s
 states_asked s (c ∷ cs) = states_asked (state_asked s c) cs
@@ -54,13 +62,7 @@ open_state state.Continued e = cc
 open_state state.Terminated e = cc
 
 closes : (c : Cmd) → state_asked state.Open c ≡ state_after_command c
-closes (Schedule a vs n m k) = refl
-closes (StartTimer d) = refl
-closes (CancelTimer n) = refl
-closes (RecordMarker id) = refl
-closes (Complete v) = refl
-closes (Fail c t) = refl
-closes (ContinueAsNew vs) = refl
+closes c = refl
 
 goes_on_as : (s : State) (c : Cmd) → GoesOn c → state_asked s c ≡ s
 goes_on_as s (Schedule a vs n m k) h = refl
@@ -216,10 +218,10 @@ turn_leaves p answers old at i cs new b h t =
     }
 
 pub came_state : (s : State) (e : Event) (i : Input) → e.what ≡ Came i → state_after_one s e ≡ state_came s i
-came_state s e i h = ap (λ (w : What). elim w [ Came j ↦ state_came s j | Asked c ↦ state_asked s c ]) h
+came_state s e i h = ap (λ (w : What). state_by s (effect_of w)) h
 
 pub asked_state : (s : State) (e : Event) (c : Cmd) → e.what ≡ Asked c → state_after_one s e ≡ state_asked s c
-asked_state s e c h = ap (λ (w : What). elim w [ Came j ↦ state_came s j | Asked d ↦ state_asked s d ]) h
+asked_state s e c h = ap (λ (w : What). state_by s (effect_of w)) h
 
 -- How a standing history leaves its run.
 pub record Left (s : State) (at : ℕ) (k : Configuration) : Type 0 where

@@ -19,9 +19,9 @@ use Rattle.flow_model.specs.Configuration.{Configuration, first_configuration, i
 use Rattle.flow_model.specs.Deliver.{Progress, deliver, begun}
 use Rattle.flow_model.specs.Turn.{Recorded, is_started}
 use Rattle.flow_model.specs.Stands.{Leads, Stands}
-use Rattle.flow_model.specs.Open.{tasks_after_one, tasks_after, open_activities, state_asked, state_came, state_after_one, state_after, state_of}
+use Rattle.flow_model.specs.Open.{tasks_after_one, tasks_after, open_activities, state_after_one, state_after, state_of}
 use Rattle.flow_model.proofs.Tries.{TriedBlock, TriedRest}
-use Rattle.flow_model.proofs.Leaves.{states_asked, AskedOpen, turn_leaves, came_state, asked_state, delivered_open}
+use Rattle.flow_model.proofs.Leaves.{state_asked, state_came, states_asked, AskedOpen, turn_leaves, came_state, asked_state, delivered_open}
 
 -- an event that starts its run
 abbrev pub is_start : What → Bool

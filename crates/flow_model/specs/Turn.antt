@@ -3,13 +3,14 @@ use Rattle.std.specs.Prelude.{◌≡◌, ℕ, zero, suc, ◌+◌, Bool, true, fa
 use Rattle.flow_base.specs.Syntax.{Bytes, ActivityType, Program, activities_of}
 use Rattle.flow_base.specs.declared.value.Value.TheVariants as value
 use Rattle.flow_base.specs.declared.event.Cmd.{Cmd}
-use Rattle.flow_base.specs.declared.event.Cmd.TheVariants.{RecordMarker, Complete, Fail, ContinueAsNew}
+use Rattle.flow_base.specs.declared.event.Cmd.TheVariants.{RecordMarker, Complete}
 use Rattle.flow_base.specs.declared.event.Input.{Input}
 use Rattle.flow_base.specs.declared.event.Input.TheVariants as input
 use Rattle.flow_base.specs.declared.event.What.TheVariants.{Came, Asked}
 use Rattle.flow_base.specs.declared.event.Event.{Event}
 use Rattle.flow_base.specs.declared.event.State.{State}
-use Rattle.flow_base.specs.declared.event.State.TheVariants.{Open, Completed, Failed, Continued}
+use Rattle.flow_base.specs.declared.event.State.TheVariants.{Open}
+use Rattle.flow_base.specs.Effects.{effect_of_command, state_by}
 use Rattle.flow_model.specs.Rest.{Done, is_done, open_waits}
 use Rattle.flow_model.specs.Configuration.{Configuration, is_open}
 use Rattle.flow_model.specs.Step.{Setting, Move, Stays, Goes, Asks, Ends, move, wait_limit}
@@ -36,10 +37,7 @@ setting f p =
 
 -- how a command leaves an open run
 abbrev pub state_after_command : Cmd → State
-state_after_command (Complete v) = Completed
-state_after_command (Fail c t) = Failed
-state_after_command (ContinueAsNew vs) = Continued
-state_after_command c = Open
+state_after_command c = state_by Open (effect_of_command c)
 
 -- a command closes the run, and nothing is left to do
 abbrev pub ended : Progress → Cmd → Progress

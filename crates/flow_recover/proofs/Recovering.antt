@@ -7,7 +7,6 @@ use Rattle.sqlite_trees.specs.Props.{Trees-set}
 use Rattle.sqlite.specs.Disk.{MoreFaults}
 use Rattle.sqlite.specs.Tree.{Trees}
 use Rattle.sqlite.specs.Effect.{Database}
-use Rattle.sqlite.specs.Held.{state}
 use Rattle.sqlite.specs.State.{State, HasCleanDisk, Opens, IsLive}
 use Rattle.sqlite.specs.Steps.{FailsToOpen}
 use Rattle.sqlite.specs.declared.error.Error.{Error}
@@ -25,26 +24,14 @@ use Rattle.flow_tables.specs.Stored.{tables_in}
 use Rattle.flow_tables.specs.declared.open.OpenFault.{OpenFault}
 use Rattle.flow_tables.specs.Opening.{StandFor}
 use Rattle.flow_tables.specs.States.{AreOurs, HasTables, HasEnded}
-use Rattle.flow_tables.specs.Owned.{Stored, Follows, IsOurs, IsFound, IsFileOf, Keeps, LeavesMade}
+use Rattle.flow_tables.specs.Owned.{IsOurs, IsFound, IsFileOf, Keeps, LeavesMade}
 use Rattle.flow_tables.proofs.Stops.{IsSettled, opened_over}
 use Rattle.flow_commit.specs.Keeping.{rules, IsWell}
 use Rattle.flow_recover.specs.declared.fault.RecoverFault.{RecoverFault}
-use Rattle.flow_recover.specs.declared.fault.RecoverFault.TheVariants as fault
 use Rattle.flow_recover.specs.declared.fault.OpeningFault.{OpeningFault}
 use Rattle.flow_recover.specs.declared.fault.OpeningFault.TheVariants as opening
-use Rattle.flow_recover.specs.Positions.{IsLeastMismatch, Names}
-use Rattle.flow_recover.specs.Recovering.{HoldsSound, IsOpenedOver, IsOfDisk, OfTables, IsOfPositions, OfPositions, IsKeptOn, IsOwnFault}
-use Rattle.flow_recover.proofs.Refusing.{no_mismatch}
-
-pub follows_then : {S : Type 0} (g : Ghosts S) (a b c : Stored S) → Follows g a b → Follows g b c → Follows g a c
-follows_then g a b c f h = (
-  h.0 ∙ f.0,
-  λ ours clean.
-      let later = h.1 ours clean in
-      let first = f.1 (subst (λ x. IsOurs (state g x)) h.0 ours) later.0 in
-      (first.0, λ k keeps. later.1 k (first.1 k keeps)),
-  λ ours clean up. f.2 (subst (λ x. IsOurs (state g x)) h.0 ours) (h.1 ours clean).0 (h.2 ours clean up),
-)
+use Rattle.flow_recover.specs.Positions.{Caused, IsLeastMismatch, LacksProgram, Names}
+use Rattle.flow_recover.specs.Recovering.{HoldsSound, IsOpenedOver, IsOfDisk, OfTables, IsOfPositions, OfPositions, IsKeptOn}
 
 ---- The book that is found
 
@@ -125,19 +112,16 @@ ended_keeps old new b ended leaves keeps = record {
 
 ---- Refusals
 
+abbrev pub StuckIn : Book → RecoverFault → Type 0
+StuckIn b f = Caused {A = Unit {0}} (Err f) (LacksProgram meaning_of b)
+
 -- it names a run of this book
 abbrev pub NamesIn : Book → RecoverFault → Type 0
 NamesIn b f = Names {A = Unit {0}} (Err f) (IsLeastMismatch meaning_of b)
 
-pub kept_on : (from to : State) (b : Book) (f : OpeningFault) → IsFound from b → Keeps to b → OfPositions f (NamesIn b) → OfPositions f (IsKeptOn from to)
-kept_on from to b (opening.Tables f) found keeps h = tt
-kept_on from to b (opening.Positions f) found keeps h = record { book = b; found = found; kept = keeps; mismatch = h }
-
-pub own_fault : (b : Book) (f : OpeningFault) → IsSound rules b → IsOfPositions f → OfPositions f (NamesIn b) → IsOwnFault f
-own_fault b (opening.Tables f) sound is h = absurd is
-own_fault b (opening.Positions fault.NoMemory) sound is h = tt
-own_fault b (opening.Positions fault.StoreRefused) sound is h = tt
-own_fault b (opening.Positions (fault.Mismatch run place name)) sound is h = no_mismatch meaning_of b sound run place name h.here
+pub kept_on : (from to : State) (b : Book) (f : OpeningFault) → IsFound from b → Keeps to b → OfPositions f (StuckIn b) → OfPositions f (NamesIn b) → OfPositions f (IsKeptOn from to)
+kept_on from to b (opening.Tables f) found keeps stuck named = tt
+kept_on from to b (opening.Positions f) found keeps stuck named = record { book = b; found = found; kept = keeps; stuck = stuck; mismatch = named }
 
 -- nothing is told of tables that were opened
 pub none_of_tables : (f : OpeningFault) (P : OpenFault → Type 0) → IsOfPositions f → OfTables f P

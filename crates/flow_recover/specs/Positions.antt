@@ -1,5 +1,5 @@
 -- Where the open runs of a book stand, and what keeps a book from having such positions.
-use Rattle.std.specs.Prelude.{◌≡◌, ◌≤◌, ◌<◌, ◌+◌, ◌^◌, ℕ, true, false, List, [], ◌∷◌, ◌++◌, length, Option, Some, None, Result, Err, if◌then◌else◌}
+use Rattle.std.specs.Prelude.{◌≡◌, ◌<◌, ◌+◌, ℕ, true, false, List, [], ◌∷◌, ◌++◌, Option, Some, None, Result, Err, if◌then◌else◌}
 use Rattle.flow_base.specs.Syntax.{Bytes, Program}
 use Rattle.flow_base.specs.declared.event.Wrong.{Wrong}
 use Rattle.flow_base.specs.declared.book.Run.{Run}
@@ -68,10 +68,6 @@ IsStanding u b r = (p : Program) × ((k : Configuration) × ((program_at u b r.t
 abbrev pub LacksProgram : Meaning → Book → Type 0
 LacksProgram u b = (n : ℕ) × ((r : Run) × (IsOpenRun b n r × (program_at u b r.text ≡ None)))
 
--- No number is left for the last run.
-abbrev pub PassesNumbers : Book → Type 0
-PassesNumbers b = 2 ^ 63 ≤ length b.runs
-
 -- An open run's history doesn't stand under its text: this is its first mismatch.
 pub record IsMismatch (u : Meaning) (b : Book) (n place : ℕ) (name : Wrong) : Type 0 where
   pub run : Run
@@ -95,8 +91,8 @@ abbrev pub Names : {A : Type 0} → Result A RecoverFault → (ℕ → ℕ → W
 Names (Err (fault.Mismatch run place name)) is = is run place name
 Names _ is = Unit {0}
 
--- The only refusal beside want of memory is E80, with this cause.
-abbrev pub OnlyRefused : {A : Type 0} → Result A RecoverFault → Type 0 → Type 0
-OnlyRefused (Err fault.StoreRefused) cause = cause
-OnlyRefused (Err (fault.Mismatch run place name)) cause = ⊥
-OnlyRefused _ cause = Unit {0}
+-- Nothing is refused but for want of memory.
+abbrev pub OnlyMemory : {A : Type 0} → Result A RecoverFault → Type 0
+OnlyMemory (Err fault.StoreRefused) = ⊥
+OnlyMemory (Err (fault.Mismatch run place name)) = ⊥
+OnlyMemory _ = Unit {0}

@@ -1,5 +1,5 @@
 -- What the opening of a store gives.
-use Rattle.std.specs.Prelude.{◌≡◌, ◌⊎◌, true, List, [], length, Err}
+use Rattle.std.specs.Prelude.{◌≡◌, ◌⊎◌, List, Err}
 use Rattle.sqlite_trees.specs.declared.store.Store.{Ghosts}
 use Rattle.sqlite_trees.specs.declared.error.StoreError.{StoreError}
 use Rattle.sqlite_rules.specs.Calls.{Excuses}
@@ -19,10 +19,9 @@ use Rattle.flow_tables.specs.Owned.{IsFound, Keeps}
 use Rattle.flow_commit.specs.Keeping.{Keeping, IsFit, KeepsBook, rules}
 use Rattle.flow_recover.specs.declared.positions.Position.{Position}
 use Rattle.flow_recover.specs.declared.fault.RecoverFault.{RecoverFault}
-use Rattle.flow_recover.specs.declared.fault.RecoverFault.TheVariants as fault
 use Rattle.flow_recover.specs.declared.fault.OpeningFault.{OpeningFault}
 use Rattle.flow_recover.specs.declared.fault.OpeningFault.TheVariants as opening
-use Rattle.flow_recover.specs.Positions.{ArePositions, IsLeastMismatch, Names}
+use Rattle.flow_recover.specs.Positions.{ArePositions, Caused, IsLeastMismatch, LacksProgram, Names, OnlyMemory}
 
 -- The keeper keeps the book that was found, and these are the positions of its open runs.
 pub record IsRecovered {S : Type 0} (g : Ghosts S) (from : State) (k : Keeping S) (qs : List Position) : Type 0 where
@@ -69,16 +68,16 @@ abbrev pub OfPositions : OpeningFault → (RecoverFault → Type 0) → Type 0
 OfPositions (opening.Tables f) is = Unit {0}
 OfPositions (opening.Positions f) is = is f
 
--- The book that was found is kept. Where it is E68, this is the least of its open runs whose history doesn't stand, with its
--- first mismatch.
+-- The book that was found is kept. Where it is E80, one of its open runs has no program; where it is E68, this is the least of
+-- them whose history doesn't stand, with its first mismatch.
 pub record IsKeptOn (from to : State) (f : RecoverFault) : Type 0 where
   pub book : Book
   pub found : IsFound from book
   pub kept : Keeps to book
+  pub stuck : Caused {A = Unit {0}} (Err f) (LacksProgram meaning_of book)
   pub mismatch : Names {A = Unit {0}} (Err f) (IsLeastMismatch meaning_of book)
 
--- What is told of a store that holds nothing to refuse: that it failed, or that it isn't ours to add to.
+-- What is told of a store that holds nothing to refuse: that it failed, that it isn't ours to add to, or that memory is wanting.
 abbrev pub IsOwnFault : OpeningFault → Type 0
 IsOwnFault (opening.Tables f) = IsOfStore f
-IsOwnFault (opening.Positions (fault.Mismatch run place name)) = ⊥
-IsOwnFault (opening.Positions f) = Unit {0}
+IsOwnFault (opening.Positions f) = OnlyMemory {A = Unit {0}} (Err f)

@@ -1,5 +1,5 @@
 -- What no damage means.
-use Rattle.std.proofs.Common.{◌≡◌, Bool, List, [], length, true, Option, None, Result, Ok, Err, ap, sym, subst, ◌∙◌}
+use Rattle.std.proofs.Common.{◌≡◌, Bool, [], length, true, Option, None, Result, Ok, Err, ap, sym, subst, ◌∙◌}
 use Rattle.std.specs.Prelude.{IfOk}
 use Rattle.std.specs.List.{AllByRecursion}
 use Rattle.flow_base.specs.Syntax.{Bytes}

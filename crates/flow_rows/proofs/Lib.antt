@@ -20,3 +20,4 @@ pub mod NextRuns
 pub mod Recalled
 pub mod Laws
 pub mod Stood
+pub mod WholeBooks

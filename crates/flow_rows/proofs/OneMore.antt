@@ -1,11 +1,10 @@
 -- One event more of a run, in its rows.
-use Rattle.std.proofs.Common.{◌≡◌, ◌≢◌, ℕ, zero, suc, ◌+◌, ◌-◌, ◌≤◌, ◌<◌, ℤ, pos, negsuc, List, [], ◌∷◌, ◌++◌, map, filter, length, Bool, true, false, not, nat_eq, if◌then◌else◌, Option, Some, None, Ok, slice_get, slice_set, refl, sym, ap, ◌∙◌, subst, arith}
+use Rattle.std.proofs.Common.{◌≡◌, ◌≢◌, ℕ, suc, ◌+◌, ◌≤◌, ℤ, pos, List, [], ◌∷◌, ◌++◌, map, filter, length, Bool, true, false, not, nat_eq, if◌then◌else◌, Some, refl, sym, ap, ◌∙◌, subst, arith}
 use Rattle.std.specs.Prelude.{int_lt}
 use Rattle.std.specs.List.{AllByRecursion}
 use Rattle.std.specs.Ordering.{int_eq}
 use Rattle.std.proofs.lemmas.Bool.{ltb-true, eqb-true, eq-eqb}
 use Rattle.std.proofs.lemmas.Bool.Decides.{Decides-int_eq}
-use Rattle.flow_base.specs.Syntax.{Bytes}
 use Rattle.flow_base.specs.declared.event.Cmd.TheVariants.{Schedule, StartTimer, CancelTimer, RecordMarker, Complete, Fail, ContinueAsNew}
 use Rattle.flow_base.specs.declared.event.Input.TheVariants.{Started, Signaled, ActivityCompleted, ActivityFailed, TimerFired, Terminated}
 use Rattle.flow_base.specs.declared.event.What.{What}
@@ -16,20 +15,18 @@ use Rattle.flow_base.specs.declared.event.State.TheVariants as state
 use Rattle.flow_base.specs.declared.book.Task.{Task}
 use Rattle.flow_base.specs.declared.book.Timer.{Timer}
 use Rattle.flow_base.specs.declared.book.Run.{Run}
-use Rattle.flow_model.specs.Book.{Book, nth, with_events}
+use Rattle.flow_model.specs.Book.{Book, with_events}
 use Rattle.flow_model.specs.Configuration.{is_open}
 use Rattle.flow_model.specs.Open as left_open
 use Rattle.flow_model.specs.Open.{without, tasks_after_one, tasks_after, timers_after_one, timers_after, open_timers, state_after_one, state_after, state_of}
-use Rattle.flow_rows.specs.declared.rows.EventRow.{EventRow}
 use Rattle.flow_rows.specs.declared.rows.RunRow.{RunRow}
 use Rattle.flow_rows.specs.declared.rows.TimerRow.{TimerRow}
 use Rattle.flow_rows.specs.declared.rows.OutboxRow.{OutboxRow}
 use Rattle.flow_rows.specs.Rows.{Tables, rows_of, text_rows, request_text, open_number, run_row, run_rows, event_row, timer_row, task_row, timers_left, run_at, of_run}
 use Rattle.flow_rows.specs.Changes.{put_by, event_id, timer_id, task_id, at_run, with_event, with_timer, is_other_timer, is_other_task, marked_row}
 use Rattle.flow_rows.specs.Told.{whole, first_task, after_event, opened_what, AreRead, AreTasksWithin, StartsNone}
-use Rattle.flow_rows.proofs.BookTables.{nth_is}
 use Rattle.flow_rows.proofs.Undamaged.{event_rows_of, timer_rows_of, task_rows_of}
-use Rattle.flow_rows.proofs.Telling.{AreTimersWithin, told_event, timers_within}
+use Rattle.flow_rows.proofs.Telling.{AreTimersWithin, told_event}
 
 ---- A row comes behind the others
 

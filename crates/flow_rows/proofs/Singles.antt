@@ -1,5 +1,5 @@
 -- The row that an event has, and that it is read again.
-use Rattle.std.proofs.Common.{◌≡◌, ℕ, ℤ, pos, List, Ok, sym, ap, ◌∙◌, subst}
+use Rattle.std.proofs.Common.{◌≡◌, ℕ, ℤ, pos, List, Ok, ap, ◌∙◌, subst}
 use Rattle.flow_base.specs.declared.event.Event.{Event}
 use Rattle.flow_events.specs.Body.{text_of}
 use Rattle.flow_events.specs.Kinds.{kind_number, kind_of}

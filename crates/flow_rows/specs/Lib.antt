@@ -9,3 +9,4 @@ pub mod Finding
 pub mod Typed
 pub mod Told
 pub mod Recalling
+pub mod Whole

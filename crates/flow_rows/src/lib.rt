@@ -1,6 +1,7 @@
 //! The book in rows: which rows stand for which book, and the first damage of those that stand for none.
 #![tactic(auto)]
 
+pub mod book;
 pub mod damage;
 pub mod events;
 pub mod found;

@@ -11,6 +11,7 @@ use crate::deliver::{Turning, deliver};
 use crate::plain::{Answers, PlainRun};
 use crate::rest::Rest;
 use crate::step::{Moved, Setting, Store, is_done, open_waits, step};
+use flow_base::effect::effect_of_command;
 use flow_base::event::{Cmd, Input, State};
 use flow_base::number::Moment;
 use flow_base::syntax::{Declaration, Program};
@@ -165,17 +166,6 @@ fn is_started(input: &Input) -> bool
     }
 }
 
-fn state_after_command(c: &Cmd) -> State
-    ensures { result ≡ model.state_after_command c.now }
-{
-    match c {
-        Cmd::Complete(_) => State::Completed,
-        Cmd::Fail(_, _) => State::Failed,
-        Cmd::ContinueAsNew(_) => State::Continued,
-        _ => State::Open,
-    }
-}
-
 fn count(asked: &[Cmd]) -> u64
     ensures value { result ≡ length asked.now }
     ensures fits { result < 2 ^ 63 }
@@ -187,7 +177,7 @@ fn ended(store: Store, asked: Vec<Cmd>, c: Cmd) -> Result<Turning, Fault>
     ensures { IfOk result (λ q. shown_progress q ≡ record { rest = Done; store = shown_store store; asked = asked.items ++ c ∷ []; state = model.state_after_command c }) }
 {
     let mut asked = asked;
-    let state = state_after_command(&c);
+    let state = effect_of_command(&c).leaves(State::Open);
     asked.push(c)?;
     Ok(Turning {
         rest: Rest::Done,

@@ -23,6 +23,8 @@ pub enum Call {
     Register,
     /// Starts a run of it, which waits on its activity.
     Start,
+    /// Starts another, of another flow.
+    StartAnother,
     /// Reports that the activity of run 1 has completed.
     Complete,
     /// Registers a flow with nothing to do.
@@ -97,6 +99,7 @@ pub fn command(alloc: Global, call: Call) -> Option<Command> {
     match call {
         Call::Register => register(alloc),
         Call::Start => start(alloc, "f"),
+        Call::StartAnother => start(alloc, "g"),
         Call::Complete => complete(1),
         Call::RegisterEmpty => register_empty(alloc),
         Call::StartEmpty => start_empty(alloc),
@@ -127,7 +130,7 @@ fn ends_empty(events: &[Event]) -> bool {
     }
 }
 
-fn named_by(reply: &Reply) -> Named {
+pub fn named_by(reply: &Reply) -> Named {
     match reply {
         Reply::Registered(text) => Named::Text(text.get()),
         Reply::Started(run) => Named::Run(run.get()),

@@ -49,7 +49,7 @@ fn keep<S: Alter>(
     calls: &[(u64, Call)],
 ) -> (Option<Vec<Told>>, Connection<S>) {
     match Tables::open(alloc, conn) {
-        Ok(tables) => {
+        Ok((tables, _)) => {
             let mut keeper = Keeper::over(alloc, tables);
             let told = all_committed(alloc, &mut keeper, calls);
             (told, keeper.into_tables().into_connection())
@@ -185,7 +185,7 @@ fn a_refusal_changes_nothing(rt: HostRuntime) -> Result<(), Fail> {
 }
 
 /// A store over files in memory, whose log fails from so many calls on.
-fn failing(
+pub fn failing(
     alloc: Global,
     calls: u64,
     cache_pages: usize,

@@ -1,12 +1,16 @@
-//! Tests over a store: what a keeper keeps in it, what is found when it is opened, and what an engine does with batches.
+//! Tests over a store: what a keeper keeps in it, what is found when it is opened, and what an engine does with batches and commands.
 #![tactic(auto)]
 
+#[cfg(test)]
+mod answering;
 #[cfg(test)]
 mod calls;
 #[cfg(test)]
 mod driving;
 #[cfg(test)]
 mod keeping;
+#[cfg(test)]
+mod lines;
 #[cfg(test)]
 mod opening;
 #[cfg(test)]

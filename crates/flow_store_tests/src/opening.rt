@@ -24,8 +24,8 @@ use std::test::Fail;
 enum Found {
     /// No position, and a keeper that goes on.
     Nothing,
-    /// One position, of run 1, which waits on its activity.
-    OneWaiting,
+    /// One position, of this run, which waits on its activity.
+    Waiting(u64),
     /// E68 of run 1, whose second event has another content.
     Mismatch,
     Refused(u8),
@@ -36,8 +36,9 @@ fn found_at(list: &[Position]) -> Found {
     match list {
         [] => Found::Nothing,
         [position] => {
-            if is_waiting(position, 1) {
-                return Found::OneWaiting;
+            let run = position.run.get();
+            if is_waiting(position, run) {
+                return Found::Waiting(run);
             }
             Found::Other
         }
@@ -219,7 +220,7 @@ fn an_empty_store_has_no_position(rt: HostRuntime) -> Result<(), Fail> {
 #[test]
 fn a_run_that_waits_has_a_position(rt: HostRuntime) -> Result<(), Fail> {
     let steps = [Step::Keep(Call::Register), Step::Keep(Call::Start)];
-    assert!(rt; look_behind(rt.alloc(), &steps)? == Found::OneWaiting);
+    assert!(rt; look_behind(rt.alloc(), &steps)? == Found::Waiting(1));
     Ok(())
 }
 
@@ -235,6 +236,19 @@ fn a_closed_run_has_none(rt: HostRuntime) -> Result<(), Fail> {
 }
 
 #[test]
+fn an_open_run_has_one_beside_a_closed_one(rt: HostRuntime) -> Result<(), Fail> {
+    let steps = [
+        Step::Keep(Call::Register),
+        Step::Keep(Call::Start),
+        Step::Keep(Call::StartAnother),
+        Step::Keep(Call::Complete),
+        Step::Stop,
+    ];
+    assert!(rt; look_behind(rt.alloc(), &steps)? == Found::Waiting(2));
+    Ok(())
+}
+
+#[test]
 fn a_stop_within_a_transaction_leaves_the_last_commit(rt: HostRuntime) -> Result<(), Fail> {
     let steps = [
         Step::Keep(Call::Register),
@@ -242,7 +256,7 @@ fn a_stop_within_a_transaction_leaves_the_last_commit(rt: HostRuntime) -> Result
         Step::Apply(Call::Complete),
         Step::Stop,
     ];
-    assert!(rt; look_behind(rt.alloc(), &steps)? == Found::OneWaiting);
+    assert!(rt; look_behind(rt.alloc(), &steps)? == Found::Waiting(1));
     Ok(())
 }
 
@@ -253,7 +267,7 @@ fn a_transaction_that_runs_is_rolled_back(rt: HostRuntime) -> Result<(), Fail> {
         Step::Keep(Call::Start),
         Step::Apply(Call::Complete),
     ];
-    assert!(rt; look_behind(rt.alloc(), &steps)? == Found::OneWaiting);
+    assert!(rt; look_behind(rt.alloc(), &steps)? == Found::Waiting(1));
     Ok(())
 }
 

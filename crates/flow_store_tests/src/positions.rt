@@ -1,17 +1,18 @@
 //! Positions of small books, with ample memory.
 use crate::calls::{complete, register, start};
-use flow_base::book::{Change, Turn};
+use flow_base::book::{Change, Run, Turn};
 use flow_base::code::Code;
 use flow_base::command::Command;
 use flow_base::event::{Cmd, Input, State, Wrong};
 use flow_base::number::{Moment, RunId, TextNo};
 use flow_base::sequence::Sequence;
-use flow_base::text::Key;
+use flow_base::text::{Key, RawText};
 use flow_base::value::Value;
 use flow_check::language::Language;
 use flow_machine::decide::decide;
 use flow_recover::fault::RecoverFault;
 use flow_recover::positions::{Position, positions};
+use flow_rows::book::WholeBook;
 use flow_view::lists::Lists;
 use flow_view::view::View;
 use std::alloc::Global;
@@ -43,8 +44,37 @@ fn begun(alloc: Global) -> Result<Lists, Fail> {
     }
 }
 
+fn texts_of(alloc: Global, book: &mut Lists) -> Option<Sequence<RawText>> {
+    let mut texts = Vec::new(alloc);
+    for i in 0..book.text_count().ok()? {
+        texts.push(book.text(TextNo::new(i + 1)?).ok()??).ok()?;
+    }
+    Some(Sequence::from_vec(texts))
+}
+
+fn runs_of(alloc: Global, book: &mut Lists) -> Option<Sequence<Run>> {
+    let mut runs = Vec::new(alloc);
+    for i in 0..book.run_count().ok()? {
+        runs.push(book.run(RunId::new(i + 1)?).ok()??).ok()?;
+    }
+    Some(Sequence::from_vec(runs))
+}
+
+// The book, as it is read when a store is opened.
+fn whole(alloc: Global, book: &mut Lists) -> Option<WholeBook> {
+    let texts = texts_of(alloc, book)?;
+    let runs = runs_of(alloc, book)?;
+    Some(WholeBook { texts, runs })
+}
+
+fn answer(alloc: Global, book: &mut Lists) -> Option<Result<Vec<Position>, RecoverFault>> {
+    let whole = whole(alloc, book)?;
+    Some(positions(alloc, &Language, &whole))
+}
+
 fn found(alloc: Global, book: &mut Lists) -> Result<Vec<Position>, Fail> {
-    Ok(positions(alloc, &Language, book)?)
+    let whole = whole(alloc, book).ok_or("no book")?;
+    Ok(positions(alloc, &Language, &whole)?)
 }
 
 // The first turn of a run, with no command behind the start.
@@ -82,17 +112,19 @@ fn lacks_its_second_event(fault: &RecoverFault, number: u64) -> bool {
     }
 }
 
-fn is_unreplayable(answer: &Result<Vec<Position>, RecoverFault>, number: u64) -> bool {
+fn is_unreplayable(answer: &Option<Result<Vec<Position>, RecoverFault>>, number: u64) -> bool {
     match answer {
-        Ok(_) => false,
-        Err(fault) => lacks_its_second_event(fault, number) && fault.code() == Code::Mismatch,
+        Some(Err(fault)) => {
+            lacks_its_second_event(fault, number) && fault.code() == Code::Mismatch
+        }
+        _ => false,
     }
 }
 
-fn is_refused(answer: &Result<Vec<Position>, RecoverFault>) -> bool {
+fn is_refused(answer: &Option<Result<Vec<Position>, RecoverFault>>) -> bool {
     match answer {
-        Ok(_) => false,
-        Err(fault) => matches!(fault, RecoverFault::StoreRefused),
+        Some(Err(fault)) => matches!(fault, RecoverFault::StoreRefused),
+        _ => false,
     }
 }
 
@@ -140,7 +172,7 @@ fn the_least_run_that_does_not_replay_is_named(rt: HostRuntime) -> Result<(), Fa
     let alloc = rt.alloc();
     let mut book = begun(alloc)?;
     let are_added = is_added(alloc, &mut book, 1) && is_added(alloc, &mut book, 1);
-    let answer = positions(alloc, &Language, &mut book);
+    let answer = answer(alloc, &mut book);
     assert!(rt; are_added && is_unreplayable(&answer, 4));
     Ok(())
 }
@@ -163,7 +195,7 @@ fn a_run_without_a_text_is_refused(rt: HostRuntime) -> Result<(), Fail> {
     let alloc = rt.alloc();
     let mut book = begun(alloc)?;
     let was_added = is_added(alloc, &mut book, 2);
-    let answer = positions(alloc, &Language, &mut book);
+    let answer = answer(alloc, &mut book);
     assert!(rt; was_added && is_refused(&answer));
     Ok(())
 }

@@ -6,8 +6,9 @@ use crate::rows::{
 use flow_base::event::{Cmd, Input};
 use flow_base::sequence::Sequence;
 use flow_base::value::Value;
-use flow_tables::changes::{delete_task, delete_tasks, delete_timer, delete_timers, mark_run};
+use flow_tables::ask::change;
 use flow_tables::puts::put_turn;
+use flow_tables::row_changes::{Mark, TaskGone, TasksGone, TimerGone, TimersGone};
 use sqlite::Error;
 use std::alloc::Global;
 use std::test::Fail;
@@ -99,9 +100,9 @@ fn add_tasks(conn: &mut Memory) -> Result<(), Error> {
 /// What is left of three tasks without the first, and without those of its run.
 fn tasks_left(conn: &mut Memory) -> Result<(i64, i64), Fail> {
     add_tasks(conn)?;
-    delete_task(conn, run(1)?, event(5)?)?;
+    change(conn, &TaskGone(run(1)?, event(5)?))?;
     let others = count(conn, TASKS)?;
-    delete_tasks(conn, run(1)?)?;
+    change(conn, &TasksGone(run(1)?))?;
     Ok((others, count(conn, TASKS)?))
 }
 
@@ -123,9 +124,9 @@ fn add_timers(conn: &mut Memory) -> Result<(), Error> {
 /// The same of timers.
 fn timers_left(conn: &mut Memory) -> Result<(i64, i64), Fail> {
     add_timers(conn)?;
-    delete_timer(conn, run(1)?, event(5)?)?;
+    change(conn, &TimerGone(run(1)?, event(5)?))?;
     let others = count(conn, TIMERS)?;
-    delete_timers(conn, run(1)?)?;
+    change(conn, &TimersGone(run(1)?))?;
     Ok((others, count(conn, TIMERS)?))
 }
 
@@ -140,9 +141,9 @@ const OPEN_RUNS: &str = "SELECT sum(num) FROM run WHERE isopen = 1";
 
 /// Which runs are open where the first was closed, and where it was opened again.
 fn open_runs(conn: &mut Memory) -> Result<(i64, i64), Fail> {
-    mark_run(conn, run(1)?, false)?;
+    change(conn, &Mark(run(1)?, false))?;
     let others = count(conn, OPEN_RUNS)?;
-    mark_run(conn, run(1)?, true)?;
+    change(conn, &Mark(run(1)?, true))?;
     Ok((others, count(conn, OPEN_RUNS)?))
 }
 

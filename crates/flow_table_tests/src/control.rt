@@ -11,7 +11,10 @@ type Memory = Connection<MemStore>;
 // Each call in a function without clauses, so that no test carries those of all.
 
 fn opens(alloc: Global, conn: &mut Memory) -> Result<(), OpenFault> {
-    open(alloc, conn)
+    match open(alloc, conn) {
+        Ok(_) => Ok(()),
+        Err(fault) => Err(fault),
+    }
 }
 
 fn makes(conn: &mut Memory) -> bool {

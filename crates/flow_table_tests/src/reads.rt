@@ -3,11 +3,12 @@ use crate::rows::{Memory, add_event, add_run, add_task, add_text, no_rows, run};
 use flow_base::number::TextNo;
 use flow_base::text::{Key, RawText};
 use flow_rows::rows::{EventRow, OutboxRow, RunRow, TextRow};
+use flow_tables::ask::{ask, ask_first};
 use flow_tables::fault::StoreFault;
-use flow_tables::look_ups::{
-    last_event, open_run, requested_run, run_events, run_row, run_tasks, text_body, text_number,
+use flow_tables::questions::{
+    AllRuns, AllTexts, LastEvent, LastRun, LastText, OpenRun, Requested, RunAt, RunEvents,
+    RunTasks, TextBody, TextNumber,
 };
-use flow_tables::reads::{last_run, last_text, runs, texts};
 use sqlite::Error;
 use std::alloc::Global;
 use std::test::Fail;
@@ -47,7 +48,7 @@ fn is_task(row: &OutboxRow, id: i64) -> bool {
 
 /// Whether these two texts are read, and no others.
 fn are_two_texts(alloc: Global, conn: &mut Memory) -> Result<bool, StoreFault> {
-    let rows = texts(alloc, conn)?;
+    let rows = ask(alloc, conn, &AllTexts)?;
     Ok(match rows.as_slice() {
         [first, second] => is_text(first, 1, "a") && is_text(second, 2, "b"),
         _ => false,
@@ -59,12 +60,12 @@ fn texts_are_read(rt: HostRuntime) -> Result<(), Fail> {
     let alloc = rt.alloc();
     let mut conn = two_texts(alloc)?;
     assert!(rt; are_two_texts(alloc, &mut conn)?);
-    assert_eq!(rt; last_text(alloc, &mut conn)?, Some(2));
+    assert_eq!(rt; ask_first(alloc, &mut conn, &LastText)?, Some(2));
     Ok(())
 }
 
 fn are_three_runs(alloc: Global, conn: &mut Memory) -> Result<bool, StoreFault> {
-    let rows = runs(alloc, conn)?;
+    let rows = ask(alloc, conn, &AllRuns)?;
     Ok(match rows.as_slice() {
         [first, second, third] => is_run(first, 1, "f", "p", 0)
             && is_run(second, 2, "f", "q", 1)
@@ -78,14 +79,14 @@ fn runs_are_read(rt: HostRuntime) -> Result<(), Fail> {
     let alloc = rt.alloc();
     let mut conn = three_runs(alloc)?;
     assert!(rt; are_three_runs(alloc, &mut conn)?);
-    assert_eq!(rt; last_run(alloc, &mut conn)?, Some(3));
+    assert_eq!(rt; ask_first(alloc, &mut conn, &LastRun)?, Some(3));
     Ok(())
 }
 
 /// How many texts and runs are read.
 fn lengths(alloc: Global, conn: &mut Memory) -> Result<(usize, usize), StoreFault> {
-    let texts = texts(alloc, conn)?.len();
-    Ok((texts, runs(alloc, conn)?.len()))
+    let texts = ask(alloc, conn, &AllTexts)?.len();
+    Ok((texts, ask(alloc, conn, &AllRuns)?.len()))
 }
 
 #[test]
@@ -93,8 +94,8 @@ fn no_rows_are_read(rt: HostRuntime) -> Result<(), Fail> {
     let alloc = rt.alloc();
     let mut conn = no_rows(alloc)?;
     assert_eq!(rt; lengths(alloc, &mut conn)?, (0, 0));
-    assert_eq!(rt; last_text(alloc, &mut conn)?, None);
-    assert_eq!(rt; last_run(alloc, &mut conn)?, None);
+    assert_eq!(rt; ask_first(alloc, &mut conn, &LastText)?, None);
+    assert_eq!(rt; ask_first(alloc, &mut conn, &LastRun)?, None);
     Ok(())
 }
 
@@ -102,7 +103,7 @@ fn has_body(alloc: Global, conn: &mut Memory, number: u64, body: &str) -> bool {
     let Some(number) = TextNo::new(number) else {
         return false;
     };
-    match text_body(alloc, conn, number) {
+    match ask_first(alloc, conn, &TextBody(number)) {
         Ok(Some(found)) => found.as_str() == body,
         _ => false,
     }
@@ -112,7 +113,7 @@ fn has_no_body(alloc: Global, conn: &mut Memory, number: u64) -> bool {
     let Some(number) = TextNo::new(number) else {
         return false;
     };
-    match text_body(alloc, conn, number) {
+    match ask_first(alloc, conn, &TextBody(number)) {
         Ok(None) => true,
         _ => false,
     }
@@ -130,7 +131,7 @@ fn bodies_are_found(rt: HostRuntime) -> Result<(), Fail> {
 
 fn number_of(alloc: Global, conn: &mut Memory, body: &str) -> Result<Option<i64>, StoreFault> {
     let body = RawText::new(alloc, body)?;
-    text_number(alloc, conn, &body)
+    ask_first(alloc, conn, &TextNumber(&body))
 }
 
 #[test]
@@ -143,14 +144,14 @@ fn texts_are_found(rt: HostRuntime) -> Result<(), Fail> {
 }
 
 fn is_run_2(alloc: Global, conn: &mut Memory) -> Result<bool, Fail> {
-    match run_row(alloc, conn, run(2)?)? {
+    match ask_first(alloc, conn, &RunAt(run(2)?))? {
         Some(row) => Ok(is_run(&row, 2, "f", "q", 1)),
         None => Ok(false),
     }
 }
 
 fn has_run(alloc: Global, conn: &mut Memory, number: u64) -> Result<bool, Fail> {
-    Ok(run_row(alloc, conn, run(number)?)?.is_some())
+    Ok(ask_first(alloc, conn, &RunAt(run(number)?))?.is_some())
 }
 
 #[test]
@@ -164,7 +165,7 @@ fn a_run_is_found(rt: HostRuntime) -> Result<(), Fail> {
 
 fn requested(alloc: Global, conn: &mut Memory, request: &str) -> Result<Option<i64>, Fail> {
     let request = Key::new(alloc, request)?;
-    Ok(requested_run(alloc, conn, &request)?)
+    Ok(ask_first(alloc, conn, &Requested(&request))?)
 }
 
 #[test]
@@ -178,7 +179,7 @@ fn requests_are_found(rt: HostRuntime) -> Result<(), Fail> {
 
 fn opened(alloc: Global, conn: &mut Memory, flow: &str) -> Result<Option<i64>, Fail> {
     let flow = Key::new(alloc, flow)?;
-    Ok(open_run(alloc, conn, &flow)?)
+    Ok(ask_first(alloc, conn, &OpenRun(&flow))?)
 }
 
 #[test]
@@ -200,7 +201,7 @@ fn some_events(alloc: Global) -> Result<Memory, Error> {
 }
 
 fn are_two_events(alloc: Global, conn: &mut Memory) -> Result<bool, Fail> {
-    let rows = run_events(alloc, conn, run(1)?)?;
+    let rows = ask(alloc, conn, &RunEvents(run(1)?))?;
     Ok(match rows.as_slice() {
         [first, second] => is_event(first, 1, "x") && is_event(second, 2, "y"),
         _ => false,
@@ -208,7 +209,7 @@ fn are_two_events(alloc: Global, conn: &mut Memory) -> Result<bool, Fail> {
 }
 
 fn event_count(alloc: Global, conn: &mut Memory, number: u64) -> Result<usize, Fail> {
-    Ok(run_events(alloc, conn, run(number)?)?.len())
+    Ok(ask(alloc, conn, &RunEvents(run(number)?))?.len())
 }
 
 #[test]
@@ -221,7 +222,7 @@ fn events_are_found(rt: HostRuntime) -> Result<(), Fail> {
 }
 
 fn last(alloc: Global, conn: &mut Memory, number: u64) -> Result<Option<i64>, Fail> {
-    Ok(last_event(alloc, conn, run(number)?)?)
+    Ok(ask_first(alloc, conn, &LastEvent(run(number)?))?)
 }
 
 #[test]
@@ -244,7 +245,7 @@ fn some_tasks(alloc: Global) -> Result<Memory, Error> {
 }
 
 fn are_two_tasks(alloc: Global, conn: &mut Memory) -> Result<bool, Fail> {
-    let rows = run_tasks(alloc, conn, run(1)?)?;
+    let rows = ask(alloc, conn, &RunTasks(run(1)?))?;
     Ok(match rows.as_slice() {
         [first, second] => is_task(first, 4) && is_task(second, 6),
         _ => false,
@@ -252,7 +253,7 @@ fn are_two_tasks(alloc: Global, conn: &mut Memory) -> Result<bool, Fail> {
 }
 
 fn task_count(alloc: Global, conn: &mut Memory, number: u64) -> Result<usize, Fail> {
-    Ok(run_tasks(alloc, conn, run(number)?)?.len())
+    Ok(ask(alloc, conn, &RunTasks(run(number)?))?.len())
 }
 
 #[test]

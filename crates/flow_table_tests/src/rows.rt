@@ -5,9 +5,10 @@ use flow_base::number::{EventId, Moment, RunId};
 use flow_base::sequence::Sequence;
 use flow_base::text::RawText;
 use flow_rows::rows::{EventRow, OutboxRow, RunRow, TextRow, TimerRow};
-use flow_tables::changes::{insert_event, insert_run, insert_task, insert_text, insert_timer};
+use flow_tables::ask::change;
 use flow_tables::control::begin;
 use flow_tables::create::create;
+use flow_tables::row_changes::{NewEvent, NewRun, NewTask, NewText, NewTimer};
 use sqlite::{Connection, Error, MemStore};
 use std::alloc::Global;
 
@@ -37,7 +38,7 @@ pub fn tells(conn: &mut Memory, wanted: &[(&str, i64)]) -> Result<bool, Error> {
 
 pub fn add_text(alloc: Global, conn: &mut Memory, num: i64, body: &str) -> Result<(), Error> {
     let body = RawText::new(alloc, body)?;
-    insert_text(conn, &TextRow { num, body })
+    change(conn, &NewText(&TextRow { num, body }))
 }
 
 /// Adds a run of the text of this number; its flow and its request are named.
@@ -58,7 +59,7 @@ pub fn add_run(
         textnum,
         isopen,
     };
-    insert_run(conn, &row)
+    change(conn, &NewRun(&row))
 }
 
 pub fn add_event(
@@ -75,11 +76,11 @@ pub fn add_event(
         kind: 7,
         body,
     };
-    insert_event(conn, &row)
+    change(conn, &NewEvent(&row))
 }
 
 pub fn add_timer(conn: &mut Memory, run: i64, id: i64) -> Result<(), Error> {
-    insert_timer(conn, &TimerRow { run, id, due: 8 })
+    change(conn, &NewTimer(&TimerRow { run, id, due: 8 }))
 }
 
 pub fn add_task(conn: &mut Memory, run: i64, id: i64) -> Result<(), Error> {
@@ -89,7 +90,7 @@ pub fn add_task(conn: &mut Memory, run: i64, id: i64) -> Result<(), Error> {
         attempt: 3,
         ready: 9,
     };
-    insert_task(conn, &row)
+    change(conn, &NewTask(&row))
 }
 
 pub fn run(number: u64) -> Result<RunId, &'static str> {

@@ -20,33 +20,22 @@ use Rattle.flow_rows.proofs.BookTables.{nth_is}
 use Rattle.flow_rows.proofs.WholeChanges.{all_get}
 use Rattle.flow_rows.proofs.Finds.{run_read, event_rows_read, task_rows_read}
 use Rattle.flow_tables.specs.Owned.{RecallsRun, StopsRecall, IsBelowOne, as_number, as_count}
-use Rattle.flow_tables.specs.Stored.{tables_in}
+use Rattle.flow_tables.specs.Asking.{IsValue}
+use Rattle.flow_sql.specs.Stored.{tables_in}
 use Rattle.flow_tables.proofs.Stops.{quiet_then}
-use Rattle.flow_tables.specs.States.{Holds, IsStill, IsRefused}
+use Rattle.flow_sql.specs.States.{Holds, IsStill, IsRefused}
 
-same_numbers : (a b : Option ℕ) → option_map pos a ≡ option_map pos b → a ≡ b
+pub same_numbers : (a b : Option ℕ) → option_map pos a ≡ option_map pos b → a ≡ b
 same_numbers None None e = refl
 same_numbers None (Some n) e = absurd (cc)
 same_numbers (Some m) None e = absurd (cc)
 same_numbers (Some m) (Some n) e = cc
 
-same_counts : (a b : ℕ) → last_number a ≡ last_number b → a ≡ b
+pub same_counts : (a b : ℕ) → last_number a ≡ last_number b → a ≡ b
 same_counts zero zero e = refl
 same_counts zero (suc n) e = absurd (cc)
 same_counts (suc m) zero e = absurd (cc)
 same_counts (suc m) (suc n) e = cc
-
-module _ (old new : State) where
-  -- a number that was found is that of the book
-  pub number_told : (r : Result (Option ℕ) ViewFault) (found : Option ℤ) (o : Option ℕ) → IfOk r (λ x. found ≡ as_number x) → IsStill true old new → found ≡ option_map pos o
-      → MatchResult r (λ v. IsStill true old new × (v ≡ o)) (λ _. IsRefused true old new)
-  number_told (Ok x) found o h still e = (still, same_numbers x o (sym h ∙ e))
-  number_told (Err f) found o h still e = inl still
-
-  pub count_told : (r : Result ℕ ViewFault) (found : Option ℤ) (n : ℕ) → IfOk r (λ x. found ≡ as_count x) → IsStill true old new → found ≡ last_number n
-      → MatchResult r (λ v. IsStill true old new × (v ≡ n)) (λ _. IsRefused true old new)
-  count_told (Ok x) found n h still e = (still, same_counts x n (sym h ∙ e))
-  count_told (Err f) found n h still e = inl still
 
 module _ (a b c : State) where
   pub still_then : IsStill true a b → IsStill true b c → IsStill true a c
@@ -146,3 +135,14 @@ never_unread t b n r row events tasks h at is e k none = let clash = none ∙ re
 pub run_stops : (a b : State) (k : Book) (n : ℕ) (row : RunRow) (result : Result Run ViewFault) (W : Type 0) → Tells (tables_in a.now.trees) k → IsStill true a b
     → Some row ≡ option_map (run_row n) (nth k.runs n) → StopsRecall b n row result W → IfErr result (λ f. f ≡ view.StoreRefused → W)
 run_stops a b k n row result W h still e stops = let it = no_some (run_row n) (nth k.runs n) row e in stops k it.0 (tells_still a b k still h) it.1 it.2 (λ _. still.0)
+
+---- Values of the book
+
+pub number_value : {A : Type 0} (p : A → Bool) (xs : List A) (r : Result (Option ℕ) ViewFault) (found : Option ℤ) → IfOk r (λ o. found ≡ as_number o) → IfErr r (λ _. IsBelowOne found)
+    → found ≡ option_map pos (first_from p 1 xs) → IsValue r (first_from p 1 xs)
+number_value p xs (Ok x) found ok err is = same_numbers x (first_from p 1 xs) (sym ok ∙ is)
+number_value p xs (Err f) found ok err is = number_stops p xs ⊥ (Err f) found err is
+
+pub count_value : (r : Result ℕ ViewFault) (found : Option ℤ) (n : ℕ) → IfOk r (λ k. found ≡ as_count k) → IfErr r (λ _. IsBelowOne found) → found ≡ last_number n → IsValue r n
+count_value (Ok x) found n ok err is = same_counts x n (sym ok ∙ is)
+count_value (Err f) found n ok err is = count_stops ⊥ (Err f) found n err is

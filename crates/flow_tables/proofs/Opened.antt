@@ -20,12 +20,12 @@ use Rattle.flow_tables.specs.declared.open.OpenFault.{OpenFault}
 use Rattle.flow_tables.specs.declared.open.OpenFault.TheVariants.{NoMemory, StoreRefused, NotOurs, BadVersion, Damaged}
 use Rattle.flow_tables.specs.declared.fault.StoreFault.{StoreFault}
 use Rattle.flow_tables.specs.declared.fault.StoreFault.TheVariants as read
-use Rattle.flow_tables.specs.Layout.{format_sql}
-use Rattle.flow_tables.specs.States.{HasTables, HasEnded, IsAtRest, IsRefusal, no_tables}
+use Rattle.flow_sql.specs.Layout.{format_sql}
+use Rattle.flow_sql.specs.States.{HasTables, HasEnded, IsAtRest, IsRefusal, no_tables}
 use Rattle.flow_tables.specs.Reads.{IsRowsFault}
-use Rattle.flow_tables.proofs.Leaves.{rest_ended, rolled_back_ended}
-use Rattle.flow_tables.proofs.Transactions.{ends_again}
-use Rattle.flow_tables.proofs.Finding.{read_leaves, format_answer, at_rest}
+use Rattle.flow_sql.proofs.Leaves.{rest_ended, rolled_back_ended}
+use Rattle.flow_sql.proofs.Transactions.{ends_again}
+use Rattle.flow_sql.proofs.Finding.{read_leaves, format_answer, at_rest}
 use Rattle.flow_check.specs.Language.{is_program}
 use Rattle.flow_model.specs.Book.{Book}
 use Rattle.flow_rows.proofs.Laws.{book_undamaged}

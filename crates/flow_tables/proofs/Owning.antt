@@ -13,11 +13,11 @@ use Rattle.flow_rows.specs.Typed.{IsTypedChange}
 use Rattle.flow_rows.specs.Told.{Tells, after_change, FitsTables}
 use Rattle.flow_rows.proofs.Telling.{told}
 use Rattle.flow_rows.proofs.WholeChanges.{change_told}
-use Rattle.flow_tables.specs.Owned.{IsOwn, IsSure, Keeps, KeepsOn, WasUp, LeavesWritten, IsFileOf, ReadsBook, TellBook, IsNoted, book_of}
-use Rattle.flow_tables.specs.Stored.{tables_in}
-use Rattle.flow_tables.specs.States.{AreOurs, HasTables, IsOver, Holds, IsStill, IsRefused, IsUndone, HasBegun, HasCommitted, HasEnded, Changes}
+use Rattle.flow_tables.specs.Owned.{IsOwn, IsSure, Keeps, KeepsOn, WasUp, ReadsBook, TellBook, IsNoted, book_of}
+use Rattle.flow_sql.specs.Stored.{tables_in}
+use Rattle.flow_sql.specs.States.{AreOurs, HasTables, IsOver, Holds, IsStill, IsRefused, IsUndone, HasBegun, HasCommitted, HasEnded, Changes}
 use Rattle.flow_tables.specs.Puts.{IsCutShort}
-use Rattle.flow_tables.proofs.Leaves.{error_leaves, was_clean}
+use Rattle.flow_sql.proofs.Leaves.{error_leaves, was_clean}
 use Rattle.flow_tables.proofs.Stops.{IsSettled}
 
 module _ (old new : State) where
@@ -233,9 +233,6 @@ module _ (old new : State) (ours : Type 0) (ro rn : Option Refusal) (owned : our
     λ fit now shown. up fit (clean now) ((leaves fit now).was_open shown),
   )
 
-  pub sure_on : IsSure ours new rn → IsSure ours old ro
-  sure_on h = record { fit = h.fit; clean = clean h.clean; mode = inside; none = none }
-
   module _ (result : Result Unit Refusal) (c : Change)
       (put : (b : Book) → Tells (tables_in old.now.trees) b → Holds true old → HasCleanDisk new
       → MatchResult result (λ _. FitsTables b c × Changes old new (after_change c (tables_in old.now.trees))) (λ _. IsCutShort old new)) (noted : IsNoted (λ x. x) result ro rn) where
@@ -288,20 +285,6 @@ keeps_now s r b law own up is = record {
 pub begun_book : (old new : State) (r : Option Refusal) (b : Book) → HasBegun old new → IsOwn old r → Keeps old b → book_of new.now.trees ≡ b
 begun_book old new r b h own keeps =
     ap (λ (d : Database). book_of d.trees) (h.1.now_is ∙ own.rest h.0 h.1.was_open) ∙ told (tables_in old.committed.trees) b (keeps.kept h.1.was_open).1
-
--- a commit that was refused: a stop may leave what was kept, or what it wrote
-pub commit_unknown : (sure : Type 0) (old new : State) (r : Option Refusal) (b : Book) → sure → r ≡ None → old.in_transaction ≡ true → IsOwn old r → Survives old new (λ db. db ≡ old.now.trees) → HasCleanDisk new → Keeps old b
-    → LeavesWritten sure new b (book_of old.now.trees)
-commit_unknown sure old new r b is none inside own survives clean keeps db may = elim (survives.crash clean db may) [
-  | inl before ↦ inl (keeps.stops db before)
-  | inr made ↦ inr (
-    is,
-    record {
-      ours = subst AreOurs (sym made) (own.over (own.whole inside none).0).now.ours;
-      tells = subst (λ d. Tells (tables_in d) (book_of old.now.trees)) (sym made) (own.whole inside none).1;
-    },
-  )
-]
 
 -- and the book that it showed is kept, where it wasn't
 pub commit_kept : (old new : State) (r s : Option Refusal) → r ≡ None → IsSettled new → IsOwn old r → HasCommitted old new → Keeps new (book_of old.now.trees)

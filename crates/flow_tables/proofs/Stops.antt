@@ -1,16 +1,14 @@
 -- What a stop may leave, from call to call.
-use Rattle.std.proofs.Common.{◌≡◌, ◌⊎◌, inl, inr, Bool, true, false, refl, sym, ap, subst, ◌∙◌}
+use Rattle.std.proofs.Common.{◌≡◌, false, subst}
 use Rattle.std.specs.Prelude.{IsTrue}
 use Rattle.sqlite.specs.Tree.{Trees}
 use Rattle.sqlite.specs.Effect.{Database}
-use Rattle.sqlite.specs.State.{State, HasCleanDisk, Survives, Opens, IsLive}
+use Rattle.sqlite.specs.State.{State, Survives, Opens, IsLive}
 use Rattle.sqlite.proofs.StateLemmas.{survives_then}
 use Rattle.sqlite_catalog.proofs.ReadLemmas.{lists_once}
 use Rattle.sqlite_catalog.specs.Listing.{IsSound}
-use Rattle.flow_rows.specs.Rows.{Tables}
-use Rattle.flow_tables.specs.Layout.{schema}
-use Rattle.flow_tables.specs.Stored.{tables_in}
-use Rattle.flow_tables.specs.States.{AreOurs, HasTables, IsOver, LeavesOnly}
+use Rattle.flow_sql.specs.Layout.{schema}
+use Rattle.flow_sql.specs.States.{AreOurs, HasTables, IsOver}
 
 ---- After a stop
 
@@ -30,10 +28,6 @@ opened_over s opens live ours =
 abbrev pub IsSettled : State → Type 0
 IsSettled s = (db : Trees) → IsTrue s.is_open → s.may_leave db → db ≡ s.committed.trees
 
--- while the connection is open, a stop leaves the last commit
-pub open_leaves : (s : State) → IsSettled s → IsTrue s.is_open → HasTables s.committed → LeavesOnly s (λ t. t ≡ tables_in s.committed.trees)
-open_leaves s law up has db may = let same = law db up may in (subst AreOurs (sym same) has.ours, ap tables_in same)
-
 -- two calls of which none commits
 pub quiet_then : (a b c : State) → Survives a b (λ _. ⊥) → Survives b c (λ _. ⊥) → Survives a c (λ _. ⊥)
 quiet_then a b c one two = survives_then a b c _ _ _ (λ _ _ none. none) (λ _ _ none. none) one two
@@ -41,20 +35,3 @@ quiet_then a b c one two = survives_then a b c _ _ _ (λ _ _ none. none) (λ _ _
 -- what follows a call that commits nothing
 pub quiet_first : (a b c : State) (P : Trees → Type 0) → Survives a b (λ _. ⊥) → Survives b c P → Survives a c P
 quiet_first a b c P one two = survives_then a b c _ _ _ (λ _ _ none. absurd none) (λ _ _ made. made) one two
-
-pub quiet_leaves : (old new : State) (P : Tables → Type 0) → HasCleanDisk new → Survives old new (λ _. ⊥) → LeavesOnly old P → LeavesOnly new P
-quiet_leaves old new P clean h was db may = elim (h.crash clean db may) [
-  | inl before ↦ was db before
-  | inr none ↦ absurd none
-]
-
--- what the transaction showed may have been committed
-pub commit_leaves : (old new : State) (P : Tables → Type 0) → HasCleanDisk new → Survives old new (λ db. db ≡ old.now.trees) → AreOurs old.now.trees → LeavesOnly old P
-    → LeavesOnly new (λ t. P t ⊎ (t ≡ tables_in old.now.trees))
-commit_leaves old new P clean h ours was db may = elim (h.crash clean db may) [
-  | inl earlier ↦ let it = was db earlier in (it.0, inl it.1)
-  | inr made ↦ (subst AreOurs (sym made) ours, inr (ap tables_in made))
-]
-
-pub leaves_weaker : (s : State) (P Q : Tables → Type 0) → ((t : Tables) → P t → Q t) → LeavesOnly s P → LeavesOnly s Q
-leaves_weaker s P Q f was db may = let it = was db may in (it.0, f (tables_in db) it.1)

@@ -9,7 +9,7 @@ use Rattle.flow_rows.specs.declared.rows.TimerRow.{TimerRow}
 use Rattle.flow_rows.specs.declared.rows.OutboxRow.{OutboxRow}
 use Rattle.flow_rows.specs.declared.rows.StoreRows.{StoreRows}
 use Rattle.flow_rows.specs.Rows.{Tables, by_run, events_of, timers_of, tasks_of}
-use Rattle.flow_tables.specs.States.{IsStill, IsRefused}
+use Rattle.flow_sql.specs.States.{IsStill, IsRefused}
 
 pub still_then : (inside : Bool) (a b c : State) → IsStill inside a b → IsStill inside b c → IsStill inside a c
 still_then inside a b c one two = (two.0, two.1 ∙ one.1, two.2 ∙ one.2)

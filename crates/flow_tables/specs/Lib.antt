@@ -1,9 +1,11 @@
-pub mod Layout
-pub mod Stored
-pub mod States
-pub mod Coming
+pub use Rattle.flow_sql.specs.Layout
+pub use Rattle.flow_sql.specs.Stored
+pub use Rattle.flow_sql.specs.States
+pub use Rattle.flow_sql.specs.Coming
+pub use Rattle.flow_sql.specs.Meaning
 pub mod Opening
 pub mod Faults
 pub mod Reads
 pub mod Puts
 pub mod Owned
+pub mod Asking

@@ -23,8 +23,8 @@ use Rattle.flow_tables.specs.declared.fault.StoreFault.{StoreFault}
 use Rattle.flow_tables.specs.declared.fault.StoreFault.TheVariants as read
 use Rattle.flow_tables.specs.declared.open.OpenFault.{OpenFault}
 use Rattle.flow_tables.specs.declared.open.OpenFault.TheVariants.{NoMemory, StoreRefused, NotOurs, BadVersion, Damaged}
-use Rattle.flow_tables.specs.Layout.{format_sql}
-use Rattle.flow_tables.specs.States.{HasEnded}
+use Rattle.flow_sql.specs.Layout.{format_sql}
+use Rattle.flow_sql.specs.States.{HasEnded}
 use Rattle.flow_tables.specs.Reads.{IsReadFault}
 
 ---- The format

@@ -17,9 +17,9 @@ use Rattle.flow_rows.specs.declared.rows.RunRow.{RunRow}
 use Rattle.flow_rows.specs.Rows.{run_row}
 use Rattle.flow_rows.specs.Finding.{last_number}
 use Rattle.flow_rows.specs.Told.{book_in, Tells}
-use Rattle.flow_tables.specs.Stored.{tables_in}
-use Rattle.flow_tables.specs.Layout.{no_schema}
-use Rattle.flow_tables.specs.States.{AreOurs, HasTables, IsOver, Holds, IsStill, IsRefused}
+use Rattle.flow_sql.specs.Stored.{tables_in}
+use Rattle.flow_sql.specs.Layout.{no_schema}
+use Rattle.flow_sql.specs.States.{AreOurs, HasTables, IsOver, Holds, IsStill, IsRefused}
 
 -- The value: the connection, why the rest of the transaction is refused, if it is, and, for contracts alone, the connection
 -- as it was handed in.

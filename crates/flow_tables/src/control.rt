@@ -3,7 +3,7 @@
 ghost use Rattle.std.specs.Prelude.{◌≡◌, [], ℕ, true, false, IsTrue, MatchResult, OnOk, IfErr, Ok, Err, codes};
 ghost use Rattle.sqlite.specs.State.{HasCleanDisk, Survives, Executes};
 ghost use Rattle.sqlite.specs.Held.{state};
-ghost use Rattle.flow_tables.specs.States.{Holds, IsOver, IsStill, IsRefused, IsUndone, HasBegun, HasCommitted, HasEnded, HasGoneBack};
+ghost use Rattle.flow_sql.specs.States.{Holds, IsOver, IsStill, IsRefused, IsUndone, HasBegun, HasCommitted, HasEnded, HasGoneBack};
 
 use sqlite::{Alter, Connection, Error};
 

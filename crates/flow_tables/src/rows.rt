@@ -2,8 +2,8 @@
 ghost use Rattle.std.specs.Prelude.{◌≡◌, ℕ, ℤ, List, map, IfOk, IfErr};
 ghost use Rattle.sqlite_value.specs.Order.{column, bytes};
 ghost use Rattle.sqlite.specs.Order.{Row as SqlRow};
-ghost use Rattle.flow_tables.specs.Stored.{number_at};
-ghost use Rattle.flow_tables.specs.Reads.{IsMisread, AreMisread, number_said, text_said, text_row_said, run_row_said, event_row_said, timer_row_said, task_row_said};
+ghost use Rattle.flow_sql.specs.Stored.{number_at, number_said, text_said, text_row_said, run_row_said, event_row_said, timer_row_said, task_row_said};
+ghost use Rattle.flow_tables.specs.Reads.{IsMisread, AreMisread};
 
 use crate::fault::StoreFault;
 use flow_base::text::RawText;

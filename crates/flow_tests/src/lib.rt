@@ -2,9 +2,15 @@
 #![tactic(auto)]
 
 #[cfg(test)]
+mod deciding;
+#[cfg(test)]
 mod histories;
 #[cfg(test)]
+mod lines;
+#[cfg(test)]
 mod runs;
+#[cfg(test)]
+mod stops;
 #[cfg(test)]
 mod texts;
 #[cfg(test)]

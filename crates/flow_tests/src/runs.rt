@@ -1,6 +1,6 @@
 //! Runs, as `flow drive -` tells them.
+use crate::deciding::Deciding;
 use flow_check::language::Language;
-use flow_cli::deciding::Deciding;
 use flow_cli::drive::drive_lines;
 use flow_view::lists::Lists;
 use std::test::Fail;

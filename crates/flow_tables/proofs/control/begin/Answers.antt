@@ -1,7 +1,7 @@
 use Rattle.std.proofs.Common.{false}
 use Rattle.sqlite.specs.Held.{state}
-use Rattle.flow_tables.proofs.Transactions.{begins, begun_still, begin_survives}
-use Rattle.flow_tables.proofs.Leaves.{error_refused, error_leaves, left_open, was_clean}
+use Rattle.flow_sql.proofs.Transactions.{begins, begun_still, begin_survives}
+use Rattle.flow_sql.proofs.Leaves.{error_refused, error_leaves, left_open, was_clean}
 use Rattle.flow_tables.proofs.control.begin.Goals as goal
 
 pub returns-in-Ok-clause-begun : goal.returns-in-Ok-clause-begun

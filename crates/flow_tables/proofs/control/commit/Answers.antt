@@ -1,6 +1,6 @@
 use Rattle.sqlite.specs.Held.{state}
-use Rattle.flow_tables.proofs.Transactions.{commits, committed_over, commit_ends, over_undone, commit_survives}
-use Rattle.flow_tables.proofs.Leaves.{error_leaves, left_open, was_clean}
+use Rattle.flow_sql.proofs.Transactions.{commits, committed_over, commit_ends, over_undone, commit_survives}
+use Rattle.flow_sql.proofs.Leaves.{error_leaves, left_open, was_clean}
 use Rattle.flow_tables.proofs.control.commit.Goals as goal
 
 pub returns-in-Ok-clause-committed : goal.returns-in-Ok-clause-committed

@@ -1,6 +1,6 @@
 use Rattle.sqlite.specs.Held.{state}
-use Rattle.flow_tables.proofs.Transactions.{rolls_back, rollback_ends, over_undone, rollback_survives}
-use Rattle.flow_tables.proofs.Leaves.{error_leaves, left_open, was_clean, rolled_back_ended}
+use Rattle.flow_sql.proofs.Transactions.{rolls_back, rollback_ends, over_undone, rollback_survives}
+use Rattle.flow_sql.proofs.Leaves.{error_leaves, left_open, was_clean, rolled_back_ended}
 use Rattle.flow_tables.proofs.control.rollback.Goals as goal
 
 pub returns-in-Ok-clause-undone : goal.returns-in-Ok-clause-undone

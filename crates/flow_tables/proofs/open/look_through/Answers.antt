@@ -1,17 +1,39 @@
-use Rattle.std.proofs.Common.{◌∙◌, false, sym, subst}
+use Rattle.std.proofs.Common.{◌≡◌, ◌∙◌, Some, Result, false, sym, ap, subst}
+use Rattle.std.specs.Prelude.{IfOk, IfErr}
+use Rattle.flow_check.specs.Language.{is_program}
+use Rattle.flow_rows.specs.declared.book.WholeBook.{WholeBook}
+use Rattle.flow_rows.specs.declared.found.Damage.{Damage}
+use Rattle.flow_rows.specs.Damages.{first_damage}
+use Rattle.flow_rows.specs.Rows.{by_run}
 use Rattle.flow_rows.specs.Told.{Tells, book_in}
+use Rattle.flow_rows.specs.Whole.{shown_book}
 use Rattle.flow_tables.specs.Opening.{HasCause}
 use Rattle.flow_tables.proofs.Opened.{read_caused}
 use Rattle.flow_tables.proofs.open.look_through.Goals as goal
 
-pub returns-in-Ok-None-clause-tells : goal.returns-in-Ok-None-clause-tells
-returns-in-Ok-None-clause-tells g c clean was =
+pub returns-in-Ok-Ok-clause-tells : goal.returns-in-Ok-Ok-clause-tells
+returns-in-Ok-Ok-clause-tells g c clean was =
     let read = c.in-Ok.ensures.reads false was clean in
-    (read.0, subst (λ t. Tells t (book_in t)) read.1 (c.in-Ok-None.ensures.tells c.in-Ok-None.field-0-is))
+    let rows = c.in-Ok.rows in
+    let book : shown_book c.in-Ok-Ok.book ≡ book_in (by_run rows) =
+    subst (λ (r : Result WholeBook Damage). IfOk r (λ b. shown_book b ≡ book_in (by_run rows))) c.in-Ok-Ok.field-0-is c.in-Ok-Ok.ensures.book in
+    let tells : Tells (by_run rows) (shown_book c.in-Ok-Ok.book) =
+    subst (λ (r : Result WholeBook Damage). IfOk r (λ b. Tells (by_run rows) (shown_book b))) c.in-Ok-Ok.field-0-is c.in-Ok-Ok.ensures.tells in
+    (read.0, subst (λ t. Tells t (book_in t)) read.1 (subst (Tells (by_run rows)) book tells))
 
-pub returns-in-Ok-Some-clause-damaged : goal.returns-in-Ok-Some-clause-damaged
-returns-in-Ok-Some-clause-damaged g c clean was =
-    (c.in-Ok.rows, (c.in-Ok.ensures.reads false was clean).1, sym c.in-Ok-Some.ensures.first ∙ c.in-Ok-Some.field-0-is)
+pub returns-in-Ok-Ok-clause-read : goal.returns-in-Ok-Ok-clause-read
+returns-in-Ok-Ok-clause-read g c clean was =
+    let rows = c.in-Ok.rows in
+    let book : shown_book c.in-Ok-Ok.book ≡ book_in (by_run rows) =
+    subst (λ (r : Result WholeBook Damage). IfOk r (λ b. shown_book b ≡ book_in (by_run rows))) c.in-Ok-Ok.field-0-is c.in-Ok-Ok.ensures.book in
+    book ∙ ap book_in (c.in-Ok.ensures.reads false was clean).1
 
-pub returns-clause-cause : goal.returns-clause-cause
-returns-clause-cause g c clean = subst (HasCause g.S.Store) (sym c.read_fault.ensures) (read_caused g.S.Store c.in-Err.fault (c.in-Err.ensures.cause clean))
+pub returns-in-Ok-Err-clause-damaged : goal.returns-in-Ok-Err-clause-damaged
+returns-in-Ok-Err-clause-damaged g c clean was =
+    let rows = c.in-Ok.rows in
+    let first : first_damage is_program rows ≡ Some c.in-Ok-Err.found =
+    subst (λ (r : Result WholeBook Damage). IfErr r (λ d. first_damage is_program rows ≡ Some d)) c.in-Ok-Err.field-0-is c.in-Ok-Err.ensures.first in
+    (rows, (c.in-Ok.ensures.reads false was clean).1, first)
+
+pub returns-in-Err-clause-cause : goal.returns-in-Err-clause-cause
+returns-in-Err-clause-cause g c clean = subst (HasCause g.S.Store) (sym c.read_fault.ensures) (read_caused g.S.Store c.in-Err.fault (c.in-Err.ensures.cause clean))

@@ -1,0 +1,58 @@
+//! What answers commands, one after the other.
+ghost use Rattle.std.specs.Prelude.{IfOk, IfErr};
+ghost use Rattle.flow_base.specs.declared.code.Code.{Code};
+ghost use Rattle.flow_base.specs.declared.command.Command.{Command};
+ghost use Rattle.flow_model.specs.Apply.{Rules};
+ghost use Rattle.flow_model.specs.Book.{Book};
+ghost use Rattle.flow_machine.specs.Answers.{Answers, CausedAnswer};
+ghost use Rattle.flow_machine.specs.declared.answer.Stop.{Stop};
+
+use flow_base::code::Code;
+use flow_base::command::{Command, Reply};
+
+/// How a command was answered.
+#[derive(Debug, Drop)]
+pub enum Answer {
+    /// It was applied; this is its reply.
+    Replied(Reply),
+    /// It was given up, with E80 or E01, and the book is as it was.
+    NotApplied(Code),
+}
+
+/// Why a command has no answer. Nobody answers another one then.
+#[derive(Clone, Copy, Debug, PartialEq, Eq)]
+pub enum Stop {
+    /// E84: nobody knows whether it is kept.
+    Unknown,
+    /// E85: an earlier command was stopped so.
+    Halted,
+}
+
+/// What keeps a book and answers commands over it, each for good before its answer is given.
+pub trait Answering {
+    /// By which rules it decides.
+    ghost rules: { Rules };
+
+    /// The book that it keeps.
+    ghost book: { Self → Book };
+
+    /// Whether all that it told so far was true, as where no disk lied. Once false it stays so.
+    ghost is_sure: { Self → Type 0 };
+
+    /// What answering keeps beside the book: what a stop may leave, and what was committed.
+    ghost follows: { Self → Self → Type 0 };
+
+    /// What stands behind a command that is given up over a book.
+    ghost gives_up: { Book → Command → Code → Type 0 };
+
+    /// What stands behind a stop at a command over a book, in the words of what is left of it.
+    ghost stops: { Self → Book → Command → Stop → Type 0 };
+
+    /// Answers a command.
+    fn answer(&mut self, command: Command) -> Result<Answer, Stop>
+        ensures answers { IfOk result (λ a. is_sure self.new → Answers rules (book self.old) (book self.new) command a) }
+        ensures cause { IfOk result (λ a. CausedAnswer (gives_up (book self.old) command) a) }
+        ensures stopped { IfErr result (λ s. stops self.new (book self.old) command s) }
+        ensures sure { is_sure self.new → is_sure self.old }
+        ensures follows { (a : Self) → follows a self.old → follows a self.new };
+}

@@ -1,0 +1,221 @@
+-- What the statements that make the tables do, whatever tables there are: each keeps the transaction, and none commits.
+use Rattle.std.proofs.Common.{◌≡◌, inl, inr, ℕ, List, Bool, true, false, Option, None, Ok, Err, if◌then◌else◌, refl, sym, ap, subst, ◌∙◌}
+use Rattle.std.specs.Prelude.{⊤, IsTrue, ◌==◌, ◌&&◌, not, ◌+◌, length}
+use Rattle.std.proofs.lemmas.Bool.{cases_Bool}
+use Rattle.sqlite_ast.specs.declared.Statement.{Statement}
+use Rattle.sqlite_ast.specs.declared.Statement.TheVariants as written
+use Rattle.sqlite_ast.specs.declared.Conflict.TheVariants as conflict
+use Rattle.sqlite_ast.specs.declared.CreateTable.{CreateTable}
+use Rattle.sqlite_ast.specs.declared.Rows.{Rows}
+use Rattle.sqlite_ast.specs.declared.Upsert.{Upsert}
+use Rattle.sqlite_syntax.specs.declared.statement.Parsed.{Parsed}
+use Rattle.sqlite_schema.specs.declared.schema.Schema.{Schema}
+use Rattle.sqlite_schema.specs.declared.command.Command.{Command}
+use Rattle.sqlite_schema.specs.declared.command.Command.TheVariants.{Insert, InsertOr, CreateTable as MakeTable, Nothing}
+use Rattle.sqlite_schema.specs.declared.command.Conflict.TheVariants as how
+use Rattle.sqlite_schema.specs.declared.command.Returning.{Returning}
+use Rattle.sqlite_resolve.specs.declared.compiled.Compiled.{Compiled}
+use Rattle.sqlite_resolve.specs.declared.error.CompileError.{CompileError}
+use Rattle.sqlite_resolve.specs.declared.error.CompileError.TheVariants.{NoSuchTable, Unsupported}
+use Rattle.sqlite_resolve.specs.Lowering.{Checked, and_then}
+use Rattle.sqlite_resolve.specs.Scope.{Name}
+use Rattle.sqlite_resolve.specs.Compile.{first, command, returning, shows, planned, meaning, compiled, create_table, creates, is_attached, insert, insert_or, insert_or_abort, new_rows, target, small, with_command, timed as timed_at}
+use Rattle.sqlite_resolve.specs.Body.{table_at}
+use Rattle.sqlite_resolve.specs.Given.{upserts}
+use Rattle.sqlite_resolve.specs.Define as define
+use Rattle.sqlite_schema.specs.Names.{table_named, index_named, view_named}
+use Rattle.sqlite_schema.specs.declared.schema.Table.{Table}
+use Rattle.sqlite_schema.specs.declared.command.Source.{Source}
+use Rattle.sqlite_schema.specs.declared.command.Upsert.{Upsert as Clause}
+use Rattle.std.specs.Option.{option_or}
+use Rattle.sqlite.specs.Listing.{understood, reads_listing, if_select, is_select, listing_schema}
+use Rattle.sqlite.specs.Order.{Row}
+use Rattle.sqlite.specs.Tree.{Trees}
+use Rattle.sqlite.specs.declared.error.Error.{Error}
+use Rattle.sqlite.specs.State.{State, HasCleanDisk, Survives, CommitsBy, Executes, ExecutesIn, Runs, shows_rows, text_of}
+use Rattle.sqlite.specs.Clock.{timed}
+use Rattle.sqlite.proofs.StateLemmas.{survives_weaker}
+use Rattle.flow_sql.specs.States.{GoesOn, CommitsNothing, IsMaking, IsReading, FirstIs}
+use Rattle.flow_sql.proofs.Leaves.{was_clean, error_leaves, rolled_back_ended}
+
+---- What a text becomes
+
+same_ok : {A : Type 0} {a b : A} → ◌≡◌ {A = Checked A} (Ok a) (Ok b) → a ≡ b
+same_ok e = cc
+
+then_gives : {A B : Type 0} (r : Checked A) (f : A → Checked B) (P : B → Type 0) → ((a : A) → r ≡ Ok a → (b : B) → f a ≡ Ok b → P b) → (b : B) → and_then r f ≡ Ok b → P b
+then_gives (Ok a) f P each b h = each a refl b h
+then_gives (Err e) f P each b h = absurd (let never = h in cc)
+
+if_gives : {B : Type 0} (c : Bool) (x y : Checked B) (P : B → Type 0) → ((b : B) → x ≡ Ok b → P b) → ((b : B) → y ≡ Ok b → P b) → (b : B) → (if c then x else y) ≡ Ok b → P b
+if_gives true x y P one two b h = one b h
+if_gives false x y P one two b h = two b h
+
+none_gives : {B : Type 0} (e : CompileError) (P : B → Type 0) (b : B) → ◌≡◌ {A = Checked B} (Err e) (Ok b) → P b
+none_gives e P b h = absurd (let never = h in cc)
+
+it_gives : {B : Type 0} (x : B) (P : B → Type 0) → P x → (b : B) → ◌≡◌ {A = Checked B} (Ok x) (Ok b) → P b
+it_gives x P holds b h = subst P (same_ok h) holds
+
+-- changes the database or nothing, and neither begins nor ends a transaction
+abbrev pub IsInside : Command → Type 0
+IsInside Nothing = ⊤
+IsInside (Insert at from) = ⊤
+IsInside (InsertOr at way from clauses) = ⊤
+IsInside MakeTable = ⊤
+IsInside _ = ⊥
+
+create_inside : (schema : Schema) (formats : List Name) (def : CreateTable) (c : Command) → create_table schema formats def ≡ Ok c → IsInside c
+unfolding create_table
+create_inside schema formats def =
+    let is_free = creates def.if_missing def.name (option_or (table_named schema def.name) (view_named schema def.name)) (index_named schema def.name) in
+    let made = λ (t : Table). (if length t.computed == length t.stamps.places && not def.resolves then Ok MakeTable else Err Unsupported) in
+    let next = λ (is_new : Bool). (if is_new then and_then (define.table formats def) made else Ok Nothing) in
+    if_gives (is_attached schema def.name) (Err Unsupported) (and_then is_free next) IsInside (none_gives Unsupported IsInside)
+    (then_gives is_free next IsInside (λ is_new _. if_gives is_new (and_then (define.table formats def) made) (Ok Nothing) IsInside
+    (then_gives (define.table formats def) made IsInside (λ t _. if_gives (length t.computed == length t.stamps.places && not def.resolves) (Ok MakeTable) (Err Unsupported) IsInside
+    (it_gives MakeTable IsInside tt) (none_gives Unsupported IsInside)))
+    (it_gives Nothing IsInside tt)))
+
+insert_inside : (schema : Schema) (base : ℕ) (name : Name) (columns : List Name) (rows : Rows) (c : Command) → insert schema base name columns rows ≡ Ok c → IsInside c
+unfolding insert
+insert_inside schema base name columns rows =
+    let last = λ (at : ℕ) (s : Source). Ok (Insert at s) in
+    let next = λ (at : ℕ) (table : Table). and_then (new_rows schema table base columns rows) (last at) in
+    then_gives (target schema name) (λ at. and_then (table_at schema at) (next at)) IsInside (λ at _. then_gives (table_at schema at) (next at) IsInside
+    (λ table _. then_gives (new_rows schema table base columns rows) (last at) IsInside (λ s _. it_gives (Insert at s) IsInside tt)))
+
+insert_or_inside : (schema : Schema) (base : ℕ) (name : Name) (columns : List Name) (rows : Rows) (clauses : List Upsert) (c : Command) → insert_or schema base how.Abort name columns rows clauses ≡ Ok c → IsInside c
+unfolding insert_or
+insert_or_inside schema base name columns rows clauses =
+    let last = λ (at : ℕ) (s : Source) (found : List Clause). Ok (InsertOr at how.Abort s found) in
+    let later = λ (at : ℕ) (table : Table) (s : Source). and_then (upserts schema at table base clauses) (last at s) in
+    let next = λ (at : ℕ) (table : Table). and_then (new_rows schema table base columns rows) (later at table) in
+    then_gives (target schema name) (λ at. and_then (table_at schema at) (next at)) IsInside (λ at _. then_gives (table_at schema at) (next at) IsInside
+    (λ table _. then_gives (new_rows schema table base columns rows) (later at table) IsInside
+    (λ s _. then_gives (upserts schema at table base clauses) (last at s) IsInside (λ found _. it_gives (InsertOr at how.Abort s found) IsInside tt))))
+
+command_inside : (schema : Schema) (formats : List Name) (base : ℕ) (st : Statement) → IsMaking st → (c : Command) → command schema formats base st ≡ Ok c → IsInside c
+unfolding command insert_or_abort
+command_inside schema formats base (written.CreateTable def) making = create_inside schema formats def
+command_inside schema formats base (written.Insert conflict.Abort name columns rows clauses shown) making =
+    if_gives (length clauses == 0) (insert schema base name columns rows) (insert_or schema base how.Abort name columns rows clauses) IsInside (insert_inside schema base name columns rows) (insert_or_inside schema base name columns rows clauses)
+command_inside schema formats base _ making = absurd making
+
+shows_none : (schema : Schema) (base : ℕ) (st : Statement) → IsMaking st → (r : Option Returning) → returning schema base st ≡ Ok r → r ≡ None
+unfolding returning shows
+shows_none schema base (written.CreateTable def) making r h = sym (same_ok h)
+shows_none schema base (written.Insert conflict.Abort name columns rows clauses shown) making r h = sym (same_ok (rw making at h))
+shows_none schema base _ making r h = absurd making
+
+reads_none : (schema : Schema) (base : ℕ) (st : Statement) → IsReading st → (r : Option Returning) → returning schema base st ≡ Ok r → r ≡ None
+unfolding returning
+reads_none schema base (written.Select s) reading r h = sym (same_ok h)
+reads_none schema base _ reading r h = absurd reading
+
+selected : (r : Checked Compiled) (c : Compiled) → if_select r ≡ Ok c → r ≡ Ok c
+selected (Ok d) c h = by_case (is_select d.command) h
+  where
+    by_case : (b : Bool) → (if b then Ok d else Err NoSuchTable) ≡ Ok c → ◌≡◌ {A = Checked Compiled} (Ok d) (Ok c)
+    by_case true e = e
+    by_case false e = absurd (let never = e in cc)
+selected (Err e) c h = absurd (let never = h in cc)
+
+-- what is so of the command of such a statement, and of what it shows, is so of what a text becomes that begins with one
+module _ (Q : Statement → Type 0) (P : Command × Option Returning → Type 0)
+    (so : (schema : Schema) (formats : List Name) (base : ℕ) (st : Statement) → Q st → (c : Command) → command schema formats base st ≡ Ok c → (shown : Option Returning) → returning schema base st ≡ Ok shown → P (c, shown)) where
+  abbrev Plans : List Name × (Command × Option Returning) → Type 0
+  Plans plan = P plan.1
+
+  abbrev IsSo : Compiled → Type 0
+  IsSo c = P (c.command, c.returning)
+
+  meaning_so : (schema : Schema) (p : Parsed) (base : ℕ) → Q p.statement → (found : Command × Option Returning) → meaning schema p base ≡ Ok found → P found
+  unfolding meaning
+  meaning_so schema p base it =
+      let last = λ (shown : Option Returning) (c : Command). Ok (c, shown) in
+      let next = λ (shown : Option Returning). and_then (command schema p.formats base p.statement) (last shown) in
+      then_gives (returning schema base p.statement) next P (λ shown shown_is. then_gives (command schema p.formats base p.statement) (last shown) P
+      (λ c c_is. it_gives (c, shown) P (so schema p.formats base p.statement it c c_is shown shown_is)))
+
+  plan_so : (schema : Schema) (p : Parsed) → Q p.statement → (plan : List Name × (Command × Option Returning)) → planned schema p ≡ Ok plan → Plans plan
+  unfolding planned
+  plan_so schema p it =
+      let formats = timed_at schema p.formats p.statement in
+      let base = small p.names + small formats in
+      let last = λ (found : Command × Option Returning). Ok (formats, found) in
+      then_gives (meaning schema p base) last Plans (λ found found_is. it_gives (formats, found) Plans (meaning_so schema p base it found found_is))
+
+  compiled_so : (schema : Schema) (sql : List ℕ) → FirstIs Q (first sql) → (c : Compiled) → compiled schema sql ≡ Ok c → IsSo c
+  unfolding compiled
+  compiled_so schema sql it =
+      let last = λ (p : Parsed) (plan : List Name × (Command × Option Returning)). Ok (with_command p plan) in
+      let next = λ (p : Parsed). and_then (planned schema p) (last p) in
+      then_gives (first sql) next IsSo (λ p p_is. then_gives (planned schema p) (last p) IsSo
+      (λ plan plan_is. it_gives (with_command p plan) IsSo (plan_so schema p (subst (FirstIs Q) p_is it) plan plan_is)))
+
+  understood_so : (schema : Schema) (sql : List ℕ) → FirstIs Q (first sql) → (c : Compiled) → understood schema sql ≡ Ok c → IsSo c
+  unfolding understood
+  understood_so schema sql it =
+      if_gives (reads_listing schema sql) (if_select (compiled listing_schema sql)) (compiled schema sql) IsSo (λ c h. compiled_so listing_schema sql it c (selected (compiled listing_schema sql) c h)) (compiled_so schema sql it)
+
+-- keeps the transaction, and shows no rows
+pub understood_inside : (schema : Schema) (sql : List ℕ) → FirstIs IsMaking (first sql) → (c : Compiled) → understood schema sql ≡ Ok c → IsInside c.command × (c.returning ≡ None)
+understood_inside = understood_so IsMaking (λ found. IsInside found.0 × (found.1 ≡ None)) (λ schema formats base st making c c_is shown shown_is. (command_inside schema formats base st making c c_is, shows_none schema base st making shown shown_is))
+
+-- a query shows no rows of a write
+pub reading_shows_none : (schema : Schema) (sql : List ℕ) → FirstIs IsReading (first sql) → (c : Compiled) → understood schema sql ≡ Ok c → c.returning ≡ None
+reading_shows_none = understood_so IsReading (λ found. found.1 ≡ None) (λ schema formats base st reading c c_is. reads_none schema base st reading)
+
+---- What it does within a transaction
+
+module _ (old new : State) (inside : IsTrue old.in_transaction) where
+  ran : (returns : Option Returning) (command : Command) → IsInside command → (text : List ℕ) (params : Row) (count : ℕ) → Runs old new returns command text params count → GoesOn old new
+  ran returns Nothing is text params count h = record { was_open = h.0.0.was_open; is_open = h.0.0.is_open; mode = h.0.0.mode ∙ inside; committed = h.0.0.committed_is }
+  ran returns (Insert at from) is text params count h = record {
+    was_open = h.shown.was_open;
+    is_open = h.shown.is_open;
+    mode = h.shown.mode ∙ inside;
+    committed = h.shown.committed_is ∙ ap (λ b. if b then old.committed else new.now) inside;
+  }
+  ran returns (InsertOr at way from clauses) is text params count h = record {
+    was_open = h.shown.was_open;
+    is_open = h.shown.is_open;
+    mode = h.shown.mode ∙ inside;
+    committed = h.shown.committed_is ∙ ap (λ b. if b then old.committed else new.now) inside;
+  }
+  ran returns MakeTable is text params count h = record {
+    was_open = h.shown.was_open;
+    is_open = h.shown.is_open;
+    mode = h.shown.mode ∙ inside;
+    committed = h.shown.committed_is ∙ ap (λ b. if b then old.committed else new.now) inside;
+  }
+  ran returns _ is text params count h = absurd is
+
+  pub making_goes_on : (sql : List ℕ) (params : Row) (count : ℕ) → FirstIs IsMaking (first sql) → Executes sql params old new (Ok count) → GoesOn old new
+  unfolding ExecutesIn
+  making_goes_on sql params count making h = elim (cases_Bool (shows_rows false h.0)) [
+    | inl shows ↦ absurd (let e = (rw shows at h.2).0 in cc)
+    | inr runs ↦ ran h.0.returning h.0.command (understood_inside old.now.schema sql making h.0 h.1.is).0 (text_of sql h.0) (timed params h.0.formats h.1.now) count (rw runs at h.2)
+  ]
+
+  pub making_leaves : (sql : List ℕ) (params : Row) (e : Error) → Executes sql params old new (Err e) → CommitsNothing old new
+  making_leaves sql params e h = elim (error_leaves old new sql params e h) [
+    | inl same ↦ inl (record { was_open = same.0.was_open; is_open = same.0.is_open; mode = same.0.mode ∙ inside; committed = same.0.committed_is })
+    | inr undone ↦ inr (rolled_back_ended old new undone)
+  ]
+
+  pub making_commits_nothing : (sql : List ℕ) (params : Row) → FirstIs IsMaking (first sql) → (db : Trees) → ¬ CommitsBy sql params old db
+  unfolding CommitsBy
+  making_commits_nothing sql params making db h =
+      let writes = (understood_inside old.now.schema sql making h.0 h.1.is).0 in
+      elim h.2 [
+        | inl (inl commits, _) ↦ absurd (rw commits at writes)
+        | inl (inr release, _) ↦ absurd (rw release.2 at writes)
+        | inr outside ↦ absurd (let e = inside in let f = outside.0 in cc)
+      ]
+
+pub making_survives : (old new : State) (sql : List ℕ) (params : Row) → FirstIs IsMaking (first sql) → (HasCleanDisk old → IsTrue old.in_transaction) → Survives old new (CommitsBy sql params old)
+    → Survives old new (λ _. ⊥)
+making_survives old new sql params making inside h =
+    survives_weaker old new _ _ (λ clean db. making_commits_nothing old new (inside (was_clean old new _ h clean)) sql params making db) h

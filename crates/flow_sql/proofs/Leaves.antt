@@ -1,0 +1,78 @@
+-- What a statement that is refused leaves.
+use Rattle.std.proofs.Common.{◌⊎◌, inl, inr, ℕ, List, Bool, false, Err, sym, subst, ◌∙◌, arith}
+use Rattle.std.specs.Prelude.{IsTrue}
+use Rattle.std.proofs.lemmas.Bool.{cases_Bool}
+use Rattle.sqlite.specs.Order.{Row}
+use Rattle.sqlite.specs.Tree.{Trees}
+use Rattle.sqlite.specs.declared.error.Error.{Error}
+use Rattle.sqlite.specs.State.{State, Executes, ExecutesIn, IsNotRun, IsUnchanged, IsRolledBack, Survives, HasCleanDisk, shows_rows, RunsCommand}
+use Rattle.sqlite.specs.Clock.{timed}
+use Rattle.flow_sql.specs.States.{HasTables, IsOver, IsStill, IsUndone, IsRefused, HasEnded, IsAtRest}
+
+-- A disk that tells no lie after a call told none before it.
+pub was_clean : (old new : State) (P : Trees → Type 0) → Survives old new P → HasCleanDisk new → HasCleanDisk old
+was_clean old new P h clean = omega (arith, h.clean)
+
+module _ (old new : State) where
+  pub unchanged_still : (inside : Bool) → IsUnchanged old new → IsOver inside old → IsStill inside old new
+  unchanged_still inside h was = (
+    record {
+      is_open = h.0.is_open;
+      mode = h.0.mode ∙ was.mode;
+      now = subst HasTables (sym h.0.now_is) was.now;
+      committed = subst HasTables (sym h.0.committed_is) was.committed;
+    },
+    h.0.now_is,
+    h.0.committed_is,
+  )
+
+  pub rolled_back_ended : IsRolledBack old new → HasEnded old new
+  rolled_back_ended h = record { was_open = h.was_open; mode = h.autocommit; back = h.undone }
+
+  pub ended_undone : HasTables old.committed → HasEnded old new → IsUndone old new
+  ended_undone committed h = record {
+    mode = h.mode;
+    over = λ up. (
+      record {
+        is_open = up;
+        mode = h.mode;
+        now = subst HasTables (sym (h.back up).0) committed;
+        committed = subst HasTables (sym (h.back up).1) committed;
+      },
+      (h.back up).0,
+      (h.back up).1,
+    );
+  }
+
+  pub rolled_back_undone : (inside : Bool) → IsRolledBack old new → IsOver inside old → IsUndone old new
+  rolled_back_undone inside h was = ended_undone was.committed (rolled_back_ended h)
+
+  -- An error changes nothing, or ends the transaction.
+  pub error_leaves : (sql : List ℕ) (params : Row) (e : Error) → Executes sql params old new (Err e) → IsUnchanged old new ⊎ IsRolledBack old new
+  unfolding ExecutesIn IsNotRun
+  error_leaves sql params e (inl (inl none)) = inl none.1
+  error_leaves sql params e (inl (inr fails)) = inr fails.3
+  error_leaves sql params e (inr it) = elim (cases_Bool (shows_rows false it.0)) [
+    | inl shows ↦ inl (rw shows at it.2).1
+    | inr runs ↦ ran (rw runs at it.2)
+  ]
+    where
+      ran : RunsCommand old new sql it.0 (timed params it.0.formats it.1.now) (Err e) → IsUnchanged old new ⊎ IsRolledBack old new
+      ran (inl refused) = inl refused.1
+      ran (inr fails) = inr fails.3
+
+  pub left_refused : (inside : Bool) → IsOver inside old → IsUnchanged old new ⊎ IsRolledBack old new → IsRefused inside old new
+  left_refused inside was (inl same) = inl (unchanged_still inside same was)
+  left_refused inside was (inr undone) = inr (rolled_back_undone inside undone was)
+
+  pub error_refused : (sql : List ℕ) (params : Row) (e : Error) (inside : Bool) → IsOver inside old → Executes sql params old new (Err e) → IsRefused inside old new
+  error_refused sql params e inside was h = left_refused inside was (error_leaves sql params e h)
+
+  pub left_open : IsUnchanged old new ⊎ IsRolledBack old new → IsTrue new.is_open → IsTrue old.is_open
+  left_open (inl same) up = same.0.was_open
+  left_open (inr undone) up = undone.was_open up
+
+  pub rest_ended : IsAtRest old → IsUnchanged old new ⊎ IsRolledBack old new → HasEnded old new
+  rest_ended rest (inl same) =
+      record { was_open = λ up. same.0.was_open; mode = same.0.mode ∙ rest.0; back = λ up. (same.0.now_is ∙ rest.1 same.0.was_open, same.0.committed_is) }
+  rest_ended rest (inr undone) = rolled_back_ended undone

@@ -1,0 +1,5 @@
+pub mod Layout
+pub mod Stored
+pub mod States
+pub mod Coming
+pub mod Meaning

@@ -1,0 +1,143 @@
+-- What becomes of a question.
+use Rattle.std.proofs.Common.{List, [], ℕ, map, inl, inr, Bool, true, Option, Result, Ok, Err, subst, sym, ◌≡◌, ◌⊎◌, ◌∙◌}
+use Rattle.std.specs.Prelude.{IfOk, IfErr, MatchResult}
+use Rattle.sqlite.specs.Order.{Row}
+use Rattle.sqlite.specs.State.{State, HasCleanDisk, Survives, CommitsShowing, CommitsBy, Executes, IsUnchanged, IsRolledBack}
+use Rattle.sqlite_resolve.specs.Compile.{first as first_statement}
+use Rattle.sqlite.specs.declared.error.Error.{Error}
+use Rattle.sqlite.specs.Query.{Query, IsAnswer}
+use Rattle.sqlite.specs.Program.{overlay}
+use Rattle.sqlite.specs.Held.{Held, state}
+use Rattle.sqlite_trees.specs.declared.store.Store.{Ghosts}
+use Rattle.flow_model.specs.Book.{Book}
+use Rattle.flow_view.specs.declared.fault.ViewFault.{ViewFault}
+use Rattle.flow_view.specs.declared.fault.ViewFault.TheVariants as view
+use Rattle.flow_rows.specs.Rows.{Tables}
+use Rattle.flow_rows.specs.Finding.{first}
+use Rattle.flow_tables.specs.declared.fault.StoreFault.{StoreFault}
+use Rattle.flow_tables.specs.declared.fault.StoreFault.TheVariants.{NoMemory, Refused}
+use Rattle.flow_tables.specs.Asking.{IsAsked, IsFirst, IsValue, IsRecalled, IsChanged}
+use Rattle.flow_sql.specs.Meaning.{IsRead, IsQuestion, IsRowChange}
+use Rattle.flow_rows.specs.Told.{Tells as TellsBook}
+use Rattle.flow_sql.specs.Stored.{tables_in}
+use Rattle.flow_tables.specs.Faults.{view_fault, IsStopped}
+use Rattle.flow_sql.specs.States.{IsOver, Changes, IsStill, IsRefused, HasEnded, IsAtRest, FirstIs, IsReading}
+use Rattle.flow_tables.specs.Reads.{Tells, IsReadFault}
+use Rattle.flow_sql.proofs.Leaves.{was_clean, error_refused, left_refused, rest_ended}
+use Rattle.flow_sql.proofs.Within.{write_survives}
+use Rattle.flow_tables.proofs.Wholes.{read_stopped}
+use Rattle.flow_sql.proofs.Reading.{answer, still}
+use Rattle.flow_sql.proofs.AnyFile.{commits_none, failed, answered}
+
+---- What a read leaves, over any file
+
+module _ (sql : List ℕ) (reading : FirstIs IsReading (first_statement sql)) (params : Row) (old new : State) where
+  fault_leaves : (f : StoreFault) → IsReadFault sql params old new f → IsUnchanged old new ⊎ IsRolledBack old new
+  fault_leaves NoMemory (inl it) = failed sql reading params old new it.0 it.1
+  fault_leaves NoMemory (inr it) = inl (answered sql reading params old new it.0 it.1)
+  fault_leaves (Refused e) (inl it) = failed sql reading params old new e it
+  fault_leaves (Refused e) (inr it) = inl (answered sql reading params old new it.0 it.1)
+
+  -- where no transaction runs, a read ends with what the last commit left
+  pub read_rests : {V A : Type 0} (said : Row → A) (items : V → List A) (r : Result V StoreFault) → IfOk r (λ v. Tells said sql params old new (items v)) → IfErr r (IsReadFault sql params old new)
+      → IsAtRest old → HasEnded old new
+  read_rests said items (Ok v) ok err rest = rest_ended old new rest (inl (answered sql reading params old new ok.0 ok.1))
+  read_rests said items (Err f) ok err rest = rest_ended old new rest (fault_leaves f err)
+
+---- What it tells of our tables
+
+match_from : {X E : Type 0} (P Q : X → Type 0) (R S : E → Type 0) (r : Result X E) → IfOk r P → IfErr r R → ((x : X) → P x → Q x) → ((e : E) → R e → S e) → MatchResult r Q S
+match_from P Q R S (Ok x) p q f g = f x p
+match_from P Q R S (Err e) p q f g = g e q
+
+module _ (sql : List ℕ) (q : Query) (names : List (List ℕ)) (it : IsRead sql q names) (params : Row) (old new : State) (inside : Bool) (over : IsOver inside old) where
+  -- what an answer says holds of what is found
+  pub reads_what : {V A : Type 0} (said : Row → A) (items : V → List A) (P : List A → Type 0) → ((rows : List Row) → IsAnswer q (overlay old.now.trees []) params rows → P (map said rows))
+      → (r : Result V StoreFault) → IfOk r (λ v. Tells said sql params old new (items v)) → IfErr r (IsReadFault sql params old new)
+      → MatchResult r (λ v. IsStill inside old new × P (items v)) (λ _. IsRefused inside old new)
+  reads_what said items P found r ok err =
+      match_from (λ v. Tells said sql params old new (items v)) (λ v. IsStill inside old new × P (items v)) (IsReadFault sql params old new) (λ _. IsRefused inside old new) r ok err
+      (λ v h. (still sql q names it params old new inside over h.0 h.1, subst P (sym h.2) (found h.0 (answer sql q names it params old new over.now h.0 h.1))))
+      (λ f h. left_refused old new inside over (fault_leaves sql it.reading params old new f h))
+
+module _ {Q A : Type 0} (said : Row → A) (sql : List ℕ) (params : Q → Row) (tells : Q → Tables → List A → Type 0) (it : IsQuestion said sql params tells) (q : Q) (old new : State) where
+  pub asked : {V : Type 0} (items : V → List A) (r : Result V StoreFault) → (HasCleanDisk new → IfOk r (λ v. Tells said sql (params q) old new (items v)))
+      → (HasCleanDisk new → IfErr r (IsReadFault sql (params q) old new)) → Survives old new (CommitsShowing sql (params q) old) → IsAsked sql (params q) old new r (λ t v. tells q t (items v))
+  asked items r ok err h = record {
+    reads = λ inside was clean.
+        let over = was (was_clean old new _ h clean) in
+        reads_what sql it.query it.names it.is (params q) old new inside over said items (tells q (tables_in old.now.trees)) (λ rows a. it.found q old.now.trees over.now.ours rows a) r (ok clean) (err clean);
+    clean = λ clean. was_clean old new _ h clean;
+    cause = err;
+    ended = λ clean rest. read_rests sql it.is.reading (params q) old new said items r (ok clean) (err clean) rest;
+    survives = commits_none sql it.is.reading (params q) old new h;
+  }
+
+module _ {A V : Type 0} (sql : List ℕ) (params : Row) (tells : Tables → List A → Type 0) (old new : State) (items : V → List A) where
+  pub first_asked : (v : V) (o : Option A) → o ≡ first (items v) → IsAsked sql params old new (Ok v) (λ t x. tells t (items x)) → IsAsked sql params old new (Ok o) (IsFirst tells)
+  first_asked v o is it = record {
+    reads = λ inside was clean. let read = it.reads inside was clean in (read.0, (items v, read.1, is));
+    clean = it.clean;
+    cause = it.cause;
+    ended = it.ended;
+    survives = it.survives;
+  }
+
+  pub none_asked : (f : StoreFault) → IsAsked sql params old new (Err f) (λ t x. tells t (items x)) → IsAsked sql params old new (Err f) (IsFirst tells)
+  none_asked f it = record { reads = it.reads; clean = it.clean; cause = it.cause; ended = it.ended; survives = it.survives }
+
+---- A value of the book
+
+module _ {S A V : Type 0} (g : Ghosts S) (old new : Held S) (sql : List ℕ) (params : Row) (tells : Tables → V → Type 0) (value : Book → A) where
+  pub valued : (v : V) (r : Result A ViewFault) → IsAsked sql params (state g old) (state g new) (Ok v) tells → ((t : Tables) (b : Book) → TellsBook t b → tells t v → IsValue r (value b)) → IsRecalled g old new r value
+  valued v r it is = record {
+    reads = λ clean b told was. let read = it.reads true was clean in go b r (is (tables_in (state g old).now.trees) b told read.1) read.0;
+    clean = it.clean;
+    cause = λ clean b told was. stops b r (is (tables_in (state g old).now.trees) b told (it.reads true was clean).1);
+    survives = λ _. it.survives;
+  }
+    where
+      go : (b : Book) → (r : Result A ViewFault) → IsValue r (value b) → IsStill true (state g old) (state g new) → MatchResult r (λ x. IsStill true (state g old) (state g new) × (x ≡ value b)) (λ _. IsRefused true (state g old) (state g new))
+      go b (Ok x) h still = (still, h)
+      go b (Err f) h still = inl still
+
+      stops : (b : Book) → (r : Result A ViewFault) → IsValue r (value b) → IfErr r (λ f. f ≡ view.StoreRefused → IsStopped g (state g new))
+      stops b (Ok x) h = tt
+      stops b (Err f) h = λ same. absurd (h same)
+
+  pub unvalued : (f : StoreFault) (k : ViewFault) → k ≡ view_fault f → IsAsked sql params (state g old) (state g new) (Err f) tells → IsRecalled {A = A} g old new (Err k) value
+  unvalued f k same it = record {
+    reads = λ clean b told was. it.reads true was clean;
+    clean = it.clean;
+    cause = λ clean b told was e. read_stopped g old new sql params f (it.cause clean) (sym same ∙ e);
+    survives = λ _. it.survives;
+  }
+
+---- Changes
+
+-- the same answer, without its count
+abbrev pub IsUncounted : Result ℕ Error → Result Unit Error → Type 0
+IsUncounted (Ok count) (Ok done) = Unit {0}
+IsUncounted (Err f) (Err e) = f ≡ e
+IsUncounted _ _ = ⊥
+
+module _ {S : Type 0} (g : Ghosts S) (sql : List ℕ) (params : Row) (old new : Held S) (fits : Tables → Type 0) (after : Tables → Tables) (it : IsRowChange g sql params fits after) (h : Survives (state g old) (state g new) (CommitsBy sql params (state g old))) where
+  pub changed : (r : Result ℕ Error) → (HasCleanDisk (state g new) → Executes sql params (state g old) (state g new) r) → (x : Result Unit Error) → IsUncounted r x → IsChanged sql params (state g old) (state g new) x fits after
+  changed r ran x same = record {
+    put = λ was fits clean. put (was (was_clean (state g old) (state g new) _ h clean)) fits r (ran clean) x same;
+    clean = λ clean. was_clean (state g old) (state g new) _ h clean;
+    cause = λ clean. cause r (ran clean) x same;
+    survives = λ was. write_survives sql it.command it.is it.writes (state g old) (state g new) params was h;
+  }
+    where
+      put : IsOver true (state g old) → fits (tables_in (state g old).now.trees) → (r : Result ℕ Error) → Executes sql params (state g old) (state g new) r → (x : Result Unit Error) → IsUncounted r x
+          → MatchResult x (λ _. Changes (state g old) (state g new) (after (tables_in (state g old).now.trees))) (λ _. IsRefused true (state g old) (state g new))
+      put was fits (Ok count) ran (Ok done) same = it.put old new count was fits ran
+      put was fits (Ok count) ran (Err e) same = absurd same
+      put was fits (Err f) ran (Ok done) same = absurd same
+      put was fits (Err f) ran (Err e) same = error_refused (state g old) (state g new) sql params e true was (subst (λ k. Executes sql params (state g old) (state g new) (Err k)) same ran)
+
+      cause : (r : Result ℕ Error) → Executes sql params (state g old) (state g new) r → (x : Result Unit Error) → IsUncounted r x → IfErr x (λ e. Executes sql params (state g old) (state g new) (Err e))
+      cause r ran (Ok done) same = tt
+      cause (Ok count) ran (Err e) same = absurd same
+      cause (Err f) ran (Err e) same = subst (λ k. Executes sql params (state g old) (state g new) (Err k)) same ran

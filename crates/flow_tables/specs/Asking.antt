@@ -1,0 +1,55 @@
+-- What is asked of the tables in one statement, and what becomes of it.
+use Rattle.std.specs.Prelude.{◌≡◌, ℕ, Bool, true, List, Option, Result, Ok, Err, MatchResult, IfErr}
+use Rattle.sqlite_trees.specs.declared.store.Store.{Ghosts}
+use Rattle.sqlite.specs.declared.error.Error.{Error}
+use Rattle.sqlite.specs.Order.{Row}
+use Rattle.sqlite.specs.Held.{Held, state}
+use Rattle.sqlite.specs.State.{State, HasCleanDisk, Survives, Executes}
+use Rattle.flow_model.specs.Book.{Book}
+use Rattle.flow_rows.specs.Rows.{Tables}
+use Rattle.flow_rows.specs.Finding.{first as list_first}
+use Rattle.flow_view.specs.declared.fault.ViewFault.{ViewFault}
+use Rattle.flow_view.specs.declared.fault.ViewFault.TheVariants as view
+use Rattle.flow_tables.specs.declared.fault.StoreFault.{StoreFault}
+use Rattle.flow_sql.specs.Stored.{tables_in}
+use Rattle.flow_sql.specs.States.{Changes, Holds, IsStill, IsRefused, IsAtRest, HasEnded}
+use Rattle.flow_tables.specs.Reads.{IsReadFault}
+use Rattle.flow_tables.specs.Faults.{IsStopped}
+use Rattle.flow_tables.specs.Owned.{ReadsBook, StopsRead}
+
+-- What becomes of a question: it is answered so, and the tables are as they were, or it was refused, and the transaction may
+-- have ended. Nothing is committed.
+pub record IsAsked {A : Type 0} (sql : List ℕ) (params : Row) (old new : State) (result : Result A StoreFault) (tells : Tables → A → Type 0) : Type 0 where
+  pub reads : (inside : Bool) → Holds inside old → HasCleanDisk new
+      → MatchResult result (λ v. IsStill inside old new × tells (tables_in old.now.trees) v) (λ _. IsRefused inside old new)
+  pub clean : HasCleanDisk new → HasCleanDisk old
+  pub cause : HasCleanDisk new → IfErr result (IsReadFault sql params old new)
+  pub ended : HasCleanDisk new → IsAtRest old → HasEnded old new
+  pub survives : Survives old new (λ _. ⊥)
+
+-- it is the first of what tells this
+abbrev pub IsFirst : {A : Type 0} → (Tables → List A → Type 0) → Tables → Option A → Type 0
+IsFirst {A} tells t o = (xs : List A) × tells t xs × (o ≡ list_first xs)
+
+-- a value that was made of an answer: nothing but the want of memory hinders it
+abbrev pub IsValue : {A : Type 0} → Result A ViewFault → A → Type 0
+IsValue (Ok v) x = v ≡ x
+IsValue (Err f) x = f ≡ view.StoreRefused → ⊥
+
+-- What becomes of a read of the book, within a transaction.
+pub record IsRecalled {S A : Type 0} (g : Ghosts S) (old new : Held S) (result : Result A ViewFault) (value : Book → A) : Type 0 where
+  pub reads : HasCleanDisk (state g new) → ReadsBook (state g old) (state g new) result value
+  pub clean : HasCleanDisk (state g new) → HasCleanDisk (state g old)
+  pub cause : HasCleanDisk (state g new) → StopsRead (state g old) result (IsStopped g (state g new))
+  pub survives : Holds true (state g old) → Survives (state g old) (state g new) (λ _. ⊥)
+
+---- Changes
+
+-- What becomes of a change of rows, within a transaction: the tables are changed so, or it was refused, and the transaction may
+-- have ended. Nothing is committed.
+pub record IsChanged (sql : List ℕ) (params : Row) (old new : State) (result : Result (Unit {0}) Error) (fits : Tables → Type 0) (after : Tables → Tables) : Type 0 where
+  pub put : Holds true old → fits (tables_in old.now.trees) → HasCleanDisk new
+      → MatchResult result (λ _. Changes old new (after (tables_in old.now.trees))) (λ _. IsRefused true old new)
+  pub clean : HasCleanDisk new → HasCleanDisk old
+  pub cause : HasCleanDisk new → IfErr result (λ e. Executes sql params old new (Err e))
+  pub survives : Holds true old → Survives old new (λ _. ⊥)

@@ -1,0 +1,151 @@
+//! Questions to the tables and changes of their rows, each one statement. One that is refused has changed nothing, or the
+//! transaction has ended.
+ghost use Rattle.std.specs.Prelude.{◌≡◌, ℕ, List, IfOk, IfErr};
+ghost use Rattle.sqlite.specs.Order.{Row as SqlRow};
+ghost use Rattle.sqlite.specs.State.{HasCleanDisk, Survives, CommitsShowing, CommitsBy, Shown, FailsToQuery, Executes};
+ghost use Rattle.sqlite.specs.Held.{state};
+ghost use Rattle.flow_model.specs.Book.{Book};
+ghost use Rattle.flow_rows.specs.Rows.{Tables};
+ghost use Rattle.flow_rows.specs.Told.{Tells as TellsBook};
+ghost use Rattle.flow_tables.specs.Reads.{Tells, IsReadFault};
+ghost use Rattle.flow_tables.specs.Asking.{IsAsked, IsFirst, IsValue, IsRecalled, IsChanged};
+ghost use Rattle.flow_sql.specs.Meaning.{IsQuestion, IsRowChange};
+
+use crate::fault::{StoreFault, view_fault};
+use crate::questions::first_of;
+use crate::rows::{Said, read_all};
+use flow_view::fault::ViewFault;
+use sqlite::{Alter, Connection, Error, Row};
+use std::alloc::Global;
+
+/// What is asked of the tables in one statement.
+pub trait Question: Sized {
+    /// What a row of the answer says.
+    type Item: Said + Drop;
+
+    ghost sql: { List ℕ };
+
+    ghost params: { Self → SqlRow };
+
+    /// What the rows of the answer tell of the tables.
+    ghost tells: { Self → Tables → List Self.Item → Type 0 };
+
+    fn send<S: Alter>(&self, conn: &mut Connection<S>) -> Result<Vec<Row>, Error>
+        ensures ok { HasCleanDisk (state S.Store conn.new) → IfOk result (λ rows. Shown sql (params self.now) (state S.Store conn.old) (state S.Store conn.new) rows.items) }
+        ensures err { HasCleanDisk (state S.Store conn.new) → IfErr result (FailsToQuery sql (params self.now) (state S.Store conn.old) (state S.Store conn.new)) }
+        ensures survives { Survives (state S.Store conn.old) (state S.Store conn.new) (CommitsShowing sql (params self.now) (state S.Store conn.old)) };
+
+    ghost means: { IsQuestion Self.Item.said sql params tells };
+}
+
+/// A question whose answer is a value of the book.
+pub(crate) trait OfBook: Question {
+    type Value: Drop;
+
+    ghost value: { Self → Book → Self.Value };
+
+    fn value(&self, items: Vec<Self::Item>) -> Result<Self::Value, ViewFault>
+        ensures { (t : Tables) (b : Book) → TellsBook t b → Self.tells self.now t items.items → IsValue result (value self.now b) };
+}
+
+/// What is read of the book, in one question or several.
+pub(crate) trait BookRead {
+    type Value: Drop;
+
+    ghost value: { Self → Book → Self.Value };
+
+    fn read<S: Alter>(
+        &self,
+        alloc: Global,
+        conn: &mut Connection<S>,
+    ) -> Result<Self::Value, ViewFault>
+        ensures { IsRecalled S.Store conn.old conn.new result (value self.now) };
+}
+
+fn ask_rows<Q: Question, S: Alter>(
+    alloc: Global,
+    conn: &mut Connection<S>,
+    question: &Q,
+) -> Result<Vec<Q::Item>, StoreFault>
+    ensures said { HasCleanDisk (state S.Store conn.new) → IfOk result (λ v. Tells Q.Item.said Q.sql (Q.params question.now) (state S.Store conn.old) (state S.Store conn.new) v.items) }
+    ensures cause { HasCleanDisk (state S.Store conn.new) → IfErr result (IsReadFault Q.sql (Q.params question.now) (state S.Store conn.old) (state S.Store conn.new)) }
+    ensures survives { Survives (state S.Store conn.old) (state S.Store conn.new) (CommitsShowing Q.sql (Q.params question.now) (state S.Store conn.old)) }
+{
+    match question.send(conn) {
+        Ok(rows) => read_all(alloc, rows.as_slice()),
+        Err(error) => Err(StoreFault::from(error)),
+    }
+}
+
+/// What the rows of the answer say.
+pub fn ask<Q: Question, S: Alter>(
+    alloc: Global,
+    conn: &mut Connection<S>,
+    question: &Q,
+) -> Result<Vec<Q::Item>, StoreFault>
+    ensures { IsAsked Q.sql (Q.params question.now) (state S.Store conn.old) (state S.Store conn.new) result (λ t v. Q.tells question.now t v.items) }
+{
+    ask_rows(alloc, conn, question)
+}
+
+/// What the first row of the answer says.
+pub fn ask_first<Q: Question, S: Alter>(
+    alloc: Global,
+    conn: &mut Connection<S>,
+    question: &Q,
+) -> Result<Option<Q::Item>, StoreFault>
+    ensures { IsAsked Q.sql (Q.params question.now) (state S.Store conn.old) (state S.Store conn.new) result (IsFirst (Q.tells question.now)) }
+{
+    match ask(alloc, conn, question) {
+        Ok(items) => Ok(first_of(items)),
+        Err(fault) => Err(fault),
+    }
+}
+
+/// A question as a read of the book.
+#[derive(Drop)]
+pub(crate) struct Of<Q>(pub(crate) Q);
+
+impl<Q: OfBook> BookRead for Of<Q> {
+    type Value = Q::Value;
+
+    ghost value = { λ q. Q.value q.0 };
+
+    fn read<S: Alter>(
+        &self,
+        alloc: Global,
+        conn: &mut Connection<S>,
+    ) -> Result<Q::Value, ViewFault> {
+        match ask(alloc, conn, &self.0) {
+            Ok(items) => self.0.value(items),
+            Err(fault) => Err(view_fault(fault)),
+        }
+    }
+}
+
+/// A change of rows in one statement.
+pub trait RowChange: Sized {
+    ghost sql: { List ℕ };
+
+    ghost params: { Self → SqlRow };
+
+    /// What has to hold of the tables before.
+    ghost fits: { Self → Tables → Type 0 };
+
+    ghost after: { Self → Tables → Tables };
+
+    fn send<S: Alter>(&self, conn: &mut Connection<S>) -> Result<usize, Error>
+        ensures runs { HasCleanDisk (state S.Store conn.new) → Executes sql (params self.now) (state S.Store conn.old) (state S.Store conn.new) result }
+        ensures survives { Survives (state S.Store conn.old) (state S.Store conn.new) (CommitsBy sql (params self.now) (state S.Store conn.old)) }
+        ensures means { IsRowChange S.Store sql (params self.now) (fits self.now) (after self.now) };
+}
+
+/// Changes the rows so.
+pub fn change<C: RowChange, S: Alter>(conn: &mut Connection<S>, change: &C) -> Result<(), Error>
+    ensures { IsChanged C.sql (C.params change.now) (state S.Store conn.old) (state S.Store conn.new) result (C.fits change.now) (C.after change.now) }
+{
+    match change.send(conn) {
+        Ok(_) => Ok(()),
+        Err(error) => Err(error),
+    }
+}

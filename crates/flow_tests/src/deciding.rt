@@ -1,0 +1,40 @@
+//! Commands answered over a view.
+ghost use Rattle.flow_model.specs.Apply.{rules_of};
+
+use flow_base::command::Command;
+use flow_check::texts::Texts;
+use flow_machine::answer::{Answer, Answering, Stop};
+use flow_machine::decide::decide;
+use flow_view::view::View;
+use std::alloc::Global;
+
+/// Decides commands over a view that nobody rolls back, as the plain lists: where one can't be decided nobody knows which of its
+/// changes the view holds.
+#[derive(Drop)]
+pub struct Deciding<'a, V, T> {
+    pub alloc: Global,
+    pub texts: &'a T,
+    pub view: V,
+}
+
+impl<'a, V: View + Drop, T: Texts> Answering for Deciding<'a, V, T> {
+    ghost rules = { rules_of T.meaning };
+
+    ghost book = { λ s. V.book s.view };
+
+    ghost is_sure = { λ s. V.is_sure s.view };
+
+    ghost follows = { λ a b. V.follows a.view b.view };
+
+    // No command is given up.
+    ghost gives_up = { λ b c k. ⊥ };
+
+    ghost stops = { λ s b c stop. Unit {0} };
+
+    fn answer(&mut self, command: Command) -> Result<Answer, Stop> {
+        match decide(self.alloc, self.texts, &mut self.view, &command) {
+            Ok((reply, _)) => Ok(Answer::Replied(reply)),
+            Err(_) => Err(Stop::Unknown),
+        }
+    }
+}

@@ -1,0 +1,123 @@
+//! Commands that are given up, or that have no answer.
+use crate::lines::over_lists;
+use flow_base::code::Code;
+use flow_base::command::Command;
+use flow_cli::drive::{drive_lines, end_status};
+use flow_cli::fault::Fault;
+use flow_machine::answer::{Answer, Answering, Stop};
+use std::alloc::Global;
+use std::test::Fail;
+
+/// Answers as another does, but for one command.
+#[derive(Drop)]
+struct Failing<E> {
+    inner: E,
+    /// How many commands come before that one.
+    before: u64,
+    /// Why it isn't answered: without a stop it is given up, with E80.
+    stop: Option<Stop>,
+}
+
+impl<E: Answering + Drop> Answering for Failing<E> {
+    ghost rules = { E.rules };
+
+    ghost book = { λ s. E.book s.inner };
+
+    ghost is_sure = { λ s. E.is_sure s.inner };
+
+    ghost follows = { λ a b. E.follows a.inner b.inner };
+
+    ghost gives_up = { λ b c k. Unit {0} };
+
+    ghost stops = { λ s b c k. Unit {0} };
+
+    fn answer(&mut self, command: Command) -> Result<Answer, Stop> {
+        if self.before == 0 {
+            self.before = u64::MAX;
+            return match self.stop {
+                Some(stop) => Err(stop),
+                None => Ok(Answer::NotApplied(Code::StoreRefused)),
+            };
+        }
+        self.before -= 1;
+        match self.inner.answer(command) {
+            Ok(Answer::Replied(reply)) => Ok(Answer::Replied(reply)),
+            Ok(Answer::NotApplied(code)) => Ok(Answer::NotApplied(code)),
+            Err(stop) => Err(stop),
+        }
+    }
+}
+
+/// The final status, with the command behind so many others given up or without an answer, where this is written.
+fn failed_at(
+    alloc: Global,
+    before: u64,
+    stop: Option<Stop>,
+    input: &[u8],
+    wanted: &[u8],
+) -> Option<u8> {
+    let mut reader = input;
+    let mut writer = Vec::new(alloc);
+    let mut engine = Failing {
+        inner: over_lists(alloc),
+        before,
+        stop,
+    };
+    let outcome = drive_lines(alloc, &mut engine, &mut reader, &mut writer);
+    if writer.as_slice() == wanted {
+        Some(end_status(&outcome))
+    } else {
+        None
+    }
+}
+
+#[test]
+fn a_command_that_is_given_up_changes_nothing(rt: HostRuntime) -> Result<(), Fail> {
+    let a = rt.alloc();
+    let register =
+        b"{\"do\":\"register\",\"src\":\"workflow a() {}\"}\n{\"do\":\"register\",\"src\":\"workflow b() {}\"}\n";
+    assert_eq!(rt;
+        failed_at(
+            a,
+            0,
+            None,
+            register,
+            b"{\"code\":\"E80\",\"reply\":\"not applied\"}\n{\"reply\":\"registered\",\"text\":1}\n"
+        ),
+        Some(3)
+    );
+    assert_eq!(rt;
+        failed_at(
+            a,
+            1,
+            None,
+            b"{\"do\":\"history\",\"run\":1}\nx\n{\"do\":\"history\",\"run\":1}\n",
+            b"{\"code\":\"E70\",\"reply\":\"refused\"}\n{\"code\":\"E02\",\"reply\":\"refused\"}\n{\"code\":\"E80\",\"reply\":\"not applied\"}\n"
+        ),
+        Some(3)
+    );
+    Ok(())
+}
+
+const STOPS: [(Stop, Fault); 2] = [
+    (Stop::Unknown, Fault::Unknown),
+    (Stop::Halted, Fault::Halted),
+];
+
+#[test]
+fn a_stop_ends_it(rt: HostRuntime) -> Result<(), Fail> {
+    for (stop, fault) in STOPS {
+        assert_eq!(rt;
+            failed_at(
+                rt.alloc(),
+                1,
+                Some(stop),
+                b"{\"do\":\"history\",\"run\":1}\nx\n{\"do\":\"history\",\"run\":1}\n{\"do\":\"history\",\"run\":1}\n",
+                b"{\"code\":\"E70\",\"reply\":\"refused\"}\n{\"code\":\"E02\",\"reply\":\"refused\"}\n"
+            ),
+            Some(3)
+        );
+        assert!(rt; Fault::from(stop) == fault);
+    }
+    Ok(())
+}
