@@ -1,20 +1,24 @@
 //! `flow`: checks programs of workflows, and answers command lines.
 #![tactic(auto)]
 
-mod opening;
-
-ghost use Rattle.std.specs.Prelude.{◌≡◌, ◌≤◌, IfOk, IfErr};
+ghost use Rattle.std.specs.Prelude.{◌≡◌, ◌≤◌, false, IfOk, IfErr};
+ghost use Rattle.sqlite.specs.Held.{state};
+ghost use Rattle.flow_tables.specs.Owned.{IsFound};
+ghost use Rattle.flow_commit.specs.Keeping.{IsFit, kept_book};
+ghost use Rattle.flow_engine.specs.Answering.{IsSure};
+ghost use Rattle.flow_engine.specs.Opening.{IsOpened};
 ghost use Rattle.flow_cli.specs.Driving.{stopped_status};
+ghost use Rattle.flow.specs.Openings.{IsHandedOn};
 
+use flow_base::fault::Fault;
 use flow_base::number::RunId;
 use flow_check::language::Language;
 use flow_cli::call::{Call, call_of};
 use flow_cli::check::check_text;
 use flow_cli::drive::{Stopped, drive_lines, end_status};
-use flow_cli::fault::{Fault, fault_line};
+use flow_cli::fault::fault_line;
 use flow_cli::history::{history_from, write_history};
 use flow_engine::engine::Engine;
-use opening::open_engine;
 use sqlite::{Alter, Connection, Error, ErrorCode, File, FileStore, MemStore};
 use std::io::{BufReader, ErrorKind};
 use std::process::ExitCode;
@@ -99,10 +103,18 @@ fn check(rt: &HostRuntime, file: &str) -> Result<u8, Stopped> {
     }
 }
 
-fn open<S: Alter + Drop>(rt: &HostRuntime, conn: Connection<S>) -> Result<Engine<S>, Stopped> {
-    match open_engine(rt.alloc(), conn) {
+/// The engine over a store.
+fn open<S: Alter + Drop>(rt: &HostRuntime, conn: Connection<S>) -> Result<Engine<S>, Stopped>
+    ensures opened { IfOk result (λ e. e.stored.opened ≡ conn) }
+    ensures anew { IfOk result (λ e. (e.kept ≡ 0) × (e.halted ≡ false)) }
+    ensures found { IfOk result (λ e. IsFit S.Store e → IsOpened S.Store (state S.Store conn) e) }
+    // The book over which it answers first is the one that the store held.
+    ensures book { IfOk result (λ e. IsSure S.Store e → IsFound (state S.Store conn) (kept_book S.Store e)) }
+    ensures refused { IfErr result (IsHandedOn S.Store (state S.Store conn)) }
+{
+    match Engine::open(rt.alloc(), conn) {
         Ok(engine) => Ok(engine),
-        Err((fault, _)) => Err(Stopped::Refused(fault)),
+        Err((fault, _held)) => Err(Stopped::Refused(fault)),
     }
 }
 

@@ -2,6 +2,12 @@
 use Rattle.std.specs.Prelude.{ℕ, List, ◌++◌, ◌/◌, ◌%◌, codes, decimal}
 use Rattle.flow_base.specs.declared.code.Code.{Code}
 use Rattle.flow_base.specs.declared.code.Code.TheVariants as c
+use Rattle.flow_base.specs.declared.event.Wrong.{Wrong}
+use Rattle.flow_base.specs.declared.event.Wrong.TheVariants as wrong
+use Rattle.flow_base.specs.declared.fault.Fault.{Fault}
+use Rattle.flow_base.specs.declared.fault.Fault.TheVariants as fault
+use Rattle.flow_base.specs.declared.fault.Table.{Table}
+use Rattle.flow_base.specs.declared.fault.Table.TheVariants as table
 
 abbrev pub code_number : Code → ℕ
 code_number c.NoMemory = 1
@@ -54,3 +60,35 @@ code_number c.BadUsage = 97
 -- a refusal as it is written: E and two digits
 abbrev pub code_text : Code → List ℕ
 code_text c = codes "E" ++ (decimal (code_number c / 10) ++ decimal (code_number c % 10))
+
+-- the number of a mismatch
+abbrev pub wrong_code : Wrong → Code
+wrong_code wrong.OtherKind = c.OtherKind
+wrong_code wrong.OtherContent = c.OtherContent
+wrong_code wrong.MissingEvent = c.MissingEvent
+wrong_code wrong.ExtraEvent = c.ExtraEvent
+wrong_code wrong.NotAwaited = c.InputNotAwaited
+wrong_code wrong.AfterClose = c.AfterClose
+wrong_code wrong.BadNumbering = c.BadNumbering
+
+-- the number of a fault
+abbrev pub fault_code : Fault → Code
+fault_code fault.NoMemory = c.NoMemory
+fault_code (fault.Mismatch run place name) = c.Mismatch
+fault_code fault.NoRun = c.NoRun
+fault_code fault.StoreRefused = c.StoreRefused
+fault_code fault.NotOurs = c.NotOurs
+fault_code fault.BadVersion = c.BadVersion
+fault_code (fault.Damaged d) = c.Damaged
+fault_code fault.Unknown = c.Unknown
+fault_code fault.Halted = c.Halted
+fault_code fault.NoFile = c.NoFile
+fault_code fault.BadUsage = c.BadUsage
+
+-- a table's name in the store
+abbrev pub table_name : Table → List ℕ
+table_name table.Text = codes "text"
+table_name table.Run = codes "run"
+table_name table.Event = codes "event"
+table_name table.Timer = codes "timer"
+table_name table.Outbox = codes "outbox"

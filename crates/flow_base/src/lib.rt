@@ -7,6 +7,7 @@ pub mod command;
 pub mod effect;
 pub mod encoding;
 pub mod event;
+pub mod fault;
 pub mod fields;
 pub mod names;
 pub mod number;

@@ -12,7 +12,7 @@ use Rattle.flow_cli.specs.Answering.{IsAnswer, AreAnswers, FirstLine, Answered, 
 use Rattle.flow_cli.specs.Replies.{line_text}
 use Rattle.flow_cli.specs.declared.drive.Stopped.{Stopped}
 use Rattle.flow_cli.specs.declared.drive.Stopped.TheVariants as stopped
-use Rattle.flow_cli.specs.declared.fault.Fault.{Fault}
+use Rattle.flow_base.specs.declared.fault.Fault.{Fault}
 use Rattle.flow_cli.specs.declared.reply.Line.{Line}
 
 written-append : (xs ys : List Line) → written (xs ++ ys) ≡ written xs ++ written ys

@@ -16,8 +16,8 @@ use Rattle.flow_machine.specs.declared.answer.Stop.{Stop}
 use Rattle.flow_machine.specs.declared.answer.Stop.TheVariants as stop
 use Rattle.flow_cli.specs.declared.drive.Stopped.{Stopped}
 use Rattle.flow_cli.specs.declared.drive.Stopped.TheVariants as stopped
-use Rattle.flow_cli.specs.declared.fault.Fault.{Fault}
-use Rattle.flow_cli.specs.declared.fault.Fault.TheVariants as fault
+use Rattle.flow_base.specs.declared.fault.Fault.{Fault}
+use Rattle.flow_base.specs.declared.fault.Fault.TheVariants as fault
 
 pub stop_status : (s : Stop) → fault_status (fault_of_stop s) ≡ 3
 stop_status stop.Unknown = refl
@@ -33,12 +33,12 @@ line_stops s line c stops given h = stop_caused s (LineStops (line_command line)
 
 fault_by : (f : Fault) (X Y : Stop → Type 0) (P Q : Type 0) → ((s : Stop) → X s → Y s) → (P → Q) → CausedFault f X P → CausedFault f Y Q
 fault_by fault.NoMemory X Y P Q g h c = tt
-fault_by (fault.Mismatch run event name) X Y P Q g h c = absurd c
+fault_by (fault.Mismatch run place name) X Y P Q g h c = absurd c
 fault_by fault.NoRun X Y P Q g h c = absurd c
 fault_by fault.StoreRefused X Y P Q g h c = h c
 fault_by fault.NotOurs X Y P Q g h c = absurd c
 fault_by fault.BadVersion X Y P Q g h c = absurd c
-fault_by (fault.Damaged table run place cause) X Y P Q g h c = absurd c
+fault_by (fault.Damaged d) X Y P Q g h c = absurd c
 fault_by fault.Unknown X Y P Q g h c = g stop.Unknown c
 fault_by fault.Halted X Y P Q g h c = g stop.Halted c
 fault_by fault.NoFile X Y P Q g h c = absurd c

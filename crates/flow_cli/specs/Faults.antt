@@ -1,51 +1,34 @@
 -- Faults of the programs: their codes, their lines, and the status that follows.
-use Rattle.std.specs.Prelude.{◌≡◌, ℕ, List, [], ◌++◌, codes, decimal, Option, Some, None, Result, Ok, Err}
+use Rattle.std.specs.Prelude.{◌≡◌, ℕ, ℤ, List, [], ◌++◌, codes, decimal, Option, Some, None, Result, Ok, Err}
 use Rattle.std.specs.Fmt.{signed_decimal}
-use Rattle.flow_base.specs.Codes.{code_text}
+use Rattle.flow_base.specs.Codes.{code_text, fault_code, table_name, wrong_code}
 use Rattle.flow_base.specs.declared.code.Code.{Code}
 use Rattle.flow_base.specs.declared.code.Code.TheVariants as code
 use Rattle.flow_base.specs.declared.command.Command.{Command}
 use Rattle.flow_base.specs.declared.fields.Refused.{Refused}
 use Rattle.flow_base.specs.declared.fields.Refused.TheVariants as refused
-use Rattle.flow_rows.specs.declared.found.Table.{Table}
-use Rattle.flow_rows.specs.declared.found.Table.TheVariants as table
+use Rattle.flow_base.specs.declared.fault.Fault.{Fault}
+use Rattle.flow_base.specs.declared.fault.Fault.TheVariants as fault
+use Rattle.flow_base.specs.declared.fault.Table.{Table}
 use Rattle.flow_machine.specs.declared.answer.Stop.{Stop}
 use Rattle.flow_machine.specs.declared.answer.Stop.TheVariants as stop
 use Rattle.flow_cli.specs.declared.command.LineFault.{LineFault}
 use Rattle.flow_cli.specs.declared.command.LineFault.TheVariants as line_fault
-use Rattle.flow_cli.specs.declared.fault.Fault.{Fault}
-use Rattle.flow_cli.specs.declared.fault.Fault.TheVariants as fault
-
-abbrev pub table_name : Table → List ℕ
-table_name table.Text = codes "text"
-table_name table.Run = codes "run"
-table_name table.Event = codes "event"
-table_name table.Timer = codes "timer"
-table_name table.Outbox = codes "outbox"
-
-abbrev pub fault_code : Fault → Code
-fault_code fault.NoMemory = code.NoMemory
-fault_code (fault.Mismatch run event name) = code.Mismatch
-fault_code fault.NoRun = code.NoRun
-fault_code fault.StoreRefused = code.StoreRefused
-fault_code fault.NotOurs = code.NotOurs
-fault_code fault.BadVersion = code.BadVersion
-fault_code (fault.Damaged table run place cause) = code.Damaged
-fault_code fault.Unknown = code.Unknown
-fault_code fault.Halted = code.Halted
-fault_code fault.NoFile = code.NoFile
-fault_code fault.BadUsage = code.BadUsage
 
 abbrev pub fault_of_stop : Stop → Fault
 fault_of_stop stop.Unknown = fault.Unknown
 fault_of_stop stop.Halted = fault.Halted
 
+-- a table, a run, a place in it, and the code of an event that doesn't read
+abbrev pub damage_details : Table → ℤ → ℤ → Option Code → List ℕ
+damage_details table run place None = codes " " ++ (table_name table ++ (codes " " ++ (signed_decimal run ++ (codes " " ++ signed_decimal place))))
+damage_details table run place (Some cause) =
+    codes " " ++ (table_name table ++ (codes " " ++ (signed_decimal run ++ (codes " " ++ (signed_decimal place ++ (codes " " ++ code_text cause))))))
+
 -- what stands behind a fault's code, parted by spaces
 abbrev pub fault_details : Fault → List ℕ
-fault_details (fault.Mismatch run event name) = codes " " ++ (decimal run ++ (codes " " ++ (decimal event ++ (codes " " ++ code_text name))))
-fault_details (fault.Damaged table run place None) = codes " " ++ (table_name table ++ (codes " " ++ (signed_decimal run ++ (codes " " ++ signed_decimal place))))
-fault_details (fault.Damaged table run place (Some cause)) =
-    codes " " ++ (table_name table ++ (codes " " ++ (signed_decimal run ++ (codes " " ++ (signed_decimal place ++ (codes " " ++ code_text cause))))))
+fault_details (fault.Mismatch run place name) = codes " " ++ (decimal run ++ (codes " " ++ (decimal place ++ (codes " " ++ code_text (wrong_code name)))))
+fault_details (fault.Damaged d) = damage_details d.table d.run d.place d.cause
 fault_details f = []
 
 -- the line on standard error
@@ -54,7 +37,7 @@ fault_text f = codes "flow: " ++ (code_text (fault_code f) ++ fault_details f)
 
 -- 1 where a run is refused, 2 where the words or a file are at fault, 3 where memory or the store is
 abbrev pub fault_status : Fault → ℕ
-fault_status (fault.Mismatch run event name) = 1
+fault_status (fault.Mismatch run place name) = 1
 fault_status fault.NoRun = 1
 fault_status fault.NoFile = 2
 fault_status fault.BadUsage = 2

@@ -11,8 +11,8 @@ use Rattle.flow_machine.specs.declared.answer.Stop.{Stop}
 use Rattle.flow_machine.specs.declared.answer.Stop.TheVariants as stop
 use Rattle.flow_cli.specs.declared.drive.Stopped.{Stopped}
 use Rattle.flow_cli.specs.declared.drive.Stopped.TheVariants as stopped
-use Rattle.flow_cli.specs.declared.fault.Fault.{Fault}
-use Rattle.flow_cli.specs.declared.fault.Fault.TheVariants as fault
+use Rattle.flow_base.specs.declared.fault.Fault.{Fault}
+use Rattle.flow_base.specs.declared.fault.Fault.TheVariants as fault
 use Rattle.flow_cli.specs.declared.reply.Line.{Line}
 
 -- E80 comes where there are too many lines; E84 and E85 have their stop's cause. No other fault but E01 is met.

@@ -7,9 +7,9 @@ ghost use Rattle.flow_cli.specs.Calls.{flow, check, drive, history, needed, run_
 ghost use Rattle.flow_cli.specs.Calls.{Call as Pure};
 ghost use Rattle.flow_cli.specs.Shown.{shown};
 
-use crate::fault::Fault;
 use clap::error::ErrorKind;
 use clap::{Arg, ArgAction, ArgMatches, Command};
+use flow_base::fault::Fault;
 use flow_base::number::RunId;
 use std::alloc::{AllocError, Global};
 use std::convert::AsStr;

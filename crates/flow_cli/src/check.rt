@@ -2,8 +2,8 @@
 ghost use Rattle.std.specs.Prelude.{◌≡◌, IfOk, IfErr, string_bytes};
 ghost use Rattle.flow_cli.specs.Verdicts.{verdict_of, verdict_text, verdict_status};
 
-use crate::fault::Fault;
 use flow_base::command::TextFault;
+use flow_base::fault::Fault;
 use flow_base::text::RawText;
 use flow_check::texts::Texts;
 use std::alloc::{AllocError, Global};

@@ -1,41 +1,50 @@
--- How a commit of one command ends.
-use Rattle.std.proofs.Common.{◌≡◌, ◌⊎◌, inl, inr, ℕ, ◌+◌, false, List, [], ◌∷◌, length, Result, Ok, Err, refl, sym, ap, ◌∙◌, subst, arith}
+-- How a commit ends.
+use Rattle.std.proofs.Common.{◌≡◌, ◌⊎◌, inl, inr, ℕ, suc, ◌+◌, false, List, [], ◌∷◌, length, Result, Ok, Err, refl, ap, ◌∙◌, subst, arith}
 use Rattle.std.specs.Prelude.{IfOk}
 use Rattle.sqlite_trees.specs.declared.store.Store.{Ghosts}
-use Rattle.flow_base.specs.declared.command.Command.{Command}
 use Rattle.flow_base.specs.declared.command.Reply.{Reply}
 use Rattle.flow_model.specs.Book.{Book}
-use Rattle.flow_model.specs.Apply.{outcome, after, after_one}
-use Rattle.flow_machine.specs.declared.taken.Taken.{Taken}
-use Rattle.flow_machine.specs.declared.taken.Receipt.{Receipt}
-use Rattle.flow_tables.specs.Owned.{Keeps, LeavesEither, state_of}
+use Rattle.flow_model.specs.Apply.{after, after_one, replies}
+use Rattle.flow_machine.specs.declared.submission.Taken.{Taken}
+use Rattle.flow_machine.specs.declared.submission.Receipt.{Receipt}
+use Rattle.flow_tables.specs.Owned.{Keeps, state_of}
 use Rattle.flow_view.specs.Reading.{Caused}
 use Rattle.flow_view.specs.declared.fault.ViewFault.{ViewFault}
 use Rattle.flow_view.specs.declared.fault.ViewFault.TheVariants as fault
-use Rattle.flow_machine.specs.Stuck.{IsStuck, IsStuckWithin}
+use Rattle.flow_machine.specs.Stuck.{IsStuckWithin}
 use Rattle.flow_commit.specs.declared.outcome.Outcome.TheVariants as outcomes
 use Rattle.flow_commit.specs.declared.transaction.End.{End}
 use Rattle.flow_commit.specs.declared.transaction.End.TheVariants as end
 use Rattle.flow_commit.specs.Committing.{EndsFor, IsFor, WasGivenUp}
-use Rattle.flow_commit.specs.Keeping.{Keeping, rules, HasKept, commands_of, receipts_of}
+use Rattle.flow_commit.specs.Keeping.{Keeping, rules, HasKept, commands_of, receipt_of, receipts_of, receipts_with}
 
-pub one_taken : {A : Type 0} (xs : List A) → length xs ≡ 1 → (x : A) × (xs ≡ x ∷ [])
-one_taken [] h = absurd (omega (arith, h))
-one_taken (x ∷ []) h = (x, refl)
-one_taken (x ∷ (y ∷ more)) h = absurd (omega (arith, h))
+-- where commands or replies have come to their end, nothing more is made
+pub none_more : (kept : ℕ) (ts : List Taken) (rs : List Reply) → (length ts ≡ 0) ⊎ (length rs ≡ 0) → receipts_with kept ts rs ≡ []
+none_more kept [] rs ended = refl
+none_more kept (t ∷ ts) [] ended = refl
+none_more kept (t ∷ ts) (r ∷ rs) (inl h) = absurd (omega (arith, h))
+none_more kept (t ∷ ts) (r ∷ rs) (inr h) = absurd (omega (arith, h))
 
--- the book after a batch of one
-pub after_batch : (b : Book) (batch : List Taken) (t : Taken) (c : Command) → batch ≡ t ∷ [] → c ≡ t.command → after_one rules b c ≡ after rules b (commands_of batch)
-after_batch b batch t c is same = ap (λ x. after_one rules b x) same ∙ sym (ap (λ ts. after rules b (commands_of ts)) is)
+-- with the replies of apply they are the receipts of the batch
+pub receipts_told : (kept : ℕ) (b : Book) (ts : List Taken) → receipts_with kept ts (replies rules b (commands_of ts)) ≡ receipts_of kept b ts
+receipts_told kept b [] = refl
+receipts_told kept b (t ∷ ts) = ap (λ rs. receipt_of (kept + 1) b t ∷ rs) (receipts_told (kept + 1) (after_one rules b t.command) ts)
 
-pub kept_one : {S : Type 0} (g : Ghosts S) (old new : Keeping S) (b : Book) (batch : List Taken) (t : Taken) (c : Command) (reply : Reply) (receipts : List Receipt) → batch ≡ t ∷ [] → c ≡ t.command
-    → (reply ≡ (outcome rules b c).reply) × Keeps (state_of g new.stored) (after_one rules b c)
-    → receipts ≡ record { ticket = t.ticket; place = old.kept + 1; command = t.command; reply = reply } ∷ [] → new.kept ≡ old.kept + 1 → new.halted ≡ false
+pub receipts_counted : (kept : ℕ) (ts : List Taken) (rs : List Reply) → length rs ≡ length ts → length (receipts_with kept ts rs) ≡ length ts
+receipts_counted kept [] rs h = refl
+receipts_counted kept (t ∷ ts) [] h = absurd (omega (arith, h))
+receipts_counted kept (t ∷ ts) (r ∷ rs) h =
+    let fewer : length rs ≡ length ts = omega (arith, h) in
+    ap suc (receipts_counted (kept + 1) ts rs fewer)
+
+pub kept_all : {S : Type 0} (g : Ghosts S) (old new : Keeping S) (b : Book) (batch : List Taken) (rs : List Reply) (receipts : List Receipt)
+    → (rs ≡ replies rules b (commands_of batch)) × Keeps (state_of g new.stored) (after rules b (commands_of batch))
+    → receipts ≡ receipts_with old.kept batch rs → new.kept ≡ old.kept + length batch → new.halted ≡ false
     → HasKept g old new b batch receipts
-kept_one g old new b batch t c reply receipts is same ends told counts goes = record {
-  book = subst (λ k. Keeps (state_of g new.stored) k) (after_batch b batch t c is same) ends.1;
-  told = told ∙ ap (λ r. record { ticket = t.ticket; place = old.kept + 1; command = t.command; reply = r } ∷ []) (ends.0 ∙ ap (λ x. (outcome rules b x).reply) same) ∙ sym (ap (receipts_of old.kept b) is);
-  counts = counts ∙ ap (λ n. old.kept + n) (sym (ap length is));
+kept_all g old new b batch rs receipts ends told counts goes = record {
+  book = ends.1;
+  told = told ∙ ap (receipts_with old.kept batch) ends.0 ∙ receipts_told old.kept b batch;
+  counts = counts;
   goes_on = goes;
 }
 
@@ -68,15 +77,7 @@ pub refused_for : (W U : Type 0) (f : ViewFault) → (f ≡ fault.StoreRefused �
 refused_for W U fault.NoMemory h = tt
 refused_for W U fault.StoreRefused h = h refl
 
-module _ {S : Type 0} (g : Ghosts S) (old new : Keeping S) (b : Book) (batch back : List Taken) (t : Taken) (c : Command) (f : ViewFault) where
-  -- a command that is stuck, of a batch of one
-  stuck_batch : batch ≡ t ∷ [] → c ≡ t.command → IsStuck rules.program_of b c → IsStuckWithin rules b (commands_of batch)
-  stuck_batch is same stuck = subst (λ ts. IsStuckWithin rules b (commands_of ts)) (sym is) (inl (subst (IsStuck rules.program_of b) same stuck))
-
-  pub not_applied_for : (U : Type 0) → batch ≡ t ∷ [] → c ≡ t.command → EndsFor (IsStuck rules.program_of b c ⊎ WasGivenUp g old.stored new.stored) U (end.Refused f) → IsFor g old new b batch (outcomes.NotApplied back f)
-  not_applied_for U is same h = go f h
-    where
-      go : (f : ViewFault) → EndsFor (IsStuck rules.program_of b c ⊎ WasGivenUp g old.stored new.stored) U (end.Refused f) → IsFor g old new b batch (outcomes.NotApplied back f)
-      go fault.NoMemory h = tt
-      go fault.StoreRefused (inl stuck) = inr (inl (stuck_batch is same stuck))
-      go fault.StoreRefused (inr given) = inr (inr given)
+pub not_applied_for : {S : Type 0} (g : Ghosts S) (old new : Keeping S) (b : Book) (batch back : List Taken) (f : ViewFault) (U : Type 0)
+    → EndsFor (IsStuckWithin rules b (commands_of batch) ⊎ WasGivenUp g old.stored new.stored) U (end.Refused f) → IsFor g old new b batch (outcomes.NotApplied back f)
+not_applied_for g old new b batch back fault.NoMemory U h = tt
+not_applied_for g old new b batch back fault.StoreRefused U h = inr h

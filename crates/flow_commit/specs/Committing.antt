@@ -1,11 +1,11 @@
 -- How transactions and commits end.
-use Rattle.std.specs.Prelude.{◌≡◌, ◌⊎◌, ◌+◌, true, false, List, length, codes}
+use Rattle.std.specs.Prelude.{◌≡◌, ◌⊎◌, ◌+◌, ◌≤◌, ◌^◌, ℕ, true, false, List, length, codes}
 use Rattle.sqlite_trees.specs.declared.store.Store.{Ghosts}
 use Rattle.flow_base.specs.declared.command.Command.{Command}
 use Rattle.flow_model.specs.Book.{Book}
-use Rattle.flow_model.specs.Apply.{outcome, after_one}
-use Rattle.flow_machine.specs.declared.taken.Taken.{Taken}
-use Rattle.flow_machine.specs.Stuck.{IsFull, IsStuckWithin}
+use Rattle.flow_model.specs.Apply.{after, replies}
+use Rattle.flow_machine.specs.declared.submission.Taken.{Taken}
+use Rattle.flow_machine.specs.Stuck.{IsStuckWithin}
 use Rattle.flow_view.specs.declared.fault.ViewFault.TheVariants as fault
 use Rattle.flow_tables.specs.Faults.{WasStopped, FailsWithin}
 use Rattle.flow_tables.specs.States.{HasGoneBack}
@@ -16,11 +16,17 @@ use Rattle.flow_commit.specs.declared.transaction.End.{End}
 use Rattle.flow_commit.specs.declared.transaction.End.TheVariants as end
 use Rattle.flow_commit.specs.Keeping.{Keeping, rules, commands_of, HasKept, HasRefused, IsUnknown}
 
--- how a transaction has ended that was to apply a command to a book
-abbrev pub EndsAs : {S : Type 0} → Ghosts S → Stored S → Book → Command → End → Type 0
-EndsAs g new b c (end.Kept reply) = (reply ≡ (outcome rules b c).reply) × Keeps (state_of g new) (after_one rules b c)
-EndsAs g new b c (end.Refused f) = Keeps (state_of g new) b
-EndsAs g new b c end.Unknown = LeavesEither (state_of g new) b (after_one rules b c)
+-- how a transaction has ended that was to apply commands to a book
+abbrev pub EndsAs : {S : Type 0} → Ghosts S → Stored S → Book → List Command → End → Type 0
+EndsAs g new b cs (end.Kept rs) = (rs.items ≡ replies rules b cs) × Keeps (state_of g new) (after rules b cs)
+EndsAs g new b cs (end.Refused f) = Keeps (state_of g new) b
+EndsAs g new b cs end.Unknown = LeavesEither (state_of g new) b (after rules b cs)
+
+-- one that was committed has so many replies
+abbrev pub HasReplies : ℕ → End → Type 0
+HasReplies count (end.Kept rs) = length rs.items ≡ count
+HasReplies count (end.Refused f) = Unit {0}
+HasReplies count end.Unknown = Unit {0}
 
 ---- Why nothing is kept
 
@@ -34,15 +40,19 @@ abbrev pub WasCutOff : {S : Type 0} → Ghosts S → Stored S → Stored S → T
 WasCutOff {S} g old new =
     (mid : Stored S) × Follows g old mid × (FailsWithin (codes "COMMIT") (state_of g mid) (state_of g new) ⊎ FailsWithin (codes "ROLLBACK") (state_of g mid) (state_of g new))
 
--- a transaction that was to apply a command has these causes where it was given up for E80, and where nobody knows
+-- a transaction that was to apply commands has these causes where it was given up for E80, and where nobody knows
 abbrev pub EndsFor : Type 0 → Type 0 → End → Type 0
 EndsFor stopped unknown (end.Refused fault.StoreRefused) = stopped
 EndsFor stopped unknown end.Unknown = unknown
 EndsFor stopped unknown _ = Unit {0}
 
+-- behind so many commands, the last of a batch would have a place past the last number
+abbrev pub HasNoRoom : ℕ → List Taken → Type 0
+HasNoRoom kept batch = 2 ^ 63 ≤ kept + length batch
+
 -- and a commit, over a book that is kept
 abbrev pub IsFor : {S : Type 0} → Ghosts S → Keeping S → Keeping S → Book → List Taken → Outcome → Type 0
-IsFor g old new b batch (outcomes.NotApplied back fault.StoreRefused) = IsFull old.kept ⊎ (IsStuckWithin rules b (commands_of batch) ⊎ WasGivenUp g old.stored new.stored)
+IsFor g old new b batch (outcomes.NotApplied back fault.StoreRefused) = HasNoRoom old.kept batch ⊎ (IsStuckWithin rules b (commands_of batch) ⊎ WasGivenUp g old.stored new.stored)
 IsFor g old new b batch (outcomes.Unknown back) = WasCutOff g old.stored new.stored
 IsFor g old new b batch _ = Unit {0}
 

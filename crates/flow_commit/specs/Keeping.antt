@@ -3,13 +3,14 @@ use Rattle.std.specs.Prelude.{◌≡◌, ◌+◌, ℕ, Bool, true, false, List, 
 use Rattle.std.specs.Coded.{Coded, code_by, coded×, coded_ℕ, coded_bool, coded_list}
 use Rattle.sqlite_trees.specs.declared.store.Store.{Ghosts}
 use Rattle.flow_base.specs.declared.command.Command.{Command}
+use Rattle.flow_base.specs.declared.command.Reply.{Reply}
 use Rattle.flow_check.specs.Language.{meaning_of}
 use Rattle.flow_model.specs.Book.{Book}
 use Rattle.flow_model.specs.Apply.{Rules, rules_of, outcome, after, after_one}
 use Rattle.flow_model.specs.Sound.{IsSound, IsOrderly}
-use Rattle.flow_machine.specs.declared.taken.Taken.{Taken}
-use Rattle.flow_machine.specs.declared.taken.Receipt.{Receipt}
-use Rattle.flow_machine.specs.contracts.taken.Taken as taken_row
+use Rattle.flow_machine.specs.declared.submission.Taken.{Taken}
+use Rattle.flow_machine.specs.declared.submission.Receipt.{Receipt}
+use Rattle.flow_machine.specs.contracts.submission.Taken as taken_row
 use Rattle.flow_tables.specs.Owned as tables
 use Rattle.flow_tables.specs.Owned.{Stored, stored_code, state_of, Keeps, LeavesEither}
 
@@ -59,6 +60,15 @@ command_of t = t.command
 
 abbrev pub commands_of : List Taken → List Command
 commands_of ts = map command_of ts
+
+abbrev pub receipt_with : ℕ → Taken → Reply → Receipt
+receipt_with place t r = record { ticket = t.ticket; place = place; command = t.command; reply = r }
+
+-- The receipts of a batch behind so many commands, with these replies, one for each: at the places kept + 1, kept + 2 and so on.
+abbrev pub receipts_with : ℕ → List Taken → List Reply → List Receipt
+receipts_with kept [] rs = []
+receipts_with kept (t ∷ ts) [] = []
+receipts_with kept (t ∷ ts) (r ∷ rs) = receipt_with (kept + 1) t r ∷ receipts_with (kept + 1) ts rs
 
 abbrev pub receipt_of : ℕ → Book → Taken → Receipt
 receipt_of place b t = record { ticket = t.ticket; place = place; command = t.command; reply = (outcome rules b t.command).reply }

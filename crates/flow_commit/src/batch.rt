@@ -1,21 +1,19 @@
 //! What is committed at once.
-ghost use Rattle.std.specs.Prelude.{◌≡◌, ◌∷◌, [], IfOk, IfErr, length};
-ghost use Rattle.flow_machine.specs.declared.taken.Taken.{Taken as ATaken};
+ghost use Rattle.std.specs.Prelude.{◌≡◌, ◌≤◌, ◌∷◌, [], IfOk, IfErr, length};
 
-use flow_base::command::Command;
-use flow_machine::taken::Taken;
+use flow_machine::submission::Taken;
 use std::alloc::{AllocError, Global};
 use std::marker::Model;
 
-/// Submissions that are committed together: for now a single one.
+/// Submissions that are committed together, 1 to 64.
 #[derive(Drop)]
 pub struct Batch {
     taken: Vec<Taken>,
 }
 
 impl Model for Batch {
-    ghost use Rattle.std.specs.Prelude.{◌≡◌, List, length};
-    ghost use Rattle.flow_machine.specs.declared.taken.Taken.{Taken};
+    ghost use Rattle.std.specs.Prelude.{◌≤◌, List, length};
+    ghost use Rattle.flow_machine.specs.declared.submission.Taken.{Taken};
     ghost use Rattle.flow_commit.specs.Keeping.{batch_code};
 
     ghost Value = { List Taken };
@@ -24,7 +22,7 @@ impl Model for Batch {
 
     ghost view = { λ b. b.taken.items };
 
-    ghost invariant = { λ b. length b.taken.items ≡ 1 };
+    ghost invariant = { λ b. (1 ≤ length b.taken.items) × (length b.taken.items ≤ 64) };
 }
 
 impl Batch {
@@ -44,25 +42,30 @@ impl Batch {
         Ok(Batch { taken: list })
     }
 
-    /// The command of its first submission.
-    pub(crate) fn first(&self) -> &Command
-        ensures first { (t : ATaken) → self.now ≡ t ∷ [] → result.now ≡ t.command }
-        ensures one { length self.now ≡ 1 }
+    /// The batch of these submissions, which are kept together or not at all.
+    pub fn of(taken: Vec<Taken>) -> Batch
+        requires some { 1 ≤ length taken.items }
+        requires most { length taken.items ≤ 64 }
+        ensures { result ≡ taken.items }
     {
-        &self.taken[0].command
+        Batch { taken }
     }
 
-    /// Its first submission.
-    pub(crate) fn into_first(self) -> Taken
-        ensures { (t : ATaken) → self ≡ t ∷ [] → result ≡ t }
+    /// The submissions, to be read.
+    pub(crate) fn as_slice(&self) -> &[Taken]
+        ensures same { result.now ≡ self.now }
+        ensures some { 1 ≤ length self.now }
+        ensures most { length self.now ≤ 64 }
     {
-        let Batch { mut taken } = self;
-        taken.remove(0)
+        &self.taken
     }
 
     /// The submissions, in their order.
     pub fn into_taken(self) -> Vec<Taken>
-        ensures { result.items ≡ self }
+        ensures same { result.items ≡ self }
+        // So they may be a batch again.
+        ensures some { 1 ≤ length self }
+        ensures most { length self ≤ 64 }
     {
         let Batch { taken } = self;
         taken

@@ -2,7 +2,9 @@
 #![tactic(auto)]
 
 pub mod batch;
+mod deciding;
 pub mod keeper;
 pub mod outcome;
+mod receipts;
 pub mod stamp;
 mod transaction;

@@ -4,11 +4,11 @@ use Rattle.std.proofs.lemmas.List.{length-map, map-append}
 use Rattle.flow_model.specs.Book.{Book}
 use Rattle.flow_model.specs.Apply.{after, after_one, replies}
 use Rattle.flow_model.proofs.Logs.{after_cut, replies_cut}
-use Rattle.flow_machine.specs.declared.taken.Taken.{Taken}
+use Rattle.flow_machine.specs.declared.submission.Taken.{Taken}
 use Rattle.flow_commit.specs.Keeping.{rules, command_of, commands_of, receipt_of, receipts_of}
 use Rattle.flow_engine.specs.declared.done.Done.{Done}
 use Rattle.flow_engine.specs.declared.done.Done.TheVariants as done
-use Rattle.flow_engine.specs.Driving.{AreAnswers, all_halted, has_unknown, gathered, reply_of, replies_of, kept_of, in_hand}
+use Rattle.flow_engine.specs.Driving.{AreAnswers, AreNoted, all_halted, has_unknown, gathered, reply_of, replies_of, kept_of, in_hand}
 
 pub off : {A : Type 0} → true ≡ false → A
 off e = absurd (true≢false e)
@@ -82,6 +82,27 @@ halted_more n b (x ∷ bs) (done.NotApplied f ∷ ds) batch e h = halted_more n 
 halted_more n b (x ∷ bs) (done.Unknown ∷ ds) batch e h = all_halted_more bs ds batch h
 halted_more n b (x ∷ bs) (done.Halted ∷ ds) batch e h = absurd h
 
+---- What is noted
+
+-- one more is noted behind others of which none is in doubt
+pub noted_more : (bs : List (List Taken)) (ds : List Done) (batch : List Taken) (d : Done) → has_unknown ds ≡ false → AreNoted bs ds → AreNoted (batch ∷ []) (d ∷ []) → AreNoted (bs ++ batch ∷ []) (ds ++ d ∷ [])
+noted_more [] [] batch d e h more = more
+noted_more [] (y ∷ ds) batch d e h more = absurd h
+noted_more (x ∷ bs) [] batch d e h more = absurd h
+noted_more (x ∷ bs) (done.Kept rs ∷ ds) batch d e h more = (h.0, noted_more bs ds batch d e h.1 more)
+noted_more (x ∷ bs) (done.NotApplied f ∷ ds) batch d e h more = noted_more bs ds batch d e h more
+noted_more (x ∷ bs) (done.Unknown ∷ ds) batch d e h more = off e
+noted_more (x ∷ bs) (done.Halted ∷ ds) batch d e h more = absurd h
+
+pub noted_halted : (bs : List (List Taken)) (ds : List Done) (batch : List Taken) → has_unknown ds ≡ true → AreNoted bs ds → AreNoted (bs ++ batch ∷ []) (ds ++ done.Halted ∷ [])
+noted_halted [] [] batch e h = off (sym e)
+noted_halted [] (y ∷ ds) batch e h = absurd h
+noted_halted (x ∷ bs) [] batch e h = absurd h
+noted_halted (x ∷ bs) (done.Kept rs ∷ ds) batch e h = (h.0, noted_halted bs ds batch e h.1)
+noted_halted (x ∷ bs) (done.NotApplied f ∷ ds) batch e h = noted_halted bs ds batch e h
+noted_halted (x ∷ bs) (done.Unknown ∷ ds) batch e h = all_halted_more bs ds batch h
+noted_halted (x ∷ bs) (done.Halted ∷ ds) batch e h = absurd h
+
 ---- Replies
 
 receipts_reply : (n : ℕ) (b : Book) (ts : List Taken) → map reply_of (receipts_of n b ts) ≡ replies rules b (commands_of ts)
@@ -93,7 +114,12 @@ none_of_halted [] cs = refl
 none_of_halted (x ∷ bs) [] = refl
 none_of_halted (x ∷ bs) (y ∷ cs) = none_of_halted bs cs
 
-none_kept_of_halted : (bs cs : List (List Taken)) → kept_of bs (all_halted cs) ≡ []
+pub no_hand_of_halted : (bs cs : List (List Taken)) → in_hand bs (all_halted cs) ≡ []
+no_hand_of_halted [] cs = refl
+no_hand_of_halted (x ∷ bs) [] = refl
+no_hand_of_halted (x ∷ bs) (y ∷ cs) = no_hand_of_halted bs cs
+
+pub none_kept_of_halted : (bs cs : List (List Taken)) → kept_of bs (all_halted cs) ≡ []
 none_kept_of_halted [] cs = refl
 none_kept_of_halted (x ∷ bs) [] = refl
 none_kept_of_halted (x ∷ bs) (y ∷ cs) = none_kept_of_halted bs cs

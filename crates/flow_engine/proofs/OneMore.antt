@@ -1,5 +1,5 @@
 -- One more batch that is committed.
-use Rattle.std.proofs.Common.{◌≡◌, inl, inr, ◌+◌, Bool, true, false, List, [], ◌∷◌, ◌++◌, length, refl, sym, ap, ◌∙◌, subst, arith, append-nil, append_assoc, length-append}
+use Rattle.std.proofs.Common.{◌≡◌, ◌⊎◌, inl, inr, ◌+◌, Bool, true, false, List, [], ◌∷◌, ◌++◌, length, refl, sym, ap, ◌∙◌, subst, arith, append-nil, append_assoc, length-append}
 use Rattle.std.proofs.lemmas.List.{length-map}
 use Rattle.sqlite_trees.specs.declared.store.Store.{Ghosts}
 use Rattle.flow_base.specs.declared.command.Command.{Command}
@@ -10,14 +10,14 @@ use Rattle.flow_machine.proofs.Keeps.{after_keeps}
 use Rattle.flow_machine.proofs.Meaning.{reads_well_formed}
 use Rattle.flow_machine.proofs.Orderly.{orderly_after}
 use Rattle.sqlite.specs.Tree.{Trees}
-use Rattle.flow_machine.specs.declared.taken.Taken.{Taken}
-use Rattle.flow_machine.specs.declared.taken.Receipt.{Receipt}
+use Rattle.flow_machine.specs.declared.submission.Taken.{Taken}
+use Rattle.flow_machine.specs.declared.submission.Receipt.{Receipt}
 use Rattle.flow_tables.specs.Owned.{state_of, LeavesEither}
-use Rattle.flow_commit.specs.Keeping.{Keeping, rules, IsFit, IsWell, KeepsBook, HasKept, HasRefused, IsUnknown, command_of, commands_of, receipts_of}
+use Rattle.flow_commit.specs.Keeping.{Keeping, rules, IsFit, IsUp, IsWell, KeepsBook, kept_book, HasKept, HasRefused, IsUnknown, command_of, commands_of, receipts_of}
 use Rattle.flow_engine.specs.declared.done.Done.{Done}
 use Rattle.flow_engine.specs.declared.done.Done.TheVariants as done
-use Rattle.flow_engine.specs.Driving.{HasDone, AreAnswers, LeadsTo, Drives, IsLeft, all_halted, has_unknown, if_kept, if_unknown, kept_of, in_hand}
-use Rattle.flow_engine.proofs.Gathering.{off, same_length, gathered_more, unknown_behind, known_behind, none_in_hand, answers_more, all_halted_more, halted_more, replies_told}
+use Rattle.flow_engine.specs.Driving.{HasDone, IsNoted, AreAnswers, NotesAll, LeadsTo, Drives, IsLeft, all_halted, has_unknown, if_kept, if_unknown, kept_of, in_hand}
+use Rattle.flow_engine.proofs.Gathering.{off, same_length, gathered_more, unknown_behind, known_behind, none_in_hand, answers_more, all_halted_more, halted_more, noted_more, noted_halted, replies_told}
 
 module _ {S : Type 0} (g : Ghosts S) (old : Keeping S) (b : Book) where
   abbrev Leads : Keeping S → Bool → List Command → List Command → Type 0
@@ -97,7 +97,59 @@ module _ {S : Type 0} (g : Ghosts S) (old : Keeping S) (b : Book) where
         subst (λ x. Reached new (bs ++ batch ∷ []) (ds ++ x ∷ [])) (sym (later stopped)) (stays e (halted stopped))
     one_more d does halted later false e = goes_on e d (does (after rules b (kept_of bs ds)) (was.1.book e))
 
+---- What is noted of one more
+
+module _ {S : Type 0} (old mid new : Keeping S) (bs : List (List Taken)) (ds : List Done) (batch : List Taken) (long : length ds ≡ length bs) (was : NotesAll old mid bs ds) where
+  -- so many are kept with one more
+  counts_now : (d : Done) → new.kept ≡ mid.kept + length (if_kept batch d) → new.kept ≡ old.kept + length (kept_of (bs ++ batch ∷ []) (ds ++ d ∷ []))
+  counts_now d counted =
+      let all : length (kept_of (bs ++ batch ∷ []) (ds ++ d ∷ [])) ≡ length (kept_of bs ds) + length (if_kept batch d) =
+      ap length (gathered_more if_kept bs ds batch d (sym long)) ∙ length-append (kept_of bs ds) (if_kept batch d) in
+      let before : mid.kept ≡ old.kept + length (kept_of bs ds) = was.counts in
+      omega (arith, all, before, counted)
+
+  -- by one that hasn't halted
+  notes_on : has_unknown ds ≡ false → (d : Done) → IsNoted mid new batch d → NotesAll old new (bs ++ batch ∷ []) (ds ++ d ∷ [])
+  notes_on known (done.Kept rs) one = record {
+    answers = noted_more bs ds batch (done.Kept rs) known was.answers (one.2, tt);
+    halted = one.0 ∙ sym (known_behind ds (done.Kept rs) refl ∙ known);
+    counts = counts_now (done.Kept rs) (one.1 ∙ ap (λ n. mid.kept + n) (sym (length-map batch command_of)));
+  }
+  notes_on known (done.NotApplied f) one = record {
+    answers = noted_more bs ds batch (done.NotApplied f) known was.answers tt;
+    halted = one.0 ∙ sym (known_behind ds (done.NotApplied f) refl ∙ known);
+    counts = counts_now (done.NotApplied f) (let same : new.kept ≡ mid.kept = one.1 in omega (arith, same));
+  }
+  notes_on known done.Unknown one = record {
+    answers = noted_more bs ds batch done.Unknown known was.answers refl;
+    halted = one.0 ∙ sym (unknown_behind ds);
+    counts = counts_now done.Unknown (let same : new.kept ≡ mid.kept = one.1 in omega (arith, same));
+  }
+  notes_on known done.Halted one = off (sym one.0 ∙ ap (λ (k : Keeping S). k.halted) one.1 ∙ was.halted ∙ known)
+
+  -- by one that has
+  notes_still : has_unknown ds ≡ true → new ≡ mid → NotesAll old new (bs ++ batch ∷ []) (ds ++ done.Halted ∷ [])
+  notes_still unknown same = record {
+    answers = noted_halted bs ds batch unknown was.answers;
+    halted = ap (λ (k : Keeping S). k.halted) same ∙ was.halted ∙ sym (known_behind ds done.Halted refl);
+    counts = counts_now done.Halted (let kept : new.kept ≡ mid.kept = ap (λ (k : Keeping S). k.kept) same in omega (arith, kept));
+  }
+
+  one_noted : (d : Done) → IsNoted mid new batch d → (mid.halted ≡ true → new ≡ mid) → (mid.halted ≡ true → d ≡ done.Halted) → (u : Bool) → has_unknown ds ≡ u → NotesAll old new (bs ++ batch ∷ []) (ds ++ d ∷ [])
+  one_noted d one halted later true e =
+      let stopped = was.halted ∙ e in
+      subst (λ x. NotesAll old new (bs ++ batch ∷ []) (ds ++ x ∷ [])) (sym (later stopped)) (notes_still e (halted stopped))
+  one_noted d one halted later false e = notes_on e d one
+
 ---- The loop
+
+-- nothing has changed, or the book read off the tables was kept
+abbrev pub WasOwn : {S : Type 0} → Ghosts S → Keeping S → Keeping S → Type 0
+WasOwn g old new = (new ≡ old) ⊎ KeepsBook g old (kept_book g old)
+
+own_more : {S : Type 0} (g : Ghosts S) (old mid new : Keeping S) → IsUp g old → WasOwn g old mid → (IsUp g mid → WasOwn g mid new) → WasOwn g old new
+own_more g old mid new up (inl same) one = subst (λ k. WasOwn g k new) same (one (subst (IsUp g) (sym same) up))
+own_more g old mid new up (inr keeps) one = inr keeps
 
 -- The batches behind have these answers, and these are left.
 pub record Drove {S : Type 0} (g : Ghosts S) (old now : Keeping S) (whole left : List (List Taken)) (ds : List Done) : Type 0 where
@@ -107,6 +159,11 @@ pub record Drove {S : Type 0} (g : Ghosts S) (old now : Keeping S) (whole left :
   pub reached : IsFit g now → (b : Book) → KeepsBook g old b → old.halted ≡ false → Reached g old b now behind ds
   pub halted : old.halted ≡ true → now ≡ old
   pub later : old.halted ≡ true → ds ≡ all_halted behind
+  pub count : length ds ≡ length behind
+  pub noted : old.halted ≡ false → NotesAll old now behind ds
+  pub opened : now.stored.opened ≡ old.stored.opened
+  pub up : IsFit g now → IsUp g now → IsUp g old
+  pub own : IsFit g now → IsUp g old → WasOwn g old now
 
 pub none_yet : {S : Type 0} (g : Ghosts S) (old : Keeping S) (whole left : List (List Taken)) (ds : List Done) → whole ≡ left → ds ≡ [] → Drove g old old whole left ds
 none_yet {S = S} g old whole left ds all none = record {
@@ -116,18 +173,29 @@ none_yet {S = S} g old whole left ds all none = record {
   reached = λ fit b keeps goes. subst (λ l. Reached g old b old [] l) (sym none) (tt, record { halted = goes; book = λ _. keeps; counts = λ _. omega arith; stops = λ db may. inl (keeps.stops db may) });
   halted = λ _. refl;
   later = λ _. none;
+  count = ap length none;
+  noted = λ goes. subst (λ l. NotesAll old old [] l) (sym none) (record { answers = tt; halted = goes; counts = omega arith });
+  opened = refl;
+  up = λ _ up. up;
+  own = λ _ _. inl refl;
 }
 
 pub drove_more : {S : Type 0} (g : Ghosts S) (old mid new : Keeping S) (whole now left : List (List Taken)) (ds : List Done) (batch : List Taken) (d : Done) → now ≡ batch ∷ left → Drove g old mid whole now ds
     → (IsFit g new → IsFit g mid) → (IsFit g new → (b : Book) → KeepsBook g mid b → HasDone g mid new b batch d) → (mid.halted ≡ true → new ≡ mid) → (mid.halted ≡ true → d ≡ done.Halted)
+    → IsNoted mid new batch d → new.stored.opened ≡ mid.stored.opened → (IsFit g new → IsUp g new → IsUp g mid) → (IsFit g new → IsUp g mid → WasOwn g mid new)
     → Drove g old new whole left (ds ++ d ∷ [])
-drove_more {S = S} g old mid new whole now left ds batch d next was fit does halted later = record {
+drove_more {S = S} g old mid new whole now left ds batch d next was fit does halted later noted opened up own = record {
   behind = was.behind ++ batch ∷ [];
   split = was.split ∙ ap (λ l. was.behind ++ l) next ∙ sym (append_assoc was.behind (batch ∷ []) left);
   fit = λ h. was.fit (fit h);
   reached = λ h b keeps goes. one_more g old b mid new was.behind ds batch (was.reached (fit h) b keeps goes) d (does h) halted later (has_unknown ds) refl;
   halted = λ h. halted (ap (λ (k : Keeping S). k.halted) (was.halted h) ∙ h) ∙ was.halted h;
   later = λ h. ap (λ x. ds ++ x ∷ []) (later (ap (λ (k : Keeping S). k.halted) (was.halted h) ∙ h)) ∙ all_halted_more was.behind ds batch (was.later h);
+  count = length-append ds (d ∷ []) ∙ ap (λ n. n + 1) was.count ∙ sym (length-append was.behind (batch ∷ []));
+  noted = λ goes. one_noted old mid new was.behind ds batch was.count (was.noted goes) d noted halted later (has_unknown ds) refl;
+  opened = opened ∙ was.opened;
+  up = λ h above. was.up (fit h) (up h above);
+  own = λ h above. own_more g old mid new above (was.own (fit h) above) (own h);
 }
 
 module _ {S : Type 0} (g : Ghosts S) (old new : Keeping S) (whole left : List (List Taken)) (ds : List Done) (drove : Drove g old new whole left ds) (none : left ≡ []) where
@@ -141,6 +209,12 @@ module _ {S : Type 0} (g : Ghosts S) (old new : Keeping S) (whole left : List (L
 
   pub all_later : old.halted ≡ true → ds ≡ all_halted whole
   all_later h = drove.later h ∙ ap all_halted all_behind
+
+  pub all_counted : length ds ≡ length whole
+  all_counted = drove.count ∙ ap length all_behind
+
+  pub all_noted : old.halted ≡ false → NotesAll old new whole ds
+  all_noted goes = subst (λ bs. NotesAll old new bs ds) all_behind (drove.noted goes)
 
 pub none_left : {A : Type 0} (xs : List A) → length xs ≡ 0 → xs ≡ []
 none_left [] e = refl

@@ -6,8 +6,8 @@ use Rattle.flow_base.specs.declared.command.Reply.{Reply}
 use Rattle.flow_model.specs.Book.{Book}
 use Rattle.flow_model.specs.Apply.{after, replies}
 use Rattle.flow_model.specs.Sound.{IsSound}
-use Rattle.flow_machine.specs.declared.taken.Taken.{Taken}
-use Rattle.flow_machine.specs.declared.taken.Receipt.{Receipt}
+use Rattle.flow_machine.specs.declared.submission.Taken.{Taken}
+use Rattle.flow_machine.specs.declared.submission.Receipt.{Receipt}
 use Rattle.sqlite.specs.Tree.{Trees}
 use Rattle.flow_tables.specs.Owned.{state_of, IsFileOf, LeavesEither}
 use Rattle.flow_commit.specs.Keeping.{Keeping, rules, IsWell, KeepsBook, HasKept, HasRefused, IsUnknown, commands_of, receipts_of}
@@ -92,6 +92,24 @@ in_hand batches ds = gathered if_unknown batches ds
 -- the replies in the receipts of all kept batches
 abbrev pub replies_of : List (List Taken) → List Done → List Reply
 replies_of batches ds = gathered replies_in batches ds
+
+---- What is noted of them, whatever the disk tells
+
+-- A kept batch has a receipt for each command; after one of which nobody knows all are halted.
+abbrev pub AreNoted : List (List Taken) → List Done → Type 0
+AreNoted [] [] = Unit {0}
+AreNoted [] (d ∷ ds) = ⊥
+AreNoted (batch ∷ batches) [] = ⊥
+AreNoted (batch ∷ batches) (done.Kept receipts ∷ ds) = (length receipts.items ≡ length batch) × AreNoted batches ds
+AreNoted (batch ∷ batches) (done.NotApplied f ∷ ds) = AreNoted batches ds
+AreNoted (batch ∷ batches) (done.Unknown ∷ ds) = ds ≡ all_halted batches
+AreNoted (batch ∷ batches) (done.Halted ∷ ds) = ⊥
+
+-- The kept commands are counted, and the engine has halted where a batch is in doubt.
+pub record NotesAll {S : Type 0} (old new : Keeping S) (batches : List (List Taken)) (dones : List Done) : Type 0 where
+  pub answers : AreNoted batches dones
+  pub halted : new.halted ≡ has_unknown dones
+  pub counts : new.kept ≡ old.kept + length (kept_of batches dones)
 
 ---- Where they lead
 

@@ -1,24 +1,33 @@
 -- What the opening of the engine gives, and why it is refused.
-use Rattle.std.specs.Prelude.{◌≡◌, ℕ, IsTrue}
+use Rattle.std.specs.Prelude.{◌≡◌, ℕ, List, IsTrue}
 use Rattle.sqlite_trees.specs.declared.store.Store.{Ghosts}
 use Rattle.sqlite.specs.Tree.{Trees}
 use Rattle.sqlite.specs.State.{State, HasCleanDisk}
+use Rattle.sqlite.specs.Held.{state}
 use Rattle.flow_base.specs.declared.book.Run.{Run}
+use Rattle.flow_base.specs.declared.fault.Fault.{Fault}
+use Rattle.flow_base.specs.declared.fault.Fault.TheVariants as fault
 use Rattle.flow_check.specs.Language.{meaning_of}
 use Rattle.flow_model.specs.Book.{Book}
-use Rattle.flow_tables.specs.declared.open.OpenFault.TheVariants as tables
-use Rattle.flow_tables.specs.Opening.{HasCause, HasOtherFormat, IsFirstDamage}
-use Rattle.flow_tables.specs.Owned.{IsFileOf, IsFound, IsOurs, Keeps, LeavesMade}
-use Rattle.flow_tables.specs.States.{HasEnded, HasTables}
+use Rattle.flow_tables.specs.Opening.{HasCause, HasOtherFormat, IsFirstDamage, IsOfStore}
+use Rattle.flow_tables.specs.Owned.{IsFileOf, IsFound, Keeps, LeavesMade}
+use Rattle.flow_tables.specs.States.{HasTables}
 use Rattle.flow_tables.specs.Stored.{tables_in}
 use Rattle.flow_commit.specs.Keeping.{Keeping, IsFit, IsWell, KeepsBook}
-use Rattle.flow_recover.specs.declared.fault.OpeningFault.{OpeningFault}
-use Rattle.flow_recover.specs.Positions.{IsOpenRun, IsStanding}
-use Rattle.flow_recover.specs.Recovering.{HoldsSound, IsKeptOn, IsOpenedOver, IsOwnFault, OfPositions, OfTables}
+use Rattle.flow_recover.specs.declared.positions.Position.{Position}
+use Rattle.flow_recover.specs.Positions.{ArePositions, IsOpenRun, IsStanding}
+use Rattle.flow_recover.specs.Recovering.{HoldsSound, IsLeft, IsOfRecovery, IsOpenedOver}
 
 -- each open run of the book stands under its text
 abbrev pub AllStand : Book → Type 0
 AllStand b = (n : ℕ) (r : Run) → IsOpenRun b n r → IsStanding meaning_of b r
+
+-- These are the positions of the book that the store held when it was opened: one for each of its open runs and no other, in the
+-- order of runs, each under the run's text.
+pub record HasFound {S : Type 0} (g : Ghosts S) (k : Keeping S) (positions : List Position) : Type 0 where
+  pub book : Book
+  pub found : IsFound (state g k.stored.opened) book
+  pub are : ArePositions meaning_of book positions
 
 -- The engine keeps the book that was found, and each of its open runs stands under its text.
 pub record IsOpened {S : Type 0} (g : Ghosts S) (from : State) (k : Keeping S) : Type 0 where
@@ -35,21 +44,21 @@ pub record KeepsAgain {S : Type 0} (g : Ghosts S) (k : Keeping S) (b : Book) : T
 
 -- A refusal over a book that is there: the book is kept on, so a stop leaves it again, and where it is one such as commands make
 -- the store has failed or isn't ours.
-pub record IsKeptFor (to : State) (b : Book) (f : OpeningFault) : Type 0 where
+pub record IsKeptFor (to : State) (b : Book) (f : Fault) : Type 0 where
   pub kept : Keeps to b
-  pub own : IsWell b → IsOwnFault f
+  pub own : IsWell b → IsOfStore f
 
 -- What is told of a store that wasn't opened, which was and is in these states.
-pub record IsUnopened {S : Type 0} (g : Ghosts S) (from to : State) (f : OpeningFault) : Type 0 where
-  -- Of tables that were refused: E82 and E83 only where they say so, and the store is as it was.
-  pub version : HasCleanDisk to → OfTables f (λ t. t ≡ tables.BadVersion → HasOtherFormat g to)
-  pub damaged : HasCleanDisk to → (HasCleanDisk from → HasTables from.committed) → OfTables f (IsFirstDamage (tables_in from.committed.trees))
-  pub cause : HasCleanDisk to → OfTables f (HasCause g)
-  pub back : HasCleanDisk to → OfTables f (λ _. HasEnded from to)
-  -- Of an open run that doesn't replay, or can't be looked at: the book that was found is kept.
-  pub kept : IsOurs from → HasCleanDisk to → OfPositions f (IsKeptOn from to)
+pub record IsUnopened {S : Type 0} (g : Ghosts S) (from to : State) (f : Fault) : Type 0 where
+  -- E01, E68 and E80 to E83 alone are told: E82 and E83 only where the tables say so.
+  pub among : IsOfRecovery f
+  pub version : HasCleanDisk to → f ≡ fault.BadVersion → HasOtherFormat g to
+  pub damaged : HasCleanDisk to → (HasCleanDisk from → HasTables from.committed) → IsFirstDamage (tables_in from.committed.trees) f
+  pub cause : HasCleanDisk to → HasCause g f
+  -- The store is as it was, or the book that was found is kept, and E68 names its least run that doesn't replay.
+  pub left : HasCleanDisk to → IsLeft from to f
   -- Tables that stand for a sound book, or none, are refused only where the store fails, or isn't ours.
-  pub own : HasCleanDisk to → (HasCleanDisk from → HoldsSound from) → IsOwnFault f
+  pub own : HasCleanDisk to → (HasCleanDisk from → HoldsSound from) → IsOfStore f
   -- A stop leaves what it could leave before, or the tables made for the book that was found.
   pub stops : HasCleanDisk to → (b : Book) → (HasCleanDisk from → IsFound from b) → HasCleanDisk from × LeavesMade from to b
   -- Over what a stop left of a book, or over a connection that was closed while it kept the book.

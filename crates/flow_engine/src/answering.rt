@@ -1,57 +1,154 @@
 //! Commands answered over a store that keeps them.
-ghost use Rattle.std.specs.Prelude.{◌≡◌, ◌∷◌, [], Some, None, IfOk, IfErr};
+ghost use Rattle.std.specs.Prelude.{◌≡◌, ◌∷◌, ◌++◌, ◌+◌, ◌≤◌, List, [], Some, None, IfOk, IfErr, length, map, vec_len, vec_capacity};
+ghost use Rattle.flow_model.specs.Book.{Book};
 ghost use Rattle.flow_machine.specs.Answers.{Answers, CausedAnswer};
-ghost use Rattle.flow_machine.specs.declared.taken.Receipt.{Receipt as AReceipt};
-ghost use Rattle.flow_machine.specs.declared.taken.Taken.{Taken as ATaken};
-ghost use Rattle.flow_commit.specs.Keeping.{rules, kept_book};
-ghost use Rattle.flow_engine.specs.Answering.{IsSure, Follows, HasStopped};
+ghost use Rattle.flow_machine.specs.declared.submission.Receipt.{Receipt as AReceipt};
+ghost use Rattle.flow_machine.specs.declared.submission.Taken.{Taken as ATaken};
+ghost use Rattle.flow_commit.specs.Keeping.{rules, IsFit, KeepsBook, commands_of, kept_book};
+ghost use Rattle.flow_engine.specs.Answering.{IsSure, Follows, HasStopped, AnswersAll, AreCaused, KeepsAnswered, EndsEarly, LeavesBehind, AreAlone, AreCut, IsSingle, AreSingle, alone, given, first_stop, TellsStop};
 
-use crate::done::Done;
-use crate::drive::done_with;
+use crate::done::{Done, Unanswered};
+use crate::drive::drive;
 use crate::engine::Engine;
 use flow_base::code::Code;
 use flow_base::command::{Command, Reply};
 use flow_commit::batch::Batch;
 use flow_machine::answer::{Answer, Answering, Stop};
-use flow_machine::taken::{Receipt, Taken};
+use flow_machine::submission::{Receipt, Taken};
 use sqlite::Alter;
+use std::alloc::{AllocError, Global};
 
 /// The reply of a batch of one command.
-fn reply_of(mut receipts: Vec<Receipt>) -> Option<Reply>
-    ensures told { (r : AReceipt) → receipts.items ≡ r ∷ [] → result ≡ Some r.reply }
-    ensures none { result ≡ None → receipts.items ≡ [] }
+fn reply_of(mut receipts: Vec<Receipt>) -> Reply
+    requires { length receipts.items ≡ 1 }
+    ensures { (r : AReceipt) → receipts.items ≡ r ∷ [] → result ≡ r.reply }
 {
-    match receipts.pop() {
-        Some(receipt) => {
-            let Receipt {
-                ticket: _,
-                place: _,
-                command: _,
-                reply,
-            } = receipt;
-            Some(reply)
-        }
-        None => None,
-    }
+    let Receipt {
+        ticket: _,
+        place: _,
+        command: _,
+        reply,
+    } = receipts.remove(0);
+    reply
 }
 
-/// Commits a batch of one command, and answers it.
-fn answered<S: Alter>(engine: &mut Engine<S>, batch: Batch) -> Result<Answer, Stop>
-    ensures answers { IfOk result (λ a. IsSure S.Store engine.new → (t : ATaken) → batch ≡ t ∷ [] → Answers rules (kept_book S.Store engine.old) (kept_book S.Store engine.new) t.command a) }
-    ensures given_up { IfOk result (λ a. CausedAnswer (λ _. Unit {0}) a) }
-    ensures stopped { IfErr result (λ s. (t : ATaken) → batch ≡ t ∷ [] → HasStopped engine.old engine.new s) }
-    ensures sure { IsSure S.Store engine.new → IsSure S.Store engine.old }
-    ensures follows { Follows S.Store engine.old engine.new }
+/// The answer to the command of a batch of one, by what became of it.
+fn answer_of(done: Done) -> Result<Answer, Stop>
+    requires { IsSingle done }
+    ensures given { IfOk result (λ a. (given (done ∷ []) ≡ a ∷ []) × (first_stop (done ∷ []) ≡ None)) }
+    ensures stops { IfErr result (λ s. (given (done ∷ []) ≡ []) × (first_stop (done ∷ []) ≡ Some s)) }
 {
-    match done_with(engine, batch) {
-        Done::Kept(receipts) => match reply_of(receipts) {
-            Some(reply) => Ok(Answer::Replied(reply)),
-            // A batch that was kept has its receipt.
-            None => Err(Stop::Unknown),
-        },
+    match done {
+        Done::Kept(receipts) => Ok(Answer::Replied(reply_of(receipts))),
         Done::NotApplied(fault) => Ok(Answer::NotApplied(fault.code())),
         Done::Unknown => Err(Stop::Unknown),
         Done::Halted => Err(Stop::Halted),
+    }
+}
+
+/// The answer to one command.
+fn one_answer(mut dones: Vec<Done>) -> Result<Answer, Stop>
+    requires one { length dones.items ≡ 1 }
+    requires single { AreSingle dones.items }
+    ensures given { IfOk result (λ a. (given dones.items ≡ a ∷ []) × (first_stop dones.items ≡ None)) }
+    ensures stops { IfErr result (λ s. (given dones.items ≡ []) × (first_stop dones.items ≡ Some s)) }
+{
+    answer_of(dones.remove(0))
+}
+
+/// Puts the answers to commands behind others, up to the first stop.
+fn all_answers(mut answers: Vec<Answer>, dones: Vec<Done>) -> Result<Vec<Answer>, Unanswered>
+    requires room { vec_len answers + length dones.items ≤ vec_capacity answers }
+    requires single { AreSingle dones.items }
+    ensures given { IfOk result (λ all. (all.items ≡ answers.items ++ given dones.items) × (first_stop dones.items ≡ None)) }
+    ensures stops { IfErr result (λ u. TellsStop answers.items dones.items u) }
+{
+    for done in dones {
+        match answer_of(done) {
+            Ok(answer) => answers.push_reserved(answer),
+            Err(stop) => return Err(Unanswered::Stopped(answers, stop)),
+        }
+    }
+    Ok(answers)
+}
+
+/// The list of one batch, of one command.
+fn one_batch(alloc: Global, taken: Taken) -> Result<Vec<Batch>, AllocError>
+    ensures { IfOk result (λ batches. batches.items ≡ (taken ∷ []) ∷ []) }
+{
+    let mut batches = Vec::new(alloc);
+    batches.reserve(1)?;
+    match Batch::one(alloc, taken) {
+        Ok(batch) => batches.push_reserved(batch),
+        Err((_, error)) => return Err(error),
+    }
+    Ok(batches)
+}
+
+/// No answers yet, with room for those to all commands: what can fail is done before the first command.
+fn room_for(alloc: Global, commands: &[Command]) -> Result<Vec<Answer>, AllocError>
+    ensures none { IfOk result (λ answers. answers.items ≡ []) }
+    ensures room { IfOk result (λ answers. vec_len answers + length commands.now ≤ vec_capacity answers) }
+{
+    let mut answers = Vec::new(alloc);
+    answers.reserve(commands.len())?;
+    Ok(answers)
+}
+
+/// Cuts commands into batches, with tickets from this one on. Each is committed by itself.
+fn cut(alloc: Global, first: u64, commands: Vec<Command>) -> Result<Vec<Batch>, AllocError>
+    ensures { IfOk result (λ batches. AreCut commands.items batches.items) }
+{
+    let mut batches = Vec::new(alloc);
+    batches.reserve(commands.len())?;
+    let mut ticket = first;
+    for command in commands {
+        match Batch::one(alloc, Taken { ticket, command }) {
+            Ok(batch) => batches.push_reserved(batch),
+            Err((_, error)) => return Err(error),
+        }
+        ticket = ticket.saturating_add(1);
+    }
+    Ok(batches)
+}
+
+/// Commits a batch of one command, and answers it.
+fn answered<S: Alter>(engine: &mut Engine<S>, batches: Vec<Batch>) -> Result<Answer, Stop>
+    requires one { length batches.items ≡ 1 }
+    requires alone { AreAlone batches.items }
+    ensures answers { IfOk result (λ a. IsSure S.Store engine.new → (t : ATaken) → batches.items ≡ (t ∷ []) ∷ [] → Answers rules (kept_book S.Store engine.old) (kept_book S.Store engine.new) t.command a) }
+    ensures given_up { IfOk result (λ a. CausedAnswer (λ _. Unit {0}) a) }
+    ensures stopped { IfErr result (λ s. HasStopped engine.old engine.new s) }
+    ensures sure { IsSure S.Store engine.new → IsSure S.Store engine.old }
+    ensures follows { Follows S.Store engine.old engine.new }
+{
+    match drive(engine, batches) {
+        Ok(dones) => one_answer(dones),
+        Err((_, _)) => Ok(Answer::NotApplied(Code::NoMemory)),
+    }
+}
+
+/// Commits batches of one command each, and answers them behind no others.
+fn all_answered<S: Alter>(
+    engine: &mut Engine<S>,
+    batches: Vec<Batch>,
+    answers: Vec<Answer>,
+) -> Result<Vec<Answer>, Unanswered>
+    requires none { answers.items ≡ [] }
+    requires room { vec_len answers + length batches.items ≤ vec_capacity answers }
+    requires alone { AreAlone batches.items }
+    ensures answers { IfOk result (λ all. IsSure S.Store engine.new → (ts : List ATaken) → batches.items ≡ map alone ts → AnswersAll rules (kept_book S.Store engine.old) (kept_book S.Store engine.new) (commands_of ts) all.items) }
+    ensures kept { IfOk result (λ all. IsFit S.Store engine.new → (b : Book) → KeepsBook S.Store engine.old b → (ts : List ATaken) → batches.items ≡ map alone ts → KeepsAnswered S.Store engine.new b (commands_of ts) all.items) }
+    ensures count { IfOk result (λ all. length all.items ≡ length batches.items) }
+    ensures given_up { IfOk result (λ all. AreCaused all.items) }
+    ensures early { IfErr result (λ u. (ts : List ATaken) → batches.items ≡ map alone ts → EndsEarly engine.old engine.new (commands_of ts) u) }
+    ensures leaves { IfErr result (λ u. IsFit S.Store engine.new → (b : Book) → KeepsBook S.Store engine.old b → (ts : List ATaken) → batches.items ≡ map alone ts → LeavesBehind S.Store engine.new b (commands_of ts) u) }
+    ensures sure { IsSure S.Store engine.new → IsSure S.Store engine.old }
+    ensures follows { Follows S.Store engine.old engine.new }
+{
+    match drive(engine, batches) {
+        Ok(dones) => all_answers(answers, dones),
+        Err((_, _)) => Err(Unanswered::NoMemory),
     }
 }
 
@@ -69,10 +166,40 @@ impl<S: Alter> Engine<S> {
         ensures sure { IsSure S.Store self.new → IsSure S.Store self.old }
         ensures follows { Follows S.Store self.old self.new }
     {
-        let ticket = self.ticket();
-        match Batch::one(self.alloc(), Taken { ticket, command }) {
-            Ok(batch) => answered(self, batch),
+        let ticket = self.tickets(1);
+        match one_batch(self.alloc(), Taken { ticket, command }) {
+            Ok(batches) => answered(self, batches),
             Err(_) => Ok(Answer::NotApplied(Code::NoMemory)),
+        }
+    }
+
+    /// Answers commands, one after the other: each is committed before the next one is decided, and the answers are given
+    /// behind the last. A stop gives back the answers before it.
+    ///
+    /// # Failure
+    /// E01, before the first command, and nothing has changed; E84 where nobody knows until the store is opened again whether
+    /// the next command is kept; E85 where the engine had halted before.
+    pub fn answer_all(&mut self, commands: Vec<Command>) -> Result<Vec<Answer>, Unanswered>
+        ensures answers { IfOk result (λ all. IsSure S.Store self.new → AnswersAll rules (kept_book S.Store self.old) (kept_book S.Store self.new) commands.items all.items) }
+        // Over a book that is kept, the book behind the commands is kept.
+        ensures kept { IfOk result (λ all. IsFit S.Store self.new → (b : Book) → KeepsBook S.Store self.old b → KeepsAnswered S.Store self.new b commands.items all.items) }
+        ensures count { IfOk result (λ all. length all.items ≡ length commands.items) }
+        ensures cause { IfOk result (λ all. AreCaused all.items) }
+        ensures stopped { IfErr result (λ u. EndsEarly self.old self.new commands.items u) }
+        // The answers before a stop are those of the first commands, and a stop of the process then leaves the book behind them, or
+        // that behind the commands in hand.
+        ensures leaves { IfErr result (λ u. IsFit S.Store self.new → (b : Book) → KeepsBook S.Store self.old b → LeavesBehind S.Store self.new b commands.items u) }
+        ensures sure { IsSure S.Store self.new → IsSure S.Store self.old }
+        ensures follows { Follows S.Store self.old self.new }
+    {
+        let first = self.tickets(commands.len() as u64);
+        let answers = match room_for(self.alloc(), commands.as_slice()) {
+            Ok(answers) => answers,
+            Err(_) => return Err(Unanswered::NoMemory),
+        };
+        match cut(self.alloc(), first, commands) {
+            Ok(batches) => all_answered(self, batches, answers),
+            Err(_) => Err(Unanswered::NoMemory),
         }
     }
 }

@@ -1,5 +1,6 @@
-//! What becomes of batches.
-use flow_machine::taken::Receipt;
+//! What becomes of batches, and of lists of commands.
+use flow_machine::answer::{Answer, Stop};
+use flow_machine::submission::Receipt;
 use flow_view::fault::ViewFault;
 
 /// What became of a batch: how its commit has ended, without the batch and the stamp.
@@ -13,4 +14,14 @@ pub enum Done {
     Unknown,
     /// E85: the engine had halted before.
     Halted,
+}
+
+/// Why not all commands of a list have an answer.
+#[derive(Drop)]
+pub enum Unanswered {
+    /// E01, before the first command: nothing has changed.
+    NoMemory,
+    /// E84 or E85, behind the answers to the first commands. None after these was applied, but perhaps the one at which the
+    /// stop came.
+    Stopped(Vec<Answer>, Stop),
 }

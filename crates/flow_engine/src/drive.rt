@@ -1,11 +1,11 @@
 //! Batches, one after the other.
-ghost use Rattle.std.specs.Prelude.{◌≡◌, ◌⊎◌, ◌++◌, true, false, IfOk, IfErr};
+ghost use Rattle.std.specs.Prelude.{◌≡◌, ◌⊎◌, ◌++◌, true, false, length, IfOk, IfErr};
 ghost use Rattle.flow_model.specs.Book.{Book};
 ghost use Rattle.sqlite.specs.Tree.{Trees};
 ghost use Rattle.flow_tables.specs.Owned.{state_of};
 ghost use Rattle.flow_commit.specs.Keeping.{IsFit, IsUp, IsWell, KeepsBook, kept_book};
 ghost use Rattle.flow_engine.specs.declared.done.Done.TheVariants as dones;
-ghost use Rattle.flow_engine.specs.Driving.{HasDone, IsNoted, Drives, IsLeft, ReachesSound, ReachesWell, all_halted, kept_of, in_hand};
+ghost use Rattle.flow_engine.specs.Driving.{HasDone, IsNoted, NotesAll, Drives, IsLeft, ReachesSound, ReachesWell, all_halted, kept_of, in_hand};
 
 use crate::done::Done;
 use crate::engine::Engine;
@@ -55,6 +55,13 @@ pub fn drive<S: Alter>(
     // An engine that has halted does nothing.
     ensures halted { engine.old.halted ≡ true → engine.new ≡ engine.old }
     ensures later { engine.old.halted ≡ true → IfOk result (λ ds. ds.items ≡ all_halted batches.items) }
+    // What is noted whatever the disk tells.
+    ensures noted { engine.old.halted ≡ false → IfOk result (λ ds. NotesAll engine.old engine.new batches.items ds.items) }
+    ensures count { IfOk result (λ ds. length ds.items ≡ length batches.items) }
+    ensures opened { engine.new.stored.opened ≡ engine.old.stored.opened }
+    // An open connection was open before, and a book was kept unless nothing was done.
+    ensures up { IsFit S.Store engine.new → IsUp S.Store engine.new → IsUp S.Store engine.old }
+    ensures own { IsFit S.Store engine.new → IsUp S.Store engine.old → (engine.new ≡ engine.old) ⊎ KeepsBook S.Store engine.old (kept_book S.Store engine.old) }
     ensures back { IfErr result (λ e. e.0 ≡ batches) }
     ensures same { IfErr result (λ _. engine.new ≡ engine.old) }
 {

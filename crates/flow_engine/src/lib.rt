@@ -1,4 +1,5 @@
-//! The engine over a store.
+//! The engine over a store: opened, it has the positions of the open runs; it answers one command or a list of them. All batches
+//! go through `drive`.
 #![tactic(auto)]
 
 pub mod answering;

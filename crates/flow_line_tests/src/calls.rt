@@ -1,6 +1,6 @@
 //! Words, as `clap` reads them.
+use flow_base::fault::Fault;
 use flow_cli::call::{Call, call_of};
-use flow_cli::fault::Fault;
 use std::alloc::Global;
 use std::test::Fail;
 

@@ -1,7 +1,9 @@
 //! Lines on standard error, and the status behind each.
 use flow_base::code::Code;
-use flow_cli::fault::{Fault, fault_line, status};
-use flow_rows::found::Table;
+use flow_base::event::Wrong;
+use flow_base::fault::{Damage, Fault, Table};
+use flow_base::number::RunId;
+use flow_cli::fault::{fault_line, status};
 use std::alloc::Global;
 use std::test::Fail;
 
@@ -34,9 +36,9 @@ fn faults(rt: HostRuntime) -> Result<(), Fail> {
 #[test]
 fn a_mismatch_names_its_event(rt: HostRuntime) -> Result<(), Fail> {
     let fault = Fault::Mismatch {
-        run: 1,
-        event: 2,
-        name: Code::OtherContent,
+        run: RunId::new(1).ok_or("no run")?,
+        place: 2,
+        name: Wrong::OtherContent,
     };
     assert!(rt; is_written(rt.alloc(), &fault, "flow: E68 1 2 E51") && status(&fault) == 1);
     Ok(())
@@ -44,12 +46,12 @@ fn a_mismatch_names_its_event(rt: HostRuntime) -> Result<(), Fail> {
 
 /// A damage of the run 1.
 fn damaged(table: Table, place: i64, cause: Option<Code>) -> Fault {
-    Fault::Damaged {
+    Fault::Damaged(Damage {
         table,
         run: 1,
         place,
         cause,
-    }
+    })
 }
 
 #[test]

@@ -8,5 +8,5 @@ pub mod laws;
 pub mod programs;
 mod puts;
 mod report;
-pub mod taken;
+pub mod submission;
 mod turns;

@@ -1,3 +1,4 @@
 pub mod Reaching
 pub mod Refusing
+pub mod Programs
 pub mod Recovering

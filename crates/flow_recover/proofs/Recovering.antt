@@ -10,6 +10,8 @@ use Rattle.sqlite.specs.Effect.{Database}
 use Rattle.sqlite.specs.State.{State, HasCleanDisk, Opens, IsLive}
 use Rattle.sqlite.specs.Steps.{FailsToOpen}
 use Rattle.sqlite.specs.declared.error.Error.{Error}
+use Rattle.flow_base.specs.declared.fault.Fault.{Fault}
+use Rattle.flow_base.specs.declared.fault.Fault.TheVariants as fault
 use Rattle.flow_check.specs.Language.{meaning_of}
 use Rattle.flow_model.specs.Book.{Book, no_book}
 use Rattle.flow_model.specs.Sound.{IsSound}
@@ -21,17 +23,13 @@ use Rattle.flow_rows.proofs.Stood.{stood}
 use Rattle.flow_rows.proofs.Telling.{told, all_told}
 use Rattle.flow_tables.specs.Layout.{schema, no_schema}
 use Rattle.flow_tables.specs.Stored.{tables_in}
-use Rattle.flow_tables.specs.declared.open.OpenFault.{OpenFault}
-use Rattle.flow_tables.specs.Opening.{StandFor}
+use Rattle.flow_tables.specs.Opening.{StandFor, IsFirstDamage, IsOfStore, IsOfOpening, HasCause}
 use Rattle.flow_tables.specs.States.{AreOurs, HasTables, HasEnded}
 use Rattle.flow_tables.specs.Owned.{IsOurs, IsFound, IsFileOf, Keeps, LeavesMade}
 use Rattle.flow_tables.proofs.Stops.{IsSettled, opened_over}
 use Rattle.flow_commit.specs.Keeping.{rules, IsWell}
-use Rattle.flow_recover.specs.declared.fault.RecoverFault.{RecoverFault}
-use Rattle.flow_recover.specs.declared.fault.OpeningFault.{OpeningFault}
-use Rattle.flow_recover.specs.declared.fault.OpeningFault.TheVariants as opening
-use Rattle.flow_recover.specs.Positions.{Caused, IsLeastMismatch, LacksProgram, Names}
-use Rattle.flow_recover.specs.Recovering.{HoldsSound, IsOpenedOver, IsOfDisk, OfTables, IsOfPositions, OfPositions, IsKeptOn}
+use Rattle.flow_recover.specs.Positions.{IsLeastMismatch, Names, OnlyMemory}
+use Rattle.flow_recover.specs.Recovering.{HoldsSound, IsOpenedOver, IsOfDisk, IsOfRecovery, IsPastTables, IsLeft}
 
 ---- The book that is found
 
@@ -112,21 +110,48 @@ ended_keeps old new b ended leaves keeps = record {
 
 ---- Refusals
 
-abbrev pub StuckIn : Book → RecoverFault → Type 0
-StuckIn b f = Caused {A = Unit {0}} (Err f) (LacksProgram meaning_of b)
-
 -- it names a run of this book
-abbrev pub NamesIn : Book → RecoverFault → Type 0
+abbrev pub NamesIn : Book → Fault → Type 0
 NamesIn b f = Names {A = Unit {0}} (Err f) (IsLeastMismatch meaning_of b)
 
-pub kept_on : (from to : State) (b : Book) (f : OpeningFault) → IsFound from b → Keeps to b → OfPositions f (StuckIn b) → OfPositions f (NamesIn b) → OfPositions f (IsKeptOn from to)
-kept_on from to b (opening.Tables f) found keeps stuck named = tt
-kept_on from to b (opening.Positions f) found keeps stuck named = record { book = b; found = found; kept = keeps; stuck = stuck; mismatch = named }
+-- of tables
+pub tables_among : (f : Fault) → IsOfOpening f → IsOfRecovery f
+tables_among fault.NoMemory of = tt
+tables_among fault.StoreRefused of = tt
+tables_among fault.NotOurs of = tt
+tables_among fault.BadVersion of = tt
+tables_among (fault.Damaged d) of = tt
+tables_among _ of = absurd of
 
--- nothing is told of tables that were opened
-pub none_of_tables : (f : OpeningFault) (P : OpenFault → Type 0) → IsOfPositions f → OfTables f P
-none_of_tables (opening.Tables f) P is = absurd is
-none_of_tables (opening.Positions f) P is = tt
+pub tables_left : (from to : State) (f : Fault) → IsOfOpening f → HasEnded from to → IsLeft from to f
+tables_left from to fault.NoMemory of ended = inl ended
+tables_left from to (fault.Mismatch run place name) of ended = absurd of
+tables_left from to _ of ended = ended
+
+-- of positions
+pub past_among : (f : Fault) → IsPastTables f → IsOfRecovery f
+past_among fault.NoMemory of = tt
+past_among (fault.Mismatch run place name) of = tt
+past_among _ of = absurd of
+
+pub past_damage : (t : Tables) (f : Fault) → IsPastTables f → IsFirstDamage t f
+past_damage t fault.NoMemory of = tt
+past_damage t (fault.Mismatch run place name) of = tt
+past_damage t _ of = absurd of
+
+pub past_cause : {S : Type 0} (g : Ghosts S) (f : Fault) → IsPastTables f → HasCause g f
+past_cause g fault.NoMemory of = tt
+past_cause g (fault.Mismatch run place name) of = tt
+past_cause g _ of = absurd of
+
+pub past_left : (from to : State) (b : Book) (f : Fault) → IsPastTables f → NamesIn b f → (IsOurs from → IsFound from b × Keeps to b) → IsLeft from to f
+past_left from to b fault.NoMemory of named its = inr (λ ours. record { book = b; found = (its ours).0; kept = (its ours).1; mismatch = tt })
+past_left from to b (fault.Mismatch run place name) of named its = λ ours. record { book = b; found = (its ours).0; kept = (its ours).1; mismatch = named }
+past_left from to b _ of named its = absurd of
+
+pub memory_own : (f : Fault) → OnlyMemory {A = Unit {0}} (Err f) → IsOfStore f
+memory_own fault.NoMemory of = tt
+memory_own _ of = absurd of
 
 -- what is kept is what a stop leaves
 pub leaves_kept : (old new : State) (b : Book) → Keeps new b → LeavesMade old new b

@@ -1,3 +1,2 @@
-pub mod Codes
 pub mod Positions
 pub mod Recovering

@@ -1,9 +1,11 @@
 -- Where the open runs of a book stand, and what keeps a book from having such positions.
-use Rattle.std.specs.Prelude.{◌≡◌, ◌<◌, ◌+◌, ℕ, true, false, List, [], ◌∷◌, ◌++◌, Option, Some, None, Result, Err, if◌then◌else◌}
+use Rattle.std.specs.Prelude.{◌≡◌, ◌<◌, ◌+◌, ℕ, true, false, List, [], ◌∷◌, ◌++◌, Option, Some, None, Result, Ok, Err, if◌then◌else◌}
 use Rattle.flow_base.specs.Syntax.{Bytes, Program}
 use Rattle.flow_base.specs.declared.event.Wrong.{Wrong}
 use Rattle.flow_base.specs.declared.book.Run.{Run}
 use Rattle.flow_base.specs.declared.command.TextFault.{TextFault}
+use Rattle.flow_base.specs.declared.fault.Fault.{Fault}
+use Rattle.flow_base.specs.declared.fault.Fault.TheVariants as fault
 use Rattle.flow_model.specs.Configuration.{Configuration, is_open}
 use Rattle.flow_model.specs.Stands.{Stands, FirstMismatch}
 use Rattle.flow_model.specs.Open.{state_of}
@@ -11,8 +13,6 @@ use Rattle.flow_model.specs.Book.{Book, nth}
 use Rattle.flow_model.specs.Apply.{program_at}
 use Rattle.flow_run.specs.Position.{config_of}
 use Rattle.flow_recover.specs.declared.positions.Position.{Position}
-use Rattle.flow_recover.specs.declared.fault.RecoverFault.{RecoverFault}
-use Rattle.flow_recover.specs.declared.fault.RecoverFault.TheVariants as fault
 
 -- which program a text is, or why it is none
 abbrev pub Meaning : Type 0
@@ -81,18 +81,28 @@ pub record IsLeastMismatch (u : Meaning) (b : Book) (n place : ℕ) (name : Wron
   pub here : IsMismatch u b n place name
   pub before : (m : ℕ) (r : Run) → m < n → IsOpenRun b m r → IsStanding u b r
 
--- E80 has this cause.
-abbrev pub Caused : {A : Type 0} → Result A RecoverFault → Type 0 → Type 0
+-- E80 has this cause, and beside it E01 and E68 alone are told.
+abbrev pub Caused : {A : Type 0} → Result A Fault → Type 0 → Type 0
+Caused (Err fault.NoMemory) cause = Unit {0}
 Caused (Err fault.StoreRefused) cause = cause
-Caused _ cause = Unit {0}
+Caused (Err (fault.Mismatch run place name)) cause = Unit {0}
+Caused (Err f) cause = ⊥
+Caused (Ok x) cause = Unit {0}
 
 -- E68 names this run, this place and this name.
-abbrev pub Names : {A : Type 0} → Result A RecoverFault → (ℕ → ℕ → Wrong → Type 0) → Type 0
+abbrev pub Names : {A : Type 0} → Result A Fault → (ℕ → ℕ → Wrong → Type 0) → Type 0
 Names (Err (fault.Mismatch run place name)) is = is run place name
 Names _ is = Unit {0}
 
+-- What is told of positions at all: E01, E68 and E80.
+abbrev pub IsOfPositions : Fault → Type 0
+IsOfPositions fault.NoMemory = Unit {0}
+IsOfPositions fault.StoreRefused = Unit {0}
+IsOfPositions (fault.Mismatch run place name) = Unit {0}
+IsOfPositions f = ⊥
+
 -- Nothing is refused but for want of memory.
-abbrev pub OnlyMemory : {A : Type 0} → Result A RecoverFault → Type 0
-OnlyMemory (Err fault.StoreRefused) = ⊥
-OnlyMemory (Err (fault.Mismatch run place name)) = ⊥
-OnlyMemory _ = Unit {0}
+abbrev pub OnlyMemory : {A : Type 0} → Result A Fault → Type 0
+OnlyMemory (Err fault.NoMemory) = Unit {0}
+OnlyMemory (Err f) = ⊥
+OnlyMemory (Ok x) = Unit {0}

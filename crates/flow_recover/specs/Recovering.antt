@@ -7,21 +7,19 @@ use Rattle.sqlite.specs.Disk.{MoreFaults}
 use Rattle.sqlite.specs.Tree.{Trees}
 use Rattle.sqlite.specs.declared.error.Error.{Error}
 use Rattle.sqlite.specs.State.{State, Opens, IsLive, store_error}
+use Rattle.flow_base.specs.declared.fault.Fault.{Fault}
+use Rattle.flow_base.specs.declared.fault.Fault.TheVariants as fault
 use Rattle.flow_check.specs.Language.{meaning_of}
 use Rattle.flow_model.specs.Book.{Book}
 use Rattle.flow_model.specs.Sound.{IsSound}
-use Rattle.flow_tables.specs.declared.open.OpenFault.{OpenFault}
 use Rattle.flow_tables.specs.Layout.{no_schema}
 use Rattle.flow_tables.specs.Stored.{tables_in}
-use Rattle.flow_tables.specs.States.{HasTables}
-use Rattle.flow_tables.specs.Opening.{StandFor, IsOfStore}
-use Rattle.flow_tables.specs.Owned.{IsFound, Keeps}
+use Rattle.flow_tables.specs.States.{HasEnded, HasTables}
+use Rattle.flow_tables.specs.Opening.{StandFor}
+use Rattle.flow_tables.specs.Owned.{IsFound, IsOurs, Keeps}
 use Rattle.flow_commit.specs.Keeping.{Keeping, IsFit, KeepsBook, rules}
 use Rattle.flow_recover.specs.declared.positions.Position.{Position}
-use Rattle.flow_recover.specs.declared.fault.RecoverFault.{RecoverFault}
-use Rattle.flow_recover.specs.declared.fault.OpeningFault.{OpeningFault}
-use Rattle.flow_recover.specs.declared.fault.OpeningFault.TheVariants as opening
-use Rattle.flow_recover.specs.Positions.{ArePositions, Caused, IsLeastMismatch, LacksProgram, Names, OnlyMemory}
+use Rattle.flow_recover.specs.Positions.{ArePositions, IsLeastMismatch, Names}
 
 -- The keeper keeps the book that was found, and these are the positions of its open runs.
 pub record IsRecovered {S : Type 0} (g : Ghosts S) (from : State) (k : Keeping S) (qs : List Position) : Type 0 where
@@ -53,31 +51,33 @@ IsBack g k qs b = IsFit g k × KeepsBook g k b × ArePositions meaning_of b qs
 
 ---- Refusals
 
--- the tables were refused, and this is true of their fault
-abbrev pub OfTables : OpeningFault → (OpenFault → Type 0) → Type 0
-OfTables (opening.Tables f) is = is f
-OfTables (opening.Positions f) is = Unit {0}
+-- What is told at all: E01, E68, E80 to E83.
+abbrev pub IsOfRecovery : Fault → Type 0
+IsOfRecovery fault.NoMemory = Unit {0}
+IsOfRecovery (fault.Mismatch run place name) = Unit {0}
+IsOfRecovery fault.StoreRefused = Unit {0}
+IsOfRecovery fault.NotOurs = Unit {0}
+IsOfRecovery fault.BadVersion = Unit {0}
+IsOfRecovery (fault.Damaged d) = Unit {0}
+IsOfRecovery f = ⊥
 
--- the tables were opened
-abbrev pub IsOfPositions : OpeningFault → Type 0
-IsOfPositions (opening.Tables f) = ⊥
-IsOfPositions (opening.Positions f) = Unit {0}
+-- What is told once the tables were opened: E01 and E68.
+abbrev pub IsPastTables : Fault → Type 0
+IsPastTables fault.NoMemory = Unit {0}
+IsPastTables (fault.Mismatch run place name) = Unit {0}
+IsPastTables f = ⊥
 
--- where they were opened, this is true of what was refused then
-abbrev pub OfPositions : OpeningFault → (RecoverFault → Type 0) → Type 0
-OfPositions (opening.Tables f) is = Unit {0}
-OfPositions (opening.Positions f) is = is f
-
--- The book that was found is kept. Where it is E80, one of its open runs has no program; where it is E68, this is the least of
--- them whose history doesn't stand, with its first mismatch.
-pub record IsKeptOn (from to : State) (f : RecoverFault) : Type 0 where
+-- The book that was found is kept. Where it is E68, this is the least of its open runs whose history doesn't stand, with its
+-- first mismatch.
+pub record IsKeptOn (from to : State) (f : Fault) : Type 0 where
   pub book : Book
   pub found : IsFound from book
   pub kept : Keeps to book
-  pub stuck : Caused {A = Unit {0}} (Err f) (LacksProgram meaning_of book)
   pub mismatch : Names {A = Unit {0}} (Err f) (IsLeastMismatch meaning_of book)
 
--- What is told of a store that holds nothing to refuse: that it failed, that it isn't ours to add to, or that memory is wanting.
-abbrev pub IsOwnFault : OpeningFault → Type 0
-IsOwnFault (opening.Tables f) = IsOfStore f
-IsOwnFault (opening.Positions f) = OnlyMemory {A = Unit {0}} (Err f)
+-- What a refusal leaves. E80 to E83 are of the tables, and the store is as it was; E68 is of the positions, and the book that
+-- was found is kept. Memory may be wanting for either.
+abbrev pub IsLeft : State → State → Fault → Type 0
+IsLeft from to fault.NoMemory = HasEnded from to ⊎ (IsOurs from → IsKeptOn from to fault.NoMemory)
+IsLeft from to (fault.Mismatch run place name) = IsOurs from → IsKeptOn from to (fault.Mismatch run place name)
+IsLeft from to f = HasEnded from to

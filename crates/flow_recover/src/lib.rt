@@ -1,7 +1,6 @@
 //! Opens a store: its book gets a keeper, and each open run the position where it stands.
 #![tactic(auto)]
 
-pub mod fault;
 pub mod positions;
 pub mod recover;
 pub mod reopen;

@@ -1,8 +1,8 @@
 //! The book that is read from a small sound store, and the first damage of one that isn't sound.
 use crate::store::{Cells, EVENTS, OUTBOX, RUNS, TEXTS, TIMERS, store};
 use flow_base::book::Run;
+use flow_base::fault::{Damage, Table};
 use flow_rows::book::{WholeBook, read_book};
-use flow_rows::found::{Damage, Table};
 use std::alloc::Global;
 use std::test::Fail;
 

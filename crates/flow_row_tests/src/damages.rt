@@ -4,8 +4,8 @@ use crate::store::{
     TextCells, TimerCells, store,
 };
 use flow_base::code::Code;
+use flow_base::fault::{Damage, Table};
 use flow_rows::damage::damage;
-use flow_rows::found::{Damage, Table};
 use flow_rows::rows::format_row;
 use std::alloc::Global;
 use std::test::Fail;

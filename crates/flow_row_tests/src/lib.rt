@@ -4,10 +4,10 @@
 #[cfg(test)]
 mod books;
 #[cfg(test)]
+mod change_rows;
+#[cfg(test)]
 mod damages;
 #[cfg(test)]
 mod recall;
-#[cfg(test)]
-mod single;
 #[cfg(test)]
 mod store;

@@ -14,7 +14,7 @@ use Rattle.flow_model.specs.Open.{state_of}
 use Rattle.flow_rows.specs.declared.rows.EventRow.{EventRow}
 use Rattle.flow_rows.specs.declared.rows.RunRow.{RunRow}
 use Rattle.flow_rows.specs.declared.rows.OutboxRow.{OutboxRow}
-use Rattle.flow_rows.specs.declared.found.Table.TheVariants as table
+use Rattle.flow_base.specs.declared.fault.Table.TheVariants as table
 use Rattle.flow_rows.specs.Rows.{events_of, tasks_of, request_text, open_number, run_row, run_rows, activities_left}
 use Rattle.flow_rows.specs.Damages.{unless, closes, flow_fits, has_request, request_is_new, request_fits, is_open_of, flow_is_free, mark_fits, cells_fit, run_fits, damages_of_runs, is_begun, damages_from, damages_of_history, damages_of_events, read_event, history_from, history_of, histories, differs, task_difference, damages_of_outbox}
 use Rattle.flow_rows.specs.Standing.{IsRequest, IsKept, AreApart, AreKept}

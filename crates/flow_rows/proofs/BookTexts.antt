@@ -5,8 +5,8 @@ use Rattle.std.specs.Ordering.{int_eq}
 use Rattle.std.proofs.lemmas.Bool.Decides.{Decides-int_eq}
 use Rattle.flow_base.specs.Syntax.{Bytes}
 use Rattle.flow_rows.specs.declared.rows.TextRow.{TextRow}
-use Rattle.flow_rows.specs.declared.found.Table.{Table}
-use Rattle.flow_rows.specs.declared.found.Table.TheVariants as table
+use Rattle.flow_base.specs.declared.fault.Table.{Table}
+use Rattle.flow_base.specs.declared.fault.Table.TheVariants as table
 use Rattle.flow_rows.specs.Rows.{text_rows}
 use Rattle.flow_rows.specs.Damages.{unless, text_fits, damages_of_texts}
 use Rattle.flow_rows.specs.Told.{body_of}

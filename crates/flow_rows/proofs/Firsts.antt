@@ -1,6 +1,6 @@
 -- The first damage of lists one after another.
 use Rattle.std.proofs.Common.{◌≡◌, List, [], ◌∷◌, ◌++◌, Some, None, refl}
-use Rattle.flow_rows.specs.declared.found.Damage.{Damage}
+use Rattle.flow_base.specs.declared.fault.Damage.{Damage}
 use Rattle.flow_rows.specs.Damages.{first_of}
 
 pub none_first : (xs : List Damage) → first_of xs ≡ None → xs ≡ []

@@ -11,7 +11,7 @@ use Rattle.flow_events.specs.Row.{row_in}
 use Rattle.flow_events.specs.declared.row.RowFault.{RowFault}
 use Rattle.flow_events.proofs.Laws.{row_found, row_id}
 use Rattle.flow_rows.specs.declared.rows.EventRow.{EventRow}
-use Rattle.flow_rows.specs.declared.found.Table.TheVariants as table
+use Rattle.flow_base.specs.declared.fault.Table.TheVariants as table
 use Rattle.flow_rows.specs.Rows.{events_of, event_row}
 use Rattle.flow_rows.specs.Damages.{damaged, kind_fits, damages_of_read, damages_of_event, damages_from, read_event, history_from}
 use Rattle.flow_rows.specs.Standing.{AreEvents}

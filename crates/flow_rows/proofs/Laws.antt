@@ -5,7 +5,7 @@ use Rattle.std.specs.List.{AllByRecursion}
 use Rattle.flow_base.specs.Syntax.{Bytes}
 use Rattle.flow_model.specs.Book.{Book}
 use Rattle.flow_rows.specs.declared.rows.StoreRows.{StoreRows}
-use Rattle.flow_rows.specs.declared.found.Damage.{Damage}
+use Rattle.flow_base.specs.declared.fault.Damage.{Damage}
 use Rattle.flow_rows.specs.Damages.{first_of, first_damage, damages}
 use Rattle.flow_rows.specs.Rows.{by_run, rows_of}
 use Rattle.flow_rows.specs.Standing.{AreKept, StandsFor}

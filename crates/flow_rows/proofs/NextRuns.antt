@@ -5,7 +5,7 @@ use Rattle.std.specs.List.{list_any}
 use Rattle.std.specs.Ordering.{int_eq}
 use Rattle.flow_rows.specs.declared.rows.EventRow.{EventRow}
 use Rattle.flow_rows.specs.declared.rows.RunRow.{RunRow}
-use Rattle.flow_rows.specs.declared.found.Table.TheVariants as table
+use Rattle.flow_base.specs.declared.fault.Table.TheVariants as table
 use Rattle.flow_rows.specs.Rows.{events_of, open_number}
 use Rattle.flow_rows.specs.Damages.{first_of, unless, closes, cells_fit, flow_is_free, run_fits, damages_of_runs}
 use Rattle.flow_rows.proofs.Recalls.{next_row}

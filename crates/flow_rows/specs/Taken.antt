@@ -4,7 +4,7 @@ use Rattle.std.specs.List.{list_any}
 use Rattle.std.specs.HashSet.{contains_by}
 use Rattle.flow_base.specs.Syntax.{Bytes}
 use Rattle.flow_rows.specs.declared.rows.RunRow.{RunRow}
-use Rattle.flow_rows.specs.declared.taken.Taken.{Taken}
+use Rattle.flow_rows.specs.declared.taken_names.Taken.{Taken}
 use Rattle.flow_rows.specs.Damages.{has_request, is_open_of}
 
 abbrev pub has_taken_request : Taken → Bytes → Bool

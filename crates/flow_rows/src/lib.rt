@@ -2,17 +2,16 @@
 #![tactic(auto)]
 
 pub mod book;
+pub mod change_rows;
 pub mod damage;
 pub mod events;
-pub mod found;
 pub mod outbox;
-pub mod part;
 pub mod recall;
 pub mod rows;
+pub mod run_rows;
 pub mod runs;
-pub mod single;
-pub mod strays;
-pub mod taken;
+pub mod stray_rows;
+pub mod taken_names;
 pub mod texts;
 pub mod timers;
-pub mod typed;
+pub mod type_facts;

@@ -6,10 +6,10 @@ ghost use Rattle.flow_rows.specs.Damages as rule;
 ghost use Rattle.flow_rows.specs.Damages.{first_of, damages_of_runs};
 ghost use Rattle.flow_rows.specs.Taken.{HasTaken};
 
-use crate::found::{Damage, Table};
-use crate::part::{is_rising, part};
 use crate::rows::{EventRow, RunRow};
-use crate::taken::Taken;
+use crate::run_rows::{is_rising, part};
+use crate::taken_names::Taken;
+use flow_base::fault::{Damage, Table};
 use std::alloc::{AllocError, Global};
 
 /// Whether an event is of a kind that closes its run.

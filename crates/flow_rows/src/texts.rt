@@ -2,8 +2,8 @@ ghost use Rattle.std.specs.Prelude.{◌≡◌, IfOk};
 ghost use Rattle.flow_check.specs.Language as language;
 ghost use Rattle.flow_rows.specs.Damages.{first_of, damages_of_texts};
 
-use crate::found::{Damage, Table};
 use crate::rows::TextRow;
+use flow_base::fault::{Damage, Table};
 use flow_base::text::RawText;
 use flow_check::language::Language;
 use flow_check::texts::Texts;

@@ -1,6 +1,6 @@
 -- What the statements that make the tables do, whatever tables there are: each keeps the transaction, and none commits.
-use Rattle.std.proofs.Common.{◌≡◌, inl, inr, ℕ, List, Bool, true, false, Option, None, Ok, Err, if◌then◌else◌, refl, sym, ap, subst, ◌∙◌}
-use Rattle.std.specs.Prelude.{⊤, IsTrue, ◌==◌, ◌&&◌, not, ◌+◌, length}
+use Rattle.std.proofs.Common.{◌≡◌, ◌⊎◌, true≢false, inl, inr, ℕ, List, Bool, true, false, Option, None, Result, Ok, Err, [], if◌then◌else◌, refl, sym, ap, subst, ◌∙◌}
+use Rattle.std.specs.Prelude.{⊤, IsTrue, MatchResult, ◌==◌, ◌&&◌, not, ◌+◌, length}
 use Rattle.std.proofs.lemmas.Bool.{cases_Bool}
 use Rattle.sqlite_ast.specs.declared.Statement.{Statement}
 use Rattle.sqlite_ast.specs.declared.Statement.TheVariants as written
@@ -32,10 +32,10 @@ use Rattle.sqlite.specs.Listing.{understood, reads_listing, if_select, is_select
 use Rattle.sqlite.specs.Order.{Row}
 use Rattle.sqlite.specs.Tree.{Trees}
 use Rattle.sqlite.specs.declared.error.Error.{Error}
-use Rattle.sqlite.specs.State.{State, HasCleanDisk, Survives, CommitsBy, Executes, ExecutesIn, Runs, shows_rows, text_of}
+use Rattle.sqlite.specs.State.{State, HasCleanDisk, Survives, CommitsBy, CommitsShowing, FailsToQuery, Shown, IsNotRun, IsUnchanged, IsRolledBack, Executes, ExecutesIn, Runs, Shows, shows_rows, text_of}
 use Rattle.sqlite.specs.Clock.{timed}
 use Rattle.sqlite.proofs.StateLemmas.{survives_weaker}
-use Rattle.flow_sql.specs.States.{GoesOn, CommitsNothing, IsMaking, IsReading, FirstIs}
+use Rattle.flow_sql.specs.States.{GoesOn, CommitsNothing, RunsTo, IsMaking, IsReading, FirstIs}
 use Rattle.flow_sql.proofs.Leaves.{was_clean, error_leaves, rolled_back_ended}
 
 ---- What a text becomes
@@ -170,42 +170,34 @@ reading_shows_none = understood_so IsReading (λ found. found.1 ≡ None) (λ sc
 ---- What it does within a transaction
 
 module _ (old new : State) (inside : IsTrue old.in_transaction) where
+  shown_on : Shows old new new.now (if old.in_transaction then old.committed else new.now) old.in_transaction → GoesOn old new
+  shown_on h = record { was_open = h.was_open; is_open = h.is_open; mode = h.mode ∙ inside; committed = h.committed_is ∙ ap (λ b. if b then old.committed else new.now) inside }
+
   ran : (returns : Option Returning) (command : Command) → IsInside command → (text : List ℕ) (params : Row) (count : ℕ) → Runs old new returns command text params count → GoesOn old new
   ran returns Nothing is text params count h = record { was_open = h.0.0.was_open; is_open = h.0.0.is_open; mode = h.0.0.mode ∙ inside; committed = h.0.0.committed_is }
-  ran returns (Insert at from) is text params count h = record {
-    was_open = h.shown.was_open;
-    is_open = h.shown.is_open;
-    mode = h.shown.mode ∙ inside;
-    committed = h.shown.committed_is ∙ ap (λ b. if b then old.committed else new.now) inside;
-  }
-  ran returns (InsertOr at way from clauses) is text params count h = record {
-    was_open = h.shown.was_open;
-    is_open = h.shown.is_open;
-    mode = h.shown.mode ∙ inside;
-    committed = h.shown.committed_is ∙ ap (λ b. if b then old.committed else new.now) inside;
-  }
-  ran returns MakeTable is text params count h = record {
-    was_open = h.shown.was_open;
-    is_open = h.shown.is_open;
-    mode = h.shown.mode ∙ inside;
-    committed = h.shown.committed_is ∙ ap (λ b. if b then old.committed else new.now) inside;
-  }
+  ran returns (Insert at from) is text params count h = shown_on h.shown
+  ran returns (InsertOr at way from clauses) is text params count h = shown_on h.shown
+  ran returns MakeTable is text params count h = shown_on h.shown
   ran returns _ is text params count h = absurd is
 
-  pub making_goes_on : (sql : List ℕ) (params : Row) (count : ℕ) → FirstIs IsMaking (first sql) → Executes sql params old new (Ok count) → GoesOn old new
+  making_goes_on : (sql : List ℕ) (params : Row) (count : ℕ) → FirstIs IsMaking (first sql) → Executes sql params old new (Ok count) → GoesOn old new
   unfolding ExecutesIn
   making_goes_on sql params count making h = elim (cases_Bool (shows_rows false h.0)) [
     | inl shows ↦ absurd (let e = (rw shows at h.2).0 in cc)
     | inr runs ↦ ran h.0.returning h.0.command (understood_inside old.now.schema sql making h.0 h.1.is).0 (text_of sql h.0) (timed params h.0.formats h.1.now) count (rw runs at h.2)
   ]
 
-  pub making_leaves : (sql : List ℕ) (params : Row) (e : Error) → Executes sql params old new (Err e) → CommitsNothing old new
+  making_leaves : (sql : List ℕ) (params : Row) (e : Error) → Executes sql params old new (Err e) → CommitsNothing old new
   making_leaves sql params e h = elim (error_leaves old new sql params e h) [
     | inl same ↦ inl (record { was_open = same.0.was_open; is_open = same.0.is_open; mode = same.0.mode ∙ inside; committed = same.0.committed_is })
     | inr undone ↦ inr (rolled_back_ended old new undone)
   ]
 
-  pub making_commits_nothing : (sql : List ℕ) (params : Row) → FirstIs IsMaking (first sql) → (db : Trees) → ¬ CommitsBy sql params old db
+  pub making_becomes : (sql : List ℕ) → FirstIs IsMaking (first sql) → (r : Result (Unit {0}) Error) → RunsTo sql old new r → MatchResult r (λ _. GoesOn old new) (λ _. CommitsNothing old new)
+  making_becomes sql making (Ok x) h = making_goes_on sql [] h.0 making h.1
+  making_becomes sql making (Err e) h = making_leaves sql [] e h
+
+  making_commits_nothing : (sql : List ℕ) (params : Row) → FirstIs IsMaking (first sql) → (db : Trees) → ¬ CommitsBy sql params old db
   unfolding CommitsBy
   making_commits_nothing sql params making db h =
       let writes = (understood_inside old.now.schema sql making h.0 h.1.is).0 in
@@ -219,3 +211,23 @@ pub making_survives : (old new : State) (sql : List ℕ) (params : Row) → Firs
     → Survives old new (λ _. ⊥)
 making_survives old new sql params making inside h =
     survives_weaker old new _ _ (λ clean db. making_commits_nothing old new (inside (was_clean old new _ h clean)) sql params making db) h
+
+---- What a query leaves: it commits nothing, and changes nothing, or fails with the store
+
+module _ (sql : List ℕ) (reading : FirstIs IsReading (first sql)) (params : Row) (old new : State) where
+  bare : (c : Compiled) → understood old.now.schema sql ≡ Ok c → c.returning ≡ None
+  bare c is = reading_shows_none old.now.schema sql reading c is
+
+  pub commits_none : Survives old new (CommitsShowing sql params old) → Survives old new (λ _. ⊥)
+  unfolding CommitsShowing
+  commits_none h = survives_weaker old new _ _ (λ _ db made. let some = made.2 in let e = rw (bare made.0 made.1.is) at some in true≢false (sym e)) h
+
+  pub failed : (e : Error) → FailsToQuery sql params old new e → IsUnchanged old new ⊎ IsRolledBack old new
+  unfolding FailsToQuery IsNotRun
+  failed e (inl (inl refused)) = inl refused.1
+  failed e (inl (inr fails)) = inr fails.3
+  failed e (inr h) = inl (rw (bare h.0 h.1.is) at h.2).3
+
+  pub answered : (rows : List Row) → Shown sql params old new rows → IsUnchanged old new
+  unfolding Shown
+  answered rows h = (rw (bare h.0 h.1.is) at h.2).3

@@ -15,12 +15,12 @@ use Rattle.sqlite_resolve.specs.declared.compiled.Compiled.{Compiled}
 use Rattle.sqlite_resolve.specs.declared.error.CompileError.TheVariants.{NoSuchTable}
 use Rattle.sqlite.proofs.Callers.{first_as, one_permutation}
 use Rattle.sqlite_tied.specs.Compute.{everything}
-use Rattle.flow_sql.specs.Layout.{format_sql, no_schema, schema}
+use Rattle.flow_sql.specs.Layout.{format_sql, no_schema, schema, format_query}
 use Rattle.flow_sql.specs.Stored.{format_row}
 use Rattle.flow_sql.specs.States.{HasTables, IsOver, HasEnded, IsAtRest, IsBlank}
-use Rattle.flow_sql.proofs.Compiling.{reading_shows_none}
-use Rattle.flow_sql.proofs.AnyFile.{commits_none}
-use Rattle.flow_sql.proofs.ReadTexts.{format_query, format_read}
+use Rattle.flow_sql.proofs.Leaves.{over_both}
+use Rattle.flow_sql.proofs.Compiling.{reading_shows_none, commits_none}
+use Rattle.flow_sql.proofs.ReadTexts.{format_read}
 
 ---- Under any schema
 
@@ -45,9 +45,7 @@ module _ (start old new : State) (ended : HasEnded start old) where
   pub read_over : IsUnchanged old new → HasTables start.committed → IsOver false new × (new.now ≡ start.committed) × (new.committed ≡ start.committed)
   read_over same committed =
       let now = ended.back same.0.was_open in
-      let is = same.0.now_is ∙ now.0 in
-      let last = same.0.committed_is ∙ now.1 in
-      (record { is_open = same.0.is_open; mode = same.0.mode ∙ ended.mode; now = subst HasTables (sym is) committed; committed = subst HasTables (sym last) committed }, is, last)
+      over_both false new start.committed start.committed same.0.is_open (same.0.mode ∙ ended.mode) (same.0.now_is ∙ now.0) (same.0.committed_is ∙ now.1) committed committed
 
   pub read_blank : IsUnchanged old new → start.committed.schema ≡ no_schema → IsBlank false new
   read_blank same none =

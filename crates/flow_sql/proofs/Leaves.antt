@@ -1,9 +1,10 @@
 -- What a statement that is refused leaves.
-use Rattle.std.proofs.Common.{◌⊎◌, inl, inr, ℕ, List, Bool, false, Err, sym, subst, ◌∙◌, arith}
+use Rattle.std.proofs.Common.{◌≡◌, ◌⊎◌, inl, inr, ℕ, List, Bool, false, Err, sym, subst, ◌∙◌, arith}
 use Rattle.std.specs.Prelude.{IsTrue}
 use Rattle.std.proofs.lemmas.Bool.{cases_Bool}
 use Rattle.sqlite.specs.Order.{Row}
 use Rattle.sqlite.specs.Tree.{Trees}
+use Rattle.sqlite.specs.Effect.{Database}
 use Rattle.sqlite.specs.declared.error.Error.{Error}
 use Rattle.sqlite.specs.State.{State, Executes, ExecutesIn, IsNotRun, IsUnchanged, IsRolledBack, Survives, HasCleanDisk, shows_rows, RunsCommand}
 use Rattle.sqlite.specs.Clock.{timed}
@@ -13,39 +14,20 @@ use Rattle.flow_sql.specs.States.{HasTables, IsOver, IsStill, IsUndone, IsRefuse
 pub was_clean : (old new : State) (P : Trees → Type 0) → Survives old new P → HasCleanDisk new → HasCleanDisk old
 was_clean old new P h clean = omega (arith, h.clean)
 
+-- a connection that shows one database and had committed another, both with our tables
+pub over_both : (inside : Bool) (s : State) (now committed : Database) → IsTrue s.is_open → s.in_transaction ≡ inside → s.now ≡ now → s.committed ≡ committed → HasTables now → HasTables committed
+    → IsOver inside s × (s.now ≡ now) × (s.committed ≡ committed)
+over_both inside s now committed up mode shows kept here there = (record { is_open = up; mode = mode; now = subst HasTables (sym shows) here; committed = subst HasTables (sym kept) there }, shows, kept)
+
 module _ (old new : State) where
   pub unchanged_still : (inside : Bool) → IsUnchanged old new → IsOver inside old → IsStill inside old new
-  unchanged_still inside h was = (
-    record {
-      is_open = h.0.is_open;
-      mode = h.0.mode ∙ was.mode;
-      now = subst HasTables (sym h.0.now_is) was.now;
-      committed = subst HasTables (sym h.0.committed_is) was.committed;
-    },
-    h.0.now_is,
-    h.0.committed_is,
-  )
+  unchanged_still inside h was = over_both inside new old.now old.committed h.0.is_open (h.0.mode ∙ was.mode) h.0.now_is h.0.committed_is was.now was.committed
 
   pub rolled_back_ended : IsRolledBack old new → HasEnded old new
   rolled_back_ended h = record { was_open = h.was_open; mode = h.autocommit; back = h.undone }
 
   pub ended_undone : HasTables old.committed → HasEnded old new → IsUndone old new
-  ended_undone committed h = record {
-    mode = h.mode;
-    over = λ up. (
-      record {
-        is_open = up;
-        mode = h.mode;
-        now = subst HasTables (sym (h.back up).0) committed;
-        committed = subst HasTables (sym (h.back up).1) committed;
-      },
-      (h.back up).0,
-      (h.back up).1,
-    );
-  }
-
-  pub rolled_back_undone : (inside : Bool) → IsRolledBack old new → IsOver inside old → IsUndone old new
-  rolled_back_undone inside h was = ended_undone was.committed (rolled_back_ended h)
+  ended_undone committed h = record { mode = h.mode; over = λ up. over_both false new old.committed old.committed up h.mode (h.back up).0 (h.back up).1 committed committed }
 
   -- An error changes nothing, or ends the transaction.
   pub error_leaves : (sql : List ℕ) (params : Row) (e : Error) → Executes sql params old new (Err e) → IsUnchanged old new ⊎ IsRolledBack old new
@@ -63,7 +45,7 @@ module _ (old new : State) where
 
   pub left_refused : (inside : Bool) → IsOver inside old → IsUnchanged old new ⊎ IsRolledBack old new → IsRefused inside old new
   left_refused inside was (inl same) = inl (unchanged_still inside same was)
-  left_refused inside was (inr undone) = inr (rolled_back_undone inside undone was)
+  left_refused inside was (inr undone) = inr (ended_undone was.committed (rolled_back_ended undone))
 
   pub error_refused : (sql : List ℕ) (params : Row) (e : Error) (inside : Bool) → IsOver inside old → Executes sql params old new (Err e) → IsRefused inside old new
   error_refused sql params e inside was h = left_refused inside was (error_leaves sql params e h)

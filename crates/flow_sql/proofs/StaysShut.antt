@@ -1,27 +1,20 @@
 -- A statement never opens a connection that was shut.
-use Rattle.std.proofs.Common.{inl, inr, ℕ, List, false, Ok, Err, Result}
+use Rattle.std.proofs.Common.{inl, inr, ℕ, List, [], false, Ok, Err, Result}
 use Rattle.std.proofs.lemmas.Bool.{cases_Bool}
 use Rattle.std.specs.Prelude.{IsTrue, Option}
 use Rattle.sqlite.specs.Order.{Row}
 use Rattle.sqlite.specs.Command.{Command}
-use Rattle.sqlite.specs.Command.TheVariants.{Select, Insert, InsertOr, Update, Delete, CreateTable, CreateIndex, DropTable, DropIndex, Begin, Commit, Rollback, Savepoint, Release, RollbackTo, Nothing, CreateView, DropView, Rows}
+use Rattle.sqlite.specs.Command.TheVariants.{Select, Begin, Commit, Rollback, Savepoint, Release, RollbackTo, Nothing, Rows}
 use Rattle.sqlite_schema.specs.declared.command.Returning.{Returning}
 use Rattle.sqlite.specs.declared.error.Error.{Error}
 use Rattle.sqlite.specs.State.{State, Executes, ExecutesIn, Runs, shows_rows, text_of}
 use Rattle.sqlite.specs.Clock.{timed}
+use Rattle.flow_sql.specs.States.{RunsTo}
 use Rattle.flow_sql.proofs.Leaves.{error_leaves}
 
 module _ (old new : State) where
   ran_open : (returning : Option Returning) (command : Command) (text : List ℕ) (params : Row) (count : ℕ) → Runs old new returning command text params count → IsTrue new.is_open → IsTrue old.is_open
   ran_open returning (Select q names) text params count h up = absurd h
-  ran_open returning (Insert at from) text params count h up = h.shown.was_open
-  ran_open returning (InsertOr at how from clauses) text params count h up = h.shown.was_open
-  ran_open returning (Update at q) text params count h up = h.shown.was_open
-  ran_open returning (Delete at q) text params count h up = h.shown.was_open
-  ran_open returning CreateTable text params count h up = h.shown.was_open
-  ran_open returning (CreateIndex at) text params count h up = h.shown.was_open
-  ran_open returning (DropTable at) text params count h up = h.shown.was_open
-  ran_open returning (DropIndex at) text params count h up = h.shown.was_open
   ran_open returning Begin text params count h up = h.1.was_open
   ran_open returning Commit text params count h up = h.1.was_open
   ran_open returning Rollback text params count h up = h.1.was_open up
@@ -33,10 +26,9 @@ module _ (old new : State) where
   ran_open returning (RollbackTo name) text params count h up = h.2.2.was_open
   ran_open returning (Rows values width names) text params count h up = h.0.0.was_open
   ran_open returning Nothing text params count h up = h.0.0.was_open
-  ran_open returning CreateView text params count h up = h.shown.was_open
-  ran_open returning (DropView at) text params count h up = h.shown.was_open
+  ran_open returning _ text params count h up = h.shown.was_open
 
-  pub was_open : (sql : List ℕ) (params : Row) (r : Result ℕ Error) → Executes sql params old new r → IsTrue new.is_open → IsTrue old.is_open
+  was_open : (sql : List ℕ) (params : Row) (r : Result ℕ Error) → Executes sql params old new r → IsTrue new.is_open → IsTrue old.is_open
   unfolding ExecutesIn
   was_open sql params (Ok count) h up = elim (cases_Bool (shows_rows false h.0)) [
     | inl shows ↦ (rw shows at h.2).1.0.was_open
@@ -46,3 +38,7 @@ module _ (old new : State) where
     | inl same ↦ same.0.was_open
     | inr undone ↦ undone.was_open up
   ]
+
+  pub stays_shut : (sql : List ℕ) (r : Result (Unit {0}) Error) → RunsTo sql old new r → IsTrue new.is_open → IsTrue old.is_open
+  stays_shut sql (Ok x) h up = was_open sql [] (Ok h.0) h.1 up
+  stays_shut sql (Err e) h up = was_open sql [] (Err e) h up

@@ -1,6 +1,6 @@
 -- What BEGIN, COMMIT and ROLLBACK mean, under any schema.
 use Rattle.std.proofs.Common.{◌≡◌, inl, inr, ℕ, ◌≤◌, List, [], length, true, false, codes, Ok, Err, Result, None, refl, sym, ap, subst, ◌∙◌, arith, true≢false}
-use Rattle.std.specs.Prelude.{⊤, IsTrue}
+use Rattle.std.specs.Prelude.{⊤, IsTrue, MatchResult, OnOk, IfErr}
 use Rattle.std.proofs.lemmas.Bool.{cases_Bool}
 use Rattle.sqlite.specs.Order.{Row}
 use Rattle.sqlite.specs.Tree.{Trees}
@@ -13,36 +13,36 @@ use Rattle.sqlite.specs.Listing.{understood}
 use Rattle.sqlite.specs.declared.error.Error.{Error}
 use Rattle.sqlite_resolve.specs.declared.compiled.Compiled.{Compiled}
 use Rattle.sqlite_resolve.specs.declared.error.CompileError.{CompileError}
-use Rattle.sqlite.specs.State.{State, CommitsBy, Survives, MayWrite, Executes, ExecutesIn, RunsCommand, IsNotRun, IsMisplaced, IsRolledBack, shows_rows, text_of}
+use Rattle.sqlite.specs.State.{State, CommitsBy, Survives, MayWrite, Executes, ExecutesIn, Runs, RunsCommand, IsNotRun, IsMisplaced, IsRolledBack, shows_rows, text_of}
 use Rattle.sqlite.specs.Clock.{timed}
-use Rattle.sqlite.proofs.Callers.{IsPlain, command_of, runs_as}
+use Rattle.sqlite.proofs.Callers.{IsPlain, command_of, statement_of, runs_as}
 use Rattle.sqlite.proofs.StateLemmas.{survives_weaker}
-use Rattle.flow_sql.specs.States.{HasTables, IsOver, IsStill, IsUndone, HasBegun, HasCommitted, GoesOn, HasEnded}
-use Rattle.flow_sql.proofs.Leaves.{rolled_back_ended, ended_undone}
+use Rattle.flow_sql.specs.Layout.{schema}
+use Rattle.flow_sql.specs.States.{Holds, IsOver, IsStill, IsRefused, IsUndone, RunsTo, HasBegun, HasCommitted, GoesOn, HasEnded}
+use Rattle.flow_sql.proofs.Leaves.{was_clean, over_both, rolled_back_ended, ended_undone, error_refused}
 
-pub begin_is : (s : Schema) → command_of (understood s (codes "BEGIN")) ≡ Begin
-unfolding understood everything
-begin_is s = refl
+-- the text is one statement, without parameters
+abbrev IsWhole : List ℕ → Result Compiled CompileError → Type 0
+IsWhole sql (Ok c) = (length sql ≤ c.tail) × (c.names ≡ [])
+IsWhole sql (Err e) = ⊥
 
-pub begin_plain : (s : Schema) → IsPlain (understood s (codes "BEGIN"))
-unfolding understood everything
-begin_plain s = (refl, refl)
+-- the text is this command, and nothing else, whatever tables there are
+record Controls (sql : List ℕ) (command : Command) : Type 0 where
+  is : (s : Schema) → command_of (understood s sql) ≡ command
+  plain : (s : Schema) → IsPlain (understood s sql)
+  whole : (s : Schema) → IsWhole sql (understood s sql)
 
-pub commit_is : (s : Schema) → command_of (understood s (codes "COMMIT")) ≡ Commit
+begin_text : Controls (codes "BEGIN") Begin
 unfolding understood everything
-commit_is s = refl
+begin_text = record { is = λ s. refl; plain = λ s. (refl, refl); whole = λ s. (omega arith, refl) }
 
-pub commit_plain : (s : Schema) → IsPlain (understood s (codes "COMMIT"))
+commit_text : Controls (codes "COMMIT") Commit
 unfolding understood everything
-commit_plain s = (refl, refl)
+commit_text = record { is = λ s. refl; plain = λ s. (refl, refl); whole = λ s. (omega arith, refl) }
 
-pub rollback_is : (s : Schema) → command_of (understood s (codes "ROLLBACK")) ≡ Rollback
+rollback_text : Controls (codes "ROLLBACK") Rollback
 unfolding understood everything
-rollback_is s = refl
-
-pub rollback_plain : (s : Schema) → IsPlain (understood s (codes "ROLLBACK"))
-unfolding understood everything
-rollback_plain s = (refl, refl)
+rollback_text = record { is = λ s. refl; plain = λ s. (refl, refl); whole = λ s. (omega arith, refl) }
 
 ---- What they may commit
 
@@ -56,47 +56,50 @@ changes_nothing Begin control s text params db h = absurd (let e = h.3 in cc)
 changes_nothing Rollback control s text params db h = absurd (let e = h.3 in cc)
 changes_nothing _ control s text params db h = absurd control
 
-module _ (sql : List ℕ) (params : Row) (old : State) (schema : Schema) (has : old.now.schema ≡ schema) (command : Command) (is : command_of (understood schema sql) ≡ command) where
+module _ (sql : List ℕ) (old : State) (command : Command) (it : Controls sql command) where
   -- a statement that neither writes nor ends a transaction commits nothing
-  pub control_commits_nothing : IsPlain (understood schema sql) → IsControl command → (db : Trees) → ¬ CommitsBy sql params old db
+  control_commits_nothing : IsControl command → (db : Trees) → ¬ CommitsBy sql [] old db
   unfolding CommitsBy
-  control_commits_nothing plain control db h =
-      let known = sym h.1.is ∙ ap (λ s. understood s sql) has in
-      let same : command ≡ h.0.command = sym (ap command_of known ∙ is) in
-      let bare = subst IsPlain (sym known) plain in
+  control_commits_nothing control db h =
+      let same : command ≡ h.0.command = sym (it.is old.now.schema) ∙ ap command_of h.1.is in
+      let bare = subst IsPlain h.1.is (it.plain old.now.schema) in
       let control = subst IsControl same control in
       elim h.2 [
         | inl (inl commits, _) ↦ absurd (rw commits at control)
         | inl (inr release, _) ↦ absurd (rw release.2 at control)
-        | inr outside ↦ changes_nothing h.0.command control old (text_of sql h.0) (timed params h.0.formats h.1.now) db (rw bare.0 at outside)
+        | inr outside ↦ changes_nothing h.0.command control old (text_of sql h.0) (timed [] h.0.formats h.1.now) db (rw bare.0 at outside)
       ]
 
   -- a COMMIT commits what the transaction shows
-  pub commit_commits : command ≡ Commit → IsPlain (understood schema sql) → (db : Trees) → CommitsBy sql params old db → db ≡ old.now.trees
+  commit_commits : command ≡ Commit → (db : Trees) → CommitsBy sql [] old db → db ≡ old.now.trees
   unfolding CommitsBy
-  commit_commits commit plain db h =
-      let known = sym h.1.is ∙ ap (λ s. understood s sql) has in
-      let same : h.0.command ≡ Commit = ap command_of known ∙ is ∙ commit in
-      let bare = subst IsPlain (sym known) plain in
+  commit_commits commit db h =
+      let same : h.0.command ≡ Commit = sym (ap command_of h.1.is) ∙ it.is old.now.schema ∙ commit in
+      let bare = subst IsPlain h.1.is (it.plain old.now.schema) in
       elim h.2 [
         | inl (_, now) ↦ now
         | inr outside ↦ absurd (let e = rw (bare.0, same) at outside.3 in cc)
       ]
 
+-- a change commits nothing within a transaction
+module _ (sql : List ℕ) (command : Command) (is : command_of (understood schema sql) ≡ command) (write : IsWrite command) where
+  commits_nothing : (old : State) (params : Row) → old.now.schema ≡ schema → old.in_transaction ≡ true → (db : Trees) → ¬ CommitsBy sql params old db
+  unfolding CommitsBy
+  commits_nothing old params has inside db h =
+      let known = sym h.1.is ∙ ap (λ s. understood s sql) has in
+      let same : command ≡ h.0.command = sym (ap command_of known ∙ is) in
+      let writes = subst IsWrite same write in
+      elim h.2 [
+        | inl (inl commits, _) ↦ absurd (rw commits at writes)
+        | inl (inr release, _) ↦ absurd (rw release.2 at writes)
+        | inr outside ↦ absurd (let e = outside.0 in cc)
+      ]
+
+  pub write_survives : (old new : State) (params : Row) → Holds true old → Survives old new (CommitsBy sql params old) → Survives old new (λ _. ⊥)
+  write_survives old new params was h =
+      survives_weaker old new _ _ (λ clean db. let now = was (was_clean old new _ h clean) in commits_nothing old params now.now.laid_out now.mode db) h
+
 ---- Why one that ends a transaction is refused
-
--- the text is one statement, without parameters
-abbrev pub IsWhole : List ℕ → Result Compiled CompileError → Type 0
-IsWhole sql (Ok c) = (length sql ≤ c.tail) × (c.names ≡ [])
-IsWhole sql (Err e) = ⊥
-
-commit_whole : (s : Schema) → IsWhole (codes "COMMIT") (understood s (codes "COMMIT"))
-unfolding understood everything
-commit_whole s = (omega arith, refl)
-
-rollback_whole : (s : Schema) → IsWhole (codes "ROLLBACK") (understood s (codes "ROLLBACK"))
-unfolding understood everything
-rollback_whole s = (omega arith, refl)
 
 abbrev IsEnd : Command → Type 0
 IsEnd Commit = ⊤
@@ -114,16 +117,15 @@ never_writes Commit ends h = h
 never_writes Rollback ends h = h
 never_writes _ ends h = absurd ends
 
-module _ (sql : List ℕ) (old new : State) (e : Error) (command : Command) (is : command_of (understood old.now.schema sql) ≡ command) (plain : IsPlain (understood old.now.schema sql))
-    (whole : IsWhole sql (understood old.now.schema sql)) (ends : IsEnd command) (inside : old.in_transaction ≡ true) where
+module _ (sql : List ℕ) (old new : State) (e : Error) (command : Command) (it : Controls sql command) (ends : IsEnd command) (inside : old.in_transaction ≡ true) where
   -- within a transaction only a failure of the store refuses it, and that ends the transaction
-  pub ends_anyway : Executes sql [] old new (Err e) → IsRolledBack old new
+  ends_anyway : Executes sql [] old new (Err e) → IsRolledBack old new
   unfolding ExecutesIn IsNotRun
   ends_anyway (inl (inl none)) = elim none.0 [
-    | inl broken ↦ absurd (subst IsPlain broken.1 plain)
+    | inl broken ↦ absurd (subst IsPlain broken.1 (it.plain old.now.schema))
     | inr odd ↦
-        let bare = subst IsPlain odd.1 plain in
-        let all = subst (IsWhole sql) odd.1 whole in
+        let bare = subst IsPlain odd.1 (it.plain old.now.schema) in
+        let all = subst (IsWhole sql) odd.1 (it.whole old.now.schema) in
         absurd (elim odd.2 [
           | inl cut ↦ cut.0 all.0
           | inr (inl given) ↦ given.0 (sym (ap length all.1))
@@ -131,9 +133,9 @@ module _ (sql : List ℕ) (old new : State) (e : Error) (command : Command) (is 
         ])
   ]
   ends_anyway (inl (inr fails)) = fails.3
-  ends_anyway (inr it) = elim (cases_Bool (shows_rows false it.0)) [
-    | inl shows ↦ absurd (shown it.0 it.1.is shows)
-    | inr runs ↦ ran it.0 it.1.is (timed [] it.0.formats it.1.now) (rw runs at it.2)
+  ends_anyway (inr h) = elim (cases_Bool (shows_rows false h.0)) [
+    | inl shows ↦ absurd (shown h.0 h.1.is shows)
+    | inr runs ↦ ran h.0 h.1.is (timed [] h.0.formats h.1.now) (rw runs at h.2)
   ]
     where
       hidden : (k : Command) → IsEnd k → (c : Compiled) → ¬ (shows_rows false (record c { command = k; returning = None }) ≡ true)
@@ -143,15 +145,15 @@ module _ (sql : List ℕ) (old new : State) (e : Error) (command : Command) (is 
 
       shown : (c : Compiled) → understood old.now.schema sql ≡ Ok c → ¬ (shows_rows false c ≡ true)
       shown c known shows =
-          let same : c.command ≡ command = sym (ap command_of known) ∙ is in
-          let bare = subst IsPlain known plain in
+          let same : c.command ≡ command = sym (ap command_of known) ∙ it.is old.now.schema in
+          let bare = subst IsPlain known (it.plain old.now.schema) in
           hidden command ends c (subst (λ k. shows_rows false (record c { command = k; returning = None }) ≡ true) same (rw bare.0 at shows))
 
       ran : (c : Compiled) → understood old.now.schema sql ≡ Ok c → (params : Row) → RunsCommand old new sql c params (Err e) → IsRolledBack old new
       ran c known params (inl refused) =
-          let same : command ≡ c.command = sym (sym (ap command_of known) ∙ is) in
+          let same : command ≡ c.command = sym (sym (ap command_of known) ∙ it.is old.now.schema) in
           let last = subst IsEnd same ends in
-          let bare = subst IsPlain known plain in
+          let bare = subst IsPlain known (it.plain old.now.schema) in
           absurd (elim refused.0 [
             | inl misplaced ↦ never_misplaced old c.command e last inside misplaced
             | inr (inl write, _) ↦ never_writes c.command last write
@@ -162,36 +164,29 @@ module _ (sql : List ℕ) (old new : State) (e : Error) (command : Command) (is 
 ---- What the three do to a state
 
 module _ (old new : State) where
+  abbrev ran_as : (sql : List ℕ) (command : Command) → Controls sql command → (count : ℕ) → Executes sql [] old new (Ok count) → Runs old new None command (statement_of sql (understood old.now.schema sql)) [] count
+  ran_as sql command it count h = runs_as sql [] old new old.now.schema refl command (it.is old.now.schema) (it.plain old.now.schema) count h
+
   pub begins : (count : ℕ) → Executes (codes "BEGIN") [] old new (Ok count) → HasBegun old new
-  begins count h = let s = old.now.schema in let r = runs_as (codes "BEGIN") [] old new s refl Begin (begin_is s) (begin_plain s) count h in (r.0, r.1)
+  begins count h = let r = ran_as (codes "BEGIN") Begin begin_text count h in (r.0, r.1)
 
   pub commits : (count : ℕ) → Executes (codes "COMMIT") [] old new (Ok count) → HasCommitted old new
-  commits count h = let s = old.now.schema in let r = runs_as (codes "COMMIT") [] old new s refl Commit (commit_is s) (commit_plain s) count h in (r.0, r.1)
+  commits count h = let r = ran_as (codes "COMMIT") Commit commit_text count h in (r.0, r.1)
 
-  pub rolls_back : (count : ℕ) → Executes (codes "ROLLBACK") [] old new (Ok count) → IsTrue old.in_transaction × IsRolledBack old new
-  rolls_back count h = let s = old.now.schema in let r = runs_as (codes "ROLLBACK") [] old new s refl Rollback (rollback_is s) (rollback_plain s) count h in (r.0, r.1)
+  pub rolls_back : (count : ℕ) → Executes (codes "ROLLBACK") [] old new (Ok count) → IsTrue old.in_transaction × HasEnded old new
+  rolls_back count h = let r = ran_as (codes "ROLLBACK") Rollback rollback_text count h in (r.0, rolled_back_ended old new r.1)
 
   pub commit_ends : (e : Error) → old.in_transaction ≡ true → Executes (codes "COMMIT") [] old new (Err e) → HasEnded old new
-  commit_ends e inside h =
-      let s = old.now.schema in rolled_back_ended old new (ends_anyway (codes "COMMIT") old new e Commit (commit_is s) (commit_plain s) (commit_whole s) tt inside h)
+  commit_ends e inside h = rolled_back_ended old new (ends_anyway (codes "COMMIT") old new e Commit commit_text tt inside h)
 
   pub rollback_ends : (e : Error) → old.in_transaction ≡ true → Executes (codes "ROLLBACK") [] old new (Err e) → HasEnded old new
-  rollback_ends e inside h =
-      let s = old.now.schema in rolled_back_ended old new (ends_anyway (codes "ROLLBACK") old new e Rollback (rollback_is s) (rollback_plain s) (rollback_whole s) tt inside h)
+  rollback_ends e inside h = rolled_back_ended old new (ends_anyway (codes "ROLLBACK") old new e Rollback rollback_text tt inside h)
 
   pub begun_still : HasBegun old new → IsOver false old → IsStill true old new
-  begun_still h was = (
-    record { is_open = h.1.is_open; mode = h.1.mode; now = subst HasTables (sym h.1.now_is) was.now; committed = subst HasTables (sym h.1.committed_is) was.committed },
-    h.1.now_is,
-    h.1.committed_is,
-  )
+  begun_still h was = over_both true new old.now old.committed h.1.is_open h.1.mode h.1.now_is h.1.committed_is was.now was.committed
 
   pub committed_over : HasCommitted old new → IsOver true old → IsOver false new × (new.now ≡ old.now) × (new.committed ≡ old.now)
-  committed_over h was = (
-    record { is_open = h.1.is_open; mode = h.1.mode; now = subst HasTables (sym h.1.now_is) was.now; committed = subst HasTables (sym h.1.committed_is) was.now },
-    h.1.now_is,
-    h.1.committed_is,
-  )
+  committed_over h was = over_both false new old.now old.now h.1.is_open h.1.mode h.1.now_is h.1.committed_is was.now was.now
 
   pub over_undone : IsOver true old → HasEnded old new → IsUndone old new
   over_undone was = ended_undone old new was.committed
@@ -200,13 +195,38 @@ module _ (old new : State) where
   begun_goes_on h = record { was_open = h.1.was_open; is_open = h.1.is_open; mode = h.1.mode; committed = h.1.committed_is }
 
   pub begin_survives : Survives old new (CommitsBy (codes "BEGIN") [] old) → Survives old new (λ _. ⊥)
-  begin_survives h = let s = old.now.schema in survives_weaker old new _ _ (λ _ db. control_commits_nothing (codes "BEGIN") [] old s refl Begin (begin_is s) (begin_plain s) tt db) h
+  begin_survives h = survives_weaker old new _ _ (λ _ db. control_commits_nothing (codes "BEGIN") old Begin begin_text tt db) h
 
   pub rollback_survives : Survives old new (CommitsBy (codes "ROLLBACK") [] old) → Survives old new (λ _. ⊥)
-  rollback_survives h = let s = old.now.schema in survives_weaker old new _ _ (λ _ db. control_commits_nothing (codes "ROLLBACK") [] old s refl Rollback (rollback_is s) (rollback_plain s) tt db) h
+  rollback_survives h = survives_weaker old new _ _ (λ _ db. control_commits_nothing (codes "ROLLBACK") old Rollback rollback_text tt db) h
 
   pub commit_survives : Survives old new (CommitsBy (codes "COMMIT") [] old) → Survives old new (λ db. db ≡ old.now.trees)
-  commit_survives h = let s = old.now.schema in survives_weaker old new _ _ (λ _ db. commit_commits (codes "COMMIT") [] old s refl Commit (commit_is s) refl (commit_plain s) db) h
+  commit_survives h = survives_weaker old new _ _ (λ _ db. commit_commits (codes "COMMIT") old Commit commit_text refl db) h
+
+  -- what their results say
+  pub ran_to : (sql : List ℕ) (P : Type 0) (r : Result (Unit {0}) Error) → RunsTo sql old new r → ((count : ℕ) → Executes sql [] old new (Ok count) → P) → MatchResult r (λ _. P) (λ e. Executes sql [] old new (Err e))
+  ran_to sql P (Ok x) h f = f h.0 h.1
+  ran_to sql P (Err e) h f = h
+
+  pub ran_ok : (sql : List ℕ) (P : Type 0) (r : Result (Unit {0}) Error) → RunsTo sql old new r → ((count : ℕ) → Executes sql [] old new (Ok count) → P) → OnOk r P
+  ran_ok sql P (Ok x) h f = f h.0 h.1
+  ran_ok sql P (Err e) h f = tt
+
+  pub begun_or_refused : (r : Result (Unit {0}) Error) → RunsTo (codes "BEGIN") old new r → IsOver false old → MatchResult r (λ _. IsStill true old new) (λ _. IsRefused false old new)
+  begun_or_refused (Ok x) h was = begun_still (begins h.0 h.1) was
+  begun_or_refused (Err e) h was = error_refused old new (codes "BEGIN") [] e false was h
+
+  pub committed_or_ended : (r : Result (Unit {0}) Error) → RunsTo (codes "COMMIT") old new r → IsTrue old.in_transaction → IfErr r (λ _. HasEnded old new)
+  committed_or_ended (Ok x) h inside = tt
+  committed_or_ended (Err e) h inside = commit_ends e inside h
+
+  pub committed_or_undone : (r : Result (Unit {0}) Error) → RunsTo (codes "COMMIT") old new r → IsOver true old → MatchResult r (λ _. IsOver false new × (new.now ≡ old.now) × (new.committed ≡ old.now)) (λ _. IsUndone old new)
+  committed_or_undone (Ok x) h was = committed_over (commits h.0 h.1) was
+  committed_or_undone (Err e) h was = over_undone was (commit_ends e was.mode h)
+
+  pub rolled_back : (r : Result (Unit {0}) Error) → RunsTo (codes "ROLLBACK") old new r → IsTrue old.in_transaction → HasEnded old new
+  rolled_back (Ok x) h inside = (rolls_back h.0 h.1).1
+  rolled_back (Err e) h inside = rollback_ends e inside h
 
 -- What was begun and goes on, and then ends, has ended.
 pub goes_on_then : (a b c : State) → GoesOn a b → GoesOn b c → GoesOn a c

@@ -36,17 +36,30 @@ pub record IsRead (sql : List ℕ) (q : Query) (names : List (List ℕ)) : Type 
   pub unlisted : reads_listing schema sql ≡ false
   pub reading : FirstIs IsReading (first sql)
 
+-- A question: its text, what is given with it, and what the rows of its answer tell of the tables.
+pub record Asks (A : Type 0) : Type 1 where
+  pub sql : List ℕ
+  pub params : Row
+  pub tells : Tables → List A → Type 0
+
 -- The text is a query, and the rows that it answers over our tables, read as what they say, tell this of them.
-pub record IsQuestion {Q A : Type 0} (said : Row → A) (sql : List ℕ) (params : Q → Row) (tells : Q → Tables → List A → Type 0) : Type 0 where
+pub record IsQuestion {Q A : Type 0} (said : Row → A) (asks : Q → Asks A) : Type 0 where
   pub query : Query
   pub names : List (List ℕ)
-  pub is : IsRead sql query names
-  pub found : (q : Q) (db : Trees) → AreOurs db → (rows : List Row) → IsAnswer query (overlay db []) (params q) rows → tells q (tables_in db) (map said rows)
+  pub is : (q : Q) → IsRead (asks q).sql query names
+  pub found : (q : Q) (db : Trees) → AreOurs db → (rows : List Row) → IsAnswer query (overlay db []) (asks q).params rows → (asks q).tells (tables_in db) (map said rows)
+
+-- A change of rows: its text, what is given with it, what has to hold of the tables before, and what they are after.
+pub record Alters : Type 1 where
+  pub sql : List ℕ
+  pub params : Row
+  pub fits : Tables → Type 0
+  pub after : Tables → Tables
 
 -- The text adds, takes away or alters rows, and what it does over our tables is this change of them.
-pub record IsRowChange {S : Type 0} (g : Ghosts S) (sql : List ℕ) (params : Row) (fits : Tables → Type 0) (after : Tables → Tables) : Type 0 where
+pub record IsRowChange {S : Type 0} (g : Ghosts S) (it : Alters) : Type 0 where
   pub command : Command
-  pub is : command_of (understood schema sql) ≡ command
+  pub is : command_of (understood schema it.sql) ≡ command
   pub writes : IsWrite command
-  pub put : (old new : Held S) (count : ℕ) → IsOver true (state g old) → fits (tables_in (state g old).now.trees) → Executes sql params (state g old) (state g new) (Ok count)
-      → Changes (state g old) (state g new) (after (tables_in (state g old).now.trees))
+  pub put : (old new : Held S) (count : ℕ) → IsOver true (state g old) → it.fits (tables_in (state g old).now.trees) → Executes it.sql it.params (state g old) (state g new) (Ok count)
+      → Changes (state g old) (state g new) (it.after (tables_in (state g old).now.trees))

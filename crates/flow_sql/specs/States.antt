@@ -106,6 +106,11 @@ IsRefusal {S} g e = (old new : Held S) × (sql : List ℕ) × Executes sql [] (s
 abbrev pub RunsTo : List ℕ → State → State → Result (Unit {0}) Error → Type 0
 RunsTo sql old new r = MatchResult r (λ _. (count : ℕ) × Executes sql [] old new (Ok count)) (λ e. Executes sql [] old new (Err e))
 
+-- Three such statements ran, one after another.
+abbrev pub RanThree : {S : Type 0} → Ghosts S → List ℕ → List ℕ → List ℕ → Held S → Held S → Type 0
+RanThree {S} g one two three old new =
+    (b c : Held S) × (k m n : ℕ) × Executes one [] (state g old) (state g b) (Ok k) × Executes two [] (state g b) (state g c) (Ok m) × Executes three [] (state g c) (state g new) (Ok n)
+
 -- What ran was rolled back; where nothing ran nothing was done.
 abbrev pub HasGoneBack : {S : Type 0} → Ghosts S → Held S → Held S → Type 0
 HasGoneBack g old new = (((state g old).in_transaction ≡ false) × (new ≡ old)) ⊎ ((count : ℕ) × Executes (codes "ROLLBACK") [] (state g old) (state g new) (Ok count))
@@ -155,9 +160,3 @@ FirstIs P (Err e) = ⊥
 -- no row follows, and the schema is that after the first three tables
 abbrev pub half_schema : Schema
 half_schema = created (created (created no_schema meta) text) run
-
----- Stops
-
--- Each stop at this moment leaves tables of which P holds.
-abbrev pub LeavesOnly : State → (Tables → Type 0) → Type 0
-LeavesOnly s P = (db : Trees) → s.may_leave db → AreOurs db × P (tables_in db)

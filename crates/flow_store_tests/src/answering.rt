@@ -10,13 +10,13 @@ use std::test::Fail;
 
 /// What is told of an answer.
 #[derive(Clone, Copy, PartialEq, Eq)]
-enum Heard {
+pub enum Heard {
     Replied(Named),
     NotApplied(Code),
     Stopped(Stop),
 }
 
-fn what_was_heard(answer: &Result<Answer, Stop>) -> Heard {
+pub fn what_was_heard(answer: &Result<Answer, Stop>) -> Heard {
     match answer {
         Ok(Answer::Replied(reply)) => Heard::Replied(named_by(reply)),
         Ok(Answer::NotApplied(code)) => Heard::NotApplied(*code),
@@ -53,7 +53,7 @@ fn answered_over<S: Alter + Drop>(
     }
 }
 
-fn is_heard(heard: &Option<Vec<Heard>>, wanted: &[Heard]) -> bool {
+pub fn is_heard(heard: &Option<Vec<Heard>>, wanted: &[Heard]) -> bool {
     match heard {
         Some(heard) => heard.as_slice() == wanted,
         None => false,

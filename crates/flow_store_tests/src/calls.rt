@@ -3,13 +3,13 @@
 //! Whoever owns a keeper, an engine or a connection lets it go at each of its exits, and that is what a proof costs. So the
 //! functions that own one have a single exit each, hand it on where they can, and tests see numbers alone.
 use flow_base::command::{Command, Reply};
-use flow_base::event::{Cmd, Event, What};
+use flow_base::event::{Cmd, Event, State, What};
 use flow_base::number::{EventId, Moment, RunId, TextNo};
 use flow_base::sequence::Sequence;
 use flow_base::text::{Key, RawText};
 use flow_base::value::Value;
 use flow_commit::batch::Batch;
-use flow_machine::taken::{Receipt, Taken};
+use flow_machine::submission::{Receipt, Taken};
 use sqlite::{Alter, Connection};
 use std::alloc::Global;
 
@@ -25,14 +25,20 @@ pub enum Call {
     Start,
     /// Starts another, of another flow.
     StartAnother,
+    /// Starts one more, of a third flow.
+    StartThird,
     /// Reports that the activity of run 1 has completed.
     Complete,
     /// Registers a flow with nothing to do.
     RegisterEmpty,
     /// Starts it.
     StartEmpty,
+    /// Starts it with the same request, under another flow.
+    StartEmptyAgain,
     /// Asks for the history of run 1.
     History,
+    /// Asks for run 1.
+    Describe,
 }
 
 /// What a reply names.
@@ -40,11 +46,15 @@ pub enum Call {
 pub enum Named {
     Text(u64),
     Run(u64),
+    /// The run that the request had started before.
+    Duplicate(u64),
     /// The event under which an input stands.
     Event(u64),
     Code(u8),
     /// So many events, and whether the second of two is an end with an empty text.
     Events(usize, bool),
+    /// So many events of a run, and whether it has completed.
+    Described(usize, bool),
     Other,
 }
 
@@ -82,11 +92,11 @@ fn register_empty(alloc: Global) -> Option<Command> {
     Some(Command::Register(RawText::new(alloc, "workflow e() {}").ok()?))
 }
 
-fn start_empty(alloc: Global) -> Option<Command> {
+fn start_empty(alloc: Global, flow: &str) -> Option<Command> {
     let text = TextNo::new(1)?;
     let at = Moment::new(0)?;
     let request = Key::new(alloc, "q").ok()?;
-    let flow = Key::new(alloc, "f").ok()?;
+    let flow = Key::new(alloc, flow).ok()?;
     let arguments = Sequence::from_vec(Vec::new(alloc));
     Some(Command::Start(request, flow, text, arguments, at))
 }
@@ -95,15 +105,22 @@ fn history() -> Option<Command> {
     Some(Command::History(RunId::new(1)?))
 }
 
+fn describe() -> Option<Command> {
+    Some(Command::Describe(RunId::new(1)?))
+}
+
 pub fn command(alloc: Global, call: Call) -> Option<Command> {
     match call {
         Call::Register => register(alloc),
         Call::Start => start(alloc, "f"),
         Call::StartAnother => start(alloc, "g"),
+        Call::StartThird => start(alloc, "h"),
         Call::Complete => complete(1),
         Call::RegisterEmpty => register_empty(alloc),
-        Call::StartEmpty => start_empty(alloc),
+        Call::StartEmpty => start_empty(alloc, "f"),
+        Call::StartEmptyAgain => start_empty(alloc, "g"),
         Call::History => history(),
+        Call::Describe => describe(),
     }
 }
 
@@ -134,11 +151,13 @@ pub fn named_by(reply: &Reply) -> Named {
     match reply {
         Reply::Registered(text) => Named::Text(text.get()),
         Reply::Started(run) => Named::Run(run.get()),
+        Reply::Duplicate(run) => Named::Duplicate(run.get()),
         Reply::Recorded(_, event) => Named::Event(event.get()),
         Reply::Refused(code) => Named::Code(code.number()),
         Reply::History(events) => {
             Named::Events(events.as_slice().len(), ends_empty(events.as_slice()))
         }
+        Reply::Run(run) => Named::Described(run.events, matches!(&run.state, State::Completed)),
         _ => Named::Other,
     }
 }

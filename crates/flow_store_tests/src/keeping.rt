@@ -3,7 +3,7 @@ use crate::calls::{Call, Named, Told, are_all_kept, batch, is_told, let_go, told
 use flow_commit::batch::Batch;
 use flow_commit::keeper::Keeper;
 use flow_commit::outcome::Outcome;
-use flow_tables::stored::Tables;
+use flow_tables::tables::Tables;
 use flow_view::fault::ViewFault;
 use sqlite::{Alter, Connection, FileStore, Files, Options};
 use sqlite_disk::{Fuse, Memory};

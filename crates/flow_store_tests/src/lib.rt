@@ -4,13 +4,19 @@
 #[cfg(test)]
 mod answering;
 #[cfg(test)]
+mod batches;
+#[cfg(test)]
 mod calls;
 #[cfg(test)]
 mod driving;
 #[cfg(test)]
+mod found;
+#[cfg(test)]
 mod keeping;
 #[cfg(test)]
 mod lines;
+#[cfg(test)]
+mod lists;
 #[cfg(test)]
 mod opening;
 #[cfg(test)]

@@ -1,7 +1,7 @@
 //! Command lines over a store in memory, with ample memory.
+use flow_base::fault::Fault;
 use flow_base::number::RunId;
 use flow_cli::drive::{drive_lines, end_status};
-use flow_cli::fault::Fault;
 use flow_cli::history::history_from;
 use flow_engine::engine::Engine;
 use sqlite::{Connection, MemStore};

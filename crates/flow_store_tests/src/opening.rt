@@ -3,17 +3,16 @@ use crate::calls::{Call, batch, command, let_go};
 use crate::positions::is_waiting;
 use flow_base::code::Code;
 use flow_base::event::Wrong;
+use flow_base::fault::Fault;
 use flow_check::language::Language;
 use flow_commit::batch::Batch;
 use flow_commit::keeper::Keeper;
 use flow_commit::outcome::Outcome;
 use flow_machine::decide::decide;
-use flow_recover::fault::{OpeningFault, RecoverFault};
 use flow_recover::positions::Position;
 use flow_recover::recover::recover;
 use flow_recover::reopen::reopen;
-use flow_tables::open::OpenFault;
-use flow_tables::stored::Tables;
+use flow_tables::tables::Tables;
 use sqlite::{Alter, Connection, MemStore};
 use std::alloc::Global;
 use std::string::ToString;
@@ -47,16 +46,16 @@ fn found_at(list: &[Position]) -> Found {
 }
 
 // The second event of run 1 has another content.
-fn is_mismatch(fault: &OpeningFault) -> bool {
+fn is_mismatch(fault: &Fault) -> bool {
     match fault {
-        OpeningFault::Positions(RecoverFault::Mismatch { run, event, name }) => {
-            run.get() == 1 && *event == 2 && matches!(name, Wrong::OtherContent)
+        Fault::Mismatch { run, place, name } => {
+            run.get() == 1 && *place == 2 && matches!(name, Wrong::OtherContent)
         }
         _ => false,
     }
 }
 
-fn refused(fault: &OpeningFault) -> Found {
+fn refused(fault: &Fault) -> Found {
     if is_mismatch(fault) && fault.code() == Code::Mismatch {
         return Found::Mismatch;
     }
@@ -309,10 +308,10 @@ fn rows_that_tell_no_book_are_refused(rt: HostRuntime) -> Result<(), Fail> {
 
 #[test]
 fn a_refusal_tells_its_number(rt: HostRuntime) -> Result<(), Fail> {
-    let fault = OpeningFault::Tables(OpenFault::BadVersion);
+    let fault = Fault::BadVersion;
     assert!(rt;
         fault.code() == Code::BadVersion
-            && fault.to_string(rt.alloc())?.as_str() == "E82 the tables were refused"
+            && fault.to_string(rt.alloc())?.as_str() == "E82 another format"
     );
     Ok(())
 }

@@ -4,13 +4,13 @@ use flow_base::book::{Change, Run, Turn};
 use flow_base::code::Code;
 use flow_base::command::Command;
 use flow_base::event::{Cmd, Input, State, Wrong};
+use flow_base::fault::Fault;
 use flow_base::number::{Moment, RunId, TextNo};
 use flow_base::sequence::Sequence;
 use flow_base::text::{Key, RawText};
 use flow_base::value::Value;
 use flow_check::language::Language;
 use flow_machine::decide::decide;
-use flow_recover::fault::RecoverFault;
 use flow_recover::positions::{Position, positions};
 use flow_rows::book::WholeBook;
 use flow_view::lists::Lists;
@@ -67,7 +67,7 @@ fn whole(alloc: Global, book: &mut Lists) -> Option<WholeBook> {
     Some(WholeBook { texts, runs })
 }
 
-fn answer(alloc: Global, book: &mut Lists) -> Option<Result<Vec<Position>, RecoverFault>> {
+fn answer(alloc: Global, book: &mut Lists) -> Option<Result<Vec<Position>, Fault>> {
     let whole = whole(alloc, book)?;
     Some(positions(alloc, &Language, &whole))
 }
@@ -103,16 +103,16 @@ fn is_added(alloc: Global, book: &mut Lists, text: u64) -> bool {
 }
 
 // The history of this run lacks its second event.
-fn lacks_its_second_event(fault: &RecoverFault, number: u64) -> bool {
+fn lacks_its_second_event(fault: &Fault, number: u64) -> bool {
     match fault {
-        RecoverFault::Mismatch { run, event, name } => {
-            run.get() == number && *event == 2 && matches!(name, Wrong::MissingEvent)
+        Fault::Mismatch { run, place, name } => {
+            run.get() == number && *place == 2 && matches!(name, Wrong::MissingEvent)
         }
         _ => false,
     }
 }
 
-fn is_unreplayable(answer: &Option<Result<Vec<Position>, RecoverFault>>, number: u64) -> bool {
+fn is_unreplayable(answer: &Option<Result<Vec<Position>, Fault>>, number: u64) -> bool {
     match answer {
         Some(Err(fault)) => {
             lacks_its_second_event(fault, number) && fault.code() == Code::Mismatch
@@ -121,9 +121,9 @@ fn is_unreplayable(answer: &Option<Result<Vec<Position>, RecoverFault>>, number:
     }
 }
 
-fn is_refused(answer: &Option<Result<Vec<Position>, RecoverFault>>) -> bool {
+fn is_refused(answer: &Option<Result<Vec<Position>, Fault>>) -> bool {
     match answer {
-        Some(Err(fault)) => matches!(fault, RecoverFault::StoreRefused),
+        Some(Err(fault)) => matches!(fault, Fault::StoreRefused),
         _ => false,
     }
 }
@@ -181,12 +181,12 @@ fn the_least_run_that_does_not_replay_is_named(rt: HostRuntime) -> Result<(), Fa
 fn a_mismatch_is_told(rt: HostRuntime) -> Result<(), Fail> {
     let alloc = rt.alloc();
     let run = RunId::new(4).ok_or("no run")?;
-    let fault = RecoverFault::Mismatch {
+    let fault = Fault::Mismatch {
         run,
-        event: 2,
+        place: 2,
         name: Wrong::MissingEvent,
     };
-    assert!(rt; fault.to_string(alloc)?.as_str() == "E68 run 4: E52 at 2");
+    assert!(rt; fault.to_string(alloc)?.as_str() == "E68 run 4 doesn't replay: E52 at 2");
     Ok(())
 }
 

@@ -7,8 +7,9 @@ use flow_base::event::{Cmd, Input};
 use flow_base::sequence::Sequence;
 use flow_base::value::Value;
 use flow_tables::ask::change;
-use flow_tables::puts::put_turn;
+use flow_tables::known::any_standing;
 use flow_tables::row_changes::{Mark, TaskGone, TasksGone, TimerGone, TimersGone};
+use flow_tables::turn_changes::put_turn;
 use sqlite::Error;
 use std::alloc::Global;
 use std::test::Fail;
@@ -159,7 +160,7 @@ fn put_whole_turn(alloc: Global, conn: &mut Memory) -> Result<bool, &'static str
     let run = run(2)?;
     let start = Input::Started(Sequence::new(alloc));
     let turn = turn(alloc, start, Cmd::Complete(Value::Int(7)))?;
-    Ok(put_turn(alloc, conn, run, false, 0, &turn).is_ok())
+    Ok(put_turn(alloc, conn, run, &any_standing(false), 0, &turn).is_ok())
 }
 
 #[test]

@@ -4,14 +4,14 @@
 #[cfg(test)]
 mod changes;
 #[cfg(test)]
-mod control;
-#[cfg(test)]
 mod opening;
 #[cfg(test)]
 mod reads;
 #[cfg(test)]
 mod rows;
 #[cfg(test)]
-mod stored;
+mod tables;
+#[cfg(test)]
+mod transaction;
 #[cfg(test)]
 mod whole_changes;

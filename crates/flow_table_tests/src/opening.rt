@@ -1,8 +1,8 @@
 //! Opening over the rows of a small history, and over each table damaged by one statement.
 use flow_base::code::Code;
-use flow_rows::found::{Damage, Table};
+use flow_base::fault::{Damage, Fault, Table};
 use flow_tables::create::create;
-use flow_tables::open::{OpenFault, open};
+use flow_tables::open::open;
 use sqlite::{Connection, Error, MemStore};
 use std::alloc::Global;
 use std::test::Fail;
@@ -23,9 +23,9 @@ fn filled(alloc: Global) -> Result<Connection<MemStore>, Error> {
     Ok(conn)
 }
 
-fn opens(alloc: Global, conn: &mut Connection<MemStore>) -> Result<(), OpenFault> {
+fn opens(alloc: Global, conn: &mut Connection<MemStore>) -> Result<(), Fault> {
     match open(alloc, conn) {
-        Ok(_) => Ok(()),
+        Ok(_book) => Ok(()),
         Err(fault) => Err(fault),
     }
 }
@@ -39,14 +39,14 @@ fn book_opened(alloc: Global, conn: &mut Connection<MemStore>) -> Option<(usize,
 }
 
 /// What opening answers after a change of the rows.
-fn opened_after(alloc: Global, change: &str) -> Result<Result<(), OpenFault>, Error> {
+fn opened_after(alloc: Global, change: &str) -> Result<Result<(), Fault>, Error> {
     let mut conn = filled(alloc)?;
     conn.execute_batch(change)?;
     Ok(opens(alloc, &mut conn))
 }
 
-fn damaged(table: Table, run: i64, place: i64, cause: Option<Code>) -> Result<(), OpenFault> {
-    Err(OpenFault::Damaged(Damage {
+fn damaged(table: Table, run: i64, place: i64, cause: Option<Code>) -> Result<(), Fault> {
+    Err(Fault::Damaged(Damage {
         table,
         run,
         place,
@@ -114,7 +114,7 @@ fn a_missing_task(rt: HostRuntime) -> Result<(), Fail> {
 #[test]
 fn a_missing_table(rt: HostRuntime) -> Result<(), Fail> {
     let answer = opened_after(rt.alloc(), "DROP TABLE outbox")?;
-    assert_eq!(rt; answer, Err(OpenFault::NotOurs));
+    assert_eq!(rt; answer, Err(Fault::NotOurs));
     Ok(())
 }
 
@@ -133,9 +133,9 @@ fn a_table_of_others_stays(rt: HostRuntime) -> Result<(), Fail> {
 
 #[test]
 fn each_refusal_has_its_number(rt: HostRuntime) -> Result<(), Fail> {
-    assert_eq!(rt; OpenFault::StoreRefused.code().number(), 80);
-    assert_eq!(rt; OpenFault::NotOurs.code().number(), 81);
-    assert_eq!(rt; OpenFault::BadVersion.code().number(), 82);
+    assert_eq!(rt; Fault::StoreRefused.code().number(), 80);
+    assert_eq!(rt; Fault::NotOurs.code().number(), 81);
+    assert_eq!(rt; Fault::BadVersion.code().number(), 82);
     let answer = opened_after(rt.alloc(), "DELETE FROM outbox")?;
     assert!(rt; matches!(answer, Err(fault) if fault.code() == Code::Damaged));
     Ok(())

@@ -6,9 +6,9 @@ use flow_base::sequence::Sequence;
 use flow_base::text::RawText;
 use flow_rows::rows::{EventRow, OutboxRow, RunRow, TextRow, TimerRow};
 use flow_tables::ask::change;
-use flow_tables::control::begin;
 use flow_tables::create::create;
 use flow_tables::row_changes::{NewEvent, NewRun, NewTask, NewText, NewTimer};
+use flow_tables::transaction::begin;
 use sqlite::{Connection, Error, MemStore};
 use std::alloc::Global;
 

@@ -6,6 +6,7 @@ pub mod Owning
 pub mod Wholes
 pub mod Causes
 pub mod Reasons
+pub mod Knowing
 pub mod Succession
 pub mod Opened
 pub mod OpenTables

@@ -1,5 +1,5 @@
 -- What opening finds, and why it is refused.
-use Rattle.std.proofs.Common.{◌≡◌, ◌≢◌, inl, inr, ℤ, pos, negsuc, List, [], map, Bool, true, false, if◌then◌else◌, nat_eq, None, Ok, Err, Result, OnOk, IfErr, refl, sym, ap, subst, ◌∙◌}
+use Rattle.std.proofs.Common.{◌≡◌, ◌≢◌, ◌⊎◌, inl, inr, ℤ, pos, negsuc, List, [], map, Bool, true, false, if◌then◌else◌, nat_eq, None, Ok, Err, Result, OnOk, IfErr, refl, sym, ap, subst, ◌∙◌}
 use Rattle.std.specs.Prelude.{IfOk}
 use Rattle.sqlite.specs.declared.error.ErrorCode.{ErrorCode}
 use Rattle.sqlite.specs.declared.error.ErrorCode.TheVariants as code
@@ -7,7 +7,7 @@ use Rattle.sqlite.specs.declared.error.Error.{Error}
 use Rattle.sqlite.specs.declared.error.Error.TheVariants.{SqliteFailure}
 use Rattle.sqlite_trees.specs.declared.store.Store.{Ghosts}
 use Rattle.sqlite_trees.specs.declared.error.StoreError.{StoreError}
-use Rattle.sqlite_trees.specs.declared.error.StoreError.TheVariants.{OutOfMemory, Io, Corrupt, Full, Broken, Unstorable}
+use Rattle.sqlite_trees.specs.declared.error.StoreError.TheVariants.{OutOfMemory}
 use Rattle.sqlite.specs.State.{State, Fails, QueriesRow, store_error}
 use Rattle.sqlite.specs.declared.types.Value.{Value}
 use Rattle.sqlite.specs.declared.types.Value.TheVariants.{Int}
@@ -16,8 +16,8 @@ use Rattle.sqlite_value.specs.Order.{column}
 use Rattle.flow_base.specs.declared.book.Run.{Run}
 use Rattle.flow_rows.specs.Rows.{Tables, run_at, of_run, event_row, timer_row, timers_left, task_row}
 use Rattle.flow_rows.specs.Told.{Tells}
-use Rattle.flow_tables.specs.declared.open.OpenFault.{OpenFault}
-use Rattle.flow_tables.specs.declared.open.OpenFault.TheVariants.{NoMemory, StoreRefused, NotOurs, BadVersion, Damaged}
+use Rattle.flow_base.specs.declared.fault.Fault.{Fault}
+use Rattle.flow_base.specs.declared.fault.Fault.TheVariants.{NoMemory, StoreRefused, NotOurs, BadVersion, Damaged}
 use Rattle.flow_tables.specs.declared.fault.StoreFault.{StoreFault}
 use Rattle.flow_tables.specs.declared.fault.StoreFault.TheVariants as read
 use Rattle.flow_sql.specs.Layout.{format_sql}
@@ -29,17 +29,12 @@ use Rattle.flow_sql.proofs.Finding.{read_leaves, format_answer, at_rest}
 use Rattle.flow_check.specs.Language.{is_program}
 use Rattle.flow_model.specs.Book.{Book}
 use Rattle.flow_rows.proofs.Laws.{book_undamaged}
-use Rattle.flow_tables.specs.Opening.{opening_fault, read_fault_of, empty_book, IsOfStore, IsFirstDamage, StandFor, IsMet, HasCause}
+use Rattle.flow_tables.specs.Opening.{opening_fault, read_fault_of, empty_book, IsOfStore, IsOfOpening, IsOfRows, IsFirstDamage, StandFor, IsMet, HasCause}
 
 ---- The faults of the store
 
 code_of_store : (c : ErrorCode) → IsOfStore (opening_fault (SqliteFailure c))
 code_of_store code.OutOfMemory = tt
-code_of_store code.SystemIoFailure = tt
-code_of_store code.DatabaseCorrupt = tt
-code_of_store code.DiskFull = tt
-code_of_store code.TooBig = tt
-code_of_store code.Closed = tt
 code_of_store _ = tt
 
 pub of_store : (e : Error) → IsOfStore (opening_fault e)
@@ -49,20 +44,15 @@ of_store _ = tt
 pub caused : {S : Type 0} (g : Ghosts S) (e : Error) → IsMet g e → HasCause g (opening_fault e)
 caused g e met = by_fault (opening_fault e) refl
   where
-    by_fault : (f : OpenFault) → opening_fault e ≡ f → HasCause g f
+    by_fault : (f : Fault) → opening_fault e ≡ f → HasCause g f
     by_fault NoMemory is = tt
     by_fault StoreRefused is = inr (e, met, is)
     by_fault NotOurs is = (e, met, is)
-    by_fault BadVersion is = tt
-    by_fault (Damaged d) is = tt
+    by_fault _ is = tt
 
 told_otherwise : (c : StoreError) → opening_fault (store_error c) ≢ NotOurs
 told_otherwise OutOfMemory is = let e = is in cc
-told_otherwise Io is = let e = is in cc
-told_otherwise Corrupt is = let e = is in cc
-told_otherwise Full is = let e = is in cc
-told_otherwise Broken is = let e = is in cc
-told_otherwise Unstorable is = let e = is in cc
+told_otherwise _ is = let e = is in cc
 
 -- what is told as E81 is no failure of the store
 pub no_failure : (old new : State) (e : Error) → opening_fault e ≡ NotOurs → (x : Error) → e ≡ x → ¬ Fails old new ⊥ x
@@ -104,7 +94,7 @@ pub if_err : {T E : Type 0} (P Q : E → Type 0) (r : Result T E) → ((e : E) �
 if_err P Q (Ok x) f h = tt
 if_err P Q (Err e) f h = f e h
 
-pub same_fault : {T : Type 0} {a b : OpenFault} → ◌≡◌ {A = Result T OpenFault} (Err a) (Err b) → a ≡ b
+pub same_fault : {T : Type 0} {a b : Fault} → ◌≡◌ {A = Result T Fault} (Err a) (Err b) → a ≡ b
 same_fault e = cc
 
 pub any_ok : {T E A : Type 0} (r : Result T E) → A → OnOk r A
@@ -119,31 +109,47 @@ pub both_err : {T E : Type 0} (P Q : E → Type 0) (r : Result T E) → IfErr r 
 both_err P Q (Ok x) p q = tt
 both_err P Q (Err e) p q = (p, q)
 
-pub never_told : {T : Type 0} (b : OpenFault) (r : Result T OpenFault) → IfErr r (λ f. f ≢ b) → r ≢ Err b
+pub never_told : {T : Type 0} (b : Fault) (r : Result T Fault) → IfErr r (λ f. f ≢ b) → r ≢ Err b
 never_told b (Ok x) h is = let e = is in cc
 never_told b (Err f) h is = h (same_fault is)
 
-pub not_version : (f : OpenFault) → IsOfStore f → f ≢ BadVersion
+pub not_version : (f : Fault) → IsOfStore f → f ≢ BadVersion
 not_version f of is = subst IsOfStore is of
 
 ---- Damages
 
+-- what the store refuses is told by opening
+pub store_among : (f : Fault) → IsOfStore f → IsOfOpening f
+store_among NoMemory of = tt
+store_among StoreRefused of = tt
+store_among NotOurs of = tt
+store_among _ of = absurd of
+
+pub format_among : (f : Fault) → (f ≡ BadVersion) ⊎ IsOfStore f → IsOfOpening f
+format_among f (inl other) = subst IsOfOpening (sym other) tt
+format_among f (inr of) = store_among f of
+
+-- an error of the store, too, of whichever kind
+pub read_among : (f : StoreFault) → IsOfOpening (read_fault_of f)
+read_among read.NoMemory = tt
+read_among (read.Refused e) = store_among (opening_fault e) (of_store e)
+
 -- what the store refuses is no damage
-pub harmless : (t : Tables) (f : OpenFault) → IsOfStore f → IsFirstDamage t f
+pub harmless : (t : Tables) (f : Fault) → IsOfStore f → IsFirstDamage t f
 harmless t NoMemory of = tt
 harmless t StoreRefused of = tt
 harmless t NotOurs of = tt
-harmless t BadVersion of = tt
-harmless t (Damaged d) of = absurd of
+harmless t _ of = absurd of
 
 -- tables that stand for a book have none
-pub undamaged : (t : Tables) (b : Book) → StandFor t b → (f : OpenFault) → f ≢ BadVersion → IsFirstDamage t f → IsOfStore f
-undamaged t b stand NoMemory other first = tt
-undamaged t b stand StoreRefused other first = tt
-undamaged t b stand NotOurs other first = tt
-undamaged t b stand BadVersion other first = other refl
-undamaged t b stand (Damaged d) other first =
+pub undamaged : (t : Tables) (b : Book) → StandFor t b → (f : Fault) → IsOfOpening f → f ≢ BadVersion → IsFirstDamage t f → IsOfStore f
+undamaged t b stand NoMemory among other first = tt
+undamaged t b stand StoreRefused among other first = tt
+undamaged t b stand NotOurs among other first = tt
+undamaged t b stand BadVersion among other first = other refl
+undamaged t b stand (Damaged d) among other first =
     absurd (let some = first.2 in let none = book_undamaged is_program first.0 b stand.texts stand.runs (first.1 ∙ stand.same) in cc)
+undamaged t b stand _ among other first = absurd among
 
 ---- One call after another
 
@@ -151,6 +157,9 @@ pub rests_on : (a b c : State) → HasEnded a b → (IsAtRest b → HasEnded b c
 rests_on a b c one two = ends_again a b c one (two (at_rest a b one))
 
 ---- No tables
+
+pub empty_of_rows : (b : Book) → b ≡ empty_book → IsOfRows b
+empty_of_rows b is = subst IsOfRows (sym is) (record { texts = tt; runs = tt; same = refl })
 
 none_there : {A : Type 0} (f : Run → List A) (z : ℤ) → [] ≡ of_run (run_at empty_book z) f
 none_there f (pos n) = either (nat_eq n 0)

@@ -13,7 +13,9 @@ use Rattle.flow_rows.specs.Typed.{IsTypedChange}
 use Rattle.flow_rows.specs.Told.{Tells, after_change, FitsTables}
 use Rattle.flow_rows.proofs.Telling.{told}
 use Rattle.flow_rows.proofs.WholeChanges.{change_told}
-use Rattle.flow_tables.specs.Owned.{IsOwn, IsSure, Keeps, KeepsOn, WasUp, ReadsBook, TellBook, IsNoted, book_of}
+use Rattle.flow_tables.specs.declared.known.Known.{Known}
+use Rattle.flow_tables.specs.Known.{IsKnown}
+use Rattle.flow_tables.specs.Owned.{IsAware, IsOwn, IsSure, Keeps, KeepsOn, WasUp, ReadsBook, TellBook, IsNoted, book_of}
 use Rattle.flow_sql.specs.Stored.{tables_in}
 use Rattle.flow_sql.specs.States.{AreOurs, HasTables, IsOver, Holds, IsStill, IsRefused, IsUndone, HasBegun, HasCommitted, HasEnded, Changes}
 use Rattle.flow_tables.specs.Puts.{IsCutShort}
@@ -224,20 +226,29 @@ module _ (old new : State) (ours : Type 0) (ro rn : Option Refusal) (owned : our
         go (Ok v) h = λ sure. let it = h sure.fit sure.clean in (ap (λ (d : Database). book_of d.trees) it.0.1, it.1)
         go (Err f) h = tt
 
-  pub follows_on : (a : State) → (Holds true old → Survives old new (λ _. ⊥)) → (ours → HasCleanDisk new → LeavesCommit old new) → KeepsOn ours a old → WasUp ours a old → KeepsOn ours a new × WasUp ours a new
+  -- what is known is known on, where nothing was changed
+  module _ {A : Type 0} (result : Result A ViewFault) (value : Book → A) (reads : HasCleanDisk new → ReadsBook old new result value) (noted : IsNoted noted_fault result ro rn) where
+    pub read_aware : (k : Known) → (ours → HasCleanDisk old → IsAware old ro k) → ours → HasCleanDisk new → IsAware new rn k
+    read_aware k aware fit now = go result (told_at result value reads noted fit now) noted
+      where
+        go : (r : Result A ViewFault) → MatchResult r (λ v. IsStill true old new × (v ≡ value (book_of old.now.trees))) (λ _. IsRefused true old new) → IsNoted noted_fault r ro rn → IsAware new rn k
+        go (Ok v) h n = λ _ _. subst (λ (d : Database). IsKnown k (tables_in d.trees)) (sym h.0.1) (aware fit (clean now) none inside)
+        go (Err f) h n = λ same _. absurd (let clash = sym n ∙ same in cc)
+
+  pub follows_on : (a : State) → (ours → Holds true old → Survives old new (λ _. ⊥)) → (ours → HasCleanDisk new → LeavesCommit old new) → KeepsOn ours a old → WasUp ours a old → KeepsOn ours a new × WasUp ours a new
   follows_on a survives leaves before up = (
     λ fit now.
-        let on = keeps_on old new ours (λ fit. survives (holds fit)) leaves fit now in
+        let on = keeps_on old new ours (λ fit. survives fit (holds fit)) leaves fit now in
         let was = before fit on.0 in
         (was.0, λ b h. on.1 b (was.1 b h)),
     λ fit now shown. up fit (clean now) ((leaves fit now).was_open shown),
   )
 
-  module _ (result : Result Unit Refusal) (c : Change)
-      (put : (b : Book) → Tells (tables_in old.now.trees) b → Holds true old → HasCleanDisk new
+  module _ (result : Result Unit Refusal) (c : Change) (k : Known) (aware : ours → HasCleanDisk old → IsAware old ro k)
+      (put : (b : Book) → Tells (tables_in old.now.trees) b → IsKnown k (tables_in old.now.trees) → Holds true old → HasCleanDisk new
       → MatchResult result (λ _. FitsTables b c × Changes old new (after_change c (tables_in old.now.trees))) (λ _. IsCutShort old new)) (noted : IsNoted (λ x. x) result ro rn) where
     put_at : ours → (now : HasCleanDisk new) → MatchResult result (λ _. FitsTables (book_of old.now.trees) c × Changes old new (after_change c (tables_in old.now.trees))) (λ _. IsCutShort old new)
-    put_at fit now = put (book_of old.now.trees) ((owned fit (clean now)).whole inside none).1 (holds fit) now
+    put_at fit now = put (book_of old.now.trees) ((owned fit (clean now)).whole inside none).1 (aware fit (clean now) none inside) (holds fit) now
 
     pub put_own : IsTypedChange c → ours → HasCleanDisk new → IsOwn new rn
     put_own typed fit now = go result (put_at fit now) noted

@@ -17,17 +17,17 @@ use Rattle.flow_rows.specs.Finding.{first}
 use Rattle.flow_tables.specs.declared.fault.StoreFault.{StoreFault}
 use Rattle.flow_tables.specs.declared.fault.StoreFault.TheVariants.{NoMemory, Refused}
 use Rattle.flow_tables.specs.Asking.{IsAsked, IsFirst, IsValue, IsRecalled, IsChanged}
-use Rattle.flow_sql.specs.Meaning.{IsRead, IsQuestion, IsRowChange}
+use Rattle.flow_sql.specs.Meaning.{IsRead, Asks, IsQuestion, Alters, IsRowChange}
 use Rattle.flow_rows.specs.Told.{Tells as TellsBook}
 use Rattle.flow_sql.specs.Stored.{tables_in}
 use Rattle.flow_tables.specs.Faults.{view_fault, IsStopped}
 use Rattle.flow_sql.specs.States.{IsOver, Changes, IsStill, IsRefused, HasEnded, IsAtRest, FirstIs, IsReading}
 use Rattle.flow_tables.specs.Reads.{Tells, IsReadFault}
 use Rattle.flow_sql.proofs.Leaves.{was_clean, error_refused, left_refused, rest_ended}
-use Rattle.flow_sql.proofs.Within.{write_survives}
+use Rattle.flow_sql.proofs.Transactions.{write_survives}
 use Rattle.flow_tables.proofs.Wholes.{read_stopped}
 use Rattle.flow_sql.proofs.Reading.{answer, still}
-use Rattle.flow_sql.proofs.AnyFile.{commits_none, failed, answered}
+use Rattle.flow_sql.proofs.Compiling.{commits_none, failed, answered}
 
 ---- What a read leaves, over any file
 
@@ -60,17 +60,17 @@ module _ (sql : List ℕ) (q : Query) (names : List (List ℕ)) (it : IsRead sql
       (λ v h. (still sql q names it params old new inside over h.0 h.1, subst P (sym h.2) (found h.0 (answer sql q names it params old new over.now h.0 h.1))))
       (λ f h. left_refused old new inside over (fault_leaves sql it.reading params old new f h))
 
-module _ {Q A : Type 0} (said : Row → A) (sql : List ℕ) (params : Q → Row) (tells : Q → Tables → List A → Type 0) (it : IsQuestion said sql params tells) (q : Q) (old new : State) where
-  pub asked : {V : Type 0} (items : V → List A) (r : Result V StoreFault) → (HasCleanDisk new → IfOk r (λ v. Tells said sql (params q) old new (items v)))
-      → (HasCleanDisk new → IfErr r (IsReadFault sql (params q) old new)) → Survives old new (CommitsShowing sql (params q) old) → IsAsked sql (params q) old new r (λ t v. tells q t (items v))
+module _ {Q A : Type 0} (said : Row → A) (asks : Q → Asks A) (it : IsQuestion said asks) (q : Q) (old new : State) where
+  pub asked : {V : Type 0} (items : V → List A) (r : Result V StoreFault) → (HasCleanDisk new → IfOk r (λ v. Tells said (asks q).sql (asks q).params old new (items v)))
+      → (HasCleanDisk new → IfErr r (IsReadFault (asks q).sql (asks q).params old new)) → Survives old new (CommitsShowing (asks q).sql (asks q).params old) → IsAsked (asks q).sql (asks q).params old new r (λ t v. (asks q).tells t (items v))
   asked items r ok err h = record {
     reads = λ inside was clean.
         let over = was (was_clean old new _ h clean) in
-        reads_what sql it.query it.names it.is (params q) old new inside over said items (tells q (tables_in old.now.trees)) (λ rows a. it.found q old.now.trees over.now.ours rows a) r (ok clean) (err clean);
+        reads_what (asks q).sql it.query it.names (it.is q) (asks q).params old new inside over said items ((asks q).tells (tables_in old.now.trees)) (λ rows a. it.found q old.now.trees over.now.ours rows a) r (ok clean) (err clean);
     clean = λ clean. was_clean old new _ h clean;
     cause = err;
-    ended = λ clean rest. read_rests sql it.is.reading (params q) old new said items r (ok clean) (err clean) rest;
-    survives = commits_none sql it.is.reading (params q) old new h;
+    ended = λ clean rest. read_rests (asks q).sql (it.is q).reading (asks q).params old new said items r (ok clean) (err clean) rest;
+    survives = commits_none (asks q).sql (it.is q).reading (asks q).params old new h;
   }
 
 module _ {A V : Type 0} (sql : List ℕ) (params : Row) (tells : Tables → List A → Type 0) (old new : State) (items : V → List A) where
@@ -121,23 +121,23 @@ IsUncounted (Ok count) (Ok done) = Unit {0}
 IsUncounted (Err f) (Err e) = f ≡ e
 IsUncounted _ _ = ⊥
 
-module _ {S : Type 0} (g : Ghosts S) (sql : List ℕ) (params : Row) (old new : Held S) (fits : Tables → Type 0) (after : Tables → Tables) (it : IsRowChange g sql params fits after) (h : Survives (state g old) (state g new) (CommitsBy sql params (state g old))) where
-  pub changed : (r : Result ℕ Error) → (HasCleanDisk (state g new) → Executes sql params (state g old) (state g new) r) → (x : Result Unit Error) → IsUncounted r x → IsChanged sql params (state g old) (state g new) x fits after
+module _ {S : Type 0} (g : Ghosts S) (does : Alters) (old new : Held S) (it : IsRowChange g does) (h : Survives (state g old) (state g new) (CommitsBy does.sql does.params (state g old))) where
+  pub changed : (r : Result ℕ Error) → (HasCleanDisk (state g new) → Executes does.sql does.params (state g old) (state g new) r) → (x : Result Unit Error) → IsUncounted r x → IsChanged does.sql does.params (state g old) (state g new) x does.fits does.after
   changed r ran x same = record {
     put = λ was fits clean. put (was (was_clean (state g old) (state g new) _ h clean)) fits r (ran clean) x same;
     clean = λ clean. was_clean (state g old) (state g new) _ h clean;
     cause = λ clean. cause r (ran clean) x same;
-    survives = λ was. write_survives sql it.command it.is it.writes (state g old) (state g new) params was h;
+    survives = λ was. write_survives does.sql it.command it.is it.writes (state g old) (state g new) does.params was h;
   }
     where
-      put : IsOver true (state g old) → fits (tables_in (state g old).now.trees) → (r : Result ℕ Error) → Executes sql params (state g old) (state g new) r → (x : Result Unit Error) → IsUncounted r x
-          → MatchResult x (λ _. Changes (state g old) (state g new) (after (tables_in (state g old).now.trees))) (λ _. IsRefused true (state g old) (state g new))
+      put : IsOver true (state g old) → does.fits (tables_in (state g old).now.trees) → (r : Result ℕ Error) → Executes does.sql does.params (state g old) (state g new) r → (x : Result Unit Error) → IsUncounted r x
+          → MatchResult x (λ _. Changes (state g old) (state g new) (does.after (tables_in (state g old).now.trees))) (λ _. IsRefused true (state g old) (state g new))
       put was fits (Ok count) ran (Ok done) same = it.put old new count was fits ran
       put was fits (Ok count) ran (Err e) same = absurd same
       put was fits (Err f) ran (Ok done) same = absurd same
-      put was fits (Err f) ran (Err e) same = error_refused (state g old) (state g new) sql params e true was (subst (λ k. Executes sql params (state g old) (state g new) (Err k)) same ran)
+      put was fits (Err f) ran (Err e) same = error_refused (state g old) (state g new) does.sql does.params e true was (subst (λ k. Executes does.sql does.params (state g old) (state g new) (Err k)) same ran)
 
-      cause : (r : Result ℕ Error) → Executes sql params (state g old) (state g new) r → (x : Result Unit Error) → IsUncounted r x → IfErr x (λ e. Executes sql params (state g old) (state g new) (Err e))
+      cause : (r : Result ℕ Error) → Executes does.sql does.params (state g old) (state g new) r → (x : Result Unit Error) → IsUncounted r x → IfErr x (λ e. Executes does.sql does.params (state g old) (state g new) (Err e))
       cause r ran (Ok done) same = tt
       cause (Ok count) ran (Err e) same = absurd same
-      cause (Err f) ran (Err e) same = subst (λ k. Executes sql params (state g old) (state g new) (Err k)) same ran
+      cause (Err f) ran (Err e) same = subst (λ k. Executes does.sql does.params (state g old) (state g new) (Err k)) same ran

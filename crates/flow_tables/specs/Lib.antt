@@ -7,5 +7,6 @@ pub mod Opening
 pub mod Faults
 pub mod Reads
 pub mod Puts
+pub mod Known
 pub mod Owned
 pub mod Asking

@@ -11,8 +11,8 @@ use Rattle.sqlite_value.specs.Order.{column}
 use Rattle.sqlite_trees.specs.declared.store.Store.{Ghosts}
 use Rattle.sqlite.specs.Held.{Held, state}
 use Rattle.sqlite.specs.State.{State, Executes, QueriesRow}
-use Rattle.flow_base.specs.declared.code.Code.{Code}
-use Rattle.flow_base.specs.declared.code.Code.TheVariants as number
+use Rattle.flow_base.specs.declared.fault.Fault.{Fault}
+use Rattle.flow_base.specs.declared.fault.Fault.TheVariants.{NoMemory, StoreRefused, NotOurs, BadVersion, Damaged}
 use Rattle.flow_check.specs.Language.{is_program}
 use Rattle.flow_model.specs.Book.{Book}
 use Rattle.flow_rows.specs.declared.rows.StoreRows.{StoreRows}
@@ -21,8 +21,6 @@ use Rattle.flow_rows.specs.Damages.{first_damage}
 use Rattle.flow_rows.specs.Standing.{AreKept}
 use Rattle.flow_tables.specs.declared.fault.StoreFault.{StoreFault}
 use Rattle.flow_tables.specs.declared.fault.StoreFault.TheVariants as read
-use Rattle.flow_tables.specs.declared.open.OpenFault.{OpenFault}
-use Rattle.flow_tables.specs.declared.open.OpenFault.TheVariants.{NoMemory, StoreRefused, NotOurs, BadVersion, Damaged}
 use Rattle.flow_sql.specs.Layout.{format_sql}
 use Rattle.flow_sql.specs.States.{HasEnded}
 use Rattle.flow_tables.specs.Reads.{IsReadFault}
@@ -36,7 +34,7 @@ HasOtherFormat {S} g new = (old : Held S) × (row : Row) × (n : ℤ) × Queries
 ---- How an error of the store is told
 
 -- E80 for memory, disk and size, E81 for all else; the want of memory by itself
-abbrev pub opening_fault : Error → OpenFault
+abbrev pub opening_fault : Error → Fault
 opening_fault (SqliteFailure code.OutOfMemory) = NoMemory
 opening_fault (SqliteFailure code.SystemIoFailure) = StoreRefused
 opening_fault (SqliteFailure code.DatabaseCorrupt) = StoreRefused
@@ -45,16 +43,9 @@ opening_fault (SqliteFailure code.TooBig) = StoreRefused
 opening_fault (SqliteFailure code.Closed) = StoreRefused
 opening_fault _ = NotOurs
 
-abbrev pub read_fault_of : StoreFault → OpenFault
+abbrev pub read_fault_of : StoreFault → Fault
 read_fault_of read.NoMemory = NoMemory
 read_fault_of (read.Refused e) = opening_fault e
-
-abbrev pub open_fault_code : OpenFault → Code
-open_fault_code NoMemory = number.NoMemory
-open_fault_code StoreRefused = number.StoreRefused
-open_fault_code NotOurs = number.NotOurs
-open_fault_code BadVersion = number.BadVersion
-open_fault_code (Damaged d) = number.Damaged
 
 -- What reading the format answers where it is our number, or else where there is no such table.
 abbrev pub IsAnswered : Bool → State → State → Type 0
@@ -76,16 +67,30 @@ pub record StandFor (t : Tables) (b : Book) : Type 0 where
   pub runs : AreKept (length b.texts) [] b.runs
   pub same : t ≡ rows_of b
 
+-- Its own rows stand for a book: its texts are programs, and its runs keep the rules.
+abbrev pub IsOfRows : Book → Type 0
+IsOfRows b = StandFor (rows_of b) b
+
 -- A damage that is told is the first one.
-abbrev pub IsFirstDamage : Tables → OpenFault → Type 0
+abbrev pub IsFirstDamage : Tables → Fault → Type 0
 IsFirstDamage t (Damaged d) = (rows : StoreRows) × (by_run rows ≡ t) × (first_damage is_program rows ≡ Some d)
 IsFirstDamage t _ = ⊤
 
 -- The rows and the format are as they should be.
-abbrev pub IsOfStore : OpenFault → Type 0
-IsOfStore BadVersion = ⊥
-IsOfStore (Damaged d) = ⊥
-IsOfStore _ = ⊤
+abbrev pub IsOfStore : Fault → Type 0
+IsOfStore NoMemory = ⊤
+IsOfStore StoreRefused = ⊤
+IsOfStore NotOurs = ⊤
+IsOfStore _ = ⊥
+
+-- What opening tells at all: E01, E80 to E83.
+abbrev pub IsOfOpening : Fault → Type 0
+IsOfOpening NoMemory = ⊤
+IsOfOpening StoreRefused = ⊤
+IsOfOpening NotOurs = ⊤
+IsOfOpening BadVersion = ⊤
+IsOfOpening (Damaged d) = ⊤
+IsOfOpening _ = ⊥
 
 ---- Why it is refused
 
@@ -103,7 +108,7 @@ abbrev pub GoesOnRunning : {S : Type 0} → Ghosts S → Type 0
 GoesOnRunning {S} g = (old new : Held S) × (e : Error) × Executes (codes "ROLLBACK") [] (state g old) (state g new) (Err e)
 
 -- The other faults have clauses of their own, and want of memory none.
-abbrev pub HasCause : {S : Type 0} → Ghosts S → OpenFault → Type 0
+abbrev pub HasCause : {S : Type 0} → Ghosts S → Fault → Type 0
 HasCause g StoreRefused = GoesOnRunning g ⊎ ((e : Error) × IsMet g e × (opening_fault e ≡ StoreRefused))
 HasCause g NotOurs = (e : Error) × IsMet g e × (opening_fault e ≡ NotOurs)
 HasCause g _ = ⊤

@@ -12,6 +12,8 @@ use Rattle.flow_view.specs.declared.fault.ViewFault.TheVariants as fault
 use Rattle.flow_tables.specs.declared.fault.Refusal.{Refusal}
 use Rattle.flow_tables.specs.declared.fault.Refusal.TheVariants as refusal
 use Rattle.flow_tables.specs.contracts.fault.Refusal as refusal_row
+use Rattle.flow_tables.specs.declared.known.Known.{Known}
+use Rattle.flow_tables.specs.Known.{IsKnown}
 use Rattle.flow_tables.specs.Faults.{IsStopped}
 use Rattle.flow_rows.specs.declared.rows.RunRow.{RunRow}
 use Rattle.flow_rows.specs.Rows.{run_row}
@@ -90,6 +92,10 @@ is_sure g t = IsSure (IsOurs (state g t.opened)) (state g t.held) t.refused
 abbrev pub IsWhy : {S : Type 0} → Ghosts S → State → Option Refusal → Type 0
 IsWhy g s (Some refusal.Stopped) = IsStopped g s
 IsWhy g s _ = Unit {0}
+
+-- What is known of the rows is true, where the transaction shows a book.
+abbrev pub IsAware : State → Option Refusal → Known → Type 0
+IsAware s refused known = refused ≡ None → s.in_transaction ≡ true → IsKnown known (tables_in s.now.trees)
 
 -- The store stopped the transaction; or a change was put that doesn't fit, as `put_change` says; or none runs.
 abbrev pub RefusesSo : {S : Type 0} → Ghosts S → Type 0 → State → Option Refusal → Type 0

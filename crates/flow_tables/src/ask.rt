@@ -1,7 +1,6 @@
 //! Questions to the tables and changes of their rows, each one statement. One that is refused has changed nothing, or the
 //! transaction has ended.
-ghost use Rattle.std.specs.Prelude.{◌≡◌, ℕ, List, IfOk, IfErr};
-ghost use Rattle.sqlite.specs.Order.{Row as SqlRow};
+ghost use Rattle.std.specs.Prelude.{IfOk, IfErr};
 ghost use Rattle.sqlite.specs.State.{HasCleanDisk, Survives, CommitsShowing, CommitsBy, Shown, FailsToQuery, Executes};
 ghost use Rattle.sqlite.specs.Held.{state};
 ghost use Rattle.flow_model.specs.Book.{Book};
@@ -9,7 +8,7 @@ ghost use Rattle.flow_rows.specs.Rows.{Tables};
 ghost use Rattle.flow_rows.specs.Told.{Tells as TellsBook};
 ghost use Rattle.flow_tables.specs.Reads.{Tells, IsReadFault};
 ghost use Rattle.flow_tables.specs.Asking.{IsAsked, IsFirst, IsValue, IsRecalled, IsChanged};
-ghost use Rattle.flow_sql.specs.Meaning.{IsQuestion, IsRowChange};
+ghost use Rattle.flow_sql.specs.Meaning.{Asks, IsQuestion, Alters, IsRowChange};
 
 use crate::fault::{StoreFault, view_fault};
 use crate::questions::first_of;
@@ -23,19 +22,14 @@ pub trait Question: Sized {
     /// What a row of the answer says.
     type Item: Said + Drop;
 
-    ghost sql: { List ℕ };
-
-    ghost params: { Self → SqlRow };
-
-    /// What the rows of the answer tell of the tables.
-    ghost tells: { Self → Tables → List Self.Item → Type 0 };
+    ghost asks: { Self → Asks Self.Item };
 
     fn send<S: Alter>(&self, conn: &mut Connection<S>) -> Result<Vec<Row>, Error>
-        ensures ok { HasCleanDisk (state S.Store conn.new) → IfOk result (λ rows. Shown sql (params self.now) (state S.Store conn.old) (state S.Store conn.new) rows.items) }
-        ensures err { HasCleanDisk (state S.Store conn.new) → IfErr result (FailsToQuery sql (params self.now) (state S.Store conn.old) (state S.Store conn.new)) }
-        ensures survives { Survives (state S.Store conn.old) (state S.Store conn.new) (CommitsShowing sql (params self.now) (state S.Store conn.old)) };
+        ensures ok { HasCleanDisk (state S.Store conn.new) → IfOk result (λ rows. Shown (asks self.now).sql (asks self.now).params (state S.Store conn.old) (state S.Store conn.new) rows.items) }
+        ensures err { HasCleanDisk (state S.Store conn.new) → IfErr result (FailsToQuery (asks self.now).sql (asks self.now).params (state S.Store conn.old) (state S.Store conn.new)) }
+        ensures survives { Survives (state S.Store conn.old) (state S.Store conn.new) (CommitsShowing (asks self.now).sql (asks self.now).params (state S.Store conn.old)) };
 
-    ghost means: { IsQuestion Self.Item.said sql params tells };
+    ghost means: { IsQuestion Self.Item.said asks };
 }
 
 /// A question whose answer is a value of the book.
@@ -45,7 +39,7 @@ pub(crate) trait OfBook: Question {
     ghost value: { Self → Book → Self.Value };
 
     fn value(&self, items: Vec<Self::Item>) -> Result<Self::Value, ViewFault>
-        ensures { (t : Tables) (b : Book) → TellsBook t b → Self.tells self.now t items.items → IsValue result (value self.now b) };
+        ensures { (t : Tables) (b : Book) → TellsBook t b → (Self.asks self.now).tells t items.items → IsValue result (value self.now b) };
 }
 
 /// What is read of the book, in one question or several.
@@ -67,9 +61,9 @@ fn ask_rows<Q: Question, S: Alter>(
     conn: &mut Connection<S>,
     question: &Q,
 ) -> Result<Vec<Q::Item>, StoreFault>
-    ensures said { HasCleanDisk (state S.Store conn.new) → IfOk result (λ v. Tells Q.Item.said Q.sql (Q.params question.now) (state S.Store conn.old) (state S.Store conn.new) v.items) }
-    ensures cause { HasCleanDisk (state S.Store conn.new) → IfErr result (IsReadFault Q.sql (Q.params question.now) (state S.Store conn.old) (state S.Store conn.new)) }
-    ensures survives { Survives (state S.Store conn.old) (state S.Store conn.new) (CommitsShowing Q.sql (Q.params question.now) (state S.Store conn.old)) }
+    ensures said { HasCleanDisk (state S.Store conn.new) → IfOk result (λ v. Tells Q.Item.said (Q.asks question.now).sql (Q.asks question.now).params (state S.Store conn.old) (state S.Store conn.new) v.items) }
+    ensures cause { HasCleanDisk (state S.Store conn.new) → IfErr result (IsReadFault (Q.asks question.now).sql (Q.asks question.now).params (state S.Store conn.old) (state S.Store conn.new)) }
+    ensures survives { Survives (state S.Store conn.old) (state S.Store conn.new) (CommitsShowing (Q.asks question.now).sql (Q.asks question.now).params (state S.Store conn.old)) }
 {
     match question.send(conn) {
         Ok(rows) => read_all(alloc, rows.as_slice()),
@@ -83,7 +77,7 @@ pub fn ask<Q: Question, S: Alter>(
     conn: &mut Connection<S>,
     question: &Q,
 ) -> Result<Vec<Q::Item>, StoreFault>
-    ensures { IsAsked Q.sql (Q.params question.now) (state S.Store conn.old) (state S.Store conn.new) result (λ t v. Q.tells question.now t v.items) }
+    ensures { IsAsked (Q.asks question.now).sql (Q.asks question.now).params (state S.Store conn.old) (state S.Store conn.new) result (λ t v. (Q.asks question.now).tells t v.items) }
 {
     ask_rows(alloc, conn, question)
 }
@@ -94,7 +88,7 @@ pub fn ask_first<Q: Question, S: Alter>(
     conn: &mut Connection<S>,
     question: &Q,
 ) -> Result<Option<Q::Item>, StoreFault>
-    ensures { IsAsked Q.sql (Q.params question.now) (state S.Store conn.old) (state S.Store conn.new) result (IsFirst (Q.tells question.now)) }
+    ensures { IsAsked (Q.asks question.now).sql (Q.asks question.now).params (state S.Store conn.old) (state S.Store conn.new) result (IsFirst (Q.asks question.now).tells) }
 {
     match ask(alloc, conn, question) {
         Ok(items) => Ok(first_of(items)),
@@ -125,24 +119,17 @@ impl<Q: OfBook> BookRead for Of<Q> {
 
 /// A change of rows in one statement.
 pub trait RowChange: Sized {
-    ghost sql: { List ℕ };
-
-    ghost params: { Self → SqlRow };
-
-    /// What has to hold of the tables before.
-    ghost fits: { Self → Tables → Type 0 };
-
-    ghost after: { Self → Tables → Tables };
+    ghost does: { Self → Alters };
 
     fn send<S: Alter>(&self, conn: &mut Connection<S>) -> Result<usize, Error>
-        ensures runs { HasCleanDisk (state S.Store conn.new) → Executes sql (params self.now) (state S.Store conn.old) (state S.Store conn.new) result }
-        ensures survives { Survives (state S.Store conn.old) (state S.Store conn.new) (CommitsBy sql (params self.now) (state S.Store conn.old)) }
-        ensures means { IsRowChange S.Store sql (params self.now) (fits self.now) (after self.now) };
+        ensures runs { HasCleanDisk (state S.Store conn.new) → Executes (does self.now).sql (does self.now).params (state S.Store conn.old) (state S.Store conn.new) result }
+        ensures survives { Survives (state S.Store conn.old) (state S.Store conn.new) (CommitsBy (does self.now).sql (does self.now).params (state S.Store conn.old)) }
+        ensures means { IsRowChange S.Store (does self.now) };
 }
 
 /// Changes the rows so.
 pub fn change<C: RowChange, S: Alter>(conn: &mut Connection<S>, change: &C) -> Result<(), Error>
-    ensures { IsChanged C.sql (C.params change.now) (state S.Store conn.old) (state S.Store conn.new) result (C.fits change.now) (C.after change.now) }
+    ensures { IsChanged (C.does change.now).sql (C.does change.now).params (state S.Store conn.old) (state S.Store conn.new) result (C.does change.now).fits (C.does change.now).after }
 {
     match change.send(conn) {
         Ok(_) => Ok(()),

@@ -1,16 +1,17 @@
 //! The book in six SQL tables.
 #![tactic(auto)]
 
+pub mod all_rows;
 pub mod ask;
-pub mod book_reads;
-pub mod control;
+pub mod book_changes;
 pub mod create;
 pub mod fault;
+pub mod known;
 pub mod open;
-pub mod puts;
 pub mod questions;
 pub mod row_changes;
 mod rows;
-pub mod stored;
-pub mod whole;
-pub mod whole_puts;
+pub mod tables;
+pub mod transaction;
+pub mod turn_changes;
+mod whole_run;

@@ -1,5 +1,5 @@
 //! Rows of answers, read as what they say.
-ghost use Rattle.std.specs.Prelude.{◌≡◌, ℕ, ℤ, List, map, IfOk, IfErr};
+ghost use Rattle.std.specs.Prelude.{◌≡◌, map, IfOk, IfErr};
 ghost use Rattle.sqlite_value.specs.Order.{column, bytes};
 ghost use Rattle.sqlite.specs.Order.{Row as SqlRow};
 ghost use Rattle.flow_sql.specs.Stored.{number_at, number_said, text_said, text_row_said, run_row_said, event_row_said, timer_row_said, task_row_said};
@@ -64,9 +64,10 @@ impl Said for TextRow {
     ghost said = { text_row_said };
 
     fn read(alloc: Global, row: &Row) -> Result<TextRow, StoreFault> {
-        let num = number_at(row, 0)?;
-        let body = text_at(alloc, row, 1)?;
-        Ok(TextRow { num, body })
+        Ok(TextRow {
+            num: number_at(row, 0)?,
+            body: text_at(alloc, row, 1)?,
+        })
     }
 }
 
@@ -74,17 +75,12 @@ impl Said for RunRow {
     ghost said = { run_row_said };
 
     fn read(alloc: Global, row: &Row) -> Result<RunRow, StoreFault> {
-        let num = number_at(row, 0)?;
-        let flow = text_at(alloc, row, 1)?;
-        let req = text_at(alloc, row, 2)?;
-        let textnum = number_at(row, 3)?;
-        let isopen = number_at(row, 4)?;
         Ok(RunRow {
-            num,
-            flow,
-            req,
-            textnum,
-            isopen,
+            num: number_at(row, 0)?,
+            flow: text_at(alloc, row, 1)?,
+            req: text_at(alloc, row, 2)?,
+            textnum: number_at(row, 3)?,
+            isopen: number_at(row, 4)?,
         })
     }
 }
@@ -93,15 +89,11 @@ impl Said for EventRow {
     ghost said = { event_row_said };
 
     fn read(alloc: Global, row: &Row) -> Result<EventRow, StoreFault> {
-        let run = number_at(row, 0)?;
-        let id = number_at(row, 1)?;
-        let kind = number_at(row, 2)?;
-        let body = text_at(alloc, row, 3)?;
         Ok(EventRow {
-            run,
-            id,
-            kind,
-            body,
+            run: number_at(row, 0)?,
+            id: number_at(row, 1)?,
+            kind: number_at(row, 2)?,
+            body: text_at(alloc, row, 3)?,
         })
     }
 }
@@ -110,10 +102,11 @@ impl Said for TimerRow {
     ghost said = { timer_row_said };
 
     fn read(_: Global, row: &Row) -> Result<TimerRow, StoreFault> {
-        let run = number_at(row, 0)?;
-        let id = number_at(row, 1)?;
-        let due = number_at(row, 2)?;
-        Ok(TimerRow { run, id, due })
+        Ok(TimerRow {
+            run: number_at(row, 0)?,
+            id: number_at(row, 1)?,
+            due: number_at(row, 2)?,
+        })
     }
 }
 
@@ -121,15 +114,11 @@ impl Said for OutboxRow {
     ghost said = { task_row_said };
 
     fn read(_: Global, row: &Row) -> Result<OutboxRow, StoreFault> {
-        let run = number_at(row, 0)?;
-        let id = number_at(row, 1)?;
-        let attempt = number_at(row, 2)?;
-        let ready = number_at(row, 3)?;
         Ok(OutboxRow {
-            run,
-            id,
-            attempt,
-            ready,
+            run: number_at(row, 0)?,
+            id: number_at(row, 1)?,
+            attempt: number_at(row, 2)?,
+            ready: number_at(row, 3)?,
         })
     }
 }

@@ -17,7 +17,7 @@ pub(crate) fn over_lists<'a>(alloc: Global) -> Deciding<'a, Lists, Language> {
 }
 
 /// The status of these lines over an empty book, where this is written.
-fn driven(alloc: Global, input: &[u8], wanted: &[u8]) -> Option<u8> {
+pub(crate) fn driven(alloc: Global, input: &[u8], wanted: &[u8]) -> Option<u8> {
     let mut reader = input;
     let mut writer = Vec::new(alloc);
     let mut engine = over_lists(alloc);

@@ -1,8 +1,5 @@
 //! Runs, as `flow drive -` tells them.
-use crate::deciding::Deciding;
-use flow_check::language::Language;
-use flow_cli::drive::drive_lines;
-use flow_view::lists::Lists;
+use crate::lines::driven;
 use std::test::Fail;
 
 const REGISTER_A: &str =
@@ -43,15 +40,8 @@ fn replies_to(
     for reply in replies {
         expected.push_str(reply)?;
     }
-    let mut reader = input.as_bytes();
-    let mut written: Vec<u8> = Vec::new(rt.alloc());
-    let mut engine = Deciding {
-        alloc: rt.alloc(),
-        texts: &Language,
-        view: Lists::new(rt.alloc()),
-    };
-    let status = drive_lines(rt.alloc(), &mut engine, &mut reader, &mut written)?;
-    Ok(status == wanted && written.as_slice() == expected.as_bytes())
+    let status = driven(rt.alloc(), input.as_bytes(), expected.as_bytes());
+    Ok(status == Some(wanted))
 }
 
 #[test]

@@ -2,8 +2,9 @@
 use crate::lines::over_lists;
 use flow_base::code::Code;
 use flow_base::command::Command;
+use flow_base::fault::Fault;
 use flow_cli::drive::{drive_lines, end_status};
-use flow_cli::fault::Fault;
+use flow_cli::fault::fault_of_stop;
 use flow_machine::answer::{Answer, Answering, Stop};
 use std::alloc::Global;
 use std::test::Fail;
@@ -117,7 +118,7 @@ fn a_stop_ends_it(rt: HostRuntime) -> Result<(), Fail> {
             ),
             Some(3)
         );
-        assert!(rt; Fault::from(stop) == fault);
+        assert!(rt; fault_of_stop(stop) == fault);
     }
     Ok(())
 }

@@ -1,22 +1,37 @@
-use Rattle.std.proofs.Common.{◌≡◌, length, refl, ap, arith}
-use Rattle.flow_engine.proofs.Committed.{replied, had_halted, went_on}
+use Rattle.std.proofs.Common.{[], ◌∷◌, subst}
+use Rattle.std.proofs.lemmas.Result.{IfOk-weaker, IfErr-weaker}
+use Rattle.flow_commit.specs.Keeping.{rules, kept_book}
+use Rattle.flow_engine.specs.Answering.{AnswersAll, AreCaused, given}
+use Rattle.flow_engine.proofs.Singly.{driven_alone, are_single, answers_sure, has_stopped, given_caused, one_answered}
 use Rattle.flow_engine.proofs.answering.answered.Goals as goal
 
-pub returns-in-Some-clause-answers : goal.returns-in-Some-clause-answers
-returns-in-Some-clause-answers g c sure t is =
-    let done = c.in-Kept.ensures in
-    replied g.S.Store c.args.engine.now c.done_with.new.engine c.args.batch t c.in-Kept.receipts.items c.in-Some.reply sure.up is c.in-Some.ensures.told done.noted.1
-    (done.own sure.fit (done.up sure.fit sure.up)) (λ keeps. (done.does sure.fit _ keeps).1)
+pub one_answer-requires-clause-single : goal.one_answer-requires-clause-single
+one_answer-requires-clause-single g c =
+    let d = c.in-Ok.ensures in
+    are_single g.S.Store c.args.engine.now c.drive.new.engine c.requires.alone.taken c.in-Ok.dones.items
+    (driven_alone g.S.Store c.args.engine.now c.drive.new.engine c.args.batches.items c.in-Ok.dones.items c.requires.alone.taken c.requires.alone.are
+    d.drives d.noted d.halted d.later d.count d.fit d.up d.own)
 
-pub returns-in-None-clause-stopped : goal.returns-in-None-clause-stopped
-returns-in-None-clause-stopped g c t is =
-    let counted : length c.in-Kept.receipts.items ≡ length c.args.batch = c.in-Kept.ensures.noted.2 in
-    let none : length c.in-Kept.receipts.items ≡ 0 = ap length (c.in-None.ensures.none refl) in
-    let one : length c.args.batch ≡ 1 = ap length is in
-    absurd (omega (arith, counted, none, one))
+pub returns-in-Ok-clause-answers : goal.returns-in-Ok-clause-answers
+returns-in-Ok-clause-answers g c =
+    let d = c.in-Ok.ensures in
+    IfOk-weaker c.one_answer.result _ _
+    (λ a h sure t is. one_answered (kept_book g.S.Store c.args.engine.now) (kept_book g.S.Store c.drive.new.engine) t a
+    (subst (λ l. AnswersAll rules (kept_book g.S.Store c.args.engine.now) (kept_book g.S.Store c.drive.new.engine) (t.command ∷ []) l) h.0
+    (answers_sure g.S.Store c.args.engine.now c.drive.new.engine (t ∷ []) c.in-Ok.dones.items
+    (driven_alone g.S.Store c.args.engine.now c.drive.new.engine c.args.batches.items c.in-Ok.dones.items (t ∷ []) is
+    d.drives d.noted d.halted d.later d.count d.fit d.up d.own) sure h.1)))
+    c.one_answer.ensures.given
 
-pub returns-in-Unknown-clause-stopped : goal.returns-in-Unknown-clause-stopped
-returns-in-Unknown-clause-stopped g c t is = (went_on _ c.in-Unknown.ensures.later, c.in-Unknown.ensures.noted.0)
+pub returns-in-Ok-clause-given_up : goal.returns-in-Ok-clause-given_up
+returns-in-Ok-clause-given_up g c =
+    IfOk-weaker c.one_answer.result _ _ (λ a h. let all : AreCaused (a ∷ []) = subst AreCaused h.0 (given_caused c.in-Ok.dones.items) in all.0) c.one_answer.ensures.given
 
-pub returns-in-Halted-clause-stopped : goal.returns-in-Halted-clause-stopped
-returns-in-Halted-clause-stopped g c t is = had_halted c.args.engine.now c.done_with.new.engine c.in-Halted.ensures.noted
+pub returns-in-Ok-clause-stopped : goal.returns-in-Ok-clause-stopped
+returns-in-Ok-clause-stopped g c =
+    let d = c.in-Ok.ensures in
+    IfErr-weaker c.one_answer.result _ _
+    (λ s h. has_stopped g.S.Store c.args.engine.now c.drive.new.engine c.requires.alone.taken c.in-Ok.dones.items
+    (driven_alone g.S.Store c.args.engine.now c.drive.new.engine c.args.batches.items c.in-Ok.dones.items c.requires.alone.taken c.requires.alone.are
+    d.drives d.noted d.halted d.later d.count d.fit d.up d.own) s h.1)
+    c.one_answer.ensures.stops

@@ -1,14 +1,15 @@
-use Rattle.std.proofs.Common.{◌≡◌, ◌∙◌, Some, Result, false, sym, ap, subst}
+use Rattle.std.proofs.Common.{◌≡◌, ◌∙◌, Some, Result, false, refl, sym, ap, subst}
 use Rattle.std.specs.Prelude.{IfOk, IfErr}
 use Rattle.flow_check.specs.Language.{is_program}
 use Rattle.flow_rows.specs.declared.book.WholeBook.{WholeBook}
-use Rattle.flow_rows.specs.declared.found.Damage.{Damage}
+use Rattle.flow_base.specs.declared.fault.Damage.{Damage}
 use Rattle.flow_rows.specs.Damages.{first_damage}
 use Rattle.flow_rows.specs.Rows.{by_run}
+use Rattle.flow_rows.specs.Standing.{StandsFor}
 use Rattle.flow_rows.specs.Told.{Tells, book_in}
 use Rattle.flow_rows.specs.Whole.{shown_book}
-use Rattle.flow_tables.specs.Opening.{HasCause}
-use Rattle.flow_tables.proofs.Opened.{read_caused}
+use Rattle.flow_tables.specs.Opening.{IsOfOpening, HasCause}
+use Rattle.flow_tables.proofs.Opened.{read_caused, read_among}
 use Rattle.flow_tables.proofs.open.look_through.Goals as goal
 
 pub returns-in-Ok-Ok-clause-tells : goal.returns-in-Ok-Ok-clause-tells
@@ -28,6 +29,13 @@ returns-in-Ok-Ok-clause-read g c clean was =
     subst (λ (r : Result WholeBook Damage). IfOk r (λ b. shown_book b ≡ book_in (by_run rows))) c.in-Ok-Ok.field-0-is c.in-Ok-Ok.ensures.book in
     book ∙ ap book_in (c.in-Ok.ensures.reads false was clean).1
 
+pub returns-in-Ok-Ok-clause-stands : goal.returns-in-Ok-Ok-clause-stands
+returns-in-Ok-Ok-clause-stands g c =
+    let rows = c.in-Ok.rows in
+    let its : StandsFor is_program rows (shown_book c.in-Ok-Ok.book) =
+    subst (λ (r : Result WholeBook Damage). IfOk r (λ b. StandsFor is_program rows (shown_book b))) c.in-Ok-Ok.field-0-is c.in-Ok-Ok.ensures.stands in
+    record { texts = its.texts; runs = its.runs; same = refl }
+
 pub returns-in-Ok-Err-clause-damaged : goal.returns-in-Ok-Err-clause-damaged
 returns-in-Ok-Err-clause-damaged g c clean was =
     let rows = c.in-Ok.rows in
@@ -37,3 +45,6 @@ returns-in-Ok-Err-clause-damaged g c clean was =
 
 pub returns-in-Err-clause-cause : goal.returns-in-Err-clause-cause
 returns-in-Err-clause-cause g c clean = subst (HasCause g.S.Store) (sym c.read_fault.ensures) (read_caused g.S.Store c.in-Err.fault (c.in-Err.ensures.cause clean))
+
+pub returns-in-Err-clause-among : goal.returns-in-Err-clause-among
+returns-in-Err-clause-among g c = subst IsOfOpening (sym c.read_fault.ensures) (read_among c.in-Err.fault)

@@ -2,10 +2,14 @@ use Rattle.std.proofs.Common.{subst}
 use Rattle.std.proofs.lemmas.Result.{IfOk-weaker}
 use Rattle.flow_commit.specs.Keeping.{Keeping, rules, kept_book}
 use Rattle.flow_machine.specs.Answers.{Answers}
+use Rattle.flow_engine.proofs.Singly.{one_alone}
 use Rattle.flow_engine.proofs.engine.Engine.answer.Goals as goal
+
+pub answered-requires-clause-alone : goal.answered-requires-clause-alone
+answered-requires-clause-alone g c = one_alone _ _ c.in-Ok.ensures
 
 pub returns-in-Ok-clause-answers : goal.returns-in-Ok-clause-answers
 returns-in-Ok-clause-answers g c =
     IfOk-weaker c.answered.result _ _
-    (λ a h sure. subst (λ (k : Keeping g.row.S.Denot). Answers rules (kept_book g.S.Store k) (kept_book g.S.Store c.answered.new.engine) c.args.command a) c.ticket-ticket.ensures (h sure _ c.in-Ok.ensures.one))
+    (λ a h sure. subst (λ (k : Keeping g.row.S.Denot). Answers rules (kept_book g.S.Store k) (kept_book g.S.Store c.answered.new.engine) c.args.command a) c.tickets-ticket.ensures (h sure _ c.in-Ok.ensures))
     c.answered.ensures.answers

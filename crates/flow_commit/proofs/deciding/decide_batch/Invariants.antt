@@ -1,0 +1,19 @@
+use Rattle.std.proofs.Common.{◌≡◌, ◌+◌, ◌++◌, drop, length}
+use Rattle.flow_model.specs.Apply.{after, replies}
+use Rattle.flow_machine.specs.Stuck.{IsStuckWithin}
+use Rattle.flow_commit.specs.Keeping.{rules, commands_of}
+use Rattle.flow_commit.proofs.deciding.decide_batch.Given as goal
+
+abbrev pub invariant-loop-taken : goal.invariant-loop-taken
+invariant-loop-taken g l =
+    let book = g.V.View.book in
+    let left = commands_of (drop l.taken-index l.batch) in
+    let all = commands_of l.batch in
+    record {
+      told : g.V.View.is_sure l.view → l.replies.items ++ replies rules (book l.view) left ≡ replies rules (book l.fn.view) all;
+      rest : g.V.View.is_sure l.view → after rules (book l.view) left ≡ after rules (book l.fn.view) all;
+      counted : length l.replies.items + length (drop l.taken-index l.batch) ≡ length l.batch;
+      stuck : g.V.View.is_sure l.view → IsStuckWithin rules (book l.view) left → IsStuckWithin rules (book l.fn.view) all;
+      sure : g.V.View.is_sure l.view → g.V.View.is_sure l.fn.view;
+      follows : (a : g.row.V.Denot) → g.V.View.follows a l.fn.view → g.V.View.follows a l.view;
+    }

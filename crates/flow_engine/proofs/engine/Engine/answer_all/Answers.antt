@@ -1,0 +1,53 @@
+use Rattle.std.proofs.Common.{◌≡◌, ◌+◌, ◌≤◌, length, sym, ap, ◌∙◌, subst, arith, vec_len, vec_capacity}
+use Rattle.std.proofs.lemmas.Result.{IfOk-weaker, IfErr-weaker}
+use Rattle.flow_commit.specs.Keeping.{Keeping, KeepsBook, rules, kept_book}
+use Rattle.flow_engine.specs.Answering.{AnswersAll, KeepsAnswered, EndsEarly, LeavesBehind}
+use Rattle.flow_engine.proofs.Singly.{cut_alone, cut_long}
+use Rattle.flow_engine.proofs.engine.Engine.answer_all.Goals as goal
+
+pub all_answered-requires-clause-alone : goal.all_answered-requires-clause-alone
+all_answered-requires-clause-alone g c = cut_alone c.args.commands.items c.in-Ok-cut.batches.items c.in-Ok-cut.ensures
+
+pub all_answered-requires-clause-room : goal.all_answered-requires-clause-room
+all_answered-requires-clause-room g c =
+    let many : length c.in-Ok-cut.batches.items ≡ length c.args.commands.items = cut_long c.args.commands.items c.in-Ok-cut.batches.items c.in-Ok-cut.ensures in
+    let same : length c.as_slice.result.now ≡ length c.args.commands.items = ap length c.as_slice.ensures.value in
+    let room : vec_len c.in-Ok.answers + length c.as_slice.result.now ≤ vec_capacity c.in-Ok.answers = c.in-Ok.ensures.room in
+    omega (arith, many, room, same)
+
+pub returns-in-Ok-cut-clause-answers : goal.returns-in-Ok-cut-clause-answers
+returns-in-Ok-cut-clause-answers g c =
+    IfOk-weaker c.all_answered.result _ _
+    (λ l h sure.
+    subst (λ (k : Keeping g.row.S.Denot). AnswersAll rules (kept_book g.S.Store k) (kept_book g.S.Store c.all_answered.new.engine) c.args.commands.items l.items) c.tickets-first.ensures
+    (subst (λ cs. AnswersAll rules (kept_book g.S.Store c.tickets-first.new.self) (kept_book g.S.Store c.all_answered.new.engine) cs l.items) c.in-Ok-cut.ensures.same
+    (h sure c.in-Ok-cut.ensures.taken c.in-Ok-cut.ensures.are)))
+    c.all_answered.ensures.answers
+
+pub returns-in-Ok-cut-clause-kept : goal.returns-in-Ok-cut-clause-kept
+returns-in-Ok-cut-clause-kept g c =
+    IfOk-weaker c.all_answered.result _ _
+    (λ l h fit b keeps.
+    subst (λ cs. KeepsAnswered g.S.Store c.all_answered.new.engine b cs l.items) c.in-Ok-cut.ensures.same
+    (h fit b (subst (λ (k : Keeping g.row.S.Denot). KeepsBook g.S.Store k b) (sym c.tickets-first.ensures) keeps) c.in-Ok-cut.ensures.taken c.in-Ok-cut.ensures.are))
+    c.all_answered.ensures.kept
+
+pub returns-in-Ok-cut-clause-count : goal.returns-in-Ok-cut-clause-count
+returns-in-Ok-cut-clause-count g c =
+    IfOk-weaker c.all_answered.result _ _ (λ l h. h ∙ cut_long c.args.commands.items c.in-Ok-cut.batches.items c.in-Ok-cut.ensures) c.all_answered.ensures.count
+
+pub returns-in-Ok-cut-clause-stopped : goal.returns-in-Ok-cut-clause-stopped
+returns-in-Ok-cut-clause-stopped g c =
+    IfErr-weaker c.all_answered.result _ _
+    (λ u h.
+    subst (λ (k : Keeping g.row.S.Denot). EndsEarly k c.all_answered.new.engine c.args.commands.items u) c.tickets-first.ensures
+    (subst (λ cs. EndsEarly c.tickets-first.new.self c.all_answered.new.engine cs u) c.in-Ok-cut.ensures.same (h c.in-Ok-cut.ensures.taken c.in-Ok-cut.ensures.are)))
+    c.all_answered.ensures.early
+
+pub returns-in-Ok-cut-clause-leaves : goal.returns-in-Ok-cut-clause-leaves
+returns-in-Ok-cut-clause-leaves g c =
+    IfErr-weaker c.all_answered.result _ _
+    (λ u h fit b keeps.
+    subst (λ cs. LeavesBehind g.S.Store c.all_answered.new.engine b cs u) c.in-Ok-cut.ensures.same
+    (h fit b (subst (λ (k : Keeping g.row.S.Denot). KeepsBook g.S.Store k b) (sym c.tickets-first.ensures) keeps) c.in-Ok-cut.ensures.taken c.in-Ok-cut.ensures.are))
+    c.all_answered.ensures.leaves

@@ -1,0 +1,6 @@
+use Rattle.std.proofs.Common.{◌≡◌, drop}
+use Rattle.flow_tables.specs.Known.{started_timer}
+use Rattle.flow_tables.proofs.known.started_timer.Given as goal
+
+abbrev pub invariant-loop-event : goal.invariant-loop-event
+invariant-loop-event l = started_timer (drop l.event-index l.events) ≡ started_timer l.events

@@ -1,0 +1,13 @@
+use Rattle.std.proofs.Common.{Ok, Err}
+use Rattle.sqlite.specs.Held.{state}
+use Rattle.flow_sql.proofs.StaysShut.{stays_shut}
+use Rattle.flow_tables.proofs.transaction.run.Goals as goal
+
+pub returns-in-Ok-clause-runs : goal.returns-in-Ok-clause-runs
+returns-in-Ok-clause-runs g c clean = (_, c.in-Ok.ensures.runs clean)
+
+pub returns-in-Ok-clause-open : goal.returns-in-Ok-clause-open
+returns-in-Ok-clause-open g c clean = stays_shut (state g.S.Store c.args.conn.now) (state g.S.Store c.execute.new.self) c.args.sql.now (Ok tt) (_, c.in-Ok.ensures.runs clean)
+
+pub returns-in-Err-clause-open : goal.returns-in-Err-clause-open
+returns-in-Err-clause-open g c clean = stays_shut (state g.S.Store c.args.conn.now) (state g.S.Store c.execute.new.self) c.args.sql.now (Err c.in-Err.error) (c.in-Err.ensures.runs clean)

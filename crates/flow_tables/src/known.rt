@@ -1,0 +1,176 @@
+//! What is known of the rows before they are changed: then it isn't asked again, and no statement is made that would find
+//! nothing.
+
+ghost use Rattle.std.specs.Prelude.{◌≡◌};
+ghost use Rattle.flow_base.specs.Effects as effects;
+ghost use Rattle.flow_tables.specs.Known as words;
+
+use flow_base::book::{Run, Task};
+use flow_base::effect::{Effect, effect_of};
+use flow_base::event::{Event, Input, What};
+use flow_base::number::{EventId, RunId};
+use flow_view::history::is_open;
+
+/// Which rows a run may have in the outbox.
+#[derive(Clone, Copy, Debug, PartialEq, Eq)]
+pub enum OpenTasks {
+    Gone,
+    /// At most that of the activity of this event.
+    Single(EventId),
+    Unsure,
+}
+
+/// How a run stands in its rows.
+#[derive(Clone, Copy, Debug, PartialEq, Eq)]
+pub struct Standing {
+    /// Whether the run is open.
+    pub is_open: bool,
+    /// Whether its row is known to be marked as open.
+    pub is_marked: bool,
+    pub tasks: OpenTasks,
+    /// Whether it may have rows of timers.
+    pub has_timers: bool,
+}
+
+/// A run that was read, and that nothing has changed since.
+#[derive(Clone, Copy, Debug, PartialEq, Eq)]
+pub struct KnownRun {
+    pub number: RunId,
+    /// How many events it has.
+    pub count: u64,
+    pub standing: Standing,
+}
+
+/// What a transaction has read, and not changed since.
+#[derive(Clone, Copy, Debug, PartialEq, Eq)]
+pub struct Known {
+    pub run: Option<KnownRun>,
+    /// How many texts there are.
+    pub texts: Option<u64>,
+    /// How many runs there are.
+    pub runs: Option<u64>,
+}
+
+/// What is known of tables of which nothing was read.
+pub fn nothing_known() -> Known
+    ensures { result ≡ words.nothing_known }
+{
+    Known {
+        run: None,
+        texts: None,
+        runs: None,
+    }
+}
+
+/// A run of which nothing is there but its row, marked as open or not.
+pub fn first_standing(is_marked: bool) -> Standing
+    ensures { result ≡ words.first_standing is_marked }
+{
+    Standing {
+        is_open: false,
+        is_marked,
+        tasks: OpenTasks::Gone,
+        has_timers: false,
+    }
+}
+
+/// A run whose row alone was looked at.
+pub fn any_standing(is_open: bool) -> Standing
+    ensures { result ≡ words.any_standing is_open }
+{
+    Standing {
+        is_open,
+        is_marked: false,
+        tasks: OpenTasks::Unsure,
+        has_timers: true,
+    }
+}
+
+/// What is known of the outbox once this activity's row is gone.
+fn ended(tasks: &OpenTasks, scheduled: EventId) -> OpenTasks
+    ensures { result ≡ words.ended tasks.now scheduled }
+{
+    match tasks {
+        OpenTasks::Gone => OpenTasks::Gone,
+        OpenTasks::Single(event) => {
+            if event.get() == scheduled.get() {
+                OpenTasks::Gone
+            } else {
+                OpenTasks::Single(*event)
+            }
+        }
+        OpenTasks::Unsure => OpenTasks::Unsure,
+    }
+}
+
+/// How a run stands behind an event.
+pub fn standing_after(standing: &Standing, what: &What) -> Standing
+    ensures { result ≡ words.stands_what standing.now what.now }
+{
+    let mut after = *standing;
+    match effect_of(what) {
+        Effect::Begins => after.is_open = true,
+        Effect::OpensActivity => after.tasks = OpenTasks::Unsure,
+        Effect::OpensTimer(_) => after.has_timers = true,
+        Effect::EndsActivity(scheduled) => after.tasks = ended(&standing.tasks, scheduled),
+        Effect::Closes(_) => {
+            after.is_open = false;
+            after.is_marked = false;
+        }
+        Effect::EndsTimer(_) => {}
+        Effect::Nothing => {}
+    }
+    after
+}
+
+/// Whether a turn with this input begins its run.
+pub fn begins(input: &Input) -> bool
+    ensures { result ≡ words.begins input.now }
+{
+    matches!(input, Input::Started(_))
+}
+
+fn tasks_known(tasks: &[Task]) -> OpenTasks
+    ensures { result ≡ words.tasks_known tasks.now }
+{
+    match tasks {
+        [] => OpenTasks::Gone,
+        [task] => OpenTasks::Single(task.event),
+        _ => OpenTasks::Unsure,
+    }
+}
+
+fn opens_timer(what: &What) -> bool
+    ensures { result ≡ words.opens_timer (effects.effect_of what.now) }
+{
+    matches!(effect_of(what), Effect::OpensTimer(_))
+}
+
+/// Whether one of the events opens a timer.
+fn started_timer(events: &[Event]) -> bool
+    ensures { result ≡ words.started_timer events.now }
+{
+    for event in events {
+        if opens_timer(&event.what) {
+            return true;
+        }
+    }
+    false
+}
+
+/// What a run that was read tells of its rows.
+pub fn run_known(number: RunId, run: &Run) -> KnownRun
+    ensures { result ≡ words.run_known number run.now }
+{
+    let events = run.history.as_slice();
+    KnownRun {
+        number,
+        count: events.len() as u64,
+        standing: Standing {
+            is_open: is_open(events),
+            is_marked: false,
+            tasks: tasks_known(run.tasks.as_slice()),
+            has_timers: started_timer(events),
+        },
+    }
+}
