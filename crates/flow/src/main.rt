@@ -13,6 +13,7 @@ ghost use Rattle.flow.specs.Openings.{IsHandedOn};
 use flow_base::fault::Fault;
 use flow_base::number::RunId;
 use flow_check::language::Language;
+use flow_cli::batch::BatchSize;
 use flow_cli::call::{Call, call_of};
 use flow_cli::check::check_text;
 use flow_cli::drive::{Stopped, drive_lines, end_status};
@@ -66,8 +67,8 @@ fn work(rt: &HostRuntime) -> Result<u8, Stopped> {
 fn perform(rt: &HostRuntime, call: &Call<'_>) -> Result<u8, Stopped> {
     match call {
         Call::Check(file) => check(rt, file),
-        Call::Drive("-") => drive_memory(rt),
-        Call::Drive(file) => drive_file(rt, file),
+        Call::Drive("-", most) => drive_memory(rt, *most),
+        Call::Drive(file, most) => drive_file(rt, file, *most),
         // A store in memory begins with no run.
         Call::History("-", _) => Err(Stopped::Refused(Fault::NoRun)),
         Call::History(file, run) => history(rt, file, *run),
@@ -137,21 +138,21 @@ fn close_file(engine: Engine<FileStore<File>>) {
     let _ = engine.close().close();
 }
 
-fn drive_file(rt: &HostRuntime, file: &str) -> Result<u8, Stopped> {
+fn drive_file(rt: &HostRuntime, file: &str, most: BatchSize) -> Result<u8, Stopped> {
     let mut engine = open_file(rt, file)?;
-    let outcome = drive(rt, &mut engine);
+    let outcome = drive(rt, &mut engine, most);
     close_file(engine);
     outcome
 }
 
-fn drive_memory(rt: &HostRuntime) -> Result<u8, Stopped> {
+fn drive_memory(rt: &HostRuntime, most: BatchSize) -> Result<u8, Stopped> {
     let mut engine = open_memory(rt)?;
-    drive(rt, &mut engine)
+    drive(rt, &mut engine, most)
 }
 
-/// Answers command lines over a store: the status is 0, 1 where some line was no command, and 3 where some command was
+/// Answers command lines over a store, so many commands together: the status is 0, 1 where some line was no command, and 3 where some command was
 /// given up and on an early end.
-fn drive<S: Alter>(rt: &HostRuntime, engine: &mut Engine<S>) -> Result<u8, Stopped>
+fn drive<S: Alter>(rt: &HostRuntime, engine: &mut Engine<S>, most: BatchSize) -> Result<u8, Stopped>
     ensures done { IfOk result (λ n. n ≤ 3) }
     ensures early { IfErr result (λ e. stopped_status e ≡ 3) }
 {
@@ -159,7 +160,7 @@ fn drive<S: Alter>(rt: &HostRuntime, engine: &mut Engine<S>) -> Result<u8, Stopp
         return Err(Stopped::Refused(Fault::NoMemory));
     };
     let mut writer = io::writer(rt);
-    drive_lines(rt.alloc(), engine, &mut reader, &mut writer)
+    drive_lines(rt.alloc(), engine, &mut reader, &mut writer, most)
 }
 
 fn history(rt: &HostRuntime, file: &str, run: RunId) -> Result<u8, Stopped> {

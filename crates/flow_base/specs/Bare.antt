@@ -1,5 +1,5 @@
 -- A program up to places in its text: every place set to 0. Two programs are equal up to places where these are equal.
-use Rattle.std.specs.Prelude.{ℕ, List, [], ◌∷◌, map}
+use Rattle.std.specs.Prelude.{map}
 use Rattle.flow_base.specs.declared.syntax.Parameter.{Parameter}
 use Rattle.flow_base.specs.declared.syntax.TypeAt.{TypeAt}
 use Rattle.flow_base.specs.Syntax.{Expression, Number, Literal, Variable, Now, Apply, Combine, Retry, Statement, Let, Assign, Call, WaitSignal, WaitSignalFor, Sleep, If, While, Parallel, Patch, Return, FailWith, Continue, Block, End, Next, Otherwise, NoElse, Else, Branches, NoBranch, Branch, Declared, Activity, Signal, Program}

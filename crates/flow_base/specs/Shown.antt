@@ -1,5 +1,5 @@
 -- What the code's programs show of themselves: the trees of Syntax, with pointers left out.
-use Rattle.std.specs.Prelude.{ℕ, List, [], ◌∷◌, map}
+use Rattle.std.specs.Prelude.{List, map}
 use Rattle.flow_base.specs.Syntax as tree
 use Rattle.flow_base.specs.Syntax.{block_of, once}
 use Rattle.flow_base.specs.declared.syntax.Expr.{Expr}

@@ -56,7 +56,7 @@ impl Value {
 
 /// The values that stand for this: a JSON array of at most [`VALUES_LIMIT`] values.
 #[tactic(auto, using(crate::proofs::Lists::values_read))]
-pub fn values_of_json(alloc: Global, json: &Json) -> Result<Sequence<Value>, Refused>
+pub(crate) fn values_of_json(alloc: Global, json: &Json) -> Result<Sequence<Value>, Refused>
     ensures { Gives (λ vs. vs) result (values_in (view json.now)) }
 {
     match json {

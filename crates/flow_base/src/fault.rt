@@ -47,36 +47,36 @@ pub struct Damage {
 /// Why a store wasn't opened, or a program didn't do its work.
 #[derive(Clone, Copy, Debug, PartialEq, Eq, thiserror::Error)]
 pub enum Fault {
-    #[error("E01 out of memory")]
+    #[error("{} out of memory", self.code())]
     NoMemory,
     /// An open run that doesn't replay, with its first mismatch: the place of an event in its history, from 1, and what is
     /// wrong there.
-    #[error("E68 run {} doesn't replay: {} at {place}", run.get(), name.code())]
+    #[error("{} run {} doesn't replay: {} at {place}", self.code(), run.get(), name.code())]
     Mismatch {
         run: RunId,
         place: usize,
         name: Wrong,
     },
-    #[error("E70 no such run")]
+    #[error("{} no such run", self.code())]
     NoRun,
     /// The store failed.
-    #[error("E80 the store refused")]
+    #[error("{} the store refused", self.code())]
     StoreRefused,
     /// The store has no format of ours, or its tables can't be read, or not made beside what is there.
-    #[error("E81 the tables aren't ours")]
+    #[error("{} the tables aren't ours", self.code())]
     NotOurs,
-    #[error("E82 another format")]
+    #[error("{} another format", self.code())]
     BadVersion,
     /// The rows tell no book; this is their first damage.
-    #[error("E83 damaged at {} of {}", .0.place, .0.run)]
+    #[error("{} damaged at {} of {}", self.code(), .0.place, .0.run)]
     Damaged(Damage),
-    #[error("E84 not known whether it was kept")]
+    #[error("{} not known whether it was kept", self.code())]
     Unknown,
-    #[error("E85 halted")]
+    #[error("{} halted", self.code())]
     Halted,
-    #[error("E93 no program file")]
+    #[error("{} no program file", self.code())]
     NoFile,
-    #[error("E97 bad usage")]
+    #[error("{} bad usage", self.code())]
     BadUsage,
 }
 

@@ -1,6 +1,5 @@
 //! The members of a JSON object, read in the byte order of their keys.
 ghost use Rattle.std.specs.Prelude.{◌≡◌, ◌≤◌, Some, option_map, IfOk};
-ghost use Rattle.serde_json.specs.Data.{Members};
 ghost use Rattle.serde_json.specs.Find.{as_object};
 ghost use Rattle.serde_json.specs.View.{view};
 ghost use Rattle.flow_base.specs.Codec.{front, field, none_left};

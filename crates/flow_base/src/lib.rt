@@ -9,7 +9,7 @@ pub mod encoding;
 pub mod event;
 pub mod fault;
 pub mod fields;
-pub mod names;
+mod names;
 pub mod number;
 pub mod sequence;
 pub mod syntax;

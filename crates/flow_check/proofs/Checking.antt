@@ -1,5 +1,5 @@
 -- Statements and whole programs: what the table knows behind them, and which faults are noted.
-use Rattle.std.proofs.Common.{◌≡◌, ℕ, List, [], ◌∷◌, ◌++◌, map, Option, Some, None, Result, Ok, Err, OnOk, refl, sym, ap, subst, ◌∙◌, false, if◌then◌else◌}
+use Rattle.std.proofs.Common.{◌≡◌, ℕ, List, [], ◌++◌, map, Option, None, Result, OnOk, refl, sym, ap, subst, ◌∙◌, if◌then◌else◌}
 use Rattle.std.proofs.lemmas.List.{append-nil}
 use Rattle.std.proofs.lemmas.Result.{on_ok_weaker}
 use Rattle.flow_base.specs.declared.command.TextFault.{TextFault}
@@ -12,7 +12,7 @@ use Rattle.flow_base.specs.declared.syntax.Program as code
 use Rattle.flow_base.specs.Shown.{shown_block, shown_declaration, shown_program}
 use Rattle.flow_base.specs.Syntax.{Bytes, Expression, Statement, Let, Assign, Call, Return, Next, End, NoElse, once}
 use Rattle.flow_model.specs.WellFormed as rule
-use Rattle.flow_model.specs.WellFormed.{Named, earliest, kind_of, beginning, with_type, behind, scope_of, no_types, types_of_parameters, activity_of, names_of, names_of_block, name_of_parameter, name_of_declared, faults, faults_of_names, faults_of_declarations, faults_of_block, faults_of_expression, faults_of_assigned, faults_of_call, faults_of_statement, ends_in_parallel, given, first_fault}
+use Rattle.flow_model.specs.WellFormed.{Named, earliest, kind_of, beginning, with_type, scope_of, no_types, types_of_parameters, activity_of, names_of, names_of_block, name_of_parameter, name_of_declared, faults_of_names, faults_of_declarations, faults_of_block, faults_of_expression, faults_of_assigned, faults_of_call, given, first_fault}
 use Rattle.flow_model.proofs.FirstFault.{earliest-append}
 use Rattle.flow_check.specs.declared.names.Names.{Names}
 use Rattle.flow_check.specs.declared.scope.Scope.{Scope}

@@ -1,8 +1,8 @@
 -- Names, one after another: what the table has behind them, and which faults are noted.
-use Rattle.std.proofs.Common.{◌≡◌, ℕ, ◌+◌, ◌<◌, ◌≤◌, min, Bool, true, false, not, cond, ◌&&◌, ◌||◌, List, [], ◌∷◌, ◌++◌, length, map, take, drop, get_or, Option, Some, None, refl, sym, ap, subst, ◌∙◌, nat_eq, bytes_eq, arith, append_assoc, length-append, add-one}
+use Rattle.std.proofs.Common.{◌≡◌, ℕ, ◌+◌, ◌<◌, ◌≤◌, min, Bool, true, false, not, cond, ◌||◌, List, [], ◌∷◌, ◌++◌, length, map, take, get_or, Option, refl, sym, ap, subst, ◌∙◌, nat_eq, bytes_eq, arith, append_assoc, length-append}
 use Rattle.std.proofs.lemmas.List.{append-nil, take_more, map-append}
 use Rattle.std.proofs.lemmas.List.Folds.{list_any-append}
-use Rattle.std.proofs.lemmas.Bool.Decides.{eqb_tells, nat_tests, same_from_decides}
+use Rattle.std.proofs.lemmas.Bool.Decides.{nat_tests, same_from_decides}
 use Rattle.std.proofs.lemmas.Slice.Eq.{bytes_eq-Decides}
 use Rattle.std.specs.List.{list_any}
 use Rattle.std.specs.HashSet.{HashSet, contains_by, UpdatesBy}
@@ -12,7 +12,7 @@ use Rattle.flow_base.specs.declared.syntax.Parameter.{Parameter}
 use Rattle.flow_base.specs.declared.syntax.Declaration.{Declaration}
 use Rattle.flow_base.specs.declared.syntax.Stmt.{Stmt}
 use Rattle.flow_base.specs.Shown.{shown_stmt, shown_declaration, shown_block}
-use Rattle.flow_base.specs.Syntax.{Bytes, Block, End, Next, Statement, Declared, block_of}
+use Rattle.flow_base.specs.Syntax.{Bytes, Statement, block_of}
 use Rattle.flow_model.specs.WellFormed.{Named, named, variables, activities, same_name, fault, earliest, declared_twice, one_too_many, faults_of_names, names_of_block, names_of_statement, name_of_parameter, name_of_declared}
 use Rattle.flow_model.proofs.FirstFault.{earliest-append}
 use Rattle.flow_check.specs.declared.names.Names.{Names}

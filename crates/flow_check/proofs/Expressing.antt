@@ -1,5 +1,5 @@
 -- Expressions, arguments and calls: which faults are noted.
-use Rattle.std.proofs.Common.{◌≡◌, ℕ, ◌+◌, ◌<◌, ◌≤◌, zero, suc, List, [], ◌∷◌, ◌++◌, length, map, take, drop, get_or, slice_get, option_map, Option, Some, None, refl, sym, ap, ◌∙◌, append_assoc, add-one, drop-cons}
+use Rattle.std.proofs.Common.{◌≡◌, ℕ, ◌+◌, ◌<◌, ◌≤◌, zero, suc, List, [], ◌∷◌, ◌++◌, length, map, drop, get_or, slice_get, option_map, Option, Some, None, refl, sym, ap, ◌∙◌, append_assoc, add-one, drop-cons}
 use Rattle.std.proofs.lemmas.List.{append-nil}
 use Rattle.std.proofs.lemmas.Option.{slice_get-map, slice_get-get_or, slice_get_past}
 use Rattle.std.proofs.Math.ListN.{drop_of_length-le}
@@ -7,12 +7,11 @@ use Rattle.std.proofs.Math.Seq.{drop-length}
 use Rattle.flow_base.specs.declared.code.Code.{Code}
 use Rattle.flow_base.specs.declared.command.TextFault.{TextFault}
 use Rattle.flow_base.specs.declared.syntax.TypeAt.{TypeAt}
-use Rattle.flow_base.specs.declared.syntax.Declaration.{Declaration}
 use Rattle.flow_base.specs.declared.syntax.Expr.{Expr}
 use Rattle.flow_base.specs.declared.syntax.Unary.{Unary}
 use Rattle.flow_base.specs.declared.syntax.Binary.{Binary}
 use Rattle.flow_base.specs.declared.value.Kind.{Kind}
-use Rattle.flow_base.specs.Shown.{shown_expr, shown_declaration}
+use Rattle.flow_base.specs.Shown.{shown_expr}
 use Rattle.flow_base.specs.Syntax.{Expression, Apply, Combine, Declared}
 use Rattle.flow_model.specs.WellFormed.{Types, fault, fault_at_first, earliest, kind_of, kinds_of, beginning, wrong_kind, wrong_operands, operand_kind, operands_kind, faults_of_expression, faults_of_arguments, faults_of_declared, faults_of_declarations}
 use Rattle.flow_check.specs.Tables.{faults_of_argument}

@@ -1,6 +1,6 @@
 -- What the table of variables and activities knows behind a declaration, an activity, a statement.
 use Rattle.std.proofs.Common.{◌≡◌, ℕ, ◌+◌, ◌<◌, Bool, true, false, cond, List, [], ◌∷◌, ◌++◌, length, map, take, get_or, Option, Some, None, is_some, option_map, refl, sym, ap, subst, ◌∙◌, bytes_eq, append_assoc}
-use Rattle.std.proofs.lemmas.List.{append-nil, take_more, map-append}
+use Rattle.std.proofs.lemmas.List.{take_more}
 use Rattle.std.proofs.lemmas.Map.Text.{hash_map_updates_str}
 use Rattle.std.proofs.lemmas.Slice.Eq.{bytes_eq-Decides}
 use Rattle.std.specs.HashMap.{HashMap, get_by, UpdatesBy}
@@ -9,7 +9,7 @@ use Rattle.flow_base.specs.declared.syntax.Declaration.{Declaration}
 use Rattle.flow_base.specs.declared.syntax.Parameter.{Parameter}
 use Rattle.flow_base.specs.declared.syntax.Stmt.{Stmt}
 use Rattle.flow_base.specs.Shown.{shown_stmt, shown_declaration, shown_block}
-use Rattle.flow_base.specs.Syntax.{Bytes, Block, End, Next, Statement, Declared, Activity, Signal, block_of}
+use Rattle.flow_base.specs.Syntax.{Bytes, End, Next, Statement, Declared, Activity, Signal, block_of}
 use Rattle.flow_model.specs.WellFormed as rule
 use Rattle.flow_model.specs.WellFormed.{with_type, types_of_parameters, activity_of, kinds_of, earliest, faults_of_block, faults_of_statement, behind}
 use Rattle.flow_model.proofs.FirstFault.{earliest-append}

@@ -1,5 +1,5 @@
 -- What has no type: rows of `HasKind`.
-use Rattle.std.proofs.Common.{◌≡◌, ℕ, ℤ, Option, Some, None, sym, ◌∙◌}
+use Rattle.std.proofs.Common.{◌≡◌, ℕ, ℤ, Some, None, sym, ◌∙◌}
 use Rattle.flow_base.specs.Syntax.{Bytes, Number, Literal, Variable, Apply, Combine}
 use Rattle.flow_base.specs.declared.value.Value.{Value}
 use Rattle.flow_base.specs.declared.value.Kind.{Kind}

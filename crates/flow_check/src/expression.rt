@@ -1,6 +1,6 @@
 ghost use Rattle.std.specs.Prelude.{◌≡◌, ℕ};
 ghost use Rattle.flow_base.specs.Shown.{shown_expr};
-ghost use Rattle.flow_model.specs.WellFormed.{kind_of, is_kind, faults_of_expression, earliest, wrong_kind, wrong_operands, applied_kind, combined_kind, operand_kind, operands_kind, operands_fit, unary_result, binary_result, not_visible, type_known, beginning as beginning_of};
+ghost use Rattle.flow_model.specs.WellFormed.{kind_of, is_kind, faults_of_expression, earliest, wrong_kind, wrong_operands, applied_kind, combined_kind, operand_kind, operands_kind, operands_fit, not_visible, type_known, beginning as beginning_of};
 ghost use Rattle.flow_check.specs.Tables.{types_of};
 
 use crate::first::FirstFault;

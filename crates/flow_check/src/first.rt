@@ -1,5 +1,5 @@
-ghost use Rattle.std.specs.Prelude.{◌≡◌, None, IsTrue};
-ghost use Rattle.flow_model.specs.WellFormed.{fault, earlier, earliest, is_earlier};
+ghost use Rattle.std.specs.Prelude.{◌≡◌, None};
+ghost use Rattle.flow_model.specs.WellFormed.{fault, earliest, is_earlier};
 
 use flow_base::code::Code;
 use flow_base::command::TextFault;

@@ -10,7 +10,6 @@ use crate::fault::CheckFault;
 use crate::texts::Texts;
 use flow_base::command::TextFault;
 use flow_base::text::RawText;
-use flow_syntax::fault::ParseFault;
 use flow_syntax::parse::parse;
 use std::alloc::{AllocError, Global};
 

@@ -3,12 +3,12 @@
 
 pub mod check;
 pub mod checked;
-pub mod expression;
+mod expression;
 pub mod fault;
-pub mod first;
+mod first;
 pub mod language;
 pub mod laws;
-pub mod names;
-pub mod scope;
-pub mod statement;
+mod names;
+mod scope;
+mod statement;
 pub mod texts;

@@ -1,8 +1,8 @@
-ghost use Rattle.std.specs.Prelude.{◌≡◌, ◌∷◌, [], map, option_map, slice_get, OnOk};
+ghost use Rattle.std.specs.Prelude.{◌≡◌, [], map, option_map, slice_get, OnOk};
 ghost use Rattle.flow_base.specs.Shown.{shown_expr, shown_stmt, shown_block};
 ghost use Rattle.flow_base.specs.Syntax.{Next, End};
 ghost use Rattle.flow_model.specs.WellFormed.{earliest, faults_of_assigned, faults_of_call, faults_of_arguments, wrong_count, kinds_of, given};
-ghost use Rattle.flow_check.specs.Tables.{types_of, activities_of, shown_signature, Checks, faults_of_argument};
+ghost use Rattle.flow_check.specs.Tables.{types_of, shown_signature, Checks, faults_of_argument};
 
 use crate::expression::{beginning, check_expression, check_kind};
 use crate::first::FirstFault;

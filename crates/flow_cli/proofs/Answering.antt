@@ -8,19 +8,21 @@ use Rattle.flow_base.specs.declared.command.Command.{Command}
 use Rattle.flow_model.specs.Apply.{Rules}
 use Rattle.flow_model.specs.Book.{Book}
 use Rattle.flow_cli.specs.Driving.{lines_of, written, answer_status, final_status, WritesBeginning}
-use Rattle.flow_cli.specs.Answering.{IsAnswer, AreAnswers, FirstLine, Answered, AllAnswered, StatusWithin, WritesPart, WritesUntil, LeavesBook, StopsWithin}
+use Rattle.flow_cli.specs.Answering.{IsAnswer, AreAnswers, FirstLine, Answered, AllAnswered, StatusWithin, WritesPart, WritesSome, WritesUntil, LeavesBook, StopsWithin}
+use Rattle.flow_cli.specs.Commands.{line_command}
 use Rattle.flow_cli.specs.Replies.{line_text}
 use Rattle.flow_cli.specs.declared.drive.Stopped.{Stopped}
 use Rattle.flow_cli.specs.declared.drive.Stopped.TheVariants as stopped
 use Rattle.flow_base.specs.declared.fault.Fault.{Fault}
 use Rattle.flow_cli.specs.declared.reply.Line.{Line}
+use Rattle.flow_cli.specs.declared.reply.Line.TheVariants as a_line
 
-written-append : (xs ys : List Line) → written (xs ++ ys) ≡ written xs ++ written ys
+pub written-append : (xs ys : List Line) → written (xs ++ ys) ≡ written xs ++ written ys
 written-append [] ys = refl
 written-append (x ∷ xs) ys =
     ap (λ l. (line_text x ++ 10 ∷ []) ++ l) (written-append xs ys) ∙ sym (append_assoc (line_text x ++ 10 ∷ []) (written xs) (written ys))
 
-status-append : (xs ys : List Line) → final_status (xs ++ ys) ≡ max (final_status xs) (final_status ys)
+pub status-append : (xs ys : List Line) → final_status (xs ++ ys) ≡ max (final_status xs) (final_status ys)
 status-append [] ys = omega arith
 status-append (x ∷ xs) ys = let e = status-append xs ys in omega arith
 
@@ -37,14 +39,19 @@ none_appended (Some x) (Some y) adds = adds ∙ append-nil x
 pub none_written : (out : Option (List ℕ)) → Appends out out []
 none_written out = Appends-nil out
 
+-- whatever the bytes are
+pub each : (known : Option (List ℕ)) (P : List ℕ → Type 0) → ((bytes : List ℕ) → P bytes) → IfSome known P
+each None P holds = tt
+each (Some bytes) P holds = holds bytes
+
 -- the first of two statuses is within, and the other, so the greater one is
-pub both_within : (given_up : Book → Command → Code → Type 0) (n m k : ℕ) → StatusWithin given_up n → StatusWithin given_up m → k ≡ max n m → StatusWithin given_up k
+pub both_within : (given_up : Book → List Command → Code → Type 0) (n m k : ℕ) → StatusWithin given_up n → StatusWithin given_up m → k ≡ max n m → StatusWithin given_up k
 both_within given_up n m k (inl low) (inl less) is = inl (omega arith)
 both_within given_up n m k (inl low) (inr high) is = let e = high.0 in inr (omega arith, high.1)
 both_within given_up n m k (inr high) (inl low) is = let e = high.0 in inr (omega arith, high.1)
 both_within given_up n m k (inr high) (inr up) is = let e = high.0 in let d = up.0 in inr (omega arith, high.1)
 
-module _ (u : Rules) (given_up : Book → Command → Code → Type 0) where
+module _ (u : Rules) (given_up : Book → List Command → Code → Type 0) where
   pub answers-append : (b b1 b2 : Book) (xs ys : List (List ℕ)) (ps qs : List Line) → AreAnswers u given_up b b1 xs ps → AreAnswers u given_up b1 b2 ys qs → AreAnswers u given_up b b2 (xs ++ ys) (ps ++ qs)
   answers-append b b1 b2 [] ys [] qs f g = subst (λ k. AreAnswers u given_up k b2 ys qs) f g
   answers-append b b1 b2 [] ys (p ∷ ps) qs f g = absurd f
@@ -68,18 +75,35 @@ module _ (u : Rules) (given_up : Book → Command → Code → Type 0) where
     status_is = refl;
   }
 
-  -- one line was answered
-  pub one_answered : (b b1 : Book) (known left old new : Option (List ℕ)) (found line : List ℕ) (a : Line) (n : ℕ) → IfSome known (λ bytes. FirstLine bytes found left) → line ≡ found → IsAnswer u given_up b b1 line a → Appends old new (line_text a ++ 10 ∷ []) → n ≡ answer_status a → IfSome known (λ bytes. Answered u given_up b b1 bytes left old new n)
-  one_answered b b1 None left old new found line a n first same is adds status = tt
-  one_answered b b1 (Some bytes) left old new found line a n first same is adds status = record {
+  -- one line was answered that is no command
+  pub bad_answered : (b : Book) (known left old new : Option (List ℕ)) (found line : List ℕ) (n : ℕ) → IfSome known (λ bytes. FirstLine bytes found left) → line ≡ found → line_command line ≡ None → Appends old new (line_text a_line.Bad ++ 10 ∷ []) → n ≡ answer_status a_line.Bad → IfSome known (λ bytes. Answered u given_up b b bytes left old new n)
+  bad_answered b None left old new found line n first same bad adds is = tt
+  bad_answered b (Some bytes) left old new found line n first same bad adds is = record {
     lines = line ∷ [];
     rest = drop_through 10 bytes;
-    answers = a ∷ [];
+    answers = a_line.Bad ∷ [];
     left_is = first.left_is;
     lines_are = first.lines_are ∙ ap (λ l. l ∷ lines_of (drop_through 10 bytes)) (sym same);
-    answers_are = one b b1 line a is;
-    written_are = subst (Appends old new) (sym (append-nil (line_text a ++ 10 ∷ []))) adds;
-    status_is = omega arith;
+    answers_are = one b b line a_line.Bad (bad, refl);
+    written_are = subst (Appends old new) (sym (append-nil (line_text a_line.Bad ++ 10 ∷ []))) adds;
+    status_is = is;
+  }
+
+  -- and where its answer wasn't all written
+  pub bad_written : (b : Book) (e : Stopped) (known left old new : Option (List ℕ)) (found line : List ℕ) → IfSome known (λ bytes. FirstLine bytes found left) → line ≡ found → line_command line ≡ None → WritesPart e old new (line_text a_line.Bad ++ 10 ∷ []) → IfSome known (λ bytes. StopsWithin u given_up b b e (lines_of bytes) old new)
+  bad_written b e None left old new found line first same bad w = tt
+  bad_written b (stopped.Refused f) (Some bytes) left old new found line first same bad w =
+      record { lines = []; later = lines_of bytes; answers = []; book = b; lines_are = refl; answers_are = refl; written_are = kept_appends old new w; book_is = tt }
+  bad_written b (stopped.Input f) (Some bytes) left old new found line first same bad w = absurd w
+  bad_written b (stopped.Output f) (Some bytes) left old new found line first same bad w = record {
+    lines = line ∷ [];
+    later = lines_of (drop_through 10 bytes);
+    answers = a_line.Bad ∷ [];
+    book = b;
+    lines_are = first.lines_are ∙ ap (λ l. l ∷ lines_of (drop_through 10 bytes)) (sym same);
+    answers_are = one b b line a_line.Bad (bad, refl);
+    written_are = subst (WritesBeginning old new) (sym (append-nil (line_text a_line.Bad ++ 10 ∷ []))) w;
+    book_is = refl;
   }
 
   joined : (b b1 b2 : Book) (bytes : List ℕ) (left left1 old new new1 : Option (List ℕ)) (n m : ℕ) (f : Answered u given_up b b1 bytes left old new n) → Answered u given_up b1 b2 f.rest left1 new new1 m → Answered u given_up b b2 bytes left1 old new1 (max n m)
@@ -107,7 +131,7 @@ module _ (u : Rules) (given_up : Book → Command → Code → Type 0) where
       f.lines_are ∙ ap (λ r. f.lines ++ lines_of r) none ∙ append-nil f.lines
 
   -- at the end of the input
-  pub all_answered : (b b1 : Book) (known left old new : Option (List ℕ)) (n : ℕ) → IfSome known (λ bytes. Answered u given_up b b1 bytes left old new n) → IfSome left (λ rest. rest ≡ []) → IfSome known (λ bytes. AllAnswered u given_up b b1 bytes old new n)
+  pub all_answered : (b b1 : Book) (known left old new : Option (List ℕ)) (n : ℕ) → IfSome known (λ bytes. Answered u given_up b b1 bytes left old new n) → IfSome left (λ rest. rest ≡ []) → IfSome known (λ bytes. AllAnswered u given_up b b1 (lines_of bytes) old new n)
   all_answered b b1 None left old new n f end = tt
   all_answered b b1 (Some bytes) left old new n f end = record {
     answers = f.answers;
@@ -119,61 +143,36 @@ module _ (u : Rules) (given_up : Book → Command → Code → Type 0) where
   -- ---- on an early end
 
   -- nothing was answered
-  pub none_answered : (b : Book) (e : Stopped) (known out : Option (List ℕ)) → WritesUntil e out out [] → LeavesBook e b b → IfSome known (λ bytes. StopsWithin u given_up b b e bytes out out)
-  none_answered b e None out w same = tt
-  none_answered b e (Some bytes) out w same = record {
-    lines = [];
-    later = lines_of bytes;
-    answers = [];
-    book = b;
-    lines_are = refl;
-    answers_are = refl;
-    written_are = w;
-    book_is = same;
-  }
+  pub none_answered : (b b1 : Book) (e : Stopped) (whole : List (List ℕ)) (out : Option (List ℕ)) → WritesUntil e out out [] → LeavesBook e b b1 → StopsWithin u given_up b b1 e whole out out
+  none_answered b b1 e whole out w left = record { lines = []; later = whole; answers = []; book = b; lines_are = refl; answers_are = refl; written_are = w; book_is = left }
 
-  -- the command under way has no answer
-  pub none_replied : (b b1 : Book) (known out : Option (List ℕ)) (f : Fault) → IfSome known (λ bytes. StopsWithin u given_up b b1 (stopped.Refused f) bytes out out)
-  none_replied b b1 None out f = tt
-  none_replied b b1 (Some bytes) out f = record {
-    lines = [];
-    later = lines_of bytes;
-    answers = [];
-    book = b;
-    lines_are = refl;
-    answers_are = refl;
-    written_are = Appends-nil out;
-    book_is = tt;
-  }
+  -- the commands under way have no answer
+  pub none_replied : (b b1 : Book) (whole : List (List ℕ)) (out : Option (List ℕ)) (f : Fault) → StopsWithin u given_up b b1 (stopped.Refused f) whole out out
+  none_replied b b1 whole out f = none_answered b b1 (stopped.Refused f) whole out (Appends-nil out) tt
 
-  part : (b b1 : Book) (e : Stopped) (bytes : List ℕ) (left old new : Option (List ℕ)) (line : List ℕ) (a : Line) → FirstLine bytes line left → IsAnswer u given_up b b1 line a → WritesPart e old new (line_text a ++ 10 ∷ []) → StopsWithin u given_up b b1 e bytes old new
-  part b b1 (stopped.Refused f) bytes left old new line a first is w = record {
-    lines = [];
-    later = lines_of bytes;
-    answers = [];
-    book = b;
-    lines_are = refl;
-    answers_are = refl;
-    written_are = kept_appends old new w;
-    book_is = tt;
-  }
-  part b b1 (stopped.Input f) bytes left old new line a first is w = absurd w
-  part b b1 (stopped.Output f) bytes left old new line a first is w = record {
-    lines = line ∷ [];
-    later = lines_of (drop_through 10 bytes);
-    answers = a ∷ [];
-    book = b1;
-    lines_are = first.lines_are;
-    answers_are = one b b1 line a is;
-    written_are = subst (WritesBeginning old new) (sym (append-nil (line_text a ++ 10 ∷ []))) w;
-    book_is = refl;
-  }
+  -- The first answers stand by themselves.
+  record FrontAnswered (b : Book) (ls : List (List ℕ)) (front : List Line) : Type 0 where
+    pub lines : List (List ℕ)
+    pub later : List (List ℕ)
+    pub book : Book
+    pub split : ls ≡ lines ++ later
+    pub are : AreAnswers u given_up b book lines front
 
-  -- a part of the first line's answer was written
-  pub part_written : (b b1 : Book) (e : Stopped) (known left old new : Option (List ℕ)) (found line : List ℕ) (a : Line) → IfSome known (λ bytes. FirstLine bytes found left) → line ≡ found → IsAnswer u given_up b b1 line a → WritesPart e old new (line_text a ++ 10 ∷ []) → IfSome known (λ bytes. StopsWithin u given_up b b1 e bytes old new)
-  part_written b b1 e None left old new found line a first same is w = tt
-  part_written b b1 e (Some bytes) left old new found line a first same is w =
-      part b b1 e bytes left old new line a (subst (λ l. FirstLine bytes l left) (sym same) first) is w
+  front_answered : (b b1 : Book) (ls : List (List ℕ)) (front back : List Line) → AreAnswers u given_up b b1 ls (front ++ back) → FrontAnswered b ls front
+  front_answered b b1 ls [] back h = record { lines = []; later = ls; book = b; split = refl; are = refl }
+  front_answered b b1 [] (a ∷ front) back h = absurd h
+  front_answered b b1 (l ∷ ls) (a ∷ front) back h =
+      let rest = front_answered h.0 b1 ls front back h.1.1 in
+      record { lines = l ∷ rest.lines; later = rest.later; book = rest.book; split = ap (λ x. l ∷ x) rest.split; are = (h.0, (h.1.0, rest.are)) }
+
+  -- a part of the answers to lines was written
+  pub some_written : (b b1 : Book) (e : Stopped) (ls : List (List ℕ)) (answers : List Line) (old new : Option (List ℕ)) → AreAnswers u given_up b b1 ls answers → WritesSome e old new answers → StopsWithin u given_up b b1 e ls old new
+  some_written b b1 (stopped.Refused f) ls answers old new are w =
+      let front = front_answered b b1 ls w.0 w.1.0 (subst (AreAnswers u given_up b b1 ls) w.1.1.0 are) in
+      record { lines = front.lines; later = front.later; answers = w.0; book = front.book; lines_are = front.split; answers_are = front.are; written_are = w.1.1.1; book_is = tt }
+  some_written b b1 (stopped.Input f) ls answers old new are w = absurd w
+  some_written b b1 (stopped.Output f) ls answers old new are w =
+      record { lines = ls; later = []; answers = answers; book = b1; lines_are = sym (append-nil ls); answers_are = are; written_are = w; book_is = refl }
 
   written_later : (e : Stopped) (old new new1 : Option (List ℕ)) (done later : List Line) → Appends old new (written done) → WritesUntil e new new1 later → WritesUntil e old new1 (done ++ later)
   written_later (stopped.Refused f) old new new1 done later adds w = subst (Appends old new1) (sym (written-append done later)) (Appends-trans old new new1 _ _ adds w)
@@ -185,7 +184,7 @@ module _ (u : Rules) (given_up : Book → Command → Code → Type 0) where
     written_are = Appends-trans old new new1 _ _ adds w.written_are;
   }
 
-  stops_behind : (b b1 b2 : Book) (e : Stopped) (bytes : List ℕ) (left old new new1 : Option (List ℕ)) (n : ℕ) (f : Answered u given_up b b1 bytes left old new n) → StopsWithin u given_up b1 b2 e f.rest new new1 → StopsWithin u given_up b b2 e bytes old new1
+  stops_behind : (b b1 b2 : Book) (e : Stopped) (bytes : List ℕ) (left old new new1 : Option (List ℕ)) (n : ℕ) (f : Answered u given_up b b1 bytes left old new n) → StopsWithin u given_up b1 b2 e (lines_of f.rest) new new1 → StopsWithin u given_up b b2 e (lines_of bytes) old new1
   stops_behind b b1 b2 e bytes left old new new1 n f w = record {
     lines = f.lines ++ w.lines;
     later = w.later;
@@ -198,7 +197,7 @@ module _ (u : Rules) (given_up : Book → Command → Code → Type 0) where
   }
 
   -- what stops the lines behind stops them all
-  pub stops_later : (b b1 b2 : Book) (e : Stopped) (known left old new new1 : Option (List ℕ)) (n : ℕ) → IfSome known (λ bytes. Answered u given_up b b1 bytes left old new n) → IfSome left (λ bytes. StopsWithin u given_up b1 b2 e bytes new new1) → IfSome known (λ bytes. StopsWithin u given_up b b2 e bytes old new1)
+  pub stops_later : (b b1 b2 : Book) (e : Stopped) (known left old new new1 : Option (List ℕ)) (n : ℕ) → IfSome known (λ bytes. Answered u given_up b b1 bytes left old new n) → IfSome left (λ bytes. StopsWithin u given_up b1 b2 e (lines_of bytes) new new1) → IfSome known (λ bytes. StopsWithin u given_up b b2 e (lines_of bytes) old new1)
   stops_later b b1 b2 e None left old new new1 n f w = tt
   stops_later b b1 b2 e (Some bytes) left old new new1 n f w =
-      stops_behind b b1 b2 e bytes left old new new1 n f (subst (λ k. IfSome k (λ bytes. StopsWithin u given_up b1 b2 e bytes new new1)) f.left_is w)
+      stops_behind b b1 b2 e bytes left old new new1 n f (subst (λ k. IfSome k (λ bytes. StopsWithin u given_up b1 b2 e (lines_of bytes) new new1)) f.left_is w)

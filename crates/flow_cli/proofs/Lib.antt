@@ -4,5 +4,6 @@ pub mod Replies
 pub mod Lines
 pub mod Runs
 pub mod Answering
+pub mod Batches
 pub mod Stopping
 pub mod Histories

@@ -41,3 +41,8 @@ first_line_read (Some bytes) left before text line new reads rest some is =
           first_line bytes (take_through_nonempty 10 bytes (subst (λ l. 0 < length l) all some))
           ∙ ap (λ l. l ∷ lines_of (drop_through 10 bytes)) (sym (is ∙ ap (strip_last 10) all));
     }
+
+-- at the end of the input nothing is left
+pub ended : (known left : Option (List ℕ)) → IfSome known (λ bytes. bytes ≡ []) → DropsThrough known left 10 → IfSome known (λ bytes. (bytes ≡ []) × (left ≡ Some bytes))
+ended None left none rest = tt
+ended (Some bytes) left none rest = (none, rest ∙ ap (λ l. Some (drop_through 10 l)) none ∙ ap Some (sym none))

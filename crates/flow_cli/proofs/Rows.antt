@@ -22,9 +22,29 @@ drive_is_taken : fault_of flow (codes "flow" ∷ codes "drive" ∷ codes "-" ∷
 unfolding clap_on_literals
 drive_is_taken = refl
 
-drive_says : call_in (codes "flow" ∷ codes "drive" ∷ codes "-" ∷ []) ≡ Some (Drive (codes "-"))
+drive_says : call_in (codes "flow" ∷ codes "drive" ∷ codes "-" ∷ []) ≡ Some (Drive (codes "-") 1)
 unfolding clap_on_literals
 drive_says = refl
+
+batch_is_taken : fault_of flow (codes "flow" ∷ codes "drive" ∷ codes "-" ∷ codes "--batch" ∷ codes "64" ∷ []) ≡ []
+unfolding clap_on_literals
+batch_is_taken = refl
+
+batch_says : call_in (codes "flow" ∷ codes "drive" ∷ codes "-" ∷ codes "--batch" ∷ codes "64" ∷ []) ≡ Some (Drive (codes "-") 64)
+unfolding clap_on_literals
+batch_says = refl
+
+batch_before : call_in (codes "flow" ∷ codes "drive" ∷ codes "--batch=3" ∷ codes "-" ∷ []) ≡ Some (Drive (codes "-") 3)
+unfolding clap_on_literals
+batch_before = refl
+
+no_batch_of_0 : call_in (codes "flow" ∷ codes "drive" ∷ codes "-" ∷ codes "--batch" ∷ codes "0" ∷ []) ≡ None
+unfolding clap_on_literals
+no_batch_of_0 = refl
+
+no_batch_of_65 : call_in (codes "flow" ∷ codes "drive" ∷ codes "-" ∷ codes "--batch" ∷ codes "65" ∷ []) ≡ None
+unfolding clap_on_literals
+no_batch_of_65 = refl
 
 history_is_taken : fault_of flow (codes "flow" ∷ codes "history" ∷ codes "a" ∷ codes "12" ∷ []) ≡ []
 unfolding clap_on_literals

@@ -1,12 +1,12 @@
 -- The words of a command line, as clap reads them.
-use Rattle.std.specs.Prelude.{◌≡◌, ℕ, List, [], Option, Some, None, codes, option_map, option_and_then, bytes_eq, true, if◌then◌else◌}
+use Rattle.std.specs.Prelude.{◌≡◌, ℕ, List, [], ◌∷◌, Option, Some, None, codes, option_map, option_and_then, bytes_eq, true, if◌then◌else◌}
 use Rattle.clap.specs.Words.{App, Row, Rule, Text, first_of, fault_of, new_app, new_rule, subcommand_of, with_rule, with_subcommand}
 use Rattle.clap.specs.declared.builder.ArgAction.TheVariants.{Set}
 use Rattle.clap.specs.Simple.{on_top}
 use Rattle.clap.specs.ValueTests.{is_unsigned_in}
 use Rattle.std.specs.Str.Parse.{digits_value, without_leading_plus}
 
--- ---- the program: `flow check FILE`, `flow drive DB` and `flow history DB RUN`
+-- ---- the program: `flow check FILE`, `flow drive DB [--batch N]` and `flow history DB RUN`
 
 -- an argument with one value, which has to be there
 abbrev pub needed : Text → Rule
@@ -21,8 +21,12 @@ check = with_rule (new_app (codes "check")) file
 abbrev pub base : Rule
 base = needed (codes "DB")
 
+-- how many commands are applied together; one where nothing is said
+abbrev pub batch : Rule
+batch = record (new_rule (codes "batch")) { long = Some (codes "batch"); defaults = codes "1" ∷ []; action = Some Set }
+
 abbrev pub drive : App
-drive = with_rule (new_app (codes "drive")) base
+drive = with_rule (with_rule (new_app (codes "drive")) base) batch
 
 abbrev pub run : Rule
 run = needed (codes "RUN")
@@ -37,12 +41,21 @@ flow = with_subcommand (with_subcommand (with_subcommand (on_top (λ s. record s
 
 pub data Call : Type 0 where
   Check : Text → Call
-  Drive : Text → Call
+  Drive : Text → ℕ → Call
   History : Text → ℕ → Call
 
--- the run that a word names: a number in digits, perhaps behind a plus, from 1 to the last one
+-- the number that a word names: digits, perhaps behind a plus, from 1 to the last one
+abbrev pub number_in : ℕ → Text → Option ℕ
+number_in last word = if is_unsigned_in 1 last word then Some (digits_value 10 (without_leading_plus word)) else None
+
 abbrev pub run_in : Text → Option ℕ
-run_in word = if is_unsigned_in 1 9223372036854775807 word then Some (digits_value 10 (without_leading_plus word)) else None
+run_in word = number_in 9223372036854775807 word
+
+abbrev pub batch_in : Text → Option ℕ
+batch_in word = number_in 64 word
+
+abbrev pub drive_in : List Row → Option Call
+drive_in rows = option_and_then (λ base. option_and_then (λ word. option_map (Drive base) (batch_in word)) (first_of (codes "batch") rows)) (first_of (codes "DB") rows)
 
 abbrev pub history_in : List Row → Option Call
 history_in rows = option_and_then (λ base. option_and_then (λ word. option_map (History base) (run_in word)) (first_of (codes "RUN") rows)) (first_of (codes "DB") rows)
@@ -50,7 +63,7 @@ history_in rows = option_and_then (λ base. option_and_then (λ word. option_map
 abbrev pub named_call : Text → List Row → Option Call
 named_call name rows =
     if bytes_eq name (codes "check") then option_map Check (first_of (codes "FILE") rows) else
-    (if bytes_eq name (codes "drive") then option_map Drive (first_of (codes "DB") rows) else
+    (if bytes_eq name (codes "drive") then drive_in rows else
     (if bytes_eq name (codes "history") then history_in rows else None))
 
 -- the call that clap's matches of the words are

@@ -1,11 +1,10 @@
 -- What stands behind a fault that ends answering before the input does.
-use Rattle.std.specs.Prelude.{◌≡◌, ◌+◌, ℕ, List, ◌∷◌, ◌++◌, length, Option, Some, IfSome}
+use Rattle.std.specs.Prelude.{◌≡◌, ◌+◌, ◌≤◌, ℕ, List, ◌∷◌, ◌++◌, length, Option, Some, IfSome}
 use Rattle.flow_base.specs.declared.code.Code.{Code}
 use Rattle.flow_base.specs.declared.command.Command.{Command}
 use Rattle.flow_model.specs.Apply.{Rules}
 use Rattle.flow_model.specs.Book.{Book}
-use Rattle.flow_cli.specs.Answering.{AreAnswers}
-use Rattle.flow_cli.specs.Commands.{line_command}
+use Rattle.flow_cli.specs.Answering.{AreAnswers, commands_in}
 use Rattle.flow_cli.specs.Driving.{lines_of}
 use Rattle.flow_machine.specs.declared.answer.Stop.{Stop}
 use Rattle.flow_machine.specs.declared.answer.Stop.TheVariants as stop
@@ -34,27 +33,34 @@ StopsWriting (stopped.Refused f) = f ≡ fault.NoMemory
 StopsWriting (stopped.Input e) = ⊥
 StopsWriting (stopped.Output e) = Unit {0}
 
--- the command of a line has this stop
-abbrev pub LineStops : Option Command → (Command → Stop → Type 0) → Stop → Type 0
-LineStops given stops s = (c : Command) × ((given ≡ Some c) × stops c s)
-
--- a command is that of a line, over the book that the lines before it left
-pub record ComesNext (u : Rules) (given_up : Book → Command → Code → Type 0) (b : Book) (bytes : List ℕ) (book : Book) (c : Command) : Type 0 where
+-- Commands are those of the next lines, over the book that the lines before them left. They are applied together.
+pub record ComeNext (u : Rules) (given_up : Book → List Command → Code → Type 0) (b : Book) (bytes : List ℕ) (book : Book) (commands : List Command) : Type 0 where
   pub lines : List (List ℕ)
-  pub line : List ℕ
+  pub next : List (List ℕ)
   pub later : List (List ℕ)
   pub answers : List Line
-  pub lines_are : lines_of bytes ≡ lines ++ (line ∷ later)
+  pub lines_are : lines_of bytes ≡ lines ++ (next ++ later)
   pub answers_are : AreAnswers u given_up b book lines answers
-  pub command_is : line_command line ≡ Some c
+  pub commands_are : commands ≡ commands_in next
 
--- One command over one book has this stop. Where all is sure and the bytes are known, it is that of a line of theirs.
-abbrev pub StoppedBy : Rules → (Book → Command → Code → Type 0) → (Book → Command → Stop → Type 0) → Type 0 → Book → Option (List ℕ) → Stop → Type 0
+-- Commands are this one and those of the first lines of the bytes.
+pub record BeginWith (first : Command) (bytes : List ℕ) (commands : List Command) : Type 0 where
+  pub lines : List (List ℕ)
+  pub later : List (List ℕ)
+  pub lines_are : lines_of bytes ≡ lines ++ later
+  pub commands_are : commands ≡ first ∷ commands_in lines
+
+-- One batch over one book has this stop. Where all is sure and the bytes are known, it is that of lines of theirs.
+abbrev pub StoppedBy : Rules → (Book → List Command → Code → Type 0) → (Book → List Command → Stop → Type 0) → Type 0 → Book → Option (List ℕ) → Stop → Type 0
 StoppedBy u given_up stops sure b known s =
-    (book : Book) × ((c : Command) × (stops book c s × (sure → IfSome known (λ bytes. ComesNext u given_up b bytes book c))))
+    (book : Book) × ((commands : List Command) × (stops book commands s × (sure → IfSome known (λ bytes. ComeNext u given_up b bytes book commands))))
 
--- so many lines of the bytes were read, and the others are left
+-- A batch that begins with this command has this stop; its other commands are those of lines of the bytes.
+abbrev pub StopsAt : (List Command → Stop → Type 0) → Command → Option (List ℕ) → Stop → Type 0
+StopsAt stops first known s = (commands : List Command) × (stops commands s × IfSome known (λ bytes. BeginWith first bytes commands))
+
+-- so many lines of the bytes were read at least, and the others are left
 pub record ReadLines (n : ℕ) (bytes : List ℕ) (left : Option (List ℕ)) : Type 0 where
   pub rest : List ℕ
   pub left_is : left ≡ Some rest
-  pub count_is : length (lines_of bytes) ≡ n + length (lines_of rest)
+  pub count_is : n + length (lines_of rest) ≤ length (lines_of bytes)

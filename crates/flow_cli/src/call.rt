@@ -3,10 +3,11 @@ ghost use Rattle.std.specs.Prelude.{◌≡◌, ◌⊎◌, IfOk, IfErr, false, ma
 ghost use Rattle.clap.specs.Words.{app_of, rule_of, found_of, rows_of, first_of, subcommand_rows_of};
 ghost use Rattle.clap.specs.declared.builder.command.Command.TheViews.{out-Command as fields_of};
 ghost use Rattle.clap.specs.declared.error.kind.ErrorKind.TheVariants.{OutOfMemory};
-ghost use Rattle.flow_cli.specs.Calls.{flow, check, drive, history, needed, run_in, history_in, named_call, IsCall};
+ghost use Rattle.flow_cli.specs.Calls.{flow, check, drive, history, needed, batch, run_in, batch_in, drive_in, history_in, named_call, IsCall};
 ghost use Rattle.flow_cli.specs.Calls.{Call as Pure};
 ghost use Rattle.flow_cli.specs.Shown.{shown};
 
+use crate::batch::BatchSize;
 use clap::error::ErrorKind;
 use clap::{Arg, ArgAction, ArgMatches, Command};
 use flow_base::fault::Fault;
@@ -19,8 +20,8 @@ use std::convert::AsStr;
 pub enum Call<'a> {
     /// Check the text in this file.
     Check(&'a str),
-    /// Answer command lines over this store; `-` is a store in memory.
-    Drive(&'a str),
+    /// Answer command lines over this store, so many commands together; `-` is a store in memory.
+    Drive(&'a str, BatchSize),
     /// Tell the history of a run of this store.
     History(&'a str, RunId),
 }
@@ -40,11 +41,26 @@ fn check_command<'a>(alloc: Global) -> Result<Command<'a>, AllocError>
     Ok(Command::new(alloc, "check").arg(needed_arg(alloc, "FILE"))?)
 }
 
+/// How many commands are applied together; one where nothing is said.
+fn batch_arg<'a>(alloc: Global) -> Arg<'a>
+    ensures rule { rule_of result ≡ batch }
+    ensures local { result.global ≡ false }
+{
+    Arg::new(alloc, "batch")
+        .long("batch")
+        .default_value("1")
+        .action(ArgAction::Set)
+}
+
 fn drive_command<'a>(alloc: Global) -> Result<Command<'a>, AllocError>
     ensures app { IfOk result (λ c. app_of c ≡ drive) }
     ensures local { IfOk result (λ c. (fields_of c).has_globals ≡ false) }
 {
-    Ok(Command::new(alloc, "drive").arg(needed_arg(alloc, "DB"))?)
+    Ok(
+        Command::new(alloc, "drive")
+            .arg(needed_arg(alloc, "DB"))?
+            .arg(batch_arg(alloc))?,
+    )
 }
 
 fn history_command<'a>(alloc: Global) -> Result<Command<'a>, AllocError>
@@ -90,6 +106,24 @@ fn run_of(word: &str) -> Option<RunId>
     }
 }
 
+/// The size of a batch that is written out, as the number of a run.
+fn batch_of(word: &str) -> Option<BatchSize>
+    ensures { result ≡ batch_in word.now }
+{
+    match word.parse::<u64>() {
+        Ok(number) => BatchSize::new(number),
+        Err(_) => None,
+    }
+}
+
+fn drive_call<'a>(found: &ArgMatches<'a>) -> Option<Call<'a>>
+    ensures { option_map shown result ≡ drive_in (rows_of (found_of found.now)) }
+{
+    let base = text_of(found, "DB")?;
+    let most = batch_of(text_of(found, "batch")?)?;
+    Some(Call::Drive(base, most))
+}
+
 fn history_call<'a>(found: &ArgMatches<'a>) -> Option<Call<'a>>
     ensures { option_map shown result ≡ history_in (rows_of (found_of found.now)) }
 {
@@ -106,10 +140,7 @@ fn named_call<'a>(name: &str, found: &ArgMatches<'a>) -> Option<Call<'a>>
             Some(file) => Some(Call::Check(file)),
             None => None,
         },
-        "drive" => match text_of(found, "DB") {
-            Some(base) => Some(Call::Drive(base)),
-            None => None,
-        },
+        "drive" => drive_call(found),
         "history" => history_call(found),
         _ => None,
     }

@@ -1,9 +1,9 @@
 -- What a call on tables keeps, from call to call.
-use Rattle.std.proofs.Common.{◌≡◌, ◌⊎◌, inl, inr, refl, sym, ap, subst, ◌∙◌}
+use Rattle.std.proofs.Common.{◌≡◌, ◌⊎◌, inl, inr, refl, sym, subst, ◌∙◌}
 use Rattle.sqlite_trees.specs.declared.store.Store.{Ghosts}
 use Rattle.sqlite.specs.Held.{state}
 use Rattle.flow_model.specs.Book.{Book}
-use Rattle.flow_tables.specs.Owned.{Stored, IsFit, IsUp, is_sure, IsHindered, Refuses, IsOurs, Follows, Keeps, LeavesEither, LeavesWritten, IsFileOf, state_of}
+use Rattle.flow_tables.specs.Owned.{Stored, IsFit, IsUp, is_sure, IsHindered, IsOurs, Follows, Keeps, LeavesEither, LeavesWritten, IsFileOf, state_of}
 
 module _ {S : Type 0} (g : Ghosts S) (a b : Stored S) (follows : Follows g a b) (fit : IsFit g b) where
   pub fit_before : IsFit g a

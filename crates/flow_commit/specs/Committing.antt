@@ -9,7 +9,7 @@ use Rattle.flow_machine.specs.Stuck.{IsStuckWithin}
 use Rattle.flow_view.specs.declared.fault.ViewFault.TheVariants as fault
 use Rattle.flow_tables.specs.Faults.{WasStopped, FailsWithin}
 use Rattle.flow_tables.specs.States.{HasGoneBack}
-use Rattle.flow_tables.specs.Owned.{Stored, state_of, Keeps, Follows, Refuses, LeavesEither}
+use Rattle.flow_tables.specs.Owned.{Stored, state_of, IsUp, Keeps, Follows, Refuses, LeavesEither}
 use Rattle.flow_commit.specs.declared.outcome.Outcome.{Outcome}
 use Rattle.flow_commit.specs.declared.outcome.Outcome.TheVariants as outcomes
 use Rattle.flow_commit.specs.declared.transaction.End.{End}
@@ -20,7 +20,7 @@ use Rattle.flow_commit.specs.Keeping.{Keeping, rules, commands_of, HasKept, HasR
 abbrev pub EndsAs : {S : Type 0} → Ghosts S → Stored S → Book → List Command → End → Type 0
 EndsAs g new b cs (end.Kept rs) = (rs.items ≡ replies rules b cs) × Keeps (state_of g new) (after rules b cs)
 EndsAs g new b cs (end.Refused f) = Keeps (state_of g new) b
-EndsAs g new b cs end.Unknown = LeavesEither (state_of g new) b (after rules b cs)
+EndsAs g new b cs end.Unknown = LeavesEither (state_of g new) b (after rules b cs) × (IsUp g new → Keeps (state_of g new) b)
 
 -- one that was committed has so many replies
 abbrev pub HasReplies : ℕ → End → Type 0

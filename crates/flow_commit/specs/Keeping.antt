@@ -91,7 +91,9 @@ pub record HasRefused {S : Type 0} (g : Ghosts S) (old new : Keeping S) (b : Boo
   pub counts : new.kept ≡ old.kept
   pub goes_on : new.halted ≡ false
 
--- Nobody knows: a stop may leave the book before it or the book after it. The keeper has halted.
+-- Nobody knows: a stop may leave the book before it or the book after it. The keeper has halted. Where the connection is still open
+-- nothing was committed, so that closing it gives back the book before.
 pub record IsUnknown {S : Type 0} (g : Ghosts S) (old new : Keeping S) (b : Book) (batch : List Taken) : Type 0 where
   pub either : LeavesEither (state_of g new.stored) b (after rules b (commands_of batch))
+  pub still : IsUp g new → KeepsBook g new b
   pub halted : new.halted ≡ true

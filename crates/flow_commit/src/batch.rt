@@ -61,7 +61,7 @@ impl Batch {
     }
 
     /// The submissions, in their order.
-    pub fn into_taken(self) -> Vec<Taken>
+    pub(crate) fn into_taken(self) -> Vec<Taken>
         ensures same { result.items ≡ self }
         // So they may be a batch again.
         ensures some { 1 ≤ length self }

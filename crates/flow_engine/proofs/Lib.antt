@@ -1,6 +1,13 @@
+pub mod AtOnce
 pub mod Committed
+pub mod Filling
 pub mod Found
 pub mod Gathering
+pub mod Joining
+pub mod Lives
 pub mod OneMore
 pub mod Singly
+pub mod Same
 pub mod Standing
+pub mod Stopping
+pub mod Walking

@@ -34,17 +34,18 @@ module _ {S : Type 0} (g : Ghosts S) (old : Keeping S) (b : Book) where
       let long : length (k ++ commands_of batch) ≡ length k + length batch = length-append k (commands_of batch) ∙ ap (λ n. length k + n) (length-map batch command_of) in
       let before : mid.kept ≡ old.kept + length k = was.counts refl in
       let counts : new.kept ≡ mid.kept + length batch = one.counts in
-      record { halted = one.goes_on; book = λ _. book; counts = λ _. omega (arith, long, before, counts); stops = λ db may. inl (book.stops db may) }
+      record { halted = one.goes_on; book = λ _. book; still = λ _. book; counts = λ _. omega (arith, long, before, counts); stops = λ db may. inl (book.stops db may) }
 
   lead_refused : (mid new : Keeping S) (k h h' : List Command) → Leads mid false k h → HasRefused g mid new (after rules b k) → Leads new false k h'
   lead_refused mid new k h h' was one =
-      record { halted = one.goes_on; book = λ _. one.book; counts = λ _. one.counts ∙ was.counts refl; stops = λ db may. inl (one.book.stops db may) }
+      record { halted = one.goes_on; book = λ _. one.book; still = λ _. one.book; counts = λ _. one.counts ∙ was.counts refl; stops = λ db may. inl (one.book.stops db may) }
 
   lead_unknown : (mid new : Keeping S) (k : List Command) (batch : List Taken) → IsUnknown g mid new (after rules b k) batch → Leads new true k (commands_of batch)
   lead_unknown mid new k batch one =
       record {
         halted = one.halted;
         book = λ e. off e;
+        still = one.still;
         counts = λ e. off e;
         stops = subst (λ x. LeavesEither (state_of g new.stored) (after rules b k) x) (sym (after_cut rules b k (commands_of batch))) one.either;
       }
@@ -170,7 +171,7 @@ none_yet {S = S} g old whole left ds all none = record {
   behind = [];
   split = all;
   fit = λ h. h;
-  reached = λ fit b keeps goes. subst (λ l. Reached g old b old [] l) (sym none) (tt, record { halted = goes; book = λ _. keeps; counts = λ _. omega arith; stops = λ db may. inl (keeps.stops db may) });
+  reached = λ fit b keeps goes. subst (λ l. Reached g old b old [] l) (sym none) (tt, record { halted = goes; book = λ _. keeps; still = λ _. keeps; counts = λ _. omega arith; stops = λ db may. inl (keeps.stops db may) });
   halted = λ _. refl;
   later = λ _. none;
   count = ap length none;

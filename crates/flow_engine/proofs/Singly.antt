@@ -1,6 +1,7 @@
 -- Commands that are cut into batches of one.
-use Rattle.std.proofs.Common.{◌≡◌, inl, inr, ℕ, suc, ◌+◌, ◌<◌, Bool, true, false, List, [], ◌∷◌, ◌++◌, length, map, Some, None, refl, sym, ap, ◌∙◌, subst, arith, append-nil, append_assoc}
-use Rattle.std.proofs.lemmas.List.{length-map}
+use Rattle.std.proofs.Common.{◌≡◌, inl, inr, ℕ, suc, ◌+◌, ◌<◌, Bool, true, false, List, [], ◌∷◌, ◌++◌, length, map, Option, Some, None, refl, sym, ap, ◌∙◌, subst, arith, append-nil, append_assoc}
+use Rattle.std.specs.Prelude.{Result, Ok, Err, IfOk, IfErr, MatchResult}
+use Rattle.std.proofs.lemmas.List.{length-map, map-append}
 use Rattle.std.proofs.lemmas.Option.{same_Some}
 use Rattle.sqlite_trees.specs.declared.store.Store.{Ghosts}
 use Rattle.flow_base.specs.declared.command.Command.{Command}
@@ -24,8 +25,8 @@ use Rattle.flow_engine.specs.declared.done.Done.{Done}
 use Rattle.flow_engine.specs.declared.done.Done.TheVariants as done
 use Rattle.flow_engine.specs.declared.done.Unanswered.{Unanswered}
 use Rattle.flow_engine.specs.declared.done.Unanswered.TheVariants as unanswered
-use Rattle.flow_engine.specs.Driving.{AreAnswers, AreNoted, NotesAll, Drives, all_halted, has_unknown, kept_of, in_hand}
-use Rattle.flow_engine.specs.Answering.{IsSure, HasStopped, AnswersAll, AreCaused, KeepsAnswered, StopsBehind, IsStopped, EndsEarly, LeavesBehind, TellsStop, AreAlone, AreCut, AreSingle, alone, replied, given, first_stop}
+use Rattle.flow_engine.specs.Driving.{AreAnswers, AreNoted, NotesAll, Drives, Runs, all_halted, commands_in, has_unknown, kept_of, in_hand}
+use Rattle.flow_engine.specs.Answering.{IsSure, HasStopped, AnswersAll, AreCaused, KeepsAnswered, StopsBehind, IsStopped, EndsEarly, LeavesBehind, TellsStop, AreAlone, AreCut, AreSingle, alone, replied, given, first_stop, IsPart, IsPartUpTo}
 use Rattle.flow_engine.proofs.Committed.{one_book}
 use Rattle.flow_engine.proofs.Gathering.{no_hand_of_halted, none_kept_of_halted}
 use Rattle.flow_engine.proofs.OneMore.{WasOwn}
@@ -85,7 +86,7 @@ given_fewer (done.NotApplied f ∷ ds) s h e = let rest : length (given ds) < le
 given_fewer (done.Unknown ∷ ds) s h e = omega arith
 given_fewer (done.Halted ∷ ds) s h e = omega arith
 
-given_up_by : (f : ViewFault) → IsGivenUp (view_fault_code f)
+pub given_up_by : (f : ViewFault) → IsGivenUp (view_fault_code f)
 given_up_by fault.NoMemory = inr refl
 given_up_by fault.StoreRefused = inl refl
 
@@ -182,11 +183,7 @@ cut_at n b (t ∷ ts) (done.Unknown ∷ ds) s h e = record {
 cut_at n b (t ∷ ts) (done.Halted ∷ ds) s h e = absurd h
 
 commands_split : (ts us vs : List Taken) (t : Taken) → ts ≡ us ++ t ∷ vs → commands_of ts ≡ commands_of us ++ ((t.command ∷ []) ++ commands_of vs)
-commands_split ts us vs t e = ap commands_of e ∙ commands_apart us (t ∷ vs)
-  where
-    commands_apart : (xs ys : List Taken) → commands_of (xs ++ ys) ≡ commands_of xs ++ commands_of ys
-    commands_apart [] ys = refl
-    commands_apart (x ∷ xs) ys = ap (λ l. x.command ∷ l) (commands_apart xs ys)
+commands_split ts us vs t e = ap commands_of e ∙ map-append command_of us (t ∷ vs)
 
 ---- What becomes of an engine
 
@@ -440,6 +437,30 @@ module _ {S : Type 0} (g : Ghosts S) (old new : Keeping S) (ts : List Taken) (ds
   pub leaves_early : (u : Unanswered) → TellsStop before ds u → IsFit g new → (b : Book) → KeepsBook g old b → LeavesBehind g new b (commands_of ts) u
   leaves_early unanswered.NoMemory h fit b keeps = absurd h
   leaves_early (unanswered.Stopped l s) h fit b keeps = subst (StopsBehind g new b (commands_of ts)) (sym (from_none l.items h.0)) (stops_behind g old new ts ds driven fit b keeps s h.1)
+
+---- A part of a life
+
+pub alone_commands : (ts : List Taken) → commands_of ts ≡ commands_in (map alone ts)
+alone_commands [] = refl
+alone_commands (t ∷ ts) = ap (λ l. t.command ∷ l) (alone_commands ts)
+
+module _ {S : Type 0} (g : Ghosts S) (old new : Keeping S) (bs : List (List Taken)) (ds : List Done) (commands : List Command) (are : commands ≡ commands_in bs) (runs : Runs g old new bs ds) where
+  pub part_of : (answers : List Answer) (stops : Option Stop) → given ds ≡ answers → first_stop ds ≡ stops → IsPart g old new commands answers stops
+  part_of answers stops told stop = inl (record { batches = bs; dones = ds; are = are; runs = runs; told = told; stop = stop })
+
+  pub one_part : (r : Result Answer Stop) → IfOk r (λ a. (given ds ≡ a ∷ []) × (first_stop ds ≡ None)) → IfErr r (λ s. (given ds ≡ []) × (first_stop ds ≡ Some s))
+      → MatchResult r (λ a. IsPart g old new commands (a ∷ []) None) (λ s. IsPart g old new commands [] (Some s))
+  one_part (Ok a) h none = part_of (a ∷ []) None h.0 h.1
+  one_part (Err s) none h = part_of [] (Some s) h.0 h.1
+
+  pub early_part : (before : List Answer) → before ≡ [] → (u : Unanswered) → TellsStop before ds u → IsPartUpTo g old new commands u
+  early_part before none unanswered.NoMemory h = absurd h
+  early_part before none (unanswered.Stopped l s) h = part_of l.items (Some s) (sym (h.0 ∙ ap (λ x. x ++ given ds) none)) h.1
+
+  pub both_parts : {V : Type 0} (items : V → List Answer) (before : List Answer) → before ≡ [] → (r : Result V Unanswered) → IfOk r (λ all. (items all ≡ before ++ given ds) × (first_stop ds ≡ None)) → IfErr r (TellsStop before ds)
+      → MatchResult r (λ all. IsPart g old new commands (items all) None) (IsPartUpTo g old new commands)
+  both_parts items before none (Ok all) h nothing = part_of (items all) None (sym (h.0 ∙ ap (λ x. x ++ given ds) none)) h.1
+  both_parts items before none (Err u) nothing h = early_part before none u h
 
 -- as many batches as commands
 pub cut_long : (commands : List Command) (bs : List (List Taken)) → AreCut commands bs → length bs ≡ length commands

@@ -1,5 +1,5 @@
 -- Commands that are kept in a store before they are answered.
-use Rattle.std.specs.Prelude.{◌≡◌, ◌≤◌, ◌<◌, ℕ, true, false, List, [], ◌∷◌, ◌++◌, length, map, Option, Some, None}
+use Rattle.std.specs.Prelude.{◌≡◌, ◌⊎◌, ◌≤◌, ◌<◌, ℕ, true, false, List, [], ◌∷◌, ◌++◌, length, map, Option, Some, None}
 use Rattle.sqlite_trees.specs.declared.store.Store.{Ghosts}
 use Rattle.flow_base.specs.declared.command.Command.{Command}
 use Rattle.flow_model.specs.Apply.{Rules, outcome, after, after_one}
@@ -14,6 +14,7 @@ use Rattle.flow_machine.specs.declared.submission.Taken.{Taken}
 use Rattle.flow_machine.specs.declared.submission.Receipt.{Receipt}
 use Rattle.flow_tables.specs.Owned.{state_of, LeavesEither}
 use Rattle.flow_commit.specs.Keeping.{Keeping, rules, IsFit, IsUp, KeepsBook, commands_of}
+use Rattle.flow_engine.specs.Driving.{Runs, commands_in}
 use Rattle.flow_engine.specs.declared.done.Done.{Done}
 use Rattle.flow_engine.specs.declared.done.Done.TheVariants as done
 use Rattle.flow_engine.specs.declared.done.Unanswered.{Unanswered}
@@ -142,3 +143,22 @@ first_stop (done.Halted ∷ ds) = Some stop.Halted
 abbrev pub TellsStop : List Answer → List Done → Unanswered → Type 0
 TellsStop before ds unanswered.NoMemory = ⊥
 TellsStop before ds (unanswered.Stopped answers s) = (answers.items ≡ before ++ given ds) × (first_stop ds ≡ Some s)
+
+---- A part of a life
+
+-- Commands were answered so, up to a stop, as batches that the engine has answered.
+pub record HasRun {S : Type 0} (g : Ghosts S) (old new : Keeping S) (commands : List Command) (answers : List Answer) (stops : Option Stop) : Type 0 where
+  pub batches : List (List Taken)
+  pub dones : List Done
+  pub are : commands ≡ commands_in batches
+  pub runs : Runs g old new batches dones
+  pub told : given dones ≡ answers
+  pub stop : first_stop dones ≡ stops
+
+-- That, or nothing was done for want of memory.
+abbrev pub IsPart : {S : Type 0} → Ghosts S → Keeping S → Keeping S → List Command → List Answer → Option Stop → Type 0
+IsPart g old new commands answers stops = HasRun g old new commands answers stops ⊎ (new ≡ old)
+
+abbrev pub IsPartUpTo : {S : Type 0} → Ghosts S → Keeping S → Keeping S → List Command → Unanswered → Type 0
+IsPartUpTo g old new commands unanswered.NoMemory = new ≡ old
+IsPartUpTo g old new commands (unanswered.Stopped answers s) = IsPart g old new commands answers.items (Some s)

@@ -10,7 +10,7 @@ use Rattle.flow_machine.specs.declared.submission.Taken.{Taken}
 use Rattle.flow_machine.specs.declared.submission.Receipt.{Receipt}
 use Rattle.sqlite.specs.Tree.{Trees}
 use Rattle.flow_tables.specs.Owned.{state_of, IsFileOf, LeavesEither}
-use Rattle.flow_commit.specs.Keeping.{Keeping, rules, IsWell, KeepsBook, HasKept, HasRefused, IsUnknown, commands_of, receipts_of}
+use Rattle.flow_commit.specs.Keeping.{Keeping, rules, IsFit, IsUp, IsWell, KeepsBook, HasKept, HasRefused, IsUnknown, commands_of, receipts_of}
 use Rattle.flow_engine.specs.declared.done.Done.{Done}
 use Rattle.flow_engine.specs.declared.done.Done.TheVariants as done
 
@@ -81,13 +81,28 @@ replies_in batch (done.NotApplied f) = []
 replies_in batch done.Unknown = []
 replies_in batch done.Halted = []
 
+abbrev pub receipts_in : List Taken → Done → List Receipt
+receipts_in batch (done.Kept receipts) = receipts.items
+receipts_in batch (done.NotApplied f) = []
+receipts_in batch done.Unknown = []
+receipts_in batch done.Halted = []
+
 -- the commands of the kept batches, in their order
 abbrev pub kept_of : List (List Taken) → List Done → List Command
 kept_of batches ds = gathered if_kept batches ds
 
+-- the commands of all batches
+abbrev pub commands_in : List (List Taken) → List Command
+commands_in [] = []
+commands_in (batch ∷ batches) = commands_of batch ++ commands_in batches
+
 -- the commands of the batch of which nobody knows, if there is one
 abbrev pub in_hand : List (List Taken) → List Done → List Command
 in_hand batches ds = gathered if_unknown batches ds
+
+-- the receipts of all kept batches
+abbrev pub receipts_told : List (List Taken) → List Done → List Receipt
+receipts_told batches ds = gathered receipts_in batches ds
 
 -- the replies in the receipts of all kept batches
 abbrev pub replies_of : List (List Taken) → List Done → List Reply
@@ -113,12 +128,13 @@ pub record NotesAll {S : Type 0} (old new : Keeping S) (batches : List (List Tak
 
 ---- Where they lead
 
--- The engine has kept these commands of a book. While it hasn't halted it keeps the book after them; a stop leaves this book or,
--- where a batch is in hand, the one after the whole batch.
+-- The engine has kept these commands of a book. While it hasn't halted, or its connection is open, it keeps the book after them; a
+-- stop leaves this book or, where a batch is in hand, the one after the whole batch.
 pub record LeadsTo {S : Type 0} (g : Ghosts S) (old new : Keeping S) (b : Book) (halts : Bool) (kept hand : List Command) : Type 0 where
   pub halted : new.halted ≡ halts
   pub book : halts ≡ false → KeepsBook g new (after rules b kept)
   pub counts : halts ≡ false → new.kept ≡ old.kept + length kept
+  pub still : IsUp g new → KeepsBook g new (after rules b kept)
   pub stops : LeavesEither (state_of g new.stored) (after rules b kept) (after rules b (kept ++ hand))
 
 -- Batches that are committed one after the other, over an engine that keeps this book.
@@ -142,3 +158,10 @@ pub record IsLeft (db : Trees) (b : Book) (kept hand : List Command) : Type 0 wh
   pub are : (commands ≡ kept) ⊎ (commands ≡ kept ++ hand)
   pub file : IsFileOf db (after rules b commands)
   pub well : IsWell (after rules b commands)
+
+-- What is said of batches that an engine has answered, as a life has it.
+pub record Runs {S : Type 0} (g : Ghosts S) (first last : Keeping S) (batches : List (List Taken)) (dones : List Done) : Type 0 where
+  pub opened : last.stored.opened ≡ first.stored.opened
+  pub fit : IsFit g last → IsFit g first
+  pub drives : IsFit g last → (b : Book) → KeepsBook g first b → first.halted ≡ false → Drives g first last b batches dones
+  pub still : first.halted ≡ true → (last ≡ first) × (dones ≡ all_halted batches)

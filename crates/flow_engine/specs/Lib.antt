@@ -1,3 +1,7 @@
 pub mod Answering
 pub mod Driving
 pub mod Opening
+pub mod Headline
+pub mod Stopping
+pub mod Together
+pub mod Worlds

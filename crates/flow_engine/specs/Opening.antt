@@ -1,16 +1,16 @@
 -- What the opening of the engine gives, and why it is refused.
-use Rattle.std.specs.Prelude.{◌≡◌, ℕ, List, IsTrue}
+use Rattle.std.specs.Prelude.{◌≡◌, ◌⊎◌, ℕ, false, List, IsTrue}
 use Rattle.sqlite_trees.specs.declared.store.Store.{Ghosts}
 use Rattle.sqlite.specs.Tree.{Trees}
 use Rattle.sqlite.specs.State.{State, HasCleanDisk}
-use Rattle.sqlite.specs.Held.{state}
+use Rattle.sqlite.specs.Held.{Held, state}
 use Rattle.flow_base.specs.declared.book.Run.{Run}
 use Rattle.flow_base.specs.declared.fault.Fault.{Fault}
 use Rattle.flow_base.specs.declared.fault.Fault.TheVariants as fault
 use Rattle.flow_check.specs.Language.{meaning_of}
 use Rattle.flow_model.specs.Book.{Book}
 use Rattle.flow_tables.specs.Opening.{HasCause, HasOtherFormat, IsFirstDamage, IsOfStore}
-use Rattle.flow_tables.specs.Owned.{IsFileOf, IsFound, Keeps, LeavesMade}
+use Rattle.flow_tables.specs.Owned.{IsFileOf, IsFound, Keeps, LeavesMade, state_of}
 use Rattle.flow_tables.specs.States.{HasTables}
 use Rattle.flow_tables.specs.Stored.{tables_in}
 use Rattle.flow_commit.specs.Keeping.{Keeping, IsFit, IsWell, KeepsBook}
@@ -64,3 +64,20 @@ pub record IsUnopened {S : Type 0} (g : Ghosts S) (from to : State) (f : Fault) 
   -- Over what a stop left of a book, or over a connection that was closed while it kept the book.
   pub again : HasCleanDisk to → (db : Trees) (b : Book) → IsFileOf db b → (HasCleanDisk from → IsOpenedOver from db) → IsKeptFor to b f
   pub closed : HasCleanDisk to → (b : Book) → (HasCleanDisk from → IsTrue from.is_open × Keeps from b) → IsKeptFor to b f
+
+---- A life's beginning
+
+-- What is said of an engine that was opened over a connection.
+pub record Opens {S : Type 0} (g : Ghosts S) (conn : Held S) (first : Keeping S) : Type 0 where
+  pub opened : first.stored.opened ≡ conn
+  pub clean : HasCleanDisk (state_of g first.stored) → HasCleanDisk (state g conn)
+  pub anew : (first.kept ≡ 0) × (first.halted ≡ false)
+  pub found : IsFit g first → IsOpened g (state g conn) first
+  pub again : HasCleanDisk (state_of g first.stored) → (db : Trees) (b : Book) → IsFileOf db b → (HasCleanDisk (state g conn) → IsOpenedOver (state g conn) db) → KeepsAgain g first b
+  pub closed : HasCleanDisk (state_of g first.stored) → (b : Book) → (HasCleanDisk (state g conn) → IsTrue (state g conn).is_open × Keeps (state g conn) b) → KeepsAgain g first b
+
+-- A connection over this book: it was opened over a file of it, or handed back while the book was kept.
+abbrev pub StandsOver : {S : Type 0} → Ghosts S → Book → Held S → Type 0
+StandsOver g b conn =
+    ((db : Trees) × IsFileOf db b × (HasCleanDisk (state g conn) → IsOpenedOver (state g conn) db))
+    ⊎ (HasCleanDisk (state g conn) → IsTrue (state g conn).is_open × Keeps (state g conn) b)

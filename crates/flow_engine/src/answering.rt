@@ -1,11 +1,11 @@
 //! Commands answered over a store that keeps them.
-ghost use Rattle.std.specs.Prelude.{◌≡◌, ◌∷◌, ◌++◌, ◌+◌, ◌≤◌, List, [], Some, None, IfOk, IfErr, length, map, vec_len, vec_capacity};
+ghost use Rattle.std.specs.Prelude.{◌≡◌, ◌∷◌, ◌++◌, ◌+◌, ◌≤◌, List, [], Some, None, IfOk, IfErr, MatchResult, length, map, vec_len, vec_capacity};
 ghost use Rattle.flow_model.specs.Book.{Book};
 ghost use Rattle.flow_machine.specs.Answers.{Answers, CausedAnswer};
 ghost use Rattle.flow_machine.specs.declared.submission.Receipt.{Receipt as AReceipt};
 ghost use Rattle.flow_machine.specs.declared.submission.Taken.{Taken as ATaken};
 ghost use Rattle.flow_commit.specs.Keeping.{rules, IsFit, KeepsBook, commands_of, kept_book};
-ghost use Rattle.flow_engine.specs.Answering.{IsSure, Follows, HasStopped, AnswersAll, AreCaused, KeepsAnswered, EndsEarly, LeavesBehind, AreAlone, AreCut, IsSingle, AreSingle, alone, given, first_stop, TellsStop};
+ghost use Rattle.flow_engine.specs.Answering.{IsSure, Follows, HasStopped, AnswersAll, AreCaused, KeepsAnswered, EndsEarly, LeavesBehind, AreAlone, AreCut, IsSingle, AreSingle, alone, given, first_stop, TellsStop, IsPart, IsPartUpTo};
 
 use crate::done::{Done, Unanswered};
 use crate::drive::drive;
@@ -13,7 +13,7 @@ use crate::engine::Engine;
 use flow_base::code::Code;
 use flow_base::command::{Command, Reply};
 use flow_commit::batch::Batch;
-use flow_machine::answer::{Answer, Answering, Stop};
+use flow_machine::answer::{Answer, Answering, Stop, Together};
 use flow_machine::submission::{Receipt, Taken};
 use sqlite::Alter;
 use std::alloc::{AllocError, Global};
@@ -121,6 +121,8 @@ fn answered<S: Alter>(engine: &mut Engine<S>, batches: Vec<Batch>) -> Result<Ans
     ensures stopped { IfErr result (λ s. HasStopped engine.old engine.new s) }
     ensures sure { IsSure S.Store engine.new → IsSure S.Store engine.old }
     ensures follows { Follows S.Store engine.old engine.new }
+    ensures part { (t : ATaken) → batches.items ≡ (t ∷ []) ∷ []
+        → MatchResult result (λ a. IsPart S.Store engine.old engine.new (t.command ∷ []) (a ∷ []) None) (λ s. IsPart S.Store engine.old engine.new (t.command ∷ []) [] (Some s)) }
 {
     match drive(engine, batches) {
         Ok(dones) => one_answer(dones),
@@ -145,6 +147,8 @@ fn all_answered<S: Alter>(
     ensures leaves { IfErr result (λ u. IsFit S.Store engine.new → (b : Book) → KeepsBook S.Store engine.old b → (ts : List ATaken) → batches.items ≡ map alone ts → LeavesBehind S.Store engine.new b (commands_of ts) u) }
     ensures sure { IsSure S.Store engine.new → IsSure S.Store engine.old }
     ensures follows { Follows S.Store engine.old engine.new }
+    ensures part { (ts : List ATaken) → batches.items ≡ map alone ts
+        → MatchResult result (λ all. IsPart S.Store engine.old engine.new (commands_of ts) all.items None) (λ u. IsPartUpTo S.Store engine.old engine.new (commands_of ts) u) }
 {
     match drive(engine, batches) {
         Ok(dones) => all_answers(answers, dones),
@@ -165,6 +169,8 @@ impl<S: Alter> Engine<S> {
         ensures stopped { IfErr result (λ s. HasStopped self.old self.new s) }
         ensures sure { IsSure S.Store self.new → IsSure S.Store self.old }
         ensures follows { Follows S.Store self.old self.new }
+        // It is a part of a life, as the headline has it.
+        ensures part { MatchResult result (λ a. IsPart S.Store self.old self.new (command ∷ []) (a ∷ []) None) (λ s. IsPart S.Store self.old self.new (command ∷ []) [] (Some s)) }
     {
         let ticket = self.tickets(1);
         match one_batch(self.alloc(), Taken { ticket, command }) {
@@ -191,6 +197,8 @@ impl<S: Alter> Engine<S> {
         ensures leaves { IfErr result (λ u. IsFit S.Store self.new → (b : Book) → KeepsBook S.Store self.old b → LeavesBehind S.Store self.new b commands.items u) }
         ensures sure { IsSure S.Store self.new → IsSure S.Store self.old }
         ensures follows { Follows S.Store self.old self.new }
+        // They are a part of a life, as the headline has it.
+        ensures part { MatchResult result (λ all. IsPart S.Store self.old self.new commands.items all.items None) (λ u. IsPartUpTo S.Store self.old self.new commands.items u) }
     {
         let first = self.tickets(commands.len() as u64);
         let answers = match room_for(self.alloc(), commands.as_slice()) {
@@ -216,11 +224,15 @@ impl<S: Alter> Answering for Engine<S> {
 
     ghost follows = { λ a b. Follows S.Store a b };
 
-    ghost gives_up = { λ b c k. Unit {0} };
+    ghost gives_up = { λ b cs k. Unit {0} };
 
-    ghost stops = { λ e b c stop. IsLost e stop };
+    ghost stops = { λ e b cs stop. IsLost e stop };
 
     fn answer(&mut self, command: Command) -> Result<Answer, Stop> {
         Engine::answer(self, command)
+    }
+
+    fn answer_together(&mut self, commands: Vec<Command>) -> Result<Together, Stop> {
+        Engine::answer_together(self, commands)
     }
 }

@@ -5,7 +5,7 @@ ghost use Rattle.sqlite.specs.Tree.{Trees};
 ghost use Rattle.flow_tables.specs.Owned.{state_of};
 ghost use Rattle.flow_commit.specs.Keeping.{IsFit, IsUp, IsWell, KeepsBook, kept_book};
 ghost use Rattle.flow_engine.specs.declared.done.Done.TheVariants as dones;
-ghost use Rattle.flow_engine.specs.Driving.{HasDone, IsNoted, NotesAll, Drives, IsLeft, ReachesSound, ReachesWell, all_halted, kept_of, in_hand};
+ghost use Rattle.flow_engine.specs.Driving.{HasDone, IsNoted, NotesAll, Drives, IsLeft, ReachesSound, ReachesWell, Runs, all_halted, kept_of, in_hand};
 
 use crate::done::Done;
 use crate::engine::Engine;
@@ -31,7 +31,7 @@ pub(crate) fn done_with<S: Alter>(engine: &mut Engine<S>, batch: Batch) -> Done
             Done::Kept(receipts)
         }
         Outcome::NotApplied(_, fault) => Done::NotApplied(fault),
-        Outcome::Unknown(_) => Done::Unknown,
+        Outcome::Unknown(_batch) => Done::Unknown,
         Outcome::Halted(_) => Done::Halted,
     }
 }
@@ -52,6 +52,8 @@ pub fn drive<S: Alter>(
     // So whatever a stop leaves at this moment is found again, and nothing of it is refused.
     ensures leaves { IsFit S.Store engine.new → (b : Book) → IsWell b → KeepsBook S.Store engine.old b → engine.old.halted ≡ false
         → IfOk result (λ ds. (db : Trees) → (state_of S.Store engine.new.stored).may_leave db → IsLeft db b (kept_of batches.items ds.items) (in_hand batches.items ds.items)) }
+    // This is what a life has of these batches.
+    ensures runs { IfOk result (λ ds. Runs S.Store engine.old engine.new batches.items ds.items) }
     // An engine that has halted does nothing.
     ensures halted { engine.old.halted ≡ true → engine.new ≡ engine.old }
     ensures later { engine.old.halted ≡ true → IfOk result (λ ds. ds.items ≡ all_halted batches.items) }

@@ -11,9 +11,9 @@ fn is_check(alloc: Global, words: &[&str], file: &str) -> bool {
     }
 }
 
-fn is_drive(alloc: Global, words: &[&str], base: &str) -> bool {
+fn is_drive(alloc: Global, words: &[&str], base: &str, most: u64) -> bool {
     match &call_of(alloc, words) {
-        Ok(Call::Drive(found)) => *found == base,
+        Ok(Call::Drive(found, size)) => *found == base && size.get() == most,
         _ => false,
     }
 }
@@ -33,8 +33,10 @@ fn is_usage(alloc: Global, words: &[&str]) -> bool {
 fn calls(rt: HostRuntime) -> Result<(), Fail> {
     let a = rt.alloc();
     assert!(rt; is_check(a, &["flow", "check", "a.flow"], "a.flow"));
-    assert!(rt; is_drive(a, &["flow", "drive", "-"], "-"));
-    assert!(rt; is_drive(a, &["flow", "drive", "--", "-"], "-"));
+    assert!(rt; is_drive(a, &["flow", "drive", "-"], "-", 1));
+    assert!(rt; is_drive(a, &["flow", "drive", "--", "-"], "-", 1));
+    assert!(rt; is_drive(a, &["flow", "drive", "-", "--batch", "64"], "-", 64));
+    assert!(rt; is_drive(a, &["flow", "drive", "--batch=3", "-"], "-", 3));
     assert!(rt;
         is_history(
             a,
@@ -51,6 +53,21 @@ fn other_words_are_no_run(rt: HostRuntime) -> Result<(), Fail> {
     for number in ["0", "9223372036854775808", "-1", "", "1 ", "one"] {
         assert!(rt; is_usage(rt.alloc(), &["flow", "history", "a.db", number]));
     }
+    Ok(())
+}
+
+#[test]
+fn other_words_are_no_size(rt: HostRuntime) -> Result<(), Fail> {
+    for size in ["0", "65", "18446744073709551617", "", "1 ", "one"] {
+        assert!(rt; is_usage(rt.alloc(), &["flow", "drive", "-", "--batch", size]));
+    }
+    assert!(rt; is_usage(rt.alloc(), &["flow", "drive", "-", "--batch"]));
+    assert!(rt;
+        is_usage(
+            rt.alloc(),
+            &["flow", "history", "a.db", "1", "--batch", "1"]
+        )
+    );
     Ok(())
 }
 

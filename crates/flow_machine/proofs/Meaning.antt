@@ -1,5 +1,5 @@
 -- The rules of the product read well-formed programs alone.
-use Rattle.std.proofs.Common.{◌≡◌, subst, Ok}
+use Rattle.std.proofs.Common.{subst}
 use Rattle.flow_model.specs.Apply.{rules_of}
 use Rattle.flow_model.specs.Meaning.{Means}
 use Rattle.flow_check.specs.Language.{meaning_of}

@@ -1,5 +1,5 @@
 -- Several commands, of which one is stuck, and an input that is.
-use Rattle.std.proofs.Common.{◌≡◌, List, ◌∷◌, Option, Some, Result, sym, subst, inl, inr}
+use Rattle.std.proofs.Common.{◌≡◌, List, ◌∷◌, Some, Result, sym, subst, inl, inr}
 use Rattle.std.specs.Prelude.{◌⊎◌}
 use Rattle.flow_base.specs.Syntax.{Bytes, Program}
 use Rattle.flow_base.specs.declared.book.Run.{Run}

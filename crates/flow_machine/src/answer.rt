@@ -1,10 +1,10 @@
 //! What answers commands, one after the other.
-ghost use Rattle.std.specs.Prelude.{IfOk, IfErr};
+ghost use Rattle.std.specs.Prelude.{◌≤◌, ◌∷◌, [], List, length, IfOk, IfErr};
 ghost use Rattle.flow_base.specs.declared.code.Code.{Code};
 ghost use Rattle.flow_base.specs.declared.command.Command.{Command};
 ghost use Rattle.flow_model.specs.Apply.{Rules};
 ghost use Rattle.flow_model.specs.Book.{Book};
-ghost use Rattle.flow_machine.specs.Answers.{Answers, CausedAnswer};
+ghost use Rattle.flow_machine.specs.Answers.{Answers, CausedAnswer, AnswersTogether, CausedTogether, CountsTogether};
 ghost use Rattle.flow_machine.specs.declared.answer.Stop.{Stop};
 
 use flow_base::code::Code;
@@ -16,6 +16,15 @@ pub enum Answer {
     /// It was applied; this is its reply.
     Replied(Reply),
     /// It was given up, with E80 or E01, and the book is as it was.
+    NotApplied(Code),
+}
+
+/// How commands were answered that are applied together.
+#[derive(Debug, Drop)]
+pub enum Together {
+    /// All were applied; these are their replies.
+    Replied(Vec<Reply>),
+    /// All were given up, with E80 or E01, and the book is as it was.
     NotApplied(Code),
 }
 
@@ -42,17 +51,29 @@ pub trait Answering {
     /// What answering keeps beside the book: what a stop may leave, and what was committed.
     ghost follows: { Self → Self → Type 0 };
 
-    /// What stands behind a command that is given up over a book.
-    ghost gives_up: { Book → Command → Code → Type 0 };
+    /// What stands behind commands that are given up together over a book.
+    ghost gives_up: { Book → List Command → Code → Type 0 };
 
-    /// What stands behind a stop at a command over a book, in the words of what is left of it.
-    ghost stops: { Self → Book → Command → Stop → Type 0 };
+    /// What stands behind a stop at commands over a book, in the words of what is left of it.
+    ghost stops: { Self → Book → List Command → Stop → Type 0 };
 
     /// Answers a command.
     fn answer(&mut self, command: Command) -> Result<Answer, Stop>
         ensures answers { IfOk result (λ a. is_sure self.new → Answers rules (book self.old) (book self.new) command a) }
-        ensures cause { IfOk result (λ a. CausedAnswer (gives_up (book self.old) command) a) }
-        ensures stopped { IfErr result (λ s. stops self.new (book self.old) command s) }
+        ensures cause { IfOk result (λ a. CausedAnswer (gives_up (book self.old) (command ∷ [])) a) }
+        ensures stopped { IfErr result (λ s. stops self.new (book self.old) (command ∷ []) s) }
+        ensures sure { is_sure self.new → is_sure self.old }
+        ensures follows { (a : Self) → follows a self.old → follows a self.new };
+
+    /// Answers 1 to 64 commands that are applied together or not at all.
+    fn answer_together(&mut self, commands: Vec<Command>) -> Result<Together, Stop>
+        requires some { 1 ≤ length commands.items }
+        requires most { length commands.items ≤ 64 }
+        ensures answers { IfOk result (λ t. is_sure self.new → AnswersTogether rules (book self.old) (book self.new) commands.items t) }
+        // Each has a reply where they are applied.
+        ensures count { IfOk result (λ t. CountsTogether commands.items t) }
+        ensures cause { IfOk result (λ t. CausedTogether (gives_up (book self.old) commands.items) t) }
+        ensures stopped { IfErr result (λ s. stops self.new (book self.old) commands.items s) }
         ensures sure { is_sure self.new → is_sure self.old }
         ensures follows { (a : Self) → follows a self.old → follows a self.new };
 }

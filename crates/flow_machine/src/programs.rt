@@ -30,7 +30,7 @@ pub fn stored<T: Texts>(alloc: Global, texts: &T, body: &RawText) -> Result<Chec
 ///
 /// # Failure
 /// E80 where the text isn't there, or is no program.
-pub fn program_of<V: View, T: Texts>(
+pub(crate) fn program_of<V: View, T: Texts>(
     alloc: Global,
     texts: &T,
     view: &mut V,

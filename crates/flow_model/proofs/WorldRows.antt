@@ -1,10 +1,11 @@
 -- The world on short ways, by computation: over any rules, any book and any commands.
-use Rattle.std.proofs.Common.{zero, suc, [], ◌∷◌, refl, sym, arith, inl, inr}
+use Rattle.std.proofs.Common.{◌≡◌, zero, suc, [], ◌∷◌, refl, sym, arith, inl, inr}
 use Rattle.std.specs.Prelude.{◌≢◌, Contains}
+use Rattle.flow_base.specs.declared.value.Value.{Value}
 use Rattle.flow_base.specs.declared.command.Command.{Command}
 use Rattle.flow_model.specs.Book.{Book}
 use Rattle.flow_model.specs.Apply.{Rules, outcome, after_one}
-use Rattle.flow_model.specs.World.{Idle, Writing, Committing, Halted, World, first, Submit, Take, Write, WriteFails, CommitBegins, CommitDone, CommitFails, Publish, Crash, Reopen, submitted, taken, rolled_back, commit_begun, commit_done, commit_failed, published_in, stopped, opened, Comes}
+use Rattle.flow_model.specs.World.{Attempt, Idle, Writing, Committing, Halted, World, first, Submit, Report, Take, Write, WriteFails, CommitBegins, CommitDone, CommitFails, RefusedRollback, Publish, Dispatch, Crash, Reopen, submitted, taken, rolled_back, commit_begun, commit_done, commit_failed, not_rolled_back, published_in, stopped, opened, Comes}
 
 -- a command that is committed and published has its reply at place 1
 committed : Rules → Book → Command → World
@@ -88,3 +89,66 @@ new_book_found u base c d other =
     let w8 = commit_begun u w7 Writing in
     let w9 = commit_done u w8 Committing in
     (w1, (refl, (w2, (refl, (w3, (refl, (w4, (((1, omega arith, refl), refl), (w5, (inr (not_found u base c other, refl), (w6, (refl, (w7, (refl, (w8, (refl, (w9, (refl, (published_in u w9 Idle, (refl, refl))))))))))))))))))))
+
+---- Batches of more than one
+
+-- two commands that are committed at once have their replies at the places 1 and 2, the second over the book after the first
+both_committed : Rules → Book → Command → Command → World
+both_committed u base c d =
+    record (first base) {
+      log = c ∷ d ∷ [];
+      may = after_one u (after_one u base c) d ∷ [];
+      published = 2;
+      receipts =
+          record { opening = 0; place = 1; command = c; reply = (outcome u base c).reply }
+          ∷ record { opening = 0; place = 2; command = d; reply = (outcome u (after_one u base c) d).reply } ∷ [];
+    }
+
+commits_both : (u : Rules) (base : Book) (c d : Command) → Comes u (first base) (Submit c ∷ Submit d ∷ Take 2 ∷ CommitBegins ∷ CommitDone ∷ Publish ∷ []) (both_committed u base c d)
+unfolding both_committed
+commits_both u base c d =
+    let w1 = submitted (first base) Idle c in
+    let w2 = submitted w1 Idle d in
+    let w3 = taken w2 Idle 2 in
+    let w4 = commit_begun u w3 Writing in
+    let w5 = commit_done u w4 Committing in
+    (w1, (refl, (w2, (refl, (w3, (refl, (w4, (refl, (w5, (refl, (published_in u w5 Idle, (refl, refl))))))))))))
+
+-- a stop in their commit leaves the book before both or the book behind both, and none between
+both_or_none : (u : Rules) (base : Book) (c d : Command) → (commit_begun u (taken (submitted (submitted (first base) Idle c) Idle d) Idle 2) Writing).may ≡ base ∷ after_one u (after_one u base c) d ∷ []
+both_or_none u base c d = refl
+
+-- none, more than there are, or more than 64 are no batch
+takes_none : (u : Rules) (base : Book) (c : Command) → Comes u (first base) (Submit c ∷ Take 0 ∷ Take 2 ∷ Take 65 ∷ []) (submitted (first base) Idle c)
+takes_none u base c = let w = submitted (first base) Idle c in (w, (refl, (w, (refl, (w, (refl, (w, (refl, refl))))))))
+
+---- Steps out of place
+
+-- without a batch nothing is written, rolled back or committed, and what wasn't stopped isn't opened
+not_without_batch : (u : Rules) (base : Book) → Comes u (first base) (Write ∷ WriteFails ∷ RefusedRollback ∷ CommitBegins ∷ CommitDone ∷ CommitFails ∷ Reopen ∷ []) (first base)
+not_without_batch u base = let w = first base in (w, (refl, (w, (refl, (w, (refl, (w, (refl, (w, (refl, (w, (refl, (w, (refl, refl))))))))))))))
+
+-- a begun commit isn't rolled back or begun again, and nothing is taken beside it
+not_while_committing : (u : Rules) (base : Book) (c : Command)
+    → (let w = commit_begun u (taken (submitted (first base) Idle c) Idle 1) Writing in Comes u w (Write ∷ WriteFails ∷ RefusedRollback ∷ CommitBegins ∷ Take 1 ∷ Reopen ∷ []) w)
+not_while_committing u base c =
+    let w = commit_begun u (taken (submitted (first base) Idle c) Idle 1) Writing in
+    (w, (refl, (w, (refl, (w, (refl, (w, (refl, (w, (refl, (w, (refl, refl))))))))))))
+
+-- a rolling back that was refused halts, and nothing is taken, written or committed any more
+refused_halts : (u : Rules) (base : Book) (c : Command)
+    → (let w = not_rolled_back (taken (submitted (first base) Idle c) Idle 1) Writing in
+       Comes u (first base) (Submit c ∷ Take 1 ∷ RefusedRollback ∷ Write ∷ WriteFails ∷ RefusedRollback ∷ CommitBegins ∷ CommitDone ∷ CommitFails ∷ Take 1 ∷ Reopen ∷ []) w)
+refused_halts u base c =
+    let w1 = submitted (first base) Idle c in
+    let w2 = taken w1 Idle 1 in
+    let w = not_rolled_back w2 Writing in
+    (w1, (refl, (w2, (refl, (w, (refl, (w, (refl, (w, (refl, (w, (refl, (w, (refl, (w, (refl, (w, (refl, (w, (refl, (w, (refl, refl))))))))))))))))))))))
+
+-- after a stop nothing happens but a stop or an opening
+not_after_crash : (u : Rules) (base : Book) (c : Command) (v : Value) (a : Attempt)
+    → (let w = stopped (submitted (first base) Idle c) base in
+       Comes u w (Submit c ∷ Report 0 v 1 ∷ Take 1 ∷ Write ∷ WriteFails ∷ RefusedRollback ∷ CommitBegins ∷ CommitDone ∷ CommitFails ∷ Publish ∷ Dispatch a ∷ []) w)
+not_after_crash u base c v a =
+    let w = stopped (submitted (first base) Idle c) base in
+    (w, (refl, (w, (refl, (w, (refl, (w, (refl, (w, (refl, (w, (refl, (w, (refl, (w, (refl, (w, (refl, (w, (refl, (w, (refl, refl))))))))))))))))))))))

@@ -93,7 +93,7 @@ pub data Step : Type 0 where
 
 -- the most commands that one batch has
 abbrev pub batch_limit : ℕ
-batch_limit = 1
+batch_limit = 64
 
 abbrev pub submitted : World → Stage → Command → World
 submitted w Stopped c = w

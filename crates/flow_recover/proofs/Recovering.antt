@@ -76,16 +76,28 @@ held_opened s Holds db opened found held = record {
 
 ---- A book that is there
 
--- A connection that was just opened over a file of a book keeps it.
+-- what it shows is what its last commit left
+opened_trees : (s : State) (db : Trees) → IsOpenedOver s db → s.committed.trees ≡ db
+opened_trees s db over = sym (ap (λ (d : Database). d.trees) over.opens.clean) ∙ over.trees
+
+-- The book of a file is found where a connection was just opened over it.
+opened_tells : (s : State) (db : Trees) (b : Book) → IsFileOf db b → IsOpenedOver s db → HasTables s.committed × Tells (tables_in s.committed.trees) b
+opened_tells s db b file over = (
+  (opened_over s over.opens over.live (subst AreOurs (sym over.trees) file.ours)).committed,
+  subst (λ d. Tells (tables_in d) b) (sym (opened_trees s db over)) file.tells,
+)
+
+pub opened_found : (s : State) (db : Trees) (b : Book) → IsFileOf db b → IsOpenedOver s db → IsFound s b
+opened_found s db b file over = inl (opened_tells s db b file over)
+
+-- Such a connection keeps it.
 pub opened_keeps : (s : State) (db : Trees) (b : Book) → IsSettled s → IsFileOf db b → IsOpenedOver s db → IsTrue s.is_open × Keeps s b
 opened_keeps s db b law file over =
-    let up : IsTrue s.is_open = over.opens.is_open in
-    let same : s.committed.trees ≡ db = sym (ap (λ (d : Database). d.trees) over.opens.clean) ∙ over.trees in
-    let has : HasTables s.committed = (opened_over s over.opens over.live (subst AreOurs (sym over.trees) file.ours)).committed in (
+    let up : IsTrue s.is_open = over.opens.is_open in (
       up,
       record {
-        kept = λ _. (has, subst (λ d. Tells (tables_in d) b) (sym same) file.tells);
-        stops = λ left may. subst (λ d. IsFileOf d b) (sym (law left up may ∙ same)) file;
+        kept = λ _. opened_tells s db b file over;
+        stops = λ left may. subst (λ d. IsFileOf d b) (sym (law left up may ∙ opened_trees s db over)) file;
       },
     )
 

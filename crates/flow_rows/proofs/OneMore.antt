@@ -18,7 +18,7 @@ use Rattle.flow_base.specs.declared.book.Run.{Run}
 use Rattle.flow_model.specs.Book.{Book, with_events}
 use Rattle.flow_model.specs.Configuration.{is_open}
 use Rattle.flow_model.specs.Open as left_open
-use Rattle.flow_model.specs.Open.{without, tasks_after_one, tasks_after, timers_after_one, timers_after, open_timers, state_after_one, state_after, state_of}
+use Rattle.flow_model.specs.Open.{without, tasks_after_one, timers_after_one, timers_after, open_timers, state_after_one, state_after, state_of}
 use Rattle.flow_rows.specs.declared.rows.RunRow.{RunRow}
 use Rattle.flow_rows.specs.declared.rows.TimerRow.{TimerRow}
 use Rattle.flow_rows.specs.declared.rows.OutboxRow.{OutboxRow}

@@ -1,5 +1,5 @@
 //! Rows of no run.
-ghost use Rattle.std.specs.Prelude.{◌≡◌, ◌<◌, ◌^◌, ℤ, pos, map};
+ghost use Rattle.std.specs.Prelude.{◌≡◌, ◌<◌, ◌^◌, ℤ, map};
 ghost use Rattle.flow_rows.specs.Damages.{first_of, strays, is_below, is_behind};
 
 use crate::rows::{EventRow, OutboxRow, TimerRow};

@@ -4,7 +4,6 @@ ghost use Rattle.flow_model.specs.Configuration.{first_configuration, is_closed 
 ghost use Rattle.flow_model.specs.Deliver.{deliver as delivered};
 ghost use Rattle.flow_model.specs.Turn.{Turn};
 ghost use Rattle.flow_model.specs.Turned.{turned};
-ghost use Rattle.flow_values.specs.Named.{look_up};
 ghost use Rattle.flow_run.specs.Shown.{plain_configuration, shown_answers, waits_of, turn_fault_code};
 
 use crate::decided::Decided;
@@ -18,7 +17,7 @@ use flow_base::syntax::Program;
 use flow_base::text::Key;
 use flow_base::value::Value;
 use flow_values::named::NamedValues;
-use std::alloc::{AllocError, AllocFailed, Global};
+use std::alloc::{AllocError, Global};
 
 /// A run between two turns, as plain lists and trees: what the definitions of a run say of it can be computed from it
 /// step by step. It is exact and slow.

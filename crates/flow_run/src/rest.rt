@@ -12,7 +12,7 @@ use std::alloc::{AllocError, Global};
 
 /// What is left of a program, as far as the language of now gets.
 #[derive(Debug, Drop)]
-pub enum Rest {
+pub(crate) enum Rest {
     Done,
     /// The event that scheduled the activity, the variable that waits for it, and the type that it gives.
     OnActivity(u64, Key, Kind),
@@ -93,7 +93,7 @@ impl Rest {
 }
 
 /// The same statements.
-pub fn copy_stmts(alloc: Global, stmts: &[Stmt]) -> Result<Vec<Stmt>, AllocError>
+pub(crate) fn copy_stmts(alloc: Global, stmts: &[Stmt]) -> Result<Vec<Stmt>, AllocError>
     ensures { IfOk result (λ v. map shown_stmt v.items ≡ map shown_stmt stmts.now) }
 {
     let mut list = Vec::new(alloc);

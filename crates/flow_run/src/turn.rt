@@ -1,10 +1,9 @@
-ghost use Rattle.std.specs.Prelude.{◌≡◌, ◌<◌, ◌+◌, ◌^◌, length, ℕ, IfOk, map, [], ◌∷◌, ◌++◌, None, Some, MatchOption, IfSome};
+ghost use Rattle.std.specs.Prelude.{◌≡◌, ◌<◌, ◌+◌, ◌^◌, length, ℕ, IfOk, [], ◌∷◌, ◌++◌, None, Some, MatchOption, IfSome};
 ghost use Rattle.flow_base.specs.Shown.{shown_program};
 ghost use Rattle.flow_model.specs.Rest.{Done};
 ghost use Rattle.flow_model.specs.Configuration as configuration;
 ghost use Rattle.flow_model.specs.Deliver.{deliver as delivered};
 ghost use Rattle.flow_model.specs.Turn as model;
-ghost use Rattle.flow_model.specs.Turned.{turned};
 ghost use Rattle.flow_run.specs.Shown.{shown_store, shown_progress, shown_frame, shown_next, KeepsProgress, shown_answers, plain_configuration};
 
 use crate::deliver::{Turning, deliver};

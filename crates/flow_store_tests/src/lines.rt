@@ -1,6 +1,7 @@
 //! Command lines over a store in memory, with ample memory.
 use flow_base::fault::Fault;
 use flow_base::number::RunId;
+use flow_cli::batch::BatchSize;
 use flow_cli::drive::{drive_lines, end_status};
 use flow_cli::history::history_from;
 use flow_engine::engine::Engine;
@@ -12,7 +13,7 @@ use std::test::Fail;
 fn driven(alloc: Global, engine: &mut Engine<MemStore>, input: &[u8], wanted: &[u8]) -> Option<u8> {
     let mut reader = input;
     let mut writer = Vec::new(alloc);
-    let outcome = drive_lines(alloc, engine, &mut reader, &mut writer);
+    let outcome = drive_lines(alloc, engine, &mut reader, &mut writer, BatchSize::new(3)?);
     if writer.as_slice() == wanted {
         Some(end_status(&outcome))
     } else {

@@ -3,7 +3,7 @@ use crate::calls::{complete, register, start};
 use flow_base::book::{Change, Run, Turn};
 use flow_base::code::Code;
 use flow_base::command::Command;
-use flow_base::event::{Cmd, Input, State, Wrong};
+use flow_base::event::{Input, State, Wrong};
 use flow_base::fault::Fault;
 use flow_base::number::{Moment, RunId, TextNo};
 use flow_base::sequence::Sequence;

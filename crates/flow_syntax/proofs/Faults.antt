@@ -1,15 +1,14 @@
 -- From what the machine says to the first fault.
-use Rattle.std.proofs.Common.{◌≡◌, ◌∙◌, ◌⊎◌, inl, inr, ℕ, ◌≤◌, ◌-◌, ◌+◌, List, [], ◌∷◌, ◌++◌, Some, length, drop, take, map, refl, ap, sym, subst, append_assoc, length-append, length-drop, arith}
+use Rattle.std.proofs.Common.{◌≡◌, ◌∙◌, inl, inr, ℕ, ◌≤◌, ◌-◌, ◌+◌, List, [], ◌∷◌, ◌++◌, Some, length, drop, take, map, refl, ap, sym, subst, append_assoc, length-append, length-drop, arith}
 use Rattle.std.proofs.lemmas.List.{append-nil, length-map, take_all, take-append-le, take-map, drop-map}
 use Rattle.flow_base.specs.Syntax as tree
 use Rattle.flow_base.specs.declared.token.Token.{Token}
 use Rattle.flow_syntax.specs.declared.fault.ParseFault.{ParseFault}
-use Rattle.flow_syntax.specs.declared.fault.ParseFault.TheVariants.{NoMemory, BadToken, Unexpected, TextTooLong, TooDeep}
+use Rattle.flow_syntax.specs.declared.fault.ParseFault.TheVariants.{NoMemory, BadToken, Unexpected, TooDeep}
 use Rattle.flow_model.specs.Lexeme.{Lexeme, lexeme, lexemes}
 use Rattle.flow_model.specs.Grammar.{Reads, Begins, Stops}
 use Rattle.flow_model.specs.Limits.{Within, WithinFrom, brackets_after, operators_after}
-use Rattle.flow_model.specs.Parse.{IsFirstUnfit, EndsEarly, IsFirstDeep}
-use Rattle.flow_syntax.specs.Machine.{Symbol, fault}
+use Rattle.flow_syntax.specs.Machine.{fault}
 use Rattle.flow_syntax.specs.Machine as m
 use Rattle.flow_syntax.specs.Parsing.{place_of}
 use Rattle.flow_syntax.specs.Faults.{IsDeepFault, IsFault, IsFaultBefore, IsUnfit, IsFaultOf, IsFirstOf, IsCut, WithinSoFar}

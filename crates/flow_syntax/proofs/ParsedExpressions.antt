@@ -1,5 +1,5 @@
 -- The same for expressions.
-use Rattle.std.proofs.Common.{◌≡◌, ◌∙◌, ℕ, ℤ, suc, List, [], ◌∷◌, ◌++◌, Option, Some, None, length, refl, ap, sym, append_assoc}
+use Rattle.std.proofs.Common.{◌≡◌, ◌∙◌, ℕ, ℤ, List, [], ◌∷◌, ◌++◌, refl, ap, sym, append_assoc}
 use Rattle.std.proofs.lemmas.List.{append-nil}
 use Rattle.flow_base.specs.Syntax as tree
 use Rattle.flow_base.specs.Syntax.{Bytes}
@@ -12,12 +12,12 @@ use Rattle.flow_base.specs.declared.syntax.Unary.TheVariants as unary
 use Rattle.flow_base.specs.declared.syntax.Binary.{Binary}
 use Rattle.flow_base.specs.declared.syntax.Binary.TheVariants as binary
 use Rattle.flow_model.specs.Lexeme.{Lexeme}
-use Rattle.flow_model.specs.Grammar.{ParensReading, parens, int, text, name, text_of, len_of, inner, negate, prim, term, no_factor, factor, sum, no_term, added, compare, no_side, compared, not, plain, conj, no_and, and, expr, no_or, or, ArgumentsReading, no_argument, argument, ArgumentTail, last_argument, next_argument}
-use Rattle.flow_model.specs.Grammar.{marked, named, term_mark, sum_mark, compare_mark, term_operator, sum_operator, compare_operator, parens_tokens, prim_tokens, unary_tokens, term_tokens, term_tail_tokens, sum_tokens, sum_tail_tokens, compare_tokens, compare_tail_tokens, neg_tokens, conj_tokens, conj_tail_tokens, expr_tokens, expr_tail_tokens, argument_tail_tokens, arguments_tokens, parens_of, prim_of, unary_of, term_of, factors_of, sum_of, added_of, compare_of, compared_of, neg_of, conj_of, and_of, expr_of, or_of, argument_tail_of, arguments_of}
+use Rattle.flow_model.specs.Grammar.{parens, int, text, name, text_of, len_of, inner, negate, prim, term, no_factor, factor, sum, no_term, added, compare, no_side, compared, not, plain, conj, no_and, and, expr, no_or, or, no_argument, argument, last_argument, next_argument}
+use Rattle.flow_model.specs.Grammar.{marked, term_mark, sum_mark, compare_mark, compare_operator, parens_tokens, prim_tokens, unary_tokens, term_tokens, term_tail_tokens, sum_tokens, sum_tail_tokens, compare_tokens, neg_tokens, conj_tokens, conj_tail_tokens, expr_tokens, expr_tail_tokens, argument_tail_tokens, arguments_tokens, parens_of, prim_of, unary_of, term_of, factors_of, sum_of, added_of, compare_of, neg_of, conj_of, and_of, expr_of, or_of, argument_tail_of, arguments_of}
 use Rattle.flow_syntax.specs.Machine.{Symbol, takes, then_more, fault}
 use Rattle.flow_syntax.specs.Machine as m
 use Rattle.flow_syntax.specs.Parsing.{Parsed, Lacks, Past, IsFactor, IsAdded, IsCompared}
-use Rattle.flow_syntax.proofs.Steps.{passes, Same, Alike, is_then, is_alike, unary_alike, neg_alike, term_is, sum_is, compare_is, conj_is, expr_is, factor_step, added_step, compared_step, past_and, past_or, arguments_same}
+use Rattle.flow_syntax.proofs.Steps.{passes, Same, Alike, is_then, is_alike, unary_alike, neg_alike, compare_is, factor_step, added_step, compared_step, past_and, past_or, arguments_same}
 use Rattle.flow_syntax.proofs.Parsed.{SoFar, so_begins, so_more}
 
 -- a mark that was read

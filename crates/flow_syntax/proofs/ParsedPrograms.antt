@@ -1,5 +1,5 @@
 -- The same for statements, declarations and programs.
-use Rattle.std.proofs.Common.{◌≡◌, ◌∙◌, ℕ, suc, List, [], ◌∷◌, ◌++◌, Option, Some, None, length, refl, ap, sym, append_assoc}
+use Rattle.std.proofs.Common.{◌≡◌, ◌∙◌, ℕ, suc, List, [], ◌∷◌, ◌++◌, Some, length, refl, ap, sym, append_assoc}
 use Rattle.std.proofs.lemmas.List.{append-nil}
 use Rattle.flow_base.specs.Syntax as tree
 use Rattle.flow_base.specs.Syntax.{Bytes, once, block_of}
@@ -7,13 +7,12 @@ use Rattle.flow_base.specs.declared.token.Word.{Word}
 use Rattle.flow_base.specs.declared.token.Word.TheVariants as word
 use Rattle.flow_base.specs.declared.token.Mark.{Mark}
 use Rattle.flow_base.specs.declared.token.Mark.TheVariants as mark
-use Rattle.flow_base.specs.declared.value.Kind.{Kind}
 use Rattle.flow_base.specs.declared.value.Kind.TheVariants as kind
 use Rattle.flow_base.specs.declared.syntax.Parameter.{Parameter}
 use Rattle.flow_base.specs.declared.syntax.TypeAt.{TypeAt}
 use Rattle.flow_model.specs.Lexeme.{Lexeme}
-use Rattle.flow_model.specs.Grammar.{TypeReading, typed, no_type, type_, last_type, next_type, ParameterReading, parameter, ParametersReading, no_parameter, parameter_, ParameterTail, last_parameter, next_parameter, activity, SideReading, value, call, let_, assign, return_, StatementsReading, no_statement, statement, BodyReading, statements, declaration, workflow}
-use Rattle.flow_model.specs.Grammar.{marked, named, kind_mark, expr_tokens, arguments_tokens, type_tokens, type_tail_tokens, types_tokens, parameter_tokens, parameter_tail_tokens, parameters_tokens, declaration_tokens, side_tokens, statement_tokens, statements_tokens, body_tokens, program_tokens, expr_of, arguments_of, type_of, kind_of, type_tail_of, types_of, parameter_of, parameter_tail_of, parameters_of, parameter_tail_end, parameters_end, declaration_of, side_of, statement_of, statements_of, statements_end, body_statements, declarations_of, program_of, Reads}
+use Rattle.flow_model.specs.Grammar.{TypeReading, typed, no_type, type_, last_type, next_type, parameter, ParametersReading, no_parameter, parameter_, last_parameter, next_parameter, activity, value, call, let_, assign, return_, no_statement, statement, BodyReading, statements, declaration, workflow}
+use Rattle.flow_model.specs.Grammar.{marked, named, expr_tokens, arguments_tokens, type_tokens, type_tail_tokens, types_tokens, parameter_tokens, parameter_tail_tokens, parameters_tokens, declaration_tokens, side_tokens, statement_tokens, statements_tokens, body_tokens, arguments_of, type_of, kind_of, type_tail_of, types_of, parameter_of, parameter_tail_of, parameter_tail_end, parameters_end, declaration_of, side_of, statement_of, statements_of, statements_end, body_statements, declarations_of, program_of, Reads}
 use Rattle.flow_syntax.specs.declared.fault.Stop.{Stop}
 use Rattle.flow_syntax.specs.declared.fault.Stop.TheVariants.{NoMemory, Unexpected}
 use Rattle.flow_syntax.specs.Machine.{Symbol, takes, then_more, fault, fault_by, step}

@@ -1,7 +1,7 @@
 -- What is printed of a program is read as it, up to places, wherever its tokens stand.
 use Rattle.std.proofs.Common.{◌≡◌, ◌∙◌, ℕ, List, [], ◌∷◌, ◌++◌, map, refl, ap, sym, append_assoc}
 use Rattle.flow_base.specs.Syntax as tree
-use Rattle.flow_base.specs.Bare.{bare_expression, bare_statement, bare_block, bare_declared, bare_type, bare_parameter, bare}
+use Rattle.flow_base.specs.Bare.{bare_expression, bare_statement, bare_block, bare_declared, bare_type, bare_parameter}
 use Rattle.flow_base.specs.Shown.{shown_expr, shown_stmt, shown_block, shown_declaration, shown_program}
 use Rattle.flow_base.specs.declared.syntax.Expr.{Expr}
 use Rattle.flow_base.specs.declared.syntax.Stmt.{Stmt}
@@ -17,10 +17,10 @@ use Rattle.flow_base.specs.declared.token.Word.{Word}
 use Rattle.flow_base.specs.declared.token.Word.TheVariants as word
 use Rattle.flow_base.specs.declared.token.Mark.TheVariants as mark
 use Rattle.flow_model.specs.Lexeme.{Lexeme}
-use Rattle.flow_model.specs.Grammar.{ExprReading, ArgumentsReading, no_argument, argument, ArgumentTail, last_argument, next_argument, TypeReading, typed, TypesReading, no_type, type_, TypeTail, last_type, next_type, ParameterReading, parameter, ParametersReading, no_parameter, parameter_, ParameterTail, last_parameter, next_parameter, DeclarationReading, activity, value, call, StatementReading, let_, assign, return_, StatementsReading, no_statement, statement, BodyReading, statements, declaration, ProgramReading, workflow}
-use Rattle.flow_model.specs.Grammar.{marked, named, expr_tokens, expr_of, argument_tail_tokens, arguments_tokens, type_tokens, type_tail_tokens, types_tokens, parameter_tokens, parameter_tail_tokens, parameters_tokens, declaration_tokens, statement_tokens, statements_tokens, body_tokens, program_tokens, argument_tail_of, arguments_of, type_of, kind_of, type_tail_of, types_of, parameter_of, parameter_tail_of, parameters_of, declaration_of, statement_of, statements_of, body_statements, declarations_of, program_of, Reads}
-use Rattle.flow_syntax.specs.Print.{words_of, AreReadAs, kind_mark, expression_words, behind_commas, between_commas, listed, type_words, parameter_words, statement_words, block_words, declared_words, declarations_words, program_words, in_braces}
-use Rattle.flow_syntax.proofs.PrintedExpressions.{token, first, only, split, expression_read}
+use Rattle.flow_model.specs.Grammar.{ExprReading, no_argument, argument, last_argument, next_argument, TypeReading, typed, no_type, type_, last_type, next_type, ParameterReading, parameter, no_parameter, parameter_, last_parameter, next_parameter, DeclarationReading, activity, value, call, StatementReading, let_, assign, return_, StatementsReading, no_statement, statement, BodyReading, statements, declaration, ProgramReading, workflow}
+use Rattle.flow_model.specs.Grammar.{marked, named, expr_tokens, expr_of, argument_tail_tokens, arguments_tokens, type_tokens, type_tail_tokens, types_tokens, parameter_tokens, parameter_tail_tokens, parameters_tokens, declaration_tokens, statement_tokens, statements_tokens, body_tokens, program_tokens, argument_tail_of, arguments_of, type_of, kind_of, type_tail_of, types_of, parameter_of, parameter_tail_of, parameters_of, declaration_of, statement_of, statements_of, body_statements, declarations_of, program_of}
+use Rattle.flow_syntax.specs.Print.{words_of, AreReadAs, kind_mark, expression_words, behind_commas, between_commas, type_words, parameter_words, statement_words, block_words, declared_words, declarations_words, program_words}
+use Rattle.flow_syntax.proofs.PrintedExpressions.{first, only, split, expression_read}
 
 -- the tokens have a reading that stands for these items, up to places
 abbrev Listed : {R A B : Type 0} → (R → List Lexeme) → (R → List A) → (A → B) → List Lexeme → List A → Type 0

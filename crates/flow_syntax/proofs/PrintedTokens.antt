@@ -1,5 +1,5 @@
 -- The longest token at the front of what a word spells is that word, whatever follows behind a space.
-use Rattle.std.proofs.Common.{◌≡◌, ◌∙◌, ℕ, ℤ, zero, suc, pos, negsuc, ◌+◌, ◌-◌, map, subst, ◌/◌, ◌%◌, ◌^◌, get_or, ◌≤◌, ◌<◌, ◌⊎◌, inl, inr, Bool, true, false, cond, ◌==◌, ◌&&◌, ◌||◌, nat_le, Option, Some, None, List, [], ◌∷◌, ◌++◌, length, take, drop, one-add, refl, ap, sym, append_assoc, arith}
+use Rattle.std.proofs.Common.{◌≡◌, ◌∙◌, ℕ, zero, suc, pos, negsuc, ◌+◌, ◌-◌, map, subst, ◌/◌, ◌%◌, ◌^◌, get_or, ◌≤◌, ◌<◌, inl, inr, Bool, true, false, cond, ◌==◌, ◌&&◌, ◌||◌, nat_le, Option, Some, None, List, [], ◌∷◌, ◌++◌, length, take, drop, one-add, refl, ap, sym, append_assoc, arith}
 use Rattle.std.proofs.Math.Seq.{take-append_seam, drop-append_seam}
 use Rattle.std.proofs.lemmas.Bool.Decides.{nat_tests}
 use Rattle.std.proofs.lemmas.Slice.Eq.{bytes_eq-Decides}
@@ -15,7 +15,7 @@ use Rattle.flow_base.specs.declared.token.Mark.TheVariants as mark
 use Rattle.flow_base.specs.declared.token.Word.{Word}
 use Rattle.flow_base.specs.declared.token.Word.TheVariants as word
 use Rattle.flow_base.specs.declared.token.Token.{Token}
-use Rattle.flow_model.specs.Lexeme.{Lexeme, lexemes}
+use Rattle.flow_model.specs.Lexeme.{lexemes}
 use Rattle.flow_model.specs.Tokens.{spelled, is_plain, is_letter, is_digit, is_name_byte, is_letters, front, keywords, keyword_of, unquoted, behind_escape, after_character, text_word, name_word, int_word, with_rest, word_or_name, with_digit, number_of, number_word, has_leading_zero, is_blank, past_gap, past_comment, Scans}
 use Rattle.flow_base.specs.Syntax.{Program}
 use Rattle.flow_tokens.proofs.Relation.{reads_of_scans}

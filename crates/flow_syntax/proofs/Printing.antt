@@ -1,5 +1,5 @@
 -- What is written of a program's words, token by token.
-use Rattle.std.proofs.Common.{◌≡◌, ℕ, suc, ◌+◌, ◌<◌, ◌≤◌, ◌==◌, Bool, false, List, [], ◌∷◌, ◌++◌, length, map, drop, get_or, add-one, drop-cons, append_assoc, append-nil, sym, ap, ◌∙◌, refl, arith, cond}
+use Rattle.std.proofs.Common.{◌≡◌, ℕ, suc, ◌+◌, ◌<◌, ◌≤◌, ◌==◌, false, List, [], ◌∷◌, ◌++◌, length, map, drop, get_or, add-one, drop-cons, append_assoc, append-nil, sym, ap, ◌∙◌, refl, arith}
 use Rattle.std.proofs.lemmas.List.{drop_all, nil_from_length}
 use Rattle.std.proofs.lemmas.Bool.Decides.{nat_tests}
 use Rattle.std.proofs.lemmas.Str.{inside_one}
@@ -9,8 +9,7 @@ use Rattle.flow_base.specs.declared.token.Mark as declared
 use Rattle.flow_base.specs.declared.token.Word.TheVariants as word
 use Rattle.flow_base.specs.Syntax.{Expression}
 use Rattle.flow_base.specs.declared.token.Word.{Word}
-use Rattle.flow_model.specs.Tokens.{spelled}
-use Rattle.flow_syntax.specs.Print.{written, all_written, spelled_word, spaced, level, left_level, right_level, binary_mark, binary_words, fitted, expression_words, behind_commas, between_commas}
+use Rattle.flow_syntax.specs.Print.{written, all_written, spelled_word, spaced, level, left_level, right_level, binary_mark, binary_words, fitted, expression_words, between_commas}
 
 pub spaced_append : (a b : List Word) → spaced (a ++ b) ≡ spaced a ++ spaced b
 unfolding spaced

@@ -1,14 +1,14 @@
 -- What the machine does at tokens that are not known.
-use Rattle.std.proofs.Common.{◌≡◌, ◌∙◌, ℕ, suc, Bool, true, List, [], ◌∷◌, ◌++◌, length, Option, Some, None, refl, ap, false, append_assoc}
+use Rattle.std.proofs.Common.{◌≡◌, ℕ, suc, true, List, [], ◌∷◌, ◌++◌, length, Option, Some, None, refl, ap, false, append_assoc}
 use Rattle.flow_base.specs.declared.token.Word.{Word}
 use Rattle.flow_base.specs.declared.token.Word.TheVariants as word
 use Rattle.flow_base.specs.declared.token.Mark.{Mark}
 use Rattle.flow_base.specs.declared.token.Mark.TheVariants as mark
 use Rattle.flow_model.specs.Lexeme.{Lexeme}
 use Rattle.flow_model.specs.Grammar.{marked, TermSign, times, over, percent, SumSign, plus, minus, join, CompareSign, equal, differ, less, at_most, greater, at_least, term_mark, sum_mark, compare_mark}
-use Rattle.flow_syntax.specs.Machine.{Symbol, takes, then_more, may_be_nothing, step, step_by, is_done, fault, fault_by}
+use Rattle.flow_syntax.specs.Machine.{Symbol, takes, then_more, may_be_nothing, step, step_by, fault, fault_by}
 use Rattle.flow_syntax.specs.Machine as m
-use Rattle.flow_syntax.specs.Parsing.{Lacks, LacksMark, IsNoMark, Past}
+use Rattle.flow_syntax.specs.Parsing.{Lacks, Past}
 
 pub passes : (s : Symbol) → may_be_nothing s ≡ true → (owed : List Symbol) (ts : List Lexeme) → Past s ts → fault (s ∷ owed) ts ≡ fault owed ts
 passes s h owed [] p = rw h refl

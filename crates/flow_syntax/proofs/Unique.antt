@@ -8,7 +8,7 @@ use Rattle.flow_base.specs.declared.value.Kind.{Kind}
 use Rattle.flow_base.specs.declared.value.Kind.TheVariants as kind
 use Rattle.flow_model.specs.Lexeme.{Lexeme}
 use Rattle.flow_model.specs.Grammar.{TermSign, times, over, percent, SumSign, plus, minus, join, CompareSign, equal, differ, less, at_most, greater, at_least, ParensReading, parens, PrimReading, int, text, name, text_of, len_of, inner, UnaryReading, negate, prim, TermReading, term, TermTail, no_factor, factor, SumReading, sum, SumTail, no_term, added, CompareReading, compare, CompareTail, no_side, compared, NegReading, not, plain, ConjReading, conj, ConjTail, no_and, and, ExprReading, expr, ExprTail, no_or, or, ArgumentsReading, no_argument, argument, ArgumentTail, last_argument, next_argument, TypeReading, typed, TypesReading, no_type, type_, TypeTail, last_type, next_type, ParameterReading, parameter, ParametersReading, no_parameter, parameter_, ParameterTail, last_parameter, next_parameter, DeclarationReading, activity, SideReading, value, call, StatementReading, let_, assign, return_, StatementsReading, no_statement, statement, BodyReading, statements, declaration, ProgramReading, workflow}
-use Rattle.flow_model.specs.Grammar.{marked, named, term_mark, sum_mark, compare_mark, kind_mark, parens_tokens, prim_tokens, unary_tokens, term_tokens, term_tail_tokens, sum_tokens, sum_tail_tokens, compare_tokens, compare_tail_tokens, neg_tokens, conj_tokens, conj_tail_tokens, expr_tokens, expr_tail_tokens, argument_tail_tokens, arguments_tokens, type_tokens, type_tail_tokens, types_tokens, parameter_tokens, parameter_tail_tokens, parameters_tokens, declaration_tokens, side_tokens, statement_tokens, statements_tokens, body_tokens, program_tokens, program_of, Reads}
+use Rattle.flow_model.specs.Grammar.{marked, term_mark, sum_mark, compare_mark, kind_mark, parens_tokens, prim_tokens, unary_tokens, term_tokens, term_tail_tokens, sum_tokens, sum_tail_tokens, compare_tokens, compare_tail_tokens, neg_tokens, conj_tokens, conj_tail_tokens, expr_tokens, expr_tail_tokens, argument_tail_tokens, arguments_tokens, type_tokens, type_tail_tokens, types_tokens, parameter_tokens, parameter_tail_tokens, parameters_tokens, declaration_tokens, side_tokens, statement_tokens, statements_tokens, body_tokens, program_tokens, program_of, Reads}
 use Rattle.flow_syntax.specs.Machine.{Symbol, takes}
 use Rattle.flow_syntax.specs.Machine as m
 use Rattle.flow_syntax.specs.Parsing.{Past}

@@ -76,7 +76,7 @@ impl From<TokensFault> for ParseFault {
 
 /// Why tokens weren't read: no memory, or a token doesn't fit with so many left, itself among them.
 #[derive(Debug, Drop)]
-pub enum Stop {
+pub(crate) enum Stop {
     NoMemory,
     Unexpected(usize),
 }

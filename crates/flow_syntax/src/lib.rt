@@ -1,14 +1,14 @@
 //! From tokens to programs, and back to text.
 #![tactic(auto)]
 
-pub mod cursor;
-pub mod expression;
+mod cursor;
+mod expression;
 pub mod fault;
-pub mod levels;
+mod levels;
 pub mod limits;
-pub mod listed;
+mod listed;
 pub mod parse;
 pub mod print;
-pub mod printer;
-pub mod program;
-pub mod statement;
+mod printer;
+mod program;
+mod statement;

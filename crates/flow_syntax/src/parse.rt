@@ -1,5 +1,5 @@
 //! The parser's calls.
-ghost use Rattle.std.specs.Prelude.{◌≡◌, ◌<◌, ◌≤◌, length, IfOk, IfErr, MatchResult};
+ghost use Rattle.std.specs.Prelude.{◌≡◌, ◌<◌, IfOk, IfErr, MatchResult};
 ghost use Rattle.flow_base.specs.Syntax as tree;
 ghost use Rattle.flow_base.specs.Shown.{shown_program};
 ghost use Rattle.flow_model.specs.Lexeme.{lexemes};
@@ -61,7 +61,7 @@ fn deep_fault(alloc: Global, tokens: &[Token], at: usize, left: usize) -> ParseF
 ///
 /// # Failure
 /// E11 or E13, whichever comes first in the text.
-pub fn parse_tokens(alloc: Global, tokens: &[Token], end: usize) -> Result<Program, ParseFault>
+fn parse_tokens(alloc: Global, tokens: &[Token], end: usize) -> Result<Program, ParseFault>
     // What is read is in the grammar, and within the limits.
     ensures ok { IfOk result (λ p. Reads (lexemes tokens.now) (shown_program p) × Within (lexemes tokens.now)) }
     // What is in the grammar and within the limits is read as the one program that it is, unless memory runs out.

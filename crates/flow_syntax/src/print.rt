@@ -1,5 +1,5 @@
 //! The text of a program: its tokens, joined by one space.
-ghost use Rattle.std.specs.Prelude.{◌≡◌, ◌≤◌, ◌∷◌, ◌++◌, map, length, OnOk, IfOk, string_bytes};
+ghost use Rattle.std.specs.Prelude.{◌≡◌, ◌≤◌, ◌++◌, map, length, OnOk, IfOk, string_bytes};
 ghost use Rattle.flow_base.specs.Syntax.{Bytes, Let, Assign, Call, Return, NoElse, once, Activity};
 ghost use Rattle.flow_base.specs.Shown.{shown_expr, shown_stmt, shown_block, shown_declaration, shown_program};
 ghost use Rattle.flow_model.specs.Meaning.{IsProgramOf};

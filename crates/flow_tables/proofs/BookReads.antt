@@ -1,9 +1,9 @@
 -- What reads of rows tell of the book.
-use Rattle.std.proofs.Common.{◌≡◌, inl, inr, ◌≤◌, ◌+◌, ℕ, zero, suc, ℤ, pos, Bool, true, false, if◌then◌else◌, List, [], ◌∷◌, map, Option, Some, None, Result, Ok, Err, refl, sym, ap, subst, ◌∙◌, arith}
+use Rattle.std.proofs.Common.{◌≡◌, ◌≤◌, ◌+◌, ℕ, zero, suc, ℤ, pos, Bool, true, false, if◌then◌else◌, List, [], ◌∷◌, map, Option, Some, None, Result, Ok, Err, refl, sym, ap, subst, ◌∙◌, arith}
 use Rattle.std.specs.Prelude.{MatchResult, IfOk, IfErr, option_map}
 use Rattle.std.specs.List.{AllByRecursion}
 use Rattle.std.proofs.lemmas.Int.{ints}
-use Rattle.sqlite.specs.State.{State, HasCleanDisk, Survives}
+use Rattle.sqlite.specs.State.{State}
 use Rattle.flow_base.specs.declared.book.Run.{Run}
 use Rattle.flow_model.specs.Book.{Book, nth, first_from}
 use Rattle.flow_view.specs.declared.fault.ViewFault.{ViewFault}
@@ -22,8 +22,8 @@ use Rattle.flow_rows.proofs.Finds.{run_read, event_rows_read, task_rows_read}
 use Rattle.flow_tables.specs.Owned.{RecallsRun, StopsRecall, IsBelowOne, as_number, as_count}
 use Rattle.flow_tables.specs.Asking.{IsValue}
 use Rattle.flow_sql.specs.Stored.{tables_in}
-use Rattle.flow_tables.proofs.Stops.{quiet_then}
-use Rattle.flow_sql.specs.States.{Holds, IsStill, IsRefused}
+use Rattle.flow_tables.proofs.Succession.{still_then, still_refused}
+use Rattle.flow_sql.specs.States.{IsStill, IsRefused}
 
 pub same_numbers : (a b : Option ℕ) → option_map pos a ≡ option_map pos b → a ≡ b
 same_numbers None None e = refl
@@ -37,18 +37,6 @@ same_counts zero (suc n) e = absurd (cc)
 same_counts (suc m) zero e = absurd (cc)
 same_counts (suc m) (suc n) e = cc
 
-module _ (a b c : State) where
-  pub still_then : IsStill true a b → IsStill true b c → IsStill true a c
-  still_then one two = (two.0, two.1 ∙ one.1, two.2 ∙ one.2)
-
-  pub still_refused : IsStill true a b → IsRefused true b c → IsRefused true a c
-  still_refused one (inl still) = inl (still_then one still)
-  still_refused one (inr undone) =
-      inr (record {
-        mode = undone.mode;
-        over = λ up. let u = undone.over up in (u.0, u.1 ∙ one.2, u.2 ∙ one.2);
-      })
-
 -- tables that are as they were tell what they told
 pub tells_still : (a b : State) (k : Book) → IsStill true a b → Tells (tables_in a.now.trees) k → Tells (tables_in b.now.trees) k
 tells_still a b k still h = subst (λ d. Tells (tables_in d.trees) k) (sym still.1) h
@@ -61,10 +49,6 @@ recalled t b n r x row events tasks h at is e k found =
   where
     told : run_told events tasks row ≡ r
     told = ap (λ y. run_told y tasks row) e ∙ ap (λ y. run_told (t.events (pos n)) y row) k ∙ ap (λ y. run_told (t.events (pos n)) (t.outbox (pos n)) y) is ∙ run_read t b n r h at
-
--- a call after a read that changed nothing
-pub second_survives : (a b c : State) → Survives a b (λ _. ⊥) → (Holds true b → Survives b c (λ _. ⊥)) → (HasCleanDisk b → IsStill true a b) → Survives a c (λ _. ⊥)
-second_survives a b c one two still = quiet_then a b c one (two (λ clean. (still clean).0))
 
 no_some : {A B : Type 0} (f : A → B) (o : Option A) (y : B) → Some y ≡ option_map f o → (x : A) × (o ≡ Some x) × (y ≡ f x)
 no_some f None y e = absurd (cc)
@@ -85,8 +69,8 @@ run_then a b c k n row result h still e recalls = let it = no_some (run_row n) (
   where
     go : (it : (x : Run) × (nth k.runs n ≡ Some x) × (row ≡ run_row n x)) (result : Result Run ViewFault) → MatchResult result (λ v. IsStill true b c × (v ≡ it.0)) (λ _. IsRefused true b c)
         → MatchResult result (λ v. IsStill true a c × (Some v ≡ nth k.runs n)) (λ _. IsRefused true a c)
-    go it (Ok v) r = (still_then a b c still r.0, ap Some r.1 ∙ sym it.1)
-    go it (Err f) r = still_refused a b c still r
+    go it (Ok v) r = (still_then true a b c still r.0, ap Some r.1 ∙ sym it.1)
+    go it (Err f) r = still_refused true a b c still r
 
 ---- Why a read is refused
 
@@ -98,23 +82,14 @@ from_one : {A : Type 0} (p : A → Bool) (m k : ℕ) (xs : List A) → 1 ≤ m �
 from_one p m k [] least h = absurd (cc)
 from_one p m k (x ∷ xs) least h = one_more (p x) m k (first_from p (m + 1) xs) least (from_one p (m + 1) k xs (omega (arith, least))) h
 
+-- no text and no run has a number below 1
 none_below : {A : Type 0} (p : A → Bool) (xs : List A) (o : Option ℕ) → first_from p 1 xs ≡ o → IsBelowOne (option_map pos o) → ⊥
 none_below p xs None is h = h
 none_below p xs (Some k) is h = let least = from_one p 1 k xs (omega arith) is in grind (arith, ints)
 
--- no text and no run has a number below 1
-pub number_stops : {A : Type 0} (p : A → Bool) (xs : List A) (W : Type 0) (r : Result (Option ℕ) ViewFault) (found : Option ℤ) → IfErr r (λ _. IsBelowOne found)
-    → found ≡ option_map pos (first_from p 1 xs) → IfErr r (λ f. f ≡ view.StoreRefused → W)
-number_stops p xs W (Ok x) found h e = tt
-number_stops p xs W (Err f) found h e = λ same. absurd (none_below p xs (first_from p 1 xs) refl (subst IsBelowOne e h))
-
 no_low_count : (n : ℕ) → IsBelowOne (last_number n) → ⊥
 no_low_count zero h = h
 no_low_count (suc k) h = grind (arith, ints)
-
-pub count_stops : (W : Type 0) (r : Result ℕ ViewFault) (found : Option ℤ) (n : ℕ) → IfErr r (λ _. IsBelowOne found) → found ≡ last_number n → IfErr r (λ f. f ≡ view.StoreRefused → W)
-count_stops W (Ok x) found n h e = tt
-count_stops W (Err f) found n h e = λ same. absurd (no_low_count n (subst IsBelowOne e h))
 
 told_at : (b : Book) (n : ℕ) (r : Run) → AllByRecursion IsTold b.runs → nth b.runs n ≡ Some r → IsTold r
 told_at b zero r all at = absurd (let clash = at in cc)
@@ -141,8 +116,8 @@ run_stops a b k n row result W h still e stops = let it = no_some (run_row n) (n
 pub number_value : {A : Type 0} (p : A → Bool) (xs : List A) (r : Result (Option ℕ) ViewFault) (found : Option ℤ) → IfOk r (λ o. found ≡ as_number o) → IfErr r (λ _. IsBelowOne found)
     → found ≡ option_map pos (first_from p 1 xs) → IsValue r (first_from p 1 xs)
 number_value p xs (Ok x) found ok err is = same_numbers x (first_from p 1 xs) (sym ok ∙ is)
-number_value p xs (Err f) found ok err is = number_stops p xs ⊥ (Err f) found err is
+number_value p xs (Err f) found ok err is = λ same. absurd (none_below p xs (first_from p 1 xs) refl (subst IsBelowOne is err))
 
 pub count_value : (r : Result ℕ ViewFault) (found : Option ℤ) (n : ℕ) → IfOk r (λ k. found ≡ as_count k) → IfErr r (λ _. IsBelowOne found) → found ≡ last_number n → IsValue r n
 count_value (Ok x) found n ok err is = same_counts x n (sym ok ∙ is)
-count_value (Err f) found n ok err is = count_stops ⊥ (Err f) found n err is
+count_value (Err f) found n ok err is = λ same. absurd (no_low_count n (subst IsBelowOne is err))

@@ -1,6 +1,6 @@
 -- That the statements which are made, where so much is known of the rows, leave what all of them would.
-use Rattle.std.proofs.Common.{◌≡◌, ◌⊎◌, inl, inr, ℕ, zero, suc, ◌+◌, ℤ, pos, negsuc, Bool, true, false, List, [], ◌∷◌, ◌++◌, map, filter, length, nat_eq, Option, Some, None, if◌then◌else◌, refl, sym, ap, subst, ◌∙◌, arith, Result, Ok, Err, true≢false}
-use Rattle.std.proofs.lemmas.Bool.{eqb-true, lt-ltb, ltb-true}
+use Rattle.std.proofs.Common.{◌≡◌, ℕ, suc, ◌+◌, ℤ, pos, negsuc, Bool, true, false, List, [], ◌∷◌, ◌++◌, map, filter, length, nat_eq, Option, Some, None, if◌then◌else◌, refl, sym, ap, subst, ◌∙◌, arith, Result, Ok, Err, true≢false}
+use Rattle.std.proofs.lemmas.Bool.{eqb-true, ltb-true}
 use Rattle.std.proofs.lemmas.Bool.Decides.{Decides-int_eq}
 use Rattle.std.specs.Prelude.{int_lt, MatchResult}
 use Rattle.std.proofs.lemmas.Option.{slice_get_past}
@@ -26,23 +26,19 @@ use Rattle.flow_model.specs.Turned.{traces, turn_events}
 use Rattle.flow_rows.specs.declared.rows.RunRow.{RunRow}
 use Rattle.flow_rows.specs.declared.rows.TimerRow.{TimerRow}
 use Rattle.flow_rows.specs.declared.rows.OutboxRow.{OutboxRow}
-use Rattle.flow_rows.specs.Rows.{Tables, run_row, event_row, timer_row, task_row, timers_left, of_run}
+use Rattle.flow_rows.specs.Rows.{Tables, event_row, timer_row, task_row, timers_left, of_run}
 use Rattle.flow_rows.specs.Changes.{at_run, with_run, with_event, with_timer, without_tasks, without_timers, marked, marked_row, is_other_task, is_other_timer}
-use Rattle.flow_rows.specs.Finding.{run_found}
 use Rattle.flow_rows.specs.Told.{Tells, new_run, opened_by, after_effect, after_event, after_events, after_turn, IsReadableTurn}
 use Rattle.flow_rows.proofs.BookTables.{nth_is}
 use Rattle.flow_rows.proofs.Finds as found
 use Rattle.flow_rows.proofs.Undamaged.{timer_rows_of, task_rows_of}
-use Rattle.flow_rows.proofs.WholeChanges.{mark_read}
 use Rattle.flow_sql.specs.Stored.{tables_in}
 use Rattle.flow_sql.specs.States.{Changes}
-use Rattle.flow_sql.specs.Coming.{IsNewRun}
 use Rattle.flow_tables.specs.declared.known.OpenTasks.{OpenTasks}
 use Rattle.flow_tables.specs.declared.known.OpenTasks.TheVariants as tasks
 use Rattle.flow_tables.specs.declared.known.Standing.{Standing}
-use Rattle.flow_tables.specs.declared.known.KnownRun.{KnownRun}
 use Rattle.flow_tables.specs.Puts.{IsCutShort}
-use Rattle.flow_tables.specs.Known.{Stands, HasOnly, ended, stands_by, stands_what, tasks_gone, timers_gone, closed_from, made_effect, made_event, made_events, made_turn, begins, first_row, first_standing, any_standing, known_or, OfCount, tasks_known, opens_timer, started_timer, run_standing}
+use Rattle.flow_tables.specs.Known.{Stands, HasOnly, ended, stands_by, stands_what, tasks_gone, timers_gone, closed_from, made_effect, made_event, made_events, made_turn, begins, first_row, first_standing, any_standing, tasks_known, opens_timer, started_timer, run_standing}
 
 ---- What one run has
 
@@ -273,7 +269,3 @@ run_stands t b n r tells there = record {
   tasks = subst (HasOnly (tasks_known r.tasks)) (sym (found.task_rows_read t b n r tells there)) (tasks_only (pos n) r.tasks);
   timers = λ none. timer_rows_read t b n r tells there ∙ ap (map (timer_row (pos n))) (no_timer_left r.history (is_open (state_of r.history)) (no_timer r.history none));
 }
-
-pub count_known : (known : Option ℕ) (n : ℕ) → OfCount known n → known_or known n ≡ n
-count_known None n is = refl
-count_known (Some k) n is = is

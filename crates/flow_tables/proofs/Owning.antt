@@ -15,7 +15,7 @@ use Rattle.flow_rows.proofs.Telling.{told}
 use Rattle.flow_rows.proofs.WholeChanges.{change_told}
 use Rattle.flow_tables.specs.declared.known.Known.{Known}
 use Rattle.flow_tables.specs.Known.{IsKnown}
-use Rattle.flow_tables.specs.Owned.{IsAware, IsOwn, IsSure, Keeps, KeepsOn, WasUp, ReadsBook, TellBook, IsNoted, book_of}
+use Rattle.flow_tables.specs.Owned.{IsAware, IsFileOf, IsOwn, IsSure, Keeps, KeepsOn, WasUp, ReadsBook, TellBook, IsNoted, book_of}
 use Rattle.flow_sql.specs.Stored.{tables_in}
 use Rattle.flow_sql.specs.States.{AreOurs, HasTables, IsOver, Holds, IsStill, IsRefused, IsUndone, HasBegun, HasCommitted, HasEnded, Changes}
 use Rattle.flow_tables.specs.Puts.{IsCutShort}
@@ -301,3 +301,13 @@ begun_book old new r b h own keeps =
 pub commit_kept : (old new : State) (r s : Option Refusal) → r ≡ None → IsSettled new → IsOwn old r → HasCommitted old new → Keeps new (book_of old.now.trees)
 commit_kept old new r s none law own h =
     keeps_now new s (book_of old.now.trees) law (own_committed old new r s none own h) h.1.is_open (ap (λ (d : Database). book_of d.trees) h.1.committed_is)
+
+-- an open connection whose transaction has ended without a commit keeps what it kept
+pub ended_still : (old new : State) (b : Book) → IsSettled new → HasEnded old new → IsTrue new.is_open → Keeps old b → Keeps new b
+ended_still old new b law ended up keeps =
+    let was = keeps.kept (ended.was_open up) in
+    let same : new.committed ≡ old.committed = (ended.back up).1 in
+    record {
+      kept = λ _. subst (λ (d : Database). HasTables d × Tells (tables_in d.trees) b) (sym same) was;
+      stops = λ db may. subst (λ d. IsFileOf d b) (sym (law db up may ∙ ap (λ (d : Database). d.trees) same)) (record { ours = was.0.ours; tells = was.1 });
+    }

@@ -94,7 +94,7 @@ module _ {S A V : Type 0} (g : Ghosts S) (old new : Held S) (sql : List ℕ) (pa
     reads = λ clean b told was. let read = it.reads true was clean in go b r (is (tables_in (state g old).now.trees) b told read.1) read.0;
     clean = it.clean;
     cause = λ clean b told was. stops b r (is (tables_in (state g old).now.trees) b told (it.reads true was clean).1);
-    survives = λ _. it.survives;
+    survives = it.survives;
   }
     where
       go : (b : Book) → (r : Result A ViewFault) → IsValue r (value b) → IsStill true (state g old) (state g new) → MatchResult r (λ x. IsStill true (state g old) (state g new) × (x ≡ value b)) (λ _. IsRefused true (state g old) (state g new))
@@ -110,7 +110,7 @@ module _ {S A V : Type 0} (g : Ghosts S) (old new : Held S) (sql : List ℕ) (pa
     reads = λ clean b told was. it.reads true was clean;
     clean = it.clean;
     cause = λ clean b told was e. read_stopped g old new sql params f (it.cause clean) (sym same ∙ e);
-    survives = λ _. it.survives;
+    survives = it.survives;
   }
 
 ---- Changes

@@ -41,7 +41,7 @@ pub record IsRecalled {S A : Type 0} (g : Ghosts S) (old new : Held S) (result :
   pub reads : HasCleanDisk (state g new) → ReadsBook (state g old) (state g new) result value
   pub clean : HasCleanDisk (state g new) → HasCleanDisk (state g old)
   pub cause : HasCleanDisk (state g new) → StopsRead (state g old) result (IsStopped g (state g new))
-  pub survives : Holds true (state g old) → Survives (state g old) (state g new) (λ _. ⊥)
+  pub survives : Survives (state g old) (state g new) (λ _. ⊥)
 
 ---- Changes
 

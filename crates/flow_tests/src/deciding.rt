@@ -3,8 +3,8 @@ ghost use Rattle.flow_model.specs.Apply.{rules_of};
 
 use flow_base::command::Command;
 use flow_check::texts::Texts;
-use flow_machine::answer::{Answer, Answering, Stop};
-use flow_machine::decide::decide;
+use flow_machine::answer::{Answer, Answering, Stop, Together};
+use flow_machine::decide::{decide, decide_all};
 use flow_view::view::View;
 use std::alloc::Global;
 
@@ -27,13 +27,20 @@ impl<'a, V: View + Drop, T: Texts> Answering for Deciding<'a, V, T> {
     ghost follows = { λ a b. V.follows a.view b.view };
 
     // No command is given up.
-    ghost gives_up = { λ b c k. ⊥ };
+    ghost gives_up = { λ b cs k. ⊥ };
 
-    ghost stops = { λ s b c stop. Unit {0} };
+    ghost stops = { λ s b cs stop. Unit {0} };
 
     fn answer(&mut self, command: Command) -> Result<Answer, Stop> {
         match decide(self.alloc, self.texts, &mut self.view, &command) {
             Ok((reply, _)) => Ok(Answer::Replied(reply)),
+            Err(_) => Err(Stop::Unknown),
+        }
+    }
+
+    fn answer_together(&mut self, commands: Vec<Command>) -> Result<Together, Stop> {
+        match decide_all(self.alloc, self.texts, &mut self.view, commands.as_slice()) {
+            Ok(replies) => Ok(Together::Replied(replies)),
             Err(_) => Err(Stop::Unknown),
         }
     }

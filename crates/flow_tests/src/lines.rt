@@ -1,6 +1,7 @@
 //! Lines in, lines out, over lists.
 use crate::deciding::Deciding;
 use flow_check::language::Language;
+use flow_cli::batch::BatchSize;
 use flow_cli::drive::{Stopped, drive_lines, end_status};
 use flow_view::lists::Lists;
 use std::alloc::Global;
@@ -18,10 +19,16 @@ pub(crate) fn over_lists<'a>(alloc: Global) -> Deciding<'a, Lists, Language> {
 
 /// The status of these lines over an empty book, where this is written.
 pub(crate) fn driven(alloc: Global, input: &[u8], wanted: &[u8]) -> Option<u8> {
+    driven_by(alloc, 1, input, wanted)
+}
+
+/// As `driven`, with so many commands applied together.
+pub(crate) fn driven_by(alloc: Global, most: u64, input: &[u8], wanted: &[u8]) -> Option<u8> {
     let mut reader = input;
     let mut writer = Vec::new(alloc);
     let mut engine = over_lists(alloc);
-    match drive_lines(alloc, &mut engine, &mut reader, &mut writer) {
+    let size = BatchSize::new(most)?;
+    match drive_lines(alloc, &mut engine, &mut reader, &mut writer, size) {
         Ok(status) if writer.as_slice() == wanted => Some(status),
         _ => None,
     }
@@ -47,6 +54,22 @@ fn lines(rt: HostRuntime) -> Result<(), Fail> {
         ),
         Some(1)
     );
+    Ok(())
+}
+
+const LINES: &[u8] =
+    b"x\n{\"do\":\"history\",\"run\":1}\n\nx\n{\"do\":\"register\",\"src\":\"workflow a() {}\"}\n{\"do\":\"history\",\"run\":2}\nx\n";
+
+const ANSWERS: &[u8] =
+    b"{\"code\":\"E02\",\"reply\":\"refused\"}\n{\"code\":\"E70\",\"reply\":\"refused\"}\n{\"code\":\"E02\",\"reply\":\"refused\"}\n{\"code\":\"E02\",\"reply\":\"refused\"}\n{\"reply\":\"registered\",\"text\":1}\n{\"code\":\"E70\",\"reply\":\"refused\"}\n{\"code\":\"E02\",\"reply\":\"refused\"}\n";
+
+#[test]
+fn the_size_of_batches_changes_no_line(rt: HostRuntime) -> Result<(), Fail> {
+    for most in [1, 2, 3, 64] {
+        assert_eq!(rt; driven_by(rt.alloc(), most, LINES, ANSWERS), Some(1));
+    }
+    assert_eq!(rt; driven_by(rt.alloc(), 0, LINES, ANSWERS), None);
+    assert_eq!(rt; driven_by(rt.alloc(), 65, LINES, ANSWERS), None);
     Ok(())
 }
 
@@ -91,7 +114,7 @@ impl Write for Paper {
 fn driven_onto(alloc: Global, paper: &mut Paper) -> Option<u8> {
     let mut reader = b"{\"do\":\"history\",\"run\":1}\nx\n".as_slice();
     let mut engine = over_lists(alloc);
-    let outcome = drive_lines(alloc, &mut engine, &mut reader, paper);
+    let outcome = drive_lines(alloc, &mut engine, &mut reader, paper, BatchSize::new(1)?);
     match &outcome {
         Err(Stopped::Output(_)) => Some(end_status(&outcome)),
         _ => None,

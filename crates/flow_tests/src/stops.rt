@@ -3,17 +3,18 @@ use crate::lines::over_lists;
 use flow_base::code::Code;
 use flow_base::command::Command;
 use flow_base::fault::Fault;
+use flow_cli::batch::BatchSize;
 use flow_cli::drive::{drive_lines, end_status};
 use flow_cli::fault::fault_of_stop;
-use flow_machine::answer::{Answer, Answering, Stop};
+use flow_machine::answer::{Answer, Answering, Stop, Together};
 use std::alloc::Global;
 use std::test::Fail;
 
-/// Answers as another does, but for one command.
+/// Answers as another does, but for one batch.
 #[derive(Drop)]
 struct Failing<E> {
     inner: E,
-    /// How many commands come before that one.
+    /// How many batches come before that one.
     before: u64,
     /// Why it isn't answered: without a stop it is given up, with E80.
     stop: Option<Stop>,
@@ -28,9 +29,9 @@ impl<E: Answering + Drop> Answering for Failing<E> {
 
     ghost follows = { λ a b. E.follows a.inner b.inner };
 
-    ghost gives_up = { λ b c k. Unit {0} };
+    ghost gives_up = { λ b cs k. Unit {0} };
 
-    ghost stops = { λ s b c k. Unit {0} };
+    ghost stops = { λ s b cs k. Unit {0} };
 
     fn answer(&mut self, command: Command) -> Result<Answer, Stop> {
         if self.before == 0 {
@@ -47,11 +48,28 @@ impl<E: Answering + Drop> Answering for Failing<E> {
             Err(stop) => Err(stop),
         }
     }
+
+    fn answer_together(&mut self, commands: Vec<Command>) -> Result<Together, Stop> {
+        if self.before == 0 {
+            self.before = u64::MAX;
+            return match self.stop {
+                Some(stop) => Err(stop),
+                None => Ok(Together::NotApplied(Code::StoreRefused)),
+            };
+        }
+        self.before -= 1;
+        match self.inner.answer_together(commands) {
+            Ok(Together::Replied(replies)) => Ok(Together::Replied(replies)),
+            Ok(Together::NotApplied(code)) => Ok(Together::NotApplied(code)),
+            Err(stop) => Err(stop),
+        }
+    }
 }
 
-/// The final status, with the command behind so many others given up or without an answer, where this is written.
+/// The final status, with the batch behind so many others given up or without an answer, where this is written.
 fn failed_at(
     alloc: Global,
+    most: u64,
     before: u64,
     stop: Option<Stop>,
     input: &[u8],
@@ -64,7 +82,13 @@ fn failed_at(
         before,
         stop,
     };
-    let outcome = drive_lines(alloc, &mut engine, &mut reader, &mut writer);
+    let outcome = drive_lines(
+        alloc,
+        &mut engine,
+        &mut reader,
+        &mut writer,
+        BatchSize::new(most)?,
+    );
     if writer.as_slice() == wanted {
         Some(end_status(&outcome))
     } else {
@@ -80,6 +104,7 @@ fn a_command_that_is_given_up_changes_nothing(rt: HostRuntime) -> Result<(), Fai
     assert_eq!(rt;
         failed_at(
             a,
+            1,
             0,
             None,
             register,
@@ -90,6 +115,7 @@ fn a_command_that_is_given_up_changes_nothing(rt: HostRuntime) -> Result<(), Fai
     assert_eq!(rt;
         failed_at(
             a,
+            1,
             1,
             None,
             b"{\"do\":\"history\",\"run\":1}\nx\n{\"do\":\"history\",\"run\":1}\n",
@@ -112,6 +138,7 @@ fn a_stop_ends_it(rt: HostRuntime) -> Result<(), Fail> {
             failed_at(
                 rt.alloc(),
                 1,
+                1,
                 Some(stop),
                 b"{\"do\":\"history\",\"run\":1}\nx\n{\"do\":\"history\",\"run\":1}\n{\"do\":\"history\",\"run\":1}\n",
                 b"{\"code\":\"E70\",\"reply\":\"refused\"}\n{\"code\":\"E02\",\"reply\":\"refused\"}\n"
@@ -120,5 +147,37 @@ fn a_stop_ends_it(rt: HostRuntime) -> Result<(), Fail> {
         );
         assert!(rt; fault_of_stop(stop) == fault);
     }
+    Ok(())
+}
+
+#[test]
+fn a_batch_is_given_up_as_a_whole(rt: HostRuntime) -> Result<(), Fail> {
+    assert_eq!(rt;
+        failed_at(
+            rt.alloc(),
+            2,
+            1,
+            None,
+            b"{\"do\":\"history\",\"run\":1}\n{\"do\":\"register\",\"src\":\"workflow a() {}\"}\nx\n{\"do\":\"history\",\"run\":1}\nx\n{\"do\":\"register\",\"src\":\"workflow b() {}\"}\n{\"do\":\"register\",\"src\":\"workflow c() {}\"}\n",
+            b"{\"code\":\"E70\",\"reply\":\"refused\"}\n{\"reply\":\"registered\",\"text\":1}\n{\"code\":\"E02\",\"reply\":\"refused\"}\n{\"code\":\"E80\",\"reply\":\"not applied\"}\n{\"code\":\"E02\",\"reply\":\"refused\"}\n{\"code\":\"E80\",\"reply\":\"not applied\"}\n{\"reply\":\"registered\",\"text\":2}\n"
+        ),
+        Some(3)
+    );
+    Ok(())
+}
+
+#[test]
+fn a_stop_leaves_its_batch_without_a_line(rt: HostRuntime) -> Result<(), Fail> {
+    assert_eq!(rt;
+        failed_at(
+            rt.alloc(),
+            2,
+            1,
+            Some(Stop::Unknown),
+            b"{\"do\":\"history\",\"run\":1}\nx\n{\"do\":\"history\",\"run\":1}\nx\n{\"do\":\"history\",\"run\":1}\nx\n{\"do\":\"history\",\"run\":1}\n",
+            b"{\"code\":\"E70\",\"reply\":\"refused\"}\n{\"code\":\"E02\",\"reply\":\"refused\"}\n{\"code\":\"E70\",\"reply\":\"refused\"}\n{\"code\":\"E02\",\"reply\":\"refused\"}\n"
+        ),
+        Some(3)
+    );
     Ok(())
 }

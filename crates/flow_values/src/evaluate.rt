@@ -1,4 +1,4 @@
-ghost use Rattle.std.specs.Prelude.{◌≡◌, ◌+ℤ◌, ◌-ℤ◌, ◌*ℤ◌, neg_ℤ, int_div, int_rem, int_lt, int_le, IfOk, map, MatchOption, MatchResult, None, Some, Ok, Err, pos, length, ◌++◌};
+ghost use Rattle.std.specs.Prelude.{◌≡◌, ◌+ℤ◌, ◌-ℤ◌, ◌*ℤ◌, neg_ℤ, int_div, int_rem, IfOk, map, MatchOption, MatchResult, None, Some, Ok, Err, pos, length, ◌++◌};
 ghost use Rattle.flow_base.specs.Shown.{shown_expr};
 ghost use Rattle.flow_model.specs.Values.{Variables, value as value_of, values as values_of, due as due_of, due_in, whole, divided, applied, combined, decided_by, is_true, joined, text_of as text_in, number_of as number_in, flag as flag_of, there};
 
@@ -114,7 +114,7 @@ fn after(at: Moment, delay: i64) -> Result<Moment, Cause>
 }
 
 /// Whether a value is true as a condition: any number but 0.
-pub fn truth(v: &Value) -> bool
+fn truth(v: &Value) -> bool
     ensures { result ≡ is_true v.now }
 {
     number_of(v) != 0

@@ -1,4 +1,4 @@
-use Rattle.std.proofs.Common.{ap, ◌∙◌}
+use Rattle.std.proofs.Common.{ap}
 use Rattle.flow_base.specs.Shown.{shown_expr}
 use Rattle.flow_check.specs.Tables.{types_of}
 use Rattle.flow_check.proofs.Expressing.{unary_noted, binary_noted}

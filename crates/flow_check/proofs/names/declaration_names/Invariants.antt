@@ -1,6 +1,6 @@
 use Rattle.std.proofs.Common.{map, take}
-use Rattle.flow_base.specs.Shown.{shown_declaration, shown_block}
-use Rattle.flow_model.specs.WellFormed.{name_of_parameter, name_of_declared, names_of_block}
+use Rattle.flow_base.specs.Shown.{shown_declaration}
+use Rattle.flow_model.specs.WellFormed.{name_of_declared}
 use Rattle.flow_check.specs.Tables.{Declares}
 use Rattle.flow_check.proofs.names.declaration_names.Given as goal
 

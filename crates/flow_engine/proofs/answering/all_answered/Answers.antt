@@ -1,6 +1,7 @@
-use Rattle.std.proofs.Common.{◌≡◌, ◌+◌, ◌≤◌, length, arith, vec_len, vec_capacity, ◌∙◌}
+use Rattle.std.proofs.Common.{◌≡◌, ◌+◌, ◌≤◌, length, sym, ap, arith, vec_len, vec_capacity, ◌∙◌}
 use Rattle.std.proofs.lemmas.Result.{IfOk-weaker, IfErr-weaker}
-use Rattle.flow_engine.proofs.Singly.{driven_alone, are_single, all_sure, all_kept, all_there, all_caused, ends_early, leaves_early}
+use Rattle.flow_engine.specs.Driving.{commands_in}
+use Rattle.flow_engine.proofs.Singly.{driven_alone, are_single, all_sure, all_kept, all_there, all_caused, ends_early, leaves_early, alone_commands, both_parts}
 use Rattle.flow_engine.proofs.answering.all_answered.Goals as goal
 
 pub all_answers-requires-clause-room : goal.all_answers-requires-clause-room
@@ -69,3 +70,9 @@ returns-in-Ok-clause-leaves g c =
     (driven_alone g.S.Store c.args.engine.now c.drive.new.engine c.args.batches.items c.in-Ok.dones.items ts are
     d.drives d.noted d.halted d.later d.count d.fit d.up d.own) c.args.answers.items c.requires.none u h fit b keeps)
     c.all_answers.ensures.stops
+
+pub returns-in-Ok-clause-part : goal.returns-in-Ok-clause-part
+returns-in-Ok-clause-part g c ts are =
+    let its = alone_commands ts ∙ ap commands_in (sym are) in
+    both_parts g.S.Store c.args.engine.now c.drive.new.engine c.args.batches.items c.in-Ok.dones.items _ its c.in-Ok.ensures.runs (λ l. l.items) c.args.answers.items c.requires.none
+    c.all_answers.result c.all_answers.ensures.given c.all_answers.ensures.stops

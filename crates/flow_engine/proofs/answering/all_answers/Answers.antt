@@ -1,6 +1,7 @@
-use Rattle.std.proofs.Common.{◌≡◌, ◌+◌, ◌≤◌, length, sym, ap, ◌∙◌, subst, arith, vec_len, vec_capacity}
-use Rattle.std.specs.Vec.Iter.{into_iter_items, into_iter_len}
+use Rattle.std.proofs.Common.{sym, ◌∙◌, subst}
+use Rattle.std.specs.Vec.Iter.{into_iter_items}
 use Rattle.flow_engine.specs.Answering.{AreSingle}
+use Rattle.flow_engine.proofs.Filling.{room_more}
 use Rattle.flow_engine.proofs.OneMore.{none_left}
 use Rattle.flow_engine.proofs.Singly.{Answering, answering_more, answering_stops, answering_done}
 use Rattle.flow_engine.proofs.answering.all_answers.Goals as goal
@@ -13,15 +14,10 @@ loop-done-preserved c =
     let was = c.loop-done.invariant in
     let next = c.in-Some.ensures.steps in
     let pushed = c.push_reserved.ensures in
-    let shorter : into_iter_len c.next.new.self + 1 ≡ into_iter_len c.loop-done.done-iterator = next.1 in
-    let items : length (into_iter_items c.loop-done.done-iterator) ≡ length (into_iter_items c.next.new.self) + 1 = ap length next.0 ∙ omega arith in
-    let left : into_iter_len c.loop-done.done-iterator ≡ length (into_iter_items c.loop-done.done-iterator) = was.left in
-    let room : vec_len c.loop-done.answers + into_iter_len c.loop-done.done-iterator ≤ vec_capacity c.loop-done.answers = was.room in
-    let long : vec_len c.push_reserved.new.self ≡ vec_len c.loop-done.answers + 1 = pushed.len in
-    let wide : vec_capacity c.push_reserved.new.self ≡ vec_capacity c.loop-done.answers = pushed.capacity in
+    let room = room_more _ _ _ _ _ _ _ _ _ next.0 next.1 pushed.len pushed.capacity was.left was.room in
     record {
-      left = omega (arith, shorter, items, left);
-      room = omega (arith, shorter, room, long, wide);
+      left = room.0;
+      room = room.1;
       answering =
           subst (λ l. Answering c.args.answers.items c.args.dones.items l (into_iter_items c.next.new.self)) (sym pushed.items)
           (answering_more c.args.answers.items c.args.dones.items c.loop-done.answers.items (into_iter_items c.loop-done.done-iterator) (into_iter_items c.next.new.self) c.in-Some.done c.in-Ok.answer next.0 was.answering c.in-Ok.ensures.given);

@@ -1,8 +1,9 @@
-use Rattle.std.proofs.Common.{[], ◌∷◌, subst}
+use Rattle.std.proofs.Common.{[], ◌∷◌, sym, ap, inr, subst}
 use Rattle.std.proofs.lemmas.Result.{IfOk-weaker, IfErr-weaker}
 use Rattle.flow_commit.specs.Keeping.{rules, kept_book}
-use Rattle.flow_engine.specs.Answering.{AnswersAll, AreCaused, given}
-use Rattle.flow_engine.proofs.Singly.{driven_alone, are_single, answers_sure, has_stopped, given_caused, one_answered}
+use Rattle.flow_engine.specs.Driving.{commands_in}
+use Rattle.flow_engine.specs.Answering.{AnswersAll, AreCaused}
+use Rattle.flow_engine.proofs.Singly.{driven_alone, are_single, answers_sure, has_stopped, given_caused, one_answered, one_part}
 use Rattle.flow_engine.proofs.answering.answered.Goals as goal
 
 pub one_answer-requires-clause-single : goal.one_answer-requires-clause-single
@@ -35,3 +36,11 @@ returns-in-Ok-clause-stopped g c =
     (driven_alone g.S.Store c.args.engine.now c.drive.new.engine c.args.batches.items c.in-Ok.dones.items c.requires.alone.taken c.requires.alone.are
     d.drives d.noted d.halted d.later d.count d.fit d.up d.own) s h.1)
     c.one_answer.ensures.stops
+
+pub returns-in-Ok-clause-part : goal.returns-in-Ok-clause-part
+returns-in-Ok-clause-part g c t is =
+    one_part g.S.Store c.args.engine.now c.drive.new.engine c.args.batches.items c.in-Ok.dones.items (t.command ∷ []) (ap commands_in (sym is)) c.in-Ok.ensures.runs
+    c.one_answer.result c.one_answer.ensures.given c.one_answer.ensures.stops
+
+pub returns-clause-part : goal.returns-clause-part
+returns-clause-part g c t is = inr c.in-Err.ensures.same

@@ -1,6 +1,7 @@
-use Rattle.std.proofs.Common.{◌≡◌, ◌+◌, ◌≤◌, length, sym, ap, ◌∙◌, subst, arith, vec_len, vec_capacity, ◌++◌, ◌∷◌, []}
+use Rattle.std.proofs.Common.{◌≡◌, ◌+◌, ◌≤◌, sym, ap, ◌∙◌, subst, arith, vec_len, vec_capacity, ◌++◌, ◌∷◌, []}
 use Rattle.std.specs.Vec.Iter.{into_iter_items, into_iter_len}
 use Rattle.flow_machine.specs.declared.submission.Taken.{Taken}
+use Rattle.flow_engine.proofs.Filling.{room_more}
 use Rattle.flow_engine.proofs.OneMore.{none_left}
 use Rattle.flow_engine.proofs.Singly.{Cutting, cutting_more, cutting_done}
 use Rattle.flow_engine.proofs.answering.cut.Goals as goal
@@ -17,15 +18,10 @@ loop-command-preserved c =
     let next = c.in-Some.ensures.steps in
     let pushed = c.push_reserved.ensures in
     let t : Taken = record { ticket = c.loop-command.ticket; command = c.in-Some.command } in
-    let shorter : into_iter_len c.next.new.self + 1 ≡ into_iter_len c.loop-command.command-iterator = next.1 in
-    let items : length (into_iter_items c.loop-command.command-iterator) ≡ length (into_iter_items c.next.new.self) + 1 = ap length next.0 ∙ omega arith in
-    let left : into_iter_len c.loop-command.command-iterator ≡ length (into_iter_items c.loop-command.command-iterator) = was.left in
-    let room : vec_len c.loop-command.batches + into_iter_len c.loop-command.command-iterator ≤ vec_capacity c.loop-command.batches = was.room in
-    let long : vec_len c.push_reserved.new.self ≡ vec_len c.loop-command.batches + 1 = pushed.len in
-    let wide : vec_capacity c.push_reserved.new.self ≡ vec_capacity c.loop-command.batches = pushed.capacity in
+    let room = room_more _ _ _ _ _ _ _ _ _ next.0 next.1 pushed.len pushed.capacity was.left was.room in
     record {
-      left = omega (arith, shorter, items, left);
-      room = omega (arith, shorter, room, long, wide);
+      left = room.0;
+      room = room.1;
       cutting =
           subst (λ l. Cutting c.args.commands.items (into_iter_items c.next.new.self) l) (sym (pushed.items ∙ ap (λ b. c.loop-command.batches.items ++ b ∷ []) c.in-Ok.ensures.one))
           (cutting_more c.args.commands.items (into_iter_items c.loop-command.command-iterator) (into_iter_items c.next.new.self) c.loop-command.batches.items t next.0 was.cutting);

@@ -9,3 +9,8 @@ pub returns-in-NotApplied-clause-does : goal.returns-in-NotApplied-clause-does
 returns-in-NotApplied-clause-does g c fit b keeps =
     let h = c.in-NotApplied.ensures.commits fit b keeps in
     (h.0, h.2)
+
+pub returns-in-Unknown-clause-does : goal.returns-in-Unknown-clause-does
+returns-in-Unknown-clause-does g c fit b keeps =
+    let h = c.in-Unknown.ensures.commits fit b keeps in
+    (h.0, h.2)

@@ -1,9 +1,10 @@
-use Rattle.std.proofs.Common.{◌≡◌, ◌+◌, ◌≤◌, length, sym, ap, ◌∙◌, subst, arith, vec_len, vec_capacity}
-use Rattle.std.specs.Vec.Iter.{into_iter_items, into_iter_len}
+use Rattle.std.proofs.Common.{sym, ◌∙◌, subst}
+use Rattle.std.specs.Vec.Iter.{into_iter_items}
 use Rattle.flow_machine.proofs.Keeps.{after_keeps}
 use Rattle.flow_machine.proofs.Meaning.{reads_well_formed}
 use Rattle.flow_commit.specs.Keeping.{rules}
-use Rattle.flow_engine.proofs.OneMore.{Drove, drove_more, drives, none_left, after_well, left_well}
+use Rattle.flow_engine.proofs.Filling.{room_more}
+use Rattle.flow_engine.proofs.OneMore.{Drove, drove_more, drives, all_later, none_left, after_well, left_well}
 use Rattle.flow_engine.proofs.drive.drive.Goals as goal
 
 pub loop-batch-preserved : goal.loop-batch-preserved
@@ -11,15 +12,10 @@ loop-batch-preserved g c =
     let was = c.loop-batch.invariant in
     let next = c.in-Some.ensures.steps in
     let pushed = c.push_reserved.ensures in
-    let shorter : into_iter_len c.next.new.self + 1 ≡ into_iter_len c.loop-batch.batch-iterator = next.1 in
-    let items : length (into_iter_items c.loop-batch.batch-iterator) ≡ length (into_iter_items c.next.new.self) + 1 = ap length next.0 ∙ omega arith in
-    let left : into_iter_len c.loop-batch.batch-iterator ≡ length (into_iter_items c.loop-batch.batch-iterator) = was.left in
-    let room : vec_len c.loop-batch.dones + into_iter_len c.loop-batch.batch-iterator ≤ vec_capacity c.loop-batch.dones = was.room in
-    let long : vec_len c.push_reserved.new.self ≡ vec_len c.loop-batch.dones + 1 = pushed.len in
-    let wide : vec_capacity c.push_reserved.new.self ≡ vec_capacity c.loop-batch.dones = pushed.capacity in
+    let room = room_more _ _ _ _ _ _ _ _ _ next.0 next.1 pushed.len pushed.capacity was.left was.room in
     record {
-      left = omega (arith, shorter, items, left);
-      room = omega (arith, shorter, room, long, wide);
+      left = room.0;
+      room = room.1;
       drove =
           subst (Drove g.S.Store c.args.engine.now c.done_with.new.engine c.args.batches.items (into_iter_items c.next.new.self)) (sym pushed.items)
           (drove_more g.S.Store c.args.engine.now c.loop-batch.engine c.done_with.new.engine c.args.batches.items (into_iter_items c.loop-batch.batch-iterator) (into_iter_items c.next.new.self) c.loop-batch.dones.items c.in-Some.batch c.done_with.result next.0 was.drove
@@ -42,3 +38,15 @@ pub returns-clause-leaves : goal.returns-clause-leaves
 returns-clause-leaves g c fit b well keeps goes_on =
     left_well g.S.Store c.args.engine.now c.loop-batch.engine b c.args.batches.items c.loop-batch.dones.items well
     (returns-clause-drives g c fit b keeps goes_on)
+
+-- This is what a life has of these batches.
+pub returns-clause-runs : goal.returns-clause-runs
+returns-clause-runs g c =
+    let drove = c.loop-batch.invariant.drove in
+    let none = none_left (into_iter_items c.loop-batch.batch-iterator) (sym c.loop-batch.invariant.left ∙ c.in-None.ensures.steps.0) in
+    record {
+      opened = drove.opened;
+      fit = drove.fit;
+      drives = returns-clause-drives g c;
+      still = λ h. (drove.halted h, all_later g.S.Store c.args.engine.now c.loop-batch.engine c.args.batches.items (into_iter_items c.loop-batch.batch-iterator) c.loop-batch.dones.items drove none h);
+    }

@@ -1,10 +1,10 @@
-use Rattle.std.proofs.Common.{◌≡◌, ◌∙◌, ◌∷◌, ◌++◌, length, map, ap, sym, rules, arith, w64, to_z, of_z}
+use Rattle.std.proofs.Common.{◌≡◌, ◌∙◌, ◌∷◌, ap, rules, arith, w64, to_z, of_z}
 use Rattle.std.proofs.lemmas.Result.{err_from_is_err_and, IfOk-weaker, IfErr-weaker}
 use Rattle.flow_base.specs.Shown.{shown_expr}
 use Rattle.flow_base.specs.declared.token.Word.TheVariants as word
 use Rattle.flow_base.specs.declared.token.Mark.TheVariants as mark
 use Rattle.flow_model.specs.Lexeme.{lexeme, lexemes}
-use Rattle.flow_syntax.specs.Machine.{Symbol, fault}
+use Rattle.flow_syntax.specs.Machine.{fault}
 use Rattle.flow_syntax.specs.Machine as m
 use Rattle.flow_syntax.proofs.Steps.{term_is, sum_is, compare_is, conj_is, expr_is}
 use Rattle.flow_syntax.proofs.Parsed.{stops_in}

@@ -1,11 +1,5 @@
-use Rattle.std.proofs.Common.{◌≡◌, ◌∙◌, ◌∷◌, ◌++◌, length, map, ap, sym, rules, arith}
-use Rattle.std.proofs.lemmas.Result.{err_from_is_err_and, IfOk-weaker, IfErr-weaker}
-use Rattle.flow_base.specs.Shown.{shown_expr}
-use Rattle.flow_base.specs.declared.token.Word.TheVariants as word
-use Rattle.flow_base.specs.declared.token.Mark.TheVariants as mark
+use Rattle.std.proofs.Common.{length, map, arith}
 use Rattle.flow_model.specs.Lexeme.{lexeme, lexemes}
-use Rattle.flow_syntax.specs.Machine.{Symbol, fault}
-use Rattle.flow_syntax.specs.Machine as m
 use Rattle.std.proofs.Common.{◌≤◌}
 use Rattle.std.proofs.lemmas.List.{length-map}
 use Rattle.flow_syntax.proofs.Faults.{is_cut, within_next}

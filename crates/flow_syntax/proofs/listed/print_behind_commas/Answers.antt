@@ -1,4 +1,4 @@
-use Rattle.std.proofs.Common.{◌∷◌, [], ap, refl, map, drop, ◌+◌, arith}
+use Rattle.std.proofs.Common.{◌∷◌, ap, refl, map, drop, ◌+◌, arith}
 use Rattle.flow_base.specs.declared.token.Word.TheVariants as word
 use Rattle.flow_base.specs.declared.token.Mark.TheVariants as mark
 use Rattle.flow_syntax.specs.Print.{behind_commas}

@@ -1,4 +1,4 @@
-use Rattle.std.proofs.Common.{◌≡◌, ◌++◌, rules}
+use Rattle.std.proofs.Common.{◌≡◌, ◌++◌}
 use Rattle.flow_base.specs.Shown.{shown_expr}
 use Rattle.flow_syntax.specs.Print.{spaced, fitted, level, expression_words}
 use Rattle.flow_syntax.proofs.Printing.{words_then, binary_written}

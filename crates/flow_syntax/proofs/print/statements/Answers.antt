@@ -1,4 +1,4 @@
-use Rattle.std.proofs.Common.{ap, refl, map, drop, ◌+◌, List, arith}
+use Rattle.std.proofs.Common.{ap, refl, drop, ◌+◌, List, arith}
 use Rattle.flow_base.specs.declared.syntax.Stmt.{Stmt}
 use Rattle.flow_base.specs.Shown.{shown_block, shown_stmt}
 use Rattle.flow_syntax.specs.Print.{block_words, statement_words}

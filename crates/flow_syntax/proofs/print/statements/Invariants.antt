@@ -1,4 +1,4 @@
-use Rattle.std.proofs.Common.{◌≡◌, ◌++◌, map, drop}
+use Rattle.std.proofs.Common.{◌≡◌, ◌++◌, drop}
 use Rattle.flow_base.specs.Shown.{shown_block}
 use Rattle.flow_syntax.specs.Print.{spaced, block_words}
 use Rattle.flow_syntax.proofs.print.statements.Given as goal

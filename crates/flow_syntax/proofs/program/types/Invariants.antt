@@ -1,4 +1,4 @@
-use Rattle.std.proofs.Common.{◌≡◌, ◌<◌, List, ◌∷◌, length, map}
+use Rattle.std.proofs.Common.{◌≡◌, ◌<◌, List, ◌∷◌, length}
 use Rattle.flow_model.specs.Lexeme.{lexemes}
 use Rattle.flow_syntax.specs.Machine.{Symbol, fault}
 use Rattle.flow_syntax.specs.Machine as m

@@ -1,6 +1,6 @@
 use Rattle.std.proofs.Common.{Ok, Err}
 use Rattle.sqlite.specs.Held.{state}
-use Rattle.flow_sql.proofs.StaysShut.{stays_shut}
+use Rattle.flow_sql.proofs.Leaves.{stays_shut}
 use Rattle.flow_tables.proofs.transaction.run.Goals as goal
 
 pub returns-in-Ok-clause-runs : goal.returns-in-Ok-clause-runs

@@ -1,4 +1,4 @@
-use Rattle.std.proofs.Common.{◌≡◌, List, [], ◌∷◌, sym, subst, rules}
+use Rattle.std.proofs.Common.{[], ◌∷◌, sym, subst, rules}
 use Rattle.flow_base.specs.Syntax.{Bytes}
 use Rattle.flow_model.specs.WellFormed.{named, activities}
 use Rattle.flow_check.specs.Tables.{Declares}

@@ -1,4 +1,4 @@
-use Rattle.std.proofs.Common.{◌≡◌, Bool, false, is_some, bytes_eq, subst, sym, ◌∙◌, rules}
+use Rattle.std.proofs.Common.{◌≡◌, false, is_some, bytes_eq, subst, sym, ◌∙◌, rules}
 use Rattle.std.specs.HashMap.{get_by}
 use Rattle.flow_base.specs.Syntax.{Bytes}
 use Rattle.flow_check.proofs.Scoping.{Updated, updated, activity_new}

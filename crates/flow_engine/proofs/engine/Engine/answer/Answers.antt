@@ -1,7 +1,9 @@
-use Rattle.std.proofs.Common.{subst}
+use Rattle.std.proofs.Common.{[], ◌∷◌, Some, None, subst}
+use Rattle.std.specs.Prelude.{MatchResult}
 use Rattle.std.proofs.lemmas.Result.{IfOk-weaker}
 use Rattle.flow_commit.specs.Keeping.{Keeping, rules, kept_book}
 use Rattle.flow_machine.specs.Answers.{Answers}
+use Rattle.flow_engine.specs.Answering.{IsPart}
 use Rattle.flow_engine.proofs.Singly.{one_alone}
 use Rattle.flow_engine.proofs.engine.Engine.answer.Goals as goal
 
@@ -13,3 +15,8 @@ returns-in-Ok-clause-answers g c =
     IfOk-weaker c.answered.result _ _
     (λ a h sure. subst (λ (k : Keeping g.row.S.Denot). Answers rules (kept_book g.S.Store k) (kept_book g.S.Store c.answered.new.engine) c.args.command a) c.tickets-ticket.ensures (h sure _ c.in-Ok.ensures))
     c.answered.ensures.answers
+
+pub returns-in-Ok-clause-part : goal.returns-in-Ok-clause-part
+returns-in-Ok-clause-part g c =
+    subst (λ (k : Keeping g.row.S.Denot). MatchResult c.answered.result (λ a. IsPart g.S.Store k c.answered.new.engine (c.args.command ∷ []) (a ∷ []) None) (λ s. IsPart g.S.Store k c.answered.new.engine (c.args.command ∷ []) [] (Some s)))
+    c.tickets-ticket.ensures (c.answered.ensures.part _ c.in-Ok.ensures)

@@ -1,7 +1,9 @@
-use Rattle.std.proofs.Common.{◌≡◌, ◌+◌, ◌≤◌, length, sym, ap, ◌∙◌, subst, arith, vec_len, vec_capacity}
+use Rattle.std.proofs.Common.{◌≡◌, ◌+◌, ◌≤◌, length, sym, ap, ◌∙◌, subst, arith, vec_len, vec_capacity, List, None}
 use Rattle.std.proofs.lemmas.Result.{IfOk-weaker, IfErr-weaker}
+use Rattle.std.specs.Prelude.{MatchResult}
+use Rattle.flow_base.specs.declared.command.Command.{Command}
 use Rattle.flow_commit.specs.Keeping.{Keeping, KeepsBook, rules, kept_book}
-use Rattle.flow_engine.specs.Answering.{AnswersAll, KeepsAnswered, EndsEarly, LeavesBehind}
+use Rattle.flow_engine.specs.Answering.{AnswersAll, KeepsAnswered, EndsEarly, LeavesBehind, IsPart, IsPartUpTo}
 use Rattle.flow_engine.proofs.Singly.{cut_alone, cut_long}
 use Rattle.flow_engine.proofs.engine.Engine.answer_all.Goals as goal
 
@@ -51,3 +53,11 @@ returns-in-Ok-cut-clause-leaves g c =
     subst (λ cs. LeavesBehind g.S.Store c.all_answered.new.engine b cs u) c.in-Ok-cut.ensures.same
     (h fit b (subst (λ (k : Keeping g.row.S.Denot). KeepsBook g.S.Store k b) (sym c.tickets-first.ensures) keeps) c.in-Ok-cut.ensures.taken c.in-Ok-cut.ensures.are))
     c.all_answered.ensures.leaves
+
+pub returns-in-Ok-cut-clause-part : goal.returns-in-Ok-cut-clause-part
+returns-in-Ok-cut-clause-part g c =
+    let old = c.tickets-first.new.self in
+    let new = c.all_answered.new.engine in
+    subst (λ (k : Keeping g.row.S.Denot). MatchResult c.all_answered.result (λ all. IsPart g.S.Store k new c.args.commands.items all.items None) (λ u. IsPartUpTo g.S.Store k new c.args.commands.items u)) c.tickets-first.ensures
+    (subst (λ (cs : List Command). MatchResult c.all_answered.result (λ all. IsPart g.S.Store old new cs all.items None) (λ u. IsPartUpTo g.S.Store old new cs u)) c.in-Ok-cut.ensures.same
+    (c.all_answered.ensures.part c.in-Ok-cut.ensures.taken c.in-Ok-cut.ensures.are))

@@ -1,0 +1,25 @@
+use Rattle.std.proofs.lemmas.Result.{IfOk-weaker, IfErr-weaker}
+use Rattle.flow_cli.proofs.Batches.{batch_counted, batch_marked, begin_cause, begins_batch, none_begun, stops_batch}
+use Rattle.flow_cli.proofs.drive.answer_batch.Goals as goal
+
+pub answer_begun-requires-clause-marked : goal.answer_begun-requires-clause-marked
+answer_begun-requires-clause-marked g c = batch_marked _ _ _ _ _ c.in-Ok.ensures.gathered
+
+pub returns-in-Ok-clause-answered : goal.returns-in-Ok-clause-answered
+returns-in-Ok-clause-answered g c =
+    IfOk-weaker c.answer_begun.result _ _ (λ n h sure. begins_batch _ _ _ _ _ _ _ _ _ _ _ n c.in-Ok.ensures.gathered (h sure)) c.answer_begun.ensures.answered
+
+pub returns-in-Ok-clause-stopped : goal.returns-in-Ok-clause-stopped
+returns-in-Ok-clause-stopped g c =
+    IfErr-weaker c.answer_begun.result _ _ (λ e h sure. stops_batch _ _ _ _ e _ _ _ _ _ _ _ c.in-Ok.ensures.gathered (h sure)) c.answer_begun.ensures.stopped
+
+pub returns-in-Ok-clause-cause : goal.returns-in-Ok-clause-cause
+returns-in-Ok-clause-cause g c =
+    IfErr-weaker c.answer_begun.result _ _ (λ e h. begin_cause e (g.E.Answering.stops c.answer_begun.new.engine (g.E.Answering.book c.args.engine.now)) _ _ _ _ _ c.in-Ok.ensures.gathered h) c.answer_begun.ensures.cause
+
+pub returns-in-Ok-clause-counted : goal.returns-in-Ok-clause-counted
+returns-in-Ok-clause-counted g c =
+    IfOk-weaker c.answer_begun.result _ _ (λ n h. batch_counted _ _ _ _ _ c.in-Ok.ensures.gathered) c.answer_begun.ensures.within
+
+pub returns-in-Err-clause-stopped : goal.returns-in-Err-clause-stopped
+returns-in-Err-clause-stopped g c sure = none_begun _ _ _ c.in-Err.stopped c.args.first _ _ (c.in-Err.ensures.nothing _) (c.in-Err.ensures.book _)

@@ -1,0 +1,145 @@
+//! Lines whose commands are applied together.
+ghost use Rattle.std.specs.Prelude.{◌≡◌, ◌≤◌, ◌↔◌, ◌++◌, ◌∷◌, [], ℕ, true, List, length, Option, OnOk, IfOk, IfErr, IfSome, IsSome};
+ghost use Rattle.flow_model.specs.Book.{Book};
+ghost use Rattle.flow_cli.specs.Answering.{Gathered, HasOneMore, WritesUntil, LeavesBook, commands_in, are_commands};
+ghost use Rattle.flow_cli.specs.Driving.{stopped_status};
+ghost use Rattle.flow_cli.specs.Stopping.{CausedStop};
+
+use crate::command::{LineFault, command_of};
+use crate::drive::{Stopped, next_line, stopped_reading};
+use flow_base::command::Command;
+use flow_base::fault::Fault;
+use std::alloc::{AllocError, Global};
+use std::io::BufRead;
+use std::marker::Model;
+
+/// How many commands are applied together at most: 1 to 64.
+#[derive(Clone, Copy, Debug, PartialEq, Eq)]
+pub struct BatchSize {
+    number: u64,
+}
+
+impl Model for BatchSize {
+    ghost use Rattle.std.specs.Prelude.{ℕ, ◌≤◌};
+
+    ghost Value = { ℕ };
+
+    ghost view = { λ s. s.number };
+
+    ghost invariant = { λ s. (1 ≤ s.number) × (s.number ≤ 64) };
+
+    ghost inverse = { λ n. record { number = n } };
+}
+
+impl BatchSize {
+    /// This size, from 1 to 64.
+    pub fn new(number: u64) -> Option<BatchSize>
+        ensures valid { IsSome result ↔ ((1 ≤ number) × (number ≤ 64)) }
+        ensures value { IfSome result (λ s. s ≡ number) }
+    {
+        if number >= 1 && number <= 64 {
+            Some(BatchSize { number })
+        } else {
+            None
+        }
+    }
+
+    pub fn get(self) -> u64
+        ensures value { result ≡ self }
+        ensures first { 1 ≤ result }
+        ensures last { result ≤ 64 }
+    {
+        self.number
+    }
+}
+
+/// A batch that was begun: lines that were read and have no answer yet.
+#[derive(Drop)]
+pub(crate) struct Begun {
+    /// The commands among the lines.
+    pub(crate) commands: Vec<Command>,
+    /// Which of the lines are commands.
+    pub(crate) marks: Vec<bool>,
+}
+
+/// Begins a batch with a line that is a command.
+fn begin(alloc: Global, command: Command) -> Result<Begun, AllocError>
+    ensures commands { IfOk result (λ b. b.commands.items ≡ command ∷ []) }
+    ensures marks { IfOk result (λ b. b.marks.items ≡ true ∷ []) }
+{
+    let mut commands = Vec::new(alloc);
+    let mut marks = Vec::new(alloc);
+    marks.push(true)?;
+    commands.push(command)?;
+    Ok(Begun { commands, marks })
+}
+
+/// Puts a line to a batch.
+fn put_line(alloc: Global, line: &[u8], begun: &mut Begun) -> Result<(), Fault>
+    ensures commands { OnOk result (begun.new.commands.items ≡ begun.old.commands.items ++ commands_in (line.now ∷ [])) }
+    ensures marks { OnOk result (begun.new.marks.items ≡ begun.old.marks.items ++ are_commands (line.now ∷ [])) }
+    ensures memory { IfErr result (λ f. f ≡ Fault.NoMemory) }
+{
+    let is_command = match command_of(alloc, line) {
+        Ok(command) => {
+            begun.commands.push(command)?;
+            true
+        }
+        Err(LineFault::NotACommand) => false,
+        Err(LineFault::NoMemory) => return Err(Fault::NoMemory),
+    };
+    begun.marks.push(is_command)?;
+    Ok(())
+}
+
+/// Puts the next line of the input to a batch; no where the input has ended.
+fn put_next<R: BufRead>(alloc: Global, reader: &mut R, begun: &mut Begun) -> Result<bool, Stopped>
+    ensures gathered { IfOk result (λ found. Gathered begun.old.commands.items begun.new.commands.items begun.old.marks.items begun.new.marks.items (R.remaining reader.old) (R.remaining reader.new)) }
+    ensures more { IfOk result (λ found. HasOneMore begun.old.commands.items begun.new.commands.items) }
+    ensures nothing { IfErr result (λ e. (out : Option (List ℕ)) → WritesUntil e out out []) }
+    ensures book { IfErr result (λ e. (b : Book) → LeavesBook e b b) }
+    ensures status { IfErr result (λ e. stopped_status e ≡ 3) }
+    ensures cause { IfErr result (λ e. CausedStop e (λ s. ⊥) ⊥) }
+{
+    let line = match next_line(alloc, reader) {
+        Ok(Some(line)) => line,
+        Ok(None) => return Ok(false),
+        Err(e) => return Err(stopped_reading(e)),
+    };
+    match put_line(alloc, line.as_slice(), begun) {
+        Ok(()) => Ok(true),
+        Err(fault) => Err(Stopped::Refused(fault)),
+    }
+}
+
+/// The batch that begins with a command: lines are read until it has so many commands, or the input has ended.
+///
+/// # Failure
+/// E01, and where the input can't be read: none of the batch is applied then.
+pub(crate) fn gather<R: BufRead>(
+    alloc: Global,
+    reader: &mut R,
+    first: Command,
+    most: BatchSize,
+) -> Result<Begun, Stopped>
+    ensures gathered { IfOk result (λ b. Gathered (first ∷ []) b.commands.items (true ∷ []) b.marks.items (R.remaining reader.old) (R.remaining reader.new)) }
+    ensures some { IfOk result (λ b. 1 ≤ length b.commands.items) }
+    ensures few { IfOk result (λ b. length b.commands.items ≤ most) }
+    ensures nothing { IfErr result (λ e. (out : Option (List ℕ)) → WritesUntil e out out []) }
+    ensures book { IfErr result (λ e. (b : Book) → LeavesBook e b b) }
+    ensures status { IfErr result (λ e. stopped_status e ≡ 3) }
+    ensures cause { IfErr result (λ e. CausedStop e (λ s. ⊥) ⊥) }
+{
+    let mut begun = begin(alloc, first)?;
+    for _ in 0..u64::MAX {
+        if begun.commands.len() as u64 >= most.get() {
+            return Ok(begun);
+        }
+        match put_next(alloc, reader, &mut begun) {
+            Ok(true) => {}
+            Ok(false) => return Ok(begun),
+            Err(stopped) => return Err(stopped),
+        }
+    }
+    Ok(begun)
+}

@@ -1,0 +1,89 @@
+-- The headline: however an engine is called, stopped and opened again over one store, there is one log of the commands that it kept.
+use Rattle.std.specs.Prelude.{◌≡◌, ◌⊎◌, ◌+◌, ℕ, List, [], ◌∷◌, ◌++◌, length, slice_get, Some, IsTrue}
+use Rattle.sqlite_trees.specs.declared.store.Store.{Ghosts}
+use Rattle.sqlite.specs.Tree.{Trees}
+use Rattle.sqlite.specs.Held.{Held, state}
+use Rattle.sqlite.specs.State.{HasCleanDisk}
+use Rattle.flow_base.specs.declared.command.Command.{Command}
+use Rattle.flow_base.specs.declared.fault.Fault.{Fault}
+use Rattle.flow_check.specs.Language.{meaning_of}
+use Rattle.flow_machine.specs.declared.submission.Taken.{Taken}
+use Rattle.flow_machine.specs.declared.submission.Receipt.{Receipt}
+use Rattle.flow_model.specs.Book.{Book, no_book, nth}
+use Rattle.flow_model.specs.Apply.{after, replies}
+use Rattle.flow_tables.specs.Layout.{no_schema}
+use Rattle.flow_tables.specs.Opening.{IsOfStore}
+use Rattle.flow_tables.specs.Owned.{Keeps, state_of}
+use Rattle.flow_commit.specs.Keeping.{Keeping, IsFit, IsWell, KeepsBook, rules}
+use Rattle.flow_recover.specs.declared.positions.Position.{Position}
+use Rattle.flow_recover.specs.Positions.{ArePositions}
+use Rattle.flow_recover.specs.Recovering.{IsOpenedOver}
+use Rattle.flow_engine.specs.declared.done.Done.{Done}
+use Rattle.flow_engine.specs.Driving.{Runs, in_hand, kept_of, receipts_told}
+use Rattle.flow_engine.specs.Opening.{HasFound, IsUnopened, Opens, StandsOver}
+
+-- A life: an engine was opened over a connection and handed out positions, drove batches, and stood so when it was stopped or
+-- closed; or its opening was refused.
+pub data Life (S : Type 0) : Type 0 where
+  Lived : (conn : Held S) (first : Keeping S) (positions : List Position) (last : Keeping S) (batches : List (List Taken)) (dones : List Done) → Life S
+  Refused : (conn : Held S) (f : Fault) (back : Held S) → Life S
+
+-- Its connection at the beginning and at the end, what it committed, its batch in hand of which nobody knew, and its receipts.
+pub record Seen (S : Type 0) : Type 0 where
+  pub conn : Held S
+  pub last : Held S
+  pub kept : List Command
+  pub hand : List Command
+  pub receipts : List Receipt
+
+abbrev pub seen : {S : Type 0} → Life S → Seen S
+seen (Lived conn first positions last bs ds) =
+    record { conn = conn; last = last.stored.held; kept = kept_of bs ds; hand = in_hand bs ds; receipts = receipts_told bs ds }
+seen (Refused conn f back) = record { conn = conn; last = back; kept = []; hand = []; receipts = [] }
+
+module _ {S : Type 0} (g : Ghosts S) where
+  -- What the calls of a life have said, at whose end the disk had told no lie.
+  abbrev pub IsLife : Life S → Type 0
+  IsLife (Lived conn first positions last bs ds) =
+      HasCleanDisk (state_of g last.stored) × Opens g conn first × (IsFit g first → HasFound g first positions) × Runs g first last bs ds
+  IsLife (Refused conn f back) = HasCleanDisk (state g back) × IsUnopened g (state g conn) (state g back) f
+
+  -- It begins over a connection with this book or, where it is opened, over one without tables.
+  abbrev pub Begins : Book → Life S → Type 0
+  Begins b (Lived conn first positions last bs ds) = StandsOver g b conn ⊎ (((state g conn).committed.schema ≡ no_schema) × (b ≡ no_book))
+  Begins b (Refused conn f back) = StandsOver g b conn
+
+  -- The next life begins over trees that a stop of this one may leave, or over the connection that closing it gave back.
+  abbrev pub Continues : Seen S → Seen S → Type 0
+  Continues l m =
+      ∥ ((db : Trees) × (state g l.last).may_leave db × (HasCleanDisk (state g m.conn) → IsOpenedOver (state g m.conn) db)) ∥₁
+      ⊎ ((m.conn ≡ l.last) × IsTrue (state g l.last).is_open)
+
+  abbrev pub Lives : (Life S → Type 0) → List (Life S) → Type 0
+  Lives Begin [] = Unit {0}
+  Lives Begin (l ∷ ls) = Begin l × IsLife l × Lives (λ m. Continues (seen l) (seen m)) ls
+
+  -- What an opening over this book gave: the book, with exactly one position for each of its open runs, which stands under the
+  -- run's text; or E01, E80 or E81, and the book is kept on.
+  abbrev pub Finds : Book → Life S → Type 0
+  Finds b (Lived conn first positions last bs ds) = KeepsBook g first b × ArePositions meaning_of b positions
+  Finds b (Refused conn f back) = Keeps (state g back) b × IsOfStore f
+
+  -- A life's place in the log, behind the commands before it: what it committed, and its batch in hand whole or not at all.
+  pub record IsIn (b : Book) (log before part : List Command) (l : Life S) : Type 0 where
+    pub found : Finds (after rules b before) l
+    pub whole : (part ≡ (seen l).kept) ⊎ (part ≡ (seen l).kept ++ (seen l).hand)
+    pub receipts : (i : ℕ) (r : Receipt) → slice_get (seen l).receipts i ≡ Some r
+        → (nth log (length before + r.place) ≡ Some r.command) × (nth (replies rules b log) (length before + r.place) ≡ Some r.reply)
+
+  abbrev pub AreIn : Book → List Command → List Command → List (Life S) → Type 0
+  AreIn b log before [] = before ≡ log
+  AreIn b log before (l ∷ ls) = (part : List Command) × IsIn b log before part l × AreIn b log (before ++ part) ls
+
+  -- Several calls in one life are as one.
+  abbrev pub CallsJoin : Type 0
+  CallsJoin = (old mid new : Keeping S) (bs cs : List (List Taken)) (ds es : List Done) → Runs g old mid bs ds → Runs g mid new cs es → Runs g old new (bs ++ cs) (ds ++ es)
+
+  -- Whatever the lives, from a book such as commands make there is one log of them all.
+  abbrev pub Headline : Type 0
+  Headline = (b : Book) → IsWell b → (lives : List (Life S)) → Lives (Begins b) lives → ∥ ((log : List Command) × AreIn b log [] lives) ∥₁

@@ -1,0 +1,35 @@
+//! The headline, as laws of every store.
+ghost use Rattle.flow_engine.specs.Headline.{CallsJoin, Headline};
+ghost use Rattle.flow_engine.specs.Stopping.{StopContinues};
+ghost use Rattle.flow_engine.specs.Worlds.{LivesAreSteps};
+
+use flow_world::world_is_safe;
+use sqlite::Alter;
+use sqlite_disk::Disk;
+
+/// Whatever lives the engine has over one store, however its batches are gathered and wherever it is stopped: there is one
+/// log of the commands that it kept. Each life finds the book after a beginning of it, with exactly one position for each open run,
+/// which stands there; what it puts into the log is what it committed, and its batch in hand whole or not at all; and each receipt is
+/// at its place with its reply. No opening over such a book is refused for what the store holds.
+pub fn lives_make_one_log<S: Alter>()
+    ensures { Headline S.Store }
+{}
+
+/// Batches that were answered in several calls of one life were answered as in one.
+pub fn calls_join<S: Alter>()
+    ensures { CallsJoin S.Store }
+{}
+
+/// What a stop leaves of the two files of a store is a database that the store allows, so a life over them continues the one that
+/// was stopped.
+pub fn stopped_files_continue<D: Disk>()
+    ensures { StopContinues D.Disk }
+{}
+
+/// The lives of an engine are steps of the world of `flow_world`, and each ends in a world that is safe: what a stop may leave on
+/// the disk is a book that a stop may leave there, so it is of a beginning of the accepted commands that holds every acknowledged one.
+pub fn lives_are_steps<S: Alter>()
+    ensures { LivesAreSteps S.Store }
+{
+    world_is_safe();
+}

@@ -1,0 +1,28 @@
+-- What a dispatch and a report do to the world, by computation: over any rules and any book.
+use Rattle.std.proofs.Common.{◌≡◌, ℕ, true, false, [], ◌∷◌, refl}
+use Rattle.flow_base.specs.declared.value.Value.{Value}
+use Rattle.flow_base.specs.declared.command.Command.TheVariants as command
+use Rattle.flow_model.specs.Book.{Book}
+use Rattle.flow_model.specs.Apply.{Rules}
+use Rattle.flow_model.specs.World.{Attempt, World, is_open_task, first, Report, Dispatch, Comes}
+
+-- the world in which an attempt was handed out
+abbrev handed_out : Book → Attempt → World
+handed_out base a = record (first base) { dispatched = a ∷ [] }
+
+-- an activity that is open in the book is handed out
+dispatches : (u : Rules) (base : Book) (a : Attempt) → is_open_task base a ≡ true → Comes u (first base) (Dispatch a ∷ []) (handed_out base a)
+dispatches u base a is = (handed_out base a, (rw is refl, refl))
+
+-- one that isn't open is not
+not_handed_out : (u : Rules) (base : Book) (a : Attempt) → is_open_task base a ≡ false → Comes u (first base) (Dispatch a ∷ []) (first base)
+not_handed_out u base a other = (first base, (rw other refl, refl))
+
+-- a report on an attempt that was handed out is submitted as a command
+reports : (u : Rules) (base : Book) (a : Attempt) (v : Value) (at : ℕ)
+    → Comes u (handed_out base a) (Report 0 v at ∷ []) (record (handed_out base a) { inbox = command.Complete a.run a.event a.attempt v at ∷ [] })
+reports u base a v at = (record (handed_out base a) { inbox = command.Complete a.run a.event a.attempt v at ∷ [] }, (refl, refl))
+
+-- and nothing on one that wasn't
+reports_nothing : (u : Rules) (base : Book) (a : Attempt) (v : Value) (at : ℕ) → Comes u (handed_out base a) (Report 1 v at ∷ []) (handed_out base a)
+reports_nothing u base a v at = (handed_out base a, (refl, refl))
