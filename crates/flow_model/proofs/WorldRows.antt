@@ -138,7 +138,7 @@ not_while_committing u base c =
 -- a rolling back that was refused halts, and nothing is taken, written or committed any more
 refused_halts : (u : Rules) (base : Book) (c : Command)
     → (let w = not_rolled_back (taken (submitted (first base) Idle c) Idle 1) Writing in
-       Comes u (first base) (Submit c ∷ Take 1 ∷ RefusedRollback ∷ Write ∷ WriteFails ∷ RefusedRollback ∷ CommitBegins ∷ CommitDone ∷ CommitFails ∷ Take 1 ∷ Reopen ∷ []) w)
+    Comes u (first base) (Submit c ∷ Take 1 ∷ RefusedRollback ∷ Write ∷ WriteFails ∷ RefusedRollback ∷ CommitBegins ∷ CommitDone ∷ CommitFails ∷ Take 1 ∷ Reopen ∷ []) w)
 refused_halts u base c =
     let w1 = submitted (first base) Idle c in
     let w2 = taken w1 Idle 1 in
@@ -148,7 +148,7 @@ refused_halts u base c =
 -- after a stop nothing happens but a stop or an opening
 not_after_crash : (u : Rules) (base : Book) (c : Command) (v : Value) (a : Attempt)
     → (let w = stopped (submitted (first base) Idle c) base in
-       Comes u w (Submit c ∷ Report 0 v 1 ∷ Take 1 ∷ Write ∷ WriteFails ∷ RefusedRollback ∷ CommitBegins ∷ CommitDone ∷ CommitFails ∷ Publish ∷ Dispatch a ∷ []) w)
+    Comes u w (Submit c ∷ Report 0 v 1 ∷ Take 1 ∷ Write ∷ WriteFails ∷ RefusedRollback ∷ CommitBegins ∷ CommitDone ∷ CommitFails ∷ Publish ∷ Dispatch a ∷ []) w)
 not_after_crash u base c v a =
     let w = stopped (submitted (first base) Idle c) base in
     (w, (refl, (w, (refl, (w, (refl, (w, (refl, (w, (refl, (w, (refl, (w, (refl, (w, (refl, (w, (refl, (w, (refl, (w, (refl, refl))))))))))))))))))))))
