@@ -12,7 +12,7 @@ use Rattle.flow_model.specs.Apply.{Rules, after, after_one, replies}
 use Rattle.flow_model.specs.Book.{Book}
 use Rattle.flow_machine.specs.Answers.{IsGivenUp}
 use Rattle.flow_machine.specs.declared.answer.Stop.{Stop}
-use Rattle.flow_cli.specs.Answering.{AreAnswers, FirstLine, Answered, AllAnswered, BatchAnswered, Gathered, HasOneMore, HoldsLines, IsGivenUpWith, ReadAs, LeavesBook, StatusWithin, StopsWithin, WritesPart, WritesUntil, WritesSome, are_commands, commands_in, lines_told, marked, with_command}
+use Rattle.flow_cli.specs.Answering.{AreAnswers, FirstLine, Answered, AllAnswered, BatchAnswered, Gathered, HasOneMore, HoldsLines, IsGivenUpWith, OfBatch, ReadAs, LeavesBook, StatusWithin, StopsWithin, WritesPart, WritesUntil, WritesSome, are_commands, commands_in, lines_told, marked, with_command}
 use Rattle.flow_cli.specs.Commands.{line_command}
 use Rattle.flow_cli.specs.Driving.{lines_of, written, answer_status, final_status}
 use Rattle.flow_cli.specs.Replies.{line_text}
@@ -22,6 +22,10 @@ use Rattle.flow_cli.specs.declared.drive.Stopped.TheVariants as stopped
 use Rattle.flow_cli.specs.declared.reply.Line.{Line}
 use Rattle.flow_cli.proofs.Answering.{kept_appends, none_answered, status-append, written-append}
 use Rattle.flow_cli.proofs.Stopping.{stop_by}
+
+-- what stands behind commands stands behind a batch of them
+pub caused_batch : {X : Type 0} (most : ℕ) (cause : Book → List Command → X → Type 0) (b : Book) (commands : List Command) (x : X) → 1 ≤ length commands → length commands ≤ most → cause b commands x → OfBatch most cause b commands x
+caused_batch most cause b commands x some few is = (record { some = some; few = few }, is)
 
 -- a first line and those behind it are the batch's
 holds_first : (first : List ℕ) (c : Command) (commands : List Command) (marks : List Bool) (known left : Option (List ℕ)) → (g : Gathered (c ∷ []) commands (true ∷ []) marks known left) → line_command first ≡ Some c → HoldsLines (first ∷ g.lines) commands marks
@@ -140,9 +144,9 @@ module _ (u : Rules) (given_up : Book → List Command → Code → Type 0) wher
       stop_by e (StopsAt (stops b) c left) (StoppedBy u given_up stops sure b known) ⊥ ⊥
       (λ s x. (b, (x.0, (x.1.0, λ _. come_next b known left found line c x.0 first same given x.1.1)))) (λ x. x) cause
 
-pub begin_cause : (e : Stopped) (stops : List Command → Stop → Type 0) (c : Command) (commands : List Command) (marks : List Bool) (known left : Option (List ℕ)) → Gathered (c ∷ []) commands (true ∷ []) marks known left → CausedStop e (stops commands) ⊥ → CausedStop e (StopsAt stops c known) ⊥
-begin_cause e stops c commands marks known left g cause =
-    stop_by e (stops commands) (StopsAt stops c known) ⊥ ⊥ (λ s x. (commands, (x, begins known g))) (λ x. x) cause
+pub begin_cause : (e : Stopped) (most : ℕ) (b : Book) (stops : Book → List Command → Stop → Type 0) (c : Command) (commands : List Command) (marks : List Bool) (known left : Option (List ℕ)) → 1 ≤ length commands → length commands ≤ most → Gathered (c ∷ []) commands (true ∷ []) marks known left → CausedStop e (stops b commands) ⊥ → CausedStop e (StopsAt (OfBatch most stops b) c known) ⊥
+begin_cause e most b stops c commands marks known left some few g cause =
+    stop_by e (stops b commands) (StopsAt (OfBatch most stops b) c known) ⊥ ⊥ (λ s x. (commands, (caused_batch most stops b commands s some few x, begins known g))) (λ x. x) cause
   where
     begins : (known1 : Option (List ℕ)) → Gathered (c ∷ []) commands (true ∷ []) marks known1 left → IfSome known1 (λ bytes. BeginWith c bytes commands)
     begins None g1 = tt

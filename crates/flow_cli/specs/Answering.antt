@@ -16,6 +16,15 @@ use Rattle.flow_cli.specs.declared.drive.Stopped.TheVariants as stopped
 use Rattle.flow_cli.specs.declared.reply.Line.{Line}
 use Rattle.flow_cli.specs.declared.reply.Line.TheVariants as line
 
+-- At most so many commands are applied together, and one at least.
+pub record IsBatch (most : ℕ) (commands : List Command) : Type 0 where
+  pub some : 1 ≤ length commands
+  pub few : length commands ≤ most
+
+-- this stands behind a batch of at most so many commands
+abbrev pub OfBatch : {X : Type 0} → ℕ → (Book → List Command → X → Type 0) → Book → List Command → X → Type 0
+OfBatch most cause = λ b commands x. IsBatch most commands × cause b commands x
+
 -- A command is given up over a book with those before it and behind it, which are applied together or not at all.
 pub record IsGivenUpWith (given_up : Book → List Command → Code → Type 0) (b : Book) (c : Command) (k : Code) : Type 0 where
   pub before : List Command

@@ -7,15 +7,18 @@ answer_begun-requires-clause-marked g c = batch_marked _ _ _ _ _ c.in-Ok.ensures
 
 pub returns-in-Ok-clause-answered : goal.returns-in-Ok-clause-answered
 returns-in-Ok-clause-answered g c =
-    IfOk-weaker c.answer_begun.result _ _ (λ n h sure. begins_batch _ _ _ _ _ _ _ _ _ _ _ n c.in-Ok.ensures.gathered (h sure)) c.answer_begun.ensures.answered
+    IfOk-weaker c.answer_begun.result _ _ (λ n h sure. begins_batch _ _ _ _ _ _ _ _ _ _ _ n c.in-Ok.ensures.gathered (h sure c.args.most c.in-Ok.ensures.few)) c.answer_begun.ensures.answered
+
+pub returns-in-Ok-clause-within : goal.returns-in-Ok-clause-within
+returns-in-Ok-clause-within g c = IfOk-weaker c.answer_begun.result _ _ (λ n h. h c.args.most c.in-Ok.ensures.few) c.answer_begun.ensures.within
 
 pub returns-in-Ok-clause-stopped : goal.returns-in-Ok-clause-stopped
 returns-in-Ok-clause-stopped g c =
-    IfErr-weaker c.answer_begun.result _ _ (λ e h sure. stops_batch _ _ _ _ e _ _ _ _ _ _ _ c.in-Ok.ensures.gathered (h sure)) c.answer_begun.ensures.stopped
+    IfErr-weaker c.answer_begun.result _ _ (λ e h sure. stops_batch _ _ _ _ e _ _ _ _ _ _ _ c.in-Ok.ensures.gathered (h sure c.args.most c.in-Ok.ensures.few)) c.answer_begun.ensures.stopped
 
 pub returns-in-Ok-clause-cause : goal.returns-in-Ok-clause-cause
 returns-in-Ok-clause-cause g c =
-    IfErr-weaker c.answer_begun.result _ _ (λ e h. begin_cause e (g.E.Answering.stops c.answer_begun.new.engine (g.E.Answering.book c.args.engine.now)) _ _ _ _ _ c.in-Ok.ensures.gathered h) c.answer_begun.ensures.cause
+    IfErr-weaker c.answer_begun.result _ _ (λ e h. begin_cause e c.args.most _ (g.E.Answering.stops c.answer_begun.new.engine) _ _ _ _ _ c.in-Ok.ensures.some c.in-Ok.ensures.few c.in-Ok.ensures.gathered h) c.answer_begun.ensures.cause
 
 pub returns-in-Ok-clause-counted : goal.returns-in-Ok-clause-counted
 returns-in-Ok-clause-counted g c =

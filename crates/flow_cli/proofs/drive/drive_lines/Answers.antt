@@ -1,4 +1,5 @@
 use Rattle.std.proofs.Common.{arith, rules, inl}
+use Rattle.flow_cli.specs.Answering.{OfBatch}
 use Rattle.flow_cli.proofs.Answering.{begins, both_within, goes_on, stops_later}
 use Rattle.flow_cli.proofs.Stopping.{none_read, one_more_read, stopped_later}
 use Rattle.flow_cli.proofs.drive.drive_lines.Goals as goal
@@ -23,4 +24,4 @@ returns-in-Err-clause-stopped g c sure =
 
 pub returns-in-Err-clause-cause : goal.returns-in-Err-clause-cause
 returns-in-Err-clause-cause g c =
-    stopped_later g.E.Answering.rules g.E.Answering.gives_up _ _ c.in-Err.stopped (g.E.Answering.stops c.answer_next.new.engine) (g.E.Answering.is_sure c.answer_next.new.engine) _ _ _ _ _ _ (λ sure. c.loop.invariant.answered (c.answer_next.ensures.sure sure)) c.in-Err.ensures.cause
+    stopped_later g.E.Answering.rules (OfBatch c.args.most g.E.Answering.gives_up) _ _ c.in-Err.stopped (OfBatch c.args.most (g.E.Answering.stops c.answer_next.new.engine)) (g.E.Answering.is_sure c.answer_next.new.engine) _ _ _ _ _ _ (λ sure. c.loop.invariant.answered (c.answer_next.ensures.sure sure)) c.in-Err.ensures.cause
