@@ -15,49 +15,28 @@ use flow_base::number::RunId;
 use flow_check::language::Language;
 use flow_cli::batch::BatchSize;
 use flow_cli::call::{Call, call_of};
-use flow_cli::check::check_text;
-use flow_cli::drive::{Stopped, drive_lines, end_status};
-use flow_cli::fault::fault_line;
-use flow_cli::history::{history_from, write_history};
+use flow_cli::check::tell_verdict;
+use flow_cli::drive::{Stopped, drive_lines};
+use flow_cli::ending::ended;
+use flow_cli::fault::fault_of_error;
+use flow_cli::history::tell_history;
 use flow_engine::engine::Engine;
-use sqlite::{Alter, Connection, Error, ErrorCode, File, FileStore, MemStore};
-use std::io::{BufReader, ErrorKind};
+use sqlite::{Alter, Connection, Error, ErrorCode, File, FileStore};
+use std::io::BufReader;
 use std::process::ExitCode;
 use std::{env, fs, io};
 
 fn main(rt: HostRuntime) -> ExitCode {
-    ExitCode::from(run(&rt))
+    let outcome = work(&rt);
+    ExitCode::from(ended(rt.alloc(), &mut rt.stderr(), &outcome))
 }
 
-/// Does what the words ask for, says why where it can't, and gives the status.
-fn run(rt: &HostRuntime) -> u8 {
-    let outcome = work(rt);
-    if let Err(stopped) = &outcome {
-        say_stopped(rt, stopped);
-    }
-    end_status(&outcome)
-}
-
-fn say_stopped(rt: &HostRuntime, stopped: &Stopped) {
-    match stopped {
-        Stopped::Refused(fault) => say_fault(rt, fault),
-        Stopped::Input(error) => {
-            let _ = eprintln!(rt; "flow: the input can't be read: {error}");
-        }
-        Stopped::Output(error) => {
-            let _ = eprintln!(rt; "flow: the output can't be written: {error}");
-        }
-    }
-}
-
-fn say_fault(rt: &HostRuntime, fault: &Fault) {
-    if let Ok(line) = fault_line(rt.alloc(), fault) {
-        let _ = rt.eprintln(line);
-    }
-}
-
+/// Does what the words ask for; the program's own name is the first.
 fn work(rt: &HostRuntime) -> Result<u8, Stopped> {
-    let words = words(rt)?;
+    let words = match env::args(rt) {
+        Ok(words) => words.collect::<Vec<String>>(rt.alloc())?,
+        Err(error) => return Err(Stopped::Refused(fault_of_error(error.kind(), Fault::BadUsage))),
+    };
     match call_of(rt.alloc(), words.as_slice()) {
         Ok(call) => perform(rt, &call),
         Err(fault) => Err(Stopped::Refused(fault)),
@@ -75,33 +54,13 @@ fn perform(rt: &HostRuntime, call: &Call<'_>) -> Result<u8, Stopped> {
     }
 }
 
-/// The words that the program was called with, its own name first.
-fn words(rt: &HostRuntime) -> Result<Vec<String>, Stopped> {
-    match env::args(rt) {
-        Ok(words) => Ok(words.collect(rt.alloc())?),
-        Err(error) => Err(Stopped::Refused(fault_or(error, Fault::BadUsage))),
-    }
-}
-
-/// E01 where memory ran out, and else the other fault.
-fn fault_or(error: io::Error, other: Fault) -> Fault {
-    match error.kind() {
-        ErrorKind::OutOfMemory => Fault::NoMemory,
-        _ => other,
-    }
-}
-
 fn check(rt: &HostRuntime, file: &str) -> Result<u8, Stopped> {
     let text = match fs::read_to_string(rt, file) {
         Ok(text) => text,
-        Err(error) => return Err(Stopped::Refused(fault_or(error, Fault::NoFile))),
+        Err(error) => return Err(Stopped::Refused(fault_of_error(error.kind(), Fault::NoFile))),
     };
-    let verdict = check_text(rt.alloc(), &Language, text.as_str())?;
-    let line = verdict.line(rt.alloc())?;
-    match rt.println(line) {
-        Ok(()) => Ok(verdict.status()),
-        Err(error) => Err(Stopped::Output(error)),
-    }
+    let mut writer = io::writer(rt);
+    tell_verdict(rt.alloc(), &Language, &mut writer, text.as_str())
 }
 
 /// The engine over a store.
@@ -128,11 +87,6 @@ fn open_file(rt: &HostRuntime, file: &str) -> Result<Engine<FileStore<File>>, St
     }
 }
 
-fn open_memory(rt: &HostRuntime) -> Result<Engine<MemStore>, Stopped> {
-    let conn = Connection::open_in_memory(rt.alloc())?;
-    open(rt, conn)
-}
-
 /// Copies the log of a file into the file. What was kept is kept in either, and the next opening reads both.
 fn close_file(engine: Engine<FileStore<File>>) {
     let _ = engine.close().close();
@@ -146,12 +100,12 @@ fn drive_file(rt: &HostRuntime, file: &str, most: BatchSize) -> Result<u8, Stopp
 }
 
 fn drive_memory(rt: &HostRuntime, most: BatchSize) -> Result<u8, Stopped> {
-    let mut engine = open_memory(rt)?;
+    let mut engine = open(rt, Connection::open_in_memory(rt.alloc())?)?;
     drive(rt, &mut engine, most)
 }
 
-/// Answers command lines over a store, so many commands together: the status is 0, 1 where some line was no command, and 3 where some command was
-/// given up and on an early end.
+/// Answers the lines of standard input over a store, so many commands together. The status is 0, 1 where some line was no
+/// command, and 3 where some command was given up and on an early end.
 fn drive<S: Alter>(rt: &HostRuntime, engine: &mut Engine<S>, most: BatchSize) -> Result<u8, Stopped>
     ensures done { IfOk result (λ n. n ≤ 3) }
     ensures early { IfErr result (λ e. stopped_status e ≡ 3) }
@@ -165,9 +119,8 @@ fn drive<S: Alter>(rt: &HostRuntime, engine: &mut Engine<S>, most: BatchSize) ->
 
 fn history(rt: &HostRuntime, file: &str, run: RunId) -> Result<u8, Stopped> {
     let mut engine = open_file(rt, file)?;
-    let events = history_from(&mut engine, run);
-    close_file(engine);
     let mut writer = io::writer(rt);
-    write_history(rt.alloc(), &mut writer, events?.as_slice())?;
-    Ok(0)
+    let outcome = tell_history(rt.alloc(), &mut engine, &mut writer, run);
+    close_file(engine);
+    outcome
 }

@@ -1,3 +1,5 @@
+pub mod Faults
+pub mod Endings
 pub mod Rows
 pub mod Commands
 pub mod Replies

@@ -35,6 +35,10 @@ fault_details f = []
 abbrev pub fault_text : Fault → List ℕ
 fault_text f = codes "flow: " ++ (code_text (fault_code f) ++ fault_details f)
 
+-- the number alone, for which no memory is needed
+abbrev pub short_text : Fault → List ℕ
+short_text f = codes "flow: " ++ code_text (fault_code f)
+
 -- 1 where a run is refused, 2 where the words or a file are at fault, 3 where memory or the store is
 abbrev pub fault_status : Fault → ℕ
 fault_status (fault.Mismatch run place name) = 1

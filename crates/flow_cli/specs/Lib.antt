@@ -8,3 +8,4 @@ pub mod Driving
 pub mod Answering
 pub mod Stopping
 pub mod Histories
+pub mod Ending

@@ -1,12 +1,18 @@
 //! What `flow check` says of a text.
-ghost use Rattle.std.specs.Prelude.{◌≡◌, IfOk, IfErr, string_bytes};
+ghost use Rattle.std.specs.Prelude.{◌≡◌, ◌++◌, ◌∷◌, [], IfOk, IfErr, string_bytes};
+ghost use Rattle.std.specs.Io.KnownBytes.{Appends};
+ghost use Rattle.flow_cli.specs.Answering.{WritesPart};
+ghost use Rattle.flow_cli.specs.Driving.{stopped_status};
+ghost use Rattle.flow_cli.specs.Stopping.{StopsWriting};
 ghost use Rattle.flow_cli.specs.Verdicts.{verdict_of, verdict_text, verdict_status};
 
+use crate::drive::{Stopped, write_text};
 use flow_base::command::TextFault;
 use flow_base::fault::Fault;
 use flow_base::text::RawText;
 use flow_check::texts::Texts;
 use std::alloc::{AllocError, Global};
+use std::io::Write;
 
 /// Whether a text is a program.
 #[derive(Clone, Copy, Debug, PartialEq, Eq)]
@@ -48,5 +54,31 @@ pub fn check_text<T: Texts>(alloc: Global, texts: &T, text: &str) -> Result<Verd
     match texts.read(alloc, &text)? {
         Ok(_) => Ok(Verdict::Good),
         Err(fault) => Ok(Verdict::Broken(fault)),
+    }
+}
+
+/// Checks a text by what reads texts, writes the verdict as a line, and gives its status.
+///
+/// # Failure
+/// Each has the status 3: E01, and where the output can't be written.
+#[tactic(auto, using(crate::proofs::Endings::same_kept))]
+pub fn tell_verdict<T: Texts, W: Write>(
+    alloc: Global,
+    texts: &T,
+    writer: &mut W,
+    text: &str,
+) -> Result<u8, Stopped>
+    ensures told { IfOk result (λ n. Appends (W.contents writer.old) (W.contents writer.new) (verdict_text (verdict_of (T.meaning text.now)) ++ 10 ∷ [])) }
+    ensures status { IfOk result (λ n. n ≡ verdict_status (verdict_of (T.meaning text.now))) }
+    ensures stopped { IfErr result (λ e. WritesPart e (W.contents writer.old) (W.contents writer.new) (verdict_text (verdict_of (T.meaning text.now)) ++ 10 ∷ [])) }
+    ensures early { IfErr result (λ e. stopped_status e ≡ 3) }
+    // Memory ran out, or the output failed.
+    ensures cause { IfErr result (λ e. StopsWriting e) }
+{
+    let verdict = check_text(alloc, texts, text)?;
+    let line = verdict.line(alloc)?;
+    match write_text(writer, line) {
+        Ok(()) => Ok(verdict.status()),
+        Err(stopped) => Err(stopped),
     }
 }

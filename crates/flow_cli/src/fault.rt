@@ -1,12 +1,14 @@
 //! What a program says of a fault, and the status that it ends with.
-ghost use Rattle.std.specs.Prelude.{◌≡◌, IfOk, string_bytes};
+ghost use Rattle.std.specs.Prelude.{◌≡◌, ◌⊎◌, IfOk, string_bytes};
+ghost use Rattle.std.specs.declared.io.ErrorKind.TheVariants.{OutOfMemory};
 ghost use Rattle.flow_cli.specs.Faults as words;
-ghost use Rattle.flow_cli.specs.Faults.{fault_details, fault_text, fault_status};
+ghost use Rattle.flow_cli.specs.Faults.{fault_details, fault_text, short_text, fault_status};
 ghost use Rattle.flow_base.specs.declared.fault.Fault.TheVariants.{Damaged};
 
 use flow_base::fault::{Damage, Fault};
 use flow_machine::answer::Stop;
 use std::alloc::{AllocError, Global};
+use std::io::ErrorKind;
 
 fn damage_details(alloc: Global, damage: &Damage) -> Result<String, AllocError>
     ensures { IfOk result (λ s. string_bytes s ≡ fault_details (Damaged damage.now)) }
@@ -44,6 +46,16 @@ pub fn fault_line(alloc: Global, fault: &Fault) -> Result<String, AllocError>
     format!(in alloc; "flow: {code}{details}")
 }
 
+/// The number of a fault, as its line begins, where no memory is left for the line.
+pub fn short_line(fault: &Fault) -> [u8; 9]
+    ensures { result ≡ short_text fault.now }
+{
+    let number = fault.code().number();
+    let tens = b'0' + number / 10;
+    let ones = b'0' + number % 10;
+    [b'f', b'l', b'o', b'w', b':', b' ', b'E', tens, ones]
+}
+
 /// The status that a program ends with after the fault.
 pub fn status(fault: &Fault) -> u8
     ensures { result ≡ fault_status fault.now }
@@ -68,5 +80,16 @@ pub fn fault_of_stop(stop: Stop) -> Fault
     match stop {
         Stop::Unknown => Fault::Unknown,
         Stop::Halted => Fault::Halted,
+    }
+}
+
+/// The fault of a file or of words that can't be read: E01 where memory ran out, and else the other one.
+pub fn fault_of_error(kind: ErrorKind, other: Fault) -> Fault
+    ensures memory { kind ≡ OutOfMemory → result ≡ Fault.NoMemory }
+    ensures other { (result ≡ other) ⊎ (kind ≡ OutOfMemory) }
+{
+    match kind {
+        ErrorKind::OutOfMemory => Fault::NoMemory,
+        _ => other,
     }
 }

@@ -6,6 +6,7 @@ pub mod call;
 pub mod check;
 pub mod command;
 pub mod drive;
+pub mod ending;
 pub mod fault;
 pub mod history;
 pub mod reply;

@@ -6,6 +6,8 @@ mod calls;
 #[cfg(test)]
 mod commands;
 #[cfg(test)]
+mod endings;
+#[cfg(test)]
 mod faults;
 #[cfg(test)]
 mod histories;

@@ -1,8 +1,11 @@
 //! Lines in, lines out, over lists.
 use crate::deciding::Deciding;
+use flow_base::fault::Fault;
+use flow_base::number::RunId;
 use flow_check::language::Language;
 use flow_cli::batch::BatchSize;
 use flow_cli::drive::{Stopped, drive_lines, end_status};
+use flow_cli::history::tell_history;
 use flow_view::lists::Lists;
 use std::alloc::Global;
 use std::io;
@@ -131,5 +134,43 @@ fn a_full_output_ends_it(rt: HostRuntime) -> Result<(), Fail> {
     assert!(rt;
         paper.bytes.as_slice() == b"{\"code\":\"E70\",\"reply\":\"refused\"}\n{\"code".as_slice()
     );
+    Ok(())
+}
+
+/// The status of the history of the first run behind these lines, where this is written of it; 1 where there is no such run.
+fn told(alloc: Global, input: &[u8], wanted: &[u8]) -> Option<u8> {
+    let mut reader = input;
+    let mut writer = Vec::new(alloc);
+    let mut engine = over_lists(alloc);
+    let run = RunId::new(1)?;
+    match drive_lines(
+        alloc,
+        &mut engine,
+        &mut reader,
+        &mut writer,
+        BatchSize::new(1)?,
+    ) {
+        Ok(_) => {}
+        Err(_) => return None,
+    }
+    writer.clear();
+    match tell_history(alloc, &mut engine, &mut writer, run) {
+        Ok(status) if writer.as_slice() == wanted => Some(status),
+        Err(Stopped::Refused(Fault::NoRun)) if writer.is_empty() => Some(1),
+        _ => None,
+    }
+}
+
+#[test]
+fn a_history_is_told(rt: HostRuntime) -> Result<(), Fail> {
+    assert_eq!(rt;
+        told(
+            rt.alloc(),
+            b"{\"do\":\"register\",\"src\":\"workflow e() {}\"}\n{\"args\":[],\"at\":0,\"do\":\"start\",\"flow\":\"f\",\"req\":\"q\",\"text\":1}\n",
+            b"1 WorkflowExecutionStarted {\"args\":[],\"at\":0}\n2 WorkflowExecutionCompleted {\"at\":0,\"value\":\"\"}\n"
+        ),
+        Some(0)
+    );
+    assert_eq!(rt; told(rt.alloc(), b"", b""), Some(1));
     Ok(())
 }

@@ -1,7 +1,7 @@
 //! Texts: what `flow check` says of them, and that a printed program is read as the same program.
 use flow_base::syntax::{Declaration, Expr, Parameter, Program, Stmt, TypeAt};
 use flow_check::language::Language;
-use flow_cli::check::check_text;
+use flow_cli::check::tell_verdict;
 use flow_syntax::parse::parse;
 use flow_syntax::print::print;
 use std::string::ToString;
@@ -106,10 +106,15 @@ fn parentheses_stand_where_the_grammar_needs_them(rt: HostRuntime) -> Result<(),
     Ok(())
 }
 
-/// Whether `flow check` says this of a text, with this status.
+/// Whether `flow check` writes this line of a text, with this status.
 fn is_checked_as(rt: &HostRuntime, text: &str, line: &str, status: u8) -> Result<bool, Fail> {
-    let verdict = check_text(rt.alloc(), &Language, text)?;
-    Ok(verdict.line(rt.alloc())?.as_str() == line && verdict.status() == status)
+    let mut writer = Vec::new(rt.alloc());
+    let told = match tell_verdict(rt.alloc(), &Language, &mut writer, text) {
+        Ok(told) => told,
+        Err(_) => return Ok(false),
+    };
+    let ends = writer.pop() == Some(b'\n');
+    Ok(ends && writer.as_slice() == line.as_bytes() && told == status)
 }
 
 #[test]
