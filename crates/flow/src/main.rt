@@ -1,25 +1,26 @@
 //! `flow`: checks programs of workflows, and answers command lines.
 #![tactic(auto)]
 
-ghost use Rattle.std.specs.Prelude.{◌≡◌, ◌≤◌, false, IfOk, IfErr};
+ghost use Rattle.std.specs.Prelude.{◌≡◌, ◌≤◌, ◌⊎◌, false, IfOk, IfErr};
 ghost use Rattle.sqlite.specs.Held.{state};
 ghost use Rattle.flow_tables.specs.Owned.{IsFound};
 ghost use Rattle.flow_commit.specs.Keeping.{IsFit, kept_book};
 ghost use Rattle.flow_engine.specs.Answering.{IsSure};
 ghost use Rattle.flow_engine.specs.Opening.{IsOpened};
 ghost use Rattle.flow_cli.specs.Driving.{stopped_status};
+ghost use Rattle.flow_cli.specs.Working.{OfWork};
+ghost use Rattle.flow_cli.specs.declared.drive.Stopped.TheVariants.{Refused};
+ghost use Rattle.flow_base.specs.declared.fault.Fault.TheVariants.{NoRun};
 ghost use Rattle.flow.specs.Openings.{IsHandedOn};
 
 use flow_base::fault::Fault;
-use flow_base::number::RunId;
 use flow_check::language::Language;
-use flow_cli::batch::BatchSize;
 use flow_cli::call::{Call, call_of};
 use flow_cli::check::tell_verdict;
-use flow_cli::drive::{Stopped, drive_lines};
+use flow_cli::drive::Stopped;
 use flow_cli::ending::ended;
 use flow_cli::fault::fault_of_error;
-use flow_cli::history::tell_history;
+use flow_cli::work::{Work, perform};
 use flow_engine::engine::Engine;
 use sqlite::{Alter, Connection, Error, ErrorCode, File, FileStore};
 use std::io::BufReader;
@@ -27,30 +28,27 @@ use std::process::ExitCode;
 use std::{env, fs, io};
 
 fn main(rt: HostRuntime) -> ExitCode {
-    let outcome = work(&rt);
+    let outcome = run(&rt);
     ExitCode::from(ended(rt.alloc(), &mut rt.stderr(), &outcome))
 }
 
 /// Does what the words ask for; the program's own name is the first.
-fn work(rt: &HostRuntime) -> Result<u8, Stopped> {
+fn run(rt: &HostRuntime) -> Result<u8, Stopped> {
     let words = match env::args(rt) {
         Ok(words) => words.collect::<Vec<String>>(rt.alloc())?,
         Err(error) => return Err(Stopped::Refused(fault_of_error(error.kind(), Fault::BadUsage))),
     };
     match call_of(rt.alloc(), words.as_slice()) {
-        Ok(call) => perform(rt, &call),
+        Ok(call) => answer(rt, &call),
         Err(fault) => Err(Stopped::Refused(fault)),
     }
 }
 
-fn perform(rt: &HostRuntime, call: &Call<'_>) -> Result<u8, Stopped> {
+fn answer(rt: &HostRuntime, call: &Call<'_>) -> Result<u8, Stopped> {
     match call {
         Call::Check(file) => check(rt, file),
-        Call::Drive("-", most) => drive_memory(rt, *most),
-        Call::Drive(file, most) => drive_file(rt, file, *most),
-        // A store in memory begins with no run.
-        Call::History("-", _) => Err(Stopped::Refused(Fault::NoRun)),
-        Call::History(file, run) => history(rt, file, *run),
+        Call::Over("-", work) => over_memory(rt, work),
+        Call::Over(file, work) => over_file(rt, file, work),
     }
 }
 
@@ -92,35 +90,26 @@ fn close_file(engine: Engine<FileStore<File>>) {
     let _ = engine.close().close();
 }
 
-fn drive_file(rt: &HostRuntime, file: &str, most: BatchSize) -> Result<u8, Stopped> {
+fn over_file(rt: &HostRuntime, file: &str, work: &Work) -> Result<u8, Stopped> {
     let mut engine = open_file(rt, file)?;
-    let outcome = drive(rt, &mut engine, most);
+    let outcome = over(rt, &mut engine, work);
     close_file(engine);
     outcome
 }
 
-fn drive_memory(rt: &HostRuntime, most: BatchSize) -> Result<u8, Stopped> {
+fn over_memory(rt: &HostRuntime, work: &Work) -> Result<u8, Stopped> {
     let mut engine = open(rt, Connection::open_in_memory(rt.alloc())?)?;
-    drive(rt, &mut engine, most)
+    over(rt, &mut engine, work)
 }
 
-/// Answers the lines of standard input over a store, so many commands together. The status is 0, 1 where some line was no
-/// command, and 3 where some command was given up and on an early end.
-fn drive<S: Alter>(rt: &HostRuntime, engine: &mut Engine<S>, most: BatchSize) -> Result<u8, Stopped>
-    ensures done { IfOk result (λ n. n ≤ 3) }
-    ensures early { IfErr result (λ e. stopped_status e ≡ 3) }
+/// Does it from standard input to standard output.
+fn over<S: Alter>(rt: &HostRuntime, engine: &mut Engine<S>, work: &Work) -> Result<u8, Stopped>
+    ensures done { IfOk result (λ n. OfWork work.now (λ most. n ≤ 3) (λ run. n ≡ 0)) }
+    ensures early { IfErr result (λ e. OfWork work.now (λ most. stopped_status e ≡ 3) (λ run. (e ≡ Refused NoRun) ⊎ (stopped_status e ≡ 3))) }
 {
     let Ok(mut reader) = BufReader::new(rt.alloc(), rt.reader()) else {
         return Err(Stopped::Refused(Fault::NoMemory));
     };
     let mut writer = io::writer(rt);
-    drive_lines(rt.alloc(), engine, &mut reader, &mut writer, most)
-}
-
-fn history(rt: &HostRuntime, file: &str, run: RunId) -> Result<u8, Stopped> {
-    let mut engine = open_file(rt, file)?;
-    let mut writer = io::writer(rt);
-    let outcome = tell_history(rt.alloc(), &mut engine, &mut writer, run);
-    close_file(engine);
-    outcome
+    perform(rt.alloc(), engine, &mut reader, &mut writer, work)
 }

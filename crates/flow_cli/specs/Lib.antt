@@ -9,3 +9,4 @@ pub mod Answering
 pub mod Stopping
 pub mod Histories
 pub mod Ending
+pub mod Working

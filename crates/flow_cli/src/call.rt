@@ -8,6 +8,7 @@ ghost use Rattle.flow_cli.specs.Calls.{Call as Pure};
 ghost use Rattle.flow_cli.specs.Shown.{shown};
 
 use crate::batch::BatchSize;
+use crate::work::Work;
 use clap::error::ErrorKind;
 use clap::{Arg, ArgAction, ArgMatches, Command};
 use flow_base::fault::Fault;
@@ -20,10 +21,8 @@ use std::convert::AsStr;
 pub enum Call<'a> {
     /// Check the text in this file.
     Check(&'a str),
-    /// Answer command lines over this store, so many commands together; `-` is a store in memory.
-    Drive(&'a str, BatchSize),
-    /// Tell the history of a run of this store.
-    History(&'a str, RunId),
+    /// Do this over this store; `-` is a store in memory, which begins with no run.
+    Over(&'a str, Work),
 }
 
 /// An argument with one value, which has to be there.
@@ -121,7 +120,7 @@ fn drive_call<'a>(found: &ArgMatches<'a>) -> Option<Call<'a>>
 {
     let base = text_of(found, "DB")?;
     let most = batch_of(text_of(found, "batch")?)?;
-    Some(Call::Drive(base, most))
+    Some(Call::Over(base, Work::Drive(most)))
 }
 
 fn history_call<'a>(found: &ArgMatches<'a>) -> Option<Call<'a>>
@@ -129,7 +128,7 @@ fn history_call<'a>(found: &ArgMatches<'a>) -> Option<Call<'a>>
 {
     let base = text_of(found, "DB")?;
     let run = run_of(text_of(found, "RUN")?)?;
-    Some(Call::History(base, run))
+    Some(Call::Over(base, Work::History(run)))
 }
 
 fn named_call<'a>(name: &str, found: &ArgMatches<'a>) -> Option<Call<'a>>

@@ -10,3 +10,4 @@ pub mod ending;
 pub mod fault;
 pub mod history;
 pub mod reply;
+pub mod work;

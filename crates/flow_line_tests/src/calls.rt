@@ -1,6 +1,7 @@
 //! Words, as `clap` reads them.
 use flow_base::fault::Fault;
 use flow_cli::call::{Call, call_of};
+use flow_cli::work::Work;
 use std::alloc::Global;
 use std::test::Fail;
 
@@ -13,14 +14,14 @@ fn is_check(alloc: Global, words: &[&str], file: &str) -> bool {
 
 fn is_drive(alloc: Global, words: &[&str], base: &str, most: u64) -> bool {
     match &call_of(alloc, words) {
-        Ok(Call::Drive(found, size)) => *found == base && size.get() == most,
+        Ok(Call::Over(found, Work::Drive(size))) => *found == base && size.get() == most,
         _ => false,
     }
 }
 
 fn is_history(alloc: Global, words: &[&str], base: &str, number: u64) -> bool {
     match &call_of(alloc, words) {
-        Ok(Call::History(found, run)) => *found == base && run.get() == number,
+        Ok(Call::Over(found, Work::History(run))) => *found == base && run.get() == number,
         _ => false,
     }
 }

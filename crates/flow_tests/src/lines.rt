@@ -5,7 +5,7 @@ use flow_base::number::RunId;
 use flow_check::language::Language;
 use flow_cli::batch::BatchSize;
 use flow_cli::drive::{Stopped, drive_lines, end_status};
-use flow_cli::history::tell_history;
+use flow_cli::work::{Work, perform};
 use flow_view::lists::Lists;
 use std::alloc::Global;
 use std::io;
@@ -142,19 +142,14 @@ fn told(alloc: Global, input: &[u8], wanted: &[u8]) -> Option<u8> {
     let mut reader = input;
     let mut writer = Vec::new(alloc);
     let mut engine = over_lists(alloc);
-    let run = RunId::new(1)?;
-    match drive_lines(
-        alloc,
-        &mut engine,
-        &mut reader,
-        &mut writer,
-        BatchSize::new(1)?,
-    ) {
+    let drive = Work::Drive(BatchSize::new(1)?);
+    match perform(alloc, &mut engine, &mut reader, &mut writer, &drive) {
         Ok(_) => {}
         Err(_) => return None,
     }
     writer.clear();
-    match tell_history(alloc, &mut engine, &mut writer, run) {
+    let history = Work::History(RunId::new(1)?);
+    match perform(alloc, &mut engine, &mut reader, &mut writer, &history) {
         Ok(status) if writer.as_slice() == wanted => Some(status),
         Err(Stopped::Refused(Fault::NoRun)) if writer.is_empty() => Some(1),
         _ => None,

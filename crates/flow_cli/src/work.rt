@@ -1,0 +1,59 @@
+//! What is done over an open store.
+ghost use Rattle.std.specs.Prelude.{◌≡◌, ◌≤◌, ◌⊎◌, ◌+◌, ◌^◌, ◌∷◌, [], length, IfOk, IfErr, IfSome};
+ghost use Rattle.flow_base.specs.declared.code.Code.TheVariants as codes;
+ghost use Rattle.flow_base.specs.declared.command.Command.TheVariants as commands;
+ghost use Rattle.flow_cli.specs.Answering.{AllAnswered, OfBatch, StatusWithin, StopsWithin};
+ghost use Rattle.flow_cli.specs.Driving.{lines_of, stopped_status};
+ghost use Rattle.flow_cli.specs.Histories.{TellsHistory, BeginsHistory, HasNoRun, CausedUnwritten};
+ghost use Rattle.flow_cli.specs.Stopping.{CausedStop, StoppedBy};
+ghost use Rattle.flow_cli.specs.Working.{OfWork};
+ghost use Rattle.flow_cli.specs.declared.drive.Stopped.TheVariants.{Refused};
+
+use crate::batch::BatchSize;
+use crate::drive::{Stopped, drive_lines};
+use crate::history::tell_history;
+use flow_base::fault::Fault;
+use flow_base::number::RunId;
+use flow_machine::answer::Answering;
+use std::alloc::Global;
+use std::io::{BufRead, Write};
+
+/// What is done over an open store.
+#[derive(Clone, Copy, Debug)]
+pub enum Work {
+    /// Command lines are answered, so many commands together.
+    Drive(BatchSize),
+    /// The history of a run is told.
+    History(RunId),
+}
+
+/// Does it over whoever keeps the store's book, and gives the status.
+///
+/// # Failure
+/// As of `drive_lines` and `tell_history`.
+pub fn perform<R: BufRead, W: Write, E: Answering>(
+    alloc: Global,
+    engine: &mut E,
+    reader: &mut R,
+    writer: &mut W,
+    work: &Work,
+) -> Result<u8, Stopped>
+    ensures done { IfOk result (λ n. OfWork work.now
+        (λ most. E.is_sure engine.new → IfSome (R.remaining reader.old) (λ bytes. AllAnswered E.rules (OfBatch most E.gives_up) (E.book engine.old) (E.book engine.new) (lines_of bytes) (W.contents writer.old) (W.contents writer.new) n))
+        (λ run. E.is_sure engine.new → TellsHistory E.rules (E.book engine.old) (E.book engine.new) run (W.contents writer.old) (W.contents writer.new))) }
+    ensures status { IfOk result (λ n. OfWork work.now (λ most. StatusWithin (OfBatch most E.gives_up) n) (λ run. n ≡ 0)) }
+    ensures part { IfErr result (λ e. OfWork work.now
+        (λ most. E.is_sure engine.new → IfSome (R.remaining reader.old) (λ bytes. StopsWithin E.rules (OfBatch most E.gives_up) (E.book engine.old) (E.book engine.new) e (lines_of bytes) (W.contents writer.old) (W.contents writer.new)))
+        (λ run. (writer.new ≡ writer.old) ⊎ (E.is_sure engine.new → BeginsHistory E.rules (E.book engine.old) (E.book engine.new) run (W.contents writer.old) (W.contents writer.new)))) }
+    ensures early { IfErr result (λ e. OfWork work.now (λ most. stopped_status e ≡ 3) (λ run. (e ≡ Refused Fault.NoRun) ⊎ (stopped_status e ≡ 3))) }
+    ensures cause { IfErr result (λ e. OfWork work.now
+        (λ most. CausedStop e (StoppedBy E.rules (OfBatch most E.gives_up) (OfBatch most (E.stops engine.new)) (E.is_sure engine.new) (E.book engine.old) (R.remaining reader.old)) (IfSome (R.remaining reader.old) (λ bytes. 2 ^ 64 ≤ length (lines_of bytes) + 1)))
+        (λ run. CausedUnwritten e (E.is_sure engine.new → HasNoRun E.rules (E.book engine.old) (E.book engine.new) run) (E.is_sure engine.new → E.gives_up (E.book engine.old) (commands.History run ∷ []) codes.StoreRefused) (E.stops engine.new (E.book engine.old) (commands.History run ∷ [])))) }
+    ensures sure { E.is_sure engine.new → E.is_sure engine.old }
+    ensures follows { (a : E) → E.follows a engine.old → E.follows a engine.new }
+{
+    match work {
+        Work::Drive(most) => drive_lines(alloc, engine, reader, writer, *most),
+        Work::History(run) => tell_history(alloc, engine, writer, *run),
+    }
+}
