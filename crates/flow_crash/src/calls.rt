@@ -1,0 +1,92 @@
+//! The numbers of the calls, and how much of a refused one is carried out.
+ghost use Rattle.std.specs.Prelude.{◌≡◌, ◌<◌, false, IsErr, Some, None};
+ghost use Rattle.sqlite_disk.specs.Refusal.{finds_no_room};
+ghost use Rattle.flow_crash.specs.declared.calls.Part.TheVariants as parts;
+
+use std::alloc::{AllocError, Global};
+use std::cell::Cell;
+use std::io;
+use std::rc::Rc;
+
+/// How much of a call that is refused is carried out.
+#[derive(Clone, Copy, Debug, PartialEq, Eq)]
+pub enum Part {
+    /// Nothing.
+    Before,
+    /// Of a write the first half of its bytes, of every other call nothing.
+    Half,
+    /// All of it, but for a read, of which nothing is given.
+    After,
+}
+
+/// The count of the calls that were asked of the files which share it. The first one has the number 1.
+#[derive(Drop)]
+pub struct Calls {
+    asked: Rc<Cell<u64>>,
+}
+
+impl Calls {
+    /// A count of no calls.
+    ///
+    /// # Failure
+    /// Where room for it is refused.
+    pub fn new(alloc: Global) -> Result<Calls, AllocError> {
+        Ok(Calls {
+            asked: Rc::new(alloc, Cell::new(0))?,
+        })
+    }
+
+    /// The same count, for another file.
+    ///
+    /// # Failure
+    /// Where the holders of the count can't be counted any more.
+    pub fn share(&self) -> Result<Calls, AllocError> {
+        Ok(Calls {
+            asked: self.asked.clone()?,
+        })
+    }
+
+    /// How many calls were asked. It stops at the top of its type.
+    pub fn count(&self) -> u64 {
+        self.asked.get()
+    }
+
+    /// Counts one more call, and gives its number.
+    pub(crate) fn next(&self) -> u64 {
+        let number = self.asked.get().saturating_add(1);
+        self.asked.set(number);
+        number
+    }
+}
+
+/// Where a store stops: at the call with this number.
+#[derive(Clone, Copy, Debug, PartialEq, Eq)]
+pub struct Stop {
+    pub at: u64,
+    pub part: Part,
+}
+
+impl Stop {
+    /// How much of the call with this number is carried out where it is refused. None: it is passed on.
+    pub fn refuses(self, number: u64) -> Option<Part>
+        ensures earlier { number < self.at → result ≡ None }
+        ensures numbered { number ≡ self.at → result ≡ Some self.part }
+        ensures later { self.at < number → result ≡ Some parts.Before }
+    {
+        if number < self.at {
+            return None;
+        }
+        if number == self.at {
+            return Some(self.part);
+        }
+        Some(Part::Before)
+    }
+}
+
+/// The answer of a call that is refused. The disk isn't full.
+pub(crate) fn refused<T>() -> io::Result<T>
+    ensures kind { finds_no_room result ≡ false }
+    ensures err { IsErr result }
+{
+    Err(io::Error::other("refused by its number"))
+}

@@ -1,0 +1,7 @@
+//! Disks that refuse calls by their number, for tests of what a store does then. One count is shared by the two files of a
+//! store, so a number names one of all its calls.
+#![tactic(auto)]
+
+pub mod calls;
+pub mod fail_at;
+pub mod stop_at;
