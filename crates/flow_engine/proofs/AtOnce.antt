@@ -179,7 +179,7 @@ module _ {S : Type 0} (g : Ghosts S) (old new : Keeping S) (batch : List Taken) 
     leaves = tt;
     sure = λ sure. subst (IsSure g) same sure;
     follows = (ap (λ (k : Keeping S). k.stored.opened) same, λ fit. subst (IsFit g) same fit);
-    part = inr same;
+    part = inr (same, refl);
   }
 
 ---- The loops

@@ -11,7 +11,7 @@ use Rattle.flow_tables.specs.Owned.{state_of, LeavesEither}
 use Rattle.flow_commit.specs.Keeping.{Keeping, rules, IsFit, KeepsBook, command_of, commands_of}
 use Rattle.flow_engine.specs.declared.done.Done.{Done}
 use Rattle.flow_engine.specs.declared.done.Done.TheVariants as done
-use Rattle.flow_engine.specs.Driving.{AreAnswers, LeadsTo, Drives, Runs, all_halted, has_unknown, gathered, kept_of, in_hand}
+use Rattle.flow_engine.specs.Driving.{AreAnswers, Passes, LeadsTo, Drives, Runs, all_halted, has_unknown, gathered, if_kept, kept_of, in_hand}
 use Rattle.flow_engine.proofs.Gathering.{off, same_length, none_in_hand, no_hand_of_halted, none_kept_of_halted, replies_told}
 
 gathered_join : {A : Type 0} (f : List Taken → Done → List A) (bs cs : List (List Taken)) (ds es : List Done) → length bs ≡ length ds → gathered f (bs ++ cs) (ds ++ es) ≡ gathered f bs ds ++ gathered f cs es
@@ -62,6 +62,19 @@ halted_join n b (x ∷ bs) cs (done.Unknown ∷ ds) e h = ap (λ l. l ++ all_hal
 halted_join n b (x ∷ bs) cs (done.Halted ∷ ds) e h = absurd h
 
 module _ {S : Type 0} (g : Ghosts S) where
+  passes_join : (old mid new : Keeping S) (b : Book) (bs cs : List (List Taken)) (ds es : List Done) → Passes g old mid b bs ds → Passes g mid new (after rules b (kept_of bs ds)) cs es → Passes g old new b (bs ++ cs) (ds ++ es)
+  passes_join old mid new b [] cs [] es same more = subst (λ k. Passes g k new b cs es) same more
+  passes_join old mid new b [] cs (y ∷ ds) es passes more = absurd passes
+  passes_join old mid new b (x ∷ bs) cs [] es passes more = absurd passes
+  passes_join old mid new b (x ∷ bs) cs (y ∷ ds) es passes more =
+      let over = subst (λ k. Passes g mid new k cs es) (after_cut rules b (if_kept x y) (kept_of bs ds)) more in
+      (passes.0, passes.1, passes.2, passes_join passes.0 mid new (after rules b (if_kept x y)) bs cs ds es passes.3 over)
+
+  -- an engine that has halted stays
+  passes_halted : (old new : Keeping S) (b : Book) (cs : List (List Taken)) → old.halted ≡ true → new ≡ old → Passes g old new b cs (all_halted cs)
+  passes_halted old new b [] halted same = same
+  passes_halted old new b (c ∷ cs) halted same = (old, (halted, refl), tt, passes_halted old new b cs halted same)
+
   leads_by : (old new : Keeping S) (b : Book) (u u' : Bool) (k k' h h' : List Command) → u' ≡ u → k' ≡ k → h' ≡ h → LeadsTo g old new b u k h → LeadsTo g old new b u' k' h'
   leads_by old new b u u' k k' h h' same_u same_k same_h leads =
       subst (λ x. LeadsTo g old new b x k' h') (sym same_u) (subst (λ x. LeadsTo g old new b u x h') (sym same_k) (subst (λ x. LeadsTo g old new b u k x) (sym same_h) leads))
@@ -101,6 +114,7 @@ module _ {S : Type 0} (g : Ghosts S) where
           leads =
               leads_by old new b (has_unknown es) (has_unknown (ds ++ es)) _ _ _ _ (unknown_join ds es known) kept_join (hand_join ∙ ap (λ l. l ++ in_hand cs es) (none_in_hand bs ds known))
               (leads_on old mid new b (has_unknown es) (kept_of bs ds) (kept_of cs es) (in_hand cs es) counted two.leads);
+          passes = passes_join old mid new b bs cs ds es one.passes two.passes;
         }
 
     stays : has_unknown ds ≡ true → new ≡ mid → es ≡ all_halted cs → Drives g old new b (bs ++ cs) (ds ++ es)
@@ -115,6 +129,9 @@ module _ {S : Type 0} (g : Ghosts S) where
               leads_by old new b (has_unknown ds) (has_unknown (ds ++ es)) _ _ _ _ (unknown_stays ds es unknown ∙ sym unknown)
               (kept_join ∙ ap (λ l. kept_of bs ds ++ l) no_more ∙ append-nil (kept_of bs ds)) (hand_join ∙ ap (λ l. in_hand bs ds ++ l) no_hand ∙ append-nil (in_hand bs ds))
               (subst (λ k. LeadsTo g old k b (has_unknown ds) (kept_of bs ds) (in_hand bs ds)) (sym same) one.leads);
+          passes =
+              passes_join old mid new b bs cs ds es one.passes
+              (subst (λ l. Passes g mid new (after rules b (kept_of bs ds)) cs l) (sym halted) (passes_halted mid new (after rules b (kept_of bs ds)) cs (one.leads.halted ∙ unknown) same));
         }
 
   drives_join : (old mid new : Keeping S) (b : Book) (bs cs : List (List Taken)) (ds es : List Done) → IsFit g new → Runs g mid new cs es → Drives g old mid b bs ds → (u : Bool) → has_unknown ds ≡ u → Drives g old new b (bs ++ cs) (ds ++ es)

@@ -16,8 +16,23 @@ use Rattle.flow_tables.specs.Owned.{state_of, LeavesEither}
 use Rattle.flow_commit.specs.Keeping.{Keeping, rules, IsFit, IsUp, IsWell, KeepsBook, kept_book, HasKept, HasRefused, IsUnknown, command_of, commands_of, receipts_of}
 use Rattle.flow_engine.specs.declared.done.Done.{Done}
 use Rattle.flow_engine.specs.declared.done.Done.TheVariants as done
-use Rattle.flow_engine.specs.Driving.{HasDone, IsNoted, AreAnswers, NotesAll, LeadsTo, Drives, IsLeft, all_halted, has_unknown, if_kept, if_unknown, kept_of, in_hand}
+use Rattle.flow_engine.specs.Driving.{HasDone, IsDoneFor, Passes, IsNoted, AreAnswers, NotesAll, LeadsTo, Drives, IsLeft, all_halted, has_unknown, if_kept, if_unknown, kept_of, in_hand}
 use Rattle.flow_engine.proofs.Gathering.{off, same_length, gathered_more, unknown_behind, known_behind, none_in_hand, answers_more, all_halted_more, halted_more, noted_more, noted_halted, replies_told}
+
+-- one batch more, from the engine that the others have led to
+passes_more : {S : Type 0} (g : Ghosts S) (old mid new : Keeping S) (b : Book) (bs : List (List Taken)) (ds : List Done) (batch : List Taken) (d : Done) → Passes g old mid b bs ds
+    → HasDone g mid new (after rules b (kept_of bs ds)) batch d → IsDoneFor g mid new (after rules b (kept_of bs ds)) batch d → Passes g old new b (bs ++ batch ∷ []) (ds ++ d ∷ [])
+passes_more g old mid new b [] [] batch d same has why = (new, subst (λ k. HasDone g k new b batch d) same has, subst (λ k. IsDoneFor g k new b batch d) same why, refl)
+passes_more g old mid new b [] (y ∷ ds) batch d passes has why = absurd passes
+passes_more g old mid new b (x ∷ bs) [] batch d passes has why = absurd passes
+passes_more g old mid new b (x ∷ bs) (y ∷ ds) batch d passes has why =
+    let later = after_cut rules b (if_kept x y) (kept_of bs ds) in
+    let over = after rules b (if_kept x y) in (
+      passes.0,
+      passes.1,
+      passes.2,
+      passes_more g passes.0 mid new over bs ds batch d passes.3 (subst (λ k. HasDone g mid new k batch d) later has) (subst (λ k. IsDoneFor g mid new k batch d) later why),
+    )
 
 module _ {S : Type 0} (g : Ghosts S) (old : Keeping S) (b : Book) where
   abbrev Leads : Keeping S → Bool → List Command → List Command → Type 0
@@ -52,7 +67,7 @@ module _ {S : Type 0} (g : Ghosts S) (old : Keeping S) (b : Book) where
 
   -- The batches so far have these answers, and the engine is where they lead.
   abbrev pub Reached : Keeping S → List (List Taken) → List Done → Type 0
-  Reached now bs ds = AreAnswers old.kept b bs ds × LeadsTo g old now b (has_unknown ds) (kept_of bs ds) (in_hand bs ds)
+  Reached now bs ds = AreAnswers old.kept b bs ds × LeadsTo g old now b (has_unknown ds) (kept_of bs ds) (in_hand bs ds) × Passes g old now b bs ds
 
   module _ (mid new : Keeping S) (bs : List (List Taken)) (ds : List Done) (batch : List Taken) (was : Reached mid bs ds) where
     -- what is kept and in hand with one more
@@ -63,26 +78,29 @@ module _ {S : Type 0} (g : Ghosts S) (old : Keeping S) (b : Book) where
     hand_now d = gathered_more if_unknown bs ds batch d (same_length old.kept b bs ds was.0)
 
     -- over an engine that keeps the book
-    goes_on : has_unknown ds ≡ false → (d : Done) → HasDone g mid new (after rules b (kept_of bs ds)) batch d → Reached new (bs ++ batch ∷ []) (ds ++ d ∷ [])
-    goes_on known (done.Kept rs) one =
+    goes_on : has_unknown ds ≡ false → (d : Done) → HasDone g mid new (after rules b (kept_of bs ds)) batch d → IsDoneFor g mid new (after rules b (kept_of bs ds)) batch d → Reached new (bs ++ batch ∷ []) (ds ++ d ∷ [])
+    goes_on known (done.Kept rs) one why =
         let leads = subst (λ u. LeadsTo g old mid b u (kept_of bs ds) (in_hand bs ds)) known was.1 in
         let told = one.1.told ∙ ap (λ n. receipts_of n (after rules b (kept_of bs ds)) batch) (leads.counts refl) in (
           answers_more old.kept b bs ds batch (done.Kept rs) known was.0 (told, tt),
           leads_as new false (has_unknown (ds ++ done.Kept rs ∷ [])) _ _ _ _ (known_behind ds (done.Kept rs) refl ∙ known) (kept_now (done.Kept rs)) refl
               (lead_kept mid new (kept_of bs ds) (in_hand bs ds) (in_hand (bs ++ batch ∷ []) (ds ++ done.Kept rs ∷ [])) batch rs.items leads one.1),
+          passes_more g old mid new b bs ds batch (done.Kept rs) was.2 one why,
         )
-    goes_on known (done.NotApplied f) one =
+    goes_on known (done.NotApplied f) one why =
         let leads = subst (λ u. LeadsTo g old mid b u (kept_of bs ds) (in_hand bs ds)) known was.1 in (
           answers_more old.kept b bs ds batch (done.NotApplied f) known was.0 tt,
           leads_as new false (has_unknown (ds ++ done.NotApplied f ∷ [])) _ _ _ _ (known_behind ds (done.NotApplied f) refl ∙ known) (kept_now (done.NotApplied f) ∙ append-nil (kept_of bs ds)) refl
               (lead_refused mid new (kept_of bs ds) (in_hand bs ds) (in_hand (bs ++ batch ∷ []) (ds ++ done.NotApplied f ∷ [])) leads one.1),
+          passes_more g old mid new b bs ds batch (done.NotApplied f) was.2 one why,
         )
-    goes_on known done.Unknown one = (
+    goes_on known done.Unknown one why = (
       answers_more old.kept b bs ds batch done.Unknown known was.0 refl,
       leads_as new true (has_unknown (ds ++ done.Unknown ∷ [])) _ _ _ _ (unknown_behind ds) (kept_now done.Unknown ∙ append-nil (kept_of bs ds)) (hand_now done.Unknown ∙ ap (λ l. l ++ commands_of batch) (none_in_hand bs ds known))
           (lead_unknown mid new (kept_of bs ds) batch one.1),
+      passes_more g old mid new b bs ds batch done.Unknown was.2 one why,
     )
-    goes_on known done.Halted one = off (sym one.0 ∙ was.1.halted ∙ known)
+    goes_on known done.Halted one why = off (sym one.0 ∙ was.1.halted ∙ known)
 
     -- over one that has halted
     stays : has_unknown ds ≡ true → new ≡ mid → Reached new (bs ++ batch ∷ []) (ds ++ done.Halted ∷ [])
@@ -90,13 +108,14 @@ module _ {S : Type 0} (g : Ghosts S) (old : Keeping S) (b : Book) where
         let leads = subst (λ k. LeadsTo g old k b (has_unknown ds) (kept_of bs ds) (in_hand bs ds)) (sym same) was.1 in (
           halted_more old.kept b bs ds batch unknown was.0,
           leads_as new (has_unknown ds) (has_unknown (ds ++ done.Halted ∷ [])) _ _ _ _ (known_behind ds done.Halted refl) (kept_now done.Halted ∙ append-nil (kept_of bs ds)) (hand_now done.Halted ∙ append-nil (in_hand bs ds)) leads,
+          passes_more g old mid new b bs ds batch done.Halted was.2 (was.1.halted ∙ unknown, same) tt,
         )
 
-    one_more : (d : Done) → ((k : Book) → KeepsBook g mid k → HasDone g mid new k batch d) → (mid.halted ≡ true → new ≡ mid) → (mid.halted ≡ true → d ≡ done.Halted) → (u : Bool) → has_unknown ds ≡ u → Reached new (bs ++ batch ∷ []) (ds ++ d ∷ [])
-    one_more d does halted later true e =
+    one_more : (d : Done) → ((k : Book) → KeepsBook g mid k → HasDone g mid new k batch d) → ((k : Book) → KeepsBook g mid k → IsDoneFor g mid new k batch d) → (mid.halted ≡ true → new ≡ mid) → (mid.halted ≡ true → d ≡ done.Halted) → (u : Bool) → has_unknown ds ≡ u → Reached new (bs ++ batch ∷ []) (ds ++ d ∷ [])
+    one_more d does why halted later true e =
         let stopped = was.1.halted ∙ e in
         subst (λ x. Reached new (bs ++ batch ∷ []) (ds ++ x ∷ [])) (sym (later stopped)) (stays e (halted stopped))
-    one_more d does halted later false e = goes_on e d (does (after rules b (kept_of bs ds)) (was.1.book e))
+    one_more d does why halted later false e = let keeps = was.1.book e in goes_on e d (does (after rules b (kept_of bs ds)) keeps) (why (after rules b (kept_of bs ds)) keeps)
 
 ---- What is noted of one more
 
@@ -171,7 +190,7 @@ none_yet {S = S} g old whole left ds all none = record {
   behind = [];
   split = all;
   fit = λ h. h;
-  reached = λ fit b keeps goes. subst (λ l. Reached g old b old [] l) (sym none) (tt, record { halted = goes; book = λ _. keeps; still = λ _. keeps; counts = λ _. omega arith; stops = λ db may. inl (keeps.stops db may) });
+  reached = λ fit b keeps goes. subst (λ l. Reached g old b old [] l) (sym none) (tt, record { halted = goes; book = λ _. keeps; still = λ _. keeps; counts = λ _. omega arith; stops = λ db may. inl (keeps.stops db may) }, refl);
   halted = λ _. refl;
   later = λ _. none;
   count = ap length none;
@@ -182,14 +201,14 @@ none_yet {S = S} g old whole left ds all none = record {
 }
 
 pub drove_more : {S : Type 0} (g : Ghosts S) (old mid new : Keeping S) (whole now left : List (List Taken)) (ds : List Done) (batch : List Taken) (d : Done) → now ≡ batch ∷ left → Drove g old mid whole now ds
-    → (IsFit g new → IsFit g mid) → (IsFit g new → (b : Book) → KeepsBook g mid b → HasDone g mid new b batch d) → (mid.halted ≡ true → new ≡ mid) → (mid.halted ≡ true → d ≡ done.Halted)
+    → (IsFit g new → IsFit g mid) → (IsFit g new → (b : Book) → KeepsBook g mid b → HasDone g mid new b batch d) → (IsFit g new → (b : Book) → KeepsBook g mid b → IsDoneFor g mid new b batch d) → (mid.halted ≡ true → new ≡ mid) → (mid.halted ≡ true → d ≡ done.Halted)
     → IsNoted mid new batch d → new.stored.opened ≡ mid.stored.opened → (IsFit g new → IsUp g new → IsUp g mid) → (IsFit g new → IsUp g mid → WasOwn g mid new)
     → Drove g old new whole left (ds ++ d ∷ [])
-drove_more {S = S} g old mid new whole now left ds batch d next was fit does halted later noted opened up own = record {
+drove_more {S = S} g old mid new whole now left ds batch d next was fit does why halted later noted opened up own = record {
   behind = was.behind ++ batch ∷ [];
   split = was.split ∙ ap (λ l. was.behind ++ l) next ∙ sym (append_assoc was.behind (batch ∷ []) left);
   fit = λ h. was.fit (fit h);
-  reached = λ h b keeps goes. one_more g old b mid new was.behind ds batch (was.reached (fit h) b keeps goes) d (does h) halted later (has_unknown ds) refl;
+  reached = λ h b keeps goes. one_more g old b mid new was.behind ds batch (was.reached (fit h) b keeps goes) d (does h) (why h) halted later (has_unknown ds) refl;
   halted = λ h. halted (ap (λ (k : Keeping S). k.halted) (was.halted h) ∙ h) ∙ was.halted h;
   later = λ h. ap (λ x. ds ++ x ∷ []) (later (ap (λ (k : Keeping S). k.halted) (was.halted h) ∙ h)) ∙ all_halted_more was.behind ds batch (was.later h);
   count = length-append ds (d ∷ []) ∙ ap (λ n. n + 1) was.count ∙ sym (length-append was.behind (batch ∷ []));
@@ -206,7 +225,7 @@ module _ {S : Type 0} (g : Ghosts S) (old new : Keeping S) (whole left : List (L
   pub drives : IsFit g new → (b : Book) → KeepsBook g old b → old.halted ≡ false → Drives g old new b whole ds
   drives fit b keeps goes =
       let all = subst (λ bs. Reached g old b new bs ds) all_behind (drove.reached fit b keeps goes) in
-      record { answers = all.0; replies = replies_told old.kept b whole ds all.0; leads = all.1 }
+      record { answers = all.0; replies = replies_told old.kept b whole ds all.0; leads = all.1; passes = all.2 }
 
   pub all_later : old.halted ≡ true → ds ≡ all_halted whole
   all_later h = drove.later h ∙ ap all_halted all_behind

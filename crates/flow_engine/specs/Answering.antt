@@ -4,6 +4,7 @@ use Rattle.sqlite_trees.specs.declared.store.Store.{Ghosts}
 use Rattle.flow_base.specs.declared.command.Command.{Command}
 use Rattle.flow_model.specs.Apply.{Rules, outcome, after, after_one}
 use Rattle.flow_model.specs.Book.{Book}
+use Rattle.flow_base.specs.declared.code.Code.TheVariants as code
 use Rattle.flow_view.specs.Codes.{view_fault_code}
 use Rattle.flow_machine.specs.Answers.{CausedAnswer}
 use Rattle.flow_machine.specs.declared.answer.Answer.{Answer}
@@ -155,9 +156,15 @@ pub record HasRun {S : Type 0} (g : Ghosts S) (old new : Keeping S) (commands : 
   pub told : given dones ≡ answers
   pub stop : first_stop dones ≡ stops
 
--- That, or nothing was done for want of memory.
+-- Nothing was done for want of memory, and each command is answered so.
+pub record HasNoMemory {S : Type 0} (old new : Keeping S) (commands : List Command) (answers : List Answer) (stops : Option Stop) : Type 0 where
+  pub same : new ≡ old
+  pub told : answers ≡ map (λ _. answer.NotApplied code.NoMemory) commands
+  pub stop : stops ≡ None
+
+-- the one or the other
 abbrev pub IsPart : {S : Type 0} → Ghosts S → Keeping S → Keeping S → List Command → List Answer → Option Stop → Type 0
-IsPart g old new commands answers stops = HasRun g old new commands answers stops ⊎ (new ≡ old)
+IsPart g old new commands answers stops = HasRun g old new commands answers stops ⊎ HasNoMemory old new commands answers stops
 
 abbrev pub IsPartUpTo : {S : Type 0} → Ghosts S → Keeping S → Keeping S → List Command → Unanswered → Type 0
 IsPartUpTo g old new commands unanswered.NoMemory = new ≡ old

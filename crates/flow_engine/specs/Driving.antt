@@ -11,6 +11,8 @@ use Rattle.flow_machine.specs.declared.submission.Receipt.{Receipt}
 use Rattle.sqlite.specs.Tree.{Trees}
 use Rattle.flow_tables.specs.Owned.{state_of, IsFileOf, LeavesEither}
 use Rattle.flow_commit.specs.Keeping.{Keeping, rules, IsFit, IsUp, IsWell, KeepsBook, HasKept, HasRefused, IsUnknown, commands_of, receipts_of}
+use Rattle.flow_commit.specs.Committing.{IsFor}
+use Rattle.flow_commit.specs.declared.outcome.Outcome.TheVariants as outcomes
 use Rattle.flow_engine.specs.declared.done.Done.{Done}
 use Rattle.flow_engine.specs.declared.done.Done.TheVariants as done
 
@@ -20,6 +22,13 @@ HasDone g old new b batch (done.Kept receipts) = (old.halted ≡ false) × HasKe
 HasDone g old new b batch (done.NotApplied f) = (old.halted ≡ false) × HasRefused g old new b
 HasDone g old new b batch done.Unknown = (old.halted ≡ false) × IsUnknown g old new b batch
 HasDone g old new b batch done.Halted = (old.halted ≡ true) × (new ≡ old)
+
+-- and why it has, over a book that was kept
+abbrev pub IsDoneFor : {S : Type 0} → Ghosts S → Keeping S → Keeping S → Book → List Taken → Done → Type 0
+IsDoneFor g old new b batch (done.Kept receipts) = Unit {0}
+IsDoneFor g old new b batch (done.NotApplied f) = IsFor g old new b batch (outcomes.NotApplied batch f)
+IsDoneFor g old new b batch done.Unknown = IsFor g old new b batch (outcomes.Unknown batch)
+IsDoneFor g old new b batch done.Halted = Unit {0}
 
 -- What is noted of a batch, whatever the disk tells: one that is kept is counted and has a receipt for each command, and behind
 -- one of which nobody knows the engine has halted.
@@ -108,6 +117,14 @@ receipts_told batches ds = gathered receipts_in batches ds
 abbrev pub replies_of : List (List Taken) → List Done → List Reply
 replies_of batches ds = gathered replies_in batches ds
 
+-- From engine to engine: what each batch has done over the book that those before it left, and why it has.
+abbrev pub Passes : {S : Type 0} → Ghosts S → Keeping S → Keeping S → Book → List (List Taken) → List Done → Type 0
+Passes g old new b [] [] = new ≡ old
+Passes g old new b [] (d ∷ ds) = ⊥
+Passes g old new b (batch ∷ batches) [] = ⊥
+Passes {S} g old new b (batch ∷ batches) (d ∷ ds) =
+    (mid : Keeping S) × HasDone g old mid b batch d × IsDoneFor g old mid b batch d × Passes g mid new (after rules b (if_kept batch d)) batches ds
+
 ---- What is noted of them, whatever the disk tells
 
 -- A kept batch has a receipt for each command; after one of which nobody knows all are halted.
@@ -142,6 +159,7 @@ pub record Drives {S : Type 0} (g : Ghosts S) (old new : Keeping S) (b : Book) (
   pub answers : AreAnswers old.kept b batches dones
   pub replies : replies_of batches dones ≡ replies rules b (kept_of batches dones)
   pub leads : LeadsTo g old new b (has_unknown dones) (kept_of batches dones) (in_hand batches dones)
+  pub passes : Passes g old new b batches dones
 
 -- From a sound book every book that is reached is sound: that after any beginning of these commands.
 abbrev pub ReachesSound : Book → List Command → Type 0

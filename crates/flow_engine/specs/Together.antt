@@ -4,6 +4,7 @@ use Rattle.sqlite_trees.specs.declared.store.Store.{Ghosts}
 use Rattle.flow_base.specs.declared.command.Command.{Command}
 use Rattle.flow_model.specs.Apply.{after, replies}
 use Rattle.flow_model.specs.Book.{Book}
+use Rattle.flow_base.specs.declared.code.Code.TheVariants as code
 use Rattle.flow_view.specs.Codes.{view_fault_code}
 use Rattle.flow_machine.specs.Answers.{AnswersTogether, CausedTogether, CountsTogether}
 use Rattle.flow_machine.specs.declared.answer.Stop.{Stop}
@@ -51,9 +52,9 @@ pub record HasRunOnce {S : Type 0} (g : Ghosts S) (old new : Keeping S) (command
   pub runs : Runs g old new (batch ∷ []) (done ∷ [])
   pub told : IsToldOf done result
 
--- That, or nothing was done for want of memory.
+-- That, or nothing was done for want of memory, and they are answered so.
 abbrev pub IsOnePart : {S : Type 0} → Ghosts S → Keeping S → Keeping S → List Command → Result Together Stop → Type 0
-IsOnePart g old new commands result = HasRunOnce g old new commands result ⊎ (new ≡ old)
+IsOnePart g old new commands result = HasRunOnce g old new commands result ⊎ ((new ≡ old) × (result ≡ Ok (together.NotApplied code.NoMemory)))
 
 -- What becomes of them.
 pub record IsTogether {S : Type 0} (g : Ghosts S) (old new : Keeping S) (commands : List Command) (result : Result Together Stop) : Type 0 where

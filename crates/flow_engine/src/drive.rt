@@ -5,7 +5,7 @@ ghost use Rattle.sqlite.specs.Tree.{Trees};
 ghost use Rattle.flow_tables.specs.Owned.{state_of};
 ghost use Rattle.flow_commit.specs.Keeping.{IsFit, IsUp, IsWell, KeepsBook, kept_book};
 ghost use Rattle.flow_engine.specs.declared.done.Done.TheVariants as dones;
-ghost use Rattle.flow_engine.specs.Driving.{HasDone, IsNoted, NotesAll, Drives, IsLeft, ReachesSound, ReachesWell, Runs, all_halted, kept_of, in_hand};
+ghost use Rattle.flow_engine.specs.Driving.{HasDone, IsDoneFor, IsNoted, NotesAll, Drives, IsLeft, ReachesSound, ReachesWell, Runs, all_halted, kept_of, in_hand};
 
 use crate::done::Done;
 use crate::engine::Engine;
@@ -18,6 +18,7 @@ use std::alloc::AllocError;
 pub(crate) fn done_with<S: Alter>(engine: &mut Engine<S>, batch: Batch) -> Done
     ensures fit { IsFit S.Store engine.new → IsFit S.Store engine.old }
     ensures does { IsFit S.Store engine.new → (b : Book) → KeepsBook S.Store engine.old b → HasDone S.Store engine.old engine.new b batch result }
+    ensures cause { IsFit S.Store engine.new → (b : Book) → KeepsBook S.Store engine.old b → IsDoneFor S.Store engine.old engine.new b batch result }
     ensures halted { engine.old.halted ≡ true → engine.new ≡ engine.old }
     ensures later { engine.old.halted ≡ true → result ≡ dones.Halted }
     ensures same { engine.new.stored.opened ≡ engine.old.stored.opened }
@@ -45,6 +46,7 @@ pub fn drive<S: Alter>(
     batches: Vec<Batch>,
 ) -> Result<Vec<Done>, (Vec<Batch>, AllocError)>
     ensures fit { IsFit S.Store engine.new → IsFit S.Store engine.old }
+    // Each answer over the book that the batches before it left, and why it was given.
     ensures drives { IsFit S.Store engine.new → (b : Book) → KeepsBook S.Store engine.old b → engine.old.halted ≡ false → IfOk result (λ ds. Drives S.Store engine.old engine.new b batches.items ds.items) }
     // Every book on the way is sound, and so is the one that a batch in hand may have led to.
     ensures sound { IfOk result (λ ds. (b : Book) → ReachesSound b (kept_of batches.items ds.items ++ in_hand batches.items ds.items)) }

@@ -1,4 +1,4 @@
-use Rattle.std.proofs.Common.{[], ◌∷◌, sym, ap, inr, subst}
+use Rattle.std.proofs.Common.{[], ◌∷◌, refl, sym, ap, inr, subst}
 use Rattle.std.proofs.lemmas.Result.{IfOk-weaker, IfErr-weaker}
 use Rattle.flow_commit.specs.Keeping.{rules, kept_book}
 use Rattle.flow_engine.specs.Driving.{commands_in}
@@ -43,4 +43,4 @@ returns-in-Ok-clause-part g c t is =
     c.one_answer.result c.one_answer.ensures.given c.one_answer.ensures.stops
 
 pub returns-clause-part : goal.returns-clause-part
-returns-clause-part g c t is = inr c.in-Err.ensures.same
+returns-clause-part g c t is = inr (record { same = c.in-Err.ensures.same; told = refl; stop = refl })

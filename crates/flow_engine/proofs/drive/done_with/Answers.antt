@@ -1,3 +1,7 @@
+use Rattle.std.proofs.Common.{List, subst}
+use Rattle.flow_machine.specs.declared.submission.Taken.{Taken}
+use Rattle.flow_commit.specs.Committing.{IsFor}
+use Rattle.flow_commit.specs.declared.outcome.Outcome.TheVariants.{NotApplied}
 use Rattle.flow_engine.proofs.drive.done_with.Goals as goal
 
 pub returns-in-Kept-clause-does : goal.returns-in-Kept-clause-does
@@ -14,3 +18,8 @@ pub returns-in-Unknown-clause-does : goal.returns-in-Unknown-clause-does
 returns-in-Unknown-clause-does g c fit b keeps =
     let h = c.in-Unknown.ensures.commits fit b keeps in
     (h.0, h.2)
+
+pub returns-in-NotApplied-clause-cause : goal.returns-in-NotApplied-clause-cause
+returns-in-NotApplied-clause-cause g c fit b keeps =
+    let h = c.in-NotApplied.ensures.commits fit b keeps in
+    subst (λ (batch : List Taken). IsFor g.S.Store c.args.engine.now c.commit.new.self b c.args.batch (NotApplied batch c.in-NotApplied.fault)) h.1 (c.in-NotApplied.ensures.cause fit b keeps)

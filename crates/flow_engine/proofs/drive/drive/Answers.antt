@@ -19,7 +19,7 @@ loop-batch-preserved g c =
       drove =
           subst (Drove g.S.Store c.args.engine.now c.done_with.new.engine c.args.batches.items (into_iter_items c.next.new.self)) (sym pushed.items)
           (drove_more g.S.Store c.args.engine.now c.loop-batch.engine c.done_with.new.engine c.args.batches.items (into_iter_items c.loop-batch.batch-iterator) (into_iter_items c.next.new.self) c.loop-batch.dones.items c.in-Some.batch c.done_with.result next.0 was.drove
-          c.done_with.ensures.fit c.done_with.ensures.does c.done_with.ensures.halted c.done_with.ensures.later
+          c.done_with.ensures.fit c.done_with.ensures.does c.done_with.ensures.cause c.done_with.ensures.halted c.done_with.ensures.later
           c.done_with.ensures.noted c.done_with.ensures.same c.done_with.ensures.up c.done_with.ensures.own);
     }
 
