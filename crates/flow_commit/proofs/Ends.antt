@@ -1,6 +1,6 @@
 -- How a commit ends.
 use Rattle.std.proofs.Common.{◌≡◌, ◌⊎◌, inl, inr, ℕ, suc, ◌+◌, false, List, [], ◌∷◌, length, Result, Ok, Err, refl, ap, ◌∙◌, subst, arith}
-use Rattle.std.specs.Prelude.{IfOk}
+use Rattle.std.specs.Prelude.{IfOk, OnOk}
 use Rattle.sqlite_trees.specs.declared.store.Store.{Ghosts}
 use Rattle.flow_base.specs.declared.command.Reply.{Reply}
 use Rattle.flow_model.specs.Book.{Book}
@@ -11,11 +11,10 @@ use Rattle.flow_tables.specs.Owned.{Keeps, state_of}
 use Rattle.flow_view.specs.Reading.{Caused}
 use Rattle.flow_view.specs.declared.fault.ViewFault.{ViewFault}
 use Rattle.flow_view.specs.declared.fault.ViewFault.TheVariants as fault
-use Rattle.flow_machine.specs.Stuck.{IsStuckWithin}
 use Rattle.flow_commit.specs.declared.outcome.Outcome.TheVariants as outcomes
 use Rattle.flow_commit.specs.declared.transaction.End.{End}
 use Rattle.flow_commit.specs.declared.transaction.End.TheVariants as end
-use Rattle.flow_commit.specs.Committing.{EndsFor, IsFor, WasGivenUp}
+use Rattle.flow_commit.specs.Committing.{CantBeApplied, EndsFor, IsFor, WasGivenUp}
 use Rattle.flow_commit.specs.Keeping.{Keeping, rules, HasKept, commands_of, receipt_of, receipts_of, receipts_with}
 
 -- where commands or replies have come to their end, nothing more is made
@@ -50,9 +49,14 @@ kept_all g old new b batch rs receipts ends told counts goes = record {
 
 ---- Why it ends so
 
-pub ok_on : {A : Type 0} (P Q : A → Type 0) (r : Result A ViewFault) → ((v : A) → P v → Q v) → IfOk r P → IfOk r Q
-ok_on P Q (Ok v) on h = on v h
-ok_on P Q (Err f) on h = tt
+-- what follows of a result's value, by three clauses on it
+pub ok_on : {A : Type 0} (P T : A → Type 0) (Q G : Type 0) (r : Result A ViewFault) → ((v : A) → P v → Q → G → T v) → IfOk r P → OnOk r Q → OnOk r G → IfOk r T
+ok_on P T Q G (Ok v) on p q g = on v p q g
+ok_on P T Q G (Err f) on p q g = tt
+
+pub done_on : {A : Type 0} (G T : Type 0) (r : Result A ViewFault) → (G → T) → OnOk r G → OnOk r T
+done_on G T (Ok v) on h = on h
+done_on G T (Err f) on h = tt
 
 pub caused_on : {A : Type 0} (C D : Type 0) (r : Result A ViewFault) → (C → D) → Caused r C → Caused r D
 caused_on C D (Ok v) on h = tt
@@ -78,6 +82,6 @@ refused_for W U fault.NoMemory h = tt
 refused_for W U fault.StoreRefused h = h refl
 
 pub not_applied_for : {S : Type 0} (g : Ghosts S) (old new : Keeping S) (b : Book) (batch back : List Taken) (f : ViewFault) (U : Type 0)
-    → EndsFor (IsStuckWithin rules b (commands_of batch) ⊎ WasGivenUp g old.stored new.stored) U (end.Refused f) → IsFor g old new b batch (outcomes.NotApplied back f)
+    → EndsFor (CantBeApplied b (commands_of batch) ⊎ WasGivenUp g old.stored new.stored) U (end.Refused f) → IsFor g old new b batch (outcomes.NotApplied back f)
 not_applied_for g old new b batch back fault.NoMemory U h = tt
 not_applied_for g old new b batch back fault.StoreRefused U h = inr h

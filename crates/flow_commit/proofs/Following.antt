@@ -4,6 +4,7 @@ use Rattle.sqlite_trees.specs.declared.store.Store.{Ghosts}
 use Rattle.sqlite.specs.Held.{state}
 use Rattle.flow_model.specs.Book.{Book}
 use Rattle.flow_tables.specs.Owned.{Stored, IsFit, IsUp, is_sure, IsHindered, IsOurs, Follows, Keeps, LeavesEither, LeavesWritten, IsFileOf, state_of}
+use Rattle.flow_tables.proofs.Stopping.{since_self}
 
 module _ {S : Type 0} (g : Ghosts S) (a b : Stored S) (follows : Follows g a b) (fit : IsFit g b) where
   pub fit_before : IsFit g a
@@ -19,7 +20,7 @@ module _ {S : Type 0} (g : Ghosts S) (a b : Stored S) (follows : Follows g a b) 
   either_behind k k' h db may = inl ((keeps_behind k h).stops db may)
 
 pub follows_self : {S : Type 0} (g : Ghosts S) (a : Stored S) → Follows g a a
-follows_self g a = (refl, λ ours clean. (clean, λ b keeps. keeps), λ ours clean up. up)
+follows_self g a = (refl, λ ours clean. (clean, λ b keeps. keeps), λ ours clean up. up, λ ours clean. since_self (state_of g a))
 
 -- what was written is what apply makes of the book
 pub written_either : {S : Type 0} (g : Ghosts S) (b : Stored S) (sure : Type 0) (k k' k'' : Book) → (sure → k' ≡ k'') → LeavesWritten sure (state_of g b) k k' → LeavesEither (state_of g b) k k''

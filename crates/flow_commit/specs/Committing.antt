@@ -6,6 +6,8 @@ use Rattle.flow_model.specs.Book.{Book}
 use Rattle.flow_model.specs.Apply.{after, replies}
 use Rattle.flow_machine.specs.declared.submission.Taken.{Taken}
 use Rattle.flow_machine.specs.Stuck.{IsStuckWithin}
+use Rattle.flow_machine.specs.Fitting.{IsUnfitWithin}
+use Rattle.flow_tables.specs.Puts.{IsUnfit}
 use Rattle.flow_view.specs.declared.fault.ViewFault.TheVariants as fault
 use Rattle.flow_tables.specs.Faults.{WasStopped, FailsWithin}
 use Rattle.flow_tables.specs.States.{HasGoneBack}
@@ -30,10 +32,14 @@ HasReplies count end.Unknown = Unit {0}
 
 ---- Why nothing is kept
 
+-- Commands can't be applied to a book: one of them can't be decided there, or makes a change that doesn't fit.
+abbrev pub CantBeApplied : Book → List Command → Type 0
+CantBeApplied b cs = IsStuckWithin rules b cs ⊎ IsUnfitWithin IsUnfit rules b cs
+
 -- The store refused something of a transaction, and what it had begun was rolled back.
 abbrev pub WasGivenUp : {S : Type 0} → Ghosts S → Stored S → Stored S → Type 0
 WasGivenUp {S} g old new =
-    (mid : Stored S) × Follows g old mid × (WasStopped (codes "BEGIN") (state_of g old) (state_of g mid) ⊎ Refuses g mid) × HasGoneBack g mid.held new.held
+    (mid : Stored S) × Follows g old mid × (WasStopped (codes "BEGIN") (state_of g old) (state_of g mid) ⊎ Refuses g old mid) × HasGoneBack g mid.held new.held
 
 -- The store refused the commit, or the way back.
 abbrev pub WasCutOff : {S : Type 0} → Ghosts S → Stored S → Stored S → Type 0
@@ -52,7 +58,7 @@ HasNoRoom kept batch = 2 ^ 63 ≤ kept + length batch
 
 -- and a commit, over a book that is kept
 abbrev pub IsFor : {S : Type 0} → Ghosts S → Keeping S → Keeping S → Book → List Taken → Outcome → Type 0
-IsFor g old new b batch (outcomes.NotApplied back fault.StoreRefused) = HasNoRoom old.kept batch ⊎ (IsStuckWithin rules b (commands_of batch) ⊎ WasGivenUp g old.stored new.stored)
+IsFor g old new b batch (outcomes.NotApplied back fault.StoreRefused) = HasNoRoom old.kept batch ⊎ (CantBeApplied b (commands_of batch) ⊎ WasGivenUp g old.stored new.stored)
 IsFor g old new b batch (outcomes.Unknown back) = WasCutOff g old.stored new.stored
 IsFor g old new b batch _ = Unit {0}
 

@@ -10,6 +10,12 @@ pub record Gives (reply : Reply) (changes : List Change) (o : Outcome) : Type 0 
   pub reply_is : reply ≡ o.reply
   pub changes_are : changes ≡ o.changes
 
+-- This reply and these changes are the outcome, and the book is as it was.
+pub record Finds (old new : Book) (reply : Reply) (changes : List Change) (o : Outcome) : Type 0 where
+  pub reply_is : reply ≡ o.reply
+  pub changes_are : changes ≡ o.changes
+  pub still : new ≡ old
+
 -- This reply and these changes are the outcome, and the book is changed by it.
 pub record Decides (old new : Book) (reply : Reply) (changes : List Change) (o : Outcome) : Type 0 where
   pub reply_is : reply ≡ o.reply

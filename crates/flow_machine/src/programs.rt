@@ -1,5 +1,5 @@
 //! The program that a text of a view is.
-ghost use Rattle.std.specs.Prelude.{◌≡◌, ◌⊎◌, IfOk, Ok, Some, None};
+ghost use Rattle.std.specs.Prelude.{◌≡◌, ◌⊎◌, IfOk, OnOk, Ok, Some, None};
 ghost use Rattle.flow_check.specs.Shown.{shown_checked};
 ghost use Rattle.flow_model.specs.Apply.{program_at, program_if};
 ghost use Rattle.flow_view.specs.Reading.{Caused, Reads};
@@ -37,8 +37,10 @@ pub(crate) fn program_of<V: View, T: Texts>(
     text: TextNo,
 ) -> Result<Checked, ViewFault>
     ensures reads { IfOk result (λ p. Reads (V.is_sure view.new) (V.book view.old) (V.book view.new) (Some (shown_checked p)) (program_at T.meaning (V.book view.old) text)) }
-    ensures cause { Caused result (V.refuses view.new ⊎ (V.is_sure view.new → program_at T.meaning (V.book view.old) text ≡ None)) }
+    ensures cause { (a : V) → V.follows a view.old → V.is_true view.new → V.is_sure view.old → Caused result (V.refuses a view.new ⊎ program_at T.meaning (V.book view.old) text ≡ None) }
+    ensures goes_on { OnOk result (V.is_true view.new → V.is_sure view.old → V.is_sure view.new) }
     ensures sure { V.is_sure view.new → V.is_sure view.old }
+    ensures was_true { V.is_true view.new → V.is_true view.old }
     ensures follows { (a : V) → V.follows a view.old → V.follows a view.new }
 {
     match view.text(text)? {

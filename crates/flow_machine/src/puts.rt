@@ -1,5 +1,6 @@
 //! Changes that a command makes: listed, and put into a view.
-ghost use Rattle.std.specs.Prelude.{◌≡◌, ◌∷◌, [], IfOk, OnOk};
+ghost use Rattle.std.specs.Prelude.{◌≡◌, ◌⊎◌, ◌∷◌, [], IfOk, OnOk};
+ghost use Rattle.flow_machine.specs.Fitting.{HasUnfit};
 ghost use Rattle.flow_model.specs.Book.{changed_by};
 ghost use Rattle.flow_view.specs.Reading.{Caused};
 
@@ -20,29 +21,14 @@ pub fn one(alloc: Global, change: Change) -> Result<Vec<Change>, AllocError>
 /// Puts changes into a view, in their order.
 pub fn put_all<V: View>(view: &mut V, changes: &[Change]) -> Result<(), ViewFault>
     ensures put { OnOk result (V.is_sure view.new → V.book view.new ≡ changed_by (V.book view.old) changes.now) }
-    ensures cause { Caused result (V.refuses view.new) }
+    ensures cause { (a : V) → V.follows a view.old → V.is_true view.new → V.is_sure view.old → Caused result (V.refuses a view.new ⊎ HasUnfit V.unfit (V.book view.old) changes.now) }
+    ensures goes_on { OnOk result (V.is_true view.new → V.is_sure view.old → V.is_sure view.new) }
     ensures sure { V.is_sure view.new → V.is_sure view.old }
+    ensures was_true { V.is_true view.new → V.is_true view.old }
     ensures follows { (a : V) → V.follows a view.old → V.follows a view.new }
 {
     for change in changes {
         view.put(change)?;
     }
     Ok(())
-}
-
-/// Puts a change into a view, and lists it.
-pub fn put_one<V: View>(
-    alloc: Global,
-    view: &mut V,
-    change: Change,
-) -> Result<Vec<Change>, ViewFault>
-    ensures listed { IfOk result (λ v. v.items ≡ change ∷ []) }
-    ensures put { OnOk result (V.is_sure view.new → V.book view.new ≡ changed_by (V.book view.old) (change ∷ [])) }
-    ensures cause { Caused result (V.refuses view.new) }
-    ensures sure { V.is_sure view.new → V.is_sure view.old }
-    ensures follows { (a : V) → V.follows a view.old → V.follows a view.new }
-{
-    let changes = one(alloc, change)?;
-    put_all(view, &changes)?;
-    Ok(changes)
 }

@@ -15,3 +15,4 @@ pub mod Rising
 pub mod Columns
 pub mod Reading
 pub mod Found
+pub mod Refusing

@@ -21,19 +21,8 @@ use Rattle.sqlite.specs.declared.error.ErrorCode.TheVariants.{OutOfMemory}
 use Rattle.sqlite.specs.declared.error.Error.TheVariants.{SqliteFailure}
 use Rattle.flow_tables.specs.declared.fault.Refusal.{Refusal}
 use Rattle.flow_tables.specs.declared.fault.Refusal.TheVariants.{NoMemory, Stopped, Unfit}
-use Rattle.flow_tables.specs.Faults.{IsRefusedWith, WasRefused, WasDenied, Because, refusal_of}
+use Rattle.flow_tables.specs.Faults.{Because}
 use Rattle.flow_tables.specs.Puts.{AreUnfit, IsUnfitTurn}
-
-pub refused_with : {S : Type 0} (g : Ghosts S) (old new : Held S) (sql : List ℕ) (params : Row) (e : Error) → Executes sql params (state g old) (state g new) (Err e) → IsRefusedWith g (state g new) e
-refused_with g old new sql params e h = (old, sql, params, inl h)
-
-pub refused_so : {S : Type 0} (g : Ghosts S) (old new : Held S) (sql : List ℕ) (params : Row) (e : Error) → Executes sql params (state g old) (state g new) (Err e) → WasRefused g (state g new)
-refused_so g old new sql params e h = (e, refused_with g old new sql params e h)
-
-pub if_refused : {S : Type 0} (g : Ghosts S) (old new : Held S) (sql : List ℕ) (params : Row) (r : Result Unit Error) → IfErr r (λ e. Executes sql params (state g old) (state g new) (Err e))
-    → IfErr r (λ e. IsRefusedWith g (state g new) e)
-if_refused g old new sql params (Ok u) h = tt
-if_refused g old new sql params (Err e) h = refused_with g old new sql params e h
 
 -- an event past the limits of a row isn't read from its row
 pub unreadable : (e : Event) (fits : Bool) → (IsTrue fits ↔ IsWithinLimits e) → fits ≡ false → IsReadable e → ⊥
@@ -59,29 +48,6 @@ pub because_on : (W V U T : Type 0) (f : Refusal) → (W → V) → (U → T) �
 because_on W V U T NoMemory stop unfit h = h
 because_on W V U T Stopped stop unfit h = stop h
 because_on W V U T Unfit stop unfit h = unfit h
-
-store_so : (W U : Type 0) (e : Error) → W → Because (refusal_of e) W U
-store_so W U (SqliteFailure OutOfMemory) w = tt
-store_so W U e w = w
-
--- a statement's error
-pub stopped_so : (W U : Type 0) (f : Refusal) (e : Error) → f ≡ refusal_of e → W → Because f W U
-stopped_so W U f e is w = subst (λ x. Because x W U) (sym is) (store_so W U e w)
-
--- an error that stops a change isn't the want of memory
-other_error : (e : Error) → Stopped ≡ refusal_of e → e ≢ SqliteFailure OutOfMemory
-other_error e is same = let clash = is ∙ ap refusal_of same in cc
-
-denied_so : {S : Type 0} (g : Ghosts S) (new : State) (U : Type 0) (e : Error) → IsRefusedWith g new e → Because (refusal_of e) (WasDenied g new) U
-denied_so g new U (SqliteFailure OutOfMemory) h = tt
-denied_so g new U e h = (e, other_error e refl, h)
-
--- a statement's error, which isn't told as another
-pub denied_by : {S : Type 0} (g : Ghosts S) (new : State) (U : Type 0) (f : Refusal) (e : Error) → f ≡ refusal_of e → IsRefusedWith g new e → Because f (WasDenied g new) U
-denied_by g new U f e is h = subst (λ x. Because x (WasDenied g new) U) (sym is) (denied_so g new U e h)
-
-pub denied_refused : {S : Type 0} (g : Ghosts S) (new : State) → WasDenied g new → WasRefused g new
-denied_refused g new h = (h.0, h.2)
 
 -- a number past the last one
 pub asked_stops : (W : Type 0) (from at i : ℕ) (cs : List Cmd) (f : Refusal) → i < length cs → Because f ⊥ (1 ≤ from + i → 2 ^ 63 ≤ from + i) → Because f W (1 ≤ from → AreUnfit from at cs)

@@ -5,6 +5,7 @@ pub mod BookReads
 pub mod Owning
 pub mod Wholes
 pub mod Causes
+pub mod Stopping
 pub mod Reasons
 pub mod Knowing
 pub mod Succession

@@ -15,11 +15,12 @@ use Rattle.flow_rows.proofs.Telling.{told}
 use Rattle.flow_rows.proofs.WholeChanges.{change_told}
 use Rattle.flow_tables.specs.declared.known.Known.{Known}
 use Rattle.flow_tables.specs.Known.{IsKnown}
-use Rattle.flow_tables.specs.Owned.{IsAware, IsFileOf, IsOwn, IsSure, Keeps, KeepsOn, WasUp, ReadsBook, TellBook, IsNoted, book_of}
+use Rattle.flow_tables.specs.Owned.{IsAware, IsFileOf, IsOwn, IsSure, Keeps, KeepsOn, WasUp, HasCounted, ReadsBook, TellBook, IsNoted, book_of}
 use Rattle.flow_sql.specs.Stored.{tables_in}
 use Rattle.flow_sql.specs.States.{AreOurs, HasTables, IsOver, Holds, IsStill, IsRefused, IsUndone, HasBegun, HasCommitted, HasEnded, Changes}
 use Rattle.flow_tables.specs.Puts.{IsCutShort}
 use Rattle.flow_sql.proofs.Leaves.{error_leaves, was_clean}
+use Rattle.flow_tables.proofs.Stopping.{since_then, survived}
 use Rattle.flow_tables.proofs.Stops.{IsSettled}
 
 module _ (old new : State) where
@@ -218,6 +219,15 @@ module _ (old new : State) (ours : Type 0) (ro rn : Option Refusal) (owned : our
         go (Ok v) h = refused_leaves old new ((owned fit (clean now)).whole inside none).0 (inl h.0)
         go (Err f) h = refused_leaves old new ((owned fit (clean now)).whole inside none).0 h
 
+    -- the transaction goes on to show a book
+    pub read_sure : (X : Type 0) → OnOk result (ours × HasCleanDisk new → X → IsSure ours new rn)
+    read_sure X = go result (λ fit now. told_at fit now) noted
+      where
+        go : (r : Result A ViewFault) → (ours → HasCleanDisk new → MatchResult r (λ v. IsStill true old new × (v ≡ value (book_of old.now.trees))) (λ _. IsRefused true old new)) → IsNoted noted_fault r ro rn
+            → OnOk r (ours × HasCleanDisk new → X → IsSure ours new rn)
+        go (Ok v) h n = λ fit x. record { fit = fit.0; clean = fit.1; mode = (h fit.0 fit.1).0.0.mode; none = n ∙ none }
+        go (Err f) h n = tt
+
     pub read_told : IfOk result (λ v. IsSure ours new rn → (book_of new.now.trees ≡ book_of old.now.trees) × (v ≡ value (book_of old.now.trees)))
     read_told = go result (λ fit now. told_at fit now)
       where
@@ -235,13 +245,15 @@ module _ (old new : State) (ours : Type 0) (ro rn : Option Refusal) (owned : our
         go (Ok v) h n = λ _ _. subst (λ (d : Database). IsKnown k (tables_in d.trees)) (sym h.0.1) (aware fit (clean now) none inside)
         go (Err f) h n = λ same _. absurd (let clash = sym n ∙ same in cc)
 
-  pub follows_on : (a : State) → (ours → Holds true old → Survives old new (λ _. ⊥)) → (ours → HasCleanDisk new → LeavesCommit old new) → KeepsOn ours a old → WasUp ours a old → KeepsOn ours a new × WasUp ours a new
-  follows_on a survives leaves before up = (
+  pub follows_on : (a : State) → (ours → Holds true old → Survives old new (λ _. ⊥)) → (ours → HasCleanDisk new → LeavesCommit old new) → KeepsOn ours a old → WasUp ours a old → HasCounted ours a old
+      → KeepsOn ours a new × WasUp ours a new × HasCounted ours a new
+  follows_on a survives leaves before up counted = (
     λ fit now.
         let on = keeps_on old new ours (λ fit. survives fit (holds fit)) leaves fit now in
         let was = before fit on.0 in
         (was.0, λ b h. on.1 b (was.1 b h)),
     λ fit now shown. up fit (clean now) ((leaves fit now).was_open shown),
+    λ fit now. since_then a old new (counted fit (clean now)) (survived old new _ (survives fit (holds fit))),
   )
 
   module _ (result : Result Unit Refusal) (c : Change) (k : Known) (aware : ours → HasCleanDisk old → IsAware old ro k)
@@ -268,6 +280,14 @@ module _ (old new : State) (ours : Type 0) (ro rn : Option Refusal) (owned : our
             → LeavesCommit old new
         go (Ok v) h = record { was_open = λ _. up; same = λ _. h.1.committed }
         go (Err f) h = cut_leaves old new up h
+
+    pub put_sure : (X : Type 0) → OnOk (told_answer result) (ours × HasCleanDisk new → X → IsSure ours new rn)
+    put_sure X = go result (λ fit now. put_at fit now) noted
+      where
+        go : (r : Result Unit Refusal) → (ours → (now : HasCleanDisk new) → MatchResult r (λ _. FitsTables (book_of old.now.trees) c × Changes old new (after_change c (tables_in old.now.trees))) (λ _. IsCutShort old new))
+            → IsNoted (λ x. x) r ro rn → OnOk (told_answer r) (ours × HasCleanDisk new → X → IsSure ours new rn)
+        go (Ok v) h n = λ fit x. record { fit = fit.0; clean = fit.1; mode = (h fit.0 fit.1).1.over.mode; none = n ∙ none }
+        go (Err f) h n = tt
 
     pub put_told : IsTypedChange c → OnOk (told_answer result) (IsSure ours new rn → book_of new.now.trees ≡ changed (book_of old.now.trees) c)
     put_told typed = go result (λ fit now. put_at fit now)

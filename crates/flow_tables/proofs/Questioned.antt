@@ -16,16 +16,17 @@ use Rattle.flow_rows.specs.Rows.{Tables}
 use Rattle.flow_rows.specs.Finding.{first}
 use Rattle.flow_tables.specs.declared.fault.StoreFault.{StoreFault}
 use Rattle.flow_tables.specs.declared.fault.StoreFault.TheVariants.{NoMemory, Refused}
-use Rattle.flow_tables.specs.Asking.{IsAsked, IsFirst, IsValue, IsRecalled, IsChanged}
+use Rattle.flow_tables.specs.Asking.{IsAsked, IsFirst, IsValue, IsRecalled, IsChanged, StopsAsk}
 use Rattle.flow_sql.specs.Meaning.{IsRead, Asks, IsQuestion, Alters, IsRowChange}
 use Rattle.flow_rows.specs.Told.{Tells as TellsBook}
 use Rattle.flow_sql.specs.Stored.{tables_in}
-use Rattle.flow_tables.specs.Faults.{view_fault, IsStopped}
+use Rattle.flow_tables.specs.Faults.{view_fault, IsStopped, StopsWith}
 use Rattle.flow_sql.specs.States.{IsOver, Changes, IsStill, IsRefused, HasEnded, IsAtRest, FirstIs, IsReading}
 use Rattle.flow_tables.specs.Reads.{Tells, IsReadFault}
 use Rattle.flow_sql.proofs.Leaves.{was_clean, error_refused, left_refused, rest_ended}
 use Rattle.flow_sql.proofs.Transactions.{write_survives}
-use Rattle.flow_tables.proofs.Wholes.{read_stopped}
+use Rattle.flow_tables.proofs.Stopping.{read_stopped, change_stopped}
+use Rattle.flow_sql.proofs.Refusing.{question_refused, change_refused}
 use Rattle.flow_sql.proofs.Reading.{answer, still}
 use Rattle.flow_sql.proofs.Compiling.{commits_none, failed, answered}
 
@@ -35,7 +36,7 @@ module _ (sql : List ℕ) (reading : FirstIs IsReading (first_statement sql)) (p
   fault_leaves : (f : StoreFault) → IsReadFault sql params old new f → IsUnchanged old new ⊎ IsRolledBack old new
   fault_leaves NoMemory (inl it) = failed sql reading params old new it.0 it.1
   fault_leaves NoMemory (inr it) = inl (answered sql reading params old new it.0 it.1)
-  fault_leaves (Refused e) (inl it) = failed sql reading params old new e it
+  fault_leaves (Refused e) (inl it) = failed sql reading params old new e it.1
   fault_leaves (Refused e) (inr it) = inl (answered sql reading params old new it.0 it.1)
 
   -- where no transaction runs, a read ends with what the last commit left
@@ -63,15 +64,22 @@ module _ (sql : List ℕ) (q : Query) (names : List (List ℕ)) (it : IsRead sql
 module _ {Q A : Type 0} (said : Row → A) (asks : Q → Asks A) (it : IsQuestion said asks) (q : Q) (old new : State) where
   pub asked : {V : Type 0} (items : V → List A) (r : Result V StoreFault) → (HasCleanDisk new → IfOk r (λ v. Tells said (asks q).sql (asks q).params old new (items v)))
       → (HasCleanDisk new → IfErr r (IsReadFault (asks q).sql (asks q).params old new)) → Survives old new (CommitsShowing (asks q).sql (asks q).params old) → IsAsked (asks q).sql (asks q).params old new r (λ t v. (asks q).tells t (items v))
-  asked items r ok err h = record {
+  asked {V} items r ok err h = record {
     reads = λ inside was clean.
         let over = was (was_clean old new _ h clean) in
         reads_what (asks q).sql it.query it.names (it.is q) (asks q).params old new inside over said items ((asks q).tells (tables_in old.now.trees)) (λ rows a. it.found q old.now.trees over.now.ours rows a) r (ok clean) (err clean);
     clean = λ clean. was_clean old new _ h clean;
     cause = err;
+    stops = λ was clean. stops_so (was (was_clean old new _ h clean)) r (err clean);
     ended = λ clean rest. read_rests (asks q).sql (it.is q).reading (asks q).params old new said items r (ok clean) (err clean) rest;
     survives = commits_none (asks q).sql (it.is q).reading (asks q).params old new h;
   }
+    where
+      stops_so : IsOver true old → (r : Result V StoreFault) → IfErr r (IsReadFault (asks q).sql (asks q).params old new) → IfErr r (StopsAsk (asks q).sql (asks q).params old new)
+      stops_so over (Ok v) h = tt
+      stops_so over (Err NoMemory) h = tt
+      stops_so over (Err (Refused e)) (inl fails) = inl (question_refused old new e fails.0 over (asks q).sql it.query it.names (it.is q) (asks q).params (it.listed q) (it.typed q) (it.summed q) fails.1)
+      stops_so over (Err (Refused e)) (inr rows) = inr (it.listed q, rows.0, rows.1, rows.2)
 
 module _ {A V : Type 0} (sql : List ℕ) (params : Row) (tells : Tables → List A → Type 0) (old new : State) (items : V → List A) where
   pub first_asked : (v : V) (o : Option A) → o ≡ first (items v) → IsAsked sql params old new (Ok v) (λ t x. tells t (items x)) → IsAsked sql params old new (Ok o) (IsFirst tells)
@@ -79,12 +87,13 @@ module _ {A V : Type 0} (sql : List ℕ) (params : Row) (tells : Tables → List
     reads = λ inside was clean. let read = it.reads inside was clean in (read.0, (items v, read.1, is));
     clean = it.clean;
     cause = it.cause;
+    stops = it.stops;
     ended = it.ended;
     survives = it.survives;
   }
 
   pub none_asked : (f : StoreFault) → IsAsked sql params old new (Err f) (λ t x. tells t (items x)) → IsAsked sql params old new (Err f) (IsFirst tells)
-  none_asked f it = record { reads = it.reads; clean = it.clean; cause = it.cause; ended = it.ended; survives = it.survives }
+  none_asked f it = record { reads = it.reads; clean = it.clean; cause = it.cause; stops = it.stops; ended = it.ended; survives = it.survives }
 
 ---- A value of the book
 
@@ -101,7 +110,7 @@ module _ {S A V : Type 0} (g : Ghosts S) (old new : Held S) (sql : List ℕ) (pa
       go b (Ok x) h still = (still, h)
       go b (Err f) h still = inl still
 
-      stops : (b : Book) → (r : Result A ViewFault) → IsValue r (value b) → IfErr r (λ f. f ≡ view.StoreRefused → IsStopped g (state g new))
+      stops : (b : Book) → (r : Result A ViewFault) → IsValue r (value b) → IfErr r (λ f. f ≡ view.StoreRefused → IsStopped g (state g old) (state g new))
       stops b (Ok x) h = tt
       stops b (Err f) h = λ same. absurd (h same)
 
@@ -109,7 +118,7 @@ module _ {S A V : Type 0} (g : Ghosts S) (old new : Held S) (sql : List ℕ) (pa
   unvalued f k same it = record {
     reads = λ clean b told was. it.reads true was clean;
     clean = it.clean;
-    cause = λ clean b told was e. read_stopped g old new sql params f (it.cause clean) (sym same ∙ e);
+    cause = λ clean b told was e. read_stopped g old new sql params (was (it.clean clean)) f (it.stops was clean) (sym same ∙ e);
     survives = it.survives;
   }
 
@@ -122,11 +131,11 @@ IsUncounted (Err f) (Err e) = f ≡ e
 IsUncounted _ _ = ⊥
 
 module _ {S : Type 0} (g : Ghosts S) (does : Alters) (old new : Held S) (it : IsRowChange g does) (h : Survives (state g old) (state g new) (CommitsBy does.sql does.params (state g old))) where
-  pub changed : (r : Result ℕ Error) → (HasCleanDisk (state g new) → Executes does.sql does.params (state g old) (state g new) r) → (x : Result Unit Error) → IsUncounted r x → IsChanged does.sql does.params (state g old) (state g new) x does.fits does.after
+  pub changed : (r : Result ℕ Error) → (HasCleanDisk (state g new) → Executes does.sql does.params (state g old) (state g new) r) → (x : Result Unit Error) → IsUncounted r x → IsChanged g old new x does.fits does.after
   changed r ran x same = record {
     put = λ was fits clean. put (was (was_clean (state g old) (state g new) _ h clean)) fits r (ran clean) x same;
     clean = λ clean. was_clean (state g old) (state g new) _ h clean;
-    cause = λ clean. cause r (ran clean) x same;
+    cause = λ was clean. cause (was (was_clean (state g old) (state g new) _ h clean)) r (ran clean) x same;
     survives = λ was. write_survives does.sql it.command it.is it.writes (state g old) (state g new) does.params was h;
   }
     where
@@ -137,7 +146,9 @@ module _ {S : Type 0} (g : Ghosts S) (does : Alters) (old new : Held S) (it : Is
       put was fits (Err f) ran (Ok done) same = absurd same
       put was fits (Err f) ran (Err e) same = error_refused (state g old) (state g new) does.sql does.params e true was (subst (λ k. Executes does.sql does.params (state g old) (state g new) (Err k)) same ran)
 
-      cause : (r : Result ℕ Error) → Executes does.sql does.params (state g old) (state g new) r → (x : Result Unit Error) → IsUncounted r x → IfErr x (λ e. Executes does.sql does.params (state g old) (state g new) (Err e))
-      cause r ran (Ok done) same = tt
-      cause (Ok count) ran (Err e) same = absurd same
-      cause (Err f) ran (Err e) same = subst (λ k. Executes does.sql does.params (state g old) (state g new) (Err k)) same ran
+      cause : IsOver true (state g old) → (r : Result ℕ Error) → Executes does.sql does.params (state g old) (state g new) r → (x : Result Unit Error) → IsUncounted r x → IfErr x (StopsWith g old new)
+      cause was r ran (Ok done) same = tt
+      cause was (Ok count) ran (Err e) same = absurd same
+      cause was (Err f) ran (Err e) same = λ other.
+          change_stopped g old new does.sql does.params was it.listed
+          (change_refused (state g old) (state g new) e other was does.sql does.params it.command it.is it.writes it.plain it.listed (subst (λ k. Executes does.sql does.params (state g old) (state g new) (Err k)) same ran))

@@ -1,10 +1,11 @@
 -- What is asked of the tables in one statement, and what becomes of it.
-use Rattle.std.specs.Prelude.{◌≡◌, ℕ, Bool, true, List, Option, Result, Ok, Err, MatchResult, IfErr}
+use Rattle.std.specs.Prelude.{◌≡◌, ◌⊎◌, ℕ, Bool, true, List, length, Option, IsSome, Result, Ok, Err, MatchResult, IfErr}
+use Rattle.sqlite_disk.specs.Disk.{MoreFaults}
 use Rattle.sqlite_trees.specs.declared.store.Store.{Ghosts}
 use Rattle.sqlite.specs.declared.error.Error.{Error}
 use Rattle.sqlite.specs.Order.{Row}
 use Rattle.sqlite.specs.Held.{Held, state}
-use Rattle.sqlite.specs.State.{State, HasCleanDisk, Survives, Executes}
+use Rattle.sqlite.specs.State.{State, HasCleanDisk, Survives, Shown}
 use Rattle.flow_model.specs.Book.{Book}
 use Rattle.flow_rows.specs.Rows.{Tables}
 use Rattle.flow_rows.specs.Finding.{first as list_first}
@@ -13,9 +14,18 @@ use Rattle.flow_view.specs.declared.fault.ViewFault.TheVariants as view
 use Rattle.flow_tables.specs.declared.fault.StoreFault.{StoreFault}
 use Rattle.flow_sql.specs.Stored.{tables_in}
 use Rattle.flow_sql.specs.States.{Changes, Holds, IsStill, IsRefused, IsAtRest, HasEnded}
-use Rattle.flow_tables.specs.Reads.{IsReadFault}
-use Rattle.flow_tables.specs.Faults.{IsStopped}
+use Rattle.flow_sql.specs.Meaning.{IsAmong, our_questions}
+use Rattle.flow_tables.specs.declared.fault.StoreFault.TheVariants.{NoMemory, Refused}
+use Rattle.flow_tables.specs.Reads.{IsReadFault, AreMisread}
+use Rattle.flow_tables.specs.Faults.{IsStopped, StopsWith}
 use Rattle.flow_tables.specs.Owned.{ReadsBook, StopsRead}
+
+-- Why a question is not answered: memory ran out, the disk has failed, a limit is set on the steps of a query, or a row of the
+-- answer can't be read.
+abbrev pub StopsAsk : List ℕ → Row → State → State → StoreFault → Type 0
+StopsAsk sql params old new NoMemory = Unit {0}
+StopsAsk sql params old new (Refused e) =
+    (MoreFaults old.faults new.faults ⊎ IsSome old.step_limit) ⊎ (IsAmong our_questions sql (length params) × (rows : List Row) × Shown sql params old new rows × AreMisread rows (Refused e))
 
 -- What becomes of a question: it is answered so, and the tables are as they were, or it was refused, and the transaction may
 -- have ended. Nothing is committed.
@@ -24,6 +34,8 @@ pub record IsAsked {A : Type 0} (sql : List ℕ) (params : Row) (old new : State
       → MatchResult result (λ v. IsStill inside old new × tells (tables_in old.now.trees) v) (λ _. IsRefused inside old new)
   pub clean : HasCleanDisk new → HasCleanDisk old
   pub cause : HasCleanDisk new → IfErr result (IsReadFault sql params old new)
+  -- of our tables within a transaction it is refused for the store, or what it answers can't be read
+  pub stops : Holds true old → HasCleanDisk new → IfErr result (StopsAsk sql params old new)
   pub ended : HasCleanDisk new → IsAtRest old → HasEnded old new
   pub survives : Survives old new (λ _. ⊥)
 
@@ -40,16 +52,16 @@ IsValue (Err f) x = f ≡ view.StoreRefused → ⊥
 pub record IsRecalled {S A : Type 0} (g : Ghosts S) (old new : Held S) (result : Result A ViewFault) (value : Book → A) : Type 0 where
   pub reads : HasCleanDisk (state g new) → ReadsBook (state g old) (state g new) result value
   pub clean : HasCleanDisk (state g new) → HasCleanDisk (state g old)
-  pub cause : HasCleanDisk (state g new) → StopsRead (state g old) result (IsStopped g (state g new))
+  pub cause : HasCleanDisk (state g new) → StopsRead (state g old) result (IsStopped g (state g old) (state g new))
   pub survives : Survives (state g old) (state g new) (λ _. ⊥)
 
 ---- Changes
 
 -- What becomes of a change of rows, within a transaction: the tables are changed so, or it was refused, and the transaction may
 -- have ended. Nothing is committed.
-pub record IsChanged (sql : List ℕ) (params : Row) (old new : State) (result : Result (Unit {0}) Error) (fits : Tables → Type 0) (after : Tables → Tables) : Type 0 where
-  pub put : Holds true old → fits (tables_in old.now.trees) → HasCleanDisk new
-      → MatchResult result (λ _. Changes old new (after (tables_in old.now.trees))) (λ _. IsRefused true old new)
-  pub clean : HasCleanDisk new → HasCleanDisk old
-  pub cause : HasCleanDisk new → IfErr result (λ e. Executes sql params old new (Err e))
-  pub survives : Holds true old → Survives old new (λ _. ⊥)
+pub record IsChanged {S : Type 0} (g : Ghosts S) (old new : Held S) (result : Result (Unit {0}) Error) (fits : Tables → Type 0) (after : Tables → Tables) : Type 0 where
+  pub put : Holds true (state g old) → fits (tables_in (state g old).now.trees) → HasCleanDisk (state g new)
+      → MatchResult result (λ _. Changes (state g old) (state g new) (after (tables_in (state g old).now.trees))) (λ _. IsRefused true (state g old) (state g new))
+  pub clean : HasCleanDisk (state g new) → HasCleanDisk (state g old)
+  pub cause : Holds true (state g old) → HasCleanDisk (state g new) → IfErr result (StopsWith g old new)
+  pub survives : Holds true (state g old) → Survives (state g old) (state g new) (λ _. ⊥)

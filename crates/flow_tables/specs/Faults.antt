@@ -1,10 +1,11 @@
 -- How an error of the store is told: the want of memory by itself, all else as the store's refusal. And what stands behind
 -- a refusal.
-use Rattle.std.specs.Prelude.{◌≡◌, ◌≢◌, ◌⊎◌, ℕ, List, [], true, Result, Ok, Err}
+use Rattle.std.specs.Prelude.{◌≡◌, ◌≢◌, ◌⊎◌, ◌≤◌, ℕ, List, [], length, true, IsSome, Result, Ok, Err}
+use Rattle.sqlite_disk.specs.Disk.{MoreFaults}
 use Rattle.sqlite_trees.specs.declared.store.Store.{Ghosts}
 use Rattle.sqlite.specs.Held.{Held, state}
 use Rattle.sqlite.specs.Order.{Row}
-use Rattle.sqlite.specs.State.{State, Executes, FailsToQuery, Shown}
+use Rattle.sqlite.specs.State.{State, Executes, Shown}
 use Rattle.sqlite.specs.declared.error.ErrorCode.TheVariants.{OutOfMemory}
 use Rattle.sqlite.specs.declared.error.Error.{Error}
 use Rattle.sqlite.specs.declared.error.Error.TheVariants.{SqliteFailure}
@@ -14,23 +15,13 @@ use Rattle.flow_tables.specs.declared.fault.StoreFault.{StoreFault}
 use Rattle.flow_tables.specs.declared.fault.StoreFault.TheVariants.{NoMemory, Refused}
 use Rattle.flow_tables.specs.declared.fault.Refusal.{Refusal}
 use Rattle.flow_tables.specs.declared.fault.Refusal.TheVariants as refusal
+use Rattle.flow_sql.specs.Meaning.{IsAmong, IsDeclined, our_questions, our_changes}
+use Rattle.flow_sql.specs.States.{IsOver}
 use Rattle.flow_tables.specs.Reads.{AreMisread}
 
 abbrev pub fault_of : Error → StoreFault
 fault_of (SqliteFailure OutOfMemory) = NoMemory
 fault_of e = Refused e
-
--- A statement was refused with this error, and left the connection as it is now.
-abbrev pub IsRefusedWith : {S : Type 0} → Ghosts S → State → Error → Type 0
-IsRefusedWith {S} g new e =
-    (old : Held S) × (sql : List ℕ) × (params : Row) × (Executes sql params (state g old) new (Err e) ⊎ FailsToQuery sql params (state g old) new e)
-
-abbrev pub WasRefused : {S : Type 0} → Ghosts S → State → Type 0
-WasRefused g new = (e : Error) × IsRefusedWith g new e
-
--- the same, and not for want of memory
-abbrev pub WasDenied : {S : Type 0} → Ghosts S → State → Type 0
-WasDenied g new = (e : Error) × (e ≢ SqliteFailure OutOfMemory) × IsRefusedWith g new e
 
 -- This statement was refused, not for want of memory, and led from the one state to the other.
 abbrev pub WasStopped : List ℕ → State → State → Type 0
@@ -40,13 +31,31 @@ WasStopped sql old new = (e : Error) × (e ≢ SqliteFailure OutOfMemory) × Exe
 abbrev pub FailsWithin : List ℕ → State → State → Type 0
 FailsWithin sql old new = (old.in_transaction ≡ true) × ((e : Error) × Executes sql [] old new (Err e))
 
--- A row of an answer can't be read.
-abbrev pub WasMisread : {S : Type 0} → Ghosts S → State → Type 0
-WasMisread {S} g new =
-    (old : Held S) × (sql : List ℕ) × (params : Row) × (rows : List Row) × (e : Error) × Shown sql params (state g old) new rows × AreMisread rows (Refused e)
+---- Why the store stops what is done
 
-abbrev pub IsStopped : {S : Type 0} → Ghosts S → State → Type 0
-IsStopped g new = WasRefused g new ⊎ WasMisread g new
+-- The disk has failed at least so often, and the limit on the steps of a query is the same.
+abbrev pub Since : State → State → Type 0
+Since first s = (first.faults ≤ s.faults) × (s.step_limit ≡ first.step_limit)
+
+-- Within a transaction over our tables, the store's database declined one of our changes of rows.
+abbrev pub WasDeclined : {S : Type 0} → Ghosts S → State → Type 0
+WasDeclined {S} g first =
+    (mid : Held S) × Since first (state g mid) × IsOver true (state g mid) × (sql : List ℕ) × (params : Row) × IsAmong our_changes sql (length params) × IsDeclined sql params (state g mid)
+
+-- There, a row of the answer to one of our questions can't be read.
+abbrev pub WasMisread : {S : Type 0} → Ghosts S → State → Type 0
+WasMisread {S} g first =
+    (mid after : Held S) × Since first (state g mid) × IsOver true (state g mid) × (sql : List ℕ) × (params : Row) × IsAmong our_questions sql (length params)
+    × (rows : List Row) × (e : Error) × Shown sql params (state g mid) (state g after) rows × AreMisread rows (Refused e)
+
+-- The store stopped what was done since the first state: the disk has failed, a limit is set on the steps of a query, its database
+-- declined a change of rows, or what it answered can't be read.
+abbrev pub IsStopped : {S : Type 0} → Ghosts S → State → State → Type 0
+IsStopped g first new = MoreFaults first.faults new.faults ⊎ (IsSome first.step_limit ⊎ (WasDeclined g first ⊎ WasMisread g first))
+
+-- an error that isn't the want of memory has this behind it
+abbrev pub StopsWith : {S : Type 0} → Ghosts S → Held S → Held S → Error → Type 0
+StopsWith g old new e = e ≢ SqliteFailure OutOfMemory → IsStopped g (state g old) (state g new)
 
 ---- Refusals
 

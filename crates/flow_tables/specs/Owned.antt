@@ -14,7 +14,7 @@ use Rattle.flow_tables.specs.declared.fault.Refusal.TheVariants as refusal
 use Rattle.flow_tables.specs.contracts.fault.Refusal as refusal_row
 use Rattle.flow_tables.specs.declared.known.Known.{Known}
 use Rattle.flow_tables.specs.Known.{IsKnown}
-use Rattle.flow_tables.specs.Faults.{IsStopped}
+use Rattle.flow_tables.specs.Faults.{IsStopped, Since}
 use Rattle.flow_rows.specs.declared.rows.RunRow.{RunRow}
 use Rattle.flow_rows.specs.Rows.{run_row}
 use Rattle.flow_rows.specs.Finding.{last_number}
@@ -88,21 +88,13 @@ pub record IsSure (ours : Type 0) (s : State) (refused : Option Refusal) : Type 
 abbrev pub is_sure : {S : Type 0} → Ghosts S → Stored S → Type 0
 is_sure g t = IsSure (IsOurs (state g t.opened)) (state g t.held) t.refused
 
--- Where it is noted that the transaction was stopped, the store stopped it. The connection is then as the refusal left it.
-abbrev pub IsWhy : {S : Type 0} → Ghosts S → State → Option Refusal → Type 0
-IsWhy g s (Some refusal.Stopped) = IsStopped g s
-IsWhy g s _ = Unit {0}
-
 -- What is known of the rows is true, where the transaction shows a book.
 abbrev pub IsAware : State → Option Refusal → Known → Type 0
 IsAware s refused known = refused ≡ None → s.in_transaction ≡ true → IsKnown known (tables_in s.now.trees)
 
--- The store stopped the transaction; or a change was put that doesn't fit, as `put_change` says; or none runs.
-abbrev pub RefusesSo : {S : Type 0} → Ghosts S → Type 0 → State → Option Refusal → Type 0
-RefusesSo g fit s refused = ((refused ≡ Some refusal.Stopped) × (fit → IsStopped g s)) ⊎ ((refused ≡ Some refusal.Unfit) ⊎ (s.in_transaction ≡ false))
-
-abbrev pub Refuses : {S : Type 0} → Ghosts S → Stored S → Type 0
-Refuses g t = RefusesSo g (IsFit g t) (state_of g t) t.refused
+-- the store stopped what was done since the first
+abbrev pub Refuses : {S : Type 0} → Ghosts S → Stored S → Stored S → Type 0
+Refuses g first t = IsStopped g (state_of g first) (state_of g t)
 
 -- Nothing more is done: the transaction was refused something, or none runs.
 abbrev pub IsHindered : {S : Type 0} → Ghosts S → Stored S → Type 0
@@ -134,8 +126,14 @@ KeepsOn ours old new = ours → HasCleanDisk new → HasCleanDisk old × ((b : B
 abbrev pub WasUp : Type 0 → State → State → Type 0
 WasUp ours old new = ours → HasCleanDisk new → IsTrue new.is_open → IsTrue old.is_open
 
+-- no failure of the disk is forgotten, and the limit on the steps of a query stays
+abbrev pub HasCounted : Type 0 → State → State → Type 0
+HasCounted ours old new = ours → HasCleanDisk new → Since old new
+
 abbrev pub Follows : {S : Type 0} → Ghosts S → Stored S → Stored S → Type 0
-Follows g a b = (b.opened ≡ a.opened) × KeepsOn (IsOurs (state g b.opened)) (state_of g a) (state_of g b) × WasUp (IsOurs (state g b.opened)) (state_of g a) (state_of g b)
+Follows g a b =
+    (b.opened ≡ a.opened) × KeepsOn (IsOurs (state g b.opened)) (state_of g a) (state_of g b) × WasUp (IsOurs (state g b.opened)) (state_of g a) (state_of g b)
+    × HasCounted (IsOurs (state g b.opened)) (state_of g a) (state_of g b)
 
 ---- Reads of the book, within a transaction
 

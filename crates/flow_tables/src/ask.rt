@@ -129,7 +129,7 @@ pub trait RowChange: Sized {
 
 /// Changes the rows so.
 pub fn change<C: RowChange, S: Alter>(conn: &mut Connection<S>, change: &C) -> Result<(), Error>
-    ensures { IsChanged (C.does change.now).sql (C.does change.now).params (state S.Store conn.old) (state S.Store conn.new) result (C.does change.now).fits (C.does change.now).after }
+    ensures { IsChanged S.Store conn.old conn.new result (C.does change.now).fits (C.does change.now).after }
 {
     match change.send(conn) {
         Ok(_) => Ok(()),

@@ -1,6 +1,7 @@
 use Rattle.std.proofs.Common.{◌≡◌, ◌+◌, ◌++◌, drop, length}
 use Rattle.flow_model.specs.Apply.{after, replies}
 use Rattle.flow_machine.specs.Stuck.{IsStuckWithin}
+use Rattle.flow_machine.specs.Fitting.{IsUnfitWithin}
 use Rattle.flow_commit.specs.Keeping.{rules, commands_of}
 use Rattle.flow_commit.proofs.deciding.decide_batch.Given as goal
 
@@ -14,6 +15,9 @@ invariant-loop-taken g l =
       rest : g.V.View.is_sure l.view → after rules (book l.view) left ≡ after rules (book l.fn.view) all;
       counted : length l.replies.items + length (drop l.taken-index l.batch) ≡ length l.batch;
       stuck : g.V.View.is_sure l.view → IsStuckWithin rules (book l.view) left → IsStuckWithin rules (book l.fn.view) all;
+      unfit : g.V.View.is_sure l.view → IsUnfitWithin g.V.View.unfit rules (book l.view) left → IsUnfitWithin g.V.View.unfit rules (book l.fn.view) all;
+      goes_on : g.V.View.is_true l.view → g.V.View.is_sure l.fn.view → g.V.View.is_sure l.view;
       sure : g.V.View.is_sure l.view → g.V.View.is_sure l.fn.view;
+      was_true : g.V.View.is_true l.view → g.V.View.is_true l.fn.view;
       follows : (a : g.row.V.Denot) → g.V.View.follows a l.fn.view → g.V.View.follows a l.view;
     }

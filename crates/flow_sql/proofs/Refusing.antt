@@ -1,0 +1,154 @@
+-- Why a statement of ours is refused over our tables: the store failed, or its database declines what is asked.
+use Rattle.std.proofs.Common.{◌≡◌, ◌≢◌, ◌≤◌, ◌⊎◌, inl, inr, ℕ, zero, suc, List, [], ◌∷◌, length, Bool, true, false, true≢false, Option, Some, None, Result, Ok, Err, refl, sym, ap, subst, ◌∙◌, arith, append-nil}
+use Rattle.std.specs.Prelude.{IsTrue, IsSome, Any, MatchBool, slice_get}
+use Rattle.std.specs.List.{AllByRecursion}
+use Rattle.std.proofs.lemmas.Option.{same_Some}
+use Rattle.sqlite_disk.specs.Disk.{MoreFaults}
+use Rattle.sqlite_trees.specs.declared.error.StoreError.{StoreError}
+use Rattle.sqlite_trees.specs.declared.error.StoreError.TheVariants as store
+use Rattle.sqlite_resolve.specs.declared.compiled.Compiled.{Compiled}
+use Rattle.sqlite_resolve.specs.declared.error.CompileError.{CompileError}
+use Rattle.sqlite_tied.specs.Compute.{everything}
+use Rattle.sqlite_sql.specs.Program.{QueryOverflows}
+use Rattle.sqlite_typing.specs.Types.{accepts_program}
+use Rattle.sqlite.specs.Calls.{IsWrite}
+use Rattle.sqlite.specs.Command.{Command}
+use Rattle.sqlite.specs.Command.TheVariants as command
+use Rattle.sqlite.specs.Effect.{Database, RefusesToRead}
+use Rattle.sqlite.specs.Given.{IsPlain}
+use Rattle.sqlite.specs.Listing.{understood, reads_listing, IsSourceOf}
+use Rattle.sqlite.specs.Order.{Row}
+use Rattle.sqlite.specs.Program.{overlay}
+use Rattle.sqlite.specs.Query.{Query}
+use Rattle.sqlite.specs.Tree.{Trees}
+use Rattle.sqlite.specs.declared.error.ErrorCode.TheVariants.{OutOfMemory}
+use Rattle.sqlite.specs.declared.error.Error.{Error}
+use Rattle.sqlite.specs.declared.error.Error.TheVariants.{SqliteFailure}
+use Rattle.sqlite.specs.State.{State, Fails, HasCause, store_error, FailsToQuery, IsNotRun, IsNoStatement, Executes, ExecutesIn, RunsCommand, IsMisplaced, shows_rows, text_of}
+use Rattle.sqlite.specs.Clock.{timed}
+use Rattle.flow_sql.specs.Layout.{schema}
+use Rattle.flow_sql.specs.Meaning.{command_of, IsRead, IsAmong, IsDeclined, our_questions, our_changes}
+use Rattle.flow_sql.specs.States.{HasTables, IsOver}
+
+-- a query over one table has no sum
+pub never_sums : (rows : List Row) → ⊥ ⊎ Any (λ r. ⊥) rows → ⊥
+never_sums rows (inl none) = none
+never_sums rows (inr it) = it.4
+
+---- Our texts are whole, and have so many parameters
+
+abbrev IsWhole : List ℕ → ℕ → Result Compiled CompileError → Type 0
+IsWhole sql count (Ok c) = (length sql ≤ c.tail) × (length c.names ≡ count)
+IsWhole sql count (Err e) = ⊥
+
+abbrev IsWholeText : List ℕ × ℕ → Type 0
+IsWholeText t = IsWhole t.0 t.1 (understood schema t.0)
+
+questions_whole : AllByRecursion IsWholeText our_questions
+unfolding understood everything
+questions_whole =
+    ((omega arith, refl), ((omega arith, refl), ((omega arith, refl), ((omega arith, refl), ((omega arith, refl), ((omega arith, refl), ((omega arith, refl), ((omega arith, refl), ((omega arith, refl), ((omega arith, refl), ((omega arith, refl), ((omega arith, refl), ((omega arith, refl), ((omega arith, refl), ((omega arith, refl), tt)))))))))))))))
+
+changes_whole : AllByRecursion IsWholeText our_changes
+unfolding understood everything
+changes_whole = ((omega arith, refl), ((omega arith, refl), ((omega arith, refl), ((omega arith, refl), ((omega arith, refl), ((omega arith, refl), ((omega arith, refl), ((omega arith, refl), ((omega arith, refl), ((omega arith, refl), tt))))))))))
+
+whole_at : (ts : List (List ℕ × ℕ)) (i : ℕ) (sql : List ℕ) (count : ℕ) → AllByRecursion IsWholeText ts → slice_get ts i ≡ Some (sql, count) → IsWhole sql count (understood schema sql)
+whole_at [] i sql count all is = absurd (let clash = is in cc)
+whole_at (t ∷ ts) zero sql count all is = subst IsWholeText (same_Some t (sql, count) is) all.0
+whole_at (t ∷ ts) (suc i) sql count all is = whole_at ts i sql count all.1 is
+
+---- Why one is refused
+
+module _ (old new : State) (e : Error) (other : e ≢ SqliteFailure OutOfMemory) (over : IsOver true old) where
+  failed_for : (W : Type 0) (k : StoreError) → e ≡ store_error k → HasCause old new W k → MoreFaults old.faults new.faults ⊎ W
+  failed_for W store.OutOfMemory is why = absurd (other is)
+  failed_for W store.Io is why = inl why
+  failed_for W store.Corrupt is why = inl why
+  failed_for W store.Full is why = inl why
+  failed_for W store.Broken is why = absurd (let up = over.is_open in cc)
+  failed_for W store.Unstorable is why = inr why
+
+  failed : (W : Type 0) → Fails old new W e → MoreFaults old.faults new.faults ⊎ W
+  failed W h = failed_for W h.0 h.1 h.2
+
+  module _ (sql : List ℕ) (params : Row) (whole : IsWhole sql (length params) (understood schema sql)) (plain : IsPlain (understood schema sql)) where
+    known : understood schema sql ≡ understood old.now.schema sql
+    known = ap (λ s. understood s sql) (sym over.now.laid_out)
+
+    never_no_statement : IsNoStatement old sql params e → ⊥
+    never_no_statement (inl none) = subst IsPlain (known ∙ none.1) plain
+    never_no_statement (inr (c, is, inl long)) = long.0 (subst (IsWhole sql (length params)) (known ∙ is) whole).0
+    never_no_statement (inr (c, is, inr (inl few))) = few.0 (sym (subst (IsWhole sql (length params)) (known ∙ is) whole).1)
+    never_no_statement (inr (c, is, inr (inr timed'))) = timed'.0 (subst IsPlain (known ∙ is) plain).1
+
+    never_run : IsNotRun old new sql params e → MoreFaults old.faults new.faults
+    unfolding IsNotRun
+    never_run (inl none) = absurd (never_no_statement none.0)
+    never_run (inr fails) = elim (failed ⊥ fails) [
+      | inl more ↦ more
+      | inr none ↦ absurd none
+    ]
+
+-- A question: the store failed, or a limit is set on the steps of a query.
+module _ (old new : State) (e : Error) (other : e ≢ SqliteFailure OutOfMemory) (over : IsOver true old) (sql : List ℕ) (q : Query) (names : List (List ℕ)) (it : IsRead sql q names) (params : Row)
+    (listed : IsAmong our_questions sql (length params)) (typed : accepts_program schema [] q params ≡ true) (summed : (db : Trees) → ¬ QueryOverflows q db params) where
+  refuses : (db : Database) → db ≡ old.now → RefusesToRead old.step_limit (command.Select (record { lets = []; body = q }) names) db params e → IsSome old.step_limit
+  refuses db is (inl mistyped) = absurd (let same = ap (λ (d : Database). accepts_program d.schema [] q params) is in let has = ap (λ s. accepts_program s [] q params) over.now.laid_out in true≢false (sym typed ∙ sym has ∙ sym same ∙ mistyped.1))
+  refuses db is (inr (inl summed')) = absurd (summed (overlay db.trees []) summed'.1)
+  refuses db is (inr (inr limit)) = limit.1
+
+  pub question_refused : FailsToQuery sql params old new e → MoreFaults old.faults new.faults ⊎ IsSome old.step_limit
+  unfolding FailsToQuery
+  question_refused (inl none) = inl (never_run old new e other over sql params (whole_at our_questions listed.0 sql (length params) questions_whole listed.1) it.plain none)
+  question_refused (inr h) =
+      let known = sym h.1.is ∙ ap (λ s. understood s sql) over.now.laid_out in
+      let bare = subst IsPlain (sym known) it.plain in
+      let found = rw (bare.0, bare.1, append-nil params) at h.2 in
+      let db : found.0 ≡ old.now = subst (λ b. IsSourceOf b old.now found.0) (ap (λ s. reads_listing s sql) over.now.laid_out ∙ it.unlisted) found.1 in
+      inr (refuses found.0 db (subst (λ k. RefusesToRead old.step_limit k found.0 params e) (ap command_of known ∙ it.is) found.2))
+
+shows_no_rows : (c : Compiled) → IsWrite c.command → c.returning ≡ None → shows_rows false c ≡ false
+shows_no_rows c writes bare = by_command c.command writes
+  where
+    by_command : (k : Command) → IsWrite k → shows_rows false (record c { command = k }) ≡ false
+    by_command (command.Insert at from) w = rw bare refl
+    by_command (command.InsertOr at way from clauses) w = rw bare refl
+    by_command (command.Update at q) w = rw bare refl
+    by_command (command.Delete at q) w = rw bare refl
+    by_command command.CreateTable w = rw bare refl
+    by_command (command.CreateIndex at) w = rw bare refl
+    by_command (command.DropTable at) w = rw bare refl
+    by_command (command.DropIndex at) w = rw bare refl
+    by_command command.CreateView w = rw bare refl
+    by_command (command.DropView at) w = rw bare refl
+    by_command _ w = absurd w
+
+never_misplaced : (s : State) (k : Command) (e : Error) → IsWrite k → ¬ IsMisplaced s k e
+never_misplaced s k e writes (inl (_, inl begin)) = absurd (rw begin.0 at writes)
+never_misplaced s k e writes (inl (_, inr (inl commit, _))) = absurd (rw commit at writes)
+never_misplaced s k e writes (inl (_, inr (inr rollback, _))) = absurd (rw rollback at writes)
+never_misplaced s k e writes (inr (_, name, inl release, _)) = absurd (rw release at writes)
+never_misplaced s k e writes (inr (_, name, inr back, _)) = absurd (rw back at writes)
+
+-- A change of rows: the store failed, or its database declines it.
+module _ (old new : State) (e : Error) (other : e ≢ SqliteFailure OutOfMemory) (over : IsOver true old) (sql : List ℕ) (params : Row) (k : Command) (is : command_of (understood schema sql) ≡ k) (writes : IsWrite k)
+    (plain : IsPlain (understood schema sql)) (listed : IsAmong our_changes sql (length params)) where
+  pub change_refused : Executes sql params old new (Err e) → MoreFaults old.faults new.faults ⊎ IsDeclined sql params old
+  unfolding ExecutesIn
+  change_refused (inl none) = inl (never_run old new e other over sql params (whole_at our_changes listed.0 sql (length params) changes_whole listed.1) plain none)
+  change_refused (inr h) =
+      let known = sym h.1.is ∙ ap (λ s. understood s sql) over.now.laid_out in
+      let bare = subst IsPlain (sym known) plain in
+      let write = subst IsWrite (sym (ap command_of known ∙ is)) writes in
+      ran (rw (shows_no_rows h.0 write bare.0) at h.2)
+    where
+      ran : RunsCommand old new sql h.0 (timed params h.0.formats h.1.now) (Err e) → MoreFaults old.faults new.faults ⊎ IsDeclined sql params old
+      ran (inl (inl misplaced, _)) =
+          let known = sym h.1.is ∙ ap (λ s. understood s sql) over.now.laid_out in
+          absurd (never_misplaced old h.0.command e (subst IsWrite (sym (ap command_of known ∙ is)) writes) misplaced)
+      ran (inl (inr declined, _)) = inr (Some e, h.0, h.1, declined.1)
+      ran (inr fails) = elim (failed old new e other over _ fails) [
+        | inl more ↦ inl more
+        | inr big ↦ inr (None, h.0, h.1, big)
+      ]
