@@ -142,10 +142,10 @@ pub record HasMade (s : State) : Type 0 where
   pub now : HasTables s.now
   pub tables : tables_in s.now.trees ≡ no_tables
 
--- a CREATE TABLE, or an INSERT that shows nothing
+-- a CREATE TABLE, or an INSERT that has no clause and shows nothing
 abbrev pub IsMaking : Statement → Type 0
 IsMaking (written.CreateTable def) = ⊤
-IsMaking (written.Insert conflict.Abort name columns rows clauses shown) = shown ≡ []
+IsMaking (written.Insert conflict.Abort name columns rows clauses shown) = (clauses ≡ []) × (shown ≡ [])
 IsMaking _ = ⊥
 
 abbrev pub IsReading : Statement → Type 0
