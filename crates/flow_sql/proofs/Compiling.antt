@@ -1,23 +1,18 @@
 -- What the statements that make the tables do, whatever tables there are: each keeps the transaction, and none commits.
-use Rattle.std.proofs.Common.{◌≡◌, ◌⊎◌, true≢false, inl, inr, ℕ, List, Bool, true, false, Option, None, Result, Ok, Err, [], if◌then◌else◌, refl, sym, ap, subst, ◌∙◌}
-use Rattle.std.specs.Prelude.{⊤, IsTrue, MatchResult, ◌==◌, ◌&&◌, not, ◌+◌, length}
-use Rattle.std.proofs.lemmas.Bool.{cases_Bool}
-use Rattle.sqlite_ast.specs.declared.Statement.{Statement}
+use Rattle.std.proofs.Common.{◌≡◌, ◌⊎◌, true≢false, inl, inr, ℕ, List, Bool, true, false, Option, None, Result, Ok, Err, [], if◌then◌else◌, refl, sym, ap, subst, ◌∙◌, IsTrue, MatchResult, ◌==◌, ◌&&◌, not, ◌+◌, length}
+use Rattle.flow_sql.specs.Names.{cases_Bool, Statement, Parsed, Returning, Compiled, CompileError, NoSuchTable, Checked, first, Row, Trees, Error, State, HasCleanDisk, Survives, IsUnchanged, IsRolledBack, Executes, Runs, Shows, shows_rows, text_of, timed, survives_weaker}
+use Rattle.std.specs.Prelude.{⊤}
 use Rattle.sqlite_ast.specs.declared.Statement.TheVariants as written
 use Rattle.sqlite_ast.specs.declared.Conflict.TheVariants as conflict
 use Rattle.sqlite_ast.specs.declared.CreateTable.{CreateTable}
 use Rattle.sqlite_ast.specs.declared.Rows.{Rows}
-use Rattle.sqlite_syntax.specs.declared.statement.Parsed.{Parsed}
 use Rattle.sqlite_schema.specs.declared.schema.Schema.{Schema}
 use Rattle.sqlite_schema.specs.declared.command.Command.{Command}
 use Rattle.sqlite_schema.specs.declared.command.Command.TheVariants.{Insert, CreateTable as MakeTable, Nothing}
-use Rattle.sqlite_schema.specs.declared.command.Returning.{Returning}
-use Rattle.sqlite_resolve.specs.declared.compiled.Compiled.{Compiled}
-use Rattle.sqlite_resolve.specs.declared.error.CompileError.{CompileError}
-use Rattle.sqlite_resolve.specs.declared.error.CompileError.TheVariants.{NoSuchTable, Unsupported}
-use Rattle.sqlite_resolve.specs.Lowering.{Checked, and_then}
+use Rattle.sqlite_resolve.specs.declared.error.CompileError.TheVariants.{Unsupported}
+use Rattle.sqlite_resolve.specs.Lowering.{and_then}
 use Rattle.sqlite_resolve.specs.Scope.{Name}
-use Rattle.sqlite_resolve.specs.Compile.{first, command, returning, shows, planned, meaning, compiled, create_table, creates, is_attached, insert, insert_or_abort, new_rows, target, small, with_command, timed as timed_at}
+use Rattle.sqlite_resolve.specs.Compile.{command, returning, shows, planned, meaning, compiled, create_table, creates, is_attached, insert, insert_or_abort, new_rows, target, small, with_command, timed as timed_at}
 use Rattle.sqlite_resolve.specs.Body.{table_at}
 use Rattle.sqlite_resolve.specs.Define as define
 use Rattle.sqlite_schema.specs.Names.{table_named, index_named, view_named}
@@ -25,12 +20,7 @@ use Rattle.sqlite_schema.specs.declared.schema.Table.{Table}
 use Rattle.sqlite_schema.specs.declared.command.Source.{Source}
 use Rattle.std.specs.Option.{option_or}
 use Rattle.sqlite.specs.Listing.{understood, reads_listing, if_select, is_select, listing_schema}
-use Rattle.sqlite.specs.Order.{Row}
-use Rattle.sqlite.specs.Tree.{Trees}
-use Rattle.sqlite.specs.declared.error.Error.{Error}
-use Rattle.sqlite.specs.State.{State, HasCleanDisk, Survives, CommitsBy, CommitsShowing, FailsToQuery, Shown, IsNotRun, IsUnchanged, IsRolledBack, Executes, ExecutesIn, Runs, Shows, shows_rows, text_of}
-use Rattle.sqlite.specs.Clock.{timed}
-use Rattle.sqlite.proofs.StateLemmas.{survives_weaker}
+use Rattle.sqlite.specs.State.{CommitsBy, CommitsShowing, FailsToQuery, Shown, IsNotRun, ExecutesIn}
 use Rattle.flow_sql.specs.States.{GoesOn, CommitsNothing, RunsTo, IsMaking, IsReading, FirstIs}
 use Rattle.flow_sql.proofs.Leaves.{was_clean, error_leaves, rolled_back_ended}
 

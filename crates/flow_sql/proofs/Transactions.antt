@@ -1,22 +1,11 @@
 -- What BEGIN, COMMIT and ROLLBACK mean, under any schema.
-use Rattle.std.proofs.Common.{◌≡◌, inl, inr, ℕ, ◌≤◌, List, [], length, true, false, codes, Ok, Err, Result, None, refl, sym, ap, subst, ◌∙◌, arith, true≢false}
-use Rattle.std.specs.Prelude.{⊤, IsTrue, MatchResult, OnOk, IfErr}
-use Rattle.std.proofs.lemmas.Bool.{cases_Bool}
-use Rattle.sqlite.specs.Order.{Row}
-use Rattle.sqlite.specs.Tree.{Trees}
-use Rattle.sqlite.specs.Schema.{Schema}
-use Rattle.sqlite.specs.Command.{Command}
-use Rattle.sqlite.specs.Command.TheVariants.{Begin, Commit, Rollback}
+use Rattle.std.proofs.Common.{◌≡◌, inl, inr, ℕ, ◌≤◌, List, [], length, true, false, codes, Ok, Err, Result, None, refl, sym, ap, subst, ◌∙◌, arith, true≢false, IsTrue, MatchResult, OnOk, IfErr}
+use Rattle.flow_sql.specs.Names.{cases_Bool, Row, Trees, Schema, Command, Begin, Commit, Rollback, Error, Compiled, CompileError, State, Survives, Executes, Runs, RunsCommand, IsRolledBack, shows_rows, text_of, timed, IsPlain, command_of, statement_of, runs_as, survives_weaker}
+use Rattle.std.specs.Prelude.{⊤}
 use Rattle.sqlite.specs.Calls.{IsWrite}
 use Rattle.sqlite_tied.specs.Compute.{everything}
 use Rattle.sqlite.specs.Listing.{understood}
-use Rattle.sqlite.specs.declared.error.Error.{Error}
-use Rattle.sqlite_resolve.specs.declared.compiled.Compiled.{Compiled}
-use Rattle.sqlite_resolve.specs.declared.error.CompileError.{CompileError}
-use Rattle.sqlite.specs.State.{State, CommitsBy, Survives, MayWrite, Executes, ExecutesIn, Runs, RunsCommand, IsNotRun, IsMisplaced, IsRolledBack, shows_rows, text_of}
-use Rattle.sqlite.specs.Clock.{timed}
-use Rattle.sqlite.proofs.Callers.{IsPlain, command_of, statement_of, runs_as}
-use Rattle.sqlite.proofs.StateLemmas.{survives_weaker}
+use Rattle.sqlite.specs.State.{CommitsBy, MayWrite, ExecutesIn, IsNotRun, IsMisplaced}
 use Rattle.flow_sql.specs.Layout.{schema}
 use Rattle.flow_sql.specs.States.{Holds, IsOver, IsStill, IsRefused, IsUndone, RunsTo, HasBegun, HasCommitted, GoesOn, HasEnded}
 use Rattle.flow_sql.proofs.Leaves.{was_clean, over_both, rolled_back_ended, ended_undone, error_refused}
@@ -212,9 +201,15 @@ module _ (old new : State) where
   ran_ok sql P (Ok x) h f = f h.0 h.1
   ran_ok sql P (Err e) h f = tt
 
+  pub begun_or_told : (r : Result (Unit {0}) Error) → RunsTo (codes "BEGIN") old new r → MatchResult r (λ _. HasBegun old new) (λ e. Executes (codes "BEGIN") [] old new (Err e))
+  begun_or_told r h = ran_to (codes "BEGIN") (HasBegun old new) r h begins
+
   pub begun_or_refused : (r : Result (Unit {0}) Error) → RunsTo (codes "BEGIN") old new r → IsOver false old → MatchResult r (λ _. IsStill true old new) (λ _. IsRefused false old new)
   begun_or_refused (Ok x) h was = begun_still (begins h.0 h.1) was
   begun_or_refused (Err e) h was = error_refused old new (codes "BEGIN") [] e false was h
+
+  pub committed_or_told : (r : Result (Unit {0}) Error) → RunsTo (codes "COMMIT") old new r → MatchResult r (λ _. HasCommitted old new) (λ e. Executes (codes "COMMIT") [] old new (Err e))
+  committed_or_told r h = ran_to (codes "COMMIT") (HasCommitted old new) r h commits
 
   pub committed_or_ended : (r : Result (Unit {0}) Error) → RunsTo (codes "COMMIT") old new r → IsTrue old.in_transaction → IfErr r (λ _. HasEnded old new)
   committed_or_ended (Ok x) h inside = tt

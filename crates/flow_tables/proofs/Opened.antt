@@ -1,33 +1,18 @@
 -- What opening finds, and why it is refused.
-use Rattle.std.proofs.Common.{◌≡◌, ◌≢◌, ◌⊎◌, inl, inr, ℤ, pos, negsuc, List, [], map, Bool, true, false, if◌then◌else◌, nat_eq, None, Ok, Err, Result, OnOk, IfErr, refl, sym, ap, subst, ◌∙◌}
-use Rattle.std.specs.Prelude.{IfOk}
+use Rattle.std.proofs.Common.{◌≡◌, ◌≢◌, ◌⊎◌, inl, inr, ℤ, pos, negsuc, List, [], map, Bool, true, false, if◌then◌else◌, nat_eq, None, Ok, Err, Result, OnOk, IfErr, refl, sym, ap, subst, ◌∙◌, IfOk}
+use Rattle.flow_tables.specs.Names.{Error, SqliteFailure, Ghosts, State, Int, Row, column, Run, Tables, of_run, event_row, timer_row, timers_left, task_row, Tells, Fault, NoMemory, StoreRefused, NotOurs, BadVersion, Damaged, StoreFault, format_sql, HasTables, HasEnded, IsAtRest, IsRefusal, no_tables, is_program, Book}
 use Rattle.sqlite.specs.declared.error.ErrorCode.{ErrorCode}
 use Rattle.sqlite.specs.declared.error.ErrorCode.TheVariants as code
-use Rattle.sqlite.specs.declared.error.Error.{Error}
-use Rattle.sqlite.specs.declared.error.Error.TheVariants.{SqliteFailure}
-use Rattle.sqlite_trees.specs.declared.store.Store.{Ghosts}
 use Rattle.sqlite_trees.specs.declared.error.StoreError.{StoreError}
 use Rattle.sqlite_trees.specs.declared.error.StoreError.TheVariants.{OutOfMemory}
-use Rattle.sqlite.specs.State.{State, Fails, QueriesRow, store_error}
+use Rattle.sqlite.specs.State.{Fails, QueriesRow, store_error}
 use Rattle.sqlite.specs.declared.types.Value.{Value}
-use Rattle.sqlite.specs.declared.types.Value.TheVariants.{Int}
-use Rattle.sqlite.specs.Order.{Row}
-use Rattle.sqlite_value.specs.Order.{column}
-use Rattle.flow_base.specs.declared.book.Run.{Run}
-use Rattle.flow_rows.specs.Rows.{Tables, run_at, of_run, event_row, timer_row, timers_left, task_row}
-use Rattle.flow_rows.specs.Told.{Tells}
-use Rattle.flow_base.specs.declared.fault.Fault.{Fault}
-use Rattle.flow_base.specs.declared.fault.Fault.TheVariants.{NoMemory, StoreRefused, NotOurs, BadVersion, Damaged}
-use Rattle.flow_tables.specs.declared.fault.StoreFault.{StoreFault}
+use Rattle.flow_rows.specs.Rows.{run_at}
 use Rattle.flow_tables.specs.declared.fault.StoreFault.TheVariants as read
-use Rattle.flow_sql.specs.Layout.{format_sql}
-use Rattle.flow_sql.specs.States.{HasTables, HasEnded, IsAtRest, IsRefusal, no_tables}
 use Rattle.flow_tables.specs.Reads.{IsRowsFault}
 use Rattle.flow_sql.proofs.Leaves.{rest_ended, rolled_back_ended}
 use Rattle.flow_sql.proofs.Transactions.{ends_again}
 use Rattle.flow_sql.proofs.Finding.{read_leaves, format_answer, at_rest}
-use Rattle.flow_check.specs.Language.{is_program}
-use Rattle.flow_model.specs.Book.{Book}
 use Rattle.flow_rows.proofs.Laws.{book_undamaged}
 use Rattle.flow_tables.specs.Opening.{opening_fault, read_fault_of, empty_book, IsOfStore, IsOfOpening, IsOfRows, IsFirstDamage, StandFor, IsMet, HasCause}
 
@@ -136,10 +121,8 @@ read_among (read.Refused e) = store_among (opening_fault e) (of_store e)
 
 -- what the store refuses is no damage
 pub harmless : (t : Tables) (f : Fault) → IsOfStore f → IsFirstDamage t f
-harmless t NoMemory of = tt
-harmless t StoreRefused of = tt
-harmless t NotOurs of = tt
-harmless t _ of = absurd of
+harmless t (Damaged d) of = absurd of
+harmless t _ of = tt
 
 -- tables that stand for a book have none
 pub undamaged : (t : Tables) (b : Book) → StandFor t b → (f : Fault) → IsOfOpening f → f ≢ BadVersion → IsFirstDamage t f → IsOfStore f

@@ -1,7 +1,6 @@
 use Rattle.std.proofs.Common.{◌≡◌, inl, inr, Err, sym, ap, subst}
-use Rattle.sqlite.specs.Held.{state}
+use Rattle.flow_tables.specs.Names.{state, Fault}
 use Rattle.flow_tables.specs.Opening.{opening_fault, IsOfStore, HasCause}
-use Rattle.flow_base.specs.declared.fault.Fault.{Fault}
 use Rattle.flow_sql.proofs.Finding.{answered, blank_never_reads}
 use Rattle.flow_tables.proofs.Opened.{of_store, caused, format_rests, is_ours, not_other, same_fault, if_err}
 use Rattle.flow_tables.proofs.open.find_format.Goals as goal

@@ -1,13 +1,8 @@
-use Rattle.std.proofs.Common.{◌≡◌, ◌∙◌, Some, Result, false, refl, sym, ap, subst}
-use Rattle.std.specs.Prelude.{IfOk, IfErr}
-use Rattle.flow_check.specs.Language.{is_program}
+use Rattle.std.proofs.Common.{◌≡◌, ◌∙◌, Some, Result, false, refl, sym, ap, subst, IfOk, IfErr}
+use Rattle.flow_tables.specs.Names.{is_program, first_damage, by_run, Tells, book_in, shown_book}
 use Rattle.flow_rows.specs.declared.book.WholeBook.{WholeBook}
 use Rattle.flow_base.specs.declared.fault.Damage.{Damage}
-use Rattle.flow_rows.specs.Damages.{first_damage}
-use Rattle.flow_rows.specs.Rows.{by_run}
 use Rattle.flow_rows.specs.Standing.{StandsFor}
-use Rattle.flow_rows.specs.Told.{Tells, book_in}
-use Rattle.flow_rows.specs.Whole.{shown_book}
 use Rattle.flow_tables.specs.Opening.{IsOfOpening, HasCause}
 use Rattle.flow_tables.proofs.Opened.{read_caused, read_among}
 use Rattle.flow_tables.proofs.open.look_through.Goals as goal
