@@ -13,7 +13,7 @@ use Rattle.flow_sql.specs.Stored.{format_row}
 use Rattle.flow_sql.specs.States.{HasTables, IsOver, HasEnded, IsAtRest, IsBlank}
 use Rattle.flow_sql.proofs.Leaves.{over_both}
 use Rattle.flow_sql.proofs.Compiling.{reading_shows_none, commits_none}
-use Rattle.flow_sql.proofs.ReadTexts.{format_read}
+use Rattle.flow_sql.proofs.Texts.{format_read}
 
 ---- Under any schema
 

@@ -1,6 +1,6 @@
 -- That the statements which are made, where so much is known of the rows, leave what all of them would.
-use Rattle.std.proofs.Common.{◌≡◌, ℕ, suc, ◌+◌, ℤ, pos, negsuc, Bool, true, false, List, [], ◌∷◌, ◌++◌, map, filter, length, nat_eq, Option, Some, None, if◌then◌else◌, refl, sym, ap, subst, ◌∙◌, arith, Result, Ok, Err, true≢false, eqb-true, ltb-true, int_lt, MatchResult, int_eq}
-use Rattle.flow_tables.specs.Names.{AllByRecursion, State, effect_of, Bytes, Effect, Cmd, Event, Input, Started, Came, Task, Run, Turn, Book, nth, is_open, state_of, traces, turn_events, RunRow, OutboxRow, Tables, event_row, timer_row, task_row, timers_left, of_run, with_run, with_event, with_timer, without_tasks, without_timers, marked, marked_row, is_other_task, Tells, new_run, after_effect, after_turn, IsReadableTurn, tables_in, Changes, OpenTasks, Standing}
+use Rattle.std.proofs.Common.{◌≡◌, ℕ, suc, ◌+◌, ℤ, pos, Bool, true, false, List, [], ◌∷◌, ◌++◌, map, filter, length, nat_eq, Option, Some, None, if◌then◌else◌, refl, sym, ap, subst, ◌∙◌, arith, Result, Ok, Err, true≢false, eqb-true, int_lt, MatchResult, int_eq}
+use Rattle.flow_tables.specs.Names.{AllByRecursion, ints, State, effect_of, Bytes, Effect, Cmd, Event, Input, Started, Came, Task, Run, Turn, Book, nth, is_open, state_of, traces, turn_events, RunRow, OutboxRow, Tables, event_row, timer_row, task_row, timers_left, of_run, with_run, with_event, with_timer, without_tasks, without_timers, marked, marked_row, is_other_task, Tells, new_run, after_effect, after_turn, IsReadableTurn, tables_in, Changes, OpenTasks, Standing}
 use Rattle.std.proofs.lemmas.Bool.Decides.{Decides-int_eq}
 use Rattle.std.proofs.lemmas.Option.{slice_get_past}
 use Rattle.flow_base.specs.declared.effect.Effect.TheVariants as effect
@@ -149,15 +149,7 @@ begun_is n at (Started vs) cs flow request text t =
 begun_is n at _ cs flow request text t = refl
 
 other_below : (z n : ℤ) → int_lt z n ≡ true → int_eq z n ≡ false
-other_below z n less = by_case (int_eq z n) refl
-  where
-    by_case : (v : Bool) → int_eq z n ≡ v → int_eq z n ≡ false
-    by_case false is = is
-    by_case true is = absurd (none n (subst (λ x. int_lt x n ≡ true) ((Decides-int_eq z n).0 is) less))
-      where
-        none : (x : ℤ) → int_lt x x ≡ true → ⊥
-        none (pos k) itself = let it = ltb-true k k itself in omega (arith, it)
-        none (negsuc k) itself = let it = ltb-true k k itself in omega (arith, it)
+other_below z n less = grind (arith, ints)
 
 marked_others : (n : ℕ) (row : RunRow) (xs : List RunRow) → AllByRecursion (λ (x : RunRow). int_lt x.num (pos n) ≡ true) xs → marked_row (pos n) (pos 1) row ≡ row
     → map (marked_row (pos n) (pos 1)) (xs ++ row ∷ []) ≡ xs ++ row ∷ []

@@ -1,7 +1,6 @@
 -- What opening finds, and why it is refused.
-use Rattle.std.proofs.Common.{◌≡◌, ◌≢◌, ◌⊎◌, inl, inr, ℤ, pos, negsuc, List, [], map, Bool, true, false, if◌then◌else◌, nat_eq, None, Ok, Err, Result, OnOk, IfErr, refl, sym, ap, subst, ◌∙◌, IfOk}
+use Rattle.std.proofs.Common.{◌≡◌, ◌≢◌, ◌⊎◌, inl, inr, ℤ, pos, negsuc, List, [], map, Bool, true, false, if◌then◌else◌, nat_eq, None, Ok, Err, Result, OnOk, IfErr, refl, sym, ap, subst, ◌∙◌}
 use Rattle.flow_tables.specs.Names.{Error, SqliteFailure, Ghosts, State, Int, Row, column, Run, Tables, of_run, event_row, timer_row, timers_left, task_row, Tells, Fault, NoMemory, StoreRefused, NotOurs, BadVersion, Damaged, StoreFault, format_sql, HasTables, HasEnded, IsAtRest, IsRefusal, no_tables, is_program, Book}
-use Rattle.sqlite.specs.declared.error.ErrorCode.{ErrorCode}
 use Rattle.sqlite.specs.declared.error.ErrorCode.TheVariants as code
 use Rattle.sqlite_trees.specs.declared.error.StoreError.{StoreError}
 use Rattle.sqlite_trees.specs.declared.error.StoreError.TheVariants.{OutOfMemory}
@@ -18,12 +17,8 @@ use Rattle.flow_tables.specs.Opening.{opening_fault, read_fault_of, empty_book, 
 
 ---- The faults of the store
 
-code_of_store : (c : ErrorCode) → IsOfStore (opening_fault (SqliteFailure c))
-code_of_store code.OutOfMemory = tt
-code_of_store _ = tt
-
 pub of_store : (e : Error) → IsOfStore (opening_fault e)
-of_store (SqliteFailure c) = code_of_store c
+of_store (SqliteFailure code.OutOfMemory) = tt
 of_store _ = tt
 
 pub caused : {S : Type 0} (g : Ghosts S) (e : Error) → IsMet g e → HasCause g (opening_fault e)
@@ -70,14 +65,6 @@ pub not_other : {A : Type 0} (v : Value) → v ≡ Int (pos 1) → (n : ℤ) × 
 not_other v ours other = absurd (other.2 (same_number (sym other.1 ∙ ours)))
 
 ---- Results
-
-pub if_ok : {T E : Type 0} (P Q : T → Type 0) (r : Result T E) → ((x : T) → P x → Q x) → IfOk r P → IfOk r Q
-if_ok P Q (Ok x) f h = f x h
-if_ok P Q (Err e) f h = tt
-
-pub if_err : {T E : Type 0} (P Q : E → Type 0) (r : Result T E) → ((e : E) → P e → Q e) → IfErr r P → IfErr r Q
-if_err P Q (Ok x) f h = tt
-if_err P Q (Err e) f h = f e h
 
 pub same_fault : {T : Type 0} {a b : Fault} → ◌≡◌ {A = Result T Fault} (Err a) (Err b) → a ≡ b
 same_fault e = cc

@@ -2,7 +2,8 @@ use Rattle.std.proofs.Common.{◌≡◌, inl, inr, Err, sym, ap, subst}
 use Rattle.flow_tables.specs.Names.{state, Fault}
 use Rattle.flow_tables.specs.Opening.{opening_fault, IsOfStore, HasCause}
 use Rattle.flow_sql.proofs.Finding.{answered, blank_never_reads}
-use Rattle.flow_tables.proofs.Opened.{of_store, caused, format_rests, is_ours, not_other, same_fault, if_err}
+use Rattle.std.proofs.lemmas.Result.{IfErr-weaker}
+use Rattle.flow_tables.proofs.Opened.{of_store, caused, format_rests, is_ours, not_other, same_fault}
 use Rattle.flow_tables.proofs.open.find_format.Goals as goal
 
 pub returns-in-Ok-check_format-clause-ended : goal.returns-in-Ok-check_format-clause-ended
@@ -49,6 +50,6 @@ returns-clause-ended g c clean rest =
 
 pub returns-clause-cause : goal.returns-clause-cause
 returns-clause-cause g c clean =
-    if_err (λ (f : Fault). f ≡ opening_fault c.in-Err.error) (HasCause g.S.Store) c.no_format.result
+    IfErr-weaker c.no_format.result (λ (f : Fault). f ≡ opening_fault c.in-Err.error) (HasCause g.S.Store)
     (λ f is. subst (HasCause g.S.Store) (sym is) (caused g.S.Store c.in-Err.error (c.args.conn.now, c.format_row.new.conn, _, inr (inl (c.in-Err.ensures.queries clean)))))
     c.no_format.ensures.fault
