@@ -16,15 +16,13 @@ use Rattle.flow_tables.proofs.Succession.{still_then, still_refused}
 
 pub same_numbers : (a b : Option ℕ) → option_map pos a ≡ option_map pos b → a ≡ b
 same_numbers None None e = refl
-same_numbers None (Some n) e = absurd (cc)
-same_numbers (Some m) None e = absurd (cc)
 same_numbers (Some m) (Some n) e = cc
+same_numbers _ _ e = absurd (cc)
 
 pub same_counts : (a b : ℕ) → last_number a ≡ last_number b → a ≡ b
 same_counts zero zero e = refl
-same_counts zero (suc n) e = absurd (cc)
-same_counts (suc m) zero e = absurd (cc)
 same_counts (suc m) (suc n) e = cc
+same_counts _ _ e = absurd (cc)
 
 -- tables that are as they were tell what they told
 pub tells_still : (a b : State) (k : Book) → IsStill true a b → Tells (tables_in a.now.trees) k → Tells (tables_in b.now.trees) k

@@ -2,6 +2,8 @@
 use Rattle.std.proofs.Common.{◌≡◌, ℕ, suc, ◌+◌, ℤ, pos, Bool, true, false, List, [], ◌∷◌, ◌++◌, map, filter, length, nat_eq, Option, Some, None, if◌then◌else◌, refl, sym, ap, subst, ◌∙◌, arith, Result, Ok, Err, true≢false, eqb-true, int_lt, MatchResult, int_eq}
 use Rattle.flow_tables.specs.Names.{AllByRecursion, ints, State, effect_of, Bytes, Effect, Cmd, Event, Input, Started, Came, Task, Run, Turn, Book, nth, is_open, state_of, traces, turn_events, RunRow, OutboxRow, Tables, event_row, timer_row, task_row, timers_left, of_run, with_run, with_event, with_timer, without_tasks, without_timers, marked, marked_row, is_other_task, Tells, new_run, after_effect, after_turn, IsReadableTurn, tables_in, Changes, OpenTasks, Standing}
 use Rattle.std.proofs.lemmas.Bool.Decides.{Decides-int_eq}
+use Rattle.std.proofs.lemmas.List.{map-append}
+use Rattle.sqlite_catalog.proofs.ListFacts.{filter_swap}
 use Rattle.std.proofs.lemmas.Option.{slice_get_past}
 use Rattle.flow_base.specs.declared.effect.Effect.TheVariants as effect
 use Rattle.flow_model.specs.Open.{timers_by, timers_after, open_timers}
@@ -53,15 +55,8 @@ effect_is run s id at _ t h = refl
 
 ---- What is known stays true
 
-filter_more : {A : Type 0} (p q : A → Bool) (x : A) (xs : List A) (v w : Bool) → p x ≡ v → q x ≡ w → (filter p xs ≡ [] → filter p (filter q xs) ≡ [])
-    → filter p (x ∷ xs) ≡ [] → filter p (filter q (x ∷ xs)) ≡ []
-filter_more p q x xs true w is other more none = absurd (let clash = rw is at none in cc)
-filter_more p q x xs false true is other more none = rw other (rw is (more (rw is at none)))
-filter_more p q x xs false false is other more none = rw other (more (rw is at none))
-
 filter_both : {A : Type 0} (p q : A → Bool) (xs : List A) → filter p xs ≡ [] → filter p (filter q xs) ≡ []
-filter_both p q [] none = refl
-filter_both p q (x ∷ xs) none = filter_more p q x xs (p x) (q x) refl refl (filter_both p q xs) none
+filter_both p q xs none = filter_swap p q xs ∙ ap (filter q) none
 
 ended_single : (n m : ℕ) (rows : List OutboxRow) (v : Bool) → nat_eq n m ≡ v → filter (is_other_task (pos n)) rows ≡ []
     → HasOnly (if v then tasks.Gone else tasks.Single n) (filter (is_other_task (pos m)) rows)
@@ -134,8 +129,7 @@ any_stands run opened t = record { mark = λ is. absurd (true≢false (sym is));
 ---- A run that begins
 
 marked_end : (f : RunRow → RunRow) (a b : RunRow) (xs : List RunRow) → f a ≡ f b → map f (xs ++ a ∷ []) ≡ map f (xs ++ b ∷ [])
-marked_end f a b [] same = ap (λ x. x ∷ []) same
-marked_end f a b (x ∷ xs) same = ap (λ l. f x ∷ l) (marked_end f a b xs same)
+marked_end f a b xs same = map-append f xs (a ∷ []) ∙ ap (λ y. map f xs ++ y ∷ []) same ∙ sym (map-append f xs (b ∷ []))
 
 -- the mark that its row comes with is the one that it gets
 begun_is : (n at : ℕ) (i : Input) (cs : List Cmd) (flow : Bytes) (request : Option Bytes) (text : ℕ) (t : Tables)

@@ -1,6 +1,6 @@
 -- What opening finds, and why it is refused.
-use Rattle.std.proofs.Common.{◌≡◌, ◌≢◌, ◌⊎◌, inl, inr, ℤ, pos, negsuc, List, [], map, Bool, true, false, if◌then◌else◌, nat_eq, None, Ok, Err, Result, OnOk, IfErr, refl, sym, ap, subst, ◌∙◌}
-use Rattle.flow_tables.specs.Names.{Error, SqliteFailure, Ghosts, State, Int, Row, column, Run, Tables, of_run, event_row, timer_row, timers_left, task_row, Tells, Fault, NoMemory, StoreRefused, NotOurs, BadVersion, Damaged, StoreFault, format_sql, HasTables, HasEnded, IsAtRest, IsRefusal, no_tables, is_program, Book}
+use Rattle.std.proofs.Common.{◌≡◌, ◌≢◌, ◌⊎◌, inl, inr, ℤ, pos, negsuc, List, [], map, Bool, true, false, if◌then◌else◌, nat_eq, None, Ok, Err, Result, OnOk, IfErr, refl, sym, ap, subst, ◌∙◌, IsTrue}
+use Rattle.flow_tables.specs.Names.{Error, SqliteFailure, Ghosts, State, Int, Row, column, Run, Tables, of_run, event_row, timer_row, timers_left, task_row, Tells, Fault, NoMemory, StoreRefused, NotOurs, BadVersion, Damaged, StoreFault, format_sql, HasTables, HasEnded, IsAtRest, IsRefusal, no_tables, is_program, Book, HasCleanDisk, Survives, Database, no_schema}
 use Rattle.sqlite.specs.declared.error.ErrorCode.TheVariants as code
 use Rattle.sqlite_trees.specs.declared.error.StoreError.{StoreError}
 use Rattle.sqlite_trees.specs.declared.error.StoreError.TheVariants.{OutOfMemory}
@@ -9,7 +9,7 @@ use Rattle.sqlite.specs.declared.types.Value.{Value}
 use Rattle.flow_rows.specs.Rows.{run_at}
 use Rattle.flow_tables.specs.declared.fault.StoreFault.TheVariants as read
 use Rattle.flow_tables.specs.Reads.{IsRowsFault}
-use Rattle.flow_sql.proofs.Leaves.{rest_ended, rolled_back_ended}
+use Rattle.flow_sql.proofs.Leaves.{rest_ended, rolled_back_ended, was_clean}
 use Rattle.flow_sql.proofs.Transactions.{ends_again}
 use Rattle.flow_sql.proofs.Finding.{read_leaves, format_answer, at_rest}
 use Rattle.flow_rows.proofs.Laws.{book_undamaged}
@@ -125,6 +125,17 @@ undamaged t b stand _ among other first = absurd among
 
 pub rests_on : (a b c : State) → HasEnded a b → (IsAtRest b → HasEnded b c) → HasEnded a c
 rests_on a b c one two = ends_again a b c one (two (at_rest a b one))
+
+-- what was there when the format was looked for
+module _ (old mid read : State) (ended : HasCleanDisk mid → HasEnded old mid) (quiet : Survives old mid (λ _. ⊥)) (later : Survives mid read (λ _. ⊥)) (clean : HasCleanDisk read) where
+  pub had_ended : HasEnded old mid
+  had_ended = ended (was_clean mid read _ later clean)
+
+  pub had_tables : (HasCleanDisk old → HasTables old.committed) → IsTrue mid.is_open → HasTables mid.now
+  had_tables has up = subst HasTables (sym (had_ended.back up).0) (has (was_clean old mid _ quiet (was_clean mid read _ later clean)))
+
+  pub had_none : (HasCleanDisk old → old.committed.schema ≡ no_schema) → IsTrue mid.is_open → mid.now.schema ≡ no_schema
+  had_none none up = ap (λ (d : Database). d.schema) (had_ended.back up).0 ∙ none (was_clean old mid _ quiet (was_clean mid read _ later clean))
 
 ---- No tables
 

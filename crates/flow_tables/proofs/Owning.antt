@@ -11,8 +11,9 @@ use Rattle.flow_tables.specs.Known.{IsKnown}
 use Rattle.flow_tables.specs.Owned.{IsAware, IsFileOf, IsOwn, IsSure, Keeps, KeepsOn, WasUp, ReadsBook, TellBook, IsNoted, book_of}
 use Rattle.flow_sql.specs.States.{AreOurs}
 use Rattle.flow_tables.specs.Puts.{IsCutShort}
-use Rattle.flow_sql.proofs.Leaves.{error_leaves, over_both, was_clean}
+use Rattle.flow_sql.proofs.Leaves.{error_leaves, over_both, rolled_back_ended, was_clean}
 use Rattle.flow_sql.proofs.Transactions.{begun_still, committed_over}
+use Rattle.flow_tables.proofs.Parts.{refused_first}
 use Rattle.flow_tables.proofs.Stops.{IsSettled}
 
 ---- What the tables keep true, in a transaction and out of one
@@ -67,12 +68,9 @@ module _ (old new : State) where
   pub ended_leaves : HasEnded old new → LeavesCommit
   ended_leaves h = record { was_open = h.was_open; same = λ up. (h.back up).1 }
 
-  pub rolled_back_leaves : IsRolledBack old new → LeavesCommit
-  rolled_back_leaves h = record { was_open = h.was_open; same = λ up. (h.undone up).1 }
-
   pub left_leaves : IsUnchanged old new ⊎ IsRolledBack old new → LeavesCommit
   left_leaves (inl same) = shows_leaves old.in_transaction old.now same.0
-  left_leaves (inr undone) = rolled_back_leaves undone
+  left_leaves (inr undone) = ended_leaves (rolled_back_ended old new undone)
 
   pub error_commits_nothing : (sql : List ℕ) (e : Error) → Executes sql [] old new (Err e) → LeavesCommit
   error_commits_nothing sql e h = left_leaves (error_leaves old new sql [] e h)
@@ -81,13 +79,12 @@ module _ (old new : State) where
   pub undone_leaves : IsTrue old.is_open → IsUndone old new → LeavesCommit
   undone_leaves up h = record { was_open = λ _. up; same = λ shown. (h.over shown).2 }
 
-  pub refused_leaves : IsTrue old.is_open → IsRefused true old new → LeavesCommit
-  refused_leaves up (inl still) = record { was_open = λ _. up; same = λ _. still.2 }
-  refused_leaves up (inr undone) = undone_leaves up undone
-
   pub cut_leaves : IsTrue old.is_open → IsCutShort old new → LeavesCommit
   cut_leaves up (inl part) = record { was_open = λ _. up; same = λ _. part.committed }
   cut_leaves up (inr undone) = undone_leaves up undone
+
+  pub refused_leaves : IsTrue old.is_open → IsRefused true old new → LeavesCommit
+  refused_leaves up h = cut_leaves up (refused_first old new h)
 
   ---- What the tables keep true
 
@@ -122,7 +119,7 @@ module _ (old new : State) where
 
   pub own_left : (r : Option Refusal) → IsOwn old r → IsUnchanged old new ⊎ IsRolledBack old new → IsOwn new r
   own_left r own (inl same) = own_same r own same.0
-  own_left r own (inr undone) = own_ended r r own (record { was_open = undone.was_open; mode = undone.autocommit; back = undone.undone })
+  own_left r own (inr undone) = own_ended r r own (rolled_back_ended old new undone)
 
   pub own_error : (r : Option Refusal) (sql : List ℕ) (e : Error) → IsOwn old r → Executes sql [] old new (Err e) → IsOwn new r
   own_error r sql e own h = own_left r own (error_leaves old new sql [] e h)
