@@ -22,12 +22,10 @@ use Rattle.std.specs.Option.{option_or}
 use Rattle.sqlite.specs.Listing.{understood, reads_listing, if_select, is_select, listing_schema}
 use Rattle.sqlite.specs.State.{CommitsBy, CommitsShowing, FailsToQuery, Shown, IsNotRun, ExecutesIn}
 use Rattle.flow_sql.specs.States.{GoesOn, CommitsNothing, RunsTo, IsMaking, IsReading, FirstIs}
+use Rattle.flow_sql.proofs.Added.{same_value}
 use Rattle.flow_sql.proofs.Leaves.{was_clean, error_leaves, rolled_back_ended}
 
 ---- What a text becomes
-
-same_ok : {A : Type 0} {a b : A} → ◌≡◌ {A = Checked A} (Ok a) (Ok b) → a ≡ b
-same_ok e = cc
 
 then_gives : {A B : Type 0} (r : Checked A) (f : A → Checked B) (P : B → Type 0) → ((a : A) → r ≡ Ok a → (b : B) → f a ≡ Ok b → P b) → (b : B) → and_then r f ≡ Ok b → P b
 then_gives (Ok a) f P each b h = each a refl b h
@@ -41,7 +39,7 @@ none_gives : {B : Type 0} (e : CompileError) (P : B → Type 0) (b : B) → ◌�
 none_gives e P b h = absurd (let never = h in cc)
 
 it_gives : {B : Type 0} (x : B) (P : B → Type 0) → P x → (b : B) → ◌≡◌ {A = Checked B} (Ok x) (Ok b) → P b
-it_gives x P holds b h = subst P (same_ok h) holds
+it_gives x P holds b h = subst P (same_value h) holds
 
 -- changes the database or nothing, and neither begins nor ends a transaction
 abbrev pub IsInside : Command → Type 0
@@ -78,13 +76,13 @@ command_inside schema formats base _ making c h = absurd making
 
 shows_none : (schema : Schema) (base : ℕ) (st : Statement) → IsMaking st → (r : Option Returning) → returning schema base st ≡ Ok r → r ≡ None
 unfolding returning shows
-shows_none schema base (written.CreateTable def) making r h = sym (same_ok h)
-shows_none schema base (written.Insert conflict.Abort name columns rows clauses shown) making r h = sym (same_ok (rw making.1 at h))
+shows_none schema base (written.CreateTable def) making r h = sym (same_value h)
+shows_none schema base (written.Insert conflict.Abort name columns rows clauses shown) making r h = sym (same_value (rw making.1 at h))
 shows_none schema base _ making r h = absurd making
 
 reads_none : (schema : Schema) (base : ℕ) (st : Statement) → IsReading st → (r : Option Returning) → returning schema base st ≡ Ok r → r ≡ None
 unfolding returning
-reads_none schema base (written.Select s) reading r h = sym (same_ok h)
+reads_none schema base (written.Select s) reading r h = sym (same_value h)
 reads_none schema base _ reading r h = absurd reading
 
 selected : (r : Checked Compiled) (c : Compiled) → if_select r ≡ Ok c → r ≡ Ok c

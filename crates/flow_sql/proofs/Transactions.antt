@@ -165,11 +165,9 @@ module _ (old new : State) where
   pub rolls_back : (count : ℕ) → Executes (codes "ROLLBACK") [] old new (Ok count) → IsTrue old.in_transaction × HasEnded old new
   rolls_back count h = let r = ran_as (codes "ROLLBACK") Rollback rollback_text count h in (r.0, rolled_back_ended old new r.1)
 
-  pub commit_ends : (e : Error) → old.in_transaction ≡ true → Executes (codes "COMMIT") [] old new (Err e) → HasEnded old new
-  commit_ends e inside h = rolled_back_ended old new (ends_anyway (codes "COMMIT") old new e Commit commit_text tt inside h)
-
-  pub rollback_ends : (e : Error) → old.in_transaction ≡ true → Executes (codes "ROLLBACK") [] old new (Err e) → HasEnded old new
-  rollback_ends e inside h = rolled_back_ended old new (ends_anyway (codes "ROLLBACK") old new e Rollback rollback_text tt inside h)
+  -- a refusal within a transaction has ended it
+  ended_by : (sql : List ℕ) (command : Command) → Controls sql command → IsEnd command → (e : Error) → old.in_transaction ≡ true → Executes sql [] old new (Err e) → HasEnded old new
+  ended_by sql command it ends e inside h = rolled_back_ended old new (ends_anyway sql old new e command it ends inside h)
 
   pub begun_still : HasBegun old new → IsOver false old → IsStill true old new
   begun_still h was = over_both true new old.now old.committed h.1.is_open h.1.mode h.1.now_is h.1.committed_is was.now was.committed
@@ -213,15 +211,15 @@ module _ (old new : State) where
 
   pub committed_or_ended : (r : Result (Unit {0}) Error) → RunsTo (codes "COMMIT") old new r → IsTrue old.in_transaction → IfErr r (λ _. HasEnded old new)
   committed_or_ended (Ok x) h inside = tt
-  committed_or_ended (Err e) h inside = commit_ends e inside h
+  committed_or_ended (Err e) h inside = ended_by (codes "COMMIT") Commit commit_text tt e inside h
 
   pub committed_or_undone : (r : Result (Unit {0}) Error) → RunsTo (codes "COMMIT") old new r → IsOver true old → MatchResult r (λ _. IsOver false new × (new.now ≡ old.now) × (new.committed ≡ old.now)) (λ _. IsUndone old new)
   committed_or_undone (Ok x) h was = committed_over (commits h.0 h.1) was
-  committed_or_undone (Err e) h was = over_undone was (commit_ends e was.mode h)
+  committed_or_undone (Err e) h was = over_undone was (ended_by (codes "COMMIT") Commit commit_text tt e was.mode h)
 
   pub rolled_back : (r : Result (Unit {0}) Error) → RunsTo (codes "ROLLBACK") old new r → IsTrue old.in_transaction → HasEnded old new
   rolled_back (Ok x) h inside = (rolls_back h.0 h.1).1
-  rolled_back (Err e) h inside = rollback_ends e inside h
+  rolled_back (Err e) h inside = ended_by (codes "ROLLBACK") Rollback rollback_text tt e inside h
 
 -- What was begun and goes on, and then ends, has ended.
 pub goes_on_then : (a b c : State) → GoesOn a b → GoesOn b c → GoesOn a c

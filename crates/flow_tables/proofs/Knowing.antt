@@ -1,6 +1,6 @@
 -- That the statements which are made, where so much is known of the rows, leave what all of them would.
 use Rattle.std.proofs.Common.{◌≡◌, ℕ, suc, ◌+◌, ℤ, pos, Bool, true, false, List, [], ◌∷◌, ◌++◌, map, filter, length, nat_eq, Option, Some, None, if◌then◌else◌, refl, sym, ap, subst, ◌∙◌, arith, Result, Ok, Err, true≢false, eqb-true, int_lt, MatchResult, int_eq}
-use Rattle.flow_tables.specs.Names.{AllByRecursion, ints, State, effect_of, Bytes, Effect, Cmd, Event, Input, Started, Came, Task, Run, Turn, Book, nth, is_open, state_of, traces, turn_events, RunRow, OutboxRow, Tables, event_row, timer_row, task_row, timers_left, of_run, with_run, with_event, with_timer, without_tasks, without_timers, marked, marked_row, is_other_task, Tells, new_run, after_effect, after_turn, IsReadableTurn, tables_in, Changes, OpenTasks, Standing}
+use Rattle.flow_tables.specs.Names.{AllByRecursion, ints, State, effect_of, Bytes, Effect, Cmd, Event, Input, Started, Came, Task, Run, Turn, Book, nth, is_open, state_of, traces, turn_events, RunRow, OutboxRow, Tables, event_row, timer_row, task_row, of_run, with_run, with_event, with_timer, without_tasks, without_timers, marked, marked_row, is_other_task, Tells, new_run, after_effect, after_turn, IsReadableTurn, tables_in, Changes, OpenTasks, Standing}
 use Rattle.std.proofs.lemmas.Bool.Decides.{Decides-int_eq}
 use Rattle.std.proofs.lemmas.List.{map-append}
 use Rattle.sqlite_catalog.proofs.ListFacts.{filter_swap}
@@ -102,14 +102,11 @@ opens_alike : (s : Standing) (e : Effect) → (stands_by s e).is_open ≡ opened
 opens_alike s effect.Begins = refl
 opens_alike s _ = refl
 
--- an event's own row is none of these
-event_stands : (run : ℤ) (s : Standing) (e : Event) (t : Tables) → Stands run s t → Stands run s (with_event (event_row run e) t)
-event_stands run s e t h = record { mark = h.mark; tasks = h.tasks; timers = h.timers }
-
 pub made_all : (run : ℤ) (es : List Event) (s : Standing) (t : Tables) → Stands run s t → made_events run s es t ≡ after_events run s.is_open es t
 made_all run [] s t h = refl
 made_all run (e ∷ es) s t h =
-    let own = event_stands run s e t h in
+    -- an event's own row is none of these
+    let own : Stands run s (with_event (event_row run e) t) = record { mark = h.mark; tasks = h.tasks; timers = h.timers } in
     let here : made_event run s e t ≡ after_event run s.is_open e t = effect_is run s e.id e.at (effect_of e.what) (with_event (event_row run e) t) own in
     let next = stands_on run s e.id e.at (effect_of e.what) (with_event (event_row run e) t) own in
     ap (made_events run (stands_what s e.what) es) here ∙ made_all run es (stands_what s e.what) (after_event run s.is_open e t) next
@@ -194,20 +191,15 @@ no_timer_left : (h : List Event) (v : Bool) → open_timers h ≡ [] → (if v t
 no_timer_left h true none = none
 no_timer_left h false none = refl
 
-timer_rows_read : (t : Tables) (b : Book) (n : ℕ) (r : Run) → Tells t b → nth b.runs n ≡ Some r → t.timers (pos n) ≡ map (timer_row (pos n)) (timers_left r.history)
-timer_rows_read t b n r h there = ap (λ (u : Tables). u.timers (pos n)) h.same ∙ ap (λ o. of_run o (timer_rows_of (pos n))) there
-
-single_row : (run : ℤ) (x : Task) → filter (is_other_task (pos x.event)) (task_row run x ∷ []) ≡ []
-single_row run x = let same : int_eq (pos x.event) (pos x.event) ≡ true = (Decides-int_eq (pos x.event) (pos x.event)).1 refl in rw same refl
-
 tasks_only : (run : ℤ) (ts : List Task) → HasOnly (tasks_known ts) (map (task_row run) ts)
 tasks_only run [] = refl
-tasks_only run (x ∷ []) = single_row run x
+tasks_only run (x ∷ []) = let same : int_eq (pos x.event) (pos x.event) ≡ true = (Decides-int_eq (pos x.event) (pos x.event)).1 refl in rw same refl
 tasks_only run (x ∷ y ∷ ts) = tt
 
 pub run_stands : (t : Tables) (b : Book) (n : ℕ) (r : Run) → Tells t b → nth b.runs n ≡ Some r → Stands (pos n) (run_standing r) t
 run_stands t b n r tells there = record {
   mark = λ is. absurd (true≢false (sym is));
   tasks = subst (HasOnly (tasks_known r.tasks)) (sym (found.task_rows_read t b n r tells there)) (tasks_only (pos n) r.tasks);
-  timers = λ none. timer_rows_read t b n r tells there ∙ ap (map (timer_row (pos n))) (no_timer_left r.history (is_open (state_of r.history)) (no_timer r.history none));
+  timers = λ none. ap (λ (u : Tables). u.timers (pos n)) tells.same ∙ ap (λ o. of_run o (timer_rows_of (pos n))) there
+      ∙ ap (map (timer_row (pos n))) (no_timer_left r.history (is_open (state_of r.history)) (no_timer r.history none));
 }
