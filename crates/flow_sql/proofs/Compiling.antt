@@ -1,47 +1,31 @@
 -- What the statements that make the tables do, whatever tables there are: each keeps the transaction, and none commits.
-use Rattle.std.proofs.Common.{◌≡◌, ◌⊎◌, true≢false, inl, inr, ℕ, List, Bool, true, false, Option, None, Result, Ok, Err, [], if◌then◌else◌, refl, sym, ap, subst, ◌∙◌}
-use Rattle.std.specs.Prelude.{⊤, IsTrue, MatchResult, ◌==◌, ◌&&◌, not, ◌+◌, length}
-use Rattle.std.proofs.lemmas.Bool.{cases_Bool}
-use Rattle.sqlite_ast.specs.declared.Statement.{Statement}
+use Rattle.std.proofs.Common.{◌≡◌, ◌⊎◌, true≢false, inl, inr, ℕ, List, Bool, true, false, Option, None, Result, Ok, Err, [], if◌then◌else◌, refl, sym, ap, subst, ◌∙◌, IsTrue, MatchResult, ◌==◌, ◌&&◌, not, ◌+◌, length}
+use Rattle.flow_sql.specs.Names.{cases_Bool, Statement, Parsed, Returning, Compiled, CompileError, NoSuchTable, Checked, first, Row, Trees, Error, State, HasCleanDisk, Survives, IsUnchanged, IsRolledBack, Executes, Runs, Shows, shows_rows, text_of, timed, survives_weaker}
+use Rattle.std.specs.Prelude.{⊤}
 use Rattle.sqlite_ast.specs.declared.Statement.TheVariants as written
 use Rattle.sqlite_ast.specs.declared.Conflict.TheVariants as conflict
 use Rattle.sqlite_ast.specs.declared.CreateTable.{CreateTable}
 use Rattle.sqlite_ast.specs.declared.Rows.{Rows}
-use Rattle.sqlite_ast.specs.declared.Upsert.{Upsert}
-use Rattle.sqlite_syntax.specs.declared.statement.Parsed.{Parsed}
 use Rattle.sqlite_schema.specs.declared.schema.Schema.{Schema}
 use Rattle.sqlite_schema.specs.declared.command.Command.{Command}
-use Rattle.sqlite_schema.specs.declared.command.Command.TheVariants.{Insert, InsertOr, CreateTable as MakeTable, Nothing}
-use Rattle.sqlite_schema.specs.declared.command.Conflict.TheVariants as how
-use Rattle.sqlite_schema.specs.declared.command.Returning.{Returning}
-use Rattle.sqlite_resolve.specs.declared.compiled.Compiled.{Compiled}
-use Rattle.sqlite_resolve.specs.declared.error.CompileError.{CompileError}
-use Rattle.sqlite_resolve.specs.declared.error.CompileError.TheVariants.{NoSuchTable, Unsupported}
-use Rattle.sqlite_resolve.specs.Lowering.{Checked, and_then}
+use Rattle.sqlite_schema.specs.declared.command.Command.TheVariants.{Insert, CreateTable as MakeTable, Nothing}
+use Rattle.sqlite_resolve.specs.declared.error.CompileError.TheVariants.{Unsupported}
+use Rattle.sqlite_resolve.specs.Lowering.{and_then}
 use Rattle.sqlite_resolve.specs.Scope.{Name}
-use Rattle.sqlite_resolve.specs.Compile.{first, command, returning, shows, planned, meaning, compiled, create_table, creates, is_attached, insert, insert_or, insert_or_abort, new_rows, target, small, with_command, timed as timed_at}
+use Rattle.sqlite_resolve.specs.Compile.{command, returning, shows, planned, meaning, compiled, create_table, creates, is_attached, insert, insert_or_abort, new_rows, target, small, with_command, timed as timed_at}
 use Rattle.sqlite_resolve.specs.Body.{table_at}
-use Rattle.sqlite_resolve.specs.Given.{upserts}
 use Rattle.sqlite_resolve.specs.Define as define
 use Rattle.sqlite_schema.specs.Names.{table_named, index_named, view_named}
 use Rattle.sqlite_schema.specs.declared.schema.Table.{Table}
 use Rattle.sqlite_schema.specs.declared.command.Source.{Source}
-use Rattle.sqlite_schema.specs.declared.command.Upsert.{Upsert as Clause}
 use Rattle.std.specs.Option.{option_or}
 use Rattle.sqlite.specs.Listing.{understood, reads_listing, if_select, is_select, listing_schema}
-use Rattle.sqlite.specs.Order.{Row}
-use Rattle.sqlite.specs.Tree.{Trees}
-use Rattle.sqlite.specs.declared.error.Error.{Error}
-use Rattle.sqlite.specs.State.{State, HasCleanDisk, Survives, CommitsBy, CommitsShowing, FailsToQuery, Shown, IsNotRun, IsUnchanged, IsRolledBack, Executes, ExecutesIn, Runs, Shows, shows_rows, text_of}
-use Rattle.sqlite.specs.Clock.{timed}
-use Rattle.sqlite.proofs.StateLemmas.{survives_weaker}
+use Rattle.sqlite.specs.State.{CommitsBy, CommitsShowing, FailsToQuery, Shown, IsNotRun, ExecutesIn}
 use Rattle.flow_sql.specs.States.{GoesOn, CommitsNothing, RunsTo, IsMaking, IsReading, FirstIs}
+use Rattle.flow_sql.proofs.Added.{same_value}
 use Rattle.flow_sql.proofs.Leaves.{was_clean, error_leaves, rolled_back_ended}
 
 ---- What a text becomes
-
-same_ok : {A : Type 0} {a b : A} → ◌≡◌ {A = Checked A} (Ok a) (Ok b) → a ≡ b
-same_ok e = cc
 
 then_gives : {A B : Type 0} (r : Checked A) (f : A → Checked B) (P : B → Type 0) → ((a : A) → r ≡ Ok a → (b : B) → f a ≡ Ok b → P b) → (b : B) → and_then r f ≡ Ok b → P b
 then_gives (Ok a) f P each b h = each a refl b h
@@ -55,13 +39,12 @@ none_gives : {B : Type 0} (e : CompileError) (P : B → Type 0) (b : B) → ◌�
 none_gives e P b h = absurd (let never = h in cc)
 
 it_gives : {B : Type 0} (x : B) (P : B → Type 0) → P x → (b : B) → ◌≡◌ {A = Checked B} (Ok x) (Ok b) → P b
-it_gives x P holds b h = subst P (same_ok h) holds
+it_gives x P holds b h = subst P (same_value h) holds
 
 -- changes the database or nothing, and neither begins nor ends a transaction
 abbrev pub IsInside : Command → Type 0
 IsInside Nothing = ⊤
 IsInside (Insert at from) = ⊤
-IsInside (InsertOr at way from clauses) = ⊤
 IsInside MakeTable = ⊤
 IsInside _ = ⊥
 
@@ -85,32 +68,21 @@ insert_inside schema base name columns rows =
     then_gives (target schema name) (λ at. and_then (table_at schema at) (next at)) IsInside (λ at _. then_gives (table_at schema at) (next at) IsInside
     (λ table _. then_gives (new_rows schema table base columns rows) (last at) IsInside (λ s _. it_gives (Insert at s) IsInside tt)))
 
-insert_or_inside : (schema : Schema) (base : ℕ) (name : Name) (columns : List Name) (rows : Rows) (clauses : List Upsert) (c : Command) → insert_or schema base how.Abort name columns rows clauses ≡ Ok c → IsInside c
-unfolding insert_or
-insert_or_inside schema base name columns rows clauses =
-    let last = λ (at : ℕ) (s : Source) (found : List Clause). Ok (InsertOr at how.Abort s found) in
-    let later = λ (at : ℕ) (table : Table) (s : Source). and_then (upserts schema at table base clauses) (last at s) in
-    let next = λ (at : ℕ) (table : Table). and_then (new_rows schema table base columns rows) (later at table) in
-    then_gives (target schema name) (λ at. and_then (table_at schema at) (next at)) IsInside (λ at _. then_gives (table_at schema at) (next at) IsInside
-    (λ table _. then_gives (new_rows schema table base columns rows) (later at table) IsInside
-    (λ s _. then_gives (upserts schema at table base clauses) (last at s) IsInside (λ found _. it_gives (InsertOr at how.Abort s found) IsInside tt))))
-
 command_inside : (schema : Schema) (formats : List Name) (base : ℕ) (st : Statement) → IsMaking st → (c : Command) → command schema formats base st ≡ Ok c → IsInside c
 unfolding command insert_or_abort
-command_inside schema formats base (written.CreateTable def) making = create_inside schema formats def
-command_inside schema formats base (written.Insert conflict.Abort name columns rows clauses shown) making =
-    if_gives (length clauses == 0) (insert schema base name columns rows) (insert_or schema base how.Abort name columns rows clauses) IsInside (insert_inside schema base name columns rows) (insert_or_inside schema base name columns rows clauses)
-command_inside schema formats base _ making = absurd making
+command_inside schema formats base (written.CreateTable def) making c h = create_inside schema formats def c h
+command_inside schema formats base (written.Insert conflict.Abort name columns rows clauses shown) making c h = insert_inside schema base name columns rows c (rw making.0 at h)
+command_inside schema formats base _ making c h = absurd making
 
 shows_none : (schema : Schema) (base : ℕ) (st : Statement) → IsMaking st → (r : Option Returning) → returning schema base st ≡ Ok r → r ≡ None
 unfolding returning shows
-shows_none schema base (written.CreateTable def) making r h = sym (same_ok h)
-shows_none schema base (written.Insert conflict.Abort name columns rows clauses shown) making r h = sym (same_ok (rw making at h))
+shows_none schema base (written.CreateTable def) making r h = sym (same_value h)
+shows_none schema base (written.Insert conflict.Abort name columns rows clauses shown) making r h = sym (same_value (rw making.1 at h))
 shows_none schema base _ making r h = absurd making
 
 reads_none : (schema : Schema) (base : ℕ) (st : Statement) → IsReading st → (r : Option Returning) → returning schema base st ≡ Ok r → r ≡ None
 unfolding returning
-reads_none schema base (written.Select s) reading r h = sym (same_ok h)
+reads_none schema base (written.Select s) reading r h = sym (same_value h)
 reads_none schema base _ reading r h = absurd reading
 
 selected : (r : Checked Compiled) (c : Compiled) → if_select r ≡ Ok c → r ≡ Ok c
@@ -176,7 +148,6 @@ module _ (old new : State) (inside : IsTrue old.in_transaction) where
   ran : (returns : Option Returning) (command : Command) → IsInside command → (text : List ℕ) (params : Row) (count : ℕ) → Runs old new returns command text params count → GoesOn old new
   ran returns Nothing is text params count h = record { was_open = h.0.0.was_open; is_open = h.0.0.is_open; mode = h.0.0.mode ∙ inside; committed = h.0.0.committed_is }
   ran returns (Insert at from) is text params count h = shown_on h.shown
-  ran returns (InsertOr at way from clauses) is text params count h = shown_on h.shown
   ran returns MakeTable is text params count h = shown_on h.shown
   ran returns _ is text params count h = absurd is
 
@@ -187,15 +158,12 @@ module _ (old new : State) (inside : IsTrue old.in_transaction) where
     | inr runs ↦ ran h.0.returning h.0.command (understood_inside old.now.schema sql making h.0 h.1.is).0 (text_of sql h.0) (timed params h.0.formats h.1.now) count (rw runs at h.2)
   ]
 
-  making_leaves : (sql : List ℕ) (params : Row) (e : Error) → Executes sql params old new (Err e) → CommitsNothing old new
-  making_leaves sql params e h = elim (error_leaves old new sql params e h) [
+  pub making_becomes : (sql : List ℕ) → FirstIs IsMaking (first sql) → (r : Result (Unit {0}) Error) → RunsTo sql old new r → MatchResult r (λ _. GoesOn old new) (λ _. CommitsNothing old new)
+  making_becomes sql making (Ok x) h = making_goes_on sql [] h.0 making h.1
+  making_becomes sql making (Err e) h = elim (error_leaves old new sql [] e h) [
     | inl same ↦ inl (record { was_open = same.0.was_open; is_open = same.0.is_open; mode = same.0.mode ∙ inside; committed = same.0.committed_is })
     | inr undone ↦ inr (rolled_back_ended old new undone)
   ]
-
-  pub making_becomes : (sql : List ℕ) → FirstIs IsMaking (first sql) → (r : Result (Unit {0}) Error) → RunsTo sql old new r → MatchResult r (λ _. GoesOn old new) (λ _. CommitsNothing old new)
-  making_becomes sql making (Ok x) h = making_goes_on sql [] h.0 making h.1
-  making_becomes sql making (Err e) h = making_leaves sql [] e h
 
   making_commits_nothing : (sql : List ℕ) (params : Row) → FirstIs IsMaking (first sql) → (db : Trees) → ¬ CommitsBy sql params old db
   unfolding CommitsBy

@@ -1,26 +1,19 @@
 -- What reading the format leaves, and what it tells.
-use Rattle.std.proofs.Common.{◌≡◌, ◌⊎◌, inl, inr, pos, [], ◌∷◌, map, false, None, Ok, Err, Result, refl, sym, ap, subst, ◌∙◌}
-use Rattle.std.specs.Prelude.{IsPermutation}
-use Rattle.sqlite.specs.declared.types.Value.TheVariants.{Null, Int}
-use Rattle.sqlite.specs.Order.{Row, value_cmp}
+use Rattle.std.proofs.Common.{◌≡◌, ◌⊎◌, inl, inr, pos, [], ◌∷◌, map, false, None, Ok, Err, Result, refl, sym, ap, subst, ◌∙◌, IsPermutation}
+use Rattle.flow_sql.specs.Names.{Null, Int, Row, Trees, Database, IsAnswer, Output, output, inner, end, overlay, Error, State, Survives, IsUnchanged, Compiled, NoSuchTable, one_permutation}
+use Rattle.sqlite.specs.Order.{value_cmp}
 use Rattle.sqlite.specs.Ops.{binary}
-use Rattle.sqlite.specs.Tree.{Trees}
-use Rattle.sqlite.specs.Effect.{Database}
-use Rattle.sqlite.specs.Query.{IsAnswer, Output, output, page, matches_as, inner, end}
-use Rattle.sqlite.specs.Program.{overlay}
+use Rattle.sqlite.specs.Query.{page, matches_as}
 use Rattle.sqlite.specs.Listing.{understood, listing_schema}
-use Rattle.sqlite.specs.declared.error.Error.{Error}
-use Rattle.sqlite.specs.State.{State, Survives, CommitsShowing, QueriesRow, FailsToQuery, Shown, Begins, IsNotRun, Fails, IsUnchanged}
-use Rattle.sqlite_resolve.specs.declared.compiled.Compiled.{Compiled}
-use Rattle.sqlite_resolve.specs.declared.error.CompileError.TheVariants.{NoSuchTable}
-use Rattle.sqlite.proofs.Callers.{first_as, one_permutation}
+use Rattle.sqlite.specs.State.{CommitsShowing, QueriesRow, FailsToQuery, Shown, Begins, IsNotRun, Fails}
+use Rattle.sqlite.proofs.Callers.{first_as}
 use Rattle.sqlite_tied.specs.Compute.{everything}
 use Rattle.flow_sql.specs.Layout.{format_sql, no_schema, schema, format_query}
 use Rattle.flow_sql.specs.Stored.{format_row}
 use Rattle.flow_sql.specs.States.{HasTables, IsOver, HasEnded, IsAtRest, IsBlank}
 use Rattle.flow_sql.proofs.Leaves.{over_both}
 use Rattle.flow_sql.proofs.Compiling.{reading_shows_none, commits_none}
-use Rattle.flow_sql.proofs.ReadTexts.{format_read}
+use Rattle.flow_sql.proofs.Texts.{format_read}
 
 ---- Under any schema
 

@@ -1,17 +1,9 @@
 -- What a statement leaves that is refused, and that none opens a connection that was shut.
-use Rattle.std.proofs.Common.{◌≡◌, ◌⊎◌, inl, inr, ℕ, List, Bool, false, Err, sym, subst, ◌∙◌, arith, [], Ok, Result}
-use Rattle.std.specs.Prelude.{IsTrue, Option}
-use Rattle.std.proofs.lemmas.Bool.{cases_Bool}
-use Rattle.sqlite.specs.Order.{Row}
-use Rattle.sqlite.specs.Tree.{Trees}
-use Rattle.sqlite.specs.Effect.{Database}
-use Rattle.sqlite.specs.declared.error.Error.{Error}
-use Rattle.sqlite.specs.State.{State, Executes, ExecutesIn, IsNotRun, IsUnchanged, IsRolledBack, Survives, HasCleanDisk, shows_rows, RunsCommand, Runs, text_of}
-use Rattle.sqlite.specs.Clock.{timed}
+use Rattle.std.proofs.Common.{◌≡◌, ◌⊎◌, inl, inr, ℕ, List, Bool, false, Err, sym, subst, ◌∙◌, arith, [], Ok, Result, IsTrue, Option}
+use Rattle.flow_sql.specs.Names.{cases_Bool, Row, Trees, Database, Error, State, Executes, IsUnchanged, IsRolledBack, Survives, HasCleanDisk, shows_rows, RunsCommand, Runs, text_of, timed, Command, Select, Begin, Commit, Rollback, Returning}
+use Rattle.sqlite.specs.State.{ExecutesIn, IsNotRun}
 use Rattle.flow_sql.specs.States.{HasTables, IsOver, IsStill, IsUndone, IsRefused, HasEnded, IsAtRest, RunsTo}
-use Rattle.sqlite.specs.Command.{Command}
-use Rattle.sqlite.specs.Command.TheVariants.{Select, Begin, Commit, Rollback, Savepoint, Release, RollbackTo, Nothing, Rows}
-use Rattle.sqlite_schema.specs.declared.command.Returning.{Returning}
+use Rattle.sqlite.specs.Command.TheVariants.{Savepoint, Release, RollbackTo, Nothing, Rows}
 
 ---- What a statement that is refused leaves
 

@@ -1,4 +1,4 @@
-pub mod ChangeTexts
+pub mod Texts
 pub mod Leaves
 pub mod Numbered
 pub mod Lists
@@ -10,7 +10,6 @@ pub mod Compiling
 pub mod Making
 pub mod Finding
 pub mod Updating
-pub mod ReadTexts
 pub mod Rising
 pub mod Columns
 pub mod Reading

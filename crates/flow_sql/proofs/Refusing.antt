@@ -1,8 +1,6 @@
 -- Why a statement of ours is refused over our tables: the store failed, or its database declines what is asked.
-use Rattle.std.proofs.Common.{◌≡◌, ◌≢◌, ◌≤◌, ◌⊎◌, inl, inr, ℕ, zero, suc, List, [], ◌∷◌, length, Bool, true, false, true≢false, Option, Some, None, Result, Ok, Err, refl, sym, ap, subst, ◌∙◌, arith, append-nil}
-use Rattle.std.specs.Prelude.{IsTrue, IsSome, Any, MatchBool, slice_get}
-use Rattle.std.specs.List.{AllByRecursion}
-use Rattle.std.proofs.lemmas.Option.{same_Some}
+use Rattle.std.proofs.Common.{◌≡◌, ◌≢◌, ◌≤◌, ◌⊎◌, inl, inr, ℕ, List, [], length, Bool, true, false, true≢false, Option, Some, None, Result, Ok, Err, refl, sym, ap, subst, ◌∙◌, arith, append-nil}
+use Rattle.std.specs.Prelude.{IsTrue, IsSome, Any}
 use Rattle.sqlite_disk.specs.Disk.{MoreFaults}
 use Rattle.sqlite_trees.specs.declared.error.StoreError.{StoreError}
 use Rattle.sqlite_trees.specs.declared.error.StoreError.TheVariants as store
@@ -26,8 +24,8 @@ use Rattle.sqlite.specs.declared.error.Error.{Error}
 use Rattle.sqlite.specs.declared.error.Error.TheVariants.{SqliteFailure}
 use Rattle.sqlite.specs.State.{State, Fails, HasCause, store_error, FailsToQuery, IsNotRun, IsNoStatement, Executes, ExecutesIn, RunsCommand, IsMisplaced, shows_rows, text_of}
 use Rattle.sqlite.specs.Clock.{timed}
-use Rattle.flow_sql.specs.Layout.{schema}
-use Rattle.flow_sql.specs.Meaning.{command_of, IsRead, IsAmong, IsDeclined, our_questions, our_changes}
+use Rattle.flow_sql.specs.Layout.{schema, Read, read_sql, Write, write_sql}
+use Rattle.flow_sql.specs.Meaning.{command_of, IsRead, IsOurRead, IsOurWrite, IsDeclined, read_takes, write_takes}
 use Rattle.flow_sql.specs.States.{HasTables, IsOver}
 
 -- a query over one table has no sum
@@ -35,28 +33,27 @@ pub never_sums : (rows : List Row) → ⊥ ⊎ Any (λ r. ⊥) rows → ⊥
 never_sums rows (inl none) = none
 never_sums rows (inr it) = it.4
 
----- Our texts are whole, and have so many parameters
+---- Our texts are whole, and take so many values
 
 abbrev IsWhole : List ℕ → ℕ → Result Compiled CompileError → Type 0
 IsWhole sql count (Ok c) = (length sql ≤ c.tail) × (length c.names ≡ count)
 IsWhole sql count (Err e) = ⊥
 
-abbrev IsWholeText : List ℕ × ℕ → Type 0
-IsWholeText t = IsWhole t.0 t.1 (understood schema t.0)
-
-questions_whole : AllByRecursion IsWholeText our_questions
+read_whole : (r : Read) → IsWhole (read_sql r) (read_takes r) (understood schema (read_sql r))
 unfolding understood everything
-questions_whole =
-    ((omega arith, refl), ((omega arith, refl), ((omega arith, refl), ((omega arith, refl), ((omega arith, refl), ((omega arith, refl), ((omega arith, refl), ((omega arith, refl), ((omega arith, refl), ((omega arith, refl), ((omega arith, refl), ((omega arith, refl), ((omega arith, refl), ((omega arith, refl), ((omega arith, refl), tt)))))))))))))))
+read_whole Read.all_texts = (omega arith, refl)
+read_whole _ = (omega arith, refl)
 
-changes_whole : AllByRecursion IsWholeText our_changes
+write_whole : (w : Write) → IsWhole (write_sql w) (write_takes w) (understood schema (write_sql w))
 unfolding understood everything
-changes_whole = ((omega arith, refl), ((omega arith, refl), ((omega arith, refl), ((omega arith, refl), ((omega arith, refl), ((omega arith, refl), ((omega arith, refl), ((omega arith, refl), ((omega arith, refl), ((omega arith, refl), tt))))))))))
+write_whole Write.insert_text = (omega arith, refl)
+write_whole _ = (omega arith, refl)
 
-whole_at : (ts : List (List ℕ × ℕ)) (i : ℕ) (sql : List ℕ) (count : ℕ) → AllByRecursion IsWholeText ts → slice_get ts i ≡ Some (sql, count) → IsWhole sql count (understood schema sql)
-whole_at [] i sql count all is = absurd (let clash = is in cc)
-whole_at (t ∷ ts) zero sql count all is = subst IsWholeText (same_Some t (sql, count) is) all.0
-whole_at (t ∷ ts) (suc i) sql count all is = whole_at ts i sql count all.1 is
+whole_read : (sql : List ℕ) (params : Row) → IsOurRead sql params → IsWhole sql (length params) (understood schema sql)
+whole_read sql params it = subst (λ n. IsWhole sql n (understood schema sql)) it.2 (subst (λ s. IsWhole s (read_takes it.0) (understood schema s)) it.1 (read_whole it.0))
+
+whole_write : (sql : List ℕ) (params : Row) → IsOurWrite sql params → IsWhole sql (length params) (understood schema sql)
+whole_write sql params it = subst (λ n. IsWhole sql n (understood schema sql)) it.2 (subst (λ s. IsWhole s (write_takes it.0) (understood schema s)) it.1 (write_whole it.0))
 
 ---- Why one is refused
 
@@ -92,7 +89,7 @@ module _ (old new : State) (e : Error) (other : e ≢ SqliteFailure OutOfMemory)
 
 -- A question: the store failed, or a limit is set on the steps of a query.
 module _ (old new : State) (e : Error) (other : e ≢ SqliteFailure OutOfMemory) (over : IsOver true old) (sql : List ℕ) (q : Query) (names : List (List ℕ)) (it : IsRead sql q names) (params : Row)
-    (listed : IsAmong our_questions sql (length params)) (typed : accepts_program schema [] q params ≡ true) (summed : (db : Trees) → ¬ QueryOverflows q db params) where
+    (listed : IsOurRead sql params) (typed : accepts_program schema [] q params ≡ true) (summed : (db : Trees) → ¬ QueryOverflows q db params) where
   refuses : (db : Database) → db ≡ old.now → RefusesToRead old.step_limit (command.Select (record { lets = []; body = q }) names) db params e → IsSome old.step_limit
   refuses db is (inl mistyped) = absurd (let same = ap (λ (d : Database). accepts_program d.schema [] q params) is in let has = ap (λ s. accepts_program s [] q params) over.now.laid_out in true≢false (sym typed ∙ sym has ∙ sym same ∙ mistyped.1))
   refuses db is (inr (inl summed')) = absurd (summed (overlay db.trees []) summed'.1)
@@ -100,7 +97,7 @@ module _ (old new : State) (e : Error) (other : e ≢ SqliteFailure OutOfMemory)
 
   pub question_refused : FailsToQuery sql params old new e → MoreFaults old.faults new.faults ⊎ IsSome old.step_limit
   unfolding FailsToQuery
-  question_refused (inl none) = inl (never_run old new e other over sql params (whole_at our_questions listed.0 sql (length params) questions_whole listed.1) it.plain none)
+  question_refused (inl none) = inl (never_run old new e other over sql params (whole_read sql params listed) it.plain none)
   question_refused (inr h) =
       let known = sym h.1.is ∙ ap (λ s. understood s sql) over.now.laid_out in
       let bare = subst IsPlain (sym known) it.plain in
@@ -133,10 +130,10 @@ never_misplaced s k e writes (inr (_, name, inr back, _)) = absurd (rw back at w
 
 -- A change of rows: the store failed, or its database declines it.
 module _ (old new : State) (e : Error) (other : e ≢ SqliteFailure OutOfMemory) (over : IsOver true old) (sql : List ℕ) (params : Row) (k : Command) (is : command_of (understood schema sql) ≡ k) (writes : IsWrite k)
-    (plain : IsPlain (understood schema sql)) (listed : IsAmong our_changes sql (length params)) where
+    (plain : IsPlain (understood schema sql)) (listed : IsOurWrite sql params) where
   pub change_refused : Executes sql params old new (Err e) → MoreFaults old.faults new.faults ⊎ IsDeclined sql params old
   unfolding ExecutesIn
-  change_refused (inl none) = inl (never_run old new e other over sql params (whole_at our_changes listed.0 sql (length params) changes_whole listed.1) plain none)
+  change_refused (inl none) = inl (never_run old new e other over sql params (whole_write sql params listed) plain none)
   change_refused (inr h) =
       let known = sym h.1.is ∙ ap (λ s. understood s sql) over.now.laid_out in
       let bare = subst IsPlain (sym known) plain in

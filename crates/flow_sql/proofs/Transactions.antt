@@ -1,22 +1,11 @@
 -- What BEGIN, COMMIT and ROLLBACK mean, under any schema.
-use Rattle.std.proofs.Common.{◌≡◌, inl, inr, ℕ, ◌≤◌, List, [], length, true, false, codes, Ok, Err, Result, None, refl, sym, ap, subst, ◌∙◌, arith, true≢false}
-use Rattle.std.specs.Prelude.{⊤, IsTrue, MatchResult, OnOk, IfErr}
-use Rattle.std.proofs.lemmas.Bool.{cases_Bool}
-use Rattle.sqlite.specs.Order.{Row}
-use Rattle.sqlite.specs.Tree.{Trees}
-use Rattle.sqlite.specs.Schema.{Schema}
-use Rattle.sqlite.specs.Command.{Command}
-use Rattle.sqlite.specs.Command.TheVariants.{Begin, Commit, Rollback}
+use Rattle.std.proofs.Common.{◌≡◌, inl, inr, ℕ, ◌≤◌, List, [], length, true, false, codes, Ok, Err, Result, None, refl, sym, ap, subst, ◌∙◌, arith, true≢false, IsTrue, MatchResult, OnOk, IfErr}
+use Rattle.flow_sql.specs.Names.{cases_Bool, Row, Trees, Schema, Command, Begin, Commit, Rollback, Error, Compiled, CompileError, State, Survives, Executes, Runs, RunsCommand, IsRolledBack, shows_rows, text_of, timed, IsPlain, command_of, statement_of, runs_as, survives_weaker}
+use Rattle.std.specs.Prelude.{⊤}
 use Rattle.sqlite.specs.Calls.{IsWrite}
 use Rattle.sqlite_tied.specs.Compute.{everything}
 use Rattle.sqlite.specs.Listing.{understood}
-use Rattle.sqlite.specs.declared.error.Error.{Error}
-use Rattle.sqlite_resolve.specs.declared.compiled.Compiled.{Compiled}
-use Rattle.sqlite_resolve.specs.declared.error.CompileError.{CompileError}
-use Rattle.sqlite.specs.State.{State, CommitsBy, Survives, MayWrite, Executes, ExecutesIn, Runs, RunsCommand, IsNotRun, IsMisplaced, IsRolledBack, shows_rows, text_of}
-use Rattle.sqlite.specs.Clock.{timed}
-use Rattle.sqlite.proofs.Callers.{IsPlain, command_of, statement_of, runs_as}
-use Rattle.sqlite.proofs.StateLemmas.{survives_weaker}
+use Rattle.sqlite.specs.State.{CommitsBy, MayWrite, ExecutesIn, IsNotRun, IsMisplaced}
 use Rattle.flow_sql.specs.Layout.{schema}
 use Rattle.flow_sql.specs.States.{Holds, IsOver, IsStill, IsRefused, IsUndone, RunsTo, HasBegun, HasCommitted, GoesOn, HasEnded}
 use Rattle.flow_sql.proofs.Leaves.{was_clean, over_both, rolled_back_ended, ended_undone, error_refused}
@@ -176,11 +165,9 @@ module _ (old new : State) where
   pub rolls_back : (count : ℕ) → Executes (codes "ROLLBACK") [] old new (Ok count) → IsTrue old.in_transaction × HasEnded old new
   rolls_back count h = let r = ran_as (codes "ROLLBACK") Rollback rollback_text count h in (r.0, rolled_back_ended old new r.1)
 
-  pub commit_ends : (e : Error) → old.in_transaction ≡ true → Executes (codes "COMMIT") [] old new (Err e) → HasEnded old new
-  commit_ends e inside h = rolled_back_ended old new (ends_anyway (codes "COMMIT") old new e Commit commit_text tt inside h)
-
-  pub rollback_ends : (e : Error) → old.in_transaction ≡ true → Executes (codes "ROLLBACK") [] old new (Err e) → HasEnded old new
-  rollback_ends e inside h = rolled_back_ended old new (ends_anyway (codes "ROLLBACK") old new e Rollback rollback_text tt inside h)
+  -- a refusal within a transaction has ended it
+  ended_by : (sql : List ℕ) (command : Command) → Controls sql command → IsEnd command → (e : Error) → old.in_transaction ≡ true → Executes sql [] old new (Err e) → HasEnded old new
+  ended_by sql command it ends e inside h = rolled_back_ended old new (ends_anyway sql old new e command it ends inside h)
 
   pub begun_still : HasBegun old new → IsOver false old → IsStill true old new
   begun_still h was = over_both true new old.now old.committed h.1.is_open h.1.mode h.1.now_is h.1.committed_is was.now was.committed
@@ -212,21 +199,27 @@ module _ (old new : State) where
   ran_ok sql P (Ok x) h f = f h.0 h.1
   ran_ok sql P (Err e) h f = tt
 
+  pub begun_or_told : (r : Result (Unit {0}) Error) → RunsTo (codes "BEGIN") old new r → MatchResult r (λ _. HasBegun old new) (λ e. Executes (codes "BEGIN") [] old new (Err e))
+  begun_or_told r h = ran_to (codes "BEGIN") (HasBegun old new) r h begins
+
   pub begun_or_refused : (r : Result (Unit {0}) Error) → RunsTo (codes "BEGIN") old new r → IsOver false old → MatchResult r (λ _. IsStill true old new) (λ _. IsRefused false old new)
   begun_or_refused (Ok x) h was = begun_still (begins h.0 h.1) was
   begun_or_refused (Err e) h was = error_refused old new (codes "BEGIN") [] e false was h
 
+  pub committed_or_told : (r : Result (Unit {0}) Error) → RunsTo (codes "COMMIT") old new r → MatchResult r (λ _. HasCommitted old new) (λ e. Executes (codes "COMMIT") [] old new (Err e))
+  committed_or_told r h = ran_to (codes "COMMIT") (HasCommitted old new) r h commits
+
   pub committed_or_ended : (r : Result (Unit {0}) Error) → RunsTo (codes "COMMIT") old new r → IsTrue old.in_transaction → IfErr r (λ _. HasEnded old new)
   committed_or_ended (Ok x) h inside = tt
-  committed_or_ended (Err e) h inside = commit_ends e inside h
+  committed_or_ended (Err e) h inside = ended_by (codes "COMMIT") Commit commit_text tt e inside h
 
   pub committed_or_undone : (r : Result (Unit {0}) Error) → RunsTo (codes "COMMIT") old new r → IsOver true old → MatchResult r (λ _. IsOver false new × (new.now ≡ old.now) × (new.committed ≡ old.now)) (λ _. IsUndone old new)
   committed_or_undone (Ok x) h was = committed_over (commits h.0 h.1) was
-  committed_or_undone (Err e) h was = over_undone was (commit_ends e was.mode h)
+  committed_or_undone (Err e) h was = over_undone was (ended_by (codes "COMMIT") Commit commit_text tt e was.mode h)
 
   pub rolled_back : (r : Result (Unit {0}) Error) → RunsTo (codes "ROLLBACK") old new r → IsTrue old.in_transaction → HasEnded old new
   rolled_back (Ok x) h inside = (rolls_back h.0 h.1).1
-  rolled_back (Err e) h inside = rollback_ends e inside h
+  rolled_back (Err e) h inside = ended_by (codes "ROLLBACK") Rollback rollback_text tt e inside h
 
 -- What was begun and goes on, and then ends, has ended.
 pub goes_on_then : (a b c : State) → GoesOn a b → GoesOn b c → GoesOn a c

@@ -1,5 +1,5 @@
 -- What a text of SQL means over our tables: a query and what its answer tells, a change and what it does.
-use Rattle.std.specs.Prelude.{◌≡◌, ℕ, true, false, List, [], ◌∷◌, length, slice_get, map, Option, Some, Result, Ok, Err}
+use Rattle.std.specs.Prelude.{◌≡◌, ℕ, true, false, List, [], length, map, Option, Result, Ok, Err}
 use Rattle.sqlite_trees.specs.declared.store.Store.{Ghosts}
 use Rattle.sqlite_resolve.specs.declared.compiled.Compiled.{Compiled}
 use Rattle.sqlite_resolve.specs.declared.error.CompileError.{CompileError}
@@ -21,7 +21,7 @@ use Rattle.sqlite.specs.declared.error.Error.{Error}
 use Rattle.sqlite_sql.specs.Program.{QueryOverflows}
 use Rattle.sqlite_typing.specs.Types.{accepts_program}
 use Rattle.flow_rows.specs.Rows.{Tables}
-use Rattle.flow_sql.specs.Layout.{schema, texts_sql, runs_sql, events_sql, timers_sql, tasks_sql, text_body_sql, text_number_sql, last_text_sql, run_row_sql, last_run_sql, requested_sql, open_run_sql, run_events_sql, run_tasks_sql, last_event_sql, insert_text_sql, insert_run_sql, insert_event_sql, insert_timer_sql, insert_task_sql, delete_timer_sql, delete_timers_sql, delete_task_sql, delete_tasks_sql, mark_run_sql}
+use Rattle.flow_sql.specs.Layout.{schema, Read, read_sql, Write, write_sql}
 use Rattle.flow_sql.specs.Stored.{tables_in}
 use Rattle.flow_sql.specs.States.{AreOurs, IsOver, Changes, FirstIs, IsReading}
 
@@ -41,20 +41,37 @@ pub record IsRead (sql : List ℕ) (q : Query) (names : List (List ℕ)) : Type 
   pub unlisted : reads_listing schema sql ≡ false
   pub reading : FirstIs IsReading (first sql)
 
----- Our texts, each with how many values are given with it
+---- Our texts, with what is given to them
 
-abbrev pub our_questions : List (List ℕ × ℕ)
-our_questions =
-    (texts_sql, 0) ∷ (runs_sql, 0) ∷ (events_sql, 0) ∷ (timers_sql, 0) ∷ (tasks_sql, 0) ∷ (text_body_sql, 1) ∷ (text_number_sql, 1) ∷ (last_text_sql, 0) ∷ (run_row_sql, 1) ∷ (last_run_sql, 0) ∷ (requested_sql, 1)
-    ∷ (open_run_sql, 1) ∷ (run_events_sql, 1) ∷ (run_tasks_sql, 1) ∷ (last_event_sql, 1) ∷ []
+-- how many values are given with a read, and with a change
+abbrev pub read_takes : Read → ℕ
+read_takes Read.text_body = 1
+read_takes Read.text_number = 1
+read_takes Read.run_row = 1
+read_takes Read.requested = 1
+read_takes Read.open_run = 1
+read_takes Read.run_events = 1
+read_takes Read.last_event = 1
+read_takes Read.run_tasks = 1
+read_takes _ = 0
 
-abbrev pub our_changes : List (List ℕ × ℕ)
-our_changes =
-    (insert_text_sql, 2) ∷ (insert_run_sql, 5) ∷ (insert_event_sql, 4) ∷ (insert_timer_sql, 3) ∷ (insert_task_sql, 4) ∷ (delete_timer_sql, 2) ∷ (delete_timers_sql, 1) ∷ (delete_task_sql, 2) ∷ (delete_tasks_sql, 1) ∷ (mark_run_sql, 2) ∷ []
+abbrev pub write_takes : Write → ℕ
+write_takes Write.insert_text = 2
+write_takes Write.insert_run = 5
+write_takes Write.insert_event = 4
+write_takes Write.insert_timer = 3
+write_takes Write.insert_task = 4
+write_takes Write.delete_timer = 2
+write_takes Write.delete_timers = 1
+write_takes Write.delete_task = 2
+write_takes Write.delete_tasks = 1
+write_takes Write.mark_run = 2
 
--- it is one of these, with so many values
-abbrev pub IsAmong : List (List ℕ × ℕ) → List ℕ → ℕ → Type 0
-IsAmong texts sql count = (at : ℕ) × (slice_get texts at ≡ Some (sql, count))
+abbrev pub IsOurRead : List ℕ → Row → Type 0
+IsOurRead sql params = (r : Read) × (read_sql r ≡ sql) × (read_takes r ≡ length params)
+
+abbrev pub IsOurWrite : List ℕ → Row → Type 0
+IsOurWrite sql params = (w : Write) × (write_sql w ≡ sql) × (write_takes w ≡ length params)
 
 -- The database itself refuses the statement, as where a key would be broken, a row is too big or a query takes more steps than it may.
 abbrev pub IsDeclined : List ℕ → Row → State → Type 0
@@ -76,7 +93,7 @@ pub record IsQuestion {Q A : Type 0} (said : Row → A) (asks : Q → Asks A) : 
   pub names : List (List ℕ)
   pub is : (q : Q) → IsRead (asks q).sql query names
   pub found : (q : Q) (db : Trees) → AreOurs db → (rows : List Row) → IsAnswer query (overlay db []) (asks q).params rows → (asks q).tells (tables_in db) (map said rows)
-  pub listed : (q : Q) → IsAmong our_questions (asks q).sql (length (asks q).params)
+  pub listed : (q : Q) → IsOurRead (asks q).sql (asks q).params
   pub typed : (q : Q) → accepts_program schema [] query (asks q).params ≡ true
   pub summed : (q : Q) (db : Trees) → ¬ QueryOverflows query db (asks q).params
 
@@ -93,6 +110,6 @@ pub record IsRowChange {S : Type 0} (g : Ghosts S) (it : Alters) : Type 0 where
   pub is : command_of (understood schema it.sql) ≡ command
   pub writes : IsWrite command
   pub plain : IsPlain (understood schema it.sql)
-  pub listed : IsAmong our_changes it.sql (length it.params)
+  pub listed : IsOurWrite it.sql it.params
   pub put : (old new : Held S) (count : ℕ) → IsOver true (state g old) → it.fits (tables_in (state g old).now.trees) → Executes it.sql it.params (state g old) (state g new) (Ok count)
       → Changes (state g old) (state g new) (it.after (tables_in (state g old).now.trees))

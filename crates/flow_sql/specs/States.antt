@@ -1,24 +1,8 @@
 -- What a connection shows, and what became of it by a call.
-use Rattle.std.specs.Prelude.{◌≡◌, ◌⊎◌, ℕ, Bool, true, false, List, [], ◌∷◌, IsTrue, ⊤, Result, Ok, Err, MatchResult, codes}
-use Rattle.std.specs.List.{AllByRecursion}
-use Rattle.sqlite_ast.specs.declared.Statement.{Statement}
+use Rattle.std.specs.Prelude.{◌≡◌, ◌⊎◌, [], ◌∷◌, ⊤, Result, Ok, Err}
+use Rattle.flow_sql.specs.Names.{ℕ, Bool, true, false, List, IsTrue, MatchResult, codes, AllByRecursion, Statement, Parsed, Checked, Ghosts, created, IsSound, Row, Table, Schema, Trees, rowid, IsTable, is_int, Database, Held, state, Error, State, HasCleanDisk, Shows, Executes, Tables}
 use Rattle.sqlite_ast.specs.declared.Statement.TheVariants as written
 use Rattle.sqlite_ast.specs.declared.Conflict.TheVariants as conflict
-use Rattle.sqlite_syntax.specs.declared.statement.Parsed.{Parsed}
-use Rattle.sqlite_resolve.specs.Lowering.{Checked}
-use Rattle.sqlite_trees.specs.declared.store.Store.{Ghosts}
-use Rattle.sqlite_catalog.specs.Change.{created}
-use Rattle.sqlite_catalog.specs.Listing.{IsSound}
-use Rattle.sqlite.specs.Order.{Row}
-use Rattle.sqlite.specs.Table.{Table}
-use Rattle.sqlite.specs.Schema.{Schema}
-use Rattle.sqlite.specs.Tree.{Trees, rowid, IsTable}
-use Rattle.sqlite.specs.View.{is_int}
-use Rattle.sqlite.specs.Effect.{Database}
-use Rattle.sqlite.specs.Held.{Held, state}
-use Rattle.sqlite.specs.declared.error.Error.{Error}
-use Rattle.sqlite.specs.State.{State, HasCleanDisk, Shows, Executes}
-use Rattle.flow_rows.specs.Rows.{Tables}
 use Rattle.flow_sql.specs.Layout.{schema, no_schema, meta, text, run}
 use Rattle.flow_sql.specs.Stored.{tables_in, format_row}
 
@@ -142,10 +126,10 @@ pub record HasMade (s : State) : Type 0 where
   pub now : HasTables s.now
   pub tables : tables_in s.now.trees ≡ no_tables
 
--- a CREATE TABLE, or an INSERT that shows nothing
+-- a CREATE TABLE, or an INSERT that has no clause and shows nothing
 abbrev pub IsMaking : Statement → Type 0
 IsMaking (written.CreateTable def) = ⊤
-IsMaking (written.Insert conflict.Abort name columns rows clauses shown) = shown ≡ []
+IsMaking (written.Insert conflict.Abort name columns rows clauses shown) = (clauses ≡ []) × (shown ≡ [])
 IsMaking _ = ⊥
 
 abbrev pub IsReading : Statement → Type 0

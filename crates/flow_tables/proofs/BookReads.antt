@@ -1,41 +1,28 @@
 -- What reads of rows tell of the book.
-use Rattle.std.proofs.Common.{◌≡◌, ◌≤◌, ◌+◌, ℕ, zero, suc, ℤ, pos, Bool, true, false, if◌then◌else◌, List, [], ◌∷◌, map, Option, Some, None, Result, Ok, Err, refl, sym, ap, subst, ◌∙◌, arith}
-use Rattle.std.specs.Prelude.{MatchResult, IfOk, IfErr, option_map}
-use Rattle.std.specs.List.{AllByRecursion}
-use Rattle.std.proofs.lemmas.Int.{ints}
-use Rattle.sqlite.specs.State.{State}
-use Rattle.flow_base.specs.declared.book.Run.{Run}
-use Rattle.flow_model.specs.Book.{Book, nth, first_from}
-use Rattle.flow_view.specs.declared.fault.ViewFault.{ViewFault}
+use Rattle.std.proofs.Common.{◌≡◌, ◌≤◌, ◌+◌, ℕ, zero, suc, ℤ, pos, Bool, true, false, if◌then◌else◌, List, [], ◌∷◌, map, Option, Some, None, Result, Ok, Err, refl, sym, ap, subst, ◌∙◌, arith, MatchResult, IfOk, IfErr, option_map}
+use Rattle.flow_tables.specs.Names.{AllByRecursion, ints, State, Run, Book, nth, ViewFault, RunRow, OutboxRow, Tables, run_row, event_row, last_number, Tells, tables_in, IsStill, IsRefused}
+use Rattle.flow_model.specs.Book.{first_from}
 use Rattle.flow_view.specs.declared.fault.ViewFault.TheVariants as view
-use Rattle.flow_rows.specs.declared.rows.RunRow.{RunRow}
 use Rattle.flow_rows.specs.declared.rows.EventRow.{EventRow}
-use Rattle.flow_rows.specs.declared.rows.OutboxRow.{OutboxRow}
-use Rattle.flow_rows.specs.Rows.{Tables, run_row, event_row}
-use Rattle.flow_rows.specs.Finding.{last_number}
 use Rattle.flow_rows.specs.Recalling.{run_in}
-use Rattle.flow_rows.specs.Told.{Tells, run_told, IsTold}
+use Rattle.flow_rows.specs.Told.{run_told, IsTold}
 use Rattle.flow_rows.proofs.Recalled.{run_in_told, run_back}
 use Rattle.flow_rows.proofs.BookTables.{nth_is}
 use Rattle.flow_rows.proofs.WholeChanges.{all_get}
 use Rattle.flow_rows.proofs.Finds.{run_read, event_rows_read, task_rows_read}
 use Rattle.flow_tables.specs.Owned.{RecallsRun, StopsRecall, IsBelowOne, as_number, as_count}
 use Rattle.flow_tables.specs.Asking.{IsValue}
-use Rattle.flow_sql.specs.Stored.{tables_in}
 use Rattle.flow_tables.proofs.Succession.{still_then, still_refused}
-use Rattle.flow_sql.specs.States.{IsStill, IsRefused}
 
 pub same_numbers : (a b : Option ℕ) → option_map pos a ≡ option_map pos b → a ≡ b
 same_numbers None None e = refl
-same_numbers None (Some n) e = absurd (cc)
-same_numbers (Some m) None e = absurd (cc)
 same_numbers (Some m) (Some n) e = cc
+same_numbers _ _ e = absurd (cc)
 
 pub same_counts : (a b : ℕ) → last_number a ≡ last_number b → a ≡ b
 same_counts zero zero e = refl
-same_counts zero (suc n) e = absurd (cc)
-same_counts (suc m) zero e = absurd (cc)
 same_counts (suc m) (suc n) e = cc
+same_counts _ _ e = absurd (cc)
 
 -- tables that are as they were tell what they told
 pub tells_still : (a b : State) (k : Book) → IsStill true a b → Tells (tables_in a.now.trees) k → Tells (tables_in b.now.trees) k

@@ -1,42 +1,19 @@
 -- That the statements which are made, where so much is known of the rows, leave what all of them would.
-use Rattle.std.proofs.Common.{◌≡◌, ℕ, suc, ◌+◌, ℤ, pos, negsuc, Bool, true, false, List, [], ◌∷◌, ◌++◌, map, filter, length, nat_eq, Option, Some, None, if◌then◌else◌, refl, sym, ap, subst, ◌∙◌, arith, Result, Ok, Err, true≢false}
-use Rattle.std.proofs.lemmas.Bool.{eqb-true, ltb-true}
+use Rattle.std.proofs.Common.{◌≡◌, ℕ, suc, ◌+◌, ℤ, pos, Bool, true, false, List, [], ◌∷◌, ◌++◌, map, filter, length, nat_eq, Option, Some, None, if◌then◌else◌, refl, sym, ap, subst, ◌∙◌, arith, Result, Ok, Err, true≢false, eqb-true, int_lt, MatchResult, int_eq}
+use Rattle.flow_tables.specs.Names.{AllByRecursion, ints, State, effect_of, Bytes, Effect, Cmd, Event, Input, Started, Came, Task, Run, Turn, Book, nth, is_open, state_of, traces, turn_events, RunRow, OutboxRow, Tables, event_row, timer_row, task_row, of_run, with_run, with_event, with_timer, without_tasks, without_timers, marked, marked_row, is_other_task, Tells, new_run, after_effect, after_turn, IsReadableTurn, tables_in, Changes, OpenTasks, Standing}
 use Rattle.std.proofs.lemmas.Bool.Decides.{Decides-int_eq}
-use Rattle.std.specs.Prelude.{int_lt, MatchResult}
+use Rattle.std.proofs.lemmas.List.{map-append}
+use Rattle.sqlite_catalog.proofs.ListFacts.{filter_swap}
 use Rattle.std.proofs.lemmas.Option.{slice_get_past}
-use Rattle.std.specs.List.{AllByRecursion}
-use Rattle.std.specs.Ordering.{int_eq}
-use Rattle.sqlite.specs.State.{State}
-use Rattle.flow_base.specs.Effects.{effect_of}
-use Rattle.flow_base.specs.Syntax.{Bytes}
-use Rattle.flow_base.specs.declared.effect.Effect.{Effect}
 use Rattle.flow_base.specs.declared.effect.Effect.TheVariants as effect
-use Rattle.flow_base.specs.declared.event.Cmd.{Cmd}
-use Rattle.flow_base.specs.declared.event.Event.{Event}
-use Rattle.flow_base.specs.declared.event.Input.{Input}
-use Rattle.flow_base.specs.declared.event.Input.TheVariants.{Started, Signaled, ActivityCompleted, ActivityFailed, TimerFired, Terminated}
-use Rattle.flow_base.specs.declared.event.What.TheVariants.{Came}
-use Rattle.flow_base.specs.declared.book.Task.{Task}
-use Rattle.flow_base.specs.declared.book.Run.{Run}
-use Rattle.flow_base.specs.declared.book.Turn.{Turn}
-use Rattle.flow_model.specs.Book.{Book, nth}
-use Rattle.flow_model.specs.Configuration.{is_open}
-use Rattle.flow_model.specs.Open.{timers_by, timers_after, open_timers, state_of}
-use Rattle.flow_model.specs.Turned.{traces, turn_events}
-use Rattle.flow_rows.specs.declared.rows.RunRow.{RunRow}
+use Rattle.flow_model.specs.Open.{timers_by, timers_after, open_timers}
 use Rattle.flow_rows.specs.declared.rows.TimerRow.{TimerRow}
-use Rattle.flow_rows.specs.declared.rows.OutboxRow.{OutboxRow}
-use Rattle.flow_rows.specs.Rows.{Tables, event_row, timer_row, task_row, timers_left, of_run}
-use Rattle.flow_rows.specs.Changes.{at_run, with_run, with_event, with_timer, without_tasks, without_timers, marked, marked_row, is_other_task, is_other_timer}
-use Rattle.flow_rows.specs.Told.{Tells, new_run, opened_by, after_effect, after_event, after_events, after_turn, IsReadableTurn}
+use Rattle.flow_rows.specs.Changes.{at_run, is_other_timer}
+use Rattle.flow_rows.specs.Told.{opened_by, after_event, after_events}
 use Rattle.flow_rows.proofs.BookTables.{nth_is}
 use Rattle.flow_rows.proofs.Finds as found
 use Rattle.flow_rows.proofs.Undamaged.{timer_rows_of, task_rows_of}
-use Rattle.flow_sql.specs.Stored.{tables_in}
-use Rattle.flow_sql.specs.States.{Changes}
-use Rattle.flow_tables.specs.declared.known.OpenTasks.{OpenTasks}
 use Rattle.flow_tables.specs.declared.known.OpenTasks.TheVariants as tasks
-use Rattle.flow_tables.specs.declared.known.Standing.{Standing}
 use Rattle.flow_tables.specs.Puts.{IsCutShort}
 use Rattle.flow_tables.specs.Known.{Stands, HasOnly, ended, stands_by, stands_what, tasks_gone, timers_gone, closed_from, made_effect, made_event, made_events, made_turn, begins, first_row, first_standing, any_standing, tasks_known, opens_timer, started_timer, run_standing}
 
@@ -55,8 +32,7 @@ none_to_go {A} run rows none z = by_case (int_eq z run) refl
 
 tasks_gone_is : (run : ℤ) (k : OpenTasks) (t : Tables) → HasOnly k (t.outbox run) → tasks_gone run k t ≡ without_tasks run t
 tasks_gone_is run tasks.Gone t none = λ i. record t { outbox = λ z. sym (none_to_go run t.outbox none z) i }
-tasks_gone_is run (tasks.Single n) t only = refl
-tasks_gone_is run tasks.Unsure t only = refl
+tasks_gone_is run _ t only = refl
 
 timers_gone_is : (run : ℤ) (v : Bool) (t : Tables) → (v ≡ false → t.timers run ≡ []) → timers_gone run v t ≡ without_timers run t
 timers_gone_is run true t none = refl
@@ -74,24 +50,13 @@ closed_is run s t h =
 -- The statements that are made leave what all of them would.
 effect_is : (run : ℤ) (s : Standing) (id at : ℕ) (e : Effect) (t : Tables) → Stands run s t → made_effect run s id at e t ≡ after_effect run s.is_open id at e t
 effect_is run s id at effect.Begins t h = mark_is run s.is_marked t h.mark
-effect_is run s id at effect.OpensActivity t h = refl
-effect_is run s id at (effect.OpensTimer due) t h = refl
-effect_is run s id at (effect.EndsActivity n) t h = refl
-effect_is run s id at (effect.EndsTimer n) t h = refl
 effect_is run s id at (effect.Closes x) t h = closed_is run s t h
-effect_is run s id at effect.Nothing t h = refl
+effect_is run s id at _ t h = refl
 
 ---- What is known stays true
 
-filter_more : {A : Type 0} (p q : A → Bool) (x : A) (xs : List A) (v w : Bool) → p x ≡ v → q x ≡ w → (filter p xs ≡ [] → filter p (filter q xs) ≡ [])
-    → filter p (x ∷ xs) ≡ [] → filter p (filter q (x ∷ xs)) ≡ []
-filter_more p q x xs true w is other more none = absurd (let clash = rw is at none in cc)
-filter_more p q x xs false true is other more none = rw other (rw is (more (rw is at none)))
-filter_more p q x xs false false is other more none = rw other (more (rw is at none))
-
 filter_both : {A : Type 0} (p q : A → Bool) (xs : List A) → filter p xs ≡ [] → filter p (filter q xs) ≡ []
-filter_both p q [] none = refl
-filter_both p q (x ∷ xs) none = filter_more p q x xs (p x) (q x) refl refl (filter_both p q xs) none
+filter_both p q xs none = filter_swap p q xs ∙ ap (filter q) none
 
 ended_single : (n m : ℕ) (rows : List OutboxRow) (v : Bool) → nat_eq n m ≡ v → filter (is_other_task (pos n)) rows ≡ []
     → HasOnly (if v then tasks.Gone else tasks.Single n) (filter (is_other_task (pos m)) rows)
@@ -135,21 +100,13 @@ stands_on run s id at effect.Nothing t h = h
 
 opens_alike : (s : Standing) (e : Effect) → (stands_by s e).is_open ≡ opened_by s.is_open e
 opens_alike s effect.Begins = refl
-opens_alike s effect.OpensActivity = refl
-opens_alike s (effect.OpensTimer due) = refl
-opens_alike s (effect.EndsActivity n) = refl
-opens_alike s (effect.EndsTimer n) = refl
-opens_alike s (effect.Closes x) = refl
-opens_alike s effect.Nothing = refl
-
--- an event's own row is none of these
-event_stands : (run : ℤ) (s : Standing) (e : Event) (t : Tables) → Stands run s t → Stands run s (with_event (event_row run e) t)
-event_stands run s e t h = record { mark = h.mark; tasks = h.tasks; timers = h.timers }
+opens_alike s _ = refl
 
 pub made_all : (run : ℤ) (es : List Event) (s : Standing) (t : Tables) → Stands run s t → made_events run s es t ≡ after_events run s.is_open es t
 made_all run [] s t h = refl
 made_all run (e ∷ es) s t h =
-    let own = event_stands run s e t h in
+    -- an event's own row is none of these
+    let own : Stands run s (with_event (event_row run e) t) = record { mark = h.mark; tasks = h.tasks; timers = h.timers } in
     let here : made_event run s e t ≡ after_event run s.is_open e t = effect_is run s e.id e.at (effect_of e.what) (with_event (event_row run e) t) own in
     let next = stands_on run s e.id e.at (effect_of e.what) (with_event (event_row run e) t) own in
     ap (made_events run (stands_what s e.what) es) here ∙ made_all run es (stands_what s e.what) (after_event run s.is_open e t) next
@@ -169,8 +126,7 @@ any_stands run opened t = record { mark = λ is. absurd (true≢false (sym is));
 ---- A run that begins
 
 marked_end : (f : RunRow → RunRow) (a b : RunRow) (xs : List RunRow) → f a ≡ f b → map f (xs ++ a ∷ []) ≡ map f (xs ++ b ∷ [])
-marked_end f a b [] same = ap (λ x. x ∷ []) same
-marked_end f a b (x ∷ xs) same = ap (λ l. f x ∷ l) (marked_end f a b xs same)
+marked_end f a b xs same = map-append f xs (a ∷ []) ∙ ap (λ y. map f xs ++ y ∷ []) same ∙ sym (map-append f xs (b ∷ []))
 
 -- the mark that its row comes with is the one that it gets
 begun_is : (n at : ℕ) (i : Input) (cs : List Cmd) (flow : Bytes) (request : Option Bytes) (text : ℕ) (t : Tables)
@@ -181,22 +137,10 @@ begun_is n at (Started vs) cs flow request text t =
     let alike : marked_row (pos n) (pos 1) (first_row n flow request text true) ≡ marked_row (pos n) (pos 1) (new_run n flow request text) = rw same refl in
     ap (λ rows. after_events (pos n) true (traces 2 at cs) (record (with_event (event_row (pos n) e) t) { runs = rows }))
     (marked_end (marked_row (pos n) (pos 1)) (first_row n flow request text true) (new_run n flow request text) t.runs alike)
-begun_is n at (Signaled a q v) cs flow request text t = refl
-begun_is n at (ActivityCompleted k v) cs flow request text t = refl
-begun_is n at (ActivityFailed k x) cs flow request text t = refl
-begun_is n at (TimerFired k) cs flow request text t = refl
-begun_is n at (Terminated x) cs flow request text t = refl
+begun_is n at _ cs flow request text t = refl
 
 other_below : (z n : ℤ) → int_lt z n ≡ true → int_eq z n ≡ false
-other_below z n less = by_case (int_eq z n) refl
-  where
-    by_case : (v : Bool) → int_eq z n ≡ v → int_eq z n ≡ false
-    by_case false is = is
-    by_case true is = absurd (none n (subst (λ x. int_lt x n ≡ true) ((Decides-int_eq z n).0 is) less))
-      where
-        none : (x : ℤ) → int_lt x x ≡ true → ⊥
-        none (pos k) itself = let it = ltb-true k k itself in omega (arith, it)
-        none (negsuc k) itself = let it = ltb-true k k itself in omega (arith, it)
+other_below z n less = grind (arith, ints)
 
 marked_others : (n : ℕ) (row : RunRow) (xs : List RunRow) → AllByRecursion (λ (x : RunRow). int_lt x.num (pos n) ≡ true) xs → marked_row (pos n) (pos 1) row ≡ row
     → map (marked_row (pos n) (pos 1)) (xs ++ row ∷ []) ≡ xs ++ row ∷ []
@@ -231,13 +175,8 @@ first_turn_made t b n flow request text turn tells next below =
 ---- What a run that was read tells of its rows
 
 no_timer_by : (id : ℕ) (e : Effect) → opens_timer e ≡ false → timers_by [] id e ≡ []
-no_timer_by id effect.Begins none = refl
-no_timer_by id effect.OpensActivity none = refl
 no_timer_by id (effect.OpensTimer due) none = absurd (true≢false none)
-no_timer_by id (effect.EndsActivity n) none = refl
-no_timer_by id (effect.EndsTimer n) none = refl
-no_timer_by id (effect.Closes x) none = refl
-no_timer_by id effect.Nothing none = refl
+no_timer_by id _ none = refl
 
 no_timer_more : (e : Event) (es : List Event) (v : Bool) → opens_timer (effect_of e.what) ≡ v → (started_timer es ≡ false → timers_after [] es ≡ [])
     → (if v then true else started_timer es) ≡ false → timers_after [] (e ∷ es) ≡ []
@@ -252,20 +191,15 @@ no_timer_left : (h : List Event) (v : Bool) → open_timers h ≡ [] → (if v t
 no_timer_left h true none = none
 no_timer_left h false none = refl
 
-timer_rows_read : (t : Tables) (b : Book) (n : ℕ) (r : Run) → Tells t b → nth b.runs n ≡ Some r → t.timers (pos n) ≡ map (timer_row (pos n)) (timers_left r.history)
-timer_rows_read t b n r h there = ap (λ (u : Tables). u.timers (pos n)) h.same ∙ ap (λ o. of_run o (timer_rows_of (pos n))) there
-
-single_row : (run : ℤ) (x : Task) → filter (is_other_task (pos x.event)) (task_row run x ∷ []) ≡ []
-single_row run x = let same : int_eq (pos x.event) (pos x.event) ≡ true = (Decides-int_eq (pos x.event) (pos x.event)).1 refl in rw same refl
-
 tasks_only : (run : ℤ) (ts : List Task) → HasOnly (tasks_known ts) (map (task_row run) ts)
 tasks_only run [] = refl
-tasks_only run (x ∷ []) = single_row run x
+tasks_only run (x ∷ []) = let same : int_eq (pos x.event) (pos x.event) ≡ true = (Decides-int_eq (pos x.event) (pos x.event)).1 refl in rw same refl
 tasks_only run (x ∷ y ∷ ts) = tt
 
 pub run_stands : (t : Tables) (b : Book) (n : ℕ) (r : Run) → Tells t b → nth b.runs n ≡ Some r → Stands (pos n) (run_standing r) t
 run_stands t b n r tells there = record {
   mark = λ is. absurd (true≢false (sym is));
   tasks = subst (HasOnly (tasks_known r.tasks)) (sym (found.task_rows_read t b n r tells there)) (tasks_only (pos n) r.tasks);
-  timers = λ none. timer_rows_read t b n r tells there ∙ ap (map (timer_row (pos n))) (no_timer_left r.history (is_open (state_of r.history)) (no_timer r.history none));
+  timers = λ none. ap (λ (u : Tables). u.timers (pos n)) tells.same ∙ ap (λ o. of_run o (timer_rows_of (pos n))) there
+      ∙ ap (map (timer_row (pos n))) (no_timer_left r.history (is_open (state_of r.history)) (no_timer r.history none));
 }

@@ -1,44 +1,24 @@
 -- What opening finds, and why it is refused.
-use Rattle.std.proofs.Common.{◌≡◌, ◌≢◌, ◌⊎◌, inl, inr, ℤ, pos, negsuc, List, [], map, Bool, true, false, if◌then◌else◌, nat_eq, None, Ok, Err, Result, OnOk, IfErr, refl, sym, ap, subst, ◌∙◌}
-use Rattle.std.specs.Prelude.{IfOk}
-use Rattle.sqlite.specs.declared.error.ErrorCode.{ErrorCode}
+use Rattle.std.proofs.Common.{◌≡◌, ◌≢◌, ◌⊎◌, inl, inr, ℤ, pos, negsuc, List, [], map, Bool, true, false, if◌then◌else◌, nat_eq, None, Ok, Err, Result, OnOk, IfErr, refl, sym, ap, subst, ◌∙◌, IsTrue}
+use Rattle.flow_tables.specs.Names.{Error, SqliteFailure, Ghosts, State, Int, Row, column, Run, Tables, of_run, event_row, timer_row, timers_left, task_row, Tells, Fault, NoMemory, StoreRefused, NotOurs, BadVersion, Damaged, StoreFault, format_sql, HasTables, HasEnded, IsAtRest, IsRefusal, no_tables, is_program, Book, HasCleanDisk, Survives, Database, no_schema}
 use Rattle.sqlite.specs.declared.error.ErrorCode.TheVariants as code
-use Rattle.sqlite.specs.declared.error.Error.{Error}
-use Rattle.sqlite.specs.declared.error.Error.TheVariants.{SqliteFailure}
-use Rattle.sqlite_trees.specs.declared.store.Store.{Ghosts}
 use Rattle.sqlite_trees.specs.declared.error.StoreError.{StoreError}
 use Rattle.sqlite_trees.specs.declared.error.StoreError.TheVariants.{OutOfMemory}
-use Rattle.sqlite.specs.State.{State, Fails, QueriesRow, store_error}
+use Rattle.sqlite.specs.State.{Fails, QueriesRow, store_error}
 use Rattle.sqlite.specs.declared.types.Value.{Value}
-use Rattle.sqlite.specs.declared.types.Value.TheVariants.{Int}
-use Rattle.sqlite.specs.Order.{Row}
-use Rattle.sqlite_value.specs.Order.{column}
-use Rattle.flow_base.specs.declared.book.Run.{Run}
-use Rattle.flow_rows.specs.Rows.{Tables, run_at, of_run, event_row, timer_row, timers_left, task_row}
-use Rattle.flow_rows.specs.Told.{Tells}
-use Rattle.flow_base.specs.declared.fault.Fault.{Fault}
-use Rattle.flow_base.specs.declared.fault.Fault.TheVariants.{NoMemory, StoreRefused, NotOurs, BadVersion, Damaged}
-use Rattle.flow_tables.specs.declared.fault.StoreFault.{StoreFault}
+use Rattle.flow_rows.specs.Rows.{run_at}
 use Rattle.flow_tables.specs.declared.fault.StoreFault.TheVariants as read
-use Rattle.flow_sql.specs.Layout.{format_sql}
-use Rattle.flow_sql.specs.States.{HasTables, HasEnded, IsAtRest, IsRefusal, no_tables}
 use Rattle.flow_tables.specs.Reads.{IsRowsFault}
-use Rattle.flow_sql.proofs.Leaves.{rest_ended, rolled_back_ended}
+use Rattle.flow_sql.proofs.Leaves.{rest_ended, rolled_back_ended, was_clean}
 use Rattle.flow_sql.proofs.Transactions.{ends_again}
 use Rattle.flow_sql.proofs.Finding.{read_leaves, format_answer, at_rest}
-use Rattle.flow_check.specs.Language.{is_program}
-use Rattle.flow_model.specs.Book.{Book}
 use Rattle.flow_rows.proofs.Laws.{book_undamaged}
 use Rattle.flow_tables.specs.Opening.{opening_fault, read_fault_of, empty_book, IsOfStore, IsOfOpening, IsOfRows, IsFirstDamage, StandFor, IsMet, HasCause}
 
 ---- The faults of the store
 
-code_of_store : (c : ErrorCode) → IsOfStore (opening_fault (SqliteFailure c))
-code_of_store code.OutOfMemory = tt
-code_of_store _ = tt
-
 pub of_store : (e : Error) → IsOfStore (opening_fault e)
-of_store (SqliteFailure c) = code_of_store c
+of_store (SqliteFailure code.OutOfMemory) = tt
 of_store _ = tt
 
 pub caused : {S : Type 0} (g : Ghosts S) (e : Error) → IsMet g e → HasCause g (opening_fault e)
@@ -86,14 +66,6 @@ not_other v ours other = absurd (other.2 (same_number (sym other.1 ∙ ours)))
 
 ---- Results
 
-pub if_ok : {T E : Type 0} (P Q : T → Type 0) (r : Result T E) → ((x : T) → P x → Q x) → IfOk r P → IfOk r Q
-if_ok P Q (Ok x) f h = f x h
-if_ok P Q (Err e) f h = tt
-
-pub if_err : {T E : Type 0} (P Q : E → Type 0) (r : Result T E) → ((e : E) → P e → Q e) → IfErr r P → IfErr r Q
-if_err P Q (Ok x) f h = tt
-if_err P Q (Err e) f h = f e h
-
 pub same_fault : {T : Type 0} {a b : Fault} → ◌≡◌ {A = Result T Fault} (Err a) (Err b) → a ≡ b
 same_fault e = cc
 
@@ -136,10 +108,8 @@ read_among (read.Refused e) = store_among (opening_fault e) (of_store e)
 
 -- what the store refuses is no damage
 pub harmless : (t : Tables) (f : Fault) → IsOfStore f → IsFirstDamage t f
-harmless t NoMemory of = tt
-harmless t StoreRefused of = tt
-harmless t NotOurs of = tt
-harmless t _ of = absurd of
+harmless t (Damaged d) of = absurd of
+harmless t _ of = tt
 
 -- tables that stand for a book have none
 pub undamaged : (t : Tables) (b : Book) → StandFor t b → (f : Fault) → IsOfOpening f → f ≢ BadVersion → IsFirstDamage t f → IsOfStore f
@@ -155,6 +125,17 @@ undamaged t b stand _ among other first = absurd among
 
 pub rests_on : (a b c : State) → HasEnded a b → (IsAtRest b → HasEnded b c) → HasEnded a c
 rests_on a b c one two = ends_again a b c one (two (at_rest a b one))
+
+-- what was there when the format was looked for
+module _ (old mid read : State) (ended : HasCleanDisk mid → HasEnded old mid) (quiet : Survives old mid (λ _. ⊥)) (later : Survives mid read (λ _. ⊥)) (clean : HasCleanDisk read) where
+  pub had_ended : HasEnded old mid
+  had_ended = ended (was_clean mid read _ later clean)
+
+  pub had_tables : (HasCleanDisk old → HasTables old.committed) → IsTrue mid.is_open → HasTables mid.now
+  had_tables has up = subst HasTables (sym (had_ended.back up).0) (has (was_clean old mid _ quiet (was_clean mid read _ later clean)))
+
+  pub had_none : (HasCleanDisk old → old.committed.schema ≡ no_schema) → IsTrue mid.is_open → mid.now.schema ≡ no_schema
+  had_none none up = ap (λ (d : Database). d.schema) (had_ended.back up).0 ∙ none (was_clean old mid _ quiet (was_clean mid read _ later clean))
 
 ---- No tables
 

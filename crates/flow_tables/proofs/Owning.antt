@@ -1,27 +1,43 @@
 -- What tables keep true of their connection, call by call.
-use Rattle.std.proofs.Common.{◌≡◌, ◌⊎◌, inl, inr, ℕ, Bool, true, List, [], Option, Some, None, Result, Ok, Err, refl, sym, ap, subst, ◌∙◌}
-use Rattle.std.specs.Prelude.{IsTrue, MatchResult, OnOk, IfOk}
-use Rattle.sqlite.specs.Effect.{Database}
-use Rattle.sqlite.specs.declared.error.Error.{Error}
-use Rattle.sqlite.specs.State.{State, HasCleanDisk, Survives, Shows, Executes, IsUnchanged, IsRolledBack}
-use Rattle.flow_base.specs.declared.book.Change.{Change}
-use Rattle.flow_model.specs.Book.{Book, changed}
-use Rattle.flow_view.specs.declared.fault.ViewFault.{ViewFault}
-use Rattle.flow_tables.specs.declared.fault.Refusal.{Refusal}
+use Rattle.std.proofs.Common.{◌≡◌, ◌⊎◌, inl, inr, ℕ, Bool, true, false, List, [], Option, Some, None, Result, Ok, Err, refl, sym, ap, subst, ◌∙◌, IsTrue, MatchResult, OnOk, IfOk}
+use Rattle.flow_tables.specs.Names.{Database, Error, State, HasCleanDisk, Survives, Executes, Change, Book, ViewFault, Refusal, Tells, after_change, FitsTables, Known, tables_in, HasTables, IsOver, Holds, IsStill, IsRefused, IsUndone, HasBegun, HasCommitted, HasEnded, Changes}
+use Rattle.sqlite.specs.State.{Shows, IsUnchanged, IsRolledBack}
+use Rattle.flow_model.specs.Book.{changed}
 use Rattle.flow_tables.specs.Faults.{noted_fault, told_answer}
 use Rattle.flow_rows.specs.Typed.{IsTypedChange}
-use Rattle.flow_rows.specs.Told.{Tells, after_change, FitsTables}
 use Rattle.flow_rows.proofs.Telling.{told}
 use Rattle.flow_rows.proofs.WholeChanges.{change_told}
-use Rattle.flow_tables.specs.declared.known.Known.{Known}
 use Rattle.flow_tables.specs.Known.{IsKnown}
 use Rattle.flow_tables.specs.Owned.{IsAware, IsFileOf, IsOwn, IsSure, Keeps, KeepsOn, WasUp, HasCounted, ReadsBook, TellBook, IsNoted, book_of}
-use Rattle.flow_sql.specs.Stored.{tables_in}
-use Rattle.flow_sql.specs.States.{AreOurs, HasTables, IsOver, Holds, IsStill, IsRefused, IsUndone, HasBegun, HasCommitted, HasEnded, Changes}
+use Rattle.flow_sql.specs.States.{AreOurs}
 use Rattle.flow_tables.specs.Puts.{IsCutShort}
-use Rattle.flow_sql.proofs.Leaves.{error_leaves, was_clean}
+use Rattle.flow_sql.proofs.Leaves.{error_leaves, over_both, rolled_back_ended, was_clean}
+use Rattle.flow_sql.proofs.Transactions.{begun_still, committed_over}
+use Rattle.flow_tables.proofs.Parts.{refused_first}
 use Rattle.flow_tables.proofs.Stopping.{since_then, survived}
 use Rattle.flow_tables.proofs.Stops.{IsSettled}
+
+---- What the tables keep true, in a transaction and out of one
+
+pub own_inside : (s : State) (r : Option Refusal) → IsOver true s → TellBook s.committed.trees → (r ≡ None → TellBook s.now.trees) → IsOwn s r
+own_inside s r over kept shows = record {
+  over = λ up. subst (λ b. IsOver b s) (sym over.mode) over;
+  kept = λ up. kept;
+  rest = λ mode up. absurd (let e = sym over.mode ∙ mode in cc);
+  whole = λ mode none. (over.is_open, shows none);
+}
+
+pub own_outside : (s : State) (r : Option Refusal) → s.in_transaction ≡ false → (IsTrue s.is_open → IsOver false s × (s.now ≡ s.committed) × TellBook s.committed.trees) → IsOwn s r
+own_outside s r mode shows = record {
+  over = λ up. subst (λ b. IsOver b s) (sym mode) (shows up).0;
+  kept = λ up. (shows up).2;
+  rest = λ _ up. (shows up).1;
+  whole = λ inside none. absurd (let e = sym mode ∙ inside in cc);
+}
+
+-- the rows of a database that is another tell what the other's tell
+tell_on : (a b : Database) → a ≡ b → TellBook b.trees → TellBook a.trees
+tell_on a b same told = subst (λ (d : Database). TellBook d.trees) (sym same) told
 
 module _ (old new : State) where
   ---- What keeps the last commit
@@ -53,12 +69,9 @@ module _ (old new : State) where
   pub ended_leaves : HasEnded old new → LeavesCommit
   ended_leaves h = record { was_open = h.was_open; same = λ up. (h.back up).1 }
 
-  pub rolled_back_leaves : IsRolledBack old new → LeavesCommit
-  rolled_back_leaves h = record { was_open = h.was_open; same = λ up. (h.undone up).1 }
-
   pub left_leaves : IsUnchanged old new ⊎ IsRolledBack old new → LeavesCommit
   left_leaves (inl same) = shows_leaves old.in_transaction old.now same.0
-  left_leaves (inr undone) = rolled_back_leaves undone
+  left_leaves (inr undone) = ended_leaves (rolled_back_ended old new undone)
 
   pub error_commits_nothing : (sql : List ℕ) (e : Error) → Executes sql [] old new (Err e) → LeavesCommit
   error_commits_nothing sql e h = left_leaves (error_leaves old new sql [] e h)
@@ -67,13 +80,12 @@ module _ (old new : State) where
   pub undone_leaves : IsTrue old.is_open → IsUndone old new → LeavesCommit
   undone_leaves up h = record { was_open = λ _. up; same = λ shown. (h.over shown).2 }
 
-  pub refused_leaves : IsTrue old.is_open → IsRefused true old new → LeavesCommit
-  refused_leaves up (inl still) = record { was_open = λ _. up; same = λ _. still.2 }
-  refused_leaves up (inr undone) = undone_leaves up undone
-
   pub cut_leaves : IsTrue old.is_open → IsCutShort old new → LeavesCommit
   cut_leaves up (inl part) = record { was_open = λ _. up; same = λ _. part.committed }
   cut_leaves up (inr undone) = undone_leaves up undone
+
+  pub refused_leaves : IsTrue old.is_open → IsRefused true old new → LeavesCommit
+  refused_leaves up h = cut_leaves up (refused_first old new h)
 
   ---- What the tables keep true
 
@@ -93,36 +105,22 @@ module _ (old new : State) where
   -- a transaction that has begun shows what is kept
   pub own_begun : (r : Option Refusal) → IsOwn old r → HasBegun old new → IsOwn new None
   own_begun r own h =
-      let back : new.now ≡ old.committed = h.1.now_is ∙ own.rest h.0 h.1.was_open in
-      record {
-        over = λ up. let was = own.over h.1.was_open in record {
-          is_open = up;
-          mode = refl;
-          now = subst HasTables (sym h.1.now_is) was.now;
-          committed = subst HasTables (sym h.1.committed_is) was.committed;
-        };
-        kept = λ up. subst (λ (d : Database). TellBook d.trees) (sym h.1.committed_is) (own.kept h.1.was_open);
-        rest = λ mode up. back ∙ sym h.1.committed_is;
-        whole = λ mode none. (h.1.is_open, subst (λ (d : Database). TellBook d.trees) (sym back) (own.kept h.1.was_open));
-      }
+      let still = begun_still old new h (subst (λ b. IsOver b old) h.0 (own.over h.1.was_open)) in
+      let kept = own.kept h.1.was_open in
+      own_inside new None still.0 (tell_on new.committed old.committed still.2 kept) (λ _. tell_on new.now old.committed (still.1 ∙ own.rest h.0 h.1.was_open) kept)
 
   -- what has ended shows the last commit
   pub own_ended : (r s : Option Refusal) → IsOwn old r → HasEnded old new → IsOwn new s
-  own_ended r s own h = record {
-    over = λ up. let was = own.over (h.was_open up) in record {
-      is_open = up;
-      mode = refl;
-      now = subst HasTables (sym (h.back up).0) was.committed;
-      committed = subst HasTables (sym (h.back up).1) was.committed;
-    };
-    kept = λ up. subst (λ (d : Database). TellBook d.trees) (sym (h.back up).1) (own.kept (h.was_open up));
-    rest = λ mode up. (h.back up).0 ∙ sym (h.back up).1;
-    whole = λ mode none. absurd (let e = sym h.mode ∙ mode in cc);
-  }
+  own_ended r s own h =
+      own_outside new s h.mode (λ up. let back = h.back up in let was = own.over (h.was_open up) in (
+        (over_both false new old.committed old.committed up h.mode back.0 back.1 was.committed was.committed).0,
+        back.0 ∙ sym back.1,
+        tell_on new.committed old.committed back.1 (own.kept (h.was_open up)),
+      ))
 
   pub own_left : (r : Option Refusal) → IsOwn old r → IsUnchanged old new ⊎ IsRolledBack old new → IsOwn new r
   own_left r own (inl same) = own_same r own same.0
-  own_left r own (inr undone) = own_ended r r own (record { was_open = undone.was_open; mode = undone.autocommit; back = undone.undone })
+  own_left r own (inr undone) = own_ended r r own (rolled_back_ended old new undone)
 
   pub own_error : (r : Option Refusal) (sql : List ℕ) (e : Error) → IsOwn old r → Executes sql [] old new (Err e) → IsOwn new r
   own_error r sql e own h = own_left r own (error_leaves old new sql [] e h)
@@ -130,18 +128,8 @@ module _ (old new : State) where
   -- what was committed is kept
   pub own_committed : (r s : Option Refusal) → r ≡ None → IsOwn old r → HasCommitted old new → IsOwn new s
   own_committed r s none own h =
-      let inside : old.in_transaction ≡ true = h.0 in
-      record {
-        over = λ up. let was = own.over h.1.was_open in record {
-          is_open = up;
-          mode = refl;
-          now = subst HasTables (sym h.1.now_is) was.now;
-          committed = subst HasTables (sym h.1.committed_is) was.now;
-        };
-        kept = λ up. subst (λ (d : Database). TellBook d.trees) (sym h.1.committed_is) (own.whole inside none).1;
-        rest = λ mode up. h.1.now_is ∙ sym h.1.committed_is;
-        whole = λ mode _. absurd (let e = sym h.1.mode ∙ mode in cc);
-      }
+      let over = committed_over old new h (subst (λ b. IsOver b old) h.0 (own.over h.1.was_open)) in
+      own_outside new s h.1.mode (λ up. (over.0, over.1 ∙ sym over.2, tell_on new.committed old.now over.2 (own.whole h.0 none).1))
 
   module _ (r : Option Refusal) (own : IsOwn old r) (inside : old.in_transaction ≡ true) (none : r ≡ None) where
     up_now : IsTrue old.is_open
@@ -150,74 +138,64 @@ module _ (old new : State) where
     pub own_over : IsOver true old
     own_over = subst (λ b. IsOver b old) inside (own.over up_now)
 
+    -- what the last commit left is as it was
+    still_kept : new.committed ≡ old.committed → TellBook new.committed.trees
+    still_kept same = tell_on new.committed old.committed same (own.kept up_now)
+
     pub own_still : (s : Option Refusal) → IsStill true old new → IsOwn new s
-    own_still s still = record {
-      over = λ up. subst (λ b. IsOver b new) (sym still.0.mode) still.0;
-      kept = λ up. subst (λ (d : Database). TellBook d.trees) (sym still.2) (own.kept up_now);
-      rest = λ mode up. absurd (let e = sym still.0.mode ∙ mode in cc);
-      whole = λ mode _. (still.0.is_open, subst (λ (d : Database). TellBook d.trees) (sym still.1) (own.whole inside none).1);
-    }
+    own_still s still = own_inside new s still.0 (still_kept still.2) (λ _. tell_on new.now old.now still.1 (own.whole inside none).1)
 
     pub own_undone : (s : Option Refusal) → IsUndone old new → IsOwn new s
-    own_undone s undone = record {
-      over = λ up. subst (λ b. IsOver b new) (sym undone.mode) (undone.over up).0;
-      kept = λ up. subst (λ (d : Database). TellBook d.trees) (sym (undone.over up).2) (own.kept up_now);
-      rest = λ mode up. (undone.over up).1 ∙ sym (undone.over up).2;
-      whole = λ mode _. absurd (let e = sym undone.mode ∙ mode in cc);
-    }
+    own_undone s undone = own_outside new s undone.mode (λ up. let back = undone.over up in (back.0, back.1 ∙ sym back.2, still_kept back.2))
 
     pub own_refused : (s : Option Refusal) → IsRefused true old new → IsOwn new s
     own_refused s (inl still) = own_still s still
     own_refused s (inr undone) = own_undone s undone
 
     pub own_cut : (f : Refusal) → IsCutShort old new → IsOwn new (Some f)
-    own_cut f (inl part) = record {
-      over = λ up. subst (λ b. IsOver b new) (sym part.over.mode) part.over;
-      kept = λ up. subst (λ (d : Database). TellBook d.trees) (sym part.committed) (own.kept up_now);
-      rest = λ mode up. absurd (let e = sym part.over.mode ∙ mode in cc);
-      whole = λ mode e. absurd (cc);
-    }
+    own_cut f (inl part) = own_inside new (Some f) part.over (still_kept part.committed) (λ e. absurd (cc))
     own_cut f (inr undone) = own_undone (Some f) undone
 
-    pub own_put : (s : Option Refusal) (c : Change) → IsTypedChange c → FitsTables (book_of old.now.trees) c → Changes old new (after_change c (tables_in old.now.trees)) → IsOwn new s
-    own_put s c typed fits done =
-        let tells : Tells (tables_in new.now.trees) (changed (book_of old.now.trees) c) = subst (λ t. Tells t (changed (book_of old.now.trees) c)) (sym done.tables) (change_told (tables_in old.now.trees) (book_of old.now.trees) c (own.whole inside none).1 fits typed) in
-        record {
-          over = λ up. subst (λ b. IsOver b new) (sym done.over.mode) done.over;
-          kept = λ up. subst (λ (d : Database). TellBook d.trees) (sym done.committed) (own.kept up_now);
-          rest = λ mode up. absurd (let e = sym done.over.mode ∙ mode in cc);
-          whole = λ mode _. (done.over.is_open, subst (λ b. Tells (tables_in new.now.trees) b) (sym (told (tables_in new.now.trees) (changed (book_of old.now.trees) c) tells)) tells);
-        }
+    module _ (c : Change) (typed : IsTypedChange c) (fits : FitsTables (book_of old.now.trees) c) (done : Changes old new (after_change c (tables_in old.now.trees))) where
+      put_tells : Tells (tables_in new.now.trees) (changed (book_of old.now.trees) c)
+      put_tells =
+          subst (λ t. Tells t (changed (book_of old.now.trees) c)) (sym done.tables)
+          (change_told (tables_in old.now.trees) (book_of old.now.trees) c (own.whole inside none).1 fits typed)
 
-    -- the book that the tables then show
-    pub put_book : (c : Change) → IsTypedChange c → FitsTables (book_of old.now.trees) c → Changes old new (after_change c (tables_in old.now.trees)) → book_of new.now.trees ≡ changed (book_of old.now.trees) c
-    put_book c typed fits done =
-        told (tables_in new.now.trees) (changed (book_of old.now.trees) c)
-        (subst (λ t. Tells t (changed (book_of old.now.trees) c)) (sym done.tables) (change_told (tables_in old.now.trees) (book_of old.now.trees) c (own.whole inside none).1 fits typed))
+      -- the book that the tables then show
+      pub put_book : book_of new.now.trees ≡ changed (book_of old.now.trees) c
+      put_book = told (tables_in new.now.trees) (changed (book_of old.now.trees) c) put_tells
+
+      pub own_put : (s : Option Refusal) → IsOwn new s
+      own_put s = own_inside new s done.over (still_kept done.committed) (λ _. subst (λ b. Tells (tables_in new.now.trees) b) (sym put_book) put_tells)
 
 ---- A call of the view, once nothing hinders it
+
+-- what follows of either
+either : {A E R : Type 0} (P : A → Type 0) (Q : E → Type 0) (r : Result A E) → MatchResult r P Q → ((x : A) → P x → R) → ((e : E) → Q e → R) → R
+either P Q (Ok x) h ok err = ok x h
+either P Q (Err e) h ok err = err e h
 
 module _ (old new : State) (ours : Type 0) (ro rn : Option Refusal) (owned : ours → HasCleanDisk old → IsOwn old ro) (none : ro ≡ None) (inside : old.in_transaction ≡ true) (clean : HasCleanDisk new → HasCleanDisk old) where
   pub holds : ours → Holds true old
   holds fit was = own_over old new ro (owned fit was) inside none
 
   module _ {A : Type 0} (result : Result A ViewFault) (value : Book → A) (reads : HasCleanDisk new → ReadsBook old new result value) (noted : IsNoted noted_fault result ro rn) where
-    told_at : ours → (now : HasCleanDisk new) → MatchResult result (λ v. IsStill true old new × (v ≡ value (book_of old.now.trees))) (λ _. IsRefused true old new)
+    abbrev Told : A → Type 0
+    Told v = IsStill true old new × (v ≡ value (book_of old.now.trees))
+
+    told_at : ours → (now : HasCleanDisk new) → MatchResult result Told (λ _. IsRefused true old new)
     told_at fit now = reads now (book_of old.now.trees) ((owned fit (clean now)).whole inside none).1 (holds fit)
 
+    -- it changed nothing, or was refused
+    refused_at : ours → HasCleanDisk new → IsRefused true old new
+    refused_at fit now = either Told (λ _. IsRefused true old new) result (told_at fit now) (λ v h. inl h.0) (λ f h. h)
+
     pub read_own : ours → HasCleanDisk new → IsOwn new rn
-    read_own fit now = go result (told_at fit now)
-      where
-        go : (r : Result A ViewFault) → MatchResult r (λ v. IsStill true old new × (v ≡ value (book_of old.now.trees))) (λ _. IsRefused true old new) → IsOwn new rn
-        go (Ok v) h = own_still old new ro (owned fit (clean now)) inside none rn h.0
-        go (Err f) h = own_refused old new ro (owned fit (clean now)) inside none rn h
+    read_own fit now = own_refused old new ro (owned fit (clean now)) inside none rn (refused_at fit now)
 
     pub read_leaves : ours → HasCleanDisk new → LeavesCommit old new
-    read_leaves fit now = go result (told_at fit now)
-      where
-        go : (r : Result A ViewFault) → MatchResult r (λ v. IsStill true old new × (v ≡ value (book_of old.now.trees))) (λ _. IsRefused true old new) → LeavesCommit old new
-        go (Ok v) h = refused_leaves old new ((owned fit (clean now)).whole inside none).0 (inl h.0)
-        go (Err f) h = refused_leaves old new ((owned fit (clean now)).whole inside none).0 h
+    read_leaves fit now = refused_leaves old new ((owned fit (clean now)).whole inside none).0 (refused_at fit now)
 
     -- the transaction goes on to show a book
     pub read_sure : (X : Type 0) → OnOk result (ours × HasCleanDisk new → X → IsSure ours new rn)
@@ -231,17 +209,16 @@ module _ (old new : State) (ours : Type 0) (ro rn : Option Refusal) (owned : our
     pub read_told : IfOk result (λ v. IsSure ours new rn → (book_of new.now.trees ≡ book_of old.now.trees) × (v ≡ value (book_of old.now.trees)))
     read_told = go result (λ fit now. told_at fit now)
       where
-        go : (r : Result A ViewFault) → (ours → HasCleanDisk new → MatchResult r (λ v. IsStill true old new × (v ≡ value (book_of old.now.trees))) (λ _. IsRefused true old new))
+        go : (r : Result A ViewFault) → (ours → HasCleanDisk new → MatchResult r Told (λ _. IsRefused true old new))
             → IfOk r (λ v. IsSure ours new rn → (book_of new.now.trees ≡ book_of old.now.trees) × (v ≡ value (book_of old.now.trees)))
         go (Ok v) h = λ sure. let it = h sure.fit sure.clean in (ap (λ (d : Database). book_of d.trees) it.0.1, it.1)
         go (Err f) h = tt
 
-  -- what is known is known on, where nothing was changed
-  module _ {A : Type 0} (result : Result A ViewFault) (value : Book → A) (reads : HasCleanDisk new → ReadsBook old new result value) (noted : IsNoted noted_fault result ro rn) where
+    -- what is known is known on, where nothing was changed
     pub read_aware : (k : Known) → (ours → HasCleanDisk old → IsAware old ro k) → ours → HasCleanDisk new → IsAware new rn k
-    read_aware k aware fit now = go result (told_at result value reads noted fit now) noted
+    read_aware k aware fit now = go result (told_at fit now) noted
       where
-        go : (r : Result A ViewFault) → MatchResult r (λ v. IsStill true old new × (v ≡ value (book_of old.now.trees))) (λ _. IsRefused true old new) → IsNoted noted_fault r ro rn → IsAware new rn k
+        go : (r : Result A ViewFault) → MatchResult r Told (λ _. IsRefused true old new) → IsNoted noted_fault r ro rn → IsAware new rn k
         go (Ok v) h n = λ _ _. subst (λ (d : Database). IsKnown k (tables_in d.trees)) (sym h.0.1) (aware fit (clean now) none inside)
         go (Err f) h n = λ same _. absurd (let clash = sym n ∙ same in cc)
 
@@ -259,27 +236,23 @@ module _ (old new : State) (ours : Type 0) (ro rn : Option Refusal) (owned : our
   module _ (result : Result Unit Refusal) (c : Change) (k : Known) (aware : ours → HasCleanDisk old → IsAware old ro k)
       (put : (b : Book) → Tells (tables_in old.now.trees) b → IsKnown k (tables_in old.now.trees) → Holds true old → HasCleanDisk new
       → MatchResult result (λ _. FitsTables b c × Changes old new (after_change c (tables_in old.now.trees))) (λ _. IsCutShort old new)) (noted : IsNoted (λ x. x) result ro rn) where
-    put_at : ours → (now : HasCleanDisk new) → MatchResult result (λ _. FitsTables (book_of old.now.trees) c × Changes old new (after_change c (tables_in old.now.trees))) (λ _. IsCutShort old new)
+    abbrev Put : Type 0
+    Put = FitsTables (book_of old.now.trees) c × Changes old new (after_change c (tables_in old.now.trees))
+
+    put_at : ours → HasCleanDisk new → MatchResult result (λ _. Put) (λ _. IsCutShort old new)
     put_at fit now = put (book_of old.now.trees) ((owned fit (clean now)).whole inside none).1 (aware fit (clean now) none inside) (holds fit) now
 
     pub put_own : IsTypedChange c → ours → HasCleanDisk new → IsOwn new rn
     put_own typed fit now = go result (put_at fit now) noted
       where
-        go : (r : Result Unit Refusal) → MatchResult r (λ _. FitsTables (book_of old.now.trees) c × Changes old new (after_change c (tables_in old.now.trees))) (λ _. IsCutShort old new)
-            → IsNoted (λ x. x) r ro rn → IsOwn new rn
-        go (Ok v) h n = own_put old new ro (owned fit (clean now)) inside none rn c typed h.0 h.1
+        go : (r : Result Unit Refusal) → MatchResult r (λ _. Put) (λ _. IsCutShort old new) → IsNoted (λ x. x) r ro rn → IsOwn new rn
+        go (Ok v) h n = own_put old new ro (owned fit (clean now)) inside none c typed h.0 h.1 rn
         go (Err f) h n = subst (λ s. IsOwn new s) (sym n) (own_cut old new ro (owned fit (clean now)) inside none f h)
 
     pub put_leaves : ours → HasCleanDisk new → LeavesCommit old new
-    put_leaves fit now = go result (put_at fit now)
-      where
-        up : IsTrue old.is_open
-        up = ((owned fit (clean now)).whole inside none).0
-
-        go : (r : Result Unit Refusal) → MatchResult r (λ _. FitsTables (book_of old.now.trees) c × Changes old new (after_change c (tables_in old.now.trees))) (λ _. IsCutShort old new)
-            → LeavesCommit old new
-        go (Ok v) h = record { was_open = λ _. up; same = λ _. h.1.committed }
-        go (Err f) h = cut_leaves old new up h
+    put_leaves fit now =
+        let up = ((owned fit (clean now)).whole inside none).0 in
+        either (λ _. Put) (λ _. IsCutShort old new) result (put_at fit now) (λ _ h. record { was_open = λ _. up; same = λ _. h.1.committed }) (λ f h. cut_leaves old new up h)
 
     pub put_sure : (X : Type 0) → OnOk (told_answer result) (ours × HasCleanDisk new → X → IsSure ours new rn)
     put_sure X = go result (λ fit now. put_at fit now) noted
@@ -292,7 +265,7 @@ module _ (old new : State) (ours : Type 0) (ro rn : Option Refusal) (owned : our
     pub put_told : IsTypedChange c → OnOk (told_answer result) (IsSure ours new rn → book_of new.now.trees ≡ changed (book_of old.now.trees) c)
     put_told typed = go result (λ fit now. put_at fit now)
       where
-        go : (r : Result Unit Refusal) → (ours → (now : HasCleanDisk new) → MatchResult r (λ _. FitsTables (book_of old.now.trees) c × Changes old new (after_change c (tables_in old.now.trees))) (λ _. IsCutShort old new))
+        go : (r : Result Unit Refusal) → (ours → HasCleanDisk new → MatchResult r (λ _. Put) (λ _. IsCutShort old new))
             → OnOk (told_answer r) (IsSure ours new rn → book_of new.now.trees ≡ changed (book_of old.now.trees) c)
         go (Ok v) h = λ sure. let it = h sure.fit sure.clean in put_book old new ro (owned sure.fit (clean sure.clean)) inside none c typed it.0 it.1
         go (Err f) h = tt

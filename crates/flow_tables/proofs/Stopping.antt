@@ -11,7 +11,7 @@ use Rattle.sqlite.specs.declared.error.ErrorCode.TheVariants.{OutOfMemory}
 use Rattle.sqlite.specs.declared.error.Error.{Error}
 use Rattle.sqlite.specs.declared.error.Error.TheVariants.{SqliteFailure}
 use Rattle.flow_view.specs.declared.fault.ViewFault.TheVariants as view
-use Rattle.flow_sql.specs.Meaning.{IsAmong, IsDeclined, our_changes}
+use Rattle.flow_sql.specs.Meaning.{IsOurWrite, IsDeclined}
 use Rattle.flow_sql.specs.States.{IsOver}
 use Rattle.flow_tables.specs.Asking.{StopsAsk}
 use Rattle.flow_tables.specs.Reads.{IsReadFault, IsAsked}
@@ -85,7 +85,7 @@ module _ {S : Type 0} (g : Ghosts S) where
     read_because f x U is h = subst (λ y. Because y (IsStopped g (state g old) (state g new)) U) (sym is) (read_so f U h)
 
   -- a change of rows that the store's failure or its database refused
-  pub change_stopped : (old new : Held S) (sql : List ℕ) (params : Row) → IsOver true (state g old) → IsAmong our_changes sql (length params) → MoreFaults (state g old).faults (state g new).faults ⊎ IsDeclined sql params (state g old)
+  pub change_stopped : (old new : Held S) (sql : List ℕ) (params : Row) → IsOver true (state g old) → IsOurWrite sql params → MoreFaults (state g old).faults (state g new).faults ⊎ IsDeclined sql params (state g old)
       → IsStopped g (state g old) (state g new)
   change_stopped old new sql params over listed (inl more) = inl more
   change_stopped old new sql params over listed (inr declined) = inr (inr (inl (old, since_self (state g old), over, sql, params, listed, declined)))

@@ -14,7 +14,7 @@ use Rattle.flow_view.specs.declared.fault.ViewFault.TheVariants as view
 use Rattle.flow_tables.specs.declared.fault.StoreFault.{StoreFault}
 use Rattle.flow_sql.specs.Stored.{tables_in}
 use Rattle.flow_sql.specs.States.{Changes, Holds, IsStill, IsRefused, IsAtRest, HasEnded}
-use Rattle.flow_sql.specs.Meaning.{IsAmong, our_questions}
+use Rattle.flow_sql.specs.Meaning.{IsOurRead}
 use Rattle.flow_tables.specs.declared.fault.StoreFault.TheVariants.{NoMemory, Refused}
 use Rattle.flow_tables.specs.Reads.{IsReadFault, AreMisread}
 use Rattle.flow_tables.specs.Faults.{IsStopped, StopsWith}
@@ -25,7 +25,7 @@ use Rattle.flow_tables.specs.Owned.{ReadsBook, StopsRead}
 abbrev pub StopsAsk : List ℕ → Row → State → State → StoreFault → Type 0
 StopsAsk sql params old new NoMemory = Unit {0}
 StopsAsk sql params old new (Refused e) =
-    (MoreFaults old.faults new.faults ⊎ IsSome old.step_limit) ⊎ (IsAmong our_questions sql (length params) × (rows : List Row) × Shown sql params old new rows × AreMisread rows (Refused e))
+    (MoreFaults old.faults new.faults ⊎ IsSome old.step_limit) ⊎ (IsOurRead sql params × (rows : List Row) × Shown sql params old new rows × AreMisread rows (Refused e))
 
 -- What becomes of a question: it is answered so, and the tables are as they were, or it was refused, and the transaction may
 -- have ended. Nothing is committed.

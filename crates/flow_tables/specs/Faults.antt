@@ -15,7 +15,7 @@ use Rattle.flow_tables.specs.declared.fault.StoreFault.{StoreFault}
 use Rattle.flow_tables.specs.declared.fault.StoreFault.TheVariants.{NoMemory, Refused}
 use Rattle.flow_tables.specs.declared.fault.Refusal.{Refusal}
 use Rattle.flow_tables.specs.declared.fault.Refusal.TheVariants as refusal
-use Rattle.flow_sql.specs.Meaning.{IsAmong, IsDeclined, our_questions, our_changes}
+use Rattle.flow_sql.specs.Meaning.{IsOurRead, IsOurWrite, IsDeclined}
 use Rattle.flow_sql.specs.States.{IsOver}
 use Rattle.flow_tables.specs.Reads.{AreMisread}
 
@@ -40,12 +40,12 @@ Since first s = (first.faults ≤ s.faults) × (s.step_limit ≡ first.step_limi
 -- Within a transaction over our tables, the store's database declined one of our changes of rows.
 abbrev pub WasDeclined : {S : Type 0} → Ghosts S → State → Type 0
 WasDeclined {S} g first =
-    (mid : Held S) × Since first (state g mid) × IsOver true (state g mid) × (sql : List ℕ) × (params : Row) × IsAmong our_changes sql (length params) × IsDeclined sql params (state g mid)
+    (mid : Held S) × Since first (state g mid) × IsOver true (state g mid) × (sql : List ℕ) × (params : Row) × IsOurWrite sql params × IsDeclined sql params (state g mid)
 
 -- There, a row of the answer to one of our questions can't be read.
 abbrev pub WasMisread : {S : Type 0} → Ghosts S → State → Type 0
 WasMisread {S} g first =
-    (mid after : Held S) × Since first (state g mid) × IsOver true (state g mid) × (sql : List ℕ) × (params : Row) × IsAmong our_questions sql (length params)
+    (mid after : Held S) × Since first (state g mid) × IsOver true (state g mid) × (sql : List ℕ) × (params : Row) × IsOurRead sql params
     × (rows : List Row) × (e : Error) × Shown sql params (state g mid) (state g after) rows × AreMisread rows (Refused e)
 
 -- The store stopped what was done since the first state: the disk has failed, a limit is set on the steps of a query, its database

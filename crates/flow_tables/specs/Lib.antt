@@ -3,6 +3,7 @@ pub use Rattle.flow_sql.specs.Stored
 pub use Rattle.flow_sql.specs.States
 pub use Rattle.flow_sql.specs.Coming
 pub use Rattle.flow_sql.specs.Meaning
+pub mod Names
 pub mod Opening
 pub mod Faults
 pub mod Reads

@@ -1,28 +1,11 @@
 -- What opening reads and finds, and why it is refused.
-use Rattle.std.specs.Prelude.{◌≡◌, ◌≢◌, ◌⊎◌, ℕ, ℤ, pos, Bool, true, false, List, [], length, Some, Ok, Err, ⊤, codes}
-use Rattle.std.specs.List.{AllByRecursion}
-use Rattle.sqlite.specs.declared.types.Value.TheVariants.{Int}
+use Rattle.std.specs.Prelude.{◌≡◌, ◌≢◌, ◌⊎◌, [], ⊤}
+use Rattle.flow_tables.specs.Names.{ℕ, ℤ, pos, Bool, true, false, List, length, Some, Ok, Err, codes, AllByRecursion, Int, Error, SqliteFailure, QueryReturnedNoRows, Row, IsReadError, column, Ghosts, Held, state, State, Executes, Fault, NoMemory, StoreRefused, NotOurs, BadVersion, Damaged, is_program, Book, StoreRows, Tables, by_run, first_damage, StoreFault, format_sql, HasEnded}
 use Rattle.sqlite.specs.declared.error.ErrorCode.TheVariants as code
-use Rattle.sqlite.specs.declared.error.Error.{Error}
-use Rattle.sqlite.specs.declared.error.Error.TheVariants.{SqliteFailure, QueryReturnedNoRows}
-use Rattle.sqlite.specs.Order.{Row}
-use Rattle.sqlite.specs.Reading.{IsReadError}
-use Rattle.sqlite_value.specs.Order.{column}
-use Rattle.sqlite_trees.specs.declared.store.Store.{Ghosts}
-use Rattle.sqlite.specs.Held.{Held, state}
-use Rattle.sqlite.specs.State.{State, Executes, QueriesRow}
-use Rattle.flow_base.specs.declared.fault.Fault.{Fault}
-use Rattle.flow_base.specs.declared.fault.Fault.TheVariants.{NoMemory, StoreRefused, NotOurs, BadVersion, Damaged}
-use Rattle.flow_check.specs.Language.{is_program}
-use Rattle.flow_model.specs.Book.{Book}
-use Rattle.flow_rows.specs.declared.rows.StoreRows.{StoreRows}
-use Rattle.flow_rows.specs.Rows.{Tables, by_run, rows_of}
-use Rattle.flow_rows.specs.Damages.{first_damage}
+use Rattle.sqlite.specs.State.{QueriesRow}
+use Rattle.flow_rows.specs.Rows.{rows_of}
 use Rattle.flow_rows.specs.Standing.{AreKept}
-use Rattle.flow_tables.specs.declared.fault.StoreFault.{StoreFault}
 use Rattle.flow_tables.specs.declared.fault.StoreFault.TheVariants as read
-use Rattle.flow_sql.specs.Layout.{format_sql}
-use Rattle.flow_sql.specs.States.{HasEnded}
 use Rattle.flow_tables.specs.Reads.{IsReadFault}
 
 ---- The format

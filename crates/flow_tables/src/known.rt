@@ -91,15 +91,8 @@ fn ended(tasks: &OpenTasks, scheduled: EventId) -> OpenTasks
     ensures { result ≡ words.ended tasks.now scheduled }
 {
     match tasks {
-        OpenTasks::Gone => OpenTasks::Gone,
-        OpenTasks::Single(event) => {
-            if event.get() == scheduled.get() {
-                OpenTasks::Gone
-            } else {
-                OpenTasks::Single(*event)
-            }
-        }
-        OpenTasks::Unsure => OpenTasks::Unsure,
+        OpenTasks::Single(event) if event.get() == scheduled.get() => OpenTasks::Gone,
+        known => *known,
     }
 }
 

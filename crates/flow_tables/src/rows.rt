@@ -1,8 +1,9 @@
 //! Rows of answers, read as what they say.
-ghost use Rattle.std.specs.Prelude.{◌≡◌, map, IfOk, IfErr};
-ghost use Rattle.sqlite_value.specs.Order.{column, bytes};
+ghost use Rattle.std.specs.Prelude.{◌≡◌};
+ghost use Rattle.flow_tables.specs.Names.{map, IfOk, IfErr, column, number_at};
+ghost use Rattle.sqlite_value.specs.Order.{bytes};
 ghost use Rattle.sqlite.specs.Order.{Row as SqlRow};
-ghost use Rattle.flow_sql.specs.Stored.{number_at, number_said, text_said, text_row_said, run_row_said, event_row_said, timer_row_said, task_row_said};
+ghost use Rattle.flow_sql.specs.Stored.{number_said, text_said, text_row_said, run_row_said, event_row_said, timer_row_said, task_row_said};
 ghost use Rattle.flow_tables.specs.Reads.{IsMisread, AreMisread};
 
 use crate::fault::StoreFault;

@@ -1,9 +1,9 @@
 //! A transaction of the store: its begin, its end, and the way back.
 
-ghost use Rattle.std.specs.Prelude.{◌≡◌, [], ℕ, true, false, IsTrue, MatchResult, OnOk, IfErr, Ok, Err, codes};
-ghost use Rattle.sqlite.specs.State.{HasCleanDisk, Survives, CommitsBy, Executes};
-ghost use Rattle.sqlite.specs.Held.{state};
-ghost use Rattle.flow_sql.specs.States.{Holds, IsOver, IsStill, IsRefused, IsUndone, HasBegun, HasCommitted, HasEnded, HasGoneBack, RunsTo};
+ghost use Rattle.std.specs.Prelude.{◌≡◌, []};
+ghost use Rattle.flow_tables.specs.Names.{ℕ, true, false, IsTrue, MatchResult, OnOk, IfErr, Ok, Err, codes, HasCleanDisk, Survives, Executes, state, Holds, IsOver, IsStill, IsRefused, IsUndone, HasBegun, HasCommitted, HasEnded, RunsTo};
+ghost use Rattle.sqlite.specs.State.{CommitsBy};
+ghost use Rattle.flow_sql.specs.States.{HasGoneBack};
 
 use sqlite::{Alter, Connection, Error};
 

@@ -1,14 +1,10 @@
 use Rattle.std.proofs.Common.{◌≡◌, inl, inr, Err, sym, ap, subst}
-use Rattle.sqlite.specs.Held.{state}
+use Rattle.flow_tables.specs.Names.{state, Fault}
 use Rattle.flow_tables.specs.Opening.{opening_fault, IsOfStore, HasCause}
-use Rattle.flow_base.specs.declared.fault.Fault.{Fault}
 use Rattle.flow_sql.proofs.Finding.{answered, blank_never_reads}
-use Rattle.flow_tables.proofs.Opened.{of_store, caused, format_rests, is_ours, not_other, same_fault, if_err}
+use Rattle.std.proofs.lemmas.Result.{IfErr-weaker}
+use Rattle.flow_tables.proofs.Opened.{of_store, caused, is_ours, not_other, same_fault}
 use Rattle.flow_tables.proofs.open.find_format.Goals as goal
-
-pub returns-in-Ok-check_format-clause-ended : goal.returns-in-Ok-check_format-clause-ended
-returns-in-Ok-check_format-clause-ended g c clean rest =
-    format_rests (state g.S.Store c.args.conn.now) (state g.S.Store c.format_row.new.conn) _ (c.in-Ok.ensures.queries clean) rest
 
 pub returns-in-Ok-clause-version : goal.returns-in-Ok-clause-version
 returns-in-Ok-clause-version g c clean e =
@@ -33,10 +29,6 @@ returns-in-Ok-clause-blank g c clean none =
     let asked = c.in-Ok.ensures.queries clean in
     absurd (blank_never_reads old new _ (none (answered old new _ asked).0.was_open) asked)
 
-pub returns-in-Ok-clause-ended : goal.returns-in-Ok-clause-ended
-returns-in-Ok-clause-ended g c clean rest =
-    format_rests (state g.S.Store c.args.conn.now) (state g.S.Store c.format_row.new.conn) _ (c.in-Ok.ensures.queries clean) rest
-
 pub returns-in-Ok-clause-cause : goal.returns-in-Ok-clause-cause
 returns-in-Ok-clause-cause g c clean = elim c.in-Err-check_format.ensures.cause [
   | inl other ↦ subst (HasCause g.S.Store) (sym other) tt
@@ -44,12 +36,8 @@ returns-in-Ok-clause-cause g c clean = elim c.in-Err-check_format.ensures.cause 
       (caused g.S.Store misread.0 (c.args.conn.now, c.format_row.new.conn, _, inr (inr (inr (_, c.in-Ok.ensures.queries clean, misread.1)))))
 ]
 
-pub returns-clause-ended : goal.returns-clause-ended
-returns-clause-ended g c clean rest =
-    format_rests (state g.S.Store c.args.conn.now) (state g.S.Store c.format_row.new.conn) _ (c.in-Err.ensures.queries clean) rest
-
 pub returns-clause-cause : goal.returns-clause-cause
 returns-clause-cause g c clean =
-    if_err (λ (f : Fault). f ≡ opening_fault c.in-Err.error) (HasCause g.S.Store) c.no_format.result
+    IfErr-weaker c.no_format.result (λ (f : Fault). f ≡ opening_fault c.in-Err.error) (HasCause g.S.Store)
     (λ f is. subst (HasCause g.S.Store) (sym is) (caused g.S.Store c.in-Err.error (c.args.conn.now, c.format_row.new.conn, _, inr (inl (c.in-Err.ensures.queries clean)))))
     c.no_format.ensures.fault

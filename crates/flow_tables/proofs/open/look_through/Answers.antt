@@ -1,13 +1,7 @@
-use Rattle.std.proofs.Common.{◌≡◌, ◌∙◌, Some, Result, false, refl, sym, ap, subst}
-use Rattle.std.specs.Prelude.{IfOk, IfErr}
-use Rattle.flow_check.specs.Language.{is_program}
-use Rattle.flow_rows.specs.declared.book.WholeBook.{WholeBook}
-use Rattle.flow_base.specs.declared.fault.Damage.{Damage}
-use Rattle.flow_rows.specs.Damages.{first_damage}
-use Rattle.flow_rows.specs.Rows.{by_run}
+use Rattle.std.proofs.Common.{◌≡◌, ◌∙◌, Some, false, refl, sym, ap, subst}
+use Rattle.flow_tables.specs.Names.{is_program, first_damage, by_run, Tells, book_in, shown_book}
+use Rattle.std.proofs.lemmas.Result.{IfOk-at_ok, IfErr-at_err}
 use Rattle.flow_rows.specs.Standing.{StandsFor}
-use Rattle.flow_rows.specs.Told.{Tells, book_in}
-use Rattle.flow_rows.specs.Whole.{shown_book}
 use Rattle.flow_tables.specs.Opening.{IsOfOpening, HasCause}
 use Rattle.flow_tables.proofs.Opened.{read_caused, read_among}
 use Rattle.flow_tables.proofs.open.look_through.Goals as goal
@@ -16,32 +10,26 @@ pub returns-in-Ok-Ok-clause-tells : goal.returns-in-Ok-Ok-clause-tells
 returns-in-Ok-Ok-clause-tells g c clean was =
     let read = c.in-Ok.ensures.reads false was clean in
     let rows = c.in-Ok.rows in
-    let book : shown_book c.in-Ok-Ok.book ≡ book_in (by_run rows) =
-    subst (λ (r : Result WholeBook Damage). IfOk r (λ b. shown_book b ≡ book_in (by_run rows))) c.in-Ok-Ok.field-0-is c.in-Ok-Ok.ensures.book in
-    let tells : Tells (by_run rows) (shown_book c.in-Ok-Ok.book) =
-    subst (λ (r : Result WholeBook Damage). IfOk r (λ b. Tells (by_run rows) (shown_book b))) c.in-Ok-Ok.field-0-is c.in-Ok-Ok.ensures.tells in
+    let book = IfOk-at_ok (λ b. shown_book b ≡ book_in (by_run rows)) c.in-Ok-Ok.field-0-is c.in-Ok-Ok.ensures.book in
+    let tells = IfOk-at_ok (λ b. Tells (by_run rows) (shown_book b)) c.in-Ok-Ok.field-0-is c.in-Ok-Ok.ensures.tells in
     (read.0, subst (λ t. Tells t (book_in t)) read.1 (subst (Tells (by_run rows)) book tells))
 
 pub returns-in-Ok-Ok-clause-read : goal.returns-in-Ok-Ok-clause-read
 returns-in-Ok-Ok-clause-read g c clean was =
     let rows = c.in-Ok.rows in
-    let book : shown_book c.in-Ok-Ok.book ≡ book_in (by_run rows) =
-    subst (λ (r : Result WholeBook Damage). IfOk r (λ b. shown_book b ≡ book_in (by_run rows))) c.in-Ok-Ok.field-0-is c.in-Ok-Ok.ensures.book in
+    let book = IfOk-at_ok (λ b. shown_book b ≡ book_in (by_run rows)) c.in-Ok-Ok.field-0-is c.in-Ok-Ok.ensures.book in
     book ∙ ap book_in (c.in-Ok.ensures.reads false was clean).1
 
 pub returns-in-Ok-Ok-clause-stands : goal.returns-in-Ok-Ok-clause-stands
 returns-in-Ok-Ok-clause-stands g c =
     let rows = c.in-Ok.rows in
-    let its : StandsFor is_program rows (shown_book c.in-Ok-Ok.book) =
-    subst (λ (r : Result WholeBook Damage). IfOk r (λ b. StandsFor is_program rows (shown_book b))) c.in-Ok-Ok.field-0-is c.in-Ok-Ok.ensures.stands in
+    let its = IfOk-at_ok (λ b. StandsFor is_program rows (shown_book b)) c.in-Ok-Ok.field-0-is c.in-Ok-Ok.ensures.stands in
     record { texts = its.texts; runs = its.runs; same = refl }
 
 pub returns-in-Ok-Err-clause-damaged : goal.returns-in-Ok-Err-clause-damaged
 returns-in-Ok-Err-clause-damaged g c clean was =
     let rows = c.in-Ok.rows in
-    let first : first_damage is_program rows ≡ Some c.in-Ok-Err.found =
-    subst (λ (r : Result WholeBook Damage). IfErr r (λ d. first_damage is_program rows ≡ Some d)) c.in-Ok-Err.field-0-is c.in-Ok-Err.ensures.first in
-    (rows, (c.in-Ok.ensures.reads false was clean).1, first)
+    (rows, (c.in-Ok.ensures.reads false was clean).1, IfErr-at_err (λ d. first_damage is_program rows ≡ Some d) c.in-Ok-Err.field-0-is c.in-Ok-Err.ensures.first)
 
 pub returns-in-Err-clause-cause : goal.returns-in-Err-clause-cause
 returns-in-Err-clause-cause g c clean = subst (HasCause g.S.Store) (sym c.read_fault.ensures) (read_caused g.S.Store c.in-Err.fault (c.in-Err.ensures.cause clean))

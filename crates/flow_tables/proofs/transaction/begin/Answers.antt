@@ -1,7 +1,5 @@
-use Rattle.std.proofs.Common.{codes}
-use Rattle.sqlite.specs.Held.{state}
-use Rattle.flow_sql.specs.States.{HasBegun}
-use Rattle.flow_sql.proofs.Transactions.{begins, begun_or_refused, begin_survives, ran_to}
+use Rattle.flow_tables.specs.Names.{state}
+use Rattle.flow_sql.proofs.Transactions.{begun_or_told, begun_or_refused, begin_survives}
 use Rattle.flow_sql.proofs.Leaves.{was_clean}
 use Rattle.flow_tables.proofs.transaction.begin.Goals as goal
 
@@ -12,10 +10,7 @@ returns-clause-begun g c was clean =
     begun_or_refused old new c.run.result (c.run.ensures.runs clean) (was (was_clean old new _ c.run.ensures.survives clean))
 
 pub returns-clause-effect : goal.returns-clause-effect
-returns-clause-effect g c clean =
-    let old = state g.S.Store c.args.conn.now in
-    let new = state g.S.Store c.run.new.conn in
-    ran_to old new (codes "BEGIN") (HasBegun old new) c.run.result (c.run.ensures.runs clean) (begins old new)
+returns-clause-effect g c clean = begun_or_told (state g.S.Store c.args.conn.now) (state g.S.Store c.run.new.conn) c.run.result (c.run.ensures.runs clean)
 
 pub returns-clause-survives : goal.returns-clause-survives
 returns-clause-survives g c = begin_survives (state g.S.Store c.args.conn.now) (state g.S.Store c.run.new.conn) c.run.ensures.survives

@@ -1,7 +1,5 @@
-use Rattle.std.proofs.Common.{codes}
-use Rattle.sqlite.specs.Held.{state}
-use Rattle.flow_sql.specs.States.{HasCommitted}
-use Rattle.flow_sql.proofs.Transactions.{commits, committed_or_ended, committed_or_undone, commit_survives, ran_to}
+use Rattle.flow_tables.specs.Names.{state}
+use Rattle.flow_sql.proofs.Transactions.{committed_or_told, committed_or_ended, committed_or_undone, commit_survives}
 use Rattle.flow_sql.proofs.Leaves.{was_clean}
 use Rattle.flow_tables.proofs.transaction.commit.Goals as goal
 
@@ -12,10 +10,7 @@ returns-clause-committed g c was clean =
     committed_or_undone old new c.run.result (c.run.ensures.runs clean) (was (was_clean old new _ c.run.ensures.survives clean))
 
 pub returns-clause-effect : goal.returns-clause-effect
-returns-clause-effect g c clean =
-    let old = state g.S.Store c.args.conn.now in
-    let new = state g.S.Store c.run.new.conn in
-    ran_to old new (codes "COMMIT") (HasCommitted old new) c.run.result (c.run.ensures.runs clean) (commits old new)
+returns-clause-effect g c clean = committed_or_told (state g.S.Store c.args.conn.now) (state g.S.Store c.run.new.conn) c.run.result (c.run.ensures.runs clean)
 
 pub returns-clause-ended : goal.returns-clause-ended
 returns-clause-ended g c clean = committed_or_ended (state g.S.Store c.args.conn.now) (state g.S.Store c.run.new.conn) c.run.result (c.run.ensures.runs clean)

@@ -1,5 +1,5 @@
 use Rattle.std.proofs.Common.{Ok, Err}
-use Rattle.sqlite.specs.Held.{state}
+use Rattle.flow_tables.specs.Names.{state}
 use Rattle.flow_sql.proofs.Leaves.{stays_shut}
 use Rattle.flow_tables.proofs.transaction.run.Goals as goal
 
