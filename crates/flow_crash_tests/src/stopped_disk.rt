@@ -1,8 +1,8 @@
 //! A disk that stops at one call: what of that call is carried out, and that nothing of a later one is.
-use crate::disk_calls::{Answer, Ask, answer_to, is_left, six_bytes};
+use crate::disk_calls::{Answer, Ask, answer_to, is_left, read_checked_thrice, six_bytes};
 use flow_crash::calls::{Calls, Part, Stop};
 use flow_crash::stop_at::StopAt;
-use sqlite_disk::Memory;
+use sqlite_disk::{Disk, Memory, digest_of};
 use std::alloc::Global;
 use std::test::Fail;
 
@@ -85,6 +85,32 @@ fn first_other(alloc: Global, rows: &[Row]) -> usize {
     rows.len()
 }
 
+/// What three tested reads are answered of which the second one is refused, and how many were.
+fn tested(alloc: Global, part: Part) -> Option<([Answer; 3], u64)> {
+    let inner = six_bytes(alloc)?;
+    let want = digest_of(0, inner.bytes().get(..3)?);
+    let calls = Calls::new(alloc).ok()?;
+    let mut file = StopAt::new(inner, calls, Stop { at: 2, part });
+    if !file.may_be_used() {
+        return None;
+    }
+    let answers = read_checked_thrice(&mut file, want);
+    let refusals = file.refusals();
+    if is_left(file.into_inner(), "abcdef", "abcd") {
+        return Some((answers, refusals));
+    }
+    None
+}
+
+fn is_tested(alloc: Global, part: Part) -> bool {
+    let wanted = [
+        Answer::Bytes([97, 98, 99]),
+        Answer::Refused,
+        Answer::Refused,
+    ];
+    tested(alloc, part) == Some((wanted, 2))
+}
+
 /// Whether nothing of a file is carried out that stops before its first call.
 fn is_stopped_at_once(alloc: Global, at: u64) -> bool {
     match stopping(alloc, at, Part::Before) {
@@ -140,6 +166,14 @@ fn a_sync_is_carried_out_where_the_stop_is_behind_it(rt: HostRuntime) -> Result<
     assert!(rt; is_stopped(alloc, Ask::Sync, Part::Before, 0, "abcdef", "abcd"));
     assert!(rt; is_stopped(alloc, Ask::Sync, Part::Half, 0, "abcdef", "abcd"));
     assert!(rt; is_stopped(alloc, Ask::Sync, Part::After, 0, "abcdef", "abcdef"));
+    Ok(())
+}
+
+#[test]
+fn a_tested_read_is_refused(rt: HostRuntime) -> Result<(), Fail> {
+    let alloc = rt.alloc();
+    assert!(rt; is_tested(alloc, Part::Before) && is_tested(alloc, Part::Half));
+    assert!(rt; is_tested(alloc, Part::After));
     Ok(())
 }
 
