@@ -16,7 +16,8 @@ use flow_base::fault::Fault;
 use flow_base::number::RunId;
 use flow_machine::answer::Answering;
 use std::alloc::Global;
-use std::io::{BufRead, Write};
+use std::io;
+use std::io::{BufRead, BufReader, Write};
 
 /// What is done over an open store.
 #[derive(Clone, Copy, Debug)]
@@ -56,4 +57,23 @@ pub fn perform<R: BufRead, W: Write, E: Answering>(
         Work::Drive(most) => drive_lines(alloc, engine, reader, writer, *most),
         Work::History(run) => tell_history(alloc, engine, writer, *run),
     }
+}
+
+/// Does it from standard input to standard output.
+///
+/// # Failure
+/// As of `perform`, and E01 where no memory is left for what is read ahead.
+pub fn perform_here<E: Answering>(
+    rt: &HostRuntime,
+    engine: &mut E,
+    work: &Work,
+) -> Result<u8, Stopped>
+    ensures done { IfOk result (λ n. OfWork work.now (λ most. n ≤ 3) (λ run. n ≡ 0)) }
+    ensures early { IfErr result (λ e. OfWork work.now (λ most. stopped_status e ≡ 3) (λ run. (e ≡ Refused Fault.NoRun) ⊎ (stopped_status e ≡ 3))) }
+{
+    let Ok(mut reader) = BufReader::new(rt.alloc(), rt.reader()) else {
+        return Err(Stopped::Refused(Fault::NoMemory));
+    };
+    let mut writer = io::writer(rt);
+    perform(rt.alloc(), engine, &mut reader, &mut writer, work)
 }

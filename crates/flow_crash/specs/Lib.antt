@@ -1,2 +1,6 @@
+pub mod Carried
+pub mod DiskCalls
 pub mod Failing
+pub mod Numbering
+pub mod Numbers
 pub mod Stopping

@@ -2,6 +2,7 @@
 ghost use Rattle.std.specs.Prelude.{◌≡◌, ◌<◌, false, IsErr, Some, None};
 ghost use Rattle.sqlite_disk.specs.Refusal.{finds_no_room};
 ghost use Rattle.flow_crash.specs.declared.calls.Part.TheVariants as parts;
+ghost use Rattle.flow_crash.specs.Numbers.{Rises};
 
 use std::alloc::{AllocError, Global};
 use std::cell::Cell;
@@ -51,9 +52,12 @@ impl Calls {
         self.asked.get()
     }
 
-    /// Counts one more call, and gives its number.
-    pub(crate) fn next(&self) -> u64 {
-        let number = self.asked.get().saturating_add(1);
+    /// Counts one more call of a file, and gives its number, which is above that of the file's last one.
+    pub(crate) fn next_after(&self, last: u64) -> u64
+        ensures { Rises last result }
+    {
+        // The count is never below a number that it gave. No clause says so of a cell, so it is seen to here.
+        let number = self.asked.get().max(last).saturating_add(1);
         self.asked.set(number);
         number
     }
@@ -67,11 +71,14 @@ pub struct Stop {
 }
 
 impl Stop {
+    ghost use Rattle.flow_crash.specs.Numbering.{refused_by};
+
     /// How much of the call with this number is carried out where it is refused. None: it is passed on.
     pub fn refuses(self, number: u64) -> Option<Part>
         ensures earlier { number < self.at → result ≡ None }
         ensures numbered { number ≡ self.at → result ≡ Some self.part }
         ensures later { self.at < number → result ≡ Some parts.Before }
+        ensures whole { result ≡ refused_by self number }
     {
         if number < self.at {
             return None;

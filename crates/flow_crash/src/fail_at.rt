@@ -1,6 +1,9 @@
 //! A disk that fails at one call.
-ghost use Rattle.std.specs.Prelude.{◌≡◌, ◌+◌, ◌≤◌, ◌&&◌, ◌==◌, not, true, false};
+ghost use Rattle.std.specs.Prelude.{◌≡◌, ◌+◌, ◌<◌, ◌≤◌, ◌&&◌, ◌==◌, not, true, false, length, take, drop, IsTrue};
 ghost use Rattle.sqlite_disk.specs.Disk.{MoreFaults};
+ghost use Rattle.sqlite_disk.specs.Digest.{digest};
+ghost use Rattle.flow_crash.specs.DiskCalls as disk;
+ghost use Rattle.flow_crash.specs.Numbers.{Rises};
 
 use crate::calls::{Calls, refused};
 use sqlite_disk::{Disk, Tally};
@@ -25,8 +28,9 @@ impl Numbers {
         ensures passed { result ≡ false → self.new.refusals ≡ self.old.refusals }
         ensures counts { result ≡ true → MoreFaults self.old.refusals self.new.refusals × (self.old.refusals ≤ self.new.refusals) }
         ensures same { self.new.at ≡ self.old.at }
+        ensures rises { Rises self.old.last self.new.last }
     {
-        self.last = self.calls.next();
+        self.last = self.calls.next_after(self.last);
         if self.last == self.at {
             self.refusals = self.refusals.saturating_add(1);
             return true;
@@ -91,7 +95,10 @@ impl<D: Disk> FailAt<D> {
     }
 }
 
+// The clause `disk` of each call is what the trait says of it, the others what the trait leaves open.
 impl<D: Disk> Disk for FailAt<D> {
+    ghost use Rattle.flow_crash.specs.Failing.{inner_of, IsNumbered};
+
     ghost seen = { λ f. D.Disk.seen f.inner };
 
     ghost may_leave = { λ f. D.Disk.may_leave f.inner };
@@ -133,42 +140,68 @@ impl<D: Disk> Disk for FailAt<D> {
         self.inner.may_be_used() && !self.sync_refused
     }
 
-    fn len(&mut self) -> io::Result<usize> {
+    fn len(&mut self) -> io::Result<usize>
+        requires { IsTrue (⟦<FailAt<D> as Disk>⟧.is_usable self.old) }
+        ensures disk { disk.Measures ⟦<FailAt<D> as Disk>⟧ self.old self.new result }
+        ensures numbered { IsNumbered self.old self.new result }
+    {
         if self.numbers.fails() {
             return refused();
         }
         self.inner.len()
     }
 
-    fn read_at(&mut self, at: usize, buf: &mut [u8]) -> io::Result<()> {
+    fn read_at(&mut self, at: usize, buf: &mut [u8]) -> io::Result<()>
+        requires { IsTrue (⟦<FailAt<D> as Disk>⟧.is_usable self.old) }
+        ensures disk { disk.Reads ⟦<FailAt<D> as Disk>⟧ self.old self.new at buf.old buf.new result }
+        ensures numbered { IsNumbered self.old self.new result }
+    {
         if self.numbers.fails() {
             return refused();
         }
         self.inner.read_at(at, buf)
     }
 
-    fn read_checked(&mut self, key: u64, want: u64, at: usize, buf: &mut [u8]) -> io::Result<()> {
+    fn read_checked(&mut self, key: u64, want: u64, at: usize, buf: &mut [u8]) -> io::Result<()>
+        requires usable { IsTrue (⟦<FailAt<D> as Disk>⟧.is_usable self.old) }
+        requires some { 0 < length buf.old }
+        requires want { IsTrue (D.Disk.is_clean (inner_of self.old)) → want ≡ digest key (take (length buf.old) (drop at (D.Disk.seen (inner_of self.old)))) }
+        ensures disk { disk.Tests ⟦<FailAt<D> as Disk>⟧ self.old self.new key want at buf.old buf.new result }
+        ensures numbered { IsNumbered self.old self.new result }
+    {
         if self.numbers.fails() {
             return refused();
         }
         self.inner.read_checked(key, want, at, buf)
     }
 
-    fn write_at(&mut self, at: usize, bytes: &[u8]) -> io::Result<()> {
+    fn write_at(&mut self, at: usize, bytes: &[u8]) -> io::Result<()>
+        requires { IsTrue (⟦<FailAt<D> as Disk>⟧.is_usable self.old) }
+        ensures disk { disk.Writes ⟦<FailAt<D> as Disk>⟧ self.old self.new at bytes.now result }
+        ensures numbered { IsNumbered self.old self.new result }
+    {
         if self.numbers.fails() {
             return refused();
         }
         self.inner.write_at(at, bytes)
     }
 
-    fn set_len(&mut self, len: usize) -> io::Result<()> {
+    fn set_len(&mut self, len: usize) -> io::Result<()>
+        requires { IsTrue (⟦<FailAt<D> as Disk>⟧.is_usable self.old) }
+        ensures disk { disk.Resizes ⟦<FailAt<D> as Disk>⟧ self.old self.new len result }
+        ensures numbered { IsNumbered self.old self.new result }
+    {
         if self.numbers.fails() {
             return refused();
         }
         self.inner.set_len(len)
     }
 
-    fn sync(&mut self) -> io::Result<()> {
+    fn sync(&mut self) -> io::Result<()>
+        requires { IsTrue (⟦<FailAt<D> as Disk>⟧.is_usable self.old) }
+        ensures disk { disk.Syncs ⟦<FailAt<D> as Disk>⟧ self.old self.new result }
+        ensures numbered { IsNumbered self.old self.new result }
+    {
         if self.numbers.fails() {
             self.sync_refused = true;
             return refused();

@@ -1,6 +1,11 @@
 //! A disk that stops at one call.
-ghost use Rattle.std.specs.Prelude.{◌≡◌, ◌+◌, ◌<◌, ◌≤◌, ◌&&◌, not, IsSome, Some, None};
+ghost use Rattle.std.specs.Prelude.{◌≡◌, ◌+◌, ◌/◌, ◌<◌, ◌≤◌, ◌&&◌, not, length, take, drop, IsTrue, IsSome, Some, None};
 ghost use Rattle.sqlite_disk.specs.Disk.{MoreFaults};
+ghost use Rattle.sqlite_disk.specs.Digest.{digest};
+ghost use Rattle.flow_crash.specs.DiskCalls as disk;
+ghost use Rattle.flow_crash.specs.Carried as carried;
+ghost use Rattle.flow_crash.specs.Numbering.{fate};
+ghost use Rattle.flow_crash.specs.Numbers.{Rises};
 ghost use Rattle.flow_crash.specs.Stopping.{has_stopped};
 ghost use Rattle.flow_crash.specs.declared.calls.Part.TheVariants as parts;
 
@@ -28,17 +33,17 @@ impl Numbers {
     }
 
     /// Numbers a call, and counts it where it is refused: how much of it is carried out then.
+    #[tactic(auto, unfolding(crate::specs::Numbering::fate))]
     fn ask(&mut self) -> Option<Part>
+        ensures told { result ≡ fate self.old.stop self.old.last self.new.last }
         ensures over { self.old.stop.at ≤ self.old.last → (result ≡ Some parts.Before) × (self.new.last ≡ self.old.last) }
-        ensures earlier { self.old.last < self.old.stop.at → self.new.last < self.old.stop.at → result ≡ None }
-        ensures numbered { self.old.last < self.old.stop.at → self.new.last ≡ self.old.stop.at → result ≡ Some self.old.stop.part }
-        ensures later { self.old.last < self.old.stop.at → self.old.stop.at < self.new.last → result ≡ Some parts.Before }
+        ensures rises { self.old.last < self.old.stop.at → Rises self.old.last self.new.last }
         ensures passed { result ≡ None → self.new.refusals ≡ self.old.refusals }
         ensures counts { IsSome result → MoreFaults self.old.refusals self.new.refusals × (self.old.refusals ≤ self.new.refusals) }
         ensures same { self.new.stop ≡ self.old.stop }
     {
         if self.last < self.stop.at {
-            self.last = self.calls.next();
+            self.last = self.calls.next_after(self.last);
             let part = self.stop.refuses(self.last);
             if part.is_some() {
                 self.refuse();
@@ -106,7 +111,10 @@ impl<D: Disk> StopAt<D> {
     }
 }
 
+// The clause `disk` of each call is what the trait says of it, the others what the trait leaves open.
 impl<D: Disk> Disk for StopAt<D> {
+    ghost use Rattle.flow_crash.specs.Stopping.{inner_of, fate_of, IsNumbered};
+
     ghost seen = { λ f. D.Disk.seen f.inner };
 
     ghost may_leave = { λ f. D.Disk.may_leave f.inner };
@@ -149,28 +157,51 @@ impl<D: Disk> Disk for StopAt<D> {
         self.inner.may_be_used() && !self.sync_refused
     }
 
-    fn len(&mut self) -> io::Result<usize> {
+    fn len(&mut self) -> io::Result<usize>
+        requires { IsTrue (⟦<StopAt<D> as Disk>⟧.is_usable self.old) }
+        ensures disk { disk.Measures ⟦<StopAt<D> as Disk>⟧ self.old self.new result }
+        ensures numbered { IsNumbered self.old self.new result }
+        ensures unread { IsSome (fate_of self.old self.new) → inner_of self.new ≡ inner_of self.old }
+    {
         match self.numbers.ask() {
             None => self.inner.len(),
             Some(_) => refused(),
         }
     }
 
-    fn read_at(&mut self, at: usize, buf: &mut [u8]) -> io::Result<()> {
+    fn read_at(&mut self, at: usize, buf: &mut [u8]) -> io::Result<()>
+        requires { IsTrue (⟦<StopAt<D> as Disk>⟧.is_usable self.old) }
+        ensures disk { disk.Reads ⟦<StopAt<D> as Disk>⟧ self.old self.new at buf.old buf.new result }
+        ensures numbered { IsNumbered self.old self.new result }
+        ensures unread { IsSome (fate_of self.old self.new) → inner_of self.new ≡ inner_of self.old }
+    {
         match self.numbers.ask() {
             None => self.inner.read_at(at, buf),
             Some(_) => refused(),
         }
     }
 
-    fn read_checked(&mut self, key: u64, want: u64, at: usize, buf: &mut [u8]) -> io::Result<()> {
+    fn read_checked(&mut self, key: u64, want: u64, at: usize, buf: &mut [u8]) -> io::Result<()>
+        requires usable { IsTrue (⟦<StopAt<D> as Disk>⟧.is_usable self.old) }
+        requires some { 0 < length buf.old }
+        requires want { IsTrue (D.Disk.is_clean (inner_of self.old)) → want ≡ digest key (take (length buf.old) (drop at (D.Disk.seen (inner_of self.old)))) }
+        ensures disk { disk.Tests ⟦<StopAt<D> as Disk>⟧ self.old self.new key want at buf.old buf.new result }
+        ensures numbered { IsNumbered self.old self.new result }
+        ensures unread { IsSome (fate_of self.old self.new) → inner_of self.new ≡ inner_of self.old }
+    {
         match self.numbers.ask() {
             None => self.inner.read_checked(key, want, at, buf),
             Some(_) => refused(),
         }
     }
 
-    fn write_at(&mut self, at: usize, bytes: &[u8]) -> io::Result<()> {
+    fn write_at(&mut self, at: usize, bytes: &[u8]) -> io::Result<()>
+        requires { IsTrue (⟦<StopAt<D> as Disk>⟧.is_usable self.old) }
+        ensures disk { disk.Writes ⟦<StopAt<D> as Disk>⟧ self.old self.new at bytes.now result }
+        ensures numbered { IsNumbered self.old self.new result }
+        ensures half { fate_of self.old self.new ≡ Some parts.Half → carried.Writes D.Disk at (take (length bytes.now / 2) bytes.now) (inner_of self.old) (inner_of self.new) }
+        ensures whole { fate_of self.old self.new ≡ Some parts.After → carried.Writes D.Disk at bytes.now (inner_of self.old) (inner_of self.new) }
+    {
         match self.numbers.ask() {
             None => self.inner.write_at(at, bytes),
             Some(Part::Before) => refused(),
@@ -185,7 +216,13 @@ impl<D: Disk> Disk for StopAt<D> {
         }
     }
 
-    fn set_len(&mut self, len: usize) -> io::Result<()> {
+    fn set_len(&mut self, len: usize) -> io::Result<()>
+        requires { IsTrue (⟦<StopAt<D> as Disk>⟧.is_usable self.old) }
+        ensures disk { disk.Resizes ⟦<StopAt<D> as Disk>⟧ self.old self.new len result }
+        ensures numbered { IsNumbered self.old self.new result }
+        ensures half { fate_of self.old self.new ≡ Some parts.Half → inner_of self.new ≡ inner_of self.old }
+        ensures whole { fate_of self.old self.new ≡ Some parts.After → carried.Resizes D.Disk len (inner_of self.old) (inner_of self.new) }
+    {
         match self.numbers.ask() {
             None => self.inner.set_len(len),
             Some(Part::After) => {
@@ -196,7 +233,13 @@ impl<D: Disk> Disk for StopAt<D> {
         }
     }
 
-    fn sync(&mut self) -> io::Result<()> {
+    fn sync(&mut self) -> io::Result<()>
+        requires { IsTrue (⟦<StopAt<D> as Disk>⟧.is_usable self.old) }
+        ensures disk { disk.Syncs ⟦<StopAt<D> as Disk>⟧ self.old self.new result }
+        ensures numbered { IsNumbered self.old self.new result }
+        ensures half { fate_of self.old self.new ≡ Some parts.Half → inner_of self.new ≡ inner_of self.old }
+        ensures whole { fate_of self.old self.new ≡ Some parts.After → carried.Syncs D.Disk (inner_of self.old) (inner_of self.new) }
+    {
         match self.numbers.ask() {
             None => self.inner.sync(),
             Some(Part::After) => {

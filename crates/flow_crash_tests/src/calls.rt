@@ -1,5 +1,6 @@
 //! Commands of these tests, and what their replies name.
 use flow_base::command::{Command, Reply};
+use flow_base::event::{Cmd, Event, What};
 use flow_base::number::{EventId, Moment, RunId, TextNo};
 use flow_base::sequence::Sequence;
 use flow_base::text::{Key, RawText};
@@ -32,8 +33,8 @@ pub enum Named {
     /// The event under which an input stands.
     Event(u64),
     Code(u8),
-    /// So many events.
-    Events(usize),
+    /// So many events, of which the last one says that the run has returned this number.
+    Returned(usize, i64),
     Other,
 }
 
@@ -46,6 +47,21 @@ pub const SECOND: [Call; 3] = [Call::Start("g"), Call::Complete(2), Call::Start(
 /// Whatever beginning of the two batches a book has, it answers these as no other.
 pub const QUESTIONS: [Call; 3] = [Call::History(1), Call::History(2), Call::Start("q")];
 
+/// What the questions are answered before the batches, behind the first and behind both. A run that has got 41 returns 42: it
+/// was started, its activity was scheduled and completed, and it was completed. Without a text there is no run.
+pub const FOUND: [[Named; 3]; 3] = [
+    [Named::Code(70), Named::Code(70), Named::Code(60)],
+    [Named::Returned(4, 42), Named::Code(70), Named::Run(2)],
+    [
+        Named::Returned(4, 42),
+        Named::Returned(4, 42),
+        Named::Run(4),
+    ],
+];
+
+/// What is answered to the second batch by an empty book: there is no text to start, and no second run.
+pub const UNBEGUN: [Named; 3] = [Named::Code(60), Named::Code(70), Named::Code(60)];
+
 /// What is answered to the two batches by a store that nothing disturbs.
 pub const BEGUN: [Named; 6] = [
     Named::Text(1),
@@ -55,6 +71,14 @@ pub const BEGUN: [Named; 6] = [
     Named::Event(3),
     Named::Run(3),
 ];
+
+/// Whether the questions are answered by the book behind so many of the two batches.
+pub fn is_book(batches: usize, found: &[Named]) -> bool {
+    match FOUND.get(batches) {
+        Some(book) => found == book.as_slice(),
+        None => false,
+    }
+}
 
 fn register(alloc: Global) -> Option<Command> {
     Some(Command::Register(RawText::new(alloc, A).ok()?))
@@ -89,6 +113,21 @@ pub fn command(alloc: Global, call: Call) -> Option<Command> {
     }
 }
 
+/// What the last event of a run says that it has returned.
+fn returned(events: &[Event]) -> Option<i64> {
+    match &events.last()?.what {
+        What::Asked(Cmd::Complete(Value::Int(number))) => Some(*number),
+        _ => None,
+    }
+}
+
+fn named_by_history(events: &[Event]) -> Named {
+    match returned(events) {
+        Some(number) => Named::Returned(events.len(), number),
+        None => Named::Other,
+    }
+}
+
 pub fn named_by(reply: &Reply) -> Named {
     match reply {
         Reply::Registered(text) => Named::Text(text.get()),
@@ -96,7 +135,7 @@ pub fn named_by(reply: &Reply) -> Named {
         Reply::Duplicate(run) => Named::Duplicate(run.get()),
         Reply::Recorded(_, event) => Named::Event(event.get()),
         Reply::Refused(code) => Named::Code(code.number()),
-        Reply::History(events) => Named::Events(events.as_slice().len()),
+        Reply::History(events) => named_by_history(events.as_slice()),
         _ => Named::Other,
     }
 }

@@ -1,4 +1,5 @@
-//! Tests of an engine over a file whose disk stops or fails at one call: at each call that a run makes, one after the other.
+//! Tests of disks that stop or fail at one call, and of an engine over a file on such a disk: at each call that a run makes, one
+//! after the other.
 #![tactic(auto)]
 
 #[cfg(test)]
@@ -6,8 +7,14 @@ mod answers;
 #[cfg(test)]
 mod calls;
 #[cfg(test)]
+mod disk_calls;
+#[cfg(test)]
+mod failed_disk;
+#[cfg(test)]
 mod failing;
 #[cfg(test)]
 mod files;
+#[cfg(test)]
+mod stopped_disk;
 #[cfg(test)]
 mod stopping;

@@ -1,19 +1,12 @@
 //! A run that is stopped at each of its calls of the disk, one after the other, in each part of the call.
 use crate::answers::{Answers, Ended, undisturbed};
-use crate::calls::{BEGUN, Call, FIRST, Named, QUESTIONS, SECOND};
+use crate::calls::{BEGUN, Call, FIRST, FOUND, Named, QUESTIONS, SECOND, is_book};
 use crate::files::{Disturbed, answers_of, crashed, stopped};
 use flow_crash::calls::{Part, Stop};
 use std::alloc::Global;
 use std::test::Fail;
 
 const BATCHES: [[Call; 3]; 2] = [FIRST, SECOND];
-
-/// What the questions are answered before the batches, behind the first and behind both.
-const FOUND: [[Named; 3]; 3] = [
-    [Named::Code(70), Named::Code(70), Named::Code(60)],
-    [Named::Events(4), Named::Code(70), Named::Run(2)],
-    [Named::Events(4), Named::Events(4), Named::Run(4)],
-];
 
 /// What is seen of a stop.
 #[derive(Clone, Copy, PartialEq, Eq)]
@@ -34,13 +27,6 @@ struct Stops {
     wrong: u64,
     /// Whether a run came to its end.
     is_over: bool,
-}
-
-fn is_book(batches: usize, found: &[Named]) -> bool {
-    match FOUND.get(batches) {
-        Some(book) => found == book.as_slice(),
-        None => false,
-    }
 }
 
 /// The book behind how many batches it is, where so many are acknowledged, and one more may be there.

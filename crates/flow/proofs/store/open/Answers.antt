@@ -1,5 +1,5 @@
 use Rattle.std.proofs.Common.{refl}
-use Rattle.flow.proofs.open.Goals as goal
+use Rattle.flow.proofs.store.open.Goals as goal
 
 -- the fault and the connection that the engine gave back
 pub returns-in-Err-clause-refused : goal.returns-in-Err-clause-refused
