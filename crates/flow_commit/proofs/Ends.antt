@@ -7,7 +7,8 @@ use Rattle.flow_model.specs.Book.{Book}
 use Rattle.flow_model.specs.Apply.{after, after_one, replies}
 use Rattle.flow_machine.specs.declared.submission.Taken.{Taken}
 use Rattle.flow_machine.specs.declared.submission.Receipt.{Receipt}
-use Rattle.flow_tables.specs.Owned.{Keeps, state_of}
+use Rattle.flow_tables.specs.Owned.{Stored, IsFit, Follows, Keeps, state_of}
+use Rattle.flow_tables.specs.Faults.{HasFailed, IsCutOff}
 use Rattle.flow_view.specs.Reading.{Caused}
 use Rattle.flow_view.specs.declared.fault.ViewFault.{ViewFault}
 use Rattle.flow_view.specs.declared.fault.ViewFault.TheVariants as fault
@@ -71,17 +72,25 @@ fault_on C D fault.StoreRefused on h = on h
 pub cause_of : (C : Type 0) (f : ViewFault) → f ≡ fault.StoreRefused → Caused {A = Unit} (Err f) C → C
 cause_of C f is h = subst (λ x. Caused {A = Unit} (Err x) C) is h
 
-pub ends_on : (W V U T : Type 0) (e : End) → (W → V) → (U → T) → EndsFor W U e → EndsFor V T e
+pub ends_on : (W V : Type 0) (U T : ViewFault → Type 0) (e : End) → (W → V) → ((f : ViewFault) → U f → T f) → EndsFor W U e → EndsFor V T e
 ends_on W V U T (end.Kept reply) stop cut h = tt
 ends_on W V U T (end.Refused fault.NoMemory) stop cut h = tt
 ends_on W V U T (end.Refused fault.StoreRefused) stop cut h = stop h
-ends_on W V U T end.Unknown stop cut h = cut h
+ends_on W V U T (end.Unknown f) stop cut h = cut f h
 
-pub refused_for : (W U : Type 0) (f : ViewFault) → (f ≡ fault.StoreRefused → W) → EndsFor W U (end.Refused f)
+pub refused_for : (W : Type 0) (U : ViewFault → Type 0) (f : ViewFault) → (f ≡ fault.StoreRefused → W) → EndsFor W U (end.Refused f)
 refused_for W U fault.NoMemory h = tt
 refused_for W U fault.StoreRefused h = h refl
 
-pub not_applied_for : {S : Type 0} (g : Ghosts S) (old new : Keeping S) (b : Book) (batch back : List Taken) (f : ViewFault) (U : Type 0)
+pub not_applied_for : {S : Type 0} (g : Ghosts S) (old new : Keeping S) (b : Book) (batch back : List Taken) (f : ViewFault) (U : ViewFault → Type 0)
     → EndsFor (CantBeApplied b (commands_of batch) ⊎ WasGivenUp g old.stored new.stored) U (end.Refused f) → IsFor g old new b batch (outcomes.NotApplied back f)
 not_applied_for g old new b batch back fault.NoMemory U h = tt
 not_applied_for g old new b batch back fault.StoreRefused U h = inr h
+
+-- what refused the end of a transaction, behind what was done in it
+pub cut_behind : {S : Type 0} (g : Ghosts S) (old mid new : Stored S) (sql : List ℕ) (f : ViewFault) → Follows g old mid → IsFit g mid → IsCutOff sql (state_of g mid) (state_of g new) f → f ≡ fault.StoreRefused
+    → HasFailed (state_of g old) (state_of g new)
+cut_behind g old mid new sql f follows fit cut is = elim (cut.failed is) [
+  | inl more ↦ inl (omega (arith, (follows.3 fit.0 fit.1).0, more))
+  | inr shut ↦ inr shut
+]

@@ -8,8 +8,9 @@ use Rattle.flow_machine.specs.declared.submission.Taken.{Taken}
 use Rattle.flow_machine.specs.Stuck.{IsStuckWithin}
 use Rattle.flow_machine.specs.Fitting.{IsUnfitWithin}
 use Rattle.flow_tables.specs.Puts.{IsUnfit}
+use Rattle.flow_view.specs.declared.fault.ViewFault.{ViewFault}
 use Rattle.flow_view.specs.declared.fault.ViewFault.TheVariants as fault
-use Rattle.flow_tables.specs.Faults.{WasStopped, FailsWithin}
+use Rattle.flow_tables.specs.Faults.{WasStopped, HasFailed, IsCutOff}
 use Rattle.flow_tables.specs.States.{HasGoneBack}
 use Rattle.flow_tables.specs.Owned.{Stored, state_of, IsUp, Keeps, Follows, Refuses, LeavesEither}
 use Rattle.flow_commit.specs.declared.outcome.Outcome.{Outcome}
@@ -22,13 +23,13 @@ use Rattle.flow_commit.specs.Keeping.{Keeping, rules, commands_of, HasKept, HasR
 abbrev pub EndsAs : {S : Type 0} → Ghosts S → Stored S → Book → List Command → End → Type 0
 EndsAs g new b cs (end.Kept rs) = (rs.items ≡ replies rules b cs) × Keeps (state_of g new) (after rules b cs)
 EndsAs g new b cs (end.Refused f) = Keeps (state_of g new) b
-EndsAs g new b cs end.Unknown = LeavesEither (state_of g new) b (after rules b cs) × (IsUp g new → Keeps (state_of g new) b)
+EndsAs g new b cs (end.Unknown f) = LeavesEither (state_of g new) b (after rules b cs) × (IsUp g new → Keeps (state_of g new) b)
 
 -- one that was committed has so many replies
 abbrev pub HasReplies : ℕ → End → Type 0
 HasReplies count (end.Kept rs) = length rs.items ≡ count
 HasReplies count (end.Refused f) = Unit {0}
-HasReplies count end.Unknown = Unit {0}
+HasReplies count (end.Unknown f) = Unit {0}
 
 ---- Why nothing is kept
 
@@ -41,15 +42,17 @@ abbrev pub WasGivenUp : {S : Type 0} → Ghosts S → Stored S → Stored S → 
 WasGivenUp {S} g old new =
     (mid : Stored S) × Follows g old mid × (WasStopped (codes "BEGIN") (state_of g old) (state_of g mid) ⊎ Refuses g old mid) × HasGoneBack g mid.held new.held
 
--- The store refused the commit, or the way back.
-abbrev pub WasCutOff : {S : Type 0} → Ghosts S → Stored S → Stored S → Type 0
-WasCutOff {S} g old new =
-    (mid : Stored S) × Follows g old mid × (FailsWithin (codes "COMMIT") (state_of g mid) (state_of g new) ⊎ FailsWithin (codes "ROLLBACK") (state_of g mid) (state_of g new))
+-- The store refused the commit, or the way back, with this. Where it is E80 the disk has failed once more since the beginning, or
+-- the connection is shut.
+abbrev pub WasCutOff : {S : Type 0} → Ghosts S → Stored S → Stored S → ViewFault → Type 0
+WasCutOff {S} g old new f =
+    (mid : Stored S) × Follows g old mid × (IsCutOff (codes "COMMIT") (state_of g mid) (state_of g new) f ⊎ IsCutOff (codes "ROLLBACK") (state_of g mid) (state_of g new) f)
+    × (f ≡ fault.StoreRefused → HasFailed (state_of g old) (state_of g new))
 
 -- a transaction that was to apply commands has these causes where it was given up for E80, and where nobody knows
-abbrev pub EndsFor : Type 0 → Type 0 → End → Type 0
+abbrev pub EndsFor : Type 0 → (ViewFault → Type 0) → End → Type 0
 EndsFor stopped unknown (end.Refused fault.StoreRefused) = stopped
-EndsFor stopped unknown end.Unknown = unknown
+EndsFor stopped unknown (end.Unknown f) = unknown f
 EndsFor stopped unknown _ = Unit {0}
 
 -- behind so many commands, the last of a batch would have a place past the last number
@@ -59,14 +62,14 @@ HasNoRoom kept batch = 2 ^ 63 ≤ kept + length batch
 -- and a commit, over a book that is kept
 abbrev pub IsFor : {S : Type 0} → Ghosts S → Keeping S → Keeping S → Book → List Taken → Outcome → Type 0
 IsFor g old new b batch (outcomes.NotApplied back fault.StoreRefused) = HasNoRoom old.kept batch ⊎ (CantBeApplied b (commands_of batch) ⊎ WasGivenUp g old.stored new.stored)
-IsFor g old new b batch (outcomes.Unknown back) = WasCutOff g old.stored new.stored
+IsFor g old new b batch (outcomes.Unknown back f) = WasCutOff g old.stored new.stored f
 IsFor g old new b batch _ = Unit {0}
 
 -- what a commit has done, by its outcome
 abbrev pub HasCommitted : {S : Type 0} → Ghosts S → Keeping S → Keeping S → Book → List Taken → Outcome → Type 0
 HasCommitted g old new b batch (outcomes.Kept receipts stamp) = (old.halted ≡ false) × (stamp ≡ new.kept) × HasKept g old new b batch receipts.items
 HasCommitted g old new b batch (outcomes.NotApplied back f) = (old.halted ≡ false) × (back ≡ batch) × HasRefused g old new b
-HasCommitted g old new b batch (outcomes.Unknown back) = (old.halted ≡ false) × (back ≡ batch) × IsUnknown g old new b batch
+HasCommitted g old new b batch (outcomes.Unknown back f) = (old.halted ≡ false) × (back ≡ batch) × IsUnknown g old new b batch
 HasCommitted g old new b batch (outcomes.Halted back) = (old.halted ≡ true) × (back ≡ batch) × (new ≡ old)
 
 -- What the keeper notes of a batch, whatever the disk tells it: one that is kept is counted and has a receipt for each command,
@@ -74,5 +77,5 @@ HasCommitted g old new b batch (outcomes.Halted back) = (old.halted ≡ true) ×
 abbrev pub HasNoted : {S : Type 0} → Keeping S → Keeping S → List Taken → Outcome → Type 0
 HasNoted old new batch (outcomes.Kept receipts stamp) = (new.halted ≡ false) × (new.kept ≡ old.kept + length batch) × (length receipts.items ≡ length batch)
 HasNoted old new batch (outcomes.NotApplied back f) = (new.halted ≡ false) × (new.kept ≡ old.kept)
-HasNoted old new batch (outcomes.Unknown back) = (new.halted ≡ true) × (new.kept ≡ old.kept)
+HasNoted old new batch (outcomes.Unknown back f) = (new.halted ≡ true) × (new.kept ≡ old.kept)
 HasNoted old new batch (outcomes.Halted back) = (new.halted ≡ true) × (new ≡ old)

@@ -10,8 +10,9 @@ pub enum Outcome {
     Kept(Vec<Receipt>, Stamp),
     /// E80 or E01: nothing has changed, and the keeper goes on.
     NotApplied(Batch, ViewFault),
-    /// E84: nobody knows until the store is opened again whether it is kept. The keeper has halted.
-    Unknown(Batch),
+    /// E84: nobody knows until the store is opened again whether it is kept, since the end of the transaction was refused with
+    /// this, E80 or E01. The keeper has halted.
+    Unknown(Batch, ViewFault),
     /// E85: the keeper had halted before.
     Halted(Batch),
 }

@@ -194,7 +194,7 @@ module _ {S : Type 0} (g : Ghosts S) where
   stepped k (Refused conn f back) well begin (clean, told) =
       let its = kept_for k conn back f begin clean told in
       record {
-        found = (its.kept, its.own well);
+        found = (its.kept, its.own well, told.why clean (found_ours (state g conn) k (over_found k conn begin)));
         answered = tt;
         left = λ db may. ([], inl refl, its.kept.stops db may);
         told = λ i r e. absurd (none-some r e);

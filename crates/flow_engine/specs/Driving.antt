@@ -10,6 +10,7 @@ use Rattle.flow_machine.specs.declared.submission.Taken.{Taken}
 use Rattle.flow_machine.specs.declared.submission.Receipt.{Receipt}
 use Rattle.sqlite.specs.Tree.{Trees}
 use Rattle.flow_tables.specs.Owned.{state_of, IsFileOf, LeavesEither}
+use Rattle.flow_view.specs.declared.fault.ViewFault.{ViewFault}
 use Rattle.flow_commit.specs.Keeping.{Keeping, rules, IsFit, IsUp, IsWell, KeepsBook, HasKept, HasRefused, IsUnknown, commands_of, receipts_of}
 use Rattle.flow_commit.specs.Committing.{IsFor}
 use Rattle.flow_commit.specs.declared.outcome.Outcome.TheVariants as outcomes
@@ -27,7 +28,7 @@ HasDone g old new b batch done.Halted = (old.halted ≡ true) × (new ≡ old)
 abbrev pub IsDoneFor : {S : Type 0} → Ghosts S → Keeping S → Keeping S → Book → List Taken → Done → Type 0
 IsDoneFor g old new b batch (done.Kept receipts) = Unit {0}
 IsDoneFor g old new b batch (done.NotApplied f) = IsFor g old new b batch (outcomes.NotApplied batch f)
-IsDoneFor g old new b batch done.Unknown = IsFor g old new b batch (outcomes.Unknown batch)
+IsDoneFor g old new b batch done.Unknown = (f : ViewFault) × IsFor g old new b batch (outcomes.Unknown batch f)
 IsDoneFor g old new b batch done.Halted = Unit {0}
 
 -- What is noted of a batch, whatever the disk tells: one that is kept is counted and has a receipt for each command, and behind

@@ -12,7 +12,7 @@ use Rattle.flow_machine.specs.declared.submission.Receipt.{Receipt}
 use Rattle.flow_model.specs.Book.{Book, no_book, nth}
 use Rattle.flow_model.specs.Apply.{after, replies}
 use Rattle.flow_tables.specs.Layout.{no_schema}
-use Rattle.flow_tables.specs.Opening.{IsOfStore}
+use Rattle.flow_tables.specs.Opening.{IsOfStore, StopsOpening}
 use Rattle.flow_tables.specs.Owned.{Keeps, state_of}
 use Rattle.flow_commit.specs.Keeping.{Keeping, IsFit, IsWell, KeepsBook, rules}
 use Rattle.flow_recover.specs.declared.positions.Position.{Position}
@@ -64,10 +64,11 @@ module _ {S : Type 0} (g : Ghosts S) where
   Lives Begin (l ∷ ls) = Begin l × IsLife l × Lives (λ m. Continues (seen l) (seen m)) ls
 
   -- What an opening over this book gave: the book, with exactly one position for each of its open runs, which stands under the
-  -- run's text; or E01, E80 or E81, and the book is kept on.
+  -- run's text; or E01, E80 or E81, and the book is kept on, and behind E80 and E81 stand the disk, a limit on steps, what the
+  -- database declined or a row that can't be read.
   abbrev pub Finds : Book → Life S → Type 0
   Finds b (Lived conn first positions last bs ds) = KeepsBook g first b × ArePositions meaning_of b positions
-  Finds b (Refused conn f back) = Keeps (state g back) b × IsOfStore f
+  Finds b (Refused conn f back) = Keeps (state g back) b × IsOfStore f × StopsOpening g (state g conn) (state g back) f
 
   -- A life's place in the log, behind the commands before it: what it committed, and its batch in hand whole or not at all.
   pub record IsIn (b : Book) (log before part : List Command) (l : Life S) : Type 0 where

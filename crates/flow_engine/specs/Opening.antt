@@ -9,8 +9,8 @@ use Rattle.flow_base.specs.declared.fault.Fault.{Fault}
 use Rattle.flow_base.specs.declared.fault.Fault.TheVariants as fault
 use Rattle.flow_check.specs.Language.{meaning_of}
 use Rattle.flow_model.specs.Book.{Book}
-use Rattle.flow_tables.specs.Opening.{HasCause, HasOtherFormat, IsFirstDamage, IsOfStore}
-use Rattle.flow_tables.specs.Owned.{IsFileOf, IsFound, Keeps, LeavesMade, state_of}
+use Rattle.flow_tables.specs.Opening.{HasCause, HasOtherFormat, IsFirstDamage, IsOfStore, StopsOpening}
+use Rattle.flow_tables.specs.Owned.{IsFileOf, IsFound, IsOurs, Keeps, LeavesMade, state_of}
 use Rattle.flow_tables.specs.States.{HasTables}
 use Rattle.flow_tables.specs.Stored.{tables_in}
 use Rattle.flow_commit.specs.Keeping.{Keeping, IsFit, IsWell, KeepsBook}
@@ -55,6 +55,9 @@ pub record IsUnopened {S : Type 0} (g : Ghosts S) (from to : State) (f : Fault) 
   pub version : HasCleanDisk to → f ≡ fault.BadVersion → HasOtherFormat g to
   pub damaged : HasCleanDisk to → (HasCleanDisk from → HasTables from.committed) → IsFirstDamage (tables_in from.committed.trees) f
   pub cause : HasCleanDisk to → HasCause g f
+  -- Over our tables, or none, E80 and E81 come of the disk, of a limit on steps, of what the database declined or of a row that
+  -- can't be read.
+  pub why : HasCleanDisk to → IsOurs from → StopsOpening g from to f
   -- The store is as it was, or the book that was found is kept, and E68 names its least run that doesn't replay.
   pub left : HasCleanDisk to → IsLeft from to f
   -- Tables that stand for a sound book, or none, are refused only where the store fails, or isn't ours.

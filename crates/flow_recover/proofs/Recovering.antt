@@ -23,7 +23,7 @@ use Rattle.flow_rows.proofs.Stood.{stood}
 use Rattle.flow_rows.proofs.Telling.{told, all_told}
 use Rattle.flow_tables.specs.Layout.{schema, no_schema}
 use Rattle.flow_tables.specs.Stored.{tables_in}
-use Rattle.flow_tables.specs.Opening.{StandFor, IsFirstDamage, IsOfStore, IsOfOpening, HasCause}
+use Rattle.flow_tables.specs.Opening.{StandFor, IsFirstDamage, IsOfStore, IsOfOpening, HasCause, StopsOpening}
 use Rattle.flow_tables.specs.States.{AreOurs, HasTables, HasEnded}
 use Rattle.flow_tables.specs.Owned.{IsOurs, IsFound, IsFileOf, Keeps, LeavesMade}
 use Rattle.flow_tables.proofs.Stops.{IsSettled, opened_over}
@@ -155,6 +155,11 @@ pub past_cause : {S : Type 0} (g : Ghosts S) (f : Fault) → IsPastTables f → 
 past_cause g fault.NoMemory of = tt
 past_cause g (fault.Mismatch run place name) of = tt
 past_cause g _ of = absurd of
+
+pub past_why : {S : Type 0} (g : Ghosts S) (from to : State) (f : Fault) → IsPastTables f → StopsOpening g from to f
+past_why g from to fault.NoMemory of = tt
+past_why g from to (fault.Mismatch run place name) of = tt
+past_why g from to _ of = absurd of
 
 pub past_left : (from to : State) (b : Book) (f : Fault) → IsPastTables f → NamesIn b f → (IsOurs from → IsFound from b × Keeps to b) → IsLeft from to f
 past_left from to b fault.NoMemory of named its = inr (λ ours. record { book = b; found = (its ours).0; kept = (its ours).1; mismatch = tt })

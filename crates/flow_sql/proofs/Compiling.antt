@@ -1,7 +1,5 @@
 -- What the statements that make the tables do, whatever tables there are: each keeps the transaction, and none commits.
-use Rattle.std.proofs.Common.{◌≡◌, ◌⊎◌, true≢false, inl, inr, ℕ, List, Bool, true, false, Option, None, Result, Ok, Err, [], if◌then◌else◌, refl, sym, ap, subst, ◌∙◌, IsTrue, MatchResult, ◌==◌, ◌&&◌, not, ◌+◌, length}
-use Rattle.flow_sql.specs.Names.{cases_Bool, Statement, Parsed, Returning, Compiled, CompileError, NoSuchTable, Checked, first, Row, Trees, Error, State, HasCleanDisk, Survives, IsUnchanged, IsRolledBack, Executes, Runs, Shows, shows_rows, text_of, timed, survives_weaker}
-use Rattle.std.specs.Prelude.{⊤}
+use Rattle.flow_sql.proofs.Names.{survives_weaker, timed, Row, Executes, HasCleanDisk, IsRolledBack, IsUnchanged, Runs, Shows, State, Survives, shows_rows, text_of, Trees, Error, Statement, first, Checked, Compiled, CompileError, NoSuchTable, Returning, Parsed, cases_Bool, Bool, IsTrue, List, MatchResult, Option, false, true, ℕ, [], ◌≡◌, refl, Ok, None, Err, Result, ⊤, ◌⊎◌, length, if◌then◌else◌, not, ◌&&◌, reads_listing, ◌==◌, ◌+◌, sym, ap, ◌∙◌, subst, inl, inr, true≢false, RunsTo, GoesOn, IsMaking, FirstIs}
 use Rattle.sqlite_ast.specs.declared.Statement.TheVariants as written
 use Rattle.sqlite_ast.specs.declared.Conflict.TheVariants as conflict
 use Rattle.sqlite_ast.specs.declared.CreateTable.{CreateTable}
@@ -19,9 +17,9 @@ use Rattle.sqlite_schema.specs.Names.{table_named, index_named, view_named}
 use Rattle.sqlite_schema.specs.declared.schema.Table.{Table}
 use Rattle.sqlite_schema.specs.declared.command.Source.{Source}
 use Rattle.std.specs.Option.{option_or}
-use Rattle.sqlite.specs.Listing.{understood, reads_listing, if_select, is_select, listing_schema}
+use Rattle.sqlite.specs.Listing.{understood, if_select, is_select, listing_schema}
 use Rattle.sqlite.specs.State.{CommitsBy, CommitsShowing, FailsToQuery, Shown, IsNotRun, ExecutesIn}
-use Rattle.flow_sql.specs.States.{GoesOn, CommitsNothing, RunsTo, IsMaking, IsReading, FirstIs}
+use Rattle.flow_sql.specs.States.{CommitsNothing, IsReading}
 use Rattle.flow_sql.proofs.Added.{same_value}
 use Rattle.flow_sql.proofs.Leaves.{was_clean, error_leaves, rolled_back_ended}
 

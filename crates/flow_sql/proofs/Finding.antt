@@ -1,18 +1,20 @@
 -- What reading the format leaves, and what it tells.
-use Rattle.std.proofs.Common.{◌≡◌, ◌⊎◌, inl, inr, pos, [], ◌∷◌, map, false, None, Ok, Err, Result, refl, sym, ap, subst, ◌∙◌, IsPermutation}
-use Rattle.flow_sql.specs.Names.{Null, Int, Row, Trees, Database, IsAnswer, Output, output, inner, end, overlay, Error, State, Survives, IsUnchanged, Compiled, NoSuchTable, one_permutation}
+use Rattle.flow_sql.proofs.Names.{schema, format_sql, no_schema, format_query, one_permutation, Database, Row, overlay, IsAnswer, Output, end, inner, output, IsUnchanged, State, Survives, Trees, Error, Int, Null, Compiled, CompileError, NoSuchTable, IsPermutation, IsTrue, List, false, map, pos, [], ◌≡◌, ◌∷◌, refl, Ok, None, Err, Result, ◌⊎◌, ◌≢◌, Fails, IsOver, HasTables, HasEnded, IsAtRest, IsBlank, format_row, sym, ap, ◌∙◌, subst, inl, inr, arith}
+use Rattle.std.specs.Prelude.{IsSome}
+use Rattle.sqlite_disk.specs.Disk.{MoreFaults}
+use Rattle.sqlite.specs.declared.error.ErrorCode.TheVariants.{OutOfMemory}
+use Rattle.sqlite.specs.declared.error.Error.TheVariants.{SqliteFailure, SqlInputError}
 use Rattle.sqlite.specs.Order.{value_cmp}
 use Rattle.sqlite.specs.Ops.{binary}
 use Rattle.sqlite.specs.Query.{page, matches_as}
 use Rattle.sqlite.specs.Listing.{understood, listing_schema}
-use Rattle.sqlite.specs.State.{CommitsShowing, QueriesRow, FailsToQuery, Shown, Begins, IsNotRun, Fails}
+use Rattle.sqlite.specs.State.{CommitsShowing, QueriesRow, FailsToQuery, Shown, Begins, IsNotRun}
 use Rattle.sqlite.proofs.Callers.{first_as}
 use Rattle.sqlite_tied.specs.Compute.{everything}
-use Rattle.flow_sql.specs.Layout.{format_sql, no_schema, schema, format_query}
-use Rattle.flow_sql.specs.Stored.{format_row}
-use Rattle.flow_sql.specs.States.{HasTables, IsOver, HasEnded, IsAtRest, IsBlank}
 use Rattle.flow_sql.proofs.Leaves.{over_both}
 use Rattle.flow_sql.proofs.Compiling.{reading_shows_none, commits_none}
+use Rattle.flow_sql.proofs.Reading.{answer}
+use Rattle.flow_sql.proofs.Refusing.{IsWhole, only_failed, question_refused, never_sums}
 use Rattle.flow_sql.proofs.Texts.{format_read}
 
 ---- Under any schema
@@ -80,18 +82,43 @@ unfolding QueriesRow Begins Shown
 blank_never_reads old new row none (inl h) = never_understood old h.0.0 none h.0.1.is
 blank_never_reads old new row none (inr h) = never_understood old h.1.0 none h.1.1.is
 
+-- the refusal is that there is no such table, or the disk's
+pub blank_refused : (old new : State) (e : Error) → e ≢ SqliteFailure OutOfMemory → IsTrue old.is_open → old.now.schema ≡ no_schema → QueriesRow format_sql [] old new (Err e)
+    → MoreFaults old.faults new.faults ⊎ ((f : CompileError) × (e ≡ SqlInputError f))
+unfolding QueriesRow FailsToQuery Shown IsNotRun
+blank_refused old new e other up none (inl (inl (inl (inl broken, _)))) = inr (broken.0, broken.2)
+blank_refused old new e other up none (inl (inl (inl (inr odd, _)))) = absurd (never_understood old odd.0 none odd.1)
+blank_refused old new e other up none (inl (inl (inr fails))) = inl (only_failed old new e other up fails)
+blank_refused old new e other up none (inl (inr h)) = absurd (never_understood old h.0 none h.1.is)
+blank_refused old new e other up none (inr h) = absurd (never_understood old h.1.0 none h.1.1.is)
+
 ---- Over our tables
 
 met : (db : Trees) → db 0 ≡ format_row ∷ [] → matches_as Null db format_query.filter (inner 0 end) ([] ∷ []) ≡ ([] ∷ format_row ∷ []) ∷ []
 unfolding binary value_cmp lib.Ieee.is_nan lib.Ieee.lt
 met db one = rw one refl
 
+format_rows : (db : Trees) → db 0 ≡ format_row ∷ [] → (rows : List Row) → IsAnswer format_query (overlay db []) [] rows → rows ≡ (Int (pos 1) ∷ []) ∷ []
+format_rows db format rows a =
+    let o : Output = ([], Int (pos 1) ∷ []) in
+    let kept : a.kept ≡ o ∷ [] = a.distinct ∙ ap (map (output format_query)) (a.grouped ∙ met (overlay db []) format) in
+    let ordered = one_permutation o a.ordered (subst (λ k. IsPermutation k a.ordered) kept a.same) in
+    a.shown ∙ ap (λ os. page format_query [] (map (λ (p : Output). p.1) os)) ordered
+
 pub format_answer : (old new : State) (row : Row) → HasTables old.now → QueriesRow format_sql [] old new (Ok row) → row ≡ Int (pos 1) ∷ []
 format_answer old new row has h =
     let got = (first_as format_sql [] old new schema has.laid_out _ format_read.is format_read.plain format_read.unlisted row h).1 in
-    let a : IsAnswer format_query (overlay old.now.trees []) [] (row ∷ got.0) = got.1 Null in
-    let o : Output = ([], Int (pos 1) ∷ []) in
-    let kept : a.kept ≡ o ∷ [] = a.distinct ∙ ap (map (output format_query)) (a.grouped ∙ met (overlay old.now.trees []) has.ours.format) in
-    let ordered = one_permutation o a.ordered (subst (λ k. IsPermutation k a.ordered) kept a.same) in
-    let rows : row ∷ got.0 ≡ (Int (pos 1) ∷ []) ∷ [] = a.shown ∙ ap (λ os. page format_query [] (map (λ (p : Output). p.1) os)) ordered in
+    let rows = format_rows old.now.trees has.ours.format (row ∷ got.0) (got.1 Null) in
     cc
+
+format_whole : IsWhole format_sql 0 (understood schema format_sql)
+unfolding understood everything
+format_whole = (omega arith, refl)
+
+-- it is refused by the disk or a limit alone
+pub format_refused : (old new : State) (e : Error) → e ≢ SqliteFailure OutOfMemory → IsTrue old.is_open → HasTables old.now → QueriesRow format_sql [] old new (Err e) → MoreFaults old.faults new.faults ⊎ IsSome old.step_limit
+unfolding QueriesRow
+format_refused old new e other up has (inl fails) =
+    question_refused old new e other up has.laid_out format_sql format_query _ format_read [] format_whole refl (λ db. never_sums (db 0)) fails
+format_refused old new e other up has (inr none) =
+    absurd (let rows = format_rows old.now.trees has.ours.format [] (answer format_sql format_query _ format_read [] old new has [] none.1) in cc)

@@ -1,9 +1,7 @@
 -- What a statement leaves that is refused, and that none opens a connection that was shut.
-use Rattle.std.proofs.Common.{◌≡◌, ◌⊎◌, inl, inr, ℕ, List, Bool, false, Err, sym, subst, ◌∙◌, arith, [], Ok, Result, IsTrue, Option}
-use Rattle.flow_sql.specs.Names.{cases_Bool, Row, Trees, Database, Error, State, Executes, IsUnchanged, IsRolledBack, Survives, HasCleanDisk, shows_rows, RunsCommand, Runs, text_of, timed, Command, Select, Begin, Commit, Rollback, Returning}
+use Rattle.flow_sql.proofs.Names.{timed, Command, Begin, Commit, Rollback, Select, Database, Row, Executes, HasCleanDisk, IsRolledBack, IsUnchanged, Runs, RunsCommand, State, Survives, shows_rows, text_of, Trees, Error, Returning, cases_Bool, Bool, IsTrue, List, Option, false, ℕ, [], ◌≡◌, Ok, Err, Result, ◌⊎◌, Nothing, sym, ◌∙◌, subst, inl, inr, arith, IsOver, HasTables, RunsTo, HasEnded, IsStill, IsAtRest, IsUndone, IsRefused}
 use Rattle.sqlite.specs.State.{ExecutesIn, IsNotRun}
-use Rattle.flow_sql.specs.States.{HasTables, IsOver, IsStill, IsUndone, IsRefused, HasEnded, IsAtRest, RunsTo}
-use Rattle.sqlite.specs.Command.TheVariants.{Savepoint, Release, RollbackTo, Nothing, Rows}
+use Rattle.sqlite.specs.Command.TheVariants.{Savepoint, Release, RollbackTo, Rows}
 
 ---- What a statement that is refused leaves
 

@@ -1,32 +1,21 @@
--- Why a statement of ours is refused over our tables: the store failed, or its database declines what is asked.
-use Rattle.std.proofs.Common.{◌≡◌, ◌≢◌, ◌≤◌, ◌⊎◌, inl, inr, ℕ, List, [], length, Bool, true, false, true≢false, Option, Some, None, Result, Ok, Err, refl, sym, ap, subst, ◌∙◌, arith, append-nil}
-use Rattle.std.specs.Prelude.{IsTrue, IsSome, Any}
+-- Why a statement of ours is refused: the store failed, or its database declines what is asked.
+use Rattle.flow_sql.proofs.Names.{schema, Write, write_sql, Read, read_sql, IsRead, write_takes, IsPlain, timed, Command, Database, Row, overlay, Query, Executes, RunsCommand, State, shows_rows, Trees, Error, Compiled, CompileError, IsTrue, List, false, true, ℕ, [], ◌≡◌, refl, Ok, None, Err, Result, ◌⊎◌, length, Some, ◌≢◌, reads_listing, Fails, ◌≤◌, IsMisplaced, sym, ap, ◌∙◌, subst, inl, inr, arith, true≢false, append-nil}
+use Rattle.std.specs.Prelude.{IsSome, Any}
 use Rattle.sqlite_disk.specs.Disk.{MoreFaults}
 use Rattle.sqlite_trees.specs.declared.error.StoreError.{StoreError}
 use Rattle.sqlite_trees.specs.declared.error.StoreError.TheVariants as store
-use Rattle.sqlite_resolve.specs.declared.compiled.Compiled.{Compiled}
-use Rattle.sqlite_resolve.specs.declared.error.CompileError.{CompileError}
 use Rattle.sqlite_tied.specs.Compute.{everything}
 use Rattle.sqlite_sql.specs.Program.{QueryOverflows}
 use Rattle.sqlite_typing.specs.Types.{accepts_program}
 use Rattle.sqlite.specs.Calls.{IsWrite}
-use Rattle.sqlite.specs.Command.{Command}
 use Rattle.sqlite.specs.Command.TheVariants as command
-use Rattle.sqlite.specs.Effect.{Database, RefusesToRead}
-use Rattle.sqlite.specs.Given.{IsPlain}
-use Rattle.sqlite.specs.Listing.{understood, reads_listing, IsSourceOf}
-use Rattle.sqlite.specs.Order.{Row}
-use Rattle.sqlite.specs.Program.{overlay}
-use Rattle.sqlite.specs.Query.{Query}
-use Rattle.sqlite.specs.Tree.{Trees}
+use Rattle.sqlite.specs.Effect.{RefusesToRead}
+use Rattle.sqlite.specs.Listing.{understood, IsSourceOf}
+use Rattle.sqlite_schema.specs.declared.schema.Schema.{Schema}
 use Rattle.sqlite.specs.declared.error.ErrorCode.TheVariants.{OutOfMemory}
-use Rattle.sqlite.specs.declared.error.Error.{Error}
 use Rattle.sqlite.specs.declared.error.Error.TheVariants.{SqliteFailure}
-use Rattle.sqlite.specs.State.{State, Fails, HasCause, store_error, FailsToQuery, IsNotRun, IsNoStatement, Executes, ExecutesIn, RunsCommand, IsMisplaced, shows_rows, text_of}
-use Rattle.sqlite.specs.Clock.{timed}
-use Rattle.flow_sql.specs.Layout.{schema, Read, read_sql, Write, write_sql}
-use Rattle.flow_sql.specs.Meaning.{command_of, IsRead, IsOurRead, IsOurWrite, IsDeclined, read_takes, write_takes}
-use Rattle.flow_sql.specs.States.{HasTables, IsOver}
+use Rattle.sqlite.specs.State.{HasCause, store_error, FailsToQuery, IsNotRun, IsNoStatement, ExecutesIn}
+use Rattle.flow_sql.specs.Meaning.{command_of, IsOurRead, IsOurWrite, IsDeclined, read_takes}
 
 -- a query over one table has no sum
 pub never_sums : (rows : List Row) → ⊥ ⊎ Any (λ r. ⊥) rows → ⊥
@@ -35,7 +24,7 @@ never_sums rows (inr it) = it.4
 
 ---- Our texts are whole, and take so many values
 
-abbrev IsWhole : List ℕ → ℕ → Result Compiled CompileError → Type 0
+abbrev pub IsWhole : List ℕ → ℕ → Result Compiled CompileError → Type 0
 IsWhole sql count (Ok c) = (length sql ≤ c.tail) × (length c.names ≡ count)
 IsWhole sql count (Err e) = ⊥
 
@@ -49,29 +38,35 @@ unfolding understood everything
 write_whole Write.insert_text = (omega arith, refl)
 write_whole _ = (omega arith, refl)
 
-whole_read : (sql : List ℕ) (params : Row) → IsOurRead sql params → IsWhole sql (length params) (understood schema sql)
+pub whole_read : (sql : List ℕ) (params : Row) → IsOurRead sql params → IsWhole sql (length params) (understood schema sql)
 whole_read sql params it = subst (λ n. IsWhole sql n (understood schema sql)) it.2 (subst (λ s. IsWhole s (read_takes it.0) (understood schema s)) it.1 (read_whole it.0))
 
-whole_write : (sql : List ℕ) (params : Row) → IsOurWrite sql params → IsWhole sql (length params) (understood schema sql)
+pub whole_write : (sql : List ℕ) (params : Row) → IsOurWrite sql params → IsWhole sql (length params) (understood schema sql)
 whole_write sql params it = subst (λ n. IsWhole sql n (understood schema sql)) it.2 (subst (λ s. IsWhole s (write_takes it.0) (understood schema s)) it.1 (write_whole it.0))
 
 ---- Why one is refused
 
-module _ (old new : State) (e : Error) (other : e ≢ SqliteFailure OutOfMemory) (over : IsOver true old) where
+module _ (old new : State) (e : Error) (other : e ≢ SqliteFailure OutOfMemory) (up : IsTrue old.is_open) where
   failed_for : (W : Type 0) (k : StoreError) → e ≡ store_error k → HasCause old new W k → MoreFaults old.faults new.faults ⊎ W
   failed_for W store.OutOfMemory is why = absurd (other is)
   failed_for W store.Io is why = inl why
   failed_for W store.Corrupt is why = inl why
   failed_for W store.Full is why = inl why
-  failed_for W store.Broken is why = absurd (let up = over.is_open in cc)
+  failed_for W store.Broken is why = absurd (let open_then = up in cc)
   failed_for W store.Unstorable is why = inr why
 
-  failed : (W : Type 0) → Fails old new W e → MoreFaults old.faults new.faults ⊎ W
+  pub failed : (W : Type 0) → Fails old new W e → MoreFaults old.faults new.faults ⊎ W
   failed W h = failed_for W h.0 h.1 h.2
 
-  module _ (sql : List ℕ) (params : Row) (whole : IsWhole sql (length params) (understood schema sql)) (plain : IsPlain (understood schema sql)) where
-    known : understood schema sql ≡ understood old.now.schema sql
-    known = ap (λ s. understood s sql) (sym over.now.laid_out)
+  pub only_failed : Fails old new ⊥ e → MoreFaults old.faults new.faults
+  only_failed fails = elim (failed ⊥ fails) [
+    | inl more ↦ more
+    | inr none ↦ absurd none
+  ]
+
+  module _ (s : Schema) (laid : old.now.schema ≡ s) (sql : List ℕ) (params : Row) (whole : IsWhole sql (length params) (understood s sql)) (plain : IsPlain (understood s sql)) where
+    known : understood s sql ≡ understood old.now.schema sql
+    known = ap (λ t. understood t sql) (sym laid)
 
     never_no_statement : IsNoStatement old sql params e → ⊥
     never_no_statement (inl none) = subst IsPlain (known ∙ none.1) plain
@@ -82,27 +77,24 @@ module _ (old new : State) (e : Error) (other : e ≢ SqliteFailure OutOfMemory)
     never_run : IsNotRun old new sql params e → MoreFaults old.faults new.faults
     unfolding IsNotRun
     never_run (inl none) = absurd (never_no_statement none.0)
-    never_run (inr fails) = elim (failed ⊥ fails) [
-      | inl more ↦ more
-      | inr none ↦ absurd none
-    ]
+    never_run (inr fails) = only_failed fails
 
 -- A question: the store failed, or a limit is set on the steps of a query.
-module _ (old new : State) (e : Error) (other : e ≢ SqliteFailure OutOfMemory) (over : IsOver true old) (sql : List ℕ) (q : Query) (names : List (List ℕ)) (it : IsRead sql q names) (params : Row)
-    (listed : IsOurRead sql params) (typed : accepts_program schema [] q params ≡ true) (summed : (db : Trees) → ¬ QueryOverflows q db params) where
+module _ (old new : State) (e : Error) (other : e ≢ SqliteFailure OutOfMemory) (up : IsTrue old.is_open) (laid : old.now.schema ≡ schema) (sql : List ℕ) (q : Query) (names : List (List ℕ)) (it : IsRead sql q names) (params : Row)
+    (whole : IsWhole sql (length params) (understood schema sql)) (typed : accepts_program schema [] q params ≡ true) (summed : (db : Trees) → ¬ QueryOverflows q db params) where
   refuses : (db : Database) → db ≡ old.now → RefusesToRead old.step_limit (command.Select (record { lets = []; body = q }) names) db params e → IsSome old.step_limit
-  refuses db is (inl mistyped) = absurd (let same = ap (λ (d : Database). accepts_program d.schema [] q params) is in let has = ap (λ s. accepts_program s [] q params) over.now.laid_out in true≢false (sym typed ∙ sym has ∙ sym same ∙ mistyped.1))
+  refuses db is (inl mistyped) = absurd (let same = ap (λ (d : Database). accepts_program d.schema [] q params) is in let has = ap (λ s. accepts_program s [] q params) laid in true≢false (sym typed ∙ sym has ∙ sym same ∙ mistyped.1))
   refuses db is (inr (inl summed')) = absurd (summed (overlay db.trees []) summed'.1)
   refuses db is (inr (inr limit)) = limit.1
 
   pub question_refused : FailsToQuery sql params old new e → MoreFaults old.faults new.faults ⊎ IsSome old.step_limit
   unfolding FailsToQuery
-  question_refused (inl none) = inl (never_run old new e other over sql params (whole_read sql params listed) it.plain none)
+  question_refused (inl none) = inl (never_run old new e other up schema laid sql params whole it.plain none)
   question_refused (inr h) =
-      let known = sym h.1.is ∙ ap (λ s. understood s sql) over.now.laid_out in
+      let known = sym h.1.is ∙ ap (λ s. understood s sql) laid in
       let bare = subst IsPlain (sym known) it.plain in
       let found = rw (bare.0, bare.1, append-nil params) at h.2 in
-      let db : found.0 ≡ old.now = subst (λ b. IsSourceOf b old.now found.0) (ap (λ s. reads_listing s sql) over.now.laid_out ∙ it.unlisted) found.1 in
+      let db : found.0 ≡ old.now = subst (λ b. IsSourceOf b old.now found.0) (ap (λ s. reads_listing s sql) laid ∙ it.unlisted) found.1 in
       inr (refuses found.0 db (subst (λ k. RefusesToRead old.step_limit k found.0 params e) (ap command_of known ∙ it.is) found.2))
 
 shows_no_rows : (c : Compiled) → IsWrite c.command → c.returning ≡ None → shows_rows false c ≡ false
@@ -128,24 +120,24 @@ never_misplaced s k e writes (inl (_, inr (inr rollback, _))) = absurd (rw rollb
 never_misplaced s k e writes (inr (_, name, inl release, _)) = absurd (rw release at writes)
 never_misplaced s k e writes (inr (_, name, inr back, _)) = absurd (rw back at writes)
 
--- A change of rows: the store failed, or its database declines it.
-module _ (old new : State) (e : Error) (other : e ≢ SqliteFailure OutOfMemory) (over : IsOver true old) (sql : List ℕ) (params : Row) (k : Command) (is : command_of (understood schema sql) ≡ k) (writes : IsWrite k)
-    (plain : IsPlain (understood schema sql)) (listed : IsOurWrite sql params) where
+-- A change: the store failed, or its database declines it.
+module _ (old new : State) (e : Error) (other : e ≢ SqliteFailure OutOfMemory) (up : IsTrue old.is_open) (s : Schema) (laid : old.now.schema ≡ s) (sql : List ℕ) (params : Row) (k : Command) (is : command_of (understood s sql) ≡ k) (writes : IsWrite k)
+    (plain : IsPlain (understood s sql)) (whole : IsWhole sql (length params) (understood s sql)) where
   pub change_refused : Executes sql params old new (Err e) → MoreFaults old.faults new.faults ⊎ IsDeclined sql params old
   unfolding ExecutesIn
-  change_refused (inl none) = inl (never_run old new e other over sql params (whole_write sql params listed) plain none)
+  change_refused (inl none) = inl (never_run old new e other up s laid sql params whole plain none)
   change_refused (inr h) =
-      let known = sym h.1.is ∙ ap (λ s. understood s sql) over.now.laid_out in
+      let known = sym h.1.is ∙ ap (λ t. understood t sql) laid in
       let bare = subst IsPlain (sym known) plain in
       let write = subst IsWrite (sym (ap command_of known ∙ is)) writes in
       ran (rw (shows_no_rows h.0 write bare.0) at h.2)
     where
       ran : RunsCommand old new sql h.0 (timed params h.0.formats h.1.now) (Err e) → MoreFaults old.faults new.faults ⊎ IsDeclined sql params old
       ran (inl (inl misplaced, _)) =
-          let known = sym h.1.is ∙ ap (λ s. understood s sql) over.now.laid_out in
+          let known = sym h.1.is ∙ ap (λ t. understood t sql) laid in
           absurd (never_misplaced old h.0.command e (subst IsWrite (sym (ap command_of known ∙ is)) writes) misplaced)
       ran (inl (inr declined, _)) = inr (Some e, h.0, h.1, declined.1)
-      ran (inr fails) = elim (failed old new e other over _ fails) [
+      ran (inr fails) = elim (failed old new e other up _ fails) [
         | inl more ↦ inl more
         | inr big ↦ inr (None, h.0, h.1, big)
       ]

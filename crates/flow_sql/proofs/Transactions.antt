@@ -1,25 +1,23 @@
 -- What BEGIN, COMMIT and ROLLBACK mean, under any schema.
-use Rattle.std.proofs.Common.{◌≡◌, inl, inr, ℕ, ◌≤◌, List, [], length, true, false, codes, Ok, Err, Result, None, refl, sym, ap, subst, ◌∙◌, arith, true≢false, IsTrue, MatchResult, OnOk, IfErr}
-use Rattle.flow_sql.specs.Names.{cases_Bool, Row, Trees, Schema, Command, Begin, Commit, Rollback, Error, Compiled, CompileError, State, Survives, Executes, Runs, RunsCommand, IsRolledBack, shows_rows, text_of, timed, IsPlain, command_of, statement_of, runs_as, survives_weaker}
-use Rattle.std.specs.Prelude.{⊤}
+use Rattle.flow_sql.proofs.Names.{schema, IsPlain, command_of, runs_as, statement_of, survives_weaker, timed, Command, Begin, Commit, Rollback, Does, Row, Schema, Executes, IsRolledBack, Runs, RunsCommand, State, Survives, mode_of, shows_rows, text_of, Trees, Error, Compiled, cases_Bool, Bool, IfErr, IsTrue, List, MatchResult, codes, false, true, ℕ, [], ◌≡◌, refl, Ok, None, Err, Result, ⊤, ◌≢◌, Fails, IsMisplaced, IsOver, RunsTo, HasEnded, IsStill, GoesOn, IsUndone, IsRefused, HasBegun, HasCommitted, sym, ap, ◌∙◌, subst, inl, inr, arith, true≢false}
+use Rattle.std.proofs.Common.{OnOk}
 use Rattle.sqlite.specs.Calls.{IsWrite}
 use Rattle.sqlite_tied.specs.Compute.{everything}
 use Rattle.sqlite.specs.Listing.{understood}
-use Rattle.sqlite.specs.State.{CommitsBy, MayWrite, ExecutesIn, IsNotRun, IsMisplaced}
-use Rattle.flow_sql.specs.Layout.{schema}
-use Rattle.flow_sql.specs.States.{Holds, IsOver, IsStill, IsRefused, IsUndone, RunsTo, HasBegun, HasCommitted, GoesOn, HasEnded}
+use Rattle.sqlite.specs.State.{CommitsBy, MayWrite, ExecutesIn, IsNotRun}
+use Rattle.sqlite.specs.Command.TheVariants.{Release, RollbackTo}
+use Rattle.sqlite.specs.declared.error.ErrorCode.TheVariants.{OutOfMemory}
+use Rattle.sqlite.specs.declared.error.Error.TheVariants.{SqliteFailure}
+use Rattle.sqlite_disk.specs.Disk.{MoreFaults}
+use Rattle.flow_sql.proofs.Refusing.{IsWhole, failed}
+use Rattle.flow_sql.specs.States.{Holds}
 use Rattle.flow_sql.proofs.Leaves.{was_clean, over_both, rolled_back_ended, ended_undone, error_refused}
-
--- the text is one statement, without parameters
-abbrev IsWhole : List ℕ → Result Compiled CompileError → Type 0
-IsWhole sql (Ok c) = (length sql ≤ c.tail) × (c.names ≡ [])
-IsWhole sql (Err e) = ⊥
 
 -- the text is this command, and nothing else, whatever tables there are
 record Controls (sql : List ℕ) (command : Command) : Type 0 where
   is : (s : Schema) → command_of (understood s sql) ≡ command
   plain : (s : Schema) → IsPlain (understood s sql)
-  whole : (s : Schema) → IsWhole sql (understood s sql)
+  whole : (s : Schema) → IsWhole sql 0 (understood s sql)
 
 begin_text : Controls (codes "BEGIN") Begin
 unfolding understood everything
@@ -88,67 +86,107 @@ module _ (sql : List ℕ) (command : Command) (is : command_of (understood schem
   write_survives old new params was h =
       survives_weaker old new _ _ (λ clean db. let now = was (was_clean old new _ h clean) in commits_nothing old params now.now.laid_out now.mode db) h
 
----- Why one that ends a transaction is refused
+---- Why one of the three is refused
 
-abbrev IsEnd : Command → Type 0
-IsEnd Commit = ⊤
-IsEnd Rollback = ⊤
-IsEnd _ = ⊥
+-- a BEGIN where no transaction runs, an end where one does
+abbrev IsPlaced : Command → Bool → Type 0
+IsPlaced Begin inside = inside ≡ false
+IsPlaced Commit inside = inside ≡ true
+IsPlaced Rollback inside = inside ≡ true
+IsPlaced _ inside = ⊥
 
-never_misplaced : (s : State) (command : Command) (e : Error) → IsEnd command → s.in_transaction ≡ true → ¬ IsMisplaced s command e
-never_misplaced s command e ends inside (inl (_, inl begin)) = absurd (rw begin.0 at ends)
-never_misplaced s command e ends inside (inl (_, inr outside)) = true≢false (sym inside ∙ outside.1)
-never_misplaced s command e ends inside (inr (_, name, inl release, _)) = absurd (rw release at ends)
-never_misplaced s command e ends inside (inr (_, name, inr back, _)) = absurd (rw back at ends)
+module _ (s : State) (command : Command) (placed : IsPlaced command s.in_transaction) where
+  abbrev placed_as : (k : Command) → command ≡ k → IsPlaced k s.in_transaction
+  placed_as k is = subst (λ c. IsPlaced c s.in_transaction) is placed
 
-never_writes : (command : Command) → IsEnd command → ¬ IsWrite command
-never_writes Commit ends h = h
-never_writes Rollback ends h = h
-never_writes _ ends h = absurd ends
+  never_misplaced : (e : Error) → ¬ IsMisplaced s command e
+  never_misplaced e (inl (_, inl (is, inside))) = true≢false (sym inside ∙ placed_as Begin is)
+  never_misplaced e (inl (_, inr (inl is, outside))) = true≢false (sym (placed_as Commit is) ∙ outside)
+  never_misplaced e (inl (_, inr (inr is, outside))) = true≢false (sym (placed_as Rollback is) ∙ outside)
+  never_misplaced e (inr (_, name, inl release, _)) = placed_as (Release name) release
+  never_misplaced e (inr (_, name, inr back, _)) = placed_as (RollbackTo name) back
 
-module _ (sql : List ℕ) (old new : State) (e : Error) (command : Command) (it : Controls sql command) (ends : IsEnd command) (inside : old.in_transaction ≡ true) where
-  -- within a transaction only a failure of the store refuses it, and that ends the transaction
-  ends_anyway : Executes sql [] old new (Err e) → IsRolledBack old new
+never_writes : (command : Command) (inside : Bool) → IsPlaced command inside → ¬ IsWrite command
+never_writes Begin inside placed h = h
+never_writes Commit inside placed h = h
+never_writes Rollback inside placed h = h
+never_writes _ inside placed h = placed
+
+module _ (sql : List ℕ) (old new : State) (e : Error) (command : Command) (it : Controls sql command) (placed : IsPlaced command old.in_transaction) where
+  -- only a failure of the store refuses it, with nothing that could be too big
+  fails_alone : (P : Type 0) → ((W : Type 0) → ¬ W → Fails old new W e → P) → Executes sql [] old new (Err e) → P
   unfolding ExecutesIn IsNotRun
-  ends_anyway (inl (inl none)) = elim none.0 [
+  fails_alone P so (inl (inl none)) = elim none.0 [
     | inl broken ↦ absurd (subst IsPlain broken.1 (it.plain old.now.schema))
     | inr odd ↦
         let bare = subst IsPlain odd.1 (it.plain old.now.schema) in
-        let all = subst (IsWhole sql) odd.1 (it.whole old.now.schema) in
+        let all = subst (IsWhole sql 0) odd.1 (it.whole old.now.schema) in
         absurd (elim odd.2 [
           | inl cut ↦ cut.0 all.0
-          | inr (inl given) ↦ given.0 (sym (ap length all.1))
+          | inr (inl given) ↦ given.0 (sym all.1)
           | inr (inr times) ↦ times.0 bare.1
         ])
   ]
-  ends_anyway (inl (inr fails)) = fails.3
-  ends_anyway (inr h) = elim (cases_Bool (shows_rows false h.0)) [
+  fails_alone P so (inl (inr fails)) = so ⊥ (λ none. none) fails
+  fails_alone P so (inr h) = elim (cases_Bool (shows_rows false h.0)) [
     | inl shows ↦ absurd (shown h.0 h.1.is shows)
     | inr runs ↦ ran h.0 h.1.is (timed [] h.0.formats h.1.now) (rw runs at h.2)
   ]
     where
-      hidden : (k : Command) → IsEnd k → (c : Compiled) → ¬ (shows_rows false (record c { command = k; returning = None }) ≡ true)
-      hidden Commit last c h = true≢false (sym h)
-      hidden Rollback last c h = true≢false (sym h)
-      hidden _ last c h = last
+      hidden : (k : Command) (inside : Bool) → IsPlaced k inside → (c : Compiled) → ¬ (shows_rows false (record c { command = k; returning = None }) ≡ true)
+      hidden Begin inside last c h = true≢false (sym h)
+      hidden Commit inside last c h = true≢false (sym h)
+      hidden Rollback inside last c h = true≢false (sym h)
+      hidden _ inside last c h = last
+
+      never_big : (k : Command) (inside : Bool) → IsPlaced k inside → (params : Row) (text : List ℕ) → ¬ Does old.step_limit (mode_of old) params old.now text None k (Err None)
+      never_big Begin inside last params text h = absurd (let e = h in cc)
+      never_big Commit inside last params text h = absurd (let e = h in cc)
+      never_big Rollback inside last params text h = absurd (let e = h in cc)
+      never_big _ inside last params text h = last
 
       shown : (c : Compiled) → understood old.now.schema sql ≡ Ok c → ¬ (shows_rows false c ≡ true)
       shown c known shows =
           let same : c.command ≡ command = sym (ap command_of known) ∙ it.is old.now.schema in
           let bare = subst IsPlain known (it.plain old.now.schema) in
-          hidden command ends c (subst (λ k. shows_rows false (record c { command = k; returning = None }) ≡ true) same (rw bare.0 at shows))
+          hidden command old.in_transaction placed c (subst (λ k. shows_rows false (record c { command = k; returning = None }) ≡ true) same (rw bare.0 at shows))
 
-      ran : (c : Compiled) → understood old.now.schema sql ≡ Ok c → (params : Row) → RunsCommand old new sql c params (Err e) → IsRolledBack old new
+      ran : (c : Compiled) → understood old.now.schema sql ≡ Ok c → (params : Row) → RunsCommand old new sql c params (Err e) → P
       ran c known params (inl refused) =
           let same : command ≡ c.command = sym (sym (ap command_of known) ∙ it.is old.now.schema) in
-          let last = subst IsEnd same ends in
+          let last = subst (λ k. IsPlaced k old.in_transaction) same placed in
           let bare = subst IsPlain known (it.plain old.now.schema) in
           absurd (elim refused.0 [
-            | inl misplaced ↦ never_misplaced old c.command e last inside misplaced
-            | inr (inl write, _) ↦ never_writes c.command last write
+            | inl misplaced ↦ never_misplaced old c.command last e misplaced
+            | inr (inl write, _) ↦ never_writes c.command old.in_transaction last write
             | inr (inr some, _) ↦ (let e = rw bare.0 at some in true≢false (sym e))
           ])
-      ran c known params (inr fails) = fails.3
+      ran c known params (inr fails) =
+          let same : command ≡ c.command = sym (sym (ap command_of known) ∙ it.is old.now.schema) in
+          let last = subst (λ k. IsPlaced k old.in_transaction) same placed in
+          let bare = subst IsPlain known (it.plain old.now.schema) in
+          so _ (λ big. never_big c.command old.in_transaction last params (text_of sql c) (rw bare.0 at big)) fails
+
+  -- it ends a transaction that runs
+  ends_anyway : Executes sql [] old new (Err e) → IsRolledBack old new
+  ends_anyway h = fails_alone (IsRolledBack old new) (λ W none fails. fails.3) h
+
+  -- but for the want of memory the disk has failed once more
+  control_refused : e ≢ SqliteFailure OutOfMemory → IsTrue old.is_open → Executes sql [] old new (Err e) → MoreFaults old.faults new.faults
+  control_refused other up h = fails_alone (MoreFaults old.faults new.faults) (λ W none fails. elim (failed old new e other up W fails) [
+    | inl more ↦ more
+    | inr big ↦ absurd (none big)
+  ]) h
+
+module _ (old new : State) (e : Error) (other : e ≢ SqliteFailure OutOfMemory) (up : IsTrue old.is_open) where
+  pub begin_refused : old.in_transaction ≡ false → Executes (codes "BEGIN") [] old new (Err e) → MoreFaults old.faults new.faults
+  begin_refused outside h = control_refused (codes "BEGIN") old new e Begin begin_text outside other up h
+
+  pub commit_refused : old.in_transaction ≡ true → Executes (codes "COMMIT") [] old new (Err e) → MoreFaults old.faults new.faults
+  commit_refused inside h = control_refused (codes "COMMIT") old new e Commit commit_text inside other up h
+
+  pub rollback_refused : old.in_transaction ≡ true → Executes (codes "ROLLBACK") [] old new (Err e) → MoreFaults old.faults new.faults
+  rollback_refused inside h = control_refused (codes "ROLLBACK") old new e Rollback rollback_text inside other up h
 
 ---- What the three do to a state
 
@@ -166,8 +204,8 @@ module _ (old new : State) where
   rolls_back count h = let r = ran_as (codes "ROLLBACK") Rollback rollback_text count h in (r.0, rolled_back_ended old new r.1)
 
   -- a refusal within a transaction has ended it
-  ended_by : (sql : List ℕ) (command : Command) → Controls sql command → IsEnd command → (e : Error) → old.in_transaction ≡ true → Executes sql [] old new (Err e) → HasEnded old new
-  ended_by sql command it ends e inside h = rolled_back_ended old new (ends_anyway sql old new e command it ends inside h)
+  ended_by : (sql : List ℕ) (command : Command) → Controls sql command → IsPlaced command old.in_transaction → (e : Error) → Executes sql [] old new (Err e) → HasEnded old new
+  ended_by sql command it placed e h = rolled_back_ended old new (ends_anyway sql old new e command it placed h)
 
   pub begun_still : HasBegun old new → IsOver false old → IsStill true old new
   begun_still h was = over_both true new old.now old.committed h.1.is_open h.1.mode h.1.now_is h.1.committed_is was.now was.committed
@@ -211,15 +249,15 @@ module _ (old new : State) where
 
   pub committed_or_ended : (r : Result (Unit {0}) Error) → RunsTo (codes "COMMIT") old new r → IsTrue old.in_transaction → IfErr r (λ _. HasEnded old new)
   committed_or_ended (Ok x) h inside = tt
-  committed_or_ended (Err e) h inside = ended_by (codes "COMMIT") Commit commit_text tt e inside h
+  committed_or_ended (Err e) h inside = ended_by (codes "COMMIT") Commit commit_text inside e h
 
   pub committed_or_undone : (r : Result (Unit {0}) Error) → RunsTo (codes "COMMIT") old new r → IsOver true old → MatchResult r (λ _. IsOver false new × (new.now ≡ old.now) × (new.committed ≡ old.now)) (λ _. IsUndone old new)
   committed_or_undone (Ok x) h was = committed_over (commits h.0 h.1) was
-  committed_or_undone (Err e) h was = over_undone was (ended_by (codes "COMMIT") Commit commit_text tt e was.mode h)
+  committed_or_undone (Err e) h was = over_undone was (ended_by (codes "COMMIT") Commit commit_text was.mode e h)
 
   pub rolled_back : (r : Result (Unit {0}) Error) → RunsTo (codes "ROLLBACK") old new r → IsTrue old.in_transaction → HasEnded old new
   rolled_back (Ok x) h inside = (rolls_back h.0 h.1).1
-  rolled_back (Err e) h inside = ended_by (codes "ROLLBACK") Rollback rollback_text tt e inside h
+  rolled_back (Err e) h inside = ended_by (codes "ROLLBACK") Rollback rollback_text inside e h
 
 -- What was begun and goes on, and then ends, has ended.
 pub goes_on_then : (a b c : State) → GoesOn a b → GoesOn b c → GoesOn a c

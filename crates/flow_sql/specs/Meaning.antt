@@ -1,29 +1,13 @@
 -- What a text of SQL means over our tables: a query and what its answer tells, a change and what it does.
-use Rattle.std.specs.Prelude.{◌≡◌, ℕ, true, false, List, [], length, map, Option, Result, Ok, Err}
-use Rattle.sqlite_trees.specs.declared.store.Store.{Ghosts}
-use Rattle.sqlite_resolve.specs.declared.compiled.Compiled.{Compiled}
-use Rattle.sqlite_resolve.specs.declared.error.CompileError.{CompileError}
-use Rattle.sqlite_resolve.specs.Compile.{first}
-use Rattle.sqlite.specs.Given.{IsPlain}
+use Rattle.flow_sql.specs.Names.{Tables, IsPlain, timed, Command, Select, Nothing, Does, Held, state, understood, reads_listing, Row, overlay, IsAnswer, Query, Executes, State, mode_of, text_of, Trees, Error, first, Compiled, CompileError, Ghosts, List, Option, false, map, true, ℕ, [], ◌≡◌, ◌∷◌, Ok, Err, Result, length}
+use Rattle.std.specs.Prelude.{Contains}
 use Rattle.sqlite.specs.Calls.{IsWrite}
-use Rattle.sqlite.specs.Listing.{understood, reads_listing}
-use Rattle.sqlite.specs.Command.{Command}
-use Rattle.sqlite.specs.Command.TheVariants.{Select, Nothing}
-use Rattle.sqlite.specs.Query.{Query, IsAnswer}
-use Rattle.sqlite.specs.Program.{overlay}
-use Rattle.sqlite.specs.Order.{Row}
-use Rattle.sqlite.specs.Tree.{Trees}
-use Rattle.sqlite.specs.Held.{Held, state}
-use Rattle.sqlite.specs.State.{State, IsStatement, Executes, mode_of, text_of}
-use Rattle.sqlite.specs.Does.{Does}
-use Rattle.sqlite.specs.Clock.{timed}
-use Rattle.sqlite.specs.declared.error.Error.{Error}
+use Rattle.sqlite.specs.State.{IsStatement}
 use Rattle.sqlite_sql.specs.Program.{QueryOverflows}
 use Rattle.sqlite_typing.specs.Types.{accepts_program}
-use Rattle.flow_rows.specs.Rows.{Tables}
-use Rattle.flow_sql.specs.Layout.{schema, Read, read_sql, Write, write_sql}
+use Rattle.flow_sql.specs.Layout.{schema, meta_sql, text_sql, run_sql, event_sql, timer_sql, outbox_sql, set_format_sql, Read, read_sql, Write, write_sql}
 use Rattle.flow_sql.specs.Stored.{tables_in}
-use Rattle.flow_sql.specs.States.{AreOurs, IsOver, Changes, FirstIs, IsReading}
+use Rattle.flow_sql.specs.States.{AreOurs, IsOver, Changes, FirstIs, IsReading, Since}
 
 abbrev pub command_of : Result Compiled CompileError → Command
 command_of (Ok c) = c.command
@@ -73,10 +57,18 @@ IsOurRead sql params = (r : Read) × (read_sql r ≡ sql) × (read_takes r ≡ l
 abbrev pub IsOurWrite : List ℕ → Row → Type 0
 IsOurWrite sql params = (w : Write) × (write_sql w ≡ sql) × (write_takes w ≡ length params)
 
+-- the seven that make the tables
+abbrev pub IsOurMaking : List ℕ → Type 0
+IsOurMaking sql = Contains (meta_sql ∷ text_sql ∷ run_sql ∷ event_sql ∷ timer_sql ∷ outbox_sql ∷ set_format_sql ∷ []) sql
+
 -- The database itself refuses the statement, as where a key would be broken, a row is too big or a query takes more steps than it may.
 abbrev pub IsDeclined : List ℕ → Row → State → Type 0
 IsDeclined sql params s =
     (stop : Option Error) × (c : Compiled) × (it : IsStatement s sql params c) × Does s.step_limit (mode_of s) (timed params c.formats it.now) s.now (text_of sql c) c.returning c.command (Err stop)
+
+-- Since the first state the database refused one of the statements that make the tables.
+abbrev pub WasUnmade : {S : Type 0} → Ghosts S → State → Type 0
+WasUnmade {S} g first = (mid : Held S) × Since first (state g mid) × (sql : List ℕ) × IsOurMaking sql × IsDeclined sql [] (state g mid)
 
 ---- Questions and changes
 

@@ -14,22 +14,23 @@ pub use Rattle.sqlite.specs.Cast.{cast}
 pub use Rattle.sqlite.specs.Clock.{timed}
 pub use Rattle.sqlite.specs.Collation.TheVariants.{Binary}
 pub use Rattle.sqlite.specs.Command.{Command}
-pub use Rattle.sqlite.specs.Command.TheVariants.{Begin, Commit, Delete, Insert, Rollback, Select, Update}
+pub use Rattle.sqlite.specs.Command.TheVariants.{Begin, Commit, Delete, Insert, Rollback, Select, Update, Nothing}
 pub use Rattle.sqlite.specs.Does.{AtPlace, Does, OnRows, Tally}
 pub use Rattle.sqlite.specs.Edit.{Applies, edit_of, edited, next_rowid}
 pub use Rattle.sqlite.specs.Effect.{Database}
 pub use Rattle.sqlite.specs.Held.{Held, state}
 pub use Rattle.sqlite.specs.Kind.{Kind}
 pub use Rattle.sqlite.specs.Kind.TheVariants.{Integer, Text}
+pub use Rattle.sqlite.specs.Listing.{understood, reads_listing}
 pub use Rattle.sqlite.specs.Ops.{is_true}
-pub use Rattle.sqlite.specs.Order.{Row}
+pub use Rattle.sqlite.specs.Order.{Row, value_cmp}
 pub use Rattle.sqlite.specs.Program.{overlay}
 pub use Rattle.sqlite.specs.Query.{IsAnswer, Output, Query, end, inner, output, output_cmp}
 pub use Rattle.sqlite.specs.Rowids.TheVariants.{Chosen, Given}
 pub use Rattle.sqlite.specs.Rows.{Task, Written}
 pub use Rattle.sqlite.specs.Schema.{Schema}
 pub use Rattle.sqlite.specs.Source.TheVariants.{Values}
-pub use Rattle.sqlite.specs.State.{Executes, HasCleanDisk, IsRolledBack, IsUnchanged, Runs, RunsCommand, Shows, State, Survives, Writes, mode_of, shows_rows, text_of}
+pub use Rattle.sqlite.specs.State.{Executes, HasCleanDisk, IsRolledBack, IsUnchanged, Runs, RunsCommand, Shows, State, Survives, Writes, mode_of, shows_rows, text_of, Fails, IsMisplaced}
 pub use Rattle.sqlite.specs.Table.{Table}
 pub use Rattle.sqlite.specs.Term.{Term, col, lit}
 pub use Rattle.sqlite.specs.Tree.{IsAscending, IsTable, Trees, has_rowid, put_row, rowid, without_rowid}
@@ -68,6 +69,6 @@ pub use Rattle.std.proofs.lemmas.List.Sorted.{IsPermutation-map, IsPermutation-r
 pub use Rattle.std.specs.List.{AllByRecursion, list_any}
 pub use Rattle.std.specs.List.Sorted.{IsPermutation}
 pub use Rattle.std.specs.Ordering.{int_cmp, int_eq, is_eq, is_gt}
-pub use Rattle.std.specs.Prelude.{Bool, IfErr, IsTrue, List, MatchResult, Option, codes, false, filter, int_lt, map, pos, slice_get, true, ℕ}
+pub use Rattle.std.specs.Prelude.{Bool, IfErr, IsTrue, List, MatchResult, Option, codes, false, filter, int_lt, map, pos, slice_get, true, ℕ, [], ◌≡◌, ◌∷◌, refl, Ok, ℤ, None, Err, Result, ⊤, ◌⊎◌, ◌++◌, length, if◌then◌else◌, Some, not, ◌≢◌, ◌&&◌, ◌==◌, ◌+◌, ◌||◌, take, reverse, ◌<ℤ◌, ◌≤◌}
 pub use Rattle.std.specs.declared.cmp.Ordering.{Ordering}
 pub use Rattle.std.specs.declared.cmp.Ordering.TheVariants.{Equal, Greater, Less}

@@ -1,6 +1,5 @@
 -- What a connection shows, and what became of it by a call.
-use Rattle.std.specs.Prelude.{◌≡◌, ◌⊎◌, [], ◌∷◌, ⊤, Result, Ok, Err}
-use Rattle.flow_sql.specs.Names.{ℕ, Bool, true, false, List, IsTrue, MatchResult, codes, AllByRecursion, Statement, Parsed, Checked, Ghosts, created, IsSound, Row, Table, Schema, Trees, rowid, IsTable, is_int, Database, Held, state, Error, State, HasCleanDisk, Shows, Executes, Tables}
+use Rattle.flow_sql.specs.Names.{Tables, Database, Held, state, Row, Schema, Executes, HasCleanDisk, Shows, State, Table, IsTable, Trees, rowid, is_int, Error, Statement, created, IsSound, Checked, Parsed, Ghosts, AllByRecursion, Bool, IsTrue, List, MatchResult, codes, false, true, ℕ, [], ◌≡◌, ◌∷◌, Ok, Err, Result, ⊤, ◌⊎◌, ◌≤◌}
 use Rattle.sqlite_ast.specs.declared.Statement.TheVariants as written
 use Rattle.sqlite_ast.specs.declared.Conflict.TheVariants as conflict
 use Rattle.flow_sql.specs.Layout.{schema, no_schema, meta, text, run}
@@ -94,6 +93,18 @@ RunsTo sql old new r = MatchResult r (λ _. (count : ℕ) × Executes sql [] old
 abbrev pub RanThree : {S : Type 0} → Ghosts S → List ℕ → List ℕ → List ℕ → Held S → Held S → Type 0
 RanThree {S} g one two three old new =
     (b c : Held S) × (k m n : ℕ) × Executes one [] (state g old) (state g b) (Ok k) × Executes two [] (state g b) (state g c) (Ok m) × Executes three [] (state g c) (state g new) (Ok n)
+
+-- The disk has failed at least so often, and the limit on the steps of a query is the same.
+abbrev pub Since : State → State → Type 0
+Since first s = (first.faults ≤ s.faults) × (s.step_limit ≡ first.step_limit)
+
+-- One of three such statements was refused with this error, behind those before it.
+abbrev pub StoppedOfThree : {S : Type 0} → Ghosts S → List ℕ → List ℕ → List ℕ → Held S → Held S → Error → Type 0
+StoppedOfThree {S} g one two three old new e =
+    Executes one [] (state g old) (state g new) (Err e)
+    ⊎ (((b : Held S) × (k : ℕ) × Since (state g old) (state g b) × Executes one [] (state g old) (state g b) (Ok k) × Executes two [] (state g b) (state g new) (Err e))
+    ⊎ ((b c : Held S) × (k m : ℕ) × Since (state g old) (state g c) × Executes one [] (state g old) (state g b) (Ok k) × Executes two [] (state g b) (state g c) (Ok m)
+    × Executes three [] (state g c) (state g new) (Err e)))
 
 -- What ran was rolled back; where nothing ran nothing was done.
 abbrev pub HasGoneBack : {S : Type 0} → Ghosts S → Held S → Held S → Type 0

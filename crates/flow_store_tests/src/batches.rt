@@ -50,7 +50,12 @@ fn add_outcome(list: &mut Vec<Told>, outcome: Outcome, is_halted: bool) -> bool 
         Outcome::NotApplied(_, ViewFault::StoreRefused) => {
             list.push(Told::Refused(80, is_halted)).is_ok()
         }
-        Outcome::Unknown(_) => list.push(Told::Refused(84, is_halted)).is_ok(),
+        Outcome::Unknown(_, ViewFault::NoMemory) => {
+            list.push(Told::Refused(1, is_halted)).is_ok()
+        }
+        Outcome::Unknown(_, ViewFault::StoreRefused) => {
+            list.push(Told::Refused(84, is_halted)).is_ok()
+        }
         Outcome::Halted(_) => list.push(Told::Refused(85, is_halted)).is_ok(),
     }
 }

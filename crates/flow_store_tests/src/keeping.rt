@@ -18,7 +18,8 @@ fn told(outcome: Outcome, is_halted: bool) -> Told {
         }
         Outcome::NotApplied(_, ViewFault::NoMemory) => Told::Refused(1, is_halted),
         Outcome::NotApplied(_, ViewFault::StoreRefused) => Told::Refused(80, is_halted),
-        Outcome::Unknown(_) => Told::Refused(84, is_halted),
+        Outcome::Unknown(_, ViewFault::NoMemory) => Told::Refused(1, is_halted),
+        Outcome::Unknown(_, ViewFault::StoreRefused) => Told::Refused(84, is_halted),
         Outcome::Halted(_) => Told::Refused(85, is_halted),
     }
 }

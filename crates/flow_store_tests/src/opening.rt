@@ -86,7 +86,7 @@ fn is_kept(outcome: Outcome) -> bool {
             true
         }
         Outcome::NotApplied(_, _) => false,
-        Outcome::Unknown(_) => false,
+        Outcome::Unknown(_, _) => false,
         Outcome::Halted(_) => false,
     }
 }

@@ -35,7 +35,7 @@ fn rolls_back(conn: &mut Memory) -> bool {
 }
 
 fn ends(conn: &mut Memory) -> bool {
-    undo(conn)
+    undo(conn).is_ok()
 }
 
 fn change(conn: &mut Memory, sql: &str) -> bool {

@@ -1,6 +1,5 @@
 -- What reads of rows tell of the book.
-use Rattle.std.proofs.Common.{◌≡◌, ◌≤◌, ◌+◌, ℕ, zero, suc, ℤ, pos, Bool, true, false, if◌then◌else◌, List, [], ◌∷◌, map, Option, Some, None, Result, Ok, Err, refl, sym, ap, subst, ◌∙◌, arith, MatchResult, IfOk, IfErr, option_map}
-use Rattle.flow_tables.specs.Names.{AllByRecursion, ints, State, Run, Book, nth, ViewFault, RunRow, OutboxRow, Tables, run_row, event_row, last_number, Tells, tables_in, IsStill, IsRefused}
+use Rattle.flow_tables.proofs.Names.{Run, Book, nth, last_number, event_row, run_row, Tells, Tables, OutboxRow, RunRow, State, ints, AllByRecursion, Bool, IfErr, List, MatchResult, Option, false, map, pos, true, ℕ, IsRefused, IsStill, tables_in, ViewFault, Err, IfOk, None, Ok, Some, option_map, ℤ, ◌≡◌, [], ◌∷◌, refl, Result, ◌+◌, ◌≤◌, if◌then◌else◌, suc, zero, subst, ◌∙◌, sym, ap, arith, RecallsRun, StopsRecall, IsBelowOne, as_number, as_count}
 use Rattle.flow_model.specs.Book.{first_from}
 use Rattle.flow_view.specs.declared.fault.ViewFault.TheVariants as view
 use Rattle.flow_rows.specs.declared.rows.EventRow.{EventRow}
@@ -10,7 +9,6 @@ use Rattle.flow_rows.proofs.Recalled.{run_in_told, run_back}
 use Rattle.flow_rows.proofs.BookTables.{nth_is}
 use Rattle.flow_rows.proofs.WholeChanges.{all_get}
 use Rattle.flow_rows.proofs.Finds.{run_read, event_rows_read, task_rows_read}
-use Rattle.flow_tables.specs.Owned.{RecallsRun, StopsRecall, IsBelowOne, as_number, as_count}
 use Rattle.flow_tables.specs.Asking.{IsValue}
 use Rattle.flow_tables.proofs.Succession.{still_then, still_refused}
 

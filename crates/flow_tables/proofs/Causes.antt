@@ -1,28 +1,10 @@
 -- What stands behind a refused statement.
-use Rattle.std.proofs.Common.{◌≡◌, ◌≢◌, ◌≤◌, ◌<◌, ◌+◌, ◌^◌, inl, inr, List, ◌∷◌, length, ℕ, pos, false, true≢false, Ok, Err, Result, refl, sym, ap, subst, ◌∙◌, arith}
-use Rattle.std.specs.List.{AllByRecursion}
-use Rattle.std.specs.Prelude.{Bool, IsTrue, ◌↔◌, IfErr}
-use Rattle.sqlite_trees.specs.declared.store.Store.{Ghosts}
-use Rattle.sqlite.specs.declared.error.Error.{Error}
-use Rattle.sqlite.specs.Held.{Held, state}
-use Rattle.sqlite.specs.Order.{Row}
-use Rattle.sqlite.specs.State.{State, Executes}
-use Rattle.flow_base.specs.declared.event.Cmd.{Cmd}
-use Rattle.flow_base.specs.declared.event.What.TheVariants.{Came, Asked}
-use Rattle.flow_base.specs.declared.event.Event.{Event}
-use Rattle.flow_base.specs.declared.book.Turn.{Turn}
-use Rattle.flow_model.specs.Turned.{traces}
+use Rattle.flow_tables.proofs.Names.{Turn, Cmd, Event, Came, traces, IsReadable, AllByRecursion, Bool, IfErr, IsTrue, List, false, pos, ℕ, Refusal, Err, Ok, length, ◌≡◌, ◌∷◌, Result, ◌+◌, ◌≤◌, ◌^◌, ◌<◌, Asked, ◌↔◌, subst, ◌∙◌, sym, inl, inr, arith, Because, true≢false, IsUnfitTurn, AreUnfit}
 use Rattle.flow_events.specs.Row.{IsWithinLimits}
 use Rattle.flow_events.specs.Body.{text_of}
 use Rattle.flow_events.specs.Kinds.{kind_number, kind_of}
 use Rattle.flow_events.proofs.Laws.{row_within}
-use Rattle.flow_rows.specs.Told.{IsReadable}
-use Rattle.sqlite.specs.declared.error.ErrorCode.TheVariants.{OutOfMemory}
-use Rattle.sqlite.specs.declared.error.Error.TheVariants.{SqliteFailure}
-use Rattle.flow_tables.specs.declared.fault.Refusal.{Refusal}
 use Rattle.flow_tables.specs.declared.fault.Refusal.TheVariants.{NoMemory, Stopped, Unfit}
-use Rattle.flow_tables.specs.Faults.{Because}
-use Rattle.flow_tables.specs.Puts.{AreUnfit, IsUnfitTurn}
 
 -- an event past the limits of a row isn't read from its row
 pub unreadable : (e : Event) (fits : Bool) → (IsTrue fits ↔ IsWithinLimits e) → fits ≡ false → IsReadable e → ⊥

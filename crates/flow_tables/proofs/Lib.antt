@@ -1,4 +1,4 @@
-pub mod Params
+pub mod Names
 pub mod Stops
 pub mod Parts
 pub mod BookReads

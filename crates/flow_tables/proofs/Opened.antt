@@ -1,15 +1,13 @@
 -- What opening finds, and why it is refused.
-use Rattle.std.proofs.Common.{◌≡◌, ◌≢◌, ◌⊎◌, inl, inr, ℤ, pos, negsuc, List, [], map, Bool, true, false, if◌then◌else◌, nat_eq, None, Ok, Err, Result, OnOk, IfErr, refl, sym, ap, subst, ◌∙◌, IsTrue}
-use Rattle.flow_tables.specs.Names.{Error, SqliteFailure, Ghosts, State, Int, Row, column, Run, Tables, of_run, event_row, timer_row, timers_left, task_row, Tells, Fault, NoMemory, StoreRefused, NotOurs, BadVersion, Damaged, StoreFault, format_sql, HasTables, HasEnded, IsAtRest, IsRefusal, no_tables, is_program, Book, HasCleanDisk, Survives, Database, no_schema}
+use Rattle.flow_tables.proofs.Names.{was_clean, rest_ended, rolled_back_ended, Run, Fault, BadVersion, Damaged, NoMemory, NotOurs, StoreRefused, is_program, Book, event_row, of_run, task_row, timer_row, timers_left, Tells, format_sql, no_schema, Tables, Database, Row, HasCleanDisk, State, Survives, Error, Int, Ghosts, column, Bool, IfErr, IsTrue, List, false, map, pos, true, HasEnded, HasTables, IsAtRest, IsRefusal, no_tables, StoreFault, SqliteFailure, Err, None, Ok, OnOk, ℤ, ◌≡◌, [], refl, ◌⊎◌, Result, ◌≢◌, if◌then◌else◌, eqb as nat_eq, negsuc, QueriesRow, subst, ◌∙◌, sym, ap, inl, inr}
 use Rattle.sqlite.specs.declared.error.ErrorCode.TheVariants as code
 use Rattle.sqlite_trees.specs.declared.error.StoreError.{StoreError}
 use Rattle.sqlite_trees.specs.declared.error.StoreError.TheVariants.{OutOfMemory}
-use Rattle.sqlite.specs.State.{Fails, QueriesRow, store_error}
+use Rattle.sqlite.specs.State.{Fails, store_error}
 use Rattle.sqlite.specs.declared.types.Value.{Value}
 use Rattle.flow_rows.specs.Rows.{run_at}
 use Rattle.flow_tables.specs.declared.fault.StoreFault.TheVariants as read
 use Rattle.flow_tables.specs.Reads.{IsRowsFault}
-use Rattle.flow_sql.proofs.Leaves.{rest_ended, rolled_back_ended, was_clean}
 use Rattle.flow_sql.proofs.Transactions.{ends_again}
 use Rattle.flow_sql.proofs.Finding.{read_leaves, format_answer, at_rest}
 use Rattle.flow_rows.proofs.Laws.{book_undamaged}
@@ -26,7 +24,7 @@ caused g e met = by_fault (opening_fault e) refl
   where
     by_fault : (f : Fault) → opening_fault e ≡ f → HasCause g f
     by_fault NoMemory is = tt
-    by_fault StoreRefused is = inr (e, met, is)
+    by_fault StoreRefused is = (e, met, is)
     by_fault NotOurs is = (e, met, is)
     by_fault _ is = tt
 
@@ -80,6 +78,10 @@ any_err P (Err e) f = f e
 pub both_err : {T E : Type 0} (P Q : E → Type 0) (r : Result T E) → IfErr r P → IfErr r Q → IfErr r (λ e. P e × Q e)
 both_err P Q (Ok x) p q = tt
 both_err P Q (Err e) p q = (p, q)
+
+pub both_told : {T : Type 0} {P Q R : Fault → Type 0} (r : Result T Fault) → ((f : Fault) → P f → Q f → R f) → IfErr r P → IfErr r Q → IfErr r R
+both_told (Ok x) f p q = tt
+both_told (Err e) f p q = f e p q
 
 pub never_told : {T : Type 0} (b : Fault) (r : Result T Fault) → IfErr r (λ f. f ≢ b) → r ≢ Err b
 never_told b (Ok x) h is = let e = is in cc

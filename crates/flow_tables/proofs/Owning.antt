@@ -1,17 +1,11 @@
 -- What tables keep true of their connection, call by call.
-use Rattle.std.proofs.Common.{◌≡◌, ◌⊎◌, inl, inr, ℕ, Bool, true, false, List, [], Option, Some, None, Result, Ok, Err, refl, sym, ap, subst, ◌∙◌, IsTrue, MatchResult, OnOk, IfOk}
-use Rattle.flow_tables.specs.Names.{Database, Error, State, HasCleanDisk, Survives, Executes, Change, Book, ViewFault, Refusal, Tells, after_change, FitsTables, Known, tables_in, HasTables, IsOver, Holds, IsStill, IsRefused, IsUndone, HasBegun, HasCommitted, HasEnded, Changes}
+use Rattle.flow_tables.proofs.Names.{Change, Book, FitsTables, Tells, after_change, Database, Executes, HasCleanDisk, State, Survives, Error, Bool, IsTrue, List, MatchResult, Option, false, true, ℕ, Changes, HasBegun, HasCommitted, HasEnded, HasTables, Holds, IsOver, IsRefused, IsStill, IsUndone, tables_in, Refusal, Known, ViewFault, Err, IfOk, None, Ok, OnOk, Some, ◌≡◌, [], refl, ◌⊎◌, Result, AreOurs, changed, subst, ◌∙◌, sym, ap, inl, inr, was_clean, book_of, IsCutShort, IsOwn, Keeps, IsKnown, TellBook, rolled_back_ended, told_answer, IsAware, HasCounted, error_leaves, IsFileOf, IsSure, KeepsOn, WasUp, ReadsBook, IsNoted}
 use Rattle.sqlite.specs.State.{Shows, IsUnchanged, IsRolledBack}
-use Rattle.flow_model.specs.Book.{changed}
-use Rattle.flow_tables.specs.Faults.{noted_fault, told_answer}
+use Rattle.flow_tables.specs.Faults.{noted_fault}
 use Rattle.flow_rows.specs.Typed.{IsTypedChange}
 use Rattle.flow_rows.proofs.Telling.{told}
 use Rattle.flow_rows.proofs.WholeChanges.{change_told}
-use Rattle.flow_tables.specs.Known.{IsKnown}
-use Rattle.flow_tables.specs.Owned.{IsAware, IsFileOf, IsOwn, IsSure, Keeps, KeepsOn, WasUp, HasCounted, ReadsBook, TellBook, IsNoted, book_of}
-use Rattle.flow_sql.specs.States.{AreOurs}
-use Rattle.flow_tables.specs.Puts.{IsCutShort}
-use Rattle.flow_sql.proofs.Leaves.{error_leaves, over_both, rolled_back_ended, was_clean}
+use Rattle.flow_sql.proofs.Leaves.{over_both}
 use Rattle.flow_sql.proofs.Transactions.{begun_still, committed_over}
 use Rattle.flow_tables.proofs.Parts.{refused_first}
 use Rattle.flow_tables.proofs.Stopping.{since_then, survived}
@@ -59,9 +53,9 @@ module _ (old new : State) where
     },
   )
 
-  -- nothing opens a connection that was shut
-  pub was_up : (ours : Type 0) → (ours → HasCleanDisk new → LeavesCommit) → WasUp ours old new
-  was_up ours left fit clean up = (left fit clean).was_open up
+  -- what a call that commits nothing goes on from
+  pub goes_on : (ours : Type 0) → Survives old new (λ _. ⊥) → (HasCleanDisk new → LeavesCommit) → KeepsOn ours old new × WasUp ours old new × HasCounted ours old new
+  goes_on ours survives left = (keeps_on ours (λ _. survives) (λ _. left), λ _ clean up. (left clean).was_open up, λ _ _. survived old new _ survives)
 
   pub shows_leaves : (inside : Bool) (d : Database) → Shows old new d old.committed inside → LeavesCommit
   shows_leaves inside d h = record { was_open = λ _. h.was_open; same = λ _. h.committed_is }

@@ -1,32 +1,19 @@
 -- What becomes of a question.
-use Rattle.std.proofs.Common.{List, [], ℕ, map, inl, inr, Bool, true, Option, Result, Ok, Err, subst, sym, ◌≡◌, ◌⊎◌, ◌∙◌}
-use Rattle.std.specs.Prelude.{IfOk, IfErr, MatchResult}
-use Rattle.sqlite.specs.Order.{Row}
-use Rattle.sqlite.specs.State.{State, HasCleanDisk, Survives, CommitsShowing, CommitsBy, Executes, IsUnchanged, IsRolledBack}
+use Rattle.flow_tables.proofs.Names.{was_clean, rest_ended, IsStopped, view_fault, StopsWith, Book, first, Tells as TellsBook, schema, Tables, Held, state, Row, Executes, HasCleanDisk, State, Survives, Error, Ghosts, Bool, IfErr, List, MatchResult, Option, map, true, ℕ, Changes, HasEnded, IsAtRest, IsOver, IsRefused, IsStill, tables_in, StoreFault, ViewFault, Err, IfOk, Ok, ◌≡◌, [], ◌⊎◌, Result, CommitsBy, FirstIs, subst, ◌∙◌, sym, inl, inr}
+use Rattle.sqlite.specs.State.{CommitsShowing, IsUnchanged, IsRolledBack}
 use Rattle.sqlite_resolve.specs.Compile.{first as first_statement}
-use Rattle.sqlite.specs.declared.error.Error.{Error}
 use Rattle.sqlite.specs.Query.{Query, IsAnswer}
 use Rattle.sqlite.specs.Program.{overlay}
-use Rattle.sqlite.specs.Held.{Held, state}
-use Rattle.sqlite_trees.specs.declared.store.Store.{Ghosts}
-use Rattle.flow_model.specs.Book.{Book}
-use Rattle.flow_view.specs.declared.fault.ViewFault.{ViewFault}
 use Rattle.flow_view.specs.declared.fault.ViewFault.TheVariants as view
-use Rattle.flow_rows.specs.Rows.{Tables}
-use Rattle.flow_rows.specs.Finding.{first}
-use Rattle.flow_tables.specs.declared.fault.StoreFault.{StoreFault}
 use Rattle.flow_tables.specs.declared.fault.StoreFault.TheVariants.{NoMemory, Refused}
 use Rattle.flow_tables.specs.Asking.{IsAsked, IsFirst, IsValue, IsRecalled, IsChanged, StopsAsk}
 use Rattle.flow_sql.specs.Meaning.{IsRead, Asks, IsQuestion, Alters, IsRowChange}
-use Rattle.flow_rows.specs.Told.{Tells as TellsBook}
-use Rattle.flow_sql.specs.Stored.{tables_in}
-use Rattle.flow_tables.specs.Faults.{view_fault, IsStopped, StopsWith}
-use Rattle.flow_sql.specs.States.{IsOver, Changes, IsStill, IsRefused, HasEnded, IsAtRest, FirstIs, IsReading}
+use Rattle.flow_sql.specs.States.{IsReading}
 use Rattle.flow_tables.specs.Reads.{Tells, IsReadFault}
-use Rattle.flow_sql.proofs.Leaves.{was_clean, error_refused, left_refused, rest_ended}
+use Rattle.flow_sql.proofs.Leaves.{error_refused, left_refused}
 use Rattle.flow_sql.proofs.Transactions.{write_survives}
 use Rattle.flow_tables.proofs.Stopping.{read_stopped, change_stopped}
-use Rattle.flow_sql.proofs.Refusing.{question_refused, change_refused}
+use Rattle.flow_sql.proofs.Refusing.{whole_read, whole_write, question_refused, change_refused}
 use Rattle.flow_sql.proofs.Reading.{answer, still}
 use Rattle.flow_sql.proofs.Compiling.{commits_none, failed, answered}
 
@@ -70,16 +57,17 @@ module _ {Q A : Type 0} (said : Row → A) (asks : Q → Asks A) (it : IsQuestio
         reads_what (asks q).sql it.query it.names (it.is q) (asks q).params old new inside over said items ((asks q).tells (tables_in old.now.trees)) (λ rows a. it.found q old.now.trees over.now.ours rows a) r (ok clean) (err clean);
     clean = λ clean. was_clean old new _ h clean;
     cause = err;
-    stops = λ was clean. stops_so (was (was_clean old new _ h clean)) r (err clean);
+    stops = λ inside was clean. stops_so inside (was (was_clean old new _ h clean)) r (err clean);
     ended = λ clean rest. read_rests (asks q).sql (it.is q).reading (asks q).params old new said items r (ok clean) (err clean) rest;
     survives = commits_none (asks q).sql (it.is q).reading (asks q).params old new h;
   }
     where
-      stops_so : IsOver true old → (r : Result V StoreFault) → IfErr r (IsReadFault (asks q).sql (asks q).params old new) → IfErr r (StopsAsk (asks q).sql (asks q).params old new)
-      stops_so over (Ok v) h = tt
-      stops_so over (Err NoMemory) h = tt
-      stops_so over (Err (Refused e)) (inl fails) = inl (question_refused old new e fails.0 over (asks q).sql it.query it.names (it.is q) (asks q).params (it.listed q) (it.typed q) (it.summed q) fails.1)
-      stops_so over (Err (Refused e)) (inr rows) = inr (it.listed q, rows.0, rows.1, rows.2)
+      stops_so : (inside : Bool) → IsOver inside old → (r : Result V StoreFault) → IfErr r (IsReadFault (asks q).sql (asks q).params old new) → IfErr r (StopsAsk (asks q).sql (asks q).params old new)
+      stops_so inside over (Ok v) h = tt
+      stops_so inside over (Err NoMemory) h = tt
+      stops_so inside over (Err (Refused e)) (inl fails) =
+          inl (question_refused old new e fails.0 over.is_open over.now.laid_out (asks q).sql it.query it.names (it.is q) (asks q).params (whole_read (asks q).sql (asks q).params (it.listed q)) (it.typed q) (it.summed q) fails.1)
+      stops_so inside over (Err (Refused e)) (inr rows) = inr (it.listed q, rows.0, rows.1, rows.2)
 
 module _ {A V : Type 0} (sql : List ℕ) (params : Row) (tells : Tables → List A → Type 0) (old new : State) (items : V → List A) where
   pub first_asked : (v : V) (o : Option A) → o ≡ first (items v) → IsAsked sql params old new (Ok v) (λ t x. tells t (items x)) → IsAsked sql params old new (Ok o) (IsFirst tells)
@@ -118,7 +106,7 @@ module _ {S A V : Type 0} (g : Ghosts S) (old new : Held S) (sql : List ℕ) (pa
   unvalued f k same it = record {
     reads = λ clean b told was. it.reads true was clean;
     clean = it.clean;
-    cause = λ clean b told was e. read_stopped g old new sql params (was (it.clean clean)) f (it.stops was clean) (sym same ∙ e);
+    cause = λ clean b told was e. read_stopped g old new sql params (was (it.clean clean)) f (it.stops true was clean) (sym same ∙ e);
     survives = it.survives;
   }
 
@@ -131,10 +119,11 @@ IsUncounted (Err f) (Err e) = f ≡ e
 IsUncounted _ _ = ⊥
 
 module _ {S : Type 0} (g : Ghosts S) (does : Alters) (old new : Held S) (it : IsRowChange g does) (h : Survives (state g old) (state g new) (CommitsBy does.sql does.params (state g old))) where
-  pub changed : (r : Result ℕ Error) → (HasCleanDisk (state g new) → Executes does.sql does.params (state g old) (state g new) r) → (x : Result Unit Error) → IsUncounted r x → IsChanged g old new x does.fits does.after
+  pub changed : (r : Result ℕ Error) → (HasCleanDisk (state g new) → Executes does.sql does.params (state g old) (state g new) r) → (x : Result Unit Error) → IsUncounted r x → IsChanged g does.sql does.params old new x does.fits does.after
   changed r ran x same = record {
     put = λ was fits clean. put (was (was_clean (state g old) (state g new) _ h clean)) fits r (ran clean) x same;
     clean = λ clean. was_clean (state g old) (state g new) _ h clean;
+    ran = λ clean. refused r (ran clean) x same;
     cause = λ was clean. cause (was (was_clean (state g old) (state g new) _ h clean)) r (ran clean) x same;
     survives = λ was. write_survives does.sql it.command it.is it.writes (state g old) (state g new) does.params was h;
   }
@@ -146,9 +135,14 @@ module _ {S : Type 0} (g : Ghosts S) (does : Alters) (old new : Held S) (it : Is
       put was fits (Err f) ran (Ok done) same = absurd same
       put was fits (Err f) ran (Err e) same = error_refused (state g old) (state g new) does.sql does.params e true was (subst (λ k. Executes does.sql does.params (state g old) (state g new) (Err k)) same ran)
 
+      refused : (r : Result ℕ Error) → Executes does.sql does.params (state g old) (state g new) r → (x : Result Unit Error) → IsUncounted r x → IfErr x (λ e. Executes does.sql does.params (state g old) (state g new) (Err e))
+      refused r ran (Ok done) same = tt
+      refused (Ok count) ran (Err e) same = absurd same
+      refused (Err f) ran (Err e) same = subst (λ k. Executes does.sql does.params (state g old) (state g new) (Err k)) same ran
+
       cause : IsOver true (state g old) → (r : Result ℕ Error) → Executes does.sql does.params (state g old) (state g new) r → (x : Result Unit Error) → IsUncounted r x → IfErr x (StopsWith g old new)
       cause was r ran (Ok done) same = tt
       cause was (Ok count) ran (Err e) same = absurd same
       cause was (Err f) ran (Err e) same = λ other.
           change_stopped g old new does.sql does.params was it.listed
-          (change_refused (state g old) (state g new) e other was does.sql does.params it.command it.is it.writes it.plain it.listed (subst (λ k. Executes does.sql does.params (state g old) (state g new) (Err k)) same ran))
+          (change_refused (state g old) (state g new) e other was.is_open schema was.now.laid_out does.sql does.params it.command it.is it.writes it.plain (whole_write does.sql does.params it.listed) (subst (λ k. Executes does.sql does.params (state g old) (state g new) (Err k)) same ran))

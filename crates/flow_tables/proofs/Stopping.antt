@@ -1,24 +1,21 @@
 -- What stands behind E80, from call to call.
-use Rattle.std.proofs.Common.{◌≡◌, ◌≢◌, ◌≤◌, ◌⊎◌, inl, inr, ℕ, List, length, true, Option, Some, None, Result, Ok, Err, refl, sym, ap, subst, ◌∙◌, arith}
-use Rattle.std.specs.Prelude.{IfErr, IsSome, ◌+◌, ◌^◌, ◌-◌, min}
+use Rattle.flow_tables.proofs.Names.{error_leaves, IsStopped, Because, view_fault, StopsWith, refusal_of, Fault, format_sql, no_schema, Held, state, Row, Executes, HasCleanDisk, State, Survives, Error, Ghosts, IfErr, IsTrue, List, MatchResult, Option, codes, false, true, ℕ, HasCommitted, HasTables, IsOver, Refusal, StoreFault, ViewFault, SqliteFailure, Err, Ok, ◌≡◌, [], refl, ◌⊎◌, Result, ◌≢◌, ◌≤◌, OutOfMemory, QueriesRow, IsSome, FailsToQuery, subst, ◌∙◌, sym, ap, inl, inr, arith, true≢false}
+use Rattle.std.proofs.lemmas.Bool.{cases_Bool}
+use Rattle.flow_sql.proofs.Leaves.{left_open}
 use Rattle.sqlite_disk.specs.Disk.{MoreFaults}
-use Rattle.sqlite_trees.specs.declared.store.Store.{Ghosts}
-use Rattle.sqlite.specs.Held.{Held, state}
-use Rattle.sqlite.specs.Order.{Row}
 use Rattle.sqlite.specs.Tree.{Trees}
-use Rattle.sqlite.specs.State.{State, HasCleanDisk, Survives, FailsToQuery}
-use Rattle.sqlite.specs.declared.error.ErrorCode.TheVariants.{OutOfMemory}
-use Rattle.sqlite.specs.declared.error.Error.{Error}
-use Rattle.sqlite.specs.declared.error.Error.TheVariants.{SqliteFailure}
+use Rattle.sqlite.specs.declared.error.Error.TheVariants.{QueryReturnedNoRows}
 use Rattle.flow_view.specs.declared.fault.ViewFault.TheVariants as view
-use Rattle.flow_sql.specs.Meaning.{IsOurWrite, IsDeclined}
-use Rattle.flow_sql.specs.States.{IsOver}
+use Rattle.flow_sql.specs.Meaning.{IsOurWrite, IsDeclined, WasUnmade}
+use Rattle.flow_sql.proofs.Finding.{format_refused, blank_refused}
+use Rattle.flow_base.specs.declared.fault.Fault.TheVariants as fault
+use Rattle.flow_tables.specs.Opening.{opening_fault, read_fault_of, IsCutShort, StopsRows, StopsMaking, IsHeldUp, StopsOpening}
+use Rattle.flow_sql.specs.States.{RunsTo}
+use Rattle.flow_sql.proofs.Transactions.{commit_refused, rollback_refused}
 use Rattle.flow_tables.specs.Asking.{StopsAsk}
-use Rattle.flow_tables.specs.Reads.{IsReadFault, IsAsked}
-use Rattle.flow_tables.specs.Faults.{Since, WasDeclined, WasMisread, IsStopped, StopsWith, Because, fault_of, view_fault, read_refusal, refusal_of}
-use Rattle.flow_tables.specs.declared.fault.StoreFault.{StoreFault}
+use Rattle.flow_tables.specs.Reads.{IsReadFault}
+use Rattle.flow_tables.specs.Faults.{Since, fault_of, read_refusal, told_fault, HasFailed, IsCutOff}
 use Rattle.flow_tables.specs.declared.fault.StoreFault.TheVariants.{NoMemory, Refused}
-use Rattle.flow_tables.specs.declared.fault.Refusal.{Refusal}
 use Rattle.flow_tables.specs.declared.fault.Refusal.TheVariants as refusal
 use Rattle.flow_tables.proofs.Causes.{because_on}
 
@@ -97,3 +94,169 @@ fault_told sql params old new e h = inl (other e refl, h)
   where
     other : (e : Error) → Refused e ≡ fault_of e → e ≢ SqliteFailure OutOfMemory
     other e is same = let clash = is ∙ ap fault_of same in cc
+
+---- Transactions
+
+-- what refuses a COMMIT or a ROLLBACK: the disk, or the want of memory
+module _ (sql : List ℕ) (old new : State) (e : Error) (inside : old.in_transaction ≡ true) (ran : Executes sql [] old new (Err e))
+    (refused : e ≢ SqliteFailure OutOfMemory → IsTrue old.is_open → MoreFaults old.faults new.faults) (f : ViewFault) (told : f ≡ told_fault (refusal_of e)) where
+  cut_failed : f ≡ view.StoreRefused → HasFailed old new
+  cut_failed is = elim (cases_Bool old.is_open) [
+    | inl up ↦ inl (refused (λ same. let clash = sym is ∙ told ∙ ap (λ x. told_fault (refusal_of x)) same in cc) up)
+    | inr shut ↦ inr (elim (cases_Bool new.is_open) [
+      | inl up ↦ absurd (true≢false (sym (left_open old new (error_leaves old new sql [] e ran) up) ∙ shut))
+      | inr down ↦ down
+    ])
+  ]
+
+  cut_off : IsCutOff sql old new f
+  cut_off = record { error = e; inside = inside; refused = ran; told = told; failed = cut_failed }
+
+module _ (old new : State) (e : Error) (f : ViewFault) (told : f ≡ told_fault (refusal_of e)) (inside : old.in_transaction ≡ true) where
+  pub commit_cut : Executes (codes "COMMIT") [] old new (Err e) → IsCutOff (codes "COMMIT") old new f
+  commit_cut ran = cut_off (codes "COMMIT") old new e inside ran (λ other up. commit_refused old new e other up inside ran) f told
+
+  pub rollback_cut : Executes (codes "ROLLBACK") [] old new (Err e) → IsCutOff (codes "ROLLBACK") old new f
+  rollback_cut ran = cut_off (codes "ROLLBACK") old new e inside ran (λ other up. rollback_refused old new e other up inside ran) f told
+
+---- Opening
+
+more_yet : (a b c : ℕ) → MoreFaults a b → b ≤ c → MoreFaults a c
+more_yet a b c more le = omega (arith, more, le)
+
+module _ {S : Type 0} (g : Ghosts S) where
+  cut_after : (a b c : State) → Since a b → IsCutShort g b c → IsCutShort g a c
+  cut_after a b c since (inl more) = inl (more_after a.faults b.faults c.faults since.0 more)
+  cut_after a b c since (inr (inl limit)) = inr (inl (subst (λ (o : Option ℕ). IsSome o) since.1 limit))
+  cut_after a b c since (inr (inr (mid, after, later, over, sql, params, listed, rows, e, shown, misread))) =
+      inr (inr (mid, after, since_then a b (state g mid) since later, over, sql, params, listed, rows, e, shown, misread))
+
+  unmade_after : (a b : State) → Since a b → WasUnmade g b → WasUnmade g a
+  unmade_after a b since (mid, later, sql, listed, declined) = (mid, since_then a b (state g mid) since later, sql, listed, declined)
+
+  -- a question that was refused, behind others
+  pub rows_stopped : (old mid new : Held S) (sql : List ℕ) (params : Row) (f : StoreFault) → Since (state g old) (state g mid) → IsOver false (state g mid) → StopsAsk sql params (state g mid) (state g new) f → StopsRows g old new f
+  rows_stopped old mid new sql params NoMemory since over h = tt
+  rows_stopped old mid new sql params (Refused e) since over (inl (inl more)) = inl (more_after (state g old).faults (state g mid).faults (state g new).faults since.0 more)
+  rows_stopped old mid new sql params (Refused e) since over (inl (inr limit)) = inr (inl (subst (λ (o : Option ℕ). IsSome o) since.1 limit))
+  rows_stopped old mid new sql params (Refused e) since over (inr it) = inr (inr (mid, new, since, over, sql, params, it.0, it.1, e, it.2, it.3))
+
+  pub rows_after : {V : Type 0} (a b c : Held S) (r : Result V StoreFault) → Since (state g a) (state g b) → IfErr r (StopsRows g b c) → IfErr r (StopsRows g a c)
+  rows_after a b c (Ok v) since h = tt
+  rows_after a b c (Err NoMemory) since h = tt
+  rows_after a b c (Err (Refused e)) since h = cut_after (state g a) (state g b) (state g c) since h
+
+  -- the statements that make the tables, behind others and before others
+  pub making_stopped : (a b c d : Held S) (e : Error) → Since (state g a) (state g b) → (state g c).faults ≤ (state g d).faults → StopsMaking g b c e → StopsMaking g a d e
+  making_stopped a b c d e since le h other = elim (h other) [
+    | inl more ↦ inl (omega (arith, since.0, more, le))
+    | inr unmade ↦ inr (unmade_after (state g a) (state g b) since unmade)
+  ]
+
+  pub made_stopped : (a b c : Held S) (sql : List ℕ) (r : Result Unit Error) → Since (state g a) (state g b) → RunsTo sql (state g b) (state g c) r → ((e : Error) → e ≢ SqliteFailure OutOfMemory → Executes sql [] (state g b) (state g c) (Err e) → MoreFaults (state g b).faults (state g c).faults ⊎ WasUnmade g (state g b))
+      → IfErr r (StopsMaking g a c)
+  made_stopped a b c sql (Ok u) since ran so = tt
+  made_stopped a b c sql (Err e) since ran so = making_stopped a b c c e since (omega arith) (λ other. so e other ran)
+
+  pub commit_stopped : (a b c : Held S) (r : Result Unit Error) → Since (state g a) (state g b) → IsTrue (state g b).is_open → (state g b).in_transaction ≡ true
+      → MatchResult r (λ _. HasCommitted (state g b) (state g c)) (λ e. Executes (codes "COMMIT") [] (state g b) (state g c) (Err e)) → IfErr r (StopsMaking g a c)
+  commit_stopped a b c (Ok u) since up inside h = tt
+  commit_stopped a b c (Err e) since up inside h = making_stopped a b c c e since (omega arith) (λ other. inl (commit_refused (state g b) (state g c) e other up inside h))
+
+  ---- A fault of an opening
+
+  pub held_told : (first new : State) (f : Fault) → IsHeldUp g first new → StopsOpening g first new f
+  held_told first new fault.StoreRefused h = h
+  held_told first new fault.NotOurs h = h
+  held_told first new _ h = tt
+
+  pub error_held : (first new : State) (f : Fault) (e : Error) → f ≡ opening_fault e → (e ≢ SqliteFailure OutOfMemory → IsHeldUp g first new) → StopsOpening g first new f
+  error_held first new f e is h = by_fault f is
+    where
+      by_fault : (f : Fault) → f ≡ opening_fault e → StopsOpening g first new f
+      by_fault fault.StoreRefused is = h (λ same. let clash = is ∙ ap opening_fault same in cc)
+      by_fault fault.NotOurs is = h (λ same. let clash = is ∙ ap opening_fault same in cc)
+      by_fault _ is = tt
+
+  pub rows_held : (old new : Held S) (f : Fault) (r : StoreFault) → f ≡ read_fault_of r → StopsRows g old new r → StopsOpening g (state g old) (state g new) f
+  rows_held old new f NoMemory is h = subst (StopsOpening g (state g old) (state g new)) (sym is) tt
+  rows_held old new f (Refused e) is h = error_held (state g old) (state g new) f e is (λ other. inr (inr h))
+
+  pub rollback_held : (old new : State) (f : Fault) (e : Error) → f ≡ opening_fault e → old.in_transaction ≡ true → Executes (codes "ROLLBACK") [] old new (Err e) → StopsOpening g old new f
+  rollback_held old new f e is inside h = error_held old new f e is (λ other. elim (cases_Bool old.is_open) [
+    | inl up ↦ inr (inr (inl (rollback_refused old new e other up inside h)))
+    | inr shut ↦ inl shut
+  ])
+
+  pub making_held : (old new : Held S) (f : Fault) (e : Error) → f ≡ opening_fault e → StopsMaking g old new e → StopsOpening g (state g old) (state g new) f
+  making_held old new f e is h = error_held (state g old) (state g new) f e is (λ other. elim (h other) [
+    | inl more ↦ inr (inr (inl more))
+    | inr unmade ↦ inr (inl unmade)
+  ])
+
+  -- what was shut since, was so by a failure
+  module _ (a b c : State) (P : Trees → Type 0) (survives : Survives a b P) (clean : HasCleanDisk b) (le : b.faults ≤ c.faults) where
+    pub held_after : IsHeldUp g b c → IsHeldUp g a c
+    held_after (inl shut) = elim (cases_Bool a.is_open) [
+      | inl up ↦ inr (inr (inl (elim (survives.closes clean up) [
+        | inl still_up ↦ absurd (true≢false (sym still_up ∙ shut))
+        | inr more ↦ more_yet a.faults b.faults c.faults more le
+      ])))
+      | inr shut_before ↦ inl shut_before
+    ]
+    held_after (inr (inl unmade)) = inr (inl (unmade_after a b (survived a b P survives) unmade))
+    held_after (inr (inr cut)) = inr (inr (cut_after a b c (survived a b P survives) cut))
+
+    pub told_after : {V : Type 0} (r : Result V Fault) → IfErr r (StopsOpening g b c) → IfErr r (StopsOpening g a c)
+    told_after (Ok v) h = tt
+    told_after (Err f) h = by_fault f h
+      where
+        by_fault : (f : Fault) → StopsOpening g b c f → StopsOpening g a c f
+        by_fault fault.StoreRefused h = held_after h
+        by_fault fault.NotOurs h = held_after h
+        by_fault _ h = tt
+
+  -- what held it up at first, held it up to the end
+  pub held_on : {V : Type 0} (a b c : State) (r : Result V Fault) → b.faults ≤ c.faults → IsHeldUp g a b → IfErr r (StopsOpening g a c)
+  held_on a b c (Ok v) le h = tt
+  held_on a b c (Err f) le (inl shut) = held_told a c f (inl shut)
+  held_on a b c (Err f) le (inr (inl unmade)) = held_told a c f (inr (inl unmade))
+  held_on a b c (Err f) le (inr (inr (inl more))) = held_told a c f (inr (inr (inl (more_yet a.faults b.faults c.faults more le))))
+  held_on a b c (Err f) le (inr (inr (inr rest))) = held_told a c f (inr (inr (inr rest)))
+
+  -- the question for the format: over our tables, and where there are none
+  module _ (old new : Held S) (e : Error) (asked : QueriesRow format_sql [] (state g old) (state g new) (Err e)) where
+    ours_held : (IsTrue (state g old).is_open → HasTables (state g old).now) → e ≢ SqliteFailure OutOfMemory → IsHeldUp g (state g old) (state g new)
+    ours_held has other = elim (cases_Bool (state g old).is_open) [
+      | inl up ↦ inr (inr (elim (format_refused (state g old) (state g new) e other up (has up) asked) [
+        | inl more ↦ inl more
+        | inr limit ↦ inr (inl limit)
+      ]))
+      | inr shut ↦ inl shut
+    ]
+
+    -- where it says that there is no such table
+    pub ours_limited : (IsTrue (state g old).is_open → HasTables (state g old).now) → opening_fault e ≡ fault.NotOurs → IsHeldUp g (state g old) (state g new)
+    ours_limited has told = ours_held has (λ same. let clash = sym told ∙ ap opening_fault same in cc)
+
+    none_held : (IsTrue (state g old).is_open → (state g old).now.schema ≡ no_schema) → (e ≡ QueryReturnedNoRows) ⊎ (opening_fault e ≢ fault.NotOurs) → e ≢ SqliteFailure OutOfMemory → IsHeldUp g (state g old) (state g new)
+    none_held none told other = elim (cases_Bool (state g old).is_open) [
+      | inl up ↦ elim (blank_refused (state g old) (state g new) e other up (none up) asked) [
+        | inl more ↦ inr (inr (inl more))
+        | inr missing ↦ absurd (elim told [
+          | inl no_rows ↦ (let clash = sym no_rows ∙ missing.1 in cc)
+          | inr store ↦ store (ap opening_fault missing.1)
+        ])
+      ]
+      | inr shut ↦ inl shut
+    ]
+
+    pub format_held : (IsTrue (state g old).is_open → HasTables (state g old).now ⊎ ((state g old).now.schema ≡ no_schema)) → (e ≡ QueryReturnedNoRows) ⊎ (opening_fault e ≢ fault.NotOurs) → (f : Fault) → f ≡ opening_fault e
+        → StopsOpening g (state g old) (state g new) f
+    format_held ours told f is = error_held (state g old) (state g new) f e is (λ other. elim (cases_Bool (state g old).is_open) [
+      | inl up ↦ elim (ours up) [
+        | inl has ↦ ours_held (λ _. has) other
+        | inr none ↦ none_held (λ _. none) told other
+      ]
+      | inr shut ↦ inl shut
+    ])

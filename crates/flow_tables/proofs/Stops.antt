@@ -1,14 +1,10 @@
 -- What a stop may leave, from call to call.
-use Rattle.std.proofs.Common.{◌≡◌, false, subst}
-use Rattle.std.specs.Prelude.{IsTrue}
+use Rattle.flow_tables.proofs.Names.{schema, Database, State, Survives, IsTrue, false, HasTables, IsOver, ◌≡◌, AreOurs, subst}
 use Rattle.sqlite.specs.Tree.{Trees}
-use Rattle.sqlite.specs.Effect.{Database}
-use Rattle.sqlite.specs.State.{State, Survives, Opens, IsLive}
+use Rattle.sqlite.specs.State.{Opens, IsLive}
 use Rattle.sqlite.proofs.StateLemmas.{survives_then}
 use Rattle.sqlite_catalog.proofs.ReadLemmas.{lists_once}
 use Rattle.sqlite_catalog.specs.Listing.{IsSound}
-use Rattle.flow_sql.specs.Layout.{schema}
-use Rattle.flow_sql.specs.States.{AreOurs, HasTables, IsOver}
 
 ---- After a stop
 

@@ -1,15 +1,8 @@
 -- How reads follow one another.
-use Rattle.std.proofs.Common.{◌≡◌, inl, inr, ℤ, Bool, List, ◌∙◌}
-use Rattle.std.specs.Prelude.{Result, Ok, Err, MatchResult}
-use Rattle.sqlite.specs.State.{State}
+use Rattle.flow_tables.proofs.Names.{by_run, StoreRows, Tables, events_of, tasks_of, timers_of, OutboxRow, RunRow, State, Bool, List, MatchResult, IsRefused, IsStill, Err, Ok, ℤ, ◌≡◌, Result, ◌∙◌, inl, inr}
 use Rattle.flow_rows.specs.declared.rows.TextRow.{TextRow}
-use Rattle.flow_rows.specs.declared.rows.RunRow.{RunRow}
 use Rattle.flow_rows.specs.declared.rows.EventRow.{EventRow}
 use Rattle.flow_rows.specs.declared.rows.TimerRow.{TimerRow}
-use Rattle.flow_rows.specs.declared.rows.OutboxRow.{OutboxRow}
-use Rattle.flow_rows.specs.declared.rows.StoreRows.{StoreRows}
-use Rattle.flow_rows.specs.Rows.{Tables, by_run, events_of, timers_of, tasks_of}
-use Rattle.flow_sql.specs.States.{IsStill, IsRefused}
 
 pub still_then : (inside : Bool) (a b c : State) → IsStill inside a b → IsStill inside b c → IsStill inside a c
 still_then inside a b c one two = (two.0, two.1 ∙ one.1, two.2 ∙ one.2)

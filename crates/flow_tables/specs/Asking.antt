@@ -1,19 +1,7 @@
 -- What is asked of the tables in one statement, and what becomes of it.
-use Rattle.std.specs.Prelude.{◌≡◌, ◌⊎◌, ℕ, Bool, true, List, length, Option, IsSome, Result, Ok, Err, MatchResult, IfErr}
+use Rattle.flow_tables.specs.Names.{Book, first as list_first, Tables, Held, state, Row, Executes, HasCleanDisk, State, Survives, Error, Ghosts, Bool, IfErr, List, MatchResult, Option, true, ℕ, Changes, HasEnded, Holds, IsAtRest, IsRefused, IsStill, tables_in, StoreFault, ViewFault, Shown, Err, Ok, ◌≡◌, ◌⊎◌, Result, IsSome}
 use Rattle.sqlite_disk.specs.Disk.{MoreFaults}
-use Rattle.sqlite_trees.specs.declared.store.Store.{Ghosts}
-use Rattle.sqlite.specs.declared.error.Error.{Error}
-use Rattle.sqlite.specs.Order.{Row}
-use Rattle.sqlite.specs.Held.{Held, state}
-use Rattle.sqlite.specs.State.{State, HasCleanDisk, Survives, Shown}
-use Rattle.flow_model.specs.Book.{Book}
-use Rattle.flow_rows.specs.Rows.{Tables}
-use Rattle.flow_rows.specs.Finding.{first as list_first}
-use Rattle.flow_view.specs.declared.fault.ViewFault.{ViewFault}
 use Rattle.flow_view.specs.declared.fault.ViewFault.TheVariants as view
-use Rattle.flow_tables.specs.declared.fault.StoreFault.{StoreFault}
-use Rattle.flow_sql.specs.Stored.{tables_in}
-use Rattle.flow_sql.specs.States.{Changes, Holds, IsStill, IsRefused, IsAtRest, HasEnded}
 use Rattle.flow_sql.specs.Meaning.{IsOurRead}
 use Rattle.flow_tables.specs.declared.fault.StoreFault.TheVariants.{NoMemory, Refused}
 use Rattle.flow_tables.specs.Reads.{IsReadFault, AreMisread}
@@ -34,8 +22,8 @@ pub record IsAsked {A : Type 0} (sql : List ℕ) (params : Row) (old new : State
       → MatchResult result (λ v. IsStill inside old new × tells (tables_in old.now.trees) v) (λ _. IsRefused inside old new)
   pub clean : HasCleanDisk new → HasCleanDisk old
   pub cause : HasCleanDisk new → IfErr result (IsReadFault sql params old new)
-  -- of our tables within a transaction it is refused for the store, or what it answers can't be read
-  pub stops : Holds true old → HasCleanDisk new → IfErr result (StopsAsk sql params old new)
+  -- of our tables it is refused for the store, or what it answers can't be read
+  pub stops : (inside : Bool) → Holds inside old → HasCleanDisk new → IfErr result (StopsAsk sql params old new)
   pub ended : HasCleanDisk new → IsAtRest old → HasEnded old new
   pub survives : Survives old new (λ _. ⊥)
 
@@ -59,9 +47,11 @@ pub record IsRecalled {S A : Type 0} (g : Ghosts S) (old new : Held S) (result :
 
 -- What becomes of a change of rows, within a transaction: the tables are changed so, or it was refused, and the transaction may
 -- have ended. Nothing is committed.
-pub record IsChanged {S : Type 0} (g : Ghosts S) (old new : Held S) (result : Result (Unit {0}) Error) (fits : Tables → Type 0) (after : Tables → Tables) : Type 0 where
+pub record IsChanged {S : Type 0} (g : Ghosts S) (sql : List ℕ) (params : Row) (old new : Held S) (result : Result (Unit {0}) Error) (fits : Tables → Type 0) (after : Tables → Tables) : Type 0 where
   pub put : Holds true (state g old) → fits (tables_in (state g old).now.trees) → HasCleanDisk (state g new)
       → MatchResult result (λ _. Changes (state g old) (state g new) (after (tables_in (state g old).now.trees))) (λ _. IsRefused true (state g old) (state g new))
   pub clean : HasCleanDisk (state g new) → HasCleanDisk (state g old)
+  -- a refusal is that of the statement itself
+  pub ran : HasCleanDisk (state g new) → IfErr result (λ e. Executes sql params (state g old) (state g new) (Err e))
   pub cause : Holds true (state g old) → HasCleanDisk (state g new) → IfErr result (StopsWith g old new)
   pub survives : Holds true (state g old) → Survives (state g old) (state g new) (λ _. ⊥)

@@ -1,22 +1,12 @@
 -- How an error of the store is told: the want of memory by itself, all else as the store's refusal. And what stands behind
 -- a refusal.
-use Rattle.std.specs.Prelude.{◌≡◌, ◌≢◌, ◌⊎◌, ◌≤◌, ℕ, List, [], length, true, IsSome, Result, Ok, Err}
+use Rattle.flow_tables.specs.Names.{Held, state, Row, Executes, State, Error, Ghosts, Bool, List, false, true, ℕ, IsOver, Refusal, StoreFault, ViewFault, Shown, SqliteFailure, OutOfMemory, Err, Ok, ◌≡◌, [], ◌⊎◌, Result, ◌≢◌, IsSome}
 use Rattle.sqlite_disk.specs.Disk.{MoreFaults}
-use Rattle.sqlite_trees.specs.declared.store.Store.{Ghosts}
-use Rattle.sqlite.specs.Held.{Held, state}
-use Rattle.sqlite.specs.Order.{Row}
-use Rattle.sqlite.specs.State.{State, Executes, Shown}
-use Rattle.sqlite.specs.declared.error.ErrorCode.TheVariants.{OutOfMemory}
-use Rattle.sqlite.specs.declared.error.Error.{Error}
-use Rattle.sqlite.specs.declared.error.Error.TheVariants.{SqliteFailure}
-use Rattle.flow_view.specs.declared.fault.ViewFault.{ViewFault}
 use Rattle.flow_view.specs.declared.fault.ViewFault.TheVariants as view
-use Rattle.flow_tables.specs.declared.fault.StoreFault.{StoreFault}
 use Rattle.flow_tables.specs.declared.fault.StoreFault.TheVariants.{NoMemory, Refused}
-use Rattle.flow_tables.specs.declared.fault.Refusal.{Refusal}
 use Rattle.flow_tables.specs.declared.fault.Refusal.TheVariants as refusal
 use Rattle.flow_sql.specs.Meaning.{IsOurRead, IsOurWrite, IsDeclined}
-use Rattle.flow_sql.specs.States.{IsOver}
+pub use Rattle.flow_sql.specs.States.{Since}
 use Rattle.flow_tables.specs.Reads.{AreMisread}
 
 abbrev pub fault_of : Error → StoreFault
@@ -27,31 +17,23 @@ fault_of e = Refused e
 abbrev pub WasStopped : List ℕ → State → State → Type 0
 WasStopped sql old new = (e : Error) × (e ≢ SqliteFailure OutOfMemory) × Executes sql [] old new (Err e)
 
--- This statement was refused within a transaction.
-abbrev pub FailsWithin : List ℕ → State → State → Type 0
-FailsWithin sql old new = (old.in_transaction ≡ true) × ((e : Error) × Executes sql [] old new (Err e))
-
 ---- Why the store stops what is done
-
--- The disk has failed at least so often, and the limit on the steps of a query is the same.
-abbrev pub Since : State → State → Type 0
-Since first s = (first.faults ≤ s.faults) × (s.step_limit ≡ first.step_limit)
 
 -- Within a transaction over our tables, the store's database declined one of our changes of rows.
 abbrev pub WasDeclined : {S : Type 0} → Ghosts S → State → Type 0
 WasDeclined {S} g first =
     (mid : Held S) × Since first (state g mid) × IsOver true (state g mid) × (sql : List ℕ) × (params : Row) × IsOurWrite sql params × IsDeclined sql params (state g mid)
 
--- There, a row of the answer to one of our questions can't be read.
-abbrev pub WasMisread : {S : Type 0} → Ghosts S → State → Type 0
-WasMisread {S} g first =
-    (mid after : Held S) × Since first (state g mid) × IsOver true (state g mid) × (sql : List ℕ) × (params : Row) × IsOurRead sql params
+-- There, or where no transaction runs, a row of the answer to one of our questions can't be read.
+abbrev pub WasMisread : {S : Type 0} → Bool → Ghosts S → State → Type 0
+WasMisread {S} inside g first =
+    (mid after : Held S) × Since first (state g mid) × IsOver inside (state g mid) × (sql : List ℕ) × (params : Row) × IsOurRead sql params
     × (rows : List Row) × (e : Error) × Shown sql params (state g mid) (state g after) rows × AreMisread rows (Refused e)
 
 -- The store stopped what was done since the first state: the disk has failed, a limit is set on the steps of a query, its database
 -- declined a change of rows, or what it answered can't be read.
 abbrev pub IsStopped : {S : Type 0} → Ghosts S → State → State → Type 0
-IsStopped g first new = MoreFaults first.faults new.faults ⊎ (IsSome first.step_limit ⊎ (WasDeclined g first ⊎ WasMisread g first))
+IsStopped g first new = MoreFaults first.faults new.faults ⊎ (IsSome first.step_limit ⊎ (WasDeclined g first ⊎ WasMisread true g first))
 
 -- an error that isn't the want of memory has this behind it
 abbrev pub StopsWith : {S : Type 0} → Ghosts S → Held S → Held S → Error → Type 0
@@ -93,3 +75,17 @@ abbrev pub Because : Refusal → Type 0 → Type 0 → Type 0
 Because refusal.NoMemory stopped unfit = Unit {0}
 Because refusal.Stopped stopped unfit = stopped
 Because refusal.Unfit stopped unfit = unfit
+
+---- The end of a transaction
+
+-- the disk has failed once more, or the connection is shut
+abbrev pub HasFailed : State → State → Type 0
+HasFailed old new = MoreFaults old.faults new.faults ⊎ (new.is_open ≡ false)
+
+-- This statement was refused within a transaction, and its error is told so: where it is E80, the disk has failed.
+pub record IsCutOff (sql : List ℕ) (old new : State) (f : ViewFault) : Type 0 where
+  pub error : Error
+  pub inside : old.in_transaction ≡ true
+  pub refused : Executes sql [] old new (Err error)
+  pub told : f ≡ told_fault (refusal_of error)
+  pub failed : f ≡ view.StoreRefused → HasFailed old new

@@ -12,24 +12,24 @@ pub use Rattle.flow_base.specs.declared.event.Cmd.{Cmd}
 pub use Rattle.flow_base.specs.declared.event.Event.{Event}
 pub use Rattle.flow_base.specs.declared.event.Input.{Input}
 pub use Rattle.flow_base.specs.declared.event.Input.TheVariants.{Started}
-pub use Rattle.flow_base.specs.declared.event.What.TheVariants.{Came}
+pub use Rattle.flow_base.specs.declared.event.What.TheVariants.{Came, Asked}
 pub use Rattle.flow_base.specs.declared.fault.Fault.{Fault}
 pub use Rattle.flow_base.specs.declared.fault.Fault.TheVariants.{BadVersion, Damaged, NoMemory, NotOurs, StoreRefused}
 pub use Rattle.flow_check.specs.Language.{is_program}
-pub use Rattle.flow_model.specs.Book.{Book, nth}
+pub use Rattle.flow_model.specs.Book.{Book, nth, no_book, changed}
 pub use Rattle.flow_model.specs.Configuration.{is_open}
 pub use Rattle.flow_model.specs.Open.{state_of}
 pub use Rattle.flow_model.specs.Turned.{traces, turn_events}
-pub use Rattle.flow_rows.specs.Changes.{is_other_task, marked, marked_row, with_event, with_run, with_text, with_timer, without_tasks, without_timers}
+pub use Rattle.flow_rows.specs.Changes.{is_other_task, marked, marked_row, with_event, with_run, with_text, with_timer, without_tasks, without_timers, with_task, without_task, without_timer}
 pub use Rattle.flow_rows.specs.Damages.{first_damage}
 pub use Rattle.flow_rows.specs.Finding.{first, is_run_at, last_number, number_of_run, number_of_text}
 pub use Rattle.flow_rows.specs.Rows.{by_run, event_row, of_run, open_number, run_row, task_row, timer_row, timers_left}
 pub use Rattle.flow_rows.specs.Told.{FitsTables, IsReadable, IsReadableTurn, StartsNone, Tells, after_change, after_effect, after_turn, book_in, new_run}
 pub use Rattle.flow_rows.specs.Whole.{shown_book}
 pub use Rattle.flow_rows.specs.declared.rows.StoreRows.{StoreRows}
-pub use Rattle.flow_sql.specs.Layout.{Write, format_sql, no_schema, schema, write_sql}
+pub use Rattle.flow_sql.specs.Layout.{Write, format_sql, no_schema, schema, write_sql, Read, read_sql}
 pub use Rattle.flow_sql.specs.Names.{event_id, last, Tables, events_of, tasks_of, timers_of, OutboxRow, RunRow, survives_weaker, Database, Held, state, Row, Executes, HasCleanDisk, State, Survives, Error, Int, Words, Ghosts, column, ints, AllByRecursion, int_eq, Bool, IfErr, IsTrue, List, MatchResult, Option, codes, false, filter, int_lt, map, pos, true, ℕ}
-pub use Rattle.flow_sql.specs.States.{AreNew, Changes, HasBegun, HasCommitted, HasEnded, HasTables, Holds, IsAtRest, IsBlank, IsOver, IsRefusal, IsRefused, IsStill, IsUndone, RunsTo, no_tables}
+pub use Rattle.flow_sql.specs.States.{AreNew, Changes, HasBegun, HasCommitted, HasEnded, HasTables, Holds, IsAtRest, IsBlank, IsOver, IsRefusal, IsRefused, IsStill, IsUndone, RunsTo, no_tables, AreOurs, FirstIs, HasGoneBack}
 pub use Rattle.flow_sql.specs.Stored.{number_at, tables_in}
 pub use Rattle.flow_tables.specs.declared.fault.Refusal.{Refusal}
 pub use Rattle.flow_tables.specs.declared.fault.StoreFault.{StoreFault}
@@ -39,5 +39,7 @@ pub use Rattle.flow_tables.specs.declared.known.OpenTasks.{OpenTasks}
 pub use Rattle.flow_tables.specs.declared.known.Standing.{Standing}
 pub use Rattle.flow_view.specs.declared.fault.ViewFault.{ViewFault}
 pub use Rattle.sqlite.specs.Reading.{IsReadError}
+pub use Rattle.sqlite.specs.State.{CommitsBy, Shown, QueriesRow, FailsToQuery}
 pub use Rattle.sqlite.specs.declared.error.Error.TheVariants.{QueryReturnedNoRows, SqliteFailure}
-pub use Rattle.std.specs.Prelude.{Err, IfOk, None, Ok, OnOk, Some, length, option_map, reverse, ℤ}
+pub use Rattle.sqlite.specs.declared.error.ErrorCode.TheVariants.{OutOfMemory}
+pub use Rattle.std.specs.Prelude.{Err, IfOk, None, Ok, OnOk, Some, length, option_map, reverse, ℤ, ◌≡◌, [], ◌∷◌, refl, ◌⊎◌, Result, ◌+◌, ◌≢◌, ◌≤◌, ◌^◌, if◌then◌else◌, ◌<◌, suc, eqb, negsuc, IsSome, drop, ⊤, zero, ◌↔◌, ◌++◌, ◌<ℤ◌}

@@ -1,11 +1,12 @@
 -- What opening reads and finds, and why it is refused.
-use Rattle.std.specs.Prelude.{◌≡◌, ◌≢◌, ◌⊎◌, [], ⊤}
-use Rattle.flow_tables.specs.Names.{ℕ, ℤ, pos, Bool, true, false, List, length, Some, Ok, Err, codes, AllByRecursion, Int, Error, SqliteFailure, QueryReturnedNoRows, Row, IsReadError, column, Ghosts, Held, state, State, Executes, Fault, NoMemory, StoreRefused, NotOurs, BadVersion, Damaged, is_program, Book, StoreRows, Tables, by_run, first_damage, StoreFault, format_sql, HasEnded}
+use Rattle.sqlite_disk.specs.Disk.{MoreFaults}
+use Rattle.flow_tables.specs.Names.{Fault, BadVersion, Damaged, NoMemory, NotOurs, StoreRefused, is_program, Book, first_damage, by_run, StoreRows, format_sql, Tables, Held, state, Row, Executes, State, Error, Int, Ghosts, column, AllByRecursion, Bool, List, false, pos, true, ℕ, HasEnded, StoreFault, IsReadError, QueriesRow, QueryReturnedNoRows, SqliteFailure, Err, Ok, Some, length, ℤ, ◌≡◌, [], ◌⊎◌, ◌≢◌, IsSome, ⊤}
 use Rattle.sqlite.specs.declared.error.ErrorCode.TheVariants as code
-use Rattle.sqlite.specs.State.{QueriesRow}
 use Rattle.flow_rows.specs.Rows.{rows_of}
 use Rattle.flow_rows.specs.Standing.{AreKept}
 use Rattle.flow_tables.specs.declared.fault.StoreFault.TheVariants as read
+use Rattle.flow_sql.specs.Meaning.{WasUnmade}
+use Rattle.flow_tables.specs.Faults.{WasMisread}
 use Rattle.flow_tables.specs.Reads.{IsReadFault}
 
 ---- The format
@@ -86,12 +87,32 @@ IsMet {S} g e =
     ⊎ (IsReadFault sql [] (state g old) (state g new) (read.Refused e)
     ⊎ ((row : Row) × QueriesRow sql [] (state g old) (state g new) (Ok row) × IsReadError 0 (column row 0) e))))
 
--- A transaction that runs can't be rolled back.
-abbrev pub GoesOnRunning : {S : Type 0} → Ghosts S → Type 0
-GoesOnRunning {S} g = (old new : Held S) × (e : Error) × Executes (codes "ROLLBACK") [] (state g old) (state g new) (Err e)
-
 -- The other faults have clauses of their own, and want of memory none.
 abbrev pub HasCause : {S : Type 0} → Ghosts S → Fault → Type 0
-HasCause g StoreRefused = GoesOnRunning g ⊎ ((e : Error) × IsMet g e × (opening_fault e ≡ StoreRefused))
+HasCause g StoreRefused = (e : Error) × IsMet g e × (opening_fault e ≡ StoreRefused)
 HasCause g NotOurs = (e : Error) × IsMet g e × (opening_fault e ≡ NotOurs)
 HasCause g _ = ⊤
+
+---- What stands behind it, over our tables or none
+
+-- Reading stopped: the disk has failed since the first state, a limit is set on the steps of a query, or a row can't be read.
+abbrev pub IsCutShort : {S : Type 0} → Ghosts S → State → State → Type 0
+IsCutShort g first new = MoreFaults first.faults new.faults ⊎ (IsSome first.step_limit ⊎ WasMisread false g first)
+
+abbrev pub StopsRows : {S : Type 0} → Ghosts S → Held S → Held S → StoreFault → Type 0
+StopsRows g first new read.NoMemory = ⊤
+StopsRows g first new (read.Refused e) = IsCutShort g (state g first) (state g new)
+
+-- Making the tables stopped: the disk has failed, or the database refused one of the statements.
+abbrev pub StopsMaking : {S : Type 0} → Ghosts S → Held S → Held S → Error → Type 0
+StopsMaking g first new e = e ≢ SqliteFailure code.OutOfMemory → MoreFaults (state g first).faults (state g new).faults ⊎ WasUnmade g (state g first)
+
+-- The one or the other, or the connection was shut.
+abbrev pub IsHeldUp : {S : Type 0} → Ghosts S → State → State → Type 0
+IsHeldUp g first new = (first.is_open ≡ false) ⊎ (WasUnmade g first ⊎ IsCutShort g first new)
+
+-- So it is behind E80 and E81; the other faults have clauses of their own, and want of memory none.
+abbrev pub StopsOpening : {S : Type 0} → Ghosts S → State → State → Fault → Type 0
+StopsOpening g first new StoreRefused = IsHeldUp g first new
+StopsOpening g first new NotOurs = IsHeldUp g first new
+StopsOpening g first new _ = ⊤

@@ -1,27 +1,12 @@
 -- Tables as a value of the code: the book that they hold, and what becomes of it.
-use Rattle.std.specs.Prelude.{◌≡◌, ◌⊎◌, ◌<ℤ◌, ℕ, ℤ, pos, true, false, Option, Some, None, IsTrue, Result, Ok, Err, MatchResult, IfErr, option_map, refl}
+use Rattle.flow_tables.specs.Names.{Run, Book, nth, no_book, last_number, run_row, Tells, book_in, no_schema, RunRow, Held, state, HasCleanDisk, State, Ghosts, IfErr, IsTrue, MatchResult, Option, false, pos, true, ℕ, HasTables, Holds, IsOver, IsRefused, IsStill, AreOurs, tables_in, Refusal, Known, ViewFault, Err, None, Ok, Some, option_map, ℤ, ◌≡◌, refl, ◌⊎◌, Result, ◌<ℤ◌}
 use Rattle.std.specs.Coded.{Coded, code_by, coded×, coded_option}
-use Rattle.sqlite_trees.specs.declared.store.Store.{Ghosts}
 use Rattle.sqlite.specs.Tree.{Trees}
-use Rattle.sqlite.specs.Held.{Held, held_code, state}
-use Rattle.sqlite.specs.State.{State, HasCleanDisk}
-use Rattle.flow_base.specs.declared.book.Run.{Run}
-use Rattle.flow_model.specs.Book.{Book, nth, no_book}
-use Rattle.flow_view.specs.declared.fault.ViewFault.{ViewFault}
+use Rattle.sqlite.specs.Held.{held_code}
 use Rattle.flow_view.specs.declared.fault.ViewFault.TheVariants as fault
-use Rattle.flow_tables.specs.declared.fault.Refusal.{Refusal}
-use Rattle.flow_tables.specs.declared.fault.Refusal.TheVariants as refusal
 use Rattle.flow_tables.specs.contracts.fault.Refusal as refusal_row
-use Rattle.flow_tables.specs.declared.known.Known.{Known}
 use Rattle.flow_tables.specs.Known.{IsKnown}
 use Rattle.flow_tables.specs.Faults.{IsStopped, Since}
-use Rattle.flow_rows.specs.declared.rows.RunRow.{RunRow}
-use Rattle.flow_rows.specs.Rows.{run_row}
-use Rattle.flow_rows.specs.Finding.{last_number}
-use Rattle.flow_rows.specs.Told.{book_in, Tells}
-use Rattle.flow_sql.specs.Stored.{tables_in}
-use Rattle.flow_sql.specs.Layout.{no_schema}
-use Rattle.flow_sql.specs.States.{AreOurs, HasTables, IsOver, Holds, IsStill, IsRefused}
 
 -- The value: the connection, why the rest of the transaction is refused, if it is, and, for contracts alone, the connection
 -- as it was handed in.

@@ -1,11 +1,7 @@
 //! Questions to the tables and changes of their rows, each one statement. One that is refused has changed nothing, or the
 //! transaction has ended.
-ghost use Rattle.std.specs.Prelude.{IfOk, IfErr};
-ghost use Rattle.sqlite.specs.State.{HasCleanDisk, Survives, CommitsShowing, CommitsBy, Shown, FailsToQuery, Executes};
-ghost use Rattle.sqlite.specs.Held.{state};
-ghost use Rattle.flow_model.specs.Book.{Book};
-ghost use Rattle.flow_rows.specs.Rows.{Tables};
-ghost use Rattle.flow_rows.specs.Told.{Tells as TellsBook};
+ghost use Rattle.flow_tables.specs.Names.{Book, Tells as TellsBook, Tables, state, Executes, HasCleanDisk, Survives, IfErr, CommitsBy, Shown, FailsToQuery, IfOk};
+ghost use Rattle.sqlite.specs.State.{CommitsShowing};
 ghost use Rattle.flow_tables.specs.Reads.{Tells, IsReadFault};
 ghost use Rattle.flow_tables.specs.Asking.{IsAsked, IsFirst, IsValue, IsRecalled, IsChanged};
 ghost use Rattle.flow_sql.specs.Meaning.{Asks, IsQuestion, Alters, IsRowChange};
@@ -129,7 +125,7 @@ pub trait RowChange: Sized {
 
 /// Changes the rows so.
 pub fn change<C: RowChange, S: Alter>(conn: &mut Connection<S>, change: &C) -> Result<(), Error>
-    ensures { IsChanged S.Store conn.old conn.new result (C.does change.now).fits (C.does change.now).after }
+    ensures { IsChanged S.Store (C.does change.now).sql (C.does change.now).params conn.old conn.new result (C.does change.now).fits (C.does change.now).after }
 {
     match change.send(conn) {
         Ok(_) => Ok(()),

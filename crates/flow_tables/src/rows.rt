@@ -1,8 +1,6 @@
 //! Rows of answers, read as what they say.
-ghost use Rattle.std.specs.Prelude.{◌≡◌};
-ghost use Rattle.flow_tables.specs.Names.{map, IfOk, IfErr, column, number_at};
+ghost use Rattle.flow_tables.specs.Names.{Row as SqlRow, column, IfErr, map, number_at, IfOk, ◌≡◌};
 ghost use Rattle.sqlite_value.specs.Order.{bytes};
-ghost use Rattle.sqlite.specs.Order.{Row as SqlRow};
 ghost use Rattle.flow_sql.specs.Stored.{number_said, text_said, text_row_said, run_row_said, event_row_said, timer_row_said, task_row_said};
 ghost use Rattle.flow_tables.specs.Reads.{IsMisread, AreMisread};
 
@@ -131,10 +129,7 @@ pub(crate) fn read_all<T: Said + Drop>(alloc: Global, rows: &[Row]) -> Result<Ve
 {
     let mut list = Vec::new(alloc);
     for row in rows {
-        let value = match T::read(alloc, row) {
-            Ok(value) => value,
-            Err(fault) => return Err(fault),
-        };
+        let value = T::read(alloc, row)?;
         if list.push(value).is_err() {
             return Err(StoreFault::NoMemory);
         }

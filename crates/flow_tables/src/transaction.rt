@@ -1,9 +1,6 @@
 //! A transaction of the store: its begin, its end, and the way back.
 
-ghost use Rattle.std.specs.Prelude.{◌≡◌, []};
-ghost use Rattle.flow_tables.specs.Names.{ℕ, true, false, IsTrue, MatchResult, OnOk, IfErr, Ok, Err, codes, HasCleanDisk, Survives, Executes, state, Holds, IsOver, IsStill, IsRefused, IsUndone, HasBegun, HasCommitted, HasEnded, RunsTo};
-ghost use Rattle.sqlite.specs.State.{CommitsBy};
-ghost use Rattle.flow_sql.specs.States.{HasGoneBack};
+ghost use Rattle.flow_tables.specs.Names.{state, Executes, HasCleanDisk, Survives, IfErr, IsTrue, MatchResult, codes, false, true, ℕ, HasBegun, HasCommitted, HasEnded, Holds, IsOver, IsRefused, IsStill, IsUndone, RunsTo, HasGoneBack, CommitsBy, Err, Ok, OnOk, ◌≡◌, []};
 
 use sqlite::{Alter, Connection, Error};
 
@@ -60,21 +57,17 @@ pub fn rollback<S: Alter>(conn: &mut Connection<S>) -> Result<(), Error>
     run(conn, "ROLLBACK")
 }
 
-/// Ends the transaction if one runs, and answers whether nothing was refused.
-pub fn undo<S: Alter>(conn: &mut Connection<S>) -> bool
+/// Ends the transaction if one runs. After an error too none runs any more.
+pub fn undo<S: Alter>(conn: &mut Connection<S>) -> Result<(), Error>
     ensures ended { HasCleanDisk (state S.Store conn.new) → HasEnded (state S.Store conn.old) (state S.Store conn.new) }
     ensures undone { Holds true (state S.Store conn.old) → HasCleanDisk (state S.Store conn.new) → IsUndone (state S.Store conn.old) (state S.Store conn.new) }
-    ensures cause { HasCleanDisk (state S.Store conn.new) → result ≡ false
-        → (e : _) × Executes (codes "ROLLBACK") [] (state S.Store conn.old) (state S.Store conn.new) (Err e) }
-    ensures inside { result ≡ false → (state S.Store conn.old).in_transaction ≡ true }
-    ensures done { HasCleanDisk (state S.Store conn.new) → result ≡ true → HasGoneBack S.Store conn.old conn.new }
+    ensures cause { HasCleanDisk (state S.Store conn.new) → IfErr result (λ e. Executes (codes "ROLLBACK") [] (state S.Store conn.old) (state S.Store conn.new) (Err e)) }
+    ensures inside { IfErr result (λ _. (state S.Store conn.old).in_transaction ≡ true) }
+    ensures done { HasCleanDisk (state S.Store conn.new) → OnOk result (HasGoneBack S.Store conn.old conn.new) }
     ensures survives { Survives (state S.Store conn.old) (state S.Store conn.new) (λ _. ⊥) }
 {
     if conn.is_autocommit() {
-        return true;
+        return Ok(());
     }
-    match rollback(conn) {
-        Ok(()) => true,
-        Err(_) => false,
-    }
+    rollback(conn)
 }

@@ -23,3 +23,6 @@ pub returns-in-NotApplied-clause-cause : goal.returns-in-NotApplied-clause-cause
 returns-in-NotApplied-clause-cause g c fit b keeps =
     let h = c.in-NotApplied.ensures.commits fit b keeps in
     subst (λ (batch : List Taken). IsFor g.S.Store c.args.engine.now c.commit.new.self b c.args.batch (NotApplied batch c.in-NotApplied.fault)) h.1 (c.in-NotApplied.ensures.cause fit b keeps)
+
+pub returns-in-Unknown-clause-cause : goal.returns-in-Unknown-clause-cause
+returns-in-Unknown-clause-cause g c fit b keeps = (c.in-Unknown._fault, c.in-Unknown.ensures.cause fit b keeps)

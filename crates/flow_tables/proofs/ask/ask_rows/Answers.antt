@@ -1,5 +1,4 @@
-use Rattle.std.proofs.Common.{sym, subst}
-use Rattle.sqlite.specs.Held.{state}
+use Rattle.flow_tables.proofs.Names.{state, subst, sym}
 use Rattle.flow_tables.specs.Reads.{IsReadFault}
 use Rattle.flow_tables.proofs.Stopping.{fault_told}
 use Rattle.flow_tables.proofs.ask.ask_rows.Goals as goal

@@ -1,5 +1,4 @@
-use Rattle.std.proofs.Common.{◌≡◌, drop}
-use Rattle.flow_tables.specs.Known.{started_timer}
+use Rattle.flow_tables.proofs.Names.{◌≡◌, drop, started_timer}
 use Rattle.flow_tables.proofs.known.started_timer.Given as goal
 
 abbrev pub invariant-loop-event : goal.invariant-loop-event

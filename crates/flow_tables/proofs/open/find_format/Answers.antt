@@ -1,9 +1,11 @@
-use Rattle.std.proofs.Common.{◌≡◌, inl, inr, Err, sym, ap, subst}
-use Rattle.flow_tables.specs.Names.{state, Fault}
-use Rattle.flow_tables.specs.Opening.{opening_fault, IsOfStore, HasCause}
+use Rattle.flow_tables.proofs.Names.{Fault, NotOurs, state, false, Err, ◌≡◌, ◌≢◌, subst, sym, ap, inl, inr}
+use Rattle.flow_tables.specs.Names.{QueryReturnedNoRows}
+use Rattle.flow_tables.specs.Opening.{opening_fault, IsOfStore, HasCause, StopsOpening}
 use Rattle.flow_sql.proofs.Finding.{answered, blank_never_reads}
-use Rattle.std.proofs.lemmas.Result.{IfErr-weaker}
-use Rattle.flow_tables.proofs.Opened.{of_store, caused, is_ours, not_other, same_fault}
+use Rattle.std.proofs.lemmas.Result.{IfErr-weaker, IfOk-weaker}
+use Rattle.flow_sql.proofs.Finding.{format_answer}
+use Rattle.flow_tables.proofs.Opened.{of_store, caused, is_ours, not_other, same_fault, both_told}
+use Rattle.flow_tables.proofs.Stopping.{format_held, ours_limited}
 use Rattle.flow_tables.proofs.open.find_format.Goals as goal
 
 pub returns-in-Ok-clause-version : goal.returns-in-Ok-clause-version
@@ -41,3 +43,25 @@ returns-clause-cause g c clean =
     IfErr-weaker c.no_format.result (λ (f : Fault). f ≡ opening_fault c.in-Err.error) (HasCause g.S.Store)
     (λ f is. subst (HasCause g.S.Store) (sym is) (caused g.S.Store c.in-Err.error (c.args.conn.now, c.format_row.new.conn, _, inr (inl (c.in-Err.ensures.queries clean)))))
     c.no_format.ensures.fault
+
+pub returns-in-Ok-clause-why : goal.returns-in-Ok-clause-why
+returns-in-Ok-clause-why g c clean ours =
+    let old = state g.S.Store c.args.conn.now in
+    let new = state g.S.Store c.format_row.new.conn in
+    let asked = c.in-Ok.ensures.queries clean in
+    elim (ours (answered old new _ asked).0.was_open) [
+      | inl has ↦ subst (StopsOpening g.S.Store old new) (sym (c.in-Err-check_format.ensures.taken (format_answer old new _ has asked))) tt
+      | inr none ↦ absurd (blank_never_reads old new _ none asked)
+    ]
+
+pub returns-clause-why : goal.returns-clause-why
+returns-clause-why g c clean ours =
+    let old = state g.S.Store c.args.conn.now in
+    let new = state g.S.Store c.format_row.new.conn in
+    let e = c.in-Err.error in
+    both_told c.no_format.result (λ f told is. format_held g.S.Store c.args.conn.now c.format_row.new.conn e (c.in-Err.ensures.queries clean) ours told f is) c.no_format.ensures.told c.no_format.ensures.fault
+
+pub returns-clause-missed : goal.returns-clause-missed
+returns-clause-missed g c clean has =
+    IfOk-weaker c.no_format.result (λ there. (there ≡ false) × (c.in-Err.error ≢ QueryReturnedNoRows) × (opening_fault c.in-Err.error ≡ NotOurs)) _
+    (λ there absent is. ours_limited g.S.Store c.args.conn.now c.format_row.new.conn c.in-Err.error (c.in-Err.ensures.queries clean) has absent.2) c.no_format.ensures.absent

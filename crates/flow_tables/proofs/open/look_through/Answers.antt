@@ -1,9 +1,9 @@
-use Rattle.std.proofs.Common.{◌≡◌, ◌∙◌, Some, false, refl, sym, ap, subst}
-use Rattle.flow_tables.specs.Names.{is_program, first_damage, by_run, Tells, book_in, shown_book}
+use Rattle.flow_tables.proofs.Names.{is_program, first_damage, by_run, Tells, book_in, shown_book, false, Some, ◌≡◌, refl, subst, ◌∙◌, sym, ap}
 use Rattle.std.proofs.lemmas.Result.{IfOk-at_ok, IfErr-at_err}
 use Rattle.flow_rows.specs.Standing.{StandsFor}
 use Rattle.flow_tables.specs.Opening.{IsOfOpening, HasCause}
 use Rattle.flow_tables.proofs.Opened.{read_caused, read_among}
+use Rattle.flow_tables.proofs.Stopping.{rows_held}
 use Rattle.flow_tables.proofs.open.look_through.Goals as goal
 
 pub returns-in-Ok-Ok-clause-tells : goal.returns-in-Ok-Ok-clause-tells
@@ -36,3 +36,6 @@ returns-in-Err-clause-cause g c clean = subst (HasCause g.S.Store) (sym c.read_f
 
 pub returns-in-Err-clause-among : goal.returns-in-Err-clause-among
 returns-in-Err-clause-among g c = subst IsOfOpening (sym c.read_fault.ensures) (read_among c.in-Err.fault)
+
+pub returns-in-Err-clause-why : goal.returns-in-Err-clause-why
+returns-in-Err-clause-why g c clean was = rows_held g.S.Store c.args.conn.now c.all_rows.new.conn c.read_fault.result c.in-Err.fault c.read_fault.ensures (c.in-Err.ensures.stops clean was)

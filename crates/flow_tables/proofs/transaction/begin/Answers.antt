@@ -1,6 +1,5 @@
-use Rattle.flow_tables.specs.Names.{state}
+use Rattle.flow_tables.proofs.Names.{was_clean, state}
 use Rattle.flow_sql.proofs.Transactions.{begun_or_told, begun_or_refused, begin_survives}
-use Rattle.flow_sql.proofs.Leaves.{was_clean}
 use Rattle.flow_tables.proofs.transaction.begin.Goals as goal
 
 pub returns-clause-begun : goal.returns-clause-begun

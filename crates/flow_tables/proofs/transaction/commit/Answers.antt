@@ -1,6 +1,5 @@
-use Rattle.flow_tables.specs.Names.{state}
+use Rattle.flow_tables.proofs.Names.{was_clean, state}
 use Rattle.flow_sql.proofs.Transactions.{committed_or_told, committed_or_ended, committed_or_undone, commit_survives}
-use Rattle.flow_sql.proofs.Leaves.{was_clean}
 use Rattle.flow_tables.proofs.transaction.commit.Goals as goal
 
 pub returns-clause-committed : goal.returns-clause-committed

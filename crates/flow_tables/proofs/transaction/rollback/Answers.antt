@@ -1,7 +1,5 @@
-use Rattle.std.proofs.Common.{codes, IsTrue}
-use Rattle.flow_tables.specs.Names.{state}
+use Rattle.flow_tables.proofs.Names.{was_clean, state, IsTrue, codes}
 use Rattle.flow_sql.proofs.Transactions.{rolls_back, rolled_back, over_undone, rollback_survives, ran_to, ran_ok}
-use Rattle.flow_sql.proofs.Leaves.{was_clean}
 use Rattle.flow_tables.proofs.transaction.rollback.Goals as goal
 
 pub returns-clause-undone : goal.returns-clause-undone

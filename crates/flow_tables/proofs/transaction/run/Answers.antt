@@ -1,5 +1,4 @@
-use Rattle.std.proofs.Common.{Ok, Err}
-use Rattle.flow_tables.specs.Names.{state}
+use Rattle.flow_tables.proofs.Names.{state, Err, Ok}
 use Rattle.flow_sql.proofs.Leaves.{stays_shut}
 use Rattle.flow_tables.proofs.transaction.run.Goals as goal
 
