@@ -1,6 +1,6 @@
 -- Why a statement of ours is refused: the store failed, or its database declines what is asked.
-use Rattle.flow_sql.proofs.Names.{schema, Write, write_sql, Read, read_sql, IsRead, write_takes, IsPlain, timed, Command, Database, Row, overlay, Query, Executes, RunsCommand, State, shows_rows, Trees, Error, Compiled, CompileError, IsTrue, List, false, true, ℕ, [], ◌≡◌, refl, Ok, None, Err, Result, ◌⊎◌, length, Some, ◌≢◌, reads_listing, Fails, ◌≤◌, IsMisplaced, sym, ap, ◌∙◌, subst, inl, inr, arith, true≢false, append-nil}
-use Rattle.std.specs.Prelude.{IsSome, Any}
+use Rattle.flow_sql.proofs.Names.{schema, Write, write_sql, Read, read_sql, IsRead, write_takes, IsPlain, timed, Command, Database, Row, overlay, Query, Executes, RunsCommand, State, shows_rows, Trees, Error, Compiled, CompileError, IsTrue, List, false, true, ℕ, [], refl, Ok, None, Err, Result, length, Some, reads_listing, Fails, IsMisplaced, sym, ap, ◌∙◌, subst, inl, inr, arith, true≢false, append-nil}
+use Rattle.std.specs.Prelude.{IsSome, Any, ◌≡◌, ◌⊎◌, ◌≢◌, ◌≤◌}
 use Rattle.sqlite_disk.specs.Disk.{MoreFaults}
 use Rattle.sqlite_trees.specs.declared.error.StoreError.{StoreError}
 use Rattle.sqlite_trees.specs.declared.error.StoreError.TheVariants as store

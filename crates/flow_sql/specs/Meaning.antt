@@ -1,6 +1,6 @@
 -- What a text of SQL means over our tables: a query and what its answer tells, a change and what it does.
-use Rattle.flow_sql.specs.Names.{Tables, IsPlain, timed, Command, Select, Nothing, Does, Held, state, understood, reads_listing, Row, overlay, IsAnswer, Query, Executes, State, mode_of, text_of, Trees, Error, first, Compiled, CompileError, Ghosts, List, Option, false, map, true, ℕ, [], ◌≡◌, ◌∷◌, Ok, Err, Result, length}
-use Rattle.std.specs.Prelude.{Contains}
+use Rattle.flow_sql.specs.Names.{Tables, IsPlain, timed, Command, Select, Nothing, Does, Held, state, understood, reads_listing, Row, overlay, IsAnswer, Query, Executes, State, mode_of, text_of, Trees, Error, first, Compiled, CompileError, Ghosts, List, Option, false, map, true, ℕ, [], Ok, Err, Result, length}
+use Rattle.std.specs.Prelude.{Contains, ◌≡◌, ◌∷◌}
 use Rattle.sqlite.specs.Calls.{IsWrite}
 use Rattle.sqlite.specs.State.{IsStatement}
 use Rattle.sqlite_sql.specs.Program.{QueryOverflows}

@@ -1,5 +1,6 @@
 -- What a connection shows, and what became of it by a call.
-use Rattle.flow_sql.specs.Names.{Tables, Database, Held, state, Row, Schema, Executes, HasCleanDisk, Shows, State, Table, IsTable, Trees, rowid, is_int, Error, Statement, created, IsSound, Checked, Parsed, Ghosts, AllByRecursion, Bool, IsTrue, List, MatchResult, codes, false, true, ℕ, [], ◌≡◌, ◌∷◌, Ok, Err, Result, ⊤, ◌⊎◌, ◌≤◌}
+use Rattle.std.specs.Prelude.{◌≡◌, ◌∷◌, ◌⊎◌, ◌≤◌}
+use Rattle.flow_sql.specs.Names.{Tables, Database, Held, state, Row, Schema, Executes, HasCleanDisk, Shows, State, Table, IsTable, Trees, rowid, is_int, Error, Statement, created, IsSound, Checked, Parsed, Ghosts, AllByRecursion, Bool, IsTrue, List, MatchResult, codes, false, true, ℕ, [], Ok, Err, Result, ⊤}
 use Rattle.sqlite_ast.specs.declared.Statement.TheVariants as written
 use Rattle.sqlite_ast.specs.declared.Conflict.TheVariants as conflict
 use Rattle.flow_sql.specs.Layout.{schema, no_schema, meta, text, run}

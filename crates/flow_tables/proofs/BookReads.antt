@@ -1,5 +1,6 @@
 -- What reads of rows tell of the book.
-use Rattle.flow_tables.proofs.Names.{Run, Book, nth, last_number, event_row, run_row, Tells, Tables, OutboxRow, RunRow, State, ints, AllByRecursion, Bool, IfErr, List, MatchResult, Option, false, map, pos, true, ℕ, IsRefused, IsStill, tables_in, ViewFault, Err, IfOk, None, Ok, Some, option_map, ℤ, ◌≡◌, [], ◌∷◌, refl, Result, ◌+◌, ◌≤◌, if◌then◌else◌, suc, zero, subst, ◌∙◌, sym, ap, arith, RecallsRun, StopsRecall, IsBelowOne, as_number, as_count}
+use Rattle.std.specs.Prelude.{◌≡◌, ◌∷◌, ◌+◌, ◌≤◌, if◌then◌else◌}
+use Rattle.flow_tables.proofs.Names.{Run, Book, nth, last_number, event_row, run_row, Tells, Tables, OutboxRow, RunRow, State, ints, AllByRecursion, Bool, IfErr, List, MatchResult, Option, false, map, pos, true, ℕ, IsRefused, IsStill, tables_in, ViewFault, Err, IfOk, None, Ok, Some, option_map, ℤ, [], refl, Result, suc, zero, subst, ◌∙◌, sym, ap, arith, RecallsRun, StopsRecall, IsBelowOne, as_number, as_count}
 use Rattle.flow_model.specs.Book.{first_from}
 use Rattle.flow_view.specs.declared.fault.ViewFault.TheVariants as view
 use Rattle.flow_rows.specs.declared.rows.EventRow.{EventRow}

@@ -1,5 +1,6 @@
 -- What stands behind a refused statement.
-use Rattle.flow_tables.proofs.Names.{Turn, Cmd, Event, Came, traces, IsReadable, AllByRecursion, Bool, IfErr, IsTrue, List, false, pos, ℕ, Refusal, Err, Ok, length, ◌≡◌, ◌∷◌, Result, ◌+◌, ◌≤◌, ◌^◌, ◌<◌, Asked, ◌↔◌, subst, ◌∙◌, sym, inl, inr, arith, Because, true≢false, IsUnfitTurn, AreUnfit}
+use Rattle.std.specs.Prelude.{◌≡◌, ◌∷◌, ◌+◌, ◌≤◌, ◌^◌, ◌<◌, ◌↔◌}
+use Rattle.flow_tables.proofs.Names.{Turn, Cmd, Event, Came, traces, IsReadable, AllByRecursion, Bool, IfErr, IsTrue, List, false, pos, ℕ, Refusal, Err, Ok, length, Result, Asked, subst, ◌∙◌, sym, inl, inr, arith, Because, true≢false, IsUnfitTurn, AreUnfit}
 use Rattle.flow_events.specs.Row.{IsWithinLimits}
 use Rattle.flow_events.specs.Body.{text_of}
 use Rattle.flow_events.specs.Kinds.{kind_number, kind_of}

@@ -1,5 +1,6 @@
 -- What tables keep true of their connection, call by call.
-use Rattle.flow_tables.proofs.Names.{Change, Book, FitsTables, Tells, after_change, Database, Executes, HasCleanDisk, State, Survives, Error, Bool, IsTrue, List, MatchResult, Option, false, true, ℕ, Changes, HasBegun, HasCommitted, HasEnded, HasTables, Holds, IsOver, IsRefused, IsStill, IsUndone, tables_in, Refusal, Known, ViewFault, Err, IfOk, None, Ok, OnOk, Some, ◌≡◌, [], refl, ◌⊎◌, Result, AreOurs, changed, subst, ◌∙◌, sym, ap, inl, inr, was_clean, book_of, IsCutShort, IsOwn, Keeps, IsKnown, TellBook, rolled_back_ended, told_answer, IsAware, HasCounted, error_leaves, IsFileOf, IsSure, KeepsOn, WasUp, ReadsBook, IsNoted}
+use Rattle.std.specs.Prelude.{◌≡◌, ◌⊎◌}
+use Rattle.flow_tables.proofs.Names.{Change, Book, FitsTables, Tells, after_change, Database, Executes, HasCleanDisk, State, Survives, Error, Bool, IsTrue, List, MatchResult, Option, false, true, ℕ, Changes, HasBegun, HasCommitted, HasEnded, HasTables, Holds, IsOver, IsRefused, IsStill, IsUndone, tables_in, Refusal, Known, ViewFault, Err, IfOk, None, Ok, OnOk, Some, [], refl, Result, AreOurs, changed, subst, ◌∙◌, sym, ap, inl, inr, was_clean, book_of, IsCutShort, IsOwn, Keeps, IsKnown, TellBook, rolled_back_ended, told_answer, IsAware, HasCounted, error_leaves, IsFileOf, IsSure, KeepsOn, WasUp, ReadsBook, IsNoted}
 use Rattle.sqlite.specs.State.{Shows, IsUnchanged, IsRolledBack}
 use Rattle.flow_tables.specs.Faults.{noted_fault}
 use Rattle.flow_rows.specs.Typed.{IsTypedChange}

@@ -1,5 +1,6 @@
 -- What stands behind E80, from call to call.
-use Rattle.flow_tables.proofs.Names.{error_leaves, IsStopped, Because, view_fault, StopsWith, refusal_of, Fault, format_sql, no_schema, Held, state, Row, Executes, HasCleanDisk, State, Survives, Error, Ghosts, IfErr, IsTrue, List, MatchResult, Option, codes, false, true, ℕ, HasCommitted, HasTables, IsOver, Refusal, StoreFault, ViewFault, SqliteFailure, Err, Ok, ◌≡◌, [], refl, ◌⊎◌, Result, ◌≢◌, ◌≤◌, OutOfMemory, QueriesRow, IsSome, FailsToQuery, subst, ◌∙◌, sym, ap, inl, inr, arith, true≢false}
+use Rattle.std.specs.Prelude.{◌≡◌, ◌⊎◌, ◌≢◌, ◌≤◌}
+use Rattle.flow_tables.proofs.Names.{error_leaves, IsStopped, Because, view_fault, StopsWith, refusal_of, Fault, format_sql, no_schema, Held, state, Row, Executes, HasCleanDisk, State, Survives, Error, Ghosts, IfErr, IsTrue, List, MatchResult, Option, codes, false, true, ℕ, HasCommitted, HasTables, IsOver, Refusal, StoreFault, ViewFault, SqliteFailure, Err, Ok, [], refl, Result, OutOfMemory, QueriesRow, IsSome, FailsToQuery, subst, ◌∙◌, sym, ap, inl, inr, arith, true≢false}
 use Rattle.std.proofs.lemmas.Bool.{cases_Bool}
 use Rattle.flow_sql.proofs.Leaves.{left_open}
 use Rattle.sqlite_disk.specs.Disk.{MoreFaults}

@@ -1,5 +1,6 @@
 -- What a stop may leave, from call to call.
-use Rattle.flow_tables.proofs.Names.{schema, Database, State, Survives, IsTrue, false, HasTables, IsOver, ◌≡◌, AreOurs, subst}
+use Rattle.std.specs.Prelude.{◌≡◌}
+use Rattle.flow_tables.proofs.Names.{schema, Database, State, Survives, IsTrue, false, HasTables, IsOver, AreOurs, subst}
 use Rattle.sqlite.specs.Tree.{Trees}
 use Rattle.sqlite.specs.State.{Opens, IsLive}
 use Rattle.sqlite.proofs.StateLemmas.{survives_then}

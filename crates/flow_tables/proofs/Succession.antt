@@ -1,5 +1,6 @@
 -- How reads follow one another.
-use Rattle.flow_tables.proofs.Names.{by_run, StoreRows, Tables, events_of, tasks_of, timers_of, OutboxRow, RunRow, State, Bool, List, MatchResult, IsRefused, IsStill, Err, Ok, ℤ, ◌≡◌, Result, ◌∙◌, inl, inr}
+use Rattle.std.specs.Prelude.{◌≡◌}
+use Rattle.flow_tables.proofs.Names.{by_run, StoreRows, Tables, events_of, tasks_of, timers_of, OutboxRow, RunRow, State, Bool, List, MatchResult, IsRefused, IsStill, Err, Ok, ℤ, Result, ◌∙◌, inl, inr}
 use Rattle.flow_rows.specs.declared.rows.TextRow.{TextRow}
 use Rattle.flow_rows.specs.declared.rows.EventRow.{EventRow}
 use Rattle.flow_rows.specs.declared.rows.TimerRow.{TimerRow}

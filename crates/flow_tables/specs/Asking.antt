@@ -1,5 +1,6 @@
 -- What is asked of the tables in one statement, and what becomes of it.
-use Rattle.flow_tables.specs.Names.{Book, first as list_first, Tables, Held, state, Row, Executes, HasCleanDisk, State, Survives, Error, Ghosts, Bool, IfErr, List, MatchResult, Option, true, ℕ, Changes, HasEnded, Holds, IsAtRest, IsRefused, IsStill, tables_in, StoreFault, ViewFault, Shown, Err, Ok, ◌≡◌, ◌⊎◌, Result, IsSome}
+use Rattle.std.specs.Prelude.{◌≡◌, ◌⊎◌}
+use Rattle.flow_tables.specs.Names.{Book, first as list_first, Tables, Held, state, Row, Executes, HasCleanDisk, State, Survives, Error, Ghosts, Bool, IfErr, List, MatchResult, Option, true, ℕ, Changes, HasEnded, Holds, IsAtRest, IsRefused, IsStill, tables_in, StoreFault, ViewFault, Shown, Err, Ok, Result, IsSome}
 use Rattle.sqlite_disk.specs.Disk.{MoreFaults}
 use Rattle.flow_view.specs.declared.fault.ViewFault.TheVariants as view
 use Rattle.flow_sql.specs.Meaning.{IsOurRead}

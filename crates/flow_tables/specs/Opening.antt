@@ -1,6 +1,7 @@
 -- What opening reads and finds, and why it is refused.
+use Rattle.std.specs.Prelude.{◌≡◌, ◌⊎◌, ◌≢◌}
 use Rattle.sqlite_disk.specs.Disk.{MoreFaults}
-use Rattle.flow_tables.specs.Names.{Fault, BadVersion, Damaged, NoMemory, NotOurs, StoreRefused, is_program, Book, first_damage, by_run, StoreRows, format_sql, Tables, Held, state, Row, Executes, State, Error, Int, Ghosts, column, AllByRecursion, Bool, List, false, pos, true, ℕ, HasEnded, StoreFault, IsReadError, QueriesRow, QueryReturnedNoRows, SqliteFailure, Err, Ok, Some, length, ℤ, ◌≡◌, [], ◌⊎◌, ◌≢◌, IsSome, ⊤}
+use Rattle.flow_tables.specs.Names.{Fault, BadVersion, Damaged, NoMemory, NotOurs, StoreRefused, is_program, Book, first_damage, by_run, StoreRows, format_sql, Tables, Held, state, Row, Executes, State, Error, Int, Ghosts, column, AllByRecursion, Bool, List, false, pos, true, ℕ, HasEnded, StoreFault, IsReadError, QueriesRow, QueryReturnedNoRows, SqliteFailure, Err, Ok, Some, length, ℤ, [], IsSome, ⊤}
 use Rattle.sqlite.specs.declared.error.ErrorCode.TheVariants as code
 use Rattle.flow_rows.specs.Rows.{rows_of}
 use Rattle.flow_rows.specs.Standing.{AreKept}

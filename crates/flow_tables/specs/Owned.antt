@@ -1,5 +1,6 @@
 -- Tables as a value of the code: the book that they hold, and what becomes of it.
-use Rattle.flow_tables.specs.Names.{Run, Book, nth, no_book, last_number, run_row, Tells, book_in, no_schema, RunRow, Held, state, HasCleanDisk, State, Ghosts, IfErr, IsTrue, MatchResult, Option, false, pos, true, ℕ, HasTables, Holds, IsOver, IsRefused, IsStill, AreOurs, tables_in, Refusal, Known, ViewFault, Err, None, Ok, Some, option_map, ℤ, ◌≡◌, refl, ◌⊎◌, Result, ◌<ℤ◌}
+use Rattle.std.specs.Prelude.{◌≡◌, ◌⊎◌, ◌<ℤ◌}
+use Rattle.flow_tables.specs.Names.{Run, Book, nth, no_book, last_number, run_row, Tells, book_in, no_schema, RunRow, Held, state, HasCleanDisk, State, Ghosts, IfErr, IsTrue, MatchResult, Option, false, pos, true, ℕ, HasTables, Holds, IsOver, IsRefused, IsStill, AreOurs, tables_in, Refusal, Known, ViewFault, Err, None, Ok, Some, option_map, ℤ, refl, Result}
 use Rattle.std.specs.Coded.{Coded, code_by, coded×, coded_option}
 use Rattle.sqlite.specs.Tree.{Trees}
 use Rattle.sqlite.specs.Held.{held_code}

@@ -1,5 +1,6 @@
 //! Rows of answers, read as what they say.
-ghost use Rattle.flow_tables.specs.Names.{Row as SqlRow, column, IfErr, map, number_at, IfOk, ◌≡◌};
+ghost use Rattle.std.specs.Prelude.{◌≡◌};
+ghost use Rattle.flow_tables.specs.Names.{Row as SqlRow, column, IfErr, map, number_at, IfOk};
 ghost use Rattle.sqlite_value.specs.Order.{bytes};
 ghost use Rattle.flow_sql.specs.Stored.{number_said, text_said, text_row_said, run_row_said, event_row_said, timer_row_said, task_row_said};
 ghost use Rattle.flow_tables.specs.Reads.{IsMisread, AreMisread};

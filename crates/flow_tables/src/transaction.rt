@@ -1,6 +1,7 @@
 //! A transaction of the store: its begin, its end, and the way back.
 
-ghost use Rattle.flow_tables.specs.Names.{state, Executes, HasCleanDisk, Survives, IfErr, IsTrue, MatchResult, codes, false, true, ℕ, HasBegun, HasCommitted, HasEnded, Holds, IsOver, IsRefused, IsStill, IsUndone, RunsTo, HasGoneBack, CommitsBy, Err, Ok, OnOk, ◌≡◌, []};
+ghost use Rattle.std.specs.Prelude.{◌≡◌};
+ghost use Rattle.flow_tables.specs.Names.{state, Executes, HasCleanDisk, Survives, IfErr, IsTrue, MatchResult, codes, false, true, ℕ, HasBegun, HasCommitted, HasEnded, Holds, IsOver, IsRefused, IsStill, IsUndone, RunsTo, HasGoneBack, CommitsBy, Err, Ok, OnOk, []};
 
 use sqlite::{Alter, Connection, Error};
 

@@ -1,4 +1,5 @@
-use Rattle.flow_tables.proofs.Names.{◌≡◌, drop, started_timer}
+use Rattle.std.specs.Prelude.{◌≡◌}
+use Rattle.flow_tables.proofs.Names.{drop, started_timer}
 use Rattle.flow_tables.proofs.known.started_timer.Given as goal
 
 abbrev pub invariant-loop-event : goal.invariant-loop-event

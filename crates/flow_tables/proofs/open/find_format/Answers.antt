@@ -1,4 +1,5 @@
-use Rattle.flow_tables.proofs.Names.{Fault, NotOurs, state, false, Err, ◌≡◌, ◌≢◌, subst, sym, ap, inl, inr}
+use Rattle.std.specs.Prelude.{◌≡◌, ◌≢◌}
+use Rattle.flow_tables.proofs.Names.{Fault, NotOurs, state, false, Err, subst, sym, ap, inl, inr}
 use Rattle.flow_tables.specs.Names.{QueryReturnedNoRows}
 use Rattle.flow_tables.specs.Opening.{opening_fault, IsOfStore, HasCause, StopsOpening}
 use Rattle.flow_sql.proofs.Finding.{answered, blank_never_reads}

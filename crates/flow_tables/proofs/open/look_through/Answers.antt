@@ -1,4 +1,5 @@
-use Rattle.flow_tables.proofs.Names.{is_program, first_damage, by_run, Tells, book_in, shown_book, false, Some, ◌≡◌, refl, subst, ◌∙◌, sym, ap}
+use Rattle.std.specs.Prelude.{◌≡◌}
+use Rattle.flow_tables.proofs.Names.{is_program, first_damage, by_run, Tells, book_in, shown_book, false, Some, refl, subst, ◌∙◌, sym, ap}
 use Rattle.std.proofs.lemmas.Result.{IfOk-at_ok, IfErr-at_err}
 use Rattle.flow_rows.specs.Standing.{StandsFor}
 use Rattle.flow_tables.specs.Opening.{IsOfOpening, HasCause}
