@@ -64,8 +64,8 @@ module _ {S : Type 0} (g : Ghosts S) where
   Lives Begin (l ∷ ls) = Begin l × IsLife l × Lives (λ m. Continues (seen l) (seen m)) ls
 
   -- What an opening over this book gave: the book, with exactly one position for each of its open runs, which stands under the
-  -- run's text; or E01, E80 or E81, and the book is kept on, and behind E80 and E81 stand the disk, a limit on steps, what the
-  -- database declined or a row that can't be read.
+  -- run's text; or E01, E80 or E81, and the book is kept on, and behind E80 and E81 stand the disk, a limit on steps or a
+  -- row that can't be read.
   abbrev pub Finds : Book → Life S → Type 0
   Finds b (Lived conn first positions last bs ds) = KeepsBook g first b × ArePositions meaning_of b positions
   Finds b (Refused conn f back) = Keeps (state g back) b × IsOfStore f × StopsOpening g (state g conn) (state g back) f

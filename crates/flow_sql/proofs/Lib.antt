@@ -8,6 +8,8 @@ pub mod Added
 pub mod Removed
 pub mod Transactions
 pub mod Compiling
+pub mod Declining
+pub mod Unmade
 pub mod Making
 pub mod Finding
 pub mod Updating

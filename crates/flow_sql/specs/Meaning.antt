@@ -57,18 +57,10 @@ IsOurRead sql params = (r : Read) × (read_sql r ≡ sql) × (read_takes r ≡ l
 abbrev pub IsOurWrite : List ℕ → Row → Type 0
 IsOurWrite sql params = (w : Write) × (write_sql w ≡ sql) × (write_takes w ≡ length params)
 
--- the seven that make the tables
-abbrev pub IsOurMaking : List ℕ → Type 0
-IsOurMaking sql = Contains (meta_sql ∷ text_sql ∷ run_sql ∷ event_sql ∷ timer_sql ∷ outbox_sql ∷ set_format_sql ∷ []) sql
-
 -- The database itself refuses the statement, as where a key would be broken, a row is too big or a query takes more steps than it may.
 abbrev pub IsDeclined : List ℕ → Row → State → Type 0
 IsDeclined sql params s =
     (stop : Option Error) × (c : Compiled) × (it : IsStatement s sql params c) × Does s.step_limit (mode_of s) (timed params c.formats it.now) s.now (text_of sql c) c.returning c.command (Err stop)
-
--- Since the first state the database refused one of the statements that make the tables.
-abbrev pub WasUnmade : {S : Type 0} → Ghosts S → State → Type 0
-WasUnmade {S} g first = (mid : Held S) × Since first (state g mid) × (sql : List ℕ) × IsOurMaking sql × IsDeclined sql [] (state g mid)
 
 ---- Questions and changes
 

@@ -7,7 +7,7 @@ use Rattle.sqlite_disk.specs.Disk.{MoreFaults}
 use Rattle.sqlite.specs.Tree.{Trees}
 use Rattle.sqlite.specs.declared.error.Error.TheVariants.{QueryReturnedNoRows}
 use Rattle.flow_view.specs.declared.fault.ViewFault.TheVariants as view
-use Rattle.flow_sql.specs.Meaning.{IsOurWrite, IsDeclined, WasUnmade}
+use Rattle.flow_sql.specs.Meaning.{IsOurWrite, IsDeclined}
 use Rattle.flow_sql.proofs.Finding.{format_refused, blank_refused}
 use Rattle.flow_base.specs.declared.fault.Fault.TheVariants as fault
 use Rattle.flow_tables.specs.Opening.{opening_fault, read_fault_of, IsCutShort, StopsRows, StopsMaking, IsHeldUp, StopsOpening}
@@ -132,9 +132,6 @@ module _ {S : Type 0} (g : Ghosts S) where
   cut_after a b c since (inr (inr (mid, after, later, over, sql, params, listed, rows, e, shown, misread))) =
       inr (inr (mid, after, since_then a b (state g mid) since later, over, sql, params, listed, rows, e, shown, misread))
 
-  unmade_after : (a b : State) → Since a b → WasUnmade g b → WasUnmade g a
-  unmade_after a b since (mid, later, sql, listed, declined) = (mid, since_then a b (state g mid) since later, sql, listed, declined)
-
   -- a question that was refused, behind others
   pub rows_stopped : (old mid new : Held S) (sql : List ℕ) (params : Row) (f : StoreFault) → Since (state g old) (state g mid) → IsOver false (state g mid) → StopsAsk sql params (state g mid) (state g new) f → StopsRows g old new f
   rows_stopped old mid new sql params NoMemory since over h = tt
@@ -151,10 +148,10 @@ module _ {S : Type 0} (g : Ghosts S) where
   pub making_stopped : (a b c d : Held S) (e : Error) → Since (state g a) (state g b) → (state g c).faults ≤ (state g d).faults → StopsMaking g b c e → StopsMaking g a d e
   making_stopped a b c d e since le h other = elim (h other) [
     | inl more ↦ inl (omega (arith, since.0, more, le))
-    | inr unmade ↦ inr (unmade_after (state g a) (state g b) since unmade)
+    | inr limit ↦ inr (subst (λ (o : Option ℕ). IsSome o) since.1 limit)
   ]
 
-  pub made_stopped : (a b c : Held S) (sql : List ℕ) (r : Result Unit Error) → Since (state g a) (state g b) → RunsTo sql (state g b) (state g c) r → ((e : Error) → e ≢ SqliteFailure OutOfMemory → Executes sql [] (state g b) (state g c) (Err e) → MoreFaults (state g b).faults (state g c).faults ⊎ WasUnmade g (state g b))
+  pub made_stopped : (a b c : Held S) (sql : List ℕ) (r : Result Unit Error) → Since (state g a) (state g b) → RunsTo sql (state g b) (state g c) r → ((e : Error) → e ≢ SqliteFailure OutOfMemory → Executes sql [] (state g b) (state g c) (Err e) → MoreFaults (state g b).faults (state g c).faults ⊎ IsSome (state g b).step_limit)
       → IfErr r (StopsMaking g a c)
   made_stopped a b c sql (Ok u) since ran so = tt
   made_stopped a b c sql (Err e) since ran so = making_stopped a b c c e since (omega arith) (λ other. so e other ran)
@@ -181,32 +178,31 @@ module _ {S : Type 0} (g : Ghosts S) where
 
   pub rows_held : (old new : Held S) (f : Fault) (r : StoreFault) → f ≡ read_fault_of r → StopsRows g old new r → StopsOpening g (state g old) (state g new) f
   rows_held old new f NoMemory is h = subst (StopsOpening g (state g old) (state g new)) (sym is) tt
-  rows_held old new f (Refused e) is h = error_held (state g old) (state g new) f e is (λ other. inr (inr h))
+  rows_held old new f (Refused e) is h = error_held (state g old) (state g new) f e is (λ other. inr h)
 
   pub rollback_held : (old new : State) (f : Fault) (e : Error) → f ≡ opening_fault e → old.in_transaction ≡ true → Executes (codes "ROLLBACK") [] old new (Err e) → StopsOpening g old new f
   rollback_held old new f e is inside h = error_held old new f e is (λ other. elim (cases_Bool old.is_open) [
-    | inl up ↦ inr (inr (inl (rollback_refused old new e other up inside h)))
+    | inl up ↦ inr (inl (rollback_refused old new e other up inside h))
     | inr shut ↦ inl shut
   ])
 
   pub making_held : (old new : Held S) (f : Fault) (e : Error) → f ≡ opening_fault e → StopsMaking g old new e → StopsOpening g (state g old) (state g new) f
   making_held old new f e is h = error_held (state g old) (state g new) f e is (λ other. elim (h other) [
-    | inl more ↦ inr (inr (inl more))
-    | inr unmade ↦ inr (inl unmade)
+    | inl more ↦ inr (inl more)
+    | inr limit ↦ inr (inr (inl limit))
   ])
 
   -- what was shut since, was so by a failure
   module _ (a b c : State) (P : Trees → Type 0) (survives : Survives a b P) (clean : HasCleanDisk b) (le : b.faults ≤ c.faults) where
     pub held_after : IsHeldUp g b c → IsHeldUp g a c
     held_after (inl shut) = elim (cases_Bool a.is_open) [
-      | inl up ↦ inr (inr (inl (elim (survives.closes clean up) [
+      | inl up ↦ inr (inl (elim (survives.closes clean up) [
         | inl still_up ↦ absurd (true≢false (sym still_up ∙ shut))
         | inr more ↦ more_yet a.faults b.faults c.faults more le
-      ])))
+      ]))
       | inr shut_before ↦ inl shut_before
     ]
-    held_after (inr (inl unmade)) = inr (inl (unmade_after a b (survived a b P survives) unmade))
-    held_after (inr (inr cut)) = inr (inr (cut_after a b c (survived a b P survives) cut))
+    held_after (inr cut) = inr (cut_after a b c (survived a b P survives) cut)
 
     pub told_after : {V : Type 0} (r : Result V Fault) → IfErr r (StopsOpening g b c) → IfErr r (StopsOpening g a c)
     told_after (Ok v) h = tt
@@ -221,18 +217,17 @@ module _ {S : Type 0} (g : Ghosts S) where
   pub held_on : {V : Type 0} (a b c : State) (r : Result V Fault) → b.faults ≤ c.faults → IsHeldUp g a b → IfErr r (StopsOpening g a c)
   held_on a b c (Ok v) le h = tt
   held_on a b c (Err f) le (inl shut) = held_told a c f (inl shut)
-  held_on a b c (Err f) le (inr (inl unmade)) = held_told a c f (inr (inl unmade))
-  held_on a b c (Err f) le (inr (inr (inl more))) = held_told a c f (inr (inr (inl (more_yet a.faults b.faults c.faults more le))))
-  held_on a b c (Err f) le (inr (inr (inr rest))) = held_told a c f (inr (inr (inr rest)))
+  held_on a b c (Err f) le (inr (inl more)) = held_told a c f (inr (inl (more_yet a.faults b.faults c.faults more le)))
+  held_on a b c (Err f) le (inr (inr rest)) = held_told a c f (inr (inr rest))
 
   -- the question for the format: over our tables, and where there are none
   module _ (old new : Held S) (e : Error) (asked : QueriesRow format_sql [] (state g old) (state g new) (Err e)) where
     ours_held : (IsTrue (state g old).is_open → HasTables (state g old).now) → e ≢ SqliteFailure OutOfMemory → IsHeldUp g (state g old) (state g new)
     ours_held has other = elim (cases_Bool (state g old).is_open) [
-      | inl up ↦ inr (inr (elim (format_refused (state g old) (state g new) e other up (has up) asked) [
+      | inl up ↦ inr (elim (format_refused (state g old) (state g new) e other up (has up) asked) [
         | inl more ↦ inl more
         | inr limit ↦ inr (inl limit)
-      ]))
+      ])
       | inr shut ↦ inl shut
     ]
 
@@ -243,7 +238,7 @@ module _ {S : Type 0} (g : Ghosts S) where
     none_held : (IsTrue (state g old).is_open → (state g old).now.schema ≡ no_schema) → (e ≡ QueryReturnedNoRows) ⊎ (opening_fault e ≢ fault.NotOurs) → e ≢ SqliteFailure OutOfMemory → IsHeldUp g (state g old) (state g new)
     none_held none told other = elim (cases_Bool (state g old).is_open) [
       | inl up ↦ elim (blank_refused (state g old) (state g new) e other up (none up) asked) [
-        | inl more ↦ inr (inr (inl more))
+        | inl more ↦ inr (inl more)
         | inr missing ↦ absurd (elim told [
           | inl no_rows ↦ (let clash = sym no_rows ∙ missing.1 in cc)
           | inr store ↦ store (ap opening_fault missing.1)

@@ -6,7 +6,6 @@ use Rattle.sqlite.specs.declared.error.ErrorCode.TheVariants as code
 use Rattle.flow_rows.specs.Rows.{rows_of}
 use Rattle.flow_rows.specs.Standing.{AreKept}
 use Rattle.flow_tables.specs.declared.fault.StoreFault.TheVariants as read
-use Rattle.flow_sql.specs.Meaning.{WasUnmade}
 use Rattle.flow_tables.specs.Faults.{WasMisread}
 use Rattle.flow_tables.specs.Reads.{IsReadFault}
 
@@ -104,13 +103,13 @@ abbrev pub StopsRows : {S : Type 0} → Ghosts S → Held S → Held S → Store
 StopsRows g first new read.NoMemory = ⊤
 StopsRows g first new (read.Refused e) = IsCutShort g (state g first) (state g new)
 
--- Making the tables stopped: the disk has failed, or the database refused one of the statements.
+-- Making the tables stopped: the disk has failed, or a limit is set on the steps of a query. The database declines none of the statements.
 abbrev pub StopsMaking : {S : Type 0} → Ghosts S → Held S → Held S → Error → Type 0
-StopsMaking g first new e = e ≢ SqliteFailure code.OutOfMemory → MoreFaults (state g first).faults (state g new).faults ⊎ WasUnmade g (state g first)
+StopsMaking g first new e = e ≢ SqliteFailure code.OutOfMemory → MoreFaults (state g first).faults (state g new).faults ⊎ IsSome (state g first).step_limit
 
 -- The one or the other, or the connection was shut.
 abbrev pub IsHeldUp : {S : Type 0} → Ghosts S → State → State → Type 0
-IsHeldUp g first new = (first.is_open ≡ false) ⊎ (WasUnmade g first ⊎ IsCutShort g first new)
+IsHeldUp g first new = (first.is_open ≡ false) ⊎ IsCutShort g first new
 
 -- So it is behind E80 and E81; the other faults have clauses of their own, and want of memory none.
 abbrev pub StopsOpening : {S : Type 0} → Ghosts S → State → State → Fault → Type 0
