@@ -7,7 +7,7 @@ use Rattle.flow_model.specs.Apply.{after, replies}
 use Rattle.flow_machine.specs.declared.submission.Taken.{Taken}
 use Rattle.flow_machine.specs.Stuck.{IsStuckWithin}
 use Rattle.flow_machine.specs.Fitting.{IsUnfitWithin}
-use Rattle.flow_tables.specs.Puts.{IsUnfit}
+use Rattle.flow_tables.specs.Puts.{IsUnfit, PassesLast}
 use Rattle.flow_view.specs.declared.fault.ViewFault.{ViewFault}
 use Rattle.flow_view.specs.declared.fault.ViewFault.TheVariants as fault
 use Rattle.flow_tables.specs.Faults.{WasStopped, HasFailed, IsCutOff}
@@ -17,7 +17,7 @@ use Rattle.flow_commit.specs.declared.outcome.Outcome.{Outcome}
 use Rattle.flow_commit.specs.declared.outcome.Outcome.TheVariants as outcomes
 use Rattle.flow_commit.specs.declared.transaction.End.{End}
 use Rattle.flow_commit.specs.declared.transaction.End.TheVariants as end
-use Rattle.flow_commit.specs.Keeping.{Keeping, rules, commands_of, HasKept, HasRefused, IsUnknown}
+use Rattle.flow_commit.specs.Keeping.{Keeping, rules, IsWell, commands_of, HasKept, HasRefused, IsUnknown}
 
 -- how a transaction has ended that was to apply commands to a book
 abbrev pub EndsAs : {S : Type 0} → Ghosts S → Stored S → Book → List Command → End → Type 0
@@ -36,6 +36,14 @@ HasReplies count (end.Unknown f) = Unit {0}
 -- Commands can't be applied to a book: one of them can't be decided there, or makes a change that doesn't fit.
 abbrev pub CantBeApplied : Book → List Command → Type 0
 CantBeApplied b cs = IsStuckWithin rules b cs ⊎ IsUnfitWithin IsUnfit rules b cs
+
+-- One of them would need a number past the last one: of a text, of a run or of an event.
+abbrev pub NumbersRunOut : Book → List Command → Type 0
+NumbersRunOut b cs = IsUnfitWithin PassesLast rules b cs
+
+-- Over a book such as commands make nothing else keeps commands from being applied.
+abbrev pub OnlyNumbersRunOut : Type 0
+OnlyNumbersRunOut = (b : Book) (cs : List Command) → IsWell b → CantBeApplied b cs → NumbersRunOut b cs
 
 -- The store refused something of a transaction, and what it had begun was rolled back.
 abbrev pub WasGivenUp : {S : Type 0} → Ghosts S → Stored S → Stored S → Type 0

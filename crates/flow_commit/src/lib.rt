@@ -4,6 +4,7 @@
 pub mod batch;
 mod deciding;
 pub mod keeper;
+pub mod laws;
 pub mod outcome;
 mod receipts;
 pub mod stamp;

@@ -1,5 +1,6 @@
 pub mod AtOnce
 pub mod Committed
+pub mod EmptyFirst
 pub mod Filling
 pub mod Found
 pub mod Gathering

@@ -15,17 +15,20 @@ use Rattle.flow_machine.specs.declared.submission.Receipt.{Receipt}
 use Rattle.flow_model.specs.Book.{Book, nth}
 use Rattle.flow_model.specs.Apply.{after, after_one, replies}
 use Rattle.flow_model.proofs.Logs.{after_cut, replies_cut, length-replies, nth_at}
-use Rattle.flow_tables.specs.Owned.{IsOurs, IsFileOf, IsFound, Keeps}
+use Rattle.flow_tables.specs.Owned.{IsOurs, IsFound}
+use Rattle.flow_view.specs.declared.fault.ViewFault.TheVariants as fault
 use Rattle.flow_commit.specs.Keeping.{Keeping, IsFit, IsWell, KeepsBook, rules, command_of, commands_of, receipt_of, receipts_of}
+use Rattle.flow_commit.proofs.RunningOut.{only_numbers}
 use Rattle.flow_recover.specs.declared.positions.Position.{Position}
-use Rattle.flow_recover.proofs.Recovering.{one_found, found_ours, kept_found, opened_found}
+use Rattle.flow_recover.specs.Recovering.{HoldBook, IsOpenedOver, StillHolds}
+use Rattle.flow_recover.proofs.Recovering.{one_found, found_ours, kept_found, held_found, well_sound}
 use Rattle.flow_engine.specs.declared.done.Done.{Done}
 use Rattle.flow_engine.specs.declared.done.Done.TheVariants as done
-use Rattle.flow_engine.specs.Driving.{AreAnswers, Drives, all_halted, gathered, kept_of, receipts_in}
-use Rattle.flow_engine.specs.Opening.{IsKeptFor, IsUnopened, Opens, StandsOver}
+use Rattle.flow_engine.specs.Driving.{AreAnswers, Drives, IsDoneFor, IsDoneOnlyFor, Passes, PassesOnly, all_halted, if_kept, gathered, kept_of, receipts_in}
+use Rattle.flow_engine.specs.Opening.{Opens}
 use Rattle.flow_engine.proofs.Found.{found_of}
 use Rattle.flow_engine.proofs.OneMore.{after_well, left_well}
-use Rattle.flow_engine.specs.Headline.{Life, Lived, Refused, seen, IsLife, Begins, Continues, Lives, Finds, IsIn, AreIn, Headline}
+use Rattle.flow_engine.specs.Headline.{Life, Lived, Refused, seen, IsLife, Begins, Continues, Lives, Finds, Works, IsIn, AreIn, Headline, OpenedBegin}
 
 ---- Places in a list
 
@@ -123,25 +126,36 @@ in_log b log before kept more is i r at =
 ---- One life
 
 module _ {S : Type 0} (g : Ghosts S) where
-  -- what the store held when it was handed in
-  over_found : (k : Book) (conn : Held S) → StandsOver g k conn → HasCleanDisk (state g conn) → IsFound (state g conn) k
-  over_found k conn (inl h) clean = opened_found (state g conn) h.0 k h.1 (h.2 clean)
-  over_found k conn (inr h) clean = kept_found (state g conn) k (h clean)
+  -- an open connection holds this book
+  abbrev pub StandsOver : Book → Held S → Type 0
+  StandsOver k conn = HasCleanDisk (state g conn) → IsTrue (state g conn).is_open × IsFound (state g conn) k
 
-  begins_found : (k : Book) (conn : Held S) (first : Keeping S) (qs : List Position) (last : Keeping S) (bs : List (List Taken)) (ds : List Done) → Begins g k (Lived conn first qs last bs ds) → HasCleanDisk (state g conn) → IsFound (state g conn) k
-  begins_found k conn first qs last bs ds (inl over) clean = over_found k conn over clean
-  begins_found k conn first qs last bs ds (inr none) clean = inr none
+  -- why a batch has ended so, over a book such as commands make
+  only_for : (old new : Keeping S) (b : Book) (batch : List Taken) (d : Done) → IsWell b → IsDoneFor g old new b batch d → IsDoneOnlyFor g old new b batch d
+  only_for old new b batch (done.Kept receipts) well h = tt
+  only_for old new b batch (done.NotApplied fault.NoMemory) well h = tt
+  only_for old new b batch (done.NotApplied fault.StoreRefused) well (inl room) = inl room
+  only_for old new b batch (done.NotApplied fault.StoreRefused) well (inr (inl cant)) = inr (inl (only_numbers b (commands_of batch) well cant))
+  only_for old new b batch (done.NotApplied fault.StoreRefused) well (inr (inr given_up)) = inr (inr given_up)
+  only_for old new b batch done.Unknown well h = h
+  only_for old new b batch done.Halted well h = tt
 
-  book_again : (k : Book) (conn : Held S) (first : Keeping S) (qs : List Position) (last : Keeping S) (bs : List (List Taken)) (ds : List Done) → Begins g k (Lived conn first qs last bs ds) → Opens g conn first → IsFit g first → KeepsBook g first k
-  book_again k conn first qs last bs ds (inl (inl h)) opens fit = (opens.again fit.1 h.0 k h.1 h.2).kept
-  book_again k conn first qs last bs ds (inl (inr h)) opens fit = (opens.closed fit.1 k h).kept
-  book_again k conn first qs last bs ds (inr none) opens fit =
+  passes_only : (old new : Keeping S) (b : Book) (bs : List (List Taken)) (ds : List Done) → IsWell b → Passes g old new b bs ds → PassesOnly g old new b bs ds
+  passes_only old new b [] [] well same = same
+  passes_only old new b [] (d ∷ ds) well none = absurd none
+  passes_only old new b (x ∷ bs) [] well none = absurd none
+  passes_only old new b (x ∷ bs) (d ∷ ds) well h =
+      (h.0, h.1, only_for old h.0 b x d well h.2, passes_only h.0 new (after rules b (if_kept x d)) bs ds (after_well b (if_kept x d) well) h.3)
+
+  -- the engine keeps the book that the store held
+  book_again : (k : Book) (conn : Held S) (first : Keeping S) → (HasCleanDisk (state g conn) → IsFound (state g conn) k) → Opens g conn first → IsFit g first → KeepsBook g first k
+  book_again k conn first held opens fit =
       let its = opens.found fit in
-      subst (KeepsBook g first) (one_found (state g conn) its.book k its.found (inr none)) its.kept
+      subst (KeepsBook g first) (one_found (state g conn) its.book k its.found (held (opens.clean fit.1))) its.kept
 
   -- the book that the next life begins over, of the part that this one put into the log
   abbrev pub Next : Book → Life S → Life S → Type 0
-  Next k l m = (part : List Command) × ((part ≡ (seen l).kept) ⊎ (part ≡ (seen l).kept ++ (seen l).hand)) × IsWell (after rules k part) × StandsOver g (after rules k part) (seen m).conn
+  Next k l m = (part : List Command) × ((part ≡ (seen l).kept) ⊎ (part ≡ (seen l).kept ++ (seen l).hand)) × IsWell (after rules k part) × StandsOver (after rules k part) (seen m).conn
 
   -- what its batches were answered
   abbrev pub IsAnswered : Book → Life S → Type 0
@@ -150,62 +164,70 @@ module _ {S : Type 0} (g : Ghosts S) where
 
   pub record Step (k : Book) (l : Life S) : Type 0 where
     pub found : Finds g k l
+    pub works : Works g k l
     pub answered : IsAnswered k l
-    pub left : (db : Trees) → (state g (seen l).last).may_leave db → (commands : List Command) × ((commands ≡ (seen l).kept) ⊎ (commands ≡ (seen l).kept ++ (seen l).hand)) × IsFileOf db (after rules k commands)
+    pub left : (db : Trees) → (state g (seen l).last).may_leave db → (commands : List Command) × ((commands ≡ (seen l).kept) ⊎ (commands ≡ (seen l).kept ++ (seen l).hand)) × HoldBook db (after rules k commands)
     pub told : (i : ℕ) (r : Receipt) → slice_get (seen l).receipts i ≡ Some r → IsAt 0 k (seen l).kept i r
     pub next : (m : Life S) → Continues g (seen l) (seen m) → ∥ Next k l m ∥₁
 
-  handed_back : (k : Book) (held conn : Held S) → conn ≡ held → IsTrue (state g held).is_open → Keeps (state g held) k → StandsOver g k conn
-  handed_back k held conn same up kept = inr (λ _. (subst (λ (h : Held S). IsTrue (state g h).is_open) (sym same) up, subst (λ (h : Held S). Keeps (state g h) k) (sym same) kept))
+  opened_again : (k : Book) (db : Trees) (conn : Held S) → HoldBook db k → (HasCleanDisk (state g conn) → IsOpenedOver (state g conn) db) → StandsOver k conn
+  opened_again k db conn holds opened clean = let over = opened clean in (over.opens.is_open, held_found (state g conn) db k holds over)
+
+  handed_back : (k : Book) (held conn : Held S) → conn ≡ held → IsTrue (state g held).is_open → IsFound (state g held) k → StandsOver k conn
+  handed_back k held conn same up found clean = (subst (λ (h : Held S). IsTrue (state g h).is_open) (sym same) up, subst (λ (h : Held S). IsFound (state g h) k) (sym same) found)
 
   next_lived : (k : Book) (conn : Held S) (first : Keeping S) (qs : List Position) (last : Keeping S) (bs : List (List Taken)) (ds : List Done) → IsWell k → Drives g first last k bs ds
       → (m : Life S) → Continues g (seen (Lived conn first qs last bs ds)) (seen m) → ∥ Next k (Lived conn first qs last bs ds) m ∥₁
   next_lived k conn first qs last bs ds well drives m (inl stopped) = ∥∥₁_map stopped (λ s.
       let left = left_well g first last k bs ds well drives s.0 s.1 in
-      (left.commands, left.are, left.well, inl (s.0, left.file, s.2)))
+      (left.commands, left.are, left.well, opened_again (after rules k left.commands) s.0 (seen m).conn (inl left.file) s.2))
   next_lived k conn first qs last bs ds well drives m (inr closed) =
-      ∣ (kept_of bs ds, inl refl, after_well k (kept_of bs ds) well, handed_back (after rules k (kept_of bs ds)) last.stored.held (seen m).conn closed.0 closed.1 (drives.leads.still closed.1)) ∣₁
+      let over = after rules k (kept_of bs ds) in
+      let found = kept_found (state g last.stored.held) over (closed.1, drives.leads.still closed.1) in
+      ∣ (kept_of bs ds, inl refl, after_well k (kept_of bs ds) well, handed_back over last.stored.held (seen m).conn closed.0 closed.1 found) ∣₁
 
-  kept_for : (k : Book) (conn back : Held S) (f : Fault) → StandsOver g k conn → HasCleanDisk (state g back) → IsUnopened g (state g conn) (state g back) f → IsKeptFor (state g back) k f
-  kept_for k conn back f (inl h) clean told = told.again clean h.0 k h.1 h.2
-  kept_for k conn back f (inr h) clean told = told.closed clean k h
-
-  next_refused : (k : Book) (conn back : Held S) (f : Fault) → IsWell k → Keeps (state g back) k → (m : Life S) → Continues g (seen (Refused conn f back)) (seen m) → ∥ Next k (Refused conn f back) m ∥₁
-  next_refused k conn back f well kept m (inl stopped) = ∥∥₁_map stopped (λ s. ([], inl refl, well, inl (s.0, kept.stops s.0 s.1, s.2)))
-  next_refused k conn back f well kept m (inr closed) = ∣ ([], inl refl, well, handed_back k back (seen m).conn closed.0 closed.1 kept) ∣₁
+  next_refused : (k : Book) (conn back : Held S) (f : Fault) → IsWell k → StillHolds (state g conn) (state g back) k → (m : Life S) → Continues g (seen (Refused conn f back)) (seen m) → ∥ Next k (Refused conn f back) m ∥₁
+  next_refused k conn back f well holds m (inl stopped) = ∥∥₁_map stopped (λ s. ([], inl refl, well, opened_again k s.0 (seen m).conn (holds.stops s.0 s.1) s.2))
+  next_refused k conn back f well holds m (inr closed) = ∣ ([], inl refl, well, handed_back k back (seen m).conn closed.0 closed.1 (holds.found closed.1)) ∣₁
 
   pub stepped : (k : Book) (l : Life S) → IsWell k → Begins g k l → IsLife g l → Step k l
   stepped k (Lived conn first qs last bs ds) well begin (clean, opens, has, runs) =
-      let held = begins_found k conn first qs last bs ds begin in
-      let ours : IsOurs (state g conn) = found_ours (state g conn) k held in
+      let ours : IsOurs (state g conn) = found_ours (state g conn) k begin in
       let fit : IsFit g last = (subst (λ (h : Held S). IsOurs (state g h)) (sym (runs.opened ∙ opens.opened)) ours, clean) in
       let before = runs.fit fit in
-      let keeps = book_again k conn first qs last bs ds begin opens before in
+      let keeps = book_again k conn first begin opens before in
       let drives = runs.drives fit k keeps opens.anew.1 in
-      let its = subst (λ (h : Held S). IsFound (state g h) k) (sym opens.opened) (held (opens.clean before.1)) in
+      let its = subst (λ (h : Held S). IsFound (state g h) k) (sym opens.opened) (begin (opens.clean before.1)) in
       let answers = subst (λ n. AreAnswers n k bs ds) opens.anew.0 drives.answers in
       record {
         found = (keeps, found_of g first qs k (has before) its);
+        works = passes_only first last k bs ds well drives.passes;
         answered = answers;
-        left = λ db may. (let left = left_well g first last k bs ds well drives db may in (left.commands, left.are, left.file));
+        left = λ db may. (let left = left_well g first last k bs ds well drives db may in (left.commands, left.are, inl left.file));
         told = answer_at 0 k bs ds answers;
         next = next_lived k conn first qs last bs ds well drives;
       }
   stepped k (Refused conn f back) well begin (clean, told) =
-      let its = kept_for k conn back f begin clean told in
+      let its = told.holds clean k begin in
+      let held = λ (was : HasCleanDisk (state g conn)). (begin was).1 in
       record {
-        found = (its.kept, its.own well, told.why clean (found_ours (state g conn) k (over_found k conn begin)));
+        found = (its, told.own clean (λ was. well_sound (state g conn) k (held was) well), told.why clean (found_ours (state g conn) k held));
+        works = tt;
         answered = tt;
-        left = λ db may. ([], inl refl, its.kept.stops db may);
+        left = λ db may. ([], inl refl, its.stops db may);
         told = λ i r e. absurd (none-some r e);
-        next = next_refused k conn back f well its.kept;
+        next = next_refused k conn back f well its;
       }
 
   ---- All of them
 
-  pub begins_over : (k : Book) (m : Life S) → StandsOver g k (seen m).conn → Begins g k m
-  begins_over k (Lived conn first qs last bs ds) over = inl over
+  pub begins_over : (k : Book) (m : Life S) → StandsOver k (seen m).conn → Begins g k m
+  begins_over k (Lived conn first qs last bs ds) over = λ clean. (over clean).1
   begins_over k (Refused conn f back) over = over
+
+  pub opened_begin : OpenedBegin g
+  opened_begin b l (inl h) = begins_over b l (opened_again b h.0 (seen l).conn h.1 h.2)
+  opened_begin b l (inr h) = begins_over b l (λ clean. ((h clean).0, kept_found (state g (seen l).conn) b (h clean)))
 
   -- the log begins with what stands before these lives
   log_before : (b : Book) (log before : List Command) (ls : List (Life S)) → AreIn g b log before ls → (more : List Command) × (log ≡ before ++ more)
@@ -225,6 +247,7 @@ module _ {S : Type 0} (g : Ghosts S) where
       is ∙ append_assoc before part more ∙ ap (λ p. before ++ (p ++ more)) x.1 ∙ ap (λ p. before ++ p) (append_assoc (seen l).kept x.0 more) in
       record {
         found = step.found;
+        works = step.works;
         whole = whole;
         receipts = λ i r e. in_log b log before (seen l).kept (x.0 ++ more) all i r (step.told i r e);
       }
@@ -239,7 +262,7 @@ module _ {S : Type 0} (g : Ghosts S) where
       ∥∥₁_elim (step.next m rest.0) squash₁ (λ next.
       let part = next.0 in
       let same : after rules b (before ++ part) ≡ after rules (after rules b before) part = after_cut rules b before part in
-      let over = begins_over (after rules b (before ++ part)) m (subst (λ k. StandsOver g k (seen m).conn) (sym same) next.3) in
+      let over = begins_over (after rules b (before ++ part)) m (subst (λ k. StandsOver k (seen m).conn) (sym same) next.3) in
       ∥∥₁_map (all_in b (before ++ part) m ls (subst IsWell (sym same) next.2) over rest.1 rest.2) (λ tail.
       let more = log_before b tail.0 (before ++ part) (m ∷ ls) tail.1 in
       (tail.0, (part, is_in b tail.0 before part more.0 l step next.1 more.1, tail.1))))

@@ -15,18 +15,16 @@ use Rattle.flow_model.proofs.Logs.{after_cut, replies_cut, length-replies}
 use Rattle.flow_model.specs.World.{Stage, Idle, Writing, Committing, Halted, World, first, Step, Submit, Take, WriteFails, CommitBegins, CommitDone, CommitFails, Publish, Crash, Reopen, taken, stopped, batch_limit, receipts_from, Comes, IsSafe, WorldIsSafe}
 use Rattle.flow_model.specs.World as world
 use Rattle.flow_model.specs.Sound.{IsSound}
-use Rattle.flow_rows.proofs.Telling.{told}
-use Rattle.flow_tables.specs.Stored.{tables_in}
 use Rattle.flow_commit.specs.Keeping.{IsWell, rules, command_of, commands_of, receipt_of, receipts_of}
+use Rattle.flow_recover.proofs.Recovering.{one_held}
 use Rattle.flow_engine.specs.declared.done.Done.{Done}
 use Rattle.flow_engine.specs.declared.done.Done.TheVariants as done
 use Rattle.flow_engine.specs.Driving.{AreAnswers, all_halted, kept_of, in_hand, receipts_told}
 use Rattle.flow_engine.specs.Headline.{Life, Lived, Refused, seen, IsLife, Begins, Continues, Lives}
-use Rattle.flow_engine.specs.Opening.{StandsOver}
 use Rattle.flow_engine.specs.Worlds.{given_at, IsTakenAtOnce, AreGathered, EndsIn, AreSteps, LivesAreSteps}
 use Rattle.flow_engine.proofs.Gathering.{none_kept_of_halted, no_hand_of_halted}
 use Rattle.flow_engine.proofs.Lives as lives
-use Rattle.flow_engine.proofs.Lives.{IsAnswered}
+use Rattle.flow_engine.proofs.Lives.{IsAnswered, StandsOver}
 use Rattle.flow_engine.proofs.Same.{Decided, same_book}
 
 ---- Lists
@@ -315,9 +313,9 @@ module _ {S : Type 0} (g : Ghosts S) (safe : WorldIsSafe rules) (b : Book) (soun
       log = w.log_is;
       batch = w.batch_is;
       receipts = w.receipts_are;
-      may = λ db k leaves file. (
+      may = λ db k leaves holds. (
           let left = step.left db leaves in
-          let same : after rules (after rules b log) left.0 ≡ k = sym (told (tables_in db) (after rules (after rules b log) left.0) left.2.tells) ∙ told (tables_in db) k file.tells in
+          let same : after rules (after rules b log) left.0 ≡ k = one_held db (after rules (after rules b log) left.0) k left.2 holds in
           subst (Contains w.may1) same
           (in_may b w.log1 w.batch1 w.may1 (length log) w.receipts1 w.stage1 w.has w.whole (after rules (after rules b log) left.0)
           (left_by log may rs (seen l).kept (seen l).hand (seen l).receipts w left.0 left.1)));

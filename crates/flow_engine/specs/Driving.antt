@@ -11,8 +11,9 @@ use Rattle.flow_machine.specs.declared.submission.Receipt.{Receipt}
 use Rattle.sqlite.specs.Tree.{Trees}
 use Rattle.flow_tables.specs.Owned.{state_of, IsFileOf, LeavesEither}
 use Rattle.flow_view.specs.declared.fault.ViewFault.{ViewFault}
+use Rattle.flow_view.specs.declared.fault.ViewFault.TheVariants as fault
 use Rattle.flow_commit.specs.Keeping.{Keeping, rules, IsFit, IsUp, IsWell, KeepsBook, HasKept, HasRefused, IsUnknown, commands_of, receipts_of}
-use Rattle.flow_commit.specs.Committing.{IsFor}
+use Rattle.flow_commit.specs.Committing.{HasNoRoom, IsFor, NumbersRunOut, WasCutOff, WasGivenUp}
 use Rattle.flow_commit.specs.declared.outcome.Outcome.TheVariants as outcomes
 use Rattle.flow_engine.specs.declared.done.Done.{Done}
 use Rattle.flow_engine.specs.declared.done.Done.TheVariants as done
@@ -30,6 +31,14 @@ IsDoneFor g old new b batch (done.Kept receipts) = Unit {0}
 IsDoneFor g old new b batch (done.NotApplied f) = IsFor g old new b batch (outcomes.NotApplied batch f)
 IsDoneFor g old new b batch done.Unknown = (f : ViewFault) × IsFor g old new b batch (outcomes.Unknown batch f)
 IsDoneFor g old new b batch done.Halted = Unit {0}
+
+-- The same over a book such as commands make, where a batch can't be applied only where the numbers run out.
+abbrev pub IsDoneOnlyFor : {S : Type 0} → Ghosts S → Keeping S → Keeping S → Book → List Taken → Done → Type 0
+IsDoneOnlyFor g old new b batch (done.Kept receipts) = Unit {0}
+IsDoneOnlyFor g old new b batch (done.NotApplied fault.NoMemory) = Unit {0}
+IsDoneOnlyFor g old new b batch (done.NotApplied fault.StoreRefused) = HasNoRoom old.kept batch ⊎ (NumbersRunOut b (commands_of batch) ⊎ WasGivenUp g old.stored new.stored)
+IsDoneOnlyFor g old new b batch done.Unknown = (f : ViewFault) × WasCutOff g old.stored new.stored f
+IsDoneOnlyFor g old new b batch done.Halted = Unit {0}
 
 -- What is noted of a batch, whatever the disk tells: one that is kept is counted and has a receipt for each command, and behind
 -- one of which nobody knows the engine has halted.
@@ -118,13 +127,20 @@ receipts_told batches ds = gathered receipts_in batches ds
 abbrev pub replies_of : List (List Taken) → List Done → List Reply
 replies_of batches ds = gathered replies_in batches ds
 
--- From engine to engine: what each batch has done over the book that those before it left, and why it has.
+-- From engine to engine: what each batch has done over the book that those before it left, and why it has, in these words.
+abbrev pub PassesBy : {S : Type 0} → Ghosts S → (Keeping S → Keeping S → Book → List Taken → Done → Type 0) → Keeping S → Keeping S → Book → List (List Taken) → List Done → Type 0
+PassesBy g why old new b [] [] = new ≡ old
+PassesBy g why old new b [] (d ∷ ds) = ⊥
+PassesBy g why old new b (batch ∷ batches) [] = ⊥
+PassesBy {S} g why old new b (batch ∷ batches) (d ∷ ds) =
+    (mid : Keeping S) × HasDone g old mid b batch d × why old mid b batch d × PassesBy g why mid new (after rules b (if_kept batch d)) batches ds
+
 abbrev pub Passes : {S : Type 0} → Ghosts S → Keeping S → Keeping S → Book → List (List Taken) → List Done → Type 0
-Passes g old new b [] [] = new ≡ old
-Passes g old new b [] (d ∷ ds) = ⊥
-Passes g old new b (batch ∷ batches) [] = ⊥
-Passes {S} g old new b (batch ∷ batches) (d ∷ ds) =
-    (mid : Keeping S) × HasDone g old mid b batch d × IsDoneFor g old mid b batch d × Passes g mid new (after rules b (if_kept batch d)) batches ds
+Passes g old new b batches ds = PassesBy g (IsDoneFor g) old new b batches ds
+
+-- and from a book such as commands make
+abbrev pub PassesOnly : {S : Type 0} → Ghosts S → Keeping S → Keeping S → Book → List (List Taken) → List Done → Type 0
+PassesOnly g old new b batches ds = PassesBy g (IsDoneOnlyFor g) old new b batches ds
 
 ---- What is noted of them, whatever the disk tells
 

@@ -9,21 +9,19 @@ use Rattle.flow_base.specs.declared.fault.Fault.{Fault}
 use Rattle.flow_check.specs.Language.{meaning_of}
 use Rattle.flow_machine.specs.declared.submission.Taken.{Taken}
 use Rattle.flow_machine.specs.declared.submission.Receipt.{Receipt}
-use Rattle.flow_model.specs.Book.{Book, no_book, nth}
+use Rattle.flow_model.specs.Book.{Book, nth}
 use Rattle.flow_model.specs.Apply.{after, replies}
-use Rattle.flow_tables.specs.Layout.{no_schema}
 use Rattle.flow_tables.specs.Opening.{IsOfStore, StopsOpening}
-use Rattle.flow_tables.specs.Owned.{Keeps, state_of}
+use Rattle.flow_tables.specs.Owned.{IsFound, Keeps, state_of}
 use Rattle.flow_commit.specs.Keeping.{Keeping, IsFit, IsWell, KeepsBook, rules}
 use Rattle.flow_recover.specs.declared.positions.Position.{Position}
 use Rattle.flow_recover.specs.Positions.{ArePositions}
-use Rattle.flow_recover.specs.Recovering.{IsOpenedOver}
+use Rattle.flow_recover.specs.Recovering.{HoldBook, IsOpenedOver, StillHolds}
 use Rattle.flow_engine.specs.declared.done.Done.{Done}
-use Rattle.flow_engine.specs.Driving.{Runs, in_hand, kept_of, receipts_told}
-use Rattle.flow_engine.specs.Opening.{HasFound, IsUnopened, Opens, StandsOver}
+use Rattle.flow_engine.specs.Driving.{PassesOnly, Runs, in_hand, kept_of, receipts_told}
+use Rattle.flow_engine.specs.Opening.{HasFound, IsUnopened, Opens}
 
--- A life: an engine was opened over a connection and handed out positions, drove batches, and stood so when it was stopped or
--- closed; or its opening was refused.
+-- A life: an engine was opened, handed out positions and drove batches until it was stopped or closed; or its opening was refused.
 pub data Life (S : Type 0) : Type 0 where
   Lived : (conn : Held S) (first : Keeping S) (positions : List Position) (last : Keeping S) (batches : List (List Taken)) (dones : List Done) → Life S
   Refused : (conn : Held S) (f : Fault) (back : Held S) → Life S
@@ -48,10 +46,10 @@ module _ {S : Type 0} (g : Ghosts S) where
       HasCleanDisk (state_of g last.stored) × Opens g conn first × (IsFit g first → HasFound g first positions) × Runs g first last bs ds
   IsLife (Refused conn f back) = HasCleanDisk (state g back) × IsUnopened g (state g conn) (state g back) f
 
-  -- It begins over a connection with this book or, where it is opened, over one without tables.
+  -- It begins over a connection that holds this book in our tables, or the empty one in none; one that is refused is open.
   abbrev pub Begins : Book → Life S → Type 0
-  Begins b (Lived conn first positions last bs ds) = StandsOver g b conn ⊎ (((state g conn).committed.schema ≡ no_schema) × (b ≡ no_book))
-  Begins b (Refused conn f back) = StandsOver g b conn
+  Begins b (Lived conn first positions last bs ds) = HasCleanDisk (state g conn) → IsFound (state g conn) b
+  Begins b (Refused conn f back) = HasCleanDisk (state g conn) → IsTrue (state g conn).is_open × IsFound (state g conn) b
 
   -- The next life begins over trees that a stop of this one may leave, or over the connection that closing it gave back.
   abbrev pub Continues : Seen S → Seen S → Type 0
@@ -63,16 +61,21 @@ module _ {S : Type 0} (g : Ghosts S) where
   Lives Begin [] = Unit {0}
   Lives Begin (l ∷ ls) = Begin l × IsLife l × Lives (λ m. Continues (seen l) (seen m)) ls
 
-  -- What an opening over this book gave: the book, with exactly one position for each of its open runs, which stands under the
-  -- run's text; or E01, E80 or E81, and the book is kept on, and behind E80 and E81 stand the disk, a limit on steps or a
-  -- row that can't be read.
+  -- What an opening over this book gave: the book, with exactly one position, which stands, for each of its open runs; or E01, E80 or
+  -- E81: the book is held on, in no tables only where there were none, and why E80 or E81 is told.
   abbrev pub Finds : Book → Life S → Type 0
   Finds b (Lived conn first positions last bs ds) = KeepsBook g first b × ArePositions meaning_of b positions
-  Finds b (Refused conn f back) = Keeps (state g back) b × IsOfStore f × StopsOpening g (state g conn) (state g back) f
+  Finds b (Refused conn f back) = StillHolds (state g conn) (state g back) b × IsOfStore f × StopsOpening g (state g conn) (state g back) f
+
+  -- What each batch has done, and why: behind E80 of one that isn't applied stands the store, or numbers that have run out.
+  abbrev pub Works : Book → Life S → Type 0
+  Works b (Lived conn first positions last bs ds) = PassesOnly g first last b bs ds
+  Works b (Refused conn f back) = Unit {0}
 
   -- A life's place in the log, behind the commands before it: what it committed, and its batch in hand whole or not at all.
   pub record IsIn (b : Book) (log before part : List Command) (l : Life S) : Type 0 where
     pub found : Finds (after rules b before) l
+    pub works : Works (after rules b before) l
     pub whole : (part ≡ (seen l).kept) ⊎ (part ≡ (seen l).kept ++ (seen l).hand)
     pub receipts : (i : ℕ) (r : Receipt) → slice_get (seen l).receipts i ≡ Some r
         → (nth log (length before + r.place) ≡ Some r.command) × (nth (replies rules b log) (length before + r.place) ≡ Some r.reply)
@@ -80,6 +83,13 @@ module _ {S : Type 0} (g : Ghosts S) where
   abbrev pub AreIn : Book → List Command → List Command → List (Life S) → Type 0
   AreIn b log before [] = before ≡ log
   AreIn b log before (l ∷ ls) = (part : List Command) × IsIn b log before part l × AreIn b log (before ++ part) ls
+
+  -- A life may begin over a connection that was opened over trees with a book or over none, or handed back while the book was kept.
+  abbrev pub OpenedBegin : Type 0
+  OpenedBegin = (b : Book) (l : Life S)
+      → ((db : Trees) × HoldBook db b × (HasCleanDisk (state g (seen l).conn) → IsOpenedOver (state g (seen l).conn) db))
+      ⊎ (HasCleanDisk (state g (seen l).conn) → IsTrue (state g (seen l).conn).is_open × Keeps (state g (seen l).conn) b)
+      → Begins b l
 
   -- Several calls in one life are as one.
   abbrev pub CallsJoin : Type 0

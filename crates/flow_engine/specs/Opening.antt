@@ -1,7 +1,6 @@
 -- What the opening of the engine gives, and why it is refused.
-use Rattle.std.specs.Prelude.{◌≡◌, ◌⊎◌, ℕ, false, List, IsTrue}
+use Rattle.std.specs.Prelude.{◌≡◌, ℕ, false, List, IsTrue}
 use Rattle.sqlite_trees.specs.declared.store.Store.{Ghosts}
-use Rattle.sqlite.specs.Tree.{Trees}
 use Rattle.sqlite.specs.State.{State, HasCleanDisk}
 use Rattle.sqlite.specs.Held.{Held, state}
 use Rattle.flow_base.specs.declared.book.Run.{Run}
@@ -10,13 +9,13 @@ use Rattle.flow_base.specs.declared.fault.Fault.TheVariants as fault
 use Rattle.flow_check.specs.Language.{meaning_of}
 use Rattle.flow_model.specs.Book.{Book}
 use Rattle.flow_tables.specs.Opening.{HasCause, HasOtherFormat, IsFirstDamage, IsOfStore, StopsOpening}
-use Rattle.flow_tables.specs.Owned.{IsFileOf, IsFound, IsOurs, Keeps, LeavesMade, state_of}
+use Rattle.flow_tables.specs.Owned.{IsFound, IsOurs, LeavesMade, state_of}
 use Rattle.flow_tables.specs.States.{HasTables}
 use Rattle.flow_tables.specs.Stored.{tables_in}
-use Rattle.flow_commit.specs.Keeping.{Keeping, IsFit, IsWell, KeepsBook}
+use Rattle.flow_commit.specs.Keeping.{Keeping, IsFit, KeepsBook}
 use Rattle.flow_recover.specs.declared.positions.Position.{Position}
 use Rattle.flow_recover.specs.Positions.{ArePositions, IsOpenRun, IsStanding}
-use Rattle.flow_recover.specs.Recovering.{HoldsSound, IsLeft, IsOfRecovery, IsOpenedOver}
+use Rattle.flow_recover.specs.Recovering.{HoldsSound, IsLeft, IsOfRecovery, StillHolds}
 
 -- each open run of the book stands under its text
 abbrev pub AllStand : Book → Type 0
@@ -42,12 +41,6 @@ pub record KeepsAgain {S : Type 0} (g : Ghosts S) (k : Keeping S) (b : Book) : T
   pub kept : KeepsBook g k b
   pub stands : AllStand b
 
--- A refusal over a book that is there: the book is kept on, so a stop leaves it again, and where it is one such as commands make
--- the store has failed or isn't ours.
-pub record IsKeptFor (to : State) (b : Book) (f : Fault) : Type 0 where
-  pub kept : Keeps to b
-  pub own : IsWell b → IsOfStore f
-
 -- What is told of a store that wasn't opened, which was and is in these states.
 pub record IsUnopened {S : Type 0} (g : Ghosts S) (from to : State) (f : Fault) : Type 0 where
   -- E01, E68 and E80 to E83 alone are told: E82 and E83 only where the tables say so.
@@ -55,7 +48,7 @@ pub record IsUnopened {S : Type 0} (g : Ghosts S) (from to : State) (f : Fault) 
   pub version : HasCleanDisk to → f ≡ fault.BadVersion → HasOtherFormat g to
   pub damaged : HasCleanDisk to → (HasCleanDisk from → HasTables from.committed) → IsFirstDamage (tables_in from.committed.trees) f
   pub cause : HasCleanDisk to → HasCause g f
-  -- Over our tables, or none, E80 and E81 come of the disk, of a limit on steps or of a row that can't be read.
+  -- Over our tables, or none, E80 and E81 come of the disk, of a limit on steps or of a text that isn't UTF-8.
   pub why : HasCleanDisk to → IsOurs from → StopsOpening g from to f
   -- The store is as it was, or the book that was found is kept, and E68 names its least run that doesn't replay.
   pub left : HasCleanDisk to → IsLeft from to f
@@ -63,9 +56,9 @@ pub record IsUnopened {S : Type 0} (g : Ghosts S) (from to : State) (f : Fault) 
   pub own : HasCleanDisk to → (HasCleanDisk from → HoldsSound from) → IsOfStore f
   -- A stop leaves what it could leave before, or the tables made for the book that was found.
   pub stops : HasCleanDisk to → (b : Book) → (HasCleanDisk from → IsFound from b) → HasCleanDisk from × LeavesMade from to b
-  -- Over what a stop left of a book, or over a connection that was closed while it kept the book.
-  pub again : HasCleanDisk to → (db : Trees) (b : Book) → IsFileOf db b → (HasCleanDisk from → IsOpenedOver from db) → IsKeptFor to b f
-  pub closed : HasCleanDisk to → (b : Book) → (HasCleanDisk from → IsTrue from.is_open × Keeps from b) → IsKeptFor to b f
+  -- Over an open connection that held a book it is held on: over what a stop left of one, over a connection that was closed while
+  -- it kept one, and over a store without tables.
+  pub holds : HasCleanDisk to → (b : Book) → (HasCleanDisk from → IsTrue from.is_open × IsFound from b) → StillHolds from to b
 
 ---- A life's beginning
 
@@ -75,11 +68,3 @@ pub record Opens {S : Type 0} (g : Ghosts S) (conn : Held S) (first : Keeping S)
   pub clean : HasCleanDisk (state_of g first.stored) → HasCleanDisk (state g conn)
   pub anew : (first.kept ≡ 0) × (first.halted ≡ false)
   pub found : IsFit g first → IsOpened g (state g conn) first
-  pub again : HasCleanDisk (state_of g first.stored) → (db : Trees) (b : Book) → IsFileOf db b → (HasCleanDisk (state g conn) → IsOpenedOver (state g conn) db) → KeepsAgain g first b
-  pub closed : HasCleanDisk (state_of g first.stored) → (b : Book) → (HasCleanDisk (state g conn) → IsTrue (state g conn).is_open × Keeps (state g conn) b) → KeepsAgain g first b
-
--- A connection over this book: it was opened over a file of it, or handed back while the book was kept.
-abbrev pub StandsOver : {S : Type 0} → Ghosts S → Book → Held S → Type 0
-StandsOver g b conn =
-    ((db : Trees) × IsFileOf db b × (HasCleanDisk (state g conn) → IsOpenedOver (state g conn) db))
-    ⊎ (HasCleanDisk (state g conn) → IsTrue (state g conn).is_open × Keeps (state g conn) b)

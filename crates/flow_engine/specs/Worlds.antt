@@ -10,8 +10,8 @@ use Rattle.flow_model.specs.Apply.{after}
 use Rattle.flow_model.specs.Book.{Book}
 use Rattle.flow_model.specs.World.{World, Step, Crash, Reopen, Comes, IsSafe, batch_limit, first}
 use Rattle.flow_model.specs.World as world
-use Rattle.flow_tables.specs.Owned.{IsFileOf}
 use Rattle.flow_commit.specs.Keeping.{IsWell, rules}
+use Rattle.flow_recover.specs.Recovering.{HoldBook}
 use Rattle.flow_engine.specs.Headline.{Life, Lived, Refused, seen, Begins, Finds, Lives}
 
 -- a receipt of a life that was opened behind so many commands, as the world gives it
@@ -34,7 +34,7 @@ module _ {S : Type 0} (g : Ghosts S) where
     pub log : w.log ≡ v.log ++ (seen l).kept
     pub batch : w.batch ≡ (seen l).hand
     pub receipts : w.receipts ≡ v.receipts ++ map (given_at (length v.log)) (seen l).receipts
-    pub may : (db : Trees) (b : Book) → (state g (seen l).last).may_leave db → IsFileOf db b → Contains w.may b
+    pub may : (db : Trees) (b : Book) → (state g (seen l).last).may_leave db → HoldBook db b → Contains w.may b
     pub safe : IsSafe rules w
 
   -- Lives are steps of the world: each finds the book of the world in which it begins, and does steps; then it is stopped, and the

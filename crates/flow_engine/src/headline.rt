@@ -1,5 +1,5 @@
 //! The headline, as laws of every store.
-ghost use Rattle.flow_engine.specs.Headline.{CallsJoin, Headline};
+ghost use Rattle.flow_engine.specs.Headline.{CallsJoin, Headline, OpenedBegin};
 ghost use Rattle.flow_engine.specs.Stopping.{StopContinues};
 ghost use Rattle.flow_engine.specs.Worlds.{LivesAreSteps};
 
@@ -13,6 +13,12 @@ use sqlite_disk::Disk;
 /// at its place with its reply. No opening over such a book is refused for what the store holds.
 pub fn lives_make_one_log<S: Alter>()
     ensures { Headline S.Store }
+{}
+
+/// A life may begin over what a connection was opened over: a file with a book, or a store that is empty or was stopped while its
+/// tables were being made, also where its opening is refused.
+pub fn opened_stores_begin<S: Alter>()
+    ensures { OpenedBegin S.Store }
 {}
 
 /// Batches that were answered in several calls of one life were answered as in one.

@@ -6,6 +6,8 @@ pub mod Waiting
 pub mod Holding
 pub mod Reading
 pub mod Unstuck
+pub mod Unnumbered
+pub mod Welcomed
 pub mod Sticking
 pub mod Places
 pub mod Tasks

@@ -84,16 +84,20 @@ turn_attempts r t w h =
 abbrev pub events_of : List Task → List ℕ
 events_of ts = map (λ (t : Task). t.event) ts
 
-pub kept_events : (n : ℕ) (ts : List Task) → events_of (without n ts) ≡ filter (λ m. not (nat_eq m n)) (events_of ts)
-kept_events n [] = refl
-kept_events n (t ∷ ts) =
-    elim (not (nat_eq t.event n)) as (λ b. events_of (if b then t ∷ without n ts else without n ts) ≡ (if b then t.event ∷ filter (λ m. not (nat_eq m n)) (events_of ts) else filter (λ m. not (nat_eq m n)) (events_of ts))) [
-      | true ↦ ap (λ l. t.event ∷ l) (kept_events n ts)
-      | false ↦ kept_events n ts
+-- what a list loses by its numbers its numbers lose
+pub kept_numbers : {A : Type 0} (number : A → ℕ) (n : ℕ) (xs : List A) → map number (filter (λ x. not (nat_eq (number x) n)) xs) ≡ filter (λ m. not (nat_eq m n)) (map number xs)
+kept_numbers number n [] = refl
+kept_numbers number n (x ∷ xs) =
+    let more = filter (λ y. not (nat_eq (number y) n)) xs in
+    elim (not (nat_eq (number x) n)) as (λ b. map number (if b then x ∷ more else more) ≡ (if b then number x ∷ filter (λ m. not (nat_eq m n)) (map number xs) else filter (λ m. not (nat_eq m n)) (map number xs))) [
+      | true ↦ ap (λ l. number x ∷ l) (kept_numbers number n xs)
+      | false ↦ kept_numbers number n xs
     ]
 
 same_without : (n : ℕ) (ts us : List Task) → events_of ts ≡ events_of us → events_of (without n ts) ≡ events_of (without n us)
-same_without n ts us e = kept_events n ts ∙ ap (filter (λ m. not (nat_eq m n))) e ∙ sym (kept_events n us)
+same_without n ts us e =
+    let number = λ (t : Task). t.event in
+    kept_numbers number n ts ∙ ap (filter (λ m. not (nat_eq m n))) e ∙ sym (kept_numbers number n us)
 
 same_by : (ts us : List Task) (id at : ℕ) (e : Effect) → events_of ts ≡ events_of us → events_of (tasks_by ts id at e) ≡ events_of (tasks_by us id at e)
 same_by ts us id at effect.Begins e = e

@@ -65,7 +65,7 @@ module _ (u : Rules) (b : Book) where
       where_then (NumbersEnd b) (program_if (u.program_of body)) (λ p. unless_there (text_number b body) (IsFull (length b.texts)))
       (λ p e. unless_then (NumbersEnd b) (text_number b body) (IsFull (length b.texts)) (λ new full. inl full))
 
-  text_reads : TextsRead u b → (text : ℕ) (body : Bytes) → nth b.texts text ≡ Some body → program_if (u.program_of body) ≡ None → ⊥
+  pub text_reads : TextsRead u b → (text : ℕ) (body : Bytes) → nth b.texts text ≡ Some body → program_if (u.program_of body) ≡ None → ⊥
   text_reads reads text body there none =
       let its = get_all (IsProgram u) b.texts (text - 1) body (nth_place b.texts text body there) reads in
       none-some its.0 (sym none ∙ ap program_if its.1)
@@ -93,22 +93,23 @@ module _ (u : Rules) (b : Book) where
       (λ (c : CantDeliver p r.history (ActivityCompleted event v)).
       completion_taken p r.history c.0 r.tasks event v report.0 c.1.0 its.activities report.1.0 report.1.1 c.1.1)
 
-  complete_decides : (run event attempt : ℕ) (v : Value) → IsSound u b → StuckComplete u.program_of b run event attempt v → NumbersEnd b
+  -- it is never stuck
+  pub complete_goes_on : (run event attempt : ℕ) (v : Value) → IsSound u b → StuckComplete u.program_of b run event attempt v → ⊥
   unfolding StuckComplete StuckInput
-  complete_decides run event attempt v h =
+  complete_goes_on run event attempt v h =
       let records_in = λ (r : Run) (p : Program). CantRecord p r.history (ActivityCompleted event v) in
       let taken = λ (r : Run). needs (program_at u.program_of b r.text) (records_in r) in
-      where_then (NumbersEnd b) (nth b.runs run) (λ r. unless_there (report_refusal r event attempt v) (taken r))
+      where_then ⊥ (nth b.runs run) (λ r. unless_there (report_refusal r event attempt v) (taken r))
       (λ r there.
       let its : IsSoundRun u b r = get_all (IsSoundRun u b) b.runs (run - 1) r (nth_place b.runs run r there) h.runs in
-      unless_then (NumbersEnd b) (report_refusal r event attempt v) (taken r)
-      (λ unrefused. needs_then (NumbersEnd b) (program_at u.program_of b r.text) (records_in r) (λ none. none-some its.program (sym none ∙ its.its_text))
-      (λ p text stuck. absurd (records r p event attempt v its text unrefused stuck))))
+      unless_then ⊥ (report_refusal r event attempt v) (taken r)
+      (λ unrefused. needs_then ⊥ (program_at u.program_of b r.text) (records_in r) (λ none. none-some its.program (sym none ∙ its.its_text))
+      (λ p text stuck. records r p event attempt v its text unrefused stuck)))
 
 pub sound_decides : SoundDecides
 unfolding IsStuck
 sound_decides u b (command.Register body) reads h stuck = register_decides u b body stuck
 sound_decides u b (command.Start request flow text vs at) reads h stuck = start_decides u b request flow text vs reads stuck
-sound_decides u b (command.Complete run event attempt v at) reads h stuck = complete_decides u b run event attempt v h stuck
+sound_decides u b (command.Complete run event attempt v at) reads h stuck = absurd (complete_goes_on u b run event attempt v h stuck)
 sound_decides u b (command.Describe run) reads h stuck = absurd stuck
 sound_decides u b (command.History run) reads h stuck = absurd stuck

@@ -7,6 +7,7 @@ pub mod Chains
 pub mod Positions
 pub mod Again
 pub mod OneMore
+pub mod Verdicts
 pub mod Logs
 pub mod Tries
 pub mod Leaves

@@ -9,6 +9,7 @@ pub mod Stands
 pub mod Open
 pub mod Weights
 pub mod Turned
+pub mod Verdict
 pub mod WellFormed
 pub mod Tokens
 pub mod Book

@@ -1,6 +1,7 @@
 ghost use Rattle.flow_model.specs.Logs.{AfterCut, AfterOneMore, RepliesCut, RepliesInOrder};
 ghost use Rattle.flow_model.specs.Stands.{AtMostOne, NotBoth};
 ghost use Rattle.flow_model.specs.Turned.{TurnIsComputed, ComputedIsTurn, PositionIsComputed, OneMoreTurnStands, FirstTurnStands};
+ghost use Rattle.flow_model.specs.Verdict.{OneMismatch, StandsOrFails, VerdictOfMismatch, VerdictOfStanding};
 
 /// A history stands at one configuration at most, and nowhere where it has a mismatch.
 pub fn stands_once()
@@ -13,6 +14,14 @@ pub fn turns_are_computed()
     ensures computed { TurnIsComputed }
     ensures made { ComputedIsTurn }
     ensures position { PositionIsComputed }
+{}
+
+/// A history has a verdict under each program: where it leaves the run, if it stands, else its one first mismatch.
+pub fn verdicts_are_computed()
+    ensures standing { VerdictOfStanding }
+    ensures mismatch { VerdictOfMismatch }
+    ensures each { StandsOrFails }
+    ensures one { OneMismatch }
 {}
 
 /// A run's first fresh turn stands, and so does a standing history with one more.

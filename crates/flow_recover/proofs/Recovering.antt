@@ -1,9 +1,11 @@
 -- What becomes of a store while it is opened.
-use Rattle.std.proofs.Common.{◌≡◌, inl, inr, [], length, refl, sym, ap, ◌∙◌, subst, Err}
+use Rattle.std.proofs.Common.{◌≡◌, ◌⊎◌, inl, inr, [], length, refl, sym, ap, ◌∙◌, subst, Err}
 use Rattle.std.proofs.Math.Logic.{∥∥₁_elim}
 use Rattle.std.specs.Prelude.{IsTrue}
 use Rattle.sqlite_trees.specs.declared.store.Store.{Ghosts}
 use Rattle.sqlite_trees.specs.Props.{Trees-set}
+use Rattle.sqlite_catalog.specs.Listing as catalog
+use Rattle.sqlite_catalog.proofs.ReadLemmas.{lists_once}
 use Rattle.sqlite.specs.Disk.{MoreFaults}
 use Rattle.sqlite.specs.Tree.{Trees}
 use Rattle.sqlite.specs.Effect.{Database}
@@ -29,7 +31,7 @@ use Rattle.flow_tables.specs.Owned.{IsOurs, IsFound, IsFileOf, Keeps, LeavesMade
 use Rattle.flow_tables.proofs.Stops.{IsSettled, opened_over}
 use Rattle.flow_commit.specs.Keeping.{rules, IsWell}
 use Rattle.flow_recover.specs.Positions.{IsLeastMismatch, Names, OnlyMemory}
-use Rattle.flow_recover.specs.Recovering.{HoldsSound, IsOpenedOver, IsOfDisk, IsOfRecovery, IsPastTables, IsLeft}
+use Rattle.flow_recover.specs.Recovering.{HoldsSound, AreBlank, HoldBook, StillHolds, IsOpenedOver, IsOfDisk, IsOfRecovery, IsPastTables, IsLeft}
 
 ---- The book that is found
 
@@ -118,6 +120,49 @@ pub ended_keeps : (old new : State) (b : Book) → HasEnded old new → LeavesMa
 ended_keeps old new b ended leaves keeps = record {
   kept = λ up. subst (λ (d : Database). HasTables d × Tells (tables_in d.trees) b) (sym (ended.back up).1) (keeps.kept (ended.was_open up));
   stops = λ db may. elim (leaves db may) [ inl before ↦ keeps.stops db before | inr made ↦ made ];
+}
+
+---- A book, or an empty store
+
+not_both : (db : Trees) → AreOurs db → AreBlank db → ⊥
+not_both db ours none = our_tables (lists_once _ schema no_schema ours.sound.lists none.lists)
+
+-- Trees hold one book.
+pub one_held : (db : Trees) (b b' : Book) → HoldBook db b → HoldBook db b' → b ≡ b'
+one_held db b b' (inl h) (inl h') = sym (told (tables_in db) b h.tells) ∙ told (tables_in db) b' h'.tells
+one_held db b b' (inl h) (inr h') = absurd (not_both db h.ours h'.0)
+one_held db b b' (inr h) (inl h') = absurd (not_both db h'.ours h.0)
+one_held db b b' (inr h) (inr h') = h.1 ∙ sym h'.1
+
+-- It is found where a connection was just opened over them.
+pub held_found : (s : State) (db : Trees) (b : Book) → HoldBook db b → IsOpenedOver s db → IsFound s b
+held_found s db b (inl file) over = opened_found s db b file over
+held_found s db b (inr none) over =
+    let blank = subst AreBlank (sym (opened_trees s db over)) none.0 in
+    inr (lists_once _ s.committed.schema no_schema (over.live over.opens.is_open).1.lists blank.lists, none.1)
+
+-- A stop of an open connection leaves what is found in it.
+left_held : (s : State) (b : Book) → IsSettled s → IsLive s → IsTrue s.is_open → IsFound s b → (db : Trees) → s.may_leave db → HoldBook db b
+left_held s b law live up (inl h) db may = inl (subst (λ d. IsFileOf d b) (sym (law db up may)) (record { ours = h.0.ours; tells = h.1 }))
+left_held s b law live up (inr none) db may =
+    inr (subst AreBlank (sym (law db up may)) (subst (λ x. catalog.IsSound x s.committed.trees) none.0 (live up).1), none.1)
+
+-- tables that are there tell what is found
+tables_keep : (s : State) (b : Book) → IsSettled s → IsTrue s.is_open → IsFound s b → HasTables s.committed → Keeps s b
+tables_keep s b law up (inl h) has = record {
+  kept = λ _. h;
+  stops = λ db may. subst (λ d. IsFileOf d b) (sym (law db up may)) (record { ours = h.0.ours; tells = h.1 });
+}
+tables_keep s b law up (inr none) has = absurd (our_tables (sym has.laid_out ∙ none.0))
+
+pub keeps_holds : (from to : State) (b : Book) → Keeps to b → StillHolds from to b
+keeps_holds from to b keeps = record { found = λ up. inl (keeps.kept up); stops = λ db may. inl (keeps.stops db may); tables = λ _. keeps }
+
+pub ended_holds : (from to : State) (b : Book) → IsSettled from → IsLive from → HasEnded from to → LeavesMade from to b → IsTrue from.is_open × IsFound from b → StillHolds from to b
+ended_holds from to b law live ended leaves holds = record {
+  found = λ up. subst (λ (d : Database). (HasTables d × Tells (tables_in d.trees) b) ⊎ ((d.schema ≡ no_schema) × (b ≡ no_book))) (sym (ended.back up).1) holds.1;
+  stops = λ db may. elim (leaves db may) [ inl before ↦ left_held from b law live holds.0 holds.1 db before | inr made ↦ inl made ];
+  tables = λ has. ended_keeps from to b ended leaves (tables_keep from b law holds.0 holds.1 has);
 }
 
 ---- Refusals

@@ -1,8 +1,9 @@
 -- What the opening of a store gives.
-use Rattle.std.specs.Prelude.{◌≡◌, ◌⊎◌, List, Err}
+use Rattle.std.specs.Prelude.{◌≡◌, ◌⊎◌, List, Err, IsTrue}
 use Rattle.sqlite_trees.specs.declared.store.Store.{Ghosts}
 use Rattle.sqlite_trees.specs.declared.error.StoreError.{StoreError}
 use Rattle.sqlite_rules.specs.Calls.{Excuses}
+use Rattle.sqlite_catalog.specs.Listing as catalog
 use Rattle.sqlite.specs.Disk.{MoreFaults}
 use Rattle.sqlite.specs.Tree.{Trees}
 use Rattle.sqlite.specs.declared.error.Error.{Error}
@@ -10,13 +11,13 @@ use Rattle.sqlite.specs.State.{State, Opens, IsLive, store_error}
 use Rattle.flow_base.specs.declared.fault.Fault.{Fault}
 use Rattle.flow_base.specs.declared.fault.Fault.TheVariants as fault
 use Rattle.flow_check.specs.Language.{meaning_of}
-use Rattle.flow_model.specs.Book.{Book}
+use Rattle.flow_model.specs.Book.{Book, no_book}
 use Rattle.flow_model.specs.Sound.{IsSound}
 use Rattle.flow_tables.specs.Layout.{no_schema}
 use Rattle.flow_tables.specs.Stored.{tables_in}
 use Rattle.flow_tables.specs.States.{HasEnded, HasTables}
 use Rattle.flow_tables.specs.Opening.{StandFor}
-use Rattle.flow_tables.specs.Owned.{IsFound, IsOurs, Keeps}
+use Rattle.flow_tables.specs.Owned.{IsFileOf, IsFound, IsOurs, Keeps}
 use Rattle.flow_commit.specs.Keeping.{Keeping, IsFit, KeepsBook, rules}
 use Rattle.flow_recover.specs.declared.positions.Position.{Position}
 use Rattle.flow_recover.specs.Positions.{ArePositions, IsLeastMismatch, Names}
@@ -48,6 +49,23 @@ IsOfDisk g old new e = (cause : StoreError) × (e ≡ store_error cause) × Excu
 -- The keeper keeps this book, and these are the positions of its open runs.
 abbrev pub IsBack : {S : Type 0} → Ghosts S → Keeping S → List Position → Book → Type 0
 IsBack g k qs b = IsFit g k × KeepsBook g k b × ArePositions meaning_of b qs
+
+---- A book, or an empty store
+
+-- The trees of a store that lists nothing: it is new, or was stopped while its tables were being made.
+abbrev pub AreBlank : Trees → Type 0
+AreBlank db = catalog.IsSound no_schema db
+
+-- The trees of a store hold this book: our tables tell it, or there are none and it is the empty one.
+abbrev pub HoldBook : Trees → Book → Type 0
+HoldBook db b = IsFileOf db b ⊎ (AreBlank db × (b ≡ no_book))
+
+-- A store that held this book still does: what an open connection has committed, and what a stop leaves. Where our tables were
+-- there they are kept.
+pub record StillHolds (from to : State) (b : Book) : Type 0 where
+  pub found : IsTrue to.is_open → IsFound to b
+  pub stops : (db : Trees) → to.may_leave db → HoldBook db b
+  pub tables : HasTables from.committed → Keeps to b
 
 ---- Refusals
 

@@ -21,3 +21,4 @@ pub mod Recalled
 pub mod Laws
 pub mod Stood
 pub mod WholeBooks
+pub mod Behind

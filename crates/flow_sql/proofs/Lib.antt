@@ -17,4 +17,13 @@ pub mod Rising
 pub mod Columns
 pub mod Reading
 pub mod Found
+pub mod Readable
+pub mod Utf8
 pub mod Refusing
+pub mod RowChanges
+pub mod Declined
+pub mod Coming
+pub mod Leaving
+pub mod Marking
+pub mod Welcome
+pub mod Numbers

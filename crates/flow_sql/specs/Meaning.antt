@@ -1,12 +1,13 @@
 -- What a text of SQL means over our tables: a query and what its answer tells, a change and what it does.
-use Rattle.flow_sql.specs.Names.{Tables, IsPlain, timed, Command, Select, Nothing, Does, Held, state, understood, reads_listing, Row, overlay, IsAnswer, Query, Executes, State, mode_of, text_of, Trees, Error, first, Compiled, CompileError, Ghosts, List, Option, false, map, true, ℕ, [], Ok, Err, Result, length}
-use Rattle.std.specs.Prelude.{Contains, ◌≡◌, ◌∷◌}
+use Rattle.flow_sql.specs.Names.{Tables, IsPlain, timed, Command, Select, Nothing, Does, Held, state, understood, reads_listing, Row, overlay, IsAnswer, Query, Executes, State, mode_of, text_of, Trees, Error, first, Compiled, CompileError, Ghosts, List, Option, false, map, true, ℕ, [], Ok, Err, Result, length, Kind, AllByRecursion}
+use Rattle.std.specs.Prelude.{Contains, IsSome, ◌≡◌, ◌∷◌, ◌⊎◌}
 use Rattle.sqlite.specs.Calls.{IsWrite}
 use Rattle.sqlite.specs.State.{IsStatement}
 use Rattle.sqlite_sql.specs.Program.{QueryOverflows}
 use Rattle.sqlite_typing.specs.Types.{accepts_program}
 use Rattle.flow_sql.specs.Layout.{schema, meta_sql, text_sql, run_sql, event_sql, timer_sql, outbox_sql, set_format_sql, Read, read_sql, Write, write_sql}
-use Rattle.flow_sql.specs.Stored.{tables_in}
+use Rattle.flow_sql.specs.Stored.{tables_in, AreReadAs, AreUtf8}
+use Rattle.flow_sql.specs.Coming.{IsFull}
 use Rattle.flow_sql.specs.States.{AreOurs, IsOver, Changes, FirstIs, IsReading, Since}
 
 abbrev pub command_of : Result Compiled CompileError → Command
@@ -71,8 +72,8 @@ pub record Asks (A : Type 0) : Type 1 where
   pub tells : Tables → List A → Type 0
 
 -- The text is a query, and the rows that it answers over our tables, read as what they say, tell this of them. It is one of ours, fits
--- what is given with it, and has no sum that could be too big.
-pub record IsQuestion {Q A : Type 0} (said : Row → A) (asks : Q → Asks A) : Type 0 where
+-- what is given with it, and has no sum that could be too big. Where the texts of the tables are UTF-8, each column reads as its kind.
+pub record IsQuestion {Q A : Type 0} (said : Row → A) (kinds : List Kind) (asks : Q → Asks A) : Type 0 where
   pub query : Query
   pub names : List (List ℕ)
   pub is : (q : Q) → IsRead (asks q).sql query names
@@ -80,15 +81,19 @@ pub record IsQuestion {Q A : Type 0} (said : Row → A) (asks : Q → Asks A) : 
   pub listed : (q : Q) → IsOurRead (asks q).sql (asks q).params
   pub typed : (q : Q) → accepts_program schema [] query (asks q).params ≡ true
   pub summed : (q : Q) (db : Trees) → ¬ QueryOverflows query db (asks q).params
+  pub readable : (q : Q) (db : Trees) → AreOurs db → AreUtf8 (tables_in db) → (rows : List Row) → IsAnswer query (overlay db []) (asks q).params rows → AllByRecursion (AreReadAs kinds) rows
 
--- A change of rows: its text, what is given with it, what has to hold of the tables before, and what they are after.
+-- A change of rows: its text, what is given with it, what has to hold of the tables before, what they are after, and of which
+-- tables the database takes it.
 pub record Alters : Type 1 where
   pub sql : List ℕ
   pub params : Row
   pub fits : Tables → Type 0
+  pub welcome : Tables → Type 0
   pub after : Tables → Tables
 
--- The text adds, takes away or alters rows, and what it does over our tables is this change of them. It is one of ours.
+-- The text adds, takes away or alters rows, and what it does over our tables is this change of them. It is one of ours, and where it
+-- is welcome a limit alone hinders it.
 pub record IsRowChange {S : Type 0} (g : Ghosts S) (it : Alters) : Type 0 where
   pub command : Command
   pub is : command_of (understood schema it.sql) ≡ command
@@ -97,3 +102,4 @@ pub record IsRowChange {S : Type 0} (g : Ghosts S) (it : Alters) : Type 0 where
   pub listed : IsOurWrite it.sql it.params
   pub put : (old new : Held S) (count : ℕ) → IsOver true (state g old) → it.fits (tables_in (state g old).now.trees) → Executes it.sql it.params (state g old) (state g new) (Ok count)
       → Changes (state g old) (state g new) (it.after (tables_in (state g old).now.trees))
+  pub taken : (s : Held S) → IsOver true (state g s) → it.welcome (tables_in (state g s).now.trees) → IsDeclined it.sql it.params (state g s) → IsSome (state g s).step_limit ⊎ IsFull (state g s).now.trees

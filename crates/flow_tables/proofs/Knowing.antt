@@ -14,6 +14,7 @@ use Rattle.flow_rows.specs.Told.{opened_by, after_event, after_events}
 use Rattle.flow_rows.proofs.BookTables.{nth_is}
 use Rattle.flow_rows.proofs.Finds as found
 use Rattle.flow_rows.proofs.Undamaged.{timer_rows_of, task_rows_of}
+use Rattle.flow_rows.proofs.Behind.{no_rows_yet}
 use Rattle.flow_tables.specs.declared.known.OpenTasks.TheVariants as tasks
 
 ---- What one run has
@@ -151,7 +152,7 @@ first_mark : (n : ℕ) (flow : Bytes) (request : Option Bytes) (text : ℕ) (ope
 first_mark n flow request text true t below is = marked_others n (first_row n flow request text true) t.runs below (let same : int_eq (pos n) (pos n) ≡ true = (Decides-int_eq (pos n) (pos n)).1 refl in rw same refl)
 first_mark n flow request text false t below is = absurd (true≢false (sym is))
 
-no_run_yet : (b : Book) (n : ℕ) → n ≡ length b.runs + 1 → nth b.runs n ≡ None
+pub no_run_yet : (b : Book) (n : ℕ) → n ≡ length b.runs + 1 → nth b.runs n ≡ None
 no_run_yet b n next = subst (λ k. nth b.runs k ≡ None) (let it : suc (length b.runs) ≡ n = omega (arith, next) in it) (nth_is b.runs (length b.runs) ∙ slice_get_past b.runs (length b.runs) (omega arith))
 
 -- of a run that comes nothing is there
@@ -159,8 +160,8 @@ pub first_stands : (t : Tables) (b : Book) (n : ℕ) (flow : Bytes) (request : O
     → AllByRecursion (λ (x : RunRow). int_lt x.num (pos n) ≡ true) t.runs → Stands (pos n) (first_standing opened) (with_run (first_row n flow request text opened) t)
 first_stands t b n flow request text opened tells next below = record {
   mark = first_mark n flow request text opened t below;
-  tasks = ap (λ (u : Tables). u.outbox (pos n)) tells.same ∙ ap (λ o. of_run o (task_rows_of (pos n))) (no_run_yet b n next);
-  timers = λ _. ap (λ (u : Tables). u.timers (pos n)) tells.same ∙ ap (λ o. of_run o (timer_rows_of (pos n))) (no_run_yet b n next);
+  tasks = (no_rows_yet t b n tells (no_run_yet b n next)).2;
+  timers = λ _. (no_rows_yet t b n tells (no_run_yet b n next)).1;
 }
 
 pub first_turn_made : (t : Tables) (b : Book) (n : ℕ) (flow : Bytes) (request : Option Bytes) (text : ℕ) (turn : Turn) → Tells t b → n ≡ length b.runs + 1

@@ -5,10 +5,13 @@ pub mod BookReads
 pub mod Owning
 pub mod Wholes
 pub mod Causes
+pub mod Room
 pub mod Stopping
 pub mod Reasons
 pub mod Knowing
 pub mod Succession
 pub mod Opened
 pub mod OpenTables
+pub mod Misreading
+pub mod Texts
 pub mod Questioned

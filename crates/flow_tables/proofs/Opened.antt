@@ -42,7 +42,7 @@ refusal_met g e h = (h.0, h.1, h.2, inl h.3)
 
 pub read_caused : {S : Type 0} (g : Ghosts S) (f : StoreFault) → IsRowsFault g f → HasCause g (read_fault_of f)
 read_caused g read.NoMemory h = tt
-read_caused g (read.Refused e) h = caused g e (h.0, h.1, h.2, inr (inr (inl h.3)))
+read_caused g (read.Refused e) h = caused g e (h.0, h.1, _, inr (inr (inl (h.2, refl, h.3))))
 
 ---- Reading the format
 

@@ -1,8 +1,9 @@
 -- What tables keep true of their connection, call by call.
 use Rattle.std.specs.Prelude.{◌≡◌, ◌⊎◌}
-use Rattle.flow_tables.proofs.Names.{Change, Book, FitsTables, Tells, after_change, Database, Executes, HasCleanDisk, State, Survives, Error, Bool, IsTrue, List, MatchResult, Option, false, true, ℕ, Changes, HasBegun, HasCommitted, HasEnded, HasTables, Holds, IsOver, IsRefused, IsStill, IsUndone, tables_in, Refusal, Known, ViewFault, Err, IfOk, None, Ok, OnOk, Some, [], refl, Result, AreOurs, changed, subst, ◌∙◌, sym, ap, inl, inr, was_clean, book_of, IsCutShort, IsOwn, Keeps, IsKnown, TellBook, rolled_back_ended, told_answer, IsAware, HasCounted, error_leaves, IsFileOf, IsSure, KeepsOn, WasUp, ReadsBook, IsNoted}
+use Rattle.flow_tables.proofs.Names.{Change, Book, FitsTables, Tells, after_change, Database, Executes, HasCleanDisk, State, Survives, Error, Bool, IsTrue, List, MatchResult, Option, false, true, ℕ, Changes, HasBegun, HasCommitted, HasEnded, HasTables, Holds, IsOver, IsRefused, IsStill, IsUndone, tables_in, Refusal, Known, ViewFault, Err, IfOk, None, Ok, OnOk, Some, [], refl, Result, AreOurs, changed, subst, ◌∙◌, sym, ap, inl, inr, true≢false, was_clean, book_of, IsCutShort, IsOwn, Keeps, IsKnown, ShowsBook, rolled_back_ended, told_answer, IsAware, HasCounted, error_leaves, IsFileOf, IsSure, KeepsOn, WasUp, ReadsBook, IsNoted}
 use Rattle.sqlite.specs.State.{Shows, IsUnchanged, IsRolledBack}
-use Rattle.flow_tables.specs.Faults.{noted_fault}
+use Rattle.flow_sql.specs.Stored.{AreUtf8}
+use Rattle.flow_tables.specs.Faults.{noted_fault, ShowsOddText}
 use Rattle.flow_rows.specs.Typed.{IsTypedChange}
 use Rattle.flow_rows.proofs.Telling.{told}
 use Rattle.flow_rows.proofs.WholeChanges.{change_told}
@@ -14,7 +15,7 @@ use Rattle.flow_tables.proofs.Stops.{IsSettled}
 
 ---- What the tables keep true, in a transaction and out of one
 
-pub own_inside : (s : State) (r : Option Refusal) → IsOver true s → TellBook s.committed.trees → (r ≡ None → TellBook s.now.trees) → IsOwn s r
+pub own_inside : (s : State) (r : Option Refusal) → IsOver true s → ShowsBook s.committed.trees → (r ≡ None → ShowsBook s.now.trees) → IsOwn s r
 own_inside s r over kept shows = record {
   over = λ up. subst (λ b. IsOver b s) (sym over.mode) over;
   kept = λ up. kept;
@@ -22,7 +23,7 @@ own_inside s r over kept shows = record {
   whole = λ mode none. (over.is_open, shows none);
 }
 
-pub own_outside : (s : State) (r : Option Refusal) → s.in_transaction ≡ false → (IsTrue s.is_open → IsOver false s × (s.now ≡ s.committed) × TellBook s.committed.trees) → IsOwn s r
+pub own_outside : (s : State) (r : Option Refusal) → s.in_transaction ≡ false → (IsTrue s.is_open → IsOver false s × (s.now ≡ s.committed) × ShowsBook s.committed.trees) → IsOwn s r
 own_outside s r mode shows = record {
   over = λ up. subst (λ b. IsOver b s) (sym mode) (shows up).0;
   kept = λ up. (shows up).2;
@@ -31,8 +32,8 @@ own_outside s r mode shows = record {
 }
 
 -- the rows of a database that is another tell what the other's tell
-tell_on : (a b : Database) → a ≡ b → TellBook b.trees → TellBook a.trees
-tell_on a b same told = subst (λ (d : Database). TellBook d.trees) (sym same) told
+tell_on : (a b : Database) → a ≡ b → ShowsBook b.trees → ShowsBook a.trees
+tell_on a b same told = subst (λ (d : Database). ShowsBook d.trees) (sym same) told
 
 module _ (old new : State) where
   ---- What keeps the last commit
@@ -92,9 +93,9 @@ module _ (old new : State) where
       now = subst HasTables (sym h.now_is) was.now;
       committed = subst HasTables (sym h.committed_is) was.committed;
     };
-    kept = λ up. subst (λ (d : Database). TellBook d.trees) (sym h.committed_is) (own.kept h.was_open);
+    kept = λ up. subst (λ (d : Database). ShowsBook d.trees) (sym h.committed_is) (own.kept h.was_open);
     rest = λ mode up. h.now_is ∙ own.rest (sym h.mode ∙ mode) h.was_open ∙ sym h.committed_is;
-    whole = λ mode none. (h.is_open, subst (λ (d : Database). TellBook d.trees) (sym h.now_is) (own.whole (sym h.mode ∙ mode) none).1);
+    whole = λ mode none. (h.is_open, subst (λ (d : Database). ShowsBook d.trees) (sym h.now_is) (own.whole (sym h.mode ∙ mode) none).1);
   }
 
   -- a transaction that has begun shows what is kept
@@ -134,7 +135,7 @@ module _ (old new : State) where
     own_over = subst (λ b. IsOver b old) inside (own.over up_now)
 
     -- what the last commit left is as it was
-    still_kept : new.committed ≡ old.committed → TellBook new.committed.trees
+    still_kept : new.committed ≡ old.committed → ShowsBook new.committed.trees
     still_kept same = tell_on new.committed old.committed same (own.kept up_now)
 
     pub own_still : (s : Option Refusal) → IsStill true old new → IsOwn new s
@@ -155,14 +156,14 @@ module _ (old new : State) where
       put_tells : Tells (tables_in new.now.trees) (changed (book_of old.now.trees) c)
       put_tells =
           subst (λ t. Tells t (changed (book_of old.now.trees) c)) (sym done.tables)
-          (change_told (tables_in old.now.trees) (book_of old.now.trees) c (own.whole inside none).1 fits typed)
+          (change_told (tables_in old.now.trees) (book_of old.now.trees) c (own.whole inside none).1.tells fits typed)
 
       -- the book that the tables then show
       pub put_book : book_of new.now.trees ≡ changed (book_of old.now.trees) c
       put_book = told (tables_in new.now.trees) (changed (book_of old.now.trees) c) put_tells
 
       pub own_put : (s : Option Refusal) → IsOwn new s
-      own_put s = own_inside new s done.over (still_kept done.committed) (λ _. subst (λ b. Tells (tables_in new.now.trees) b) (sym put_book) put_tells)
+      own_put s = own_inside new s done.over (still_kept done.committed) (λ _. record { tells = subst (λ b. Tells (tables_in new.now.trees) b) (sym put_book) put_tells; utf8 = done.utf8 (own.whole inside none).1.utf8 })
 
 ---- A call of the view, once nothing hinders it
 
@@ -170,6 +171,11 @@ module _ (old new : State) where
 either : {A E R : Type 0} (P : A → Type 0) (Q : E → Type 0) (r : Result A E) → MatchResult r P Q → ((x : A) → P x → R) → ((e : E) → Q e → R) → R
 either P Q (Ok x) h ok err = ok x h
 either P Q (Err e) h ok err = err e h
+
+-- what was cut short shows no odd text where there was none
+odd_cut : (old new : State) → AreUtf8 (tables_in old.now.trees) → IsCutShort old new → ShowsOddText new → ⊥
+odd_cut old new utf8 (inl part) odd = odd.1 (part.utf8 utf8)
+odd_cut old new utf8 (inr undone) odd = true≢false (sym odd.0.mode ∙ undone.mode)
 
 module _ (old new : State) (ours : Type 0) (ro rn : Option Refusal) (owned : ours → HasCleanDisk old → IsOwn old ro) (none : ro ≡ None) (inside : old.in_transaction ≡ true) (clean : HasCleanDisk new → HasCleanDisk old) where
   pub holds : ours → Holds true old
@@ -180,7 +186,7 @@ module _ (old new : State) (ours : Type 0) (ro rn : Option Refusal) (owned : our
     Told v = IsStill true old new × (v ≡ value (book_of old.now.trees))
 
     told_at : ours → (now : HasCleanDisk new) → MatchResult result Told (λ _. IsRefused true old new)
-    told_at fit now = reads now (book_of old.now.trees) ((owned fit (clean now)).whole inside none).1 (holds fit)
+    told_at fit now = reads now (book_of old.now.trees) ((owned fit (clean now)).whole inside none).1.tells (holds fit)
 
     -- it changed nothing, or was refused
     refused_at : ours → HasCleanDisk new → IsRefused true old new
@@ -188,6 +194,10 @@ module _ (old new : State) (ours : Type 0) (ro rn : Option Refusal) (owned : our
 
     pub read_own : ours → HasCleanDisk new → IsOwn new rn
     read_own fit now = own_refused old new ro (owned fit (clean now)) inside none rn (refused_at fit now)
+
+    -- no text of what it shows then is odd
+    pub read_utf8 : ours → HasCleanDisk new → ShowsOddText new → ⊥
+    read_utf8 fit now odd = odd_cut old new ((owned fit (clean now)).whole inside none).1.utf8 (refused_first old new (refused_at fit now)) odd
 
     pub read_leaves : ours → HasCleanDisk new → LeavesCommit old new
     read_leaves fit now = refused_leaves old new ((owned fit (clean now)).whole inside none).0 (refused_at fit now)
@@ -235,7 +245,7 @@ module _ (old new : State) (ours : Type 0) (ro rn : Option Refusal) (owned : our
     Put = FitsTables (book_of old.now.trees) c × Changes old new (after_change c (tables_in old.now.trees))
 
     put_at : ours → HasCleanDisk new → MatchResult result (λ _. Put) (λ _. IsCutShort old new)
-    put_at fit now = put (book_of old.now.trees) ((owned fit (clean now)).whole inside none).1 (aware fit (clean now) none inside) (holds fit) now
+    put_at fit now = put (book_of old.now.trees) ((owned fit (clean now)).whole inside none).1.tells (aware fit (clean now) none inside) (holds fit) now
 
     pub put_own : IsTypedChange c → ours → HasCleanDisk new → IsOwn new rn
     put_own typed fit now = go result (put_at fit now) noted
@@ -243,6 +253,11 @@ module _ (old new : State) (ours : Type 0) (ro rn : Option Refusal) (owned : our
         go : (r : Result Unit Refusal) → MatchResult r (λ _. Put) (λ _. IsCutShort old new) → IsNoted (λ x. x) r ro rn → IsOwn new rn
         go (Ok v) h n = own_put old new ro (owned fit (clean now)) inside none c typed h.0 h.1 rn
         go (Err f) h n = subst (λ s. IsOwn new s) (sym n) (own_cut old new ro (owned fit (clean now)) inside none f h)
+
+    pub put_utf8 : ours → HasCleanDisk new → ShowsOddText new → ⊥
+    put_utf8 fit now odd =
+        let utf8 = ((owned fit (clean now)).whole inside none).1.utf8 in
+        either (λ _. Put) (λ _. IsCutShort old new) result (put_at fit now) (λ _ h. odd.1 (h.1.utf8 utf8)) (λ f h. odd_cut old new utf8 h odd)
 
     pub put_leaves : ours → HasCleanDisk new → LeavesCommit old new
     put_leaves fit now =
@@ -278,7 +293,7 @@ keeps_now s r b law own up is = record {
 }
   where
     it : HasTables s.committed × Tells (tables_in s.committed.trees) b
-    it = ((own.over up).committed, subst (λ k. Tells (tables_in s.committed.trees) k) is (own.kept up))
+    it = ((own.over up).committed, subst (λ k. Tells (tables_in s.committed.trees) k) is (own.kept up).tells)
 
 -- the book that a transaction shows when it begins
 pub begun_book : (old new : State) (r : Option Refusal) (b : Book) → HasBegun old new → IsOwn old r → Keeps old b → book_of new.now.trees ≡ b

@@ -1,6 +1,6 @@
 -- What becomes of a question.
-use Rattle.std.specs.Prelude.{◌≡◌, ◌⊎◌}
-use Rattle.flow_tables.proofs.Names.{was_clean, rest_ended, IsStopped, view_fault, StopsWith, Book, first, Tells as TellsBook, schema, Tables, Held, state, Row, Executes, HasCleanDisk, State, Survives, Error, Ghosts, Bool, IfErr, List, MatchResult, Option, map, true, ℕ, Changes, HasEnded, IsAtRest, IsOver, IsRefused, IsStill, tables_in, StoreFault, ViewFault, Err, IfOk, Ok, [], Result, CommitsBy, FirstIs, subst, ◌∙◌, sym, inl, inr}
+use Rattle.std.specs.Prelude.{IsSome, ◌≡◌, ◌⊎◌}
+use Rattle.flow_tables.proofs.Names.{was_clean, rest_ended, IsStopped, view_fault, StopsWith, Book, first, Tells as TellsBook, schema, Tables, Held, state, Row, Executes, HasCleanDisk, State, Survives, Error, Ghosts, Bool, IfErr, List, MatchResult, Option, map, true, ℕ, Changes, HasEnded, IsAtRest, IsOver, IsRefused, IsStill, tables_in, StoreFault, ViewFault, Err, IfOk, Ok, [], Result, CommitsBy, FirstIs, subst, ◌∙◌, sym, inl, inr, Kind}
 use Rattle.sqlite.specs.State.{CommitsShowing, IsUnchanged, IsRolledBack}
 use Rattle.sqlite_resolve.specs.Compile.{first as first_statement}
 use Rattle.sqlite.specs.Query.{Query, IsAnswer}
@@ -8,9 +8,13 @@ use Rattle.sqlite.specs.Program.{overlay}
 use Rattle.flow_view.specs.declared.fault.ViewFault.TheVariants as view
 use Rattle.flow_tables.specs.declared.fault.StoreFault.TheVariants.{NoMemory, Refused}
 use Rattle.flow_tables.specs.Asking.{IsAsked, IsFirst, IsValue, IsRecalled, IsChanged, StopsAsk}
-use Rattle.flow_sql.specs.Meaning.{IsRead, Asks, IsQuestion, Alters, IsRowChange}
+use Rattle.flow_sql.specs.Meaning.{IsRead, Asks, IsQuestion, Alters, IsRowChange, IsDeclined}
+use Rattle.flow_sql.specs.Coming.{IsFull}
+use Rattle.sqlite_disk.specs.Disk.{MoreFaults}
 use Rattle.flow_sql.specs.States.{IsReading}
 use Rattle.flow_tables.specs.Reads.{Tells, IsReadFault}
+use Rattle.flow_sql.specs.Stored.{AreUtf8}
+use Rattle.flow_tables.proofs.Misreading.{never_misread}
 use Rattle.flow_sql.proofs.Leaves.{error_refused, left_refused}
 use Rattle.flow_sql.proofs.Transactions.{write_survives}
 use Rattle.flow_tables.proofs.Stopping.{read_stopped, change_stopped}
@@ -20,15 +24,15 @@ use Rattle.flow_sql.proofs.Compiling.{commits_none, failed, answered}
 
 ---- What a read leaves, over any file
 
-module _ (sql : List ℕ) (reading : FirstIs IsReading (first_statement sql)) (params : Row) (old new : State) where
-  fault_leaves : (f : StoreFault) → IsReadFault sql params old new f → IsUnchanged old new ⊎ IsRolledBack old new
+module _ (kinds : List Kind) (sql : List ℕ) (reading : FirstIs IsReading (first_statement sql)) (params : Row) (old new : State) where
+  fault_leaves : (f : StoreFault) → IsReadFault kinds sql params old new f → IsUnchanged old new ⊎ IsRolledBack old new
   fault_leaves NoMemory (inl it) = failed sql reading params old new it.0 it.1
   fault_leaves NoMemory (inr it) = inl (answered sql reading params old new it.0 it.1)
   fault_leaves (Refused e) (inl it) = failed sql reading params old new e it.1
   fault_leaves (Refused e) (inr it) = inl (answered sql reading params old new it.0 it.1)
 
   -- where no transaction runs, a read ends with what the last commit left
-  pub read_rests : {V A : Type 0} (said : Row → A) (items : V → List A) (r : Result V StoreFault) → IfOk r (λ v. Tells said sql params old new (items v)) → IfErr r (IsReadFault sql params old new)
+  pub read_rests : {V A : Type 0} (said : Row → A) (items : V → List A) (r : Result V StoreFault) → IfOk r (λ v. Tells said sql params old new (items v)) → IfErr r (IsReadFault kinds sql params old new)
       → IsAtRest old → HasEnded old new
   read_rests said items (Ok v) ok err rest = rest_ended old new rest (inl (answered sql reading params old new ok.0 ok.1))
   read_rests said items (Err f) ok err rest = rest_ended old new rest (fault_leaves f err)
@@ -39,39 +43,41 @@ match_from : {X E : Type 0} (P Q : X → Type 0) (R S : E → Type 0) (r : Resul
 match_from P Q R S (Ok x) p q f g = f x p
 match_from P Q R S (Err e) p q f g = g e q
 
-module _ (sql : List ℕ) (q : Query) (names : List (List ℕ)) (it : IsRead sql q names) (params : Row) (old new : State) (inside : Bool) (over : IsOver inside old) where
+module _ (sql : List ℕ) (q : Query) (names : List (List ℕ)) (it : IsRead sql q names) (params : Row) (kinds : List Kind) (old new : State) (inside : Bool) (over : IsOver inside old) where
   -- what an answer says holds of what is found
   pub reads_what : {V A : Type 0} (said : Row → A) (items : V → List A) (P : List A → Type 0) → ((rows : List Row) → IsAnswer q (overlay old.now.trees []) params rows → P (map said rows))
-      → (r : Result V StoreFault) → IfOk r (λ v. Tells said sql params old new (items v)) → IfErr r (IsReadFault sql params old new)
+      → (r : Result V StoreFault) → IfOk r (λ v. Tells said sql params old new (items v)) → IfErr r (IsReadFault kinds sql params old new)
       → MatchResult r (λ v. IsStill inside old new × P (items v)) (λ _. IsRefused inside old new)
   reads_what said items P found r ok err =
-      match_from (λ v. Tells said sql params old new (items v)) (λ v. IsStill inside old new × P (items v)) (IsReadFault sql params old new) (λ _. IsRefused inside old new) r ok err
+      match_from (λ v. Tells said sql params old new (items v)) (λ v. IsStill inside old new × P (items v)) (IsReadFault kinds sql params old new) (λ _. IsRefused inside old new) r ok err
       (λ v h. (still sql q names it params old new inside over h.0 h.1, subst P (sym h.2) (found h.0 (answer sql q names it params old new over.now h.0 h.1))))
-      (λ f h. left_refused old new inside over (fault_leaves sql it.reading params old new f h))
+      (λ f h. left_refused old new inside over (fault_leaves kinds sql it.reading params old new f h))
 
-module _ {Q A : Type 0} (said : Row → A) (asks : Q → Asks A) (it : IsQuestion said asks) (q : Q) (old new : State) where
+module _ {Q A : Type 0} (said : Row → A) (kinds : List Kind) (asks : Q → Asks A) (it : IsQuestion said kinds asks) (q : Q) (old new : State) where
   pub asked : {V : Type 0} (items : V → List A) (r : Result V StoreFault) → (HasCleanDisk new → IfOk r (λ v. Tells said (asks q).sql (asks q).params old new (items v)))
-      → (HasCleanDisk new → IfErr r (IsReadFault (asks q).sql (asks q).params old new)) → Survives old new (CommitsShowing (asks q).sql (asks q).params old) → IsAsked (asks q).sql (asks q).params old new r (λ t v. (asks q).tells t (items v))
+      → (HasCleanDisk new → IfErr r (IsReadFault kinds (asks q).sql (asks q).params old new)) → Survives old new (CommitsShowing (asks q).sql (asks q).params old) → IsAsked (asks q).sql (asks q).params kinds old new r (λ t v. (asks q).tells t (items v))
   asked {V} items r ok err h = record {
     reads = λ inside was clean.
         let over = was (was_clean old new _ h clean) in
-        reads_what (asks q).sql it.query it.names (it.is q) (asks q).params old new inside over said items ((asks q).tells (tables_in old.now.trees)) (λ rows a. it.found q old.now.trees over.now.ours rows a) r (ok clean) (err clean);
+        reads_what (asks q).sql it.query it.names (it.is q) (asks q).params kinds old new inside over said items ((asks q).tells (tables_in old.now.trees)) (λ rows a. it.found q old.now.trees over.now.ours rows a) r (ok clean) (err clean);
     clean = λ clean. was_clean old new _ h clean;
     cause = err;
     stops = λ inside was clean. stops_so inside (was (was_clean old new _ h clean)) r (err clean);
-    ended = λ clean rest. read_rests (asks q).sql (it.is q).reading (asks q).params old new said items r (ok clean) (err clean) rest;
+    ended = λ clean rest. read_rests kinds (asks q).sql (it.is q).reading (asks q).params old new said items r (ok clean) (err clean) rest;
     survives = commits_none (asks q).sql (it.is q).reading (asks q).params old new h;
   }
     where
-      stops_so : (inside : Bool) → IsOver inside old → (r : Result V StoreFault) → IfErr r (IsReadFault (asks q).sql (asks q).params old new) → IfErr r (StopsAsk (asks q).sql (asks q).params old new)
+      stops_so : (inside : Bool) → IsOver inside old → (r : Result V StoreFault) → IfErr r (IsReadFault kinds (asks q).sql (asks q).params old new) → IfErr r (StopsAsk inside old new)
       stops_so inside over (Ok v) h = tt
       stops_so inside over (Err NoMemory) h = tt
       stops_so inside over (Err (Refused e)) (inl fails) =
           inl (question_refused old new e fails.0 over.is_open over.now.laid_out (asks q).sql it.query it.names (it.is q) (asks q).params (whole_read (asks q).sql (asks q).params (it.listed q)) (it.typed q) (it.summed q) fails.1)
-      stops_so inside over (Err (Refused e)) (inr rows) = inr (it.listed q, rows.0, rows.1, rows.2)
+      stops_so inside over (Err (Refused e)) (inr rows) =
+          let shown = answer (asks q).sql it.query it.names (it.is q) (asks q).params old new over.now rows.0 rows.1 in
+          inr (still (asks q).sql it.query it.names (it.is q) (asks q).params old new inside over rows.0 rows.1, λ utf8. never_misread kinds rows.0 e (it.readable q old.now.trees over.now.ours utf8 rows.0 shown) rows.2)
 
-module _ {A V : Type 0} (sql : List ℕ) (params : Row) (tells : Tables → List A → Type 0) (old new : State) (items : V → List A) where
-  pub first_asked : (v : V) (o : Option A) → o ≡ first (items v) → IsAsked sql params old new (Ok v) (λ t x. tells t (items x)) → IsAsked sql params old new (Ok o) (IsFirst tells)
+module _ {A V : Type 0} (sql : List ℕ) (params : Row) (kinds : List Kind) (tells : Tables → List A → Type 0) (old new : State) (items : V → List A) where
+  pub first_asked : (v : V) (o : Option A) → o ≡ first (items v) → IsAsked sql params kinds old new (Ok v) (λ t x. tells t (items x)) → IsAsked sql params kinds old new (Ok o) (IsFirst tells)
   first_asked v o is it = record {
     reads = λ inside was clean. let read = it.reads inside was clean in (read.0, (items v, read.1, is));
     clean = it.clean;
@@ -81,13 +87,13 @@ module _ {A V : Type 0} (sql : List ℕ) (params : Row) (tells : Tables → List
     survives = it.survives;
   }
 
-  pub none_asked : (f : StoreFault) → IsAsked sql params old new (Err f) (λ t x. tells t (items x)) → IsAsked sql params old new (Err f) (IsFirst tells)
+  pub none_asked : (f : StoreFault) → IsAsked sql params kinds old new (Err f) (λ t x. tells t (items x)) → IsAsked sql params kinds old new (Err f) (IsFirst tells)
   none_asked f it = record { reads = it.reads; clean = it.clean; cause = it.cause; stops = it.stops; ended = it.ended; survives = it.survives }
 
 ---- A value of the book
 
-module _ {S A V : Type 0} (g : Ghosts S) (old new : Held S) (sql : List ℕ) (params : Row) (tells : Tables → V → Type 0) (value : Book → A) where
-  pub valued : (v : V) (r : Result A ViewFault) → IsAsked sql params (state g old) (state g new) (Ok v) tells → ((t : Tables) (b : Book) → TellsBook t b → tells t v → IsValue r (value b)) → IsRecalled g old new r value
+module _ {S A V : Type 0} (g : Ghosts S) (old new : Held S) (sql : List ℕ) (params : Row) (kinds : List Kind) (tells : Tables → V → Type 0) (value : Book → A) where
+  pub valued : (v : V) (r : Result A ViewFault) → IsAsked sql params kinds (state g old) (state g new) (Ok v) tells → ((t : Tables) (b : Book) → TellsBook t b → tells t v → IsValue r (value b)) → IsRecalled g old new r value
   valued v r it is = record {
     reads = λ clean b told was. let read = it.reads true was clean in go b r (is (tables_in (state g old).now.trees) b told read.1) read.0;
     clean = it.clean;
@@ -103,11 +109,11 @@ module _ {S A V : Type 0} (g : Ghosts S) (old new : Held S) (sql : List ℕ) (pa
       stops b (Ok x) h = tt
       stops b (Err f) h = λ same. absurd (h same)
 
-  pub unvalued : (f : StoreFault) (k : ViewFault) → k ≡ view_fault f → IsAsked sql params (state g old) (state g new) (Err f) tells → IsRecalled {A = A} g old new (Err k) value
+  pub unvalued : (f : StoreFault) (k : ViewFault) → k ≡ view_fault f → IsAsked sql params kinds (state g old) (state g new) (Err f) tells → IsRecalled {A = A} g old new (Err k) value
   unvalued f k same it = record {
     reads = λ clean b told was. it.reads true was clean;
     clean = it.clean;
-    cause = λ clean b told was e. read_stopped g old new sql params (was (it.clean clean)) f (it.stops true was clean) (sym same ∙ e);
+    cause = λ clean b told was e. read_stopped g old new f (it.stops true was clean) (sym same ∙ e);
     survives = it.survives;
   }
 
@@ -119,19 +125,21 @@ IsUncounted (Ok count) (Ok done) = Unit {0}
 IsUncounted (Err f) (Err e) = f ≡ e
 IsUncounted _ _ = ⊥
 
-module _ {S : Type 0} (g : Ghosts S) (does : Alters) (old new : Held S) (it : IsRowChange g does) (h : Survives (state g old) (state g new) (CommitsBy does.sql does.params (state g old))) where
-  pub changed : (r : Result ℕ Error) → (HasCleanDisk (state g new) → Executes does.sql does.params (state g old) (state g new) r) → (x : Result Unit Error) → IsUncounted r x → IsChanged g does.sql does.params old new x does.fits does.after
+module _ {S : Type 0} (g : Ghosts S) (does : Alters) (old new : Held S) (it : IsRowChange g does) (keeps : (t : Tables) → AreUtf8 t → AreUtf8 (does.after t)) (h : Survives (state g old) (state g new) (CommitsBy does.sql does.params (state g old))) where
+  pub changed : (r : Result ℕ Error) → (HasCleanDisk (state g new) → Executes does.sql does.params (state g old) (state g new) r) → (x : Result Unit Error) → IsUncounted r x → IsChanged g does.sql does.params old new x does.fits does.welcome does.after
   changed r ran x same = record {
     put = λ was fits clean. put (was (was_clean (state g old) (state g new) _ h clean)) fits r (ran clean) x same;
     clean = λ clean. was_clean (state g old) (state g new) _ h clean;
     ran = λ clean. refused r (ran clean) x same;
-    cause = λ was clean. cause (was (was_clean (state g old) (state g new) _ h clean)) r (ran clean) x same;
+    cause = λ was welcome clean. cause (was (was_clean (state g old) (state g new) _ h clean)) welcome r (ran clean) x same;
     survives = λ was. write_survives does.sql it.command it.is it.writes (state g old) (state g new) does.params was h;
   }
     where
       put : IsOver true (state g old) → does.fits (tables_in (state g old).now.trees) → (r : Result ℕ Error) → Executes does.sql does.params (state g old) (state g new) r → (x : Result Unit Error) → IsUncounted r x
           → MatchResult x (λ _. Changes (state g old) (state g new) (does.after (tables_in (state g old).now.trees))) (λ _. IsRefused true (state g old) (state g new))
-      put was fits (Ok count) ran (Ok done) same = it.put old new count was fits ran
+      put was fits (Ok count) ran (Ok done) same =
+          let did = it.put old new count was fits ran in
+          record { over = did.over; tables = did.tables; committed = did.committed; utf8 = λ u. subst AreUtf8 (sym did.tables) (keeps (tables_in (state g old).now.trees) u) }
       put was fits (Ok count) ran (Err e) same = absurd same
       put was fits (Err f) ran (Ok done) same = absurd same
       put was fits (Err f) ran (Err e) same = error_refused (state g old) (state g new) does.sql does.params e true was (subst (λ k. Executes does.sql does.params (state g old) (state g new) (Err k)) same ran)
@@ -141,9 +149,14 @@ module _ {S : Type 0} (g : Ghosts S) (does : Alters) (old new : Held S) (it : Is
       refused (Ok count) ran (Err e) same = absurd same
       refused (Err f) ran (Err e) same = subst (λ k. Executes does.sql does.params (state g old) (state g new) (Err k)) same ran
 
-      cause : IsOver true (state g old) → (r : Result ℕ Error) → Executes does.sql does.params (state g old) (state g new) r → (x : Result Unit Error) → IsUncounted r x → IfErr x (StopsWith g old new)
-      cause was r ran (Ok done) same = tt
-      cause was (Ok count) ran (Err e) same = absurd same
-      cause was (Err f) ran (Err e) same = λ other.
-          change_stopped g old new does.sql does.params was it.listed
-          (change_refused (state g old) (state g new) e other was.is_open schema was.now.laid_out does.sql does.params it.command it.is it.writes it.plain (whole_write does.sql does.params it.listed) (subst (λ k. Executes does.sql does.params (state g old) (state g new) (Err k)) same ran))
+      taken : IsOver true (state g old) → does.welcome (tables_in (state g old).now.trees) → MoreFaults (state g old).faults (state g new).faults ⊎ IsDeclined does.sql does.params (state g old)
+          → MoreFaults (state g old).faults (state g new).faults ⊎ (IsSome (state g old).step_limit ⊎ IsFull (state g old).now.trees)
+      taken was welcome (inl more) = inl more
+      taken was welcome (inr declined) = inr (it.taken old was welcome declined)
+
+      cause : IsOver true (state g old) → does.welcome (tables_in (state g old).now.trees) → (r : Result ℕ Error) → Executes does.sql does.params (state g old) (state g new) r → (x : Result Unit Error) → IsUncounted r x → IfErr x (StopsWith g old new)
+      cause was welcome r ran (Ok done) same = tt
+      cause was welcome (Ok count) ran (Err e) same = absurd same
+      cause was welcome (Err f) ran (Err e) same = λ other.
+          change_stopped g old new was (taken was welcome
+          (change_refused (state g old) (state g new) e other was.is_open schema was.now.laid_out does.sql does.params it.command it.is it.writes it.plain (whole_write does.sql does.params it.listed) (subst (λ k. Executes does.sql does.params (state g old) (state g new) (Err k)) same ran)))

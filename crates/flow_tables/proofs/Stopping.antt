@@ -1,18 +1,19 @@
 -- What stands behind E80, from call to call.
 use Rattle.std.specs.Prelude.{◌≡◌, ◌⊎◌, ◌≢◌, ◌≤◌}
-use Rattle.flow_tables.proofs.Names.{error_leaves, IsStopped, Because, view_fault, StopsWith, refusal_of, Fault, format_sql, no_schema, Held, state, Row, Executes, HasCleanDisk, State, Survives, Error, Ghosts, IfErr, IsTrue, List, MatchResult, Option, codes, false, true, ℕ, HasCommitted, HasTables, IsOver, Refusal, StoreFault, ViewFault, SqliteFailure, Err, Ok, [], refl, Result, OutOfMemory, QueriesRow, IsSome, FailsToQuery, subst, ◌∙◌, sym, ap, inl, inr, arith, true≢false}
+use Rattle.flow_tables.proofs.Names.{error_leaves, IsStopped, IsHindering, Because, view_fault, StopsWith, refusal_of, Fault, format_sql, no_schema, Database, Held, state, Kind, Row, Executes, HasCleanDisk, State, Survives, Error, Ghosts, IfErr, IsTrue, List, MatchResult, Option, codes, false, true, ℕ, HasCommitted, HasTables, IsOver, tables_in, Refusal, StoreFault, ViewFault, SqliteFailure, Err, Ok, [], refl, Result, OutOfMemory, QueriesRow, IsSome, FailsToQuery, subst, ◌∙◌, sym, ap, inl, inr, arith, true≢false}
 use Rattle.std.proofs.lemmas.Bool.{cases_Bool}
 use Rattle.flow_sql.proofs.Leaves.{left_open}
 use Rattle.sqlite_disk.specs.Disk.{MoreFaults}
 use Rattle.sqlite.specs.Tree.{Trees}
 use Rattle.sqlite.specs.declared.error.Error.TheVariants.{QueryReturnedNoRows}
 use Rattle.flow_view.specs.declared.fault.ViewFault.TheVariants as view
-use Rattle.flow_sql.specs.Meaning.{IsOurWrite, IsDeclined}
+use Rattle.flow_sql.specs.Coming.{IsFull}
 use Rattle.flow_sql.proofs.Finding.{format_refused, blank_refused}
 use Rattle.flow_base.specs.declared.fault.Fault.TheVariants as fault
 use Rattle.flow_tables.specs.Opening.{opening_fault, read_fault_of, IsCutShort, StopsRows, StopsMaking, IsHeldUp, StopsOpening}
 use Rattle.flow_sql.specs.States.{RunsTo}
 use Rattle.flow_sql.proofs.Transactions.{commit_refused, rollback_refused}
+use Rattle.flow_sql.specs.Stored.{HasOddText}
 use Rattle.flow_tables.specs.Asking.{StopsAsk}
 use Rattle.flow_tables.specs.Reads.{IsReadFault}
 use Rattle.flow_tables.specs.Faults.{Since, fault_of, read_refusal, told_fault, HasFailed, IsCutOff}
@@ -34,12 +35,14 @@ more_after : (a b c : ℕ) → a ≤ b → MoreFaults b c → MoreFaults a c
 more_after a b c le more = omega (arith, le, more)
 
 module _ {S : Type 0} (g : Ghosts S) where
+  pub hindering_after : (a b c : State) → Since a b → IsHindering g b c → IsHindering g a c
+  hindering_after a b c since (inl more) = inl (more_after a.faults b.faults c.faults since.0 more)
+  hindering_after a b c since (inr (inl limit)) = inr (inl (subst (λ (o : Option ℕ). IsSome o) since.1 limit))
+  hindering_after a b c since (inr (inr (mid, later, over, full))) = inr (inr (mid, since_then a b (state g mid) since later, over, full))
+
   pub stopped_after : (a b c : State) → Since a b → IsStopped g b c → IsStopped g a c
-  stopped_after a b c since (inl more) = inl (more_after a.faults b.faults c.faults since.0 more)
-  stopped_after a b c since (inr (inl limit)) = inr (inl (subst (λ (o : Option ℕ). IsSome o) since.1 limit))
-  stopped_after a b c since (inr (inr (inl (mid, later, over, sql, params, listed, declined)))) = inr (inr (inl (mid, since_then a b (state g mid) since later, over, sql, params, listed, declined)))
-  stopped_after a b c since (inr (inr (inr (mid, after, later, over, sql, params, listed, rows, e, shown, misread)))) =
-      inr (inr (inr (mid, after, since_then a b (state g mid) since later, over, sql, params, listed, rows, e, shown, misread)))
+  stopped_after a b c since (inl hinders) = inl (hindering_after a b c since hinders)
+  stopped_after a b c since (inr odd) = inr odd
 
   -- a statement that was refused behind others
   pub with_after : (a b c : Held S) (r : Result Unit Error) → Since (state g a) (state g b) → IfErr r (StopsWith g b c) → IfErr r (StopsWith g a c)
@@ -67,31 +70,32 @@ module _ {S : Type 0} (g : Ghosts S) where
 
   ---- Reads
 
-  module _ (old new : Held S) (sql : List ℕ) (params : Row) (over : IsOver true (state g old)) where
+  module _ (old new : Held S) where
     -- one that failed by more than the want of memory
-    pub read_stopped : (f : StoreFault) → StopsAsk sql params (state g old) (state g new) f → view_fault f ≡ view.StoreRefused → IsStopped g (state g old) (state g new)
+    pub read_stopped : (f : StoreFault) → StopsAsk true (state g old) (state g new) f → view_fault f ≡ view.StoreRefused → IsStopped g (state g old) (state g new)
     read_stopped NoMemory h same = absurd (let clash = same in cc)
-    read_stopped (Refused e) (inl (inl more)) same = inl more
-    read_stopped (Refused e) (inl (inr limit)) same = inr (inl limit)
-    read_stopped (Refused e) (inr it) same = inr (inr (inr (old, new, since_self (state g old), over, sql, params, it.0, it.1, e, it.2, it.3)))
+    read_stopped (Refused e) (inl (inl more)) same = inl (inl more)
+    read_stopped (Refused e) (inl (inr limit)) same = inl (inr (inl limit))
+    read_stopped (Refused e) (inr odd) same = inr (odd.0.0, subst (λ (d : Database). HasOddText (tables_in d.trees)) (sym odd.0.1) odd.1)
 
-    read_so : (f : StoreFault) (U : Type 0) → StopsAsk sql params (state g old) (state g new) f → Because (read_refusal f) (IsStopped g (state g old) (state g new)) U
+    read_so : (f : StoreFault) (U : Type 0) → StopsAsk true (state g old) (state g new) f → Because (read_refusal f) (IsStopped g (state g old) (state g new)) U
     read_so NoMemory U h = tt
     read_so (Refused e) U h = read_stopped (Refused e) h refl
 
-    pub read_because : (f : StoreFault) (x : Refusal) (U : Type 0) → x ≡ read_refusal f → StopsAsk sql params (state g old) (state g new) f → Because x (IsStopped g (state g old) (state g new)) U
+    pub read_because : (f : StoreFault) (x : Refusal) (U : Type 0) → x ≡ read_refusal f → StopsAsk true (state g old) (state g new) f → Because x (IsStopped g (state g old) (state g new)) U
     read_because f x U is h = subst (λ y. Because y (IsStopped g (state g old) (state g new)) U) (sym is) (read_so f U h)
 
-  -- a change of rows that the store's failure or its database refused
-  pub change_stopped : (old new : Held S) (sql : List ℕ) (params : Row) → IsOver true (state g old) → IsOurWrite sql params → MoreFaults (state g old).faults (state g new).faults ⊎ IsDeclined sql params (state g old)
+  -- a change of rows that the store's failure or a limit refused
+  pub change_stopped : (old new : Held S) → IsOver true (state g old) → MoreFaults (state g old).faults (state g new).faults ⊎ (IsSome (state g old).step_limit ⊎ IsFull (state g old).now.trees)
       → IsStopped g (state g old) (state g new)
-  change_stopped old new sql params over listed (inl more) = inl more
-  change_stopped old new sql params over listed (inr declined) = inr (inr (inl (old, since_self (state g old), over, sql, params, listed, declined)))
+  change_stopped old new over (inl more) = inl (inl more)
+  change_stopped old new over (inr (inl limit)) = inl (inr (inl limit))
+  change_stopped old new over (inr (inr full)) = inl (inr (inr (old, since_self (state g old), over, full)))
 
 -- an error of the store, told as a fault of a read
-pub fault_told : (sql : List ℕ) (params : Row) (old new : State) (e : Error) → FailsToQuery sql params old new e → IsReadFault sql params old new (fault_of e)
-fault_told sql params old new (SqliteFailure OutOfMemory) h = inl (_, h)
-fault_told sql params old new e h = inl (other e refl, h)
+pub fault_told : (kinds : List Kind) (sql : List ℕ) (params : Row) (old new : State) (e : Error) → FailsToQuery sql params old new e → IsReadFault kinds sql params old new (fault_of e)
+fault_told kinds sql params old new (SqliteFailure OutOfMemory) h = inl (_, h)
+fault_told kinds sql params old new e h = inl (other e refl, h)
   where
     other : (e : Error) → Refused e ≡ fault_of e → e ≢ SqliteFailure OutOfMemory
     other e is same = let clash = is ∙ ap fault_of same in cc
@@ -126,23 +130,22 @@ more_yet : (a b c : ℕ) → MoreFaults a b → b ≤ c → MoreFaults a c
 more_yet a b c more le = omega (arith, more, le)
 
 module _ {S : Type 0} (g : Ghosts S) where
-  cut_after : (a b c : State) → Since a b → IsCutShort g b c → IsCutShort g a c
-  cut_after a b c since (inl more) = inl (more_after a.faults b.faults c.faults since.0 more)
-  cut_after a b c since (inr (inl limit)) = inr (inl (subst (λ (o : Option ℕ). IsSome o) since.1 limit))
-  cut_after a b c since (inr (inr (mid, after, later, over, sql, params, listed, rows, e, shown, misread))) =
-      inr (inr (mid, after, since_then a b (state g mid) since later, over, sql, params, listed, rows, e, shown, misread))
+  cut_after : (d e : Database) (a b c : State) → e ≡ d → Since a b → IsCutShort e b c → IsCutShort d a c
+  cut_after d e a b c same since (inl more) = inl (more_after a.faults b.faults c.faults since.0 more)
+  cut_after d e a b c same since (inr (inl limit)) = inr (inl (subst (λ (o : Option ℕ). IsSome o) since.1 limit))
+  cut_after d e a b c same since (inr (inr odd)) = inr (inr (subst (λ (db : Database). HasTables db × HasOddText (tables_in db.trees)) same odd))
 
-  -- a question that was refused, behind others
-  pub rows_stopped : (old mid new : Held S) (sql : List ℕ) (params : Row) (f : StoreFault) → Since (state g old) (state g mid) → IsOver false (state g mid) → StopsAsk sql params (state g mid) (state g new) f → StopsRows g old new f
-  rows_stopped old mid new sql params NoMemory since over h = tt
-  rows_stopped old mid new sql params (Refused e) since over (inl (inl more)) = inl (more_after (state g old).faults (state g mid).faults (state g new).faults since.0 more)
-  rows_stopped old mid new sql params (Refused e) since over (inl (inr limit)) = inr (inl (subst (λ (o : Option ℕ). IsSome o) since.1 limit))
-  rows_stopped old mid new sql params (Refused e) since over (inr it) = inr (inr (mid, new, since, over, sql, params, it.0, it.1, e, it.2, it.3))
+  -- a question that was refused, behind others that left the tables as they were
+  pub rows_stopped : (old mid new : Held S) (f : StoreFault) → Since (state g old) (state g mid) → (state g mid).now ≡ (state g old).now → IsOver false (state g mid) → StopsAsk false (state g mid) (state g new) f → StopsRows g old new f
+  rows_stopped old mid new NoMemory since same over h = tt
+  rows_stopped old mid new (Refused e) since same over (inl (inl more)) = inl (more_after (state g old).faults (state g mid).faults (state g new).faults since.0 more)
+  rows_stopped old mid new (Refused e) since same over (inl (inr limit)) = inr (inl (subst (λ (o : Option ℕ). IsSome o) since.1 limit))
+  rows_stopped old mid new (Refused e) since same over (inr odd) = inr (inr (subst (λ (db : Database). HasTables db × HasOddText (tables_in db.trees)) same (over.now, odd.1)))
 
-  pub rows_after : {V : Type 0} (a b c : Held S) (r : Result V StoreFault) → Since (state g a) (state g b) → IfErr r (StopsRows g b c) → IfErr r (StopsRows g a c)
-  rows_after a b c (Ok v) since h = tt
-  rows_after a b c (Err NoMemory) since h = tt
-  rows_after a b c (Err (Refused e)) since h = cut_after (state g a) (state g b) (state g c) since h
+  pub rows_after : {V : Type 0} (a b c : Held S) (r : Result V StoreFault) → Since (state g a) (state g b) → (state g b).now ≡ (state g a).now → IfErr r (StopsRows g b c) → IfErr r (StopsRows g a c)
+  rows_after a b c (Ok v) since same h = tt
+  rows_after a b c (Err NoMemory) since same h = tt
+  rows_after a b c (Err (Refused e)) since same h = cut_after (state g a).now (state g b).now (state g a) (state g b) (state g c) same since h
 
   -- the statements that make the tables, behind others and before others
   pub making_stopped : (a b c d : Held S) (e : Error) → Since (state g a) (state g b) → (state g c).faults ≤ (state g d).faults → StopsMaking g b c e → StopsMaking g a d e
@@ -176,9 +179,10 @@ module _ {S : Type 0} (g : Ghosts S) where
       by_fault fault.NotOurs is = h (λ same. let clash = is ∙ ap opening_fault same in cc)
       by_fault _ is = tt
 
-  pub rows_held : (old new : Held S) (f : Fault) (r : StoreFault) → f ≡ read_fault_of r → StopsRows g old new r → StopsOpening g (state g old) (state g new) f
-  rows_held old new f NoMemory is h = subst (StopsOpening g (state g old) (state g new)) (sym is) tt
-  rows_held old new f (Refused e) is h = error_held (state g old) (state g new) f e is (λ other. inr h)
+  pub rows_held : (old new : Held S) (f : Fault) (r : StoreFault) → f ≡ read_fault_of r → (state g old).now ≡ (state g old).committed → StopsRows g old new r → StopsOpening g (state g old) (state g new) f
+  rows_held old new f NoMemory is rest h = subst (StopsOpening g (state g old) (state g new)) (sym is) tt
+  rows_held old new f (Refused e) is rest h =
+      error_held (state g old) (state g new) f e is (λ other. inr (subst (λ (db : Database). IsCutShort db (state g old) (state g new)) rest h))
 
   pub rollback_held : (old new : State) (f : Fault) (e : Error) → f ≡ opening_fault e → old.in_transaction ≡ true → Executes (codes "ROLLBACK") [] old new (Err e) → StopsOpening g old new f
   rollback_held old new f e is inside h = error_held old new f e is (λ other. elim (cases_Bool old.is_open) [
@@ -193,16 +197,22 @@ module _ {S : Type 0} (g : Ghosts S) where
   ])
 
   -- what was shut since, was so by a failure
-  module _ (a b c : State) (P : Trees → Type 0) (survives : Survives a b P) (clean : HasCleanDisk b) (le : b.faults ≤ c.faults) where
-    pub held_after : IsHeldUp g b c → IsHeldUp g a c
-    held_after (inl shut) = elim (cases_Bool a.is_open) [
+  module _ (a b c : State) (P : Trees → Type 0) (survives : Survives a b P) (clean : HasCleanDisk b) (le : b.faults ≤ c.faults) (kept : IsTrue b.is_open → b.committed ≡ a.committed) where
+    was_shut : b.is_open ≡ false → IsHeldUp g a c
+    was_shut shut = elim (cases_Bool a.is_open) [
       | inl up ↦ inr (inl (elim (survives.closes clean up) [
         | inl still_up ↦ absurd (true≢false (sym still_up ∙ shut))
         | inr more ↦ more_yet a.faults b.faults c.faults more le
       ]))
       | inr shut_before ↦ inl shut_before
     ]
-    held_after (inr cut) = inr (cut_after a b c (survived a b P survives) cut)
+
+    pub held_after : IsHeldUp g b c → IsHeldUp g a c
+    held_after (inl shut) = was_shut shut
+    held_after (inr cut) = elim (cases_Bool b.is_open) [
+      | inl up ↦ inr (cut_after a.committed b.committed a b c (kept up) (survived a b P survives) cut)
+      | inr shut ↦ was_shut shut
+    ]
 
     pub told_after : {V : Type 0} (r : Result V Fault) → IfErr r (StopsOpening g b c) → IfErr r (StopsOpening g a c)
     told_after (Ok v) h = tt

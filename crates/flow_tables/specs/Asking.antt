@@ -1,30 +1,29 @@
 -- What is asked of the tables in one statement, and what becomes of it.
 use Rattle.std.specs.Prelude.{◌≡◌, ◌⊎◌}
-use Rattle.flow_tables.specs.Names.{Book, first as list_first, Tables, Held, state, Row, Executes, HasCleanDisk, State, Survives, Error, Ghosts, Bool, IfErr, List, MatchResult, Option, true, ℕ, Changes, HasEnded, Holds, IsAtRest, IsRefused, IsStill, tables_in, StoreFault, ViewFault, Shown, Err, Ok, Result, IsSome}
+use Rattle.flow_tables.specs.Names.{Book, first as list_first, Tables, Held, state, Row, Executes, HasCleanDisk, State, Survives, Error, Ghosts, Bool, IfErr, List, MatchResult, Option, true, ℕ, Kind, Changes, HasEnded, Holds, IsAtRest, IsRefused, IsStill, tables_in, StoreFault, ViewFault, Err, Ok, Result, IsSome}
 use Rattle.sqlite_disk.specs.Disk.{MoreFaults}
 use Rattle.flow_view.specs.declared.fault.ViewFault.TheVariants as view
-use Rattle.flow_sql.specs.Meaning.{IsOurRead}
+use Rattle.flow_sql.specs.Stored.{HasOddText}
 use Rattle.flow_tables.specs.declared.fault.StoreFault.TheVariants.{NoMemory, Refused}
-use Rattle.flow_tables.specs.Reads.{IsReadFault, AreMisread}
+use Rattle.flow_tables.specs.Reads.{IsReadFault}
 use Rattle.flow_tables.specs.Faults.{IsStopped, StopsWith}
 use Rattle.flow_tables.specs.Owned.{ReadsBook, StopsRead}
 
--- Why a question is not answered: memory ran out, the disk has failed, a limit is set on the steps of a query, or a row of the
--- answer can't be read.
-abbrev pub StopsAsk : List ℕ → Row → State → State → StoreFault → Type 0
-StopsAsk sql params old new NoMemory = Unit {0}
-StopsAsk sql params old new (Refused e) =
-    (MoreFaults old.faults new.faults ⊎ IsSome old.step_limit) ⊎ (IsOurRead sql params × (rows : List Row) × Shown sql params old new rows × AreMisread rows (Refused e))
+-- Why a question to our tables is not answered: memory ran out, the disk has failed, a limit is set on the steps of a query, or the
+-- tables hold a text that isn't UTF-8; then they are as they were.
+abbrev pub StopsAsk : Bool → State → State → StoreFault → Type 0
+StopsAsk inside old new NoMemory = Unit {0}
+StopsAsk inside old new (Refused e) = (MoreFaults old.faults new.faults ⊎ IsSome old.step_limit) ⊎ (IsStill inside old new × HasOddText (tables_in old.now.trees))
 
 -- What becomes of a question: it is answered so, and the tables are as they were, or it was refused, and the transaction may
 -- have ended. Nothing is committed.
-pub record IsAsked {A : Type 0} (sql : List ℕ) (params : Row) (old new : State) (result : Result A StoreFault) (tells : Tables → A → Type 0) : Type 0 where
+pub record IsAsked {A : Type 0} (sql : List ℕ) (params : Row) (kinds : List Kind) (old new : State) (result : Result A StoreFault) (tells : Tables → A → Type 0) : Type 0 where
   pub reads : (inside : Bool) → Holds inside old → HasCleanDisk new
       → MatchResult result (λ v. IsStill inside old new × tells (tables_in old.now.trees) v) (λ _. IsRefused inside old new)
   pub clean : HasCleanDisk new → HasCleanDisk old
-  pub cause : HasCleanDisk new → IfErr result (IsReadFault sql params old new)
-  -- of our tables it is refused for the store, or what it answers can't be read
-  pub stops : (inside : Bool) → Holds inside old → HasCleanDisk new → IfErr result (StopsAsk sql params old new)
+  pub cause : HasCleanDisk new → IfErr result (IsReadFault kinds sql params old new)
+  -- of our tables it is refused for the store, or for a text of theirs
+  pub stops : (inside : Bool) → Holds inside old → HasCleanDisk new → IfErr result (StopsAsk inside old new)
   pub ended : HasCleanDisk new → IsAtRest old → HasEnded old new
   pub survives : Survives old new (λ _. ⊥)
 
@@ -48,11 +47,12 @@ pub record IsRecalled {S A : Type 0} (g : Ghosts S) (old new : Held S) (result :
 
 -- What becomes of a change of rows, within a transaction: the tables are changed so, or it was refused, and the transaction may
 -- have ended. Nothing is committed.
-pub record IsChanged {S : Type 0} (g : Ghosts S) (sql : List ℕ) (params : Row) (old new : Held S) (result : Result (Unit {0}) Error) (fits : Tables → Type 0) (after : Tables → Tables) : Type 0 where
+pub record IsChanged {S : Type 0} (g : Ghosts S) (sql : List ℕ) (params : Row) (old new : Held S) (result : Result (Unit {0}) Error) (fits welcome : Tables → Type 0) (after : Tables → Tables) : Type 0 where
   pub put : Holds true (state g old) → fits (tables_in (state g old).now.trees) → HasCleanDisk (state g new)
       → MatchResult result (λ _. Changes (state g old) (state g new) (after (tables_in (state g old).now.trees))) (λ _. IsRefused true (state g old) (state g new))
   pub clean : HasCleanDisk (state g new) → HasCleanDisk (state g old)
   -- a refusal is that of the statement itself
   pub ran : HasCleanDisk (state g new) → IfErr result (λ e. Executes sql params (state g old) (state g new) (Err e))
-  pub cause : Holds true (state g old) → HasCleanDisk (state g new) → IfErr result (StopsWith g old new)
+  -- and where the tables take the change, that of the store
+  pub cause : Holds true (state g old) → welcome (tables_in (state g old).now.trees) → HasCleanDisk (state g new) → IfErr result (StopsWith g old new)
   pub survives : Holds true (state g old) → Survives (state g old) (state g new) (λ _. ⊥)

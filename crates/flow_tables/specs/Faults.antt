@@ -1,14 +1,14 @@
 -- How an error of the store is told: the want of memory by itself, all else as the store's refusal. And what stands behind
 -- a refusal.
 use Rattle.std.specs.Prelude.{◌≡◌, ◌⊎◌, ◌≢◌}
-use Rattle.flow_tables.specs.Names.{Held, state, Row, Executes, State, Error, Ghosts, Bool, List, false, true, ℕ, IsOver, Refusal, StoreFault, ViewFault, Shown, SqliteFailure, OutOfMemory, Err, Ok, [], Result, IsSome}
+use Rattle.flow_tables.specs.Names.{Held, state, Row, Executes, State, Error, Ghosts, List, false, true, ℕ, IsOver, tables_in, Refusal, StoreFault, ViewFault, SqliteFailure, OutOfMemory, Err, Ok, [], Result, IsSome}
 use Rattle.sqlite_disk.specs.Disk.{MoreFaults}
 use Rattle.flow_view.specs.declared.fault.ViewFault.TheVariants as view
 use Rattle.flow_tables.specs.declared.fault.StoreFault.TheVariants.{NoMemory, Refused}
 use Rattle.flow_tables.specs.declared.fault.Refusal.TheVariants as refusal
-use Rattle.flow_sql.specs.Meaning.{IsOurRead, IsOurWrite, IsDeclined}
+use Rattle.flow_sql.specs.Coming.{IsFull}
+use Rattle.flow_sql.specs.Stored.{HasOddText}
 pub use Rattle.flow_sql.specs.States.{Since}
-use Rattle.flow_tables.specs.Reads.{AreMisread}
 
 abbrev pub fault_of : Error → StoreFault
 fault_of (SqliteFailure OutOfMemory) = NoMemory
@@ -20,21 +20,22 @@ WasStopped sql old new = (e : Error) × (e ≢ SqliteFailure OutOfMemory) × Exe
 
 ---- Why the store stops what is done
 
--- Within a transaction over our tables, the store's database declined one of our changes of rows.
-abbrev pub WasDeclined : {S : Type 0} → Ghosts S → State → Type 0
-WasDeclined {S} g first =
-    (mid : Held S) × Since first (state g mid) × IsOver true (state g mid) × (sql : List ℕ) × (params : Row) × IsOurWrite sql params × IsDeclined sql params (state g mid)
+-- Within a transaction over our tables, the last row of one of them had the last number that there is.
+abbrev pub WasFull : {S : Type 0} → Ghosts S → State → Type 0
+WasFull {S} g first = (mid : Held S) × Since first (state g mid) × IsOver true (state g mid) × IsFull (state g mid).now.trees
 
--- There, or where no transaction runs, a row of the answer to one of our questions can't be read.
-abbrev pub WasMisread : {S : Type 0} → Bool → Ghosts S → State → Type 0
-WasMisread {S} inside g first =
-    (mid after : Held S) × Since first (state g mid) × IsOver inside (state g mid) × (sql : List ℕ) × (params : Row) × IsOurRead sql params
-    × (rows : List Row) × (e : Error) × Shown sql params (state g mid) (state g after) rows × AreMisread rows (Refused e)
+-- The transaction shows our tables, and they hold a text that isn't UTF-8.
+abbrev pub ShowsOddText : State → Type 0
+ShowsOddText s = IsOver true s × HasOddText (tables_in s.now.trees)
 
--- The store stopped what was done since the first state: the disk has failed, a limit is set on the steps of a query, its database
--- declined a change of rows, or what it answered can't be read.
+-- The store hindered what was done since the first state: the disk has failed, a limit is set on the steps of a query, or no row has
+-- a number left.
+abbrev pub IsHindering : {S : Type 0} → Ghosts S → State → State → Type 0
+IsHindering g first new = MoreFaults first.faults new.faults ⊎ (IsSome first.step_limit ⊎ WasFull g first)
+
+-- It stopped so, or at a text that isn't UTF-8.
 abbrev pub IsStopped : {S : Type 0} → Ghosts S → State → State → Type 0
-IsStopped g first new = MoreFaults first.faults new.faults ⊎ (IsSome first.step_limit ⊎ (WasDeclined g first ⊎ WasMisread true g first))
+IsStopped g first new = IsHindering g first new ⊎ ShowsOddText new
 
 -- an error that isn't the want of memory has this behind it
 abbrev pub StopsWith : {S : Type 0} → Ghosts S → Held S → Held S → Error → Type 0

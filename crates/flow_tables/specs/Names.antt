@@ -28,9 +28,10 @@ pub use Rattle.flow_rows.specs.Told.{FitsTables, IsReadable, IsReadableTurn, Sta
 pub use Rattle.flow_rows.specs.Whole.{shown_book}
 pub use Rattle.flow_rows.specs.declared.rows.StoreRows.{StoreRows}
 pub use Rattle.flow_sql.specs.Layout.{Write, format_sql, no_schema, schema, write_sql, Read, read_sql}
-pub use Rattle.flow_sql.specs.Names.{event_id, last, Tables, events_of, tasks_of, timers_of, OutboxRow, RunRow, survives_weaker, Database, Held, state, Row, Executes, HasCleanDisk, State, Survives, Error, Int, Words, Ghosts, column, ints, AllByRecursion, int_eq, Bool, IfErr, IsTrue, List, MatchResult, Option, codes, false, filter, int_lt, map, pos, true, ℕ}
-pub use Rattle.flow_sql.specs.States.{AreNew, Changes, HasBegun, HasCommitted, HasEnded, HasTables, Holds, IsAtRest, IsBlank, IsOver, IsRefusal, IsRefused, IsStill, IsUndone, RunsTo, no_tables, AreOurs, FirstIs, HasGoneBack}
+pub use Rattle.flow_sql.specs.Names.{event_id, last, Tables, events_of, tasks_of, timers_of, OutboxRow, RunRow, survives_weaker, Database, Held, state, Kind, Row, Executes, HasCleanDisk, State, Survives, Error, Int, Words, Ghosts, column, ints, AllByRecursion, int_eq, Bool, IfErr, IsTrue, List, MatchResult, Option, codes, false, filter, int_lt, map, pos, true, ℕ}
+pub use Rattle.flow_sql.specs.States.{AreNew, HasBegun, HasCommitted, HasEnded, HasTables, Holds, IsAtRest, IsBlank, IsOver, IsRefusal, IsRefused, IsStill, IsUndone, RunsTo, no_tables, AreOurs, FirstIs, HasGoneBack}
 pub use Rattle.flow_sql.specs.Stored.{number_at, tables_in}
+pub use Rattle.flow_tables.specs.Changed.{Changes, KeepsUtf8}
 pub use Rattle.flow_tables.specs.declared.fault.Refusal.{Refusal}
 pub use Rattle.flow_tables.specs.declared.fault.StoreFault.{StoreFault}
 pub use Rattle.flow_tables.specs.declared.known.Known.{Known}
@@ -42,4 +43,4 @@ pub use Rattle.sqlite.specs.Reading.{IsReadError}
 pub use Rattle.sqlite.specs.State.{CommitsBy, Shown, QueriesRow, FailsToQuery}
 pub use Rattle.sqlite.specs.declared.error.Error.TheVariants.{QueryReturnedNoRows, SqliteFailure}
 pub use Rattle.sqlite.specs.declared.error.ErrorCode.TheVariants.{OutOfMemory}
-pub use Rattle.std.specs.Prelude.{Err, IfOk, None, Ok, OnOk, Some, length, option_map, reverse, ℤ, ◌≡◌, [], ◌∷◌, refl, ◌⊎◌, Result, ◌+◌, ◌≢◌, ◌≤◌, ◌^◌, if◌then◌else◌, ◌<◌, suc, eqb, negsuc, IsSome, drop, ⊤, zero, ◌↔◌, ◌++◌, ◌<ℤ◌}
+pub use Rattle.std.specs.Prelude.{Err, IfOk, None, Ok, OnOk, Some, length, option_map, reverse, slice_get, ℤ, ◌≡◌, [], ◌∷◌, refl, ◌⊎◌, Result, ◌+◌, ◌≢◌, ◌≤◌, ◌^◌, if◌then◌else◌, ◌<◌, suc, eqb, negsuc, IsSome, drop, ⊤, zero, ◌↔◌, ◌++◌, ◌<ℤ◌}

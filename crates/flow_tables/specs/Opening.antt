@@ -1,12 +1,12 @@
 -- What opening reads and finds, and why it is refused.
 use Rattle.std.specs.Prelude.{◌≡◌, ◌⊎◌, ◌≢◌}
 use Rattle.sqlite_disk.specs.Disk.{MoreFaults}
-use Rattle.flow_tables.specs.Names.{Fault, BadVersion, Damaged, NoMemory, NotOurs, StoreRefused, is_program, Book, first_damage, by_run, StoreRows, format_sql, Tables, Held, state, Row, Executes, State, Error, Int, Ghosts, column, AllByRecursion, Bool, List, false, pos, true, ℕ, HasEnded, StoreFault, IsReadError, QueriesRow, QueryReturnedNoRows, SqliteFailure, Err, Ok, Some, length, ℤ, [], IsSome, ⊤}
+use Rattle.flow_tables.specs.Names.{Fault, BadVersion, Damaged, NoMemory, NotOurs, StoreRefused, is_program, Book, first_damage, by_run, StoreRows, format_sql, Read, read_sql, Tables, Database, Held, state, Row, Executes, State, Error, Int, Ghosts, column, AllByRecursion, Bool, List, false, pos, true, ℕ, HasEnded, HasTables, tables_in, StoreFault, IsReadError, QueriesRow, QueryReturnedNoRows, SqliteFailure, Err, Ok, Some, length, ℤ, [], IsSome, ⊤}
 use Rattle.sqlite.specs.declared.error.ErrorCode.TheVariants as code
 use Rattle.flow_rows.specs.Rows.{rows_of}
 use Rattle.flow_rows.specs.Standing.{AreKept}
 use Rattle.flow_tables.specs.declared.fault.StoreFault.TheVariants as read
-use Rattle.flow_tables.specs.Faults.{WasMisread}
+use Rattle.flow_sql.specs.Stored.{HasOddText, kinds_of}
 use Rattle.flow_tables.specs.Reads.{IsReadFault}
 
 ---- The format
@@ -84,7 +84,7 @@ IsMet {S} g e =
     (old new : Held S) × (sql : List ℕ)
     × (Executes sql [] (state g old) (state g new) (Err e)
     ⊎ (QueriesRow sql [] (state g old) (state g new) (Err e)
-    ⊎ (IsReadFault sql [] (state g old) (state g new) (read.Refused e)
+    ⊎ (((r : Read) × (read_sql r ≡ sql) × IsReadFault (kinds_of r) sql [] (state g old) (state g new) (read.Refused e))
     ⊎ ((row : Row) × QueriesRow sql [] (state g old) (state g new) (Ok row) × IsReadError 0 (column row 0) e))))
 
 -- The other faults have clauses of their own, and want of memory none.
@@ -95,21 +95,22 @@ HasCause g _ = ⊤
 
 ---- What stands behind it, over our tables or none
 
--- Reading stopped: the disk has failed since the first state, a limit is set on the steps of a query, or a row can't be read.
-abbrev pub IsCutShort : {S : Type 0} → Ghosts S → State → State → Type 0
-IsCutShort g first new = MoreFaults first.faults new.faults ⊎ (IsSome first.step_limit ⊎ WasMisread false g first)
+-- Reading this stopped: the disk has failed since the first state, a limit is set on the steps of a query, or our tables there hold a
+-- text that isn't UTF-8.
+abbrev pub IsCutShort : Database → State → State → Type 0
+IsCutShort db first new = MoreFaults first.faults new.faults ⊎ (IsSome first.step_limit ⊎ (HasTables db × HasOddText (tables_in db.trees)))
 
 abbrev pub StopsRows : {S : Type 0} → Ghosts S → Held S → Held S → StoreFault → Type 0
 StopsRows g first new read.NoMemory = ⊤
-StopsRows g first new (read.Refused e) = IsCutShort g (state g first) (state g new)
+StopsRows g first new (read.Refused e) = IsCutShort (state g first).now (state g first) (state g new)
 
 -- Making the tables stopped: the disk has failed, or a limit is set on the steps of a query. The database declines none of the statements.
 abbrev pub StopsMaking : {S : Type 0} → Ghosts S → Held S → Held S → Error → Type 0
 StopsMaking g first new e = e ≢ SqliteFailure code.OutOfMemory → MoreFaults (state g first).faults (state g new).faults ⊎ IsSome (state g first).step_limit
 
--- The one or the other, or the connection was shut.
+-- The one or the other, where what the last commit left is read, or the connection was shut.
 abbrev pub IsHeldUp : {S : Type 0} → Ghosts S → State → State → Type 0
-IsHeldUp g first new = (first.is_open ≡ false) ⊎ IsCutShort g first new
+IsHeldUp g first new = (first.is_open ≡ false) ⊎ IsCutShort first.committed first new
 
 -- So it is behind E80 and E81; the other faults have clauses of their own, and want of memory none.
 abbrev pub StopsOpening : {S : Type 0} → Ghosts S → State → State → Fault → Type 0

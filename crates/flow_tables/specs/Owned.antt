@@ -7,7 +7,8 @@ use Rattle.sqlite.specs.Held.{held_code}
 use Rattle.flow_view.specs.declared.fault.ViewFault.TheVariants as fault
 use Rattle.flow_tables.specs.contracts.fault.Refusal as refusal_row
 use Rattle.flow_tables.specs.Known.{IsKnown}
-use Rattle.flow_tables.specs.Faults.{IsStopped, Since}
+use Rattle.flow_sql.specs.Stored.{AreUtf8}
+use Rattle.flow_tables.specs.Faults.{IsHindering, Since}
 
 -- The value: the connection, why the rest of the transaction is refused, if it is, and, for contracts alone, the connection
 -- as it was handed in.
@@ -33,14 +34,19 @@ book_of db = book_in (tables_in db)
 abbrev pub TellBook : Trees → Type 0
 TellBook db = Tells (tables_in db) (book_of db)
 
+-- and their texts are UTF-8
+pub record ShowsBook (db : Trees) : Type 0 where
+  pub tells : TellBook db
+  pub utf8 : AreUtf8 (tables_in db)
+
 -- What the tables keep true of a connection whose disk is clean.
 pub record IsOwn (s : State) (refused : Option Refusal) : Type 0 where
   pub over : IsTrue s.is_open → IsOver s.in_transaction s
-  pub kept : IsTrue s.is_open → TellBook s.committed.trees
+  pub kept : IsTrue s.is_open → ShowsBook s.committed.trees
   -- at rest the connection shows what was committed
   pub rest : s.in_transaction ≡ false → IsTrue s.is_open → s.now ≡ s.committed
   -- a transaction in which nothing was refused shows a book
-  pub whole : s.in_transaction ≡ true → refused ≡ None → IsTrue s.is_open × TellBook s.now.trees
+  pub whole : s.in_transaction ≡ true → refused ≡ None → IsTrue s.is_open × ShowsBook s.now.trees
 
 ---- The book
 
@@ -80,7 +86,7 @@ IsAware s refused known = refused ≡ None → s.in_transaction ≡ true → IsK
 
 -- the store stopped what was done since the first
 abbrev pub Refuses : {S : Type 0} → Ghosts S → Stored S → Stored S → Type 0
-Refuses g first t = IsStopped g (state_of g first) (state_of g t)
+Refuses g first t = IsHindering g (state_of g first) (state_of g t)
 
 -- Nothing more is done: the transaction was refused something, or none runs.
 abbrev pub IsHindered : {S : Type 0} → Ghosts S → Stored S → Type 0

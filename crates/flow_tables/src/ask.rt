@@ -4,6 +4,7 @@ ghost use Rattle.flow_tables.specs.Names.{Book, Tells as TellsBook, Tables, stat
 ghost use Rattle.sqlite.specs.State.{CommitsShowing};
 ghost use Rattle.flow_tables.specs.Reads.{Tells, IsReadFault};
 ghost use Rattle.flow_tables.specs.Asking.{IsAsked, IsFirst, IsValue, IsRecalled, IsChanged};
+ghost use Rattle.flow_sql.specs.Stored.{AreUtf8};
 ghost use Rattle.flow_sql.specs.Meaning.{Asks, IsQuestion, Alters, IsRowChange};
 
 use crate::fault::{StoreFault, view_fault};
@@ -25,7 +26,7 @@ pub trait Question: Sized {
         ensures err { HasCleanDisk (state S.Store conn.new) → IfErr result (FailsToQuery (asks self.now).sql (asks self.now).params (state S.Store conn.old) (state S.Store conn.new)) }
         ensures survives { Survives (state S.Store conn.old) (state S.Store conn.new) (CommitsShowing (asks self.now).sql (asks self.now).params (state S.Store conn.old)) };
 
-    ghost means: { IsQuestion Self.Item.said asks };
+    ghost means: { IsQuestion Self.Item.said Self.Item.kinds asks };
 }
 
 /// A question whose answer is a value of the book.
@@ -58,7 +59,7 @@ fn ask_rows<Q: Question, S: Alter>(
     question: &Q,
 ) -> Result<Vec<Q::Item>, StoreFault>
     ensures said { HasCleanDisk (state S.Store conn.new) → IfOk result (λ v. Tells Q.Item.said (Q.asks question.now).sql (Q.asks question.now).params (state S.Store conn.old) (state S.Store conn.new) v.items) }
-    ensures cause { HasCleanDisk (state S.Store conn.new) → IfErr result (IsReadFault (Q.asks question.now).sql (Q.asks question.now).params (state S.Store conn.old) (state S.Store conn.new)) }
+    ensures cause { HasCleanDisk (state S.Store conn.new) → IfErr result (IsReadFault Q.Item.kinds (Q.asks question.now).sql (Q.asks question.now).params (state S.Store conn.old) (state S.Store conn.new)) }
     ensures survives { Survives (state S.Store conn.old) (state S.Store conn.new) (CommitsShowing (Q.asks question.now).sql (Q.asks question.now).params (state S.Store conn.old)) }
 {
     match question.send(conn) {
@@ -73,7 +74,7 @@ pub fn ask<Q: Question, S: Alter>(
     conn: &mut Connection<S>,
     question: &Q,
 ) -> Result<Vec<Q::Item>, StoreFault>
-    ensures { IsAsked (Q.asks question.now).sql (Q.asks question.now).params (state S.Store conn.old) (state S.Store conn.new) result (λ t v. (Q.asks question.now).tells t v.items) }
+    ensures { IsAsked (Q.asks question.now).sql (Q.asks question.now).params Q.Item.kinds (state S.Store conn.old) (state S.Store conn.new) result (λ t v. (Q.asks question.now).tells t v.items) }
 {
     ask_rows(alloc, conn, question)
 }
@@ -84,7 +85,7 @@ pub fn ask_first<Q: Question, S: Alter>(
     conn: &mut Connection<S>,
     question: &Q,
 ) -> Result<Option<Q::Item>, StoreFault>
-    ensures { IsAsked (Q.asks question.now).sql (Q.asks question.now).params (state S.Store conn.old) (state S.Store conn.new) result (IsFirst (Q.asks question.now).tells) }
+    ensures { IsAsked (Q.asks question.now).sql (Q.asks question.now).params Q.Item.kinds (state S.Store conn.old) (state S.Store conn.new) result (IsFirst (Q.asks question.now).tells) }
 {
     match ask(alloc, conn, question) {
         Ok(items) => Ok(first_of(items)),
@@ -120,12 +121,13 @@ pub trait RowChange: Sized {
     fn send<S: Alter>(&self, conn: &mut Connection<S>) -> Result<usize, Error>
         ensures runs { HasCleanDisk (state S.Store conn.new) → Executes (does self.now).sql (does self.now).params (state S.Store conn.old) (state S.Store conn.new) result }
         ensures survives { Survives (state S.Store conn.old) (state S.Store conn.new) (CommitsBy (does self.now).sql (does self.now).params (state S.Store conn.old)) }
-        ensures means { IsRowChange S.Store (does self.now) };
+        ensures means { IsRowChange S.Store (does self.now) }
+        ensures utf8 { (t : Tables) → AreUtf8 t → AreUtf8 ((does self.now).after t) };
 }
 
 /// Changes the rows so.
 pub fn change<C: RowChange, S: Alter>(conn: &mut Connection<S>, change: &C) -> Result<(), Error>
-    ensures { IsChanged S.Store (C.does change.now).sql (C.does change.now).params conn.old conn.new result (C.does change.now).fits (C.does change.now).after }
+    ensures { IsChanged S.Store (C.does change.now).sql (C.does change.now).params conn.old conn.new result (C.does change.now).fits (C.does change.now).welcome (C.does change.now).after }
 {
     match change.send(conn) {
         Ok(_) => Ok(()),

@@ -14,4 +14,5 @@ mod rows;
 pub mod tables;
 pub mod transaction;
 pub mod turn_changes;
+mod utf8;
 mod whole_run;

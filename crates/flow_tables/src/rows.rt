@@ -1,8 +1,10 @@
 //! Rows of answers, read as what they say.
 ghost use Rattle.std.specs.Prelude.{◌≡◌};
-ghost use Rattle.flow_tables.specs.Names.{Row as SqlRow, column, IfErr, map, number_at, IfOk};
+ghost use Rattle.flow_tables.specs.Names.{Row as SqlRow, Kind, column, IfErr, List, map, number_at, IfOk, Some, slice_get};
+ghost use Rattle.sqlite.specs.Kind.TheVariants.{Integer, Text};
 ghost use Rattle.sqlite_value.specs.Order.{bytes};
 ghost use Rattle.flow_sql.specs.Stored.{number_said, text_said, text_row_said, run_row_said, event_row_said, timer_row_said, task_row_said};
+ghost use Rattle.flow_sql.specs.Stored.{number_kinds, text_kinds, text_row_kinds, run_row_kinds, event_row_kinds, timer_row_kinds, task_row_kinds};
 ghost use Rattle.flow_tables.specs.Reads.{IsMisread, AreMisread};
 
 use crate::fault::StoreFault;
@@ -13,7 +15,7 @@ use std::alloc::Global;
 
 fn number_at(row: &Row, at: usize) -> Result<i64, StoreFault>
     ensures value { IfOk result (λ n. n ≡ number_at row.now at) }
-    ensures cause { IfErr result (IsMisread row.now) }
+    ensures cause { (kinds : List Kind) → slice_get kinds at ≡ Some Integer → IfErr result (IsMisread kinds row.now) }
 {
     match row.get(at) {
         Ok(number) => Ok(number),
@@ -23,7 +25,7 @@ fn number_at(row: &Row, at: usize) -> Result<i64, StoreFault>
 
 fn text_at(alloc: Global, row: &Row, at: usize) -> Result<RawText, StoreFault>
     ensures value { IfOk result (λ t. t ≡ bytes (column row.now at)) }
-    ensures cause { IfErr result (IsMisread row.now) }
+    ensures cause { (kinds : List Kind) → slice_get kinds at ≡ Some Text → IfErr result (IsMisread kinds row.now) }
 {
     let found: Result<String, sqlite::Error> = row.get(at);
     match found {
@@ -39,13 +41,18 @@ fn text_at(alloc: Global, row: &Row, at: usize) -> Result<RawText, StoreFault>
 pub(crate) trait Said: Sized {
     ghost said: { SqlRow → Self };
 
+    // What its columns hold.
+    ghost kinds: { List Kind };
+
     fn read(alloc: Global, row: &Row) -> Result<Self, StoreFault>
         ensures value { IfOk result (λ x. x ≡ said row.now) }
-        ensures cause { IfErr result (IsMisread row.now) };
+        ensures cause { IfErr result (IsMisread kinds row.now) };
 }
 
 impl Said for i64 {
     ghost said = { number_said };
+
+    ghost kinds = { number_kinds };
 
     fn read(_: Global, row: &Row) -> Result<i64, StoreFault> {
         number_at(row, 0)
@@ -55,6 +62,8 @@ impl Said for i64 {
 impl Said for RawText {
     ghost said = { text_said };
 
+    ghost kinds = { text_kinds };
+
     fn read(alloc: Global, row: &Row) -> Result<RawText, StoreFault> {
         text_at(alloc, row, 0)
     }
@@ -62,6 +71,8 @@ impl Said for RawText {
 
 impl Said for TextRow {
     ghost said = { text_row_said };
+
+    ghost kinds = { text_row_kinds };
 
     fn read(alloc: Global, row: &Row) -> Result<TextRow, StoreFault> {
         Ok(TextRow {
@@ -73,6 +84,8 @@ impl Said for TextRow {
 
 impl Said for RunRow {
     ghost said = { run_row_said };
+
+    ghost kinds = { run_row_kinds };
 
     fn read(alloc: Global, row: &Row) -> Result<RunRow, StoreFault> {
         Ok(RunRow {
@@ -88,6 +101,8 @@ impl Said for RunRow {
 impl Said for EventRow {
     ghost said = { event_row_said };
 
+    ghost kinds = { event_row_kinds };
+
     fn read(alloc: Global, row: &Row) -> Result<EventRow, StoreFault> {
         Ok(EventRow {
             run: number_at(row, 0)?,
@@ -101,6 +116,8 @@ impl Said for EventRow {
 impl Said for TimerRow {
     ghost said = { timer_row_said };
 
+    ghost kinds = { timer_row_kinds };
+
     fn read(_: Global, row: &Row) -> Result<TimerRow, StoreFault> {
         Ok(TimerRow {
             run: number_at(row, 0)?,
@@ -112,6 +129,8 @@ impl Said for TimerRow {
 
 impl Said for OutboxRow {
     ghost said = { task_row_said };
+
+    ghost kinds = { task_row_kinds };
 
     fn read(_: Global, row: &Row) -> Result<OutboxRow, StoreFault> {
         Ok(OutboxRow {
@@ -126,7 +145,7 @@ impl Said for OutboxRow {
 /// What the rows of an answer say.
 pub(crate) fn read_all<T: Said + Drop>(alloc: Global, rows: &[Row]) -> Result<Vec<T>, StoreFault>
     ensures value { IfOk result (λ v. v.items ≡ map T.Said.said rows.now) }
-    ensures cause { IfErr result (AreMisread rows.now) }
+    ensures cause { IfErr result (AreMisread T.Said.kinds rows.now) }
 {
     let mut list = Vec::new(alloc);
     for row in rows {

@@ -8,4 +8,4 @@ returns-in-Err-clause-cause g c clean =
     let asks = g.Q.Question.asks c.args.question.now in
     let old = state g.S.Store c.args.conn.now in
     let new = state g.S.Store c.send.new.conn in
-    subst (IsReadFault asks.sql asks.params old new) (sym c.from.ensures) (fault_told asks.sql asks.params old new c.in-Err.error (c.in-Err.ensures.err clean))
+    subst (IsReadFault g.Q.Item.Said.kinds asks.sql asks.params old new) (sym c.from.ensures) (fault_told g.Q.Item.Said.kinds asks.sql asks.params old new c.in-Err.error (c.in-Err.ensures.err clean))

@@ -1,4 +1,5 @@
 use Rattle.std.specs.Prelude.{◌≡◌}
+use Rattle.flow_sql.specs.Stored.{AreUtf8}
 use Rattle.flow_tables.proofs.Names.{is_program, first_damage, by_run, Tells, book_in, shown_book, false, Some, refl, subst, ◌∙◌, sym, ap}
 use Rattle.std.proofs.lemmas.Result.{IfOk-at_ok, IfErr-at_err}
 use Rattle.flow_rows.specs.Standing.{StandsFor}
@@ -27,6 +28,9 @@ returns-in-Ok-Ok-clause-stands g c =
     let its = IfOk-at_ok (λ b. StandsFor is_program rows (shown_book b)) c.in-Ok-Ok.field-0-is c.in-Ok-Ok.ensures.stands in
     record { texts = its.texts; runs = its.runs; same = refl }
 
+pub returns-in-Ok-Ok-clause-utf8 : goal.returns-in-Ok-Ok-clause-utf8
+returns-in-Ok-Ok-clause-utf8 g c clean was = subst AreUtf8 (c.in-Ok.ensures.reads false was clean).1 c.rows_are_utf8.ensures
+
 pub returns-in-Ok-Err-clause-damaged : goal.returns-in-Ok-Err-clause-damaged
 returns-in-Ok-Err-clause-damaged g c clean was =
     let rows = c.in-Ok.rows in
@@ -39,4 +43,6 @@ pub returns-in-Err-clause-among : goal.returns-in-Err-clause-among
 returns-in-Err-clause-among g c = subst IsOfOpening (sym c.read_fault.ensures) (read_among c.in-Err.fault)
 
 pub returns-in-Err-clause-why : goal.returns-in-Err-clause-why
-returns-in-Err-clause-why g c clean was = rows_held g.S.Store c.args.conn.now c.all_rows.new.conn c.read_fault.result c.in-Err.fault c.read_fault.ensures (c.in-Err.ensures.stops clean was)
+returns-in-Err-clause-why g c clean was rest =
+    let up = (was (c.in-Err.ensures.clean clean)).is_open in
+    rows_held g.S.Store c.args.conn.now c.all_rows.new.conn c.read_fault.result c.in-Err.fault c.read_fault.ensures (rest.1 up) (c.in-Err.ensures.stops clean was)

@@ -1,0 +1,163 @@
+-- What the changes of commands have, whatever the book.
+use Rattle.std.proofs.Common.{◌≡◌, ℕ, ◌+◌, List, [], ◌∷◌, length, map, max, refl, ap, ◌∙◌, Option, Some, None, Result, Ok, Err, Bool, true, false}
+use Rattle.std.specs.Prelude.{◌-◌, nat_le, slice_set, if◌then◌else◌}
+use Rattle.std.proofs.lemmas.Option.{none-some}
+use Rattle.flow_base.specs.Syntax.{Bytes, Program}
+use Rattle.flow_base.specs.declared.value.Value.{Value}
+use Rattle.flow_base.specs.declared.event.Cmd.{Cmd}
+use Rattle.flow_base.specs.declared.event.Input.{Input}
+use Rattle.flow_base.specs.declared.event.Input.TheVariants.{Started, ActivityCompleted, Terminated}
+use Rattle.flow_base.specs.declared.book.Task.{Task}
+use Rattle.flow_base.specs.declared.book.Timer.{Timer}
+use Rattle.flow_base.specs.declared.book.Run.{Run}
+use Rattle.flow_base.specs.declared.book.Turn.{Turn}
+use Rattle.flow_base.specs.declared.book.Change.TheVariants.{AddText, AddTurn, AddRun}
+use Rattle.flow_base.specs.declared.code.Code.{Code}
+use Rattle.flow_base.specs.declared.code.Code.TheVariants.{NoText, BadArguments, AlreadyOpen, NoRun}
+use Rattle.flow_base.specs.declared.command.Command.TheVariants as command
+use Rattle.flow_base.specs.declared.command.TextFault.{TextFault}
+use Rattle.flow_base.specs.declared.command.Reply.{Reply}
+use Rattle.flow_base.specs.declared.command.Reply.TheVariants as reply
+use Rattle.flow_model.specs.Deliver.{all_fit}
+use Rattle.flow_model.specs.Turn.{Fresh}
+use Rattle.flow_model.specs.Turned.{turned, position_of}
+use Rattle.flow_model.specs.Open.{open_timers, state_of, moment_of}
+use Rattle.flow_model.specs.Book.{Book, nth, text_number, requested, open_run, with_turn, changed}
+use Rattle.flow_model.specs.Apply.{Rules, Outcome, says, none_there, must_be, must_hold, tested, if_sound, program_if, program_at, first_turn, continued, run_from, next_run, history_limit, turn_made, recorded, input_recorded, report_refusal, on_program, register, start, complete, describe, history, outcome}
+use Rattle.flow_machine.specs.Welcome.{AreWelcome, ChangesWelcome}
+
+-- a turn brings no text
+texts_still : (b : Book) (n : ℕ) (t : Turn) → (changed b (AddTurn n t)).texts ≡ b.texts
+texts_still b n t =
+    elim (nth b.runs n) as (λ o. (elim o as (λ _. Book) [ None ↦ b | Some r ↦ record b { runs = slice_set b.runs (n - 1) (with_turn t r) } ]).texts ≡ b.texts) [
+      | None ↦ refl
+      | Some r ↦ refl
+    ]
+
+-- a text that reads as a program is there
+text_is_there : (f : Bytes → Result Program TextFault) (b : Book) (n : ℕ) (p : Program) → program_at f b n ≡ Some p → (body : Bytes) × (nth b.texts n ≡ Some body)
+text_is_there f b n p h =
+    elim (nth b.texts n) as (λ o. nth b.texts n ≡ o → elim o [ None ↦ None | Some body ↦ program_if (f body) ] ≡ Some p → (body : Bytes) × (nth b.texts n ≡ Some body)) [
+      | None ↦ λ e v. absurd (none-some p v)
+      | Some body ↦ λ e v. (body, e)
+    ] refl h
+
+module _ (u : Rules) (b : Book) where
+  abbrev Takes : Outcome → Type 0
+  Takes o = AreWelcome u b o.changes
+
+  ---- Tests
+
+  none_there_takes : {A : Type 0} (o : Option A) (answer : A → Reply) (next : Outcome) → (o ≡ None → Takes next) → Takes (none_there o answer next)
+  none_there_takes None answer next h = h refl
+  none_there_takes (Some x) answer next h = tt
+
+  must_be_takes : {A : Type 0} (o : Option A) (c : Code) (next : A → Outcome) → ((x : A) → o ≡ Some x → Takes (next x)) → Takes (must_be o c next)
+  must_be_takes None c next h = tt
+  must_be_takes (Some x) c next h = h x refl
+
+  must_hold_takes : (t : Bool) (c : Code) (next : Outcome) → Takes next → Takes (must_hold t c next)
+  must_hold_takes true c next h = h
+  must_hold_takes false c next h = tt
+
+  tested_takes : (o : Option Code) (next : Outcome) → Takes next → Takes (tested o next)
+  tested_takes None next h = h
+  tested_takes (Some c) next h = tt
+
+  if_sound_takes : {A : Type 0} (o : Option A) (next : A → Outcome) → ((x : A) → o ≡ Some x → Takes (next x)) → Takes (if_sound o next)
+  if_sound_takes None next h = tt
+  if_sound_takes (Some x) next h = h x refl
+
+  on_program_takes : (r : Result Program TextFault) (next : Program → Outcome) → ((p : Program) → r ≡ Ok p → Takes (next p)) → Takes (on_program r next)
+  on_program_takes (Ok p) next h = h p refl
+  on_program_takes (Err f) next h = tt
+
+  ---- Turns
+
+  run_takes : (k : Book) (r : Run) (body : Bytes) (o : Option Turn) → nth k.texts r.text ≡ Some body → AreWelcome u k (run_from r o)
+  run_takes k r body None there = tt
+  run_takes k r body (Some t) there = ((body, there), tt)
+
+  next_takes : (k : Book) (p : Program) (r : Run) (body : Bytes) (at : ℕ) (o : Option (List Value)) → nth k.texts r.text ≡ Some body → AreWelcome u k (next_run p r at o)
+  next_takes k p r body at None there = tt
+  next_takes k p r body at (Some vs) there = run_takes k r body (first_turn p at vs) there
+
+  made_takes : (limit : ℕ) (p : Program) (r : Run) (body : Bytes) (n at : ℕ) (i : Input) (cs : List Cmd) → nth b.runs n ≡ Some r → nth b.texts r.text ≡ Some body → Takes (turn_made limit p r n at i cs)
+  made_takes limit p r body n at i cs there text =
+      let t : Turn = record { at = at; input = i; commands = cs } in
+      let full : Turn = record { at = at; input = Terminated history_limit; commands = [] } in
+      elim (nat_le (length r.history + 1 + length cs) limit) as (λ x. Takes (
+      if x
+      then record { reply = reply.Recorded n (length r.history + 1); changes = AddTurn n t ∷ next_run p r at (continued cs) }
+      else record { reply = reply.Full n (length r.history + 1); changes = AddTurn n full ∷ [] })) [
+        | true ↦ ((r, there), next_takes (changed b (AddTurn n t)) p r body at (continued cs) (ap (λ (xs : List Bytes). nth xs r.text) (texts_still b n t) ∙ text))
+        | false ↦ ((r, there), tt)
+      ]
+
+  recorded_takes : (limit : ℕ) (p : Program) (r : Run) (body : Bytes) (n at : ℕ) (i : Input) → nth b.runs n ≡ Some r → nth b.texts r.text ≡ Some body → Takes (recorded limit p r n at i)
+  unfolding recorded
+  recorded_takes limit p r body n at i there text =
+      let now : ℕ = max at (moment_of r.history) in
+      if_sound_takes (position_of p r.history) (λ k. if_sound (turned p Fresh k now i) (λ t. turn_made limit p r n now i t.0))
+      (λ k e. if_sound_takes (turned p Fresh k now i) (λ t. turn_made limit p r n now i t.0)
+      (λ t g. made_takes limit p r body n now i t.0 there text))
+
+  input_takes : (r : Run) (n at : ℕ) (i : Input) → nth b.runs n ≡ Some r → Takes (input_recorded u b r n at i)
+  unfolding input_recorded
+  input_takes r n at i there =
+      if_sound_takes (program_at u.program_of b r.text) (λ p. recorded u.limit p r n at i)
+      (λ p e. let text = text_is_there u.program_of b r.text p e in recorded_takes u.limit p r text.0 n at i there text.1)
+
+  ---- Commands
+
+  register_takes : (body : Bytes) → Takes (register u.program_of b body)
+  unfolding register
+  register_takes body =
+      let adds : Outcome = record { reply = reply.Registered (length b.texts + 1); changes = AddText body ∷ [] } in
+      on_program_takes (u.program_of body) (λ p. none_there (text_number b body) reply.Registered adds)
+      (λ p e. none_there_takes (text_number b body) reply.Registered adds (λ new. ((new, (p, e)), tt)))
+
+  start_takes : (request flow : Bytes) (text : ℕ) (vs : List Value) (at : ℕ) → Takes (start u.program_of b request flow text vs at)
+  unfolding start
+  start_takes request flow text vs at =
+      let adds : Turn → Outcome = λ t. record { reply = reply.Started (length b.runs + 1); changes = AddRun flow (Some request) text t ∷ [] } in
+      let begins : Program → Outcome = λ p. if_sound (first_turn p at vs) adds in
+      let alone : Program → Outcome = λ p. none_there (open_run b flow) (λ n. reply.Refused AlreadyOpen) (begins p) in
+      let fits : Program → Outcome = λ p. must_hold (all_fit p.parameters vs) BadArguments (alone p) in
+      let read : Bytes → Outcome = λ body. if_sound (program_if (u.program_of body)) fits in
+      none_there_takes (requested b request) reply.Duplicate (must_be (nth b.texts text) NoText read)
+      (λ new. must_be_takes (nth b.texts text) NoText read
+      (λ body there. if_sound_takes (program_if (u.program_of body)) fits
+      (λ p e. must_hold_takes (all_fit p.parameters vs) BadArguments (alone p)
+      (none_there_takes (open_run b flow) (λ n. reply.Refused AlreadyOpen) (begins p)
+      (λ none. if_sound_takes (first_turn p at vs) adds (λ t made. ((body, there), tt)))))))
+
+  complete_takes : (n event attempt : ℕ) (v : Value) (at : ℕ) → Takes (complete u b n event attempt v at)
+  unfolding complete
+  complete_takes n event attempt v at =
+      let takes : Run → Outcome = λ r. input_recorded u b r n at (ActivityCompleted event v) in
+      must_be_takes (nth b.runs n) NoRun (λ r. tested (report_refusal r event attempt v) (takes r))
+      (λ r there. tested_takes (report_refusal r event attempt v) (takes r) (input_takes r n at (ActivityCompleted event v) there))
+
+  describe_takes : (n : ℕ) → Takes (describe b n)
+  unfolding describe
+  describe_takes n = elim (nth b.runs n) as (λ o. Takes (must_be o NoRun (λ r. says (reply.Run (record {
+    flow = r.flow;
+    text = r.text;
+    state = state_of r.history;
+    events = length r.history;
+    activities = map (λ (t : Task). t.event) r.tasks;
+    timers = map (λ (t : Timer). t.id) (open_timers r.history);
+  }))))) [ None ↦ tt | Some r ↦ tt ]
+
+  history_takes : (n : ℕ) → Takes (history b n)
+  unfolding history
+  history_takes n = must_be_takes (nth b.runs n) NoRun (λ r. says (reply.History r.history)) (λ r e. tt)
+
+pub changes_welcome : ChangesWelcome
+unfolding outcome
+changes_welcome u b (command.Register body) = register_takes u b body
+changes_welcome u b (command.Start request flow text vs at) = start_takes u b request flow text vs at
+changes_welcome u b (command.Complete run event attempt v at) = complete_takes u b run event attempt v at
+changes_welcome u b (command.Describe run) = describe_takes u b run
+changes_welcome u b (command.History run) = history_takes u b run

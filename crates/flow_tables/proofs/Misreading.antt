@@ -1,0 +1,29 @@
+-- Rows that can't be read.
+use Rattle.std.specs.Prelude.{◌≡◌, ◌≢◌, ◌<◌}
+use Rattle.flow_tables.proofs.Names.{Kind, Row, Error, column, AllByRecursion, List, ℕ, StoreFault, SqliteFailure, OutOfMemory, length, refl, subst, ◌∙◌, sym, ap, inl, inr}
+use Rattle.sqlite.specs.Reading.{IsReadError}
+use Rattle.sqlite_trees.proofs.ListLemmas.{all-get_or}
+use Rattle.flow_sql.specs.Stored.{IsReadAs, AreReadAs}
+use Rattle.flow_sql.proofs.Readable.{read_at, is_there}
+use Rattle.flow_tables.specs.Faults.{fault_of}
+use Rattle.flow_tables.specs.Reads.{IsMisreadAt, AreMisread}
+use Rattle.flow_tables.specs.declared.fault.StoreFault.TheVariants.{Refused}
+
+-- an error at a column of this kind, told as a fault
+pub column_misread : (r : Row) (at : ℕ) (kind : Kind) (e : Error) (f : StoreFault) → f ≡ fault_of e → IsReadError at (column r at) e → (e ≢ SqliteFailure OutOfMemory → at < length r → IsReadAs kind (column r at) → ⊥) → IsMisreadAt at kind r f
+column_misread r at kind e f is named odd = subst (IsMisreadAt at kind r) (sym is) (by_error e named odd)
+  where
+    other : (e : Error) → Refused e ≡ fault_of e → e ≢ SqliteFailure OutOfMemory
+    other e is same = let clash = is ∙ ap fault_of same in cc
+
+    by_error : (e : Error) → IsReadError at (column r at) e → (e ≢ SqliteFailure OutOfMemory → at < length r → IsReadAs kind (column r at) → ⊥) → IsMisreadAt at kind r (fault_of e)
+    by_error (SqliteFailure OutOfMemory) named odd = tt
+    by_error e named odd = (named, λ reads. odd (other e refl) (is_there r at kind reads) reads)
+
+-- rows that read as their kinds aren't misread
+pub never_misread : (kinds : List Kind) (rows : List Row) (e : Error) → AllByRecursion (AreReadAs kinds) rows → AreMisread kinds rows (Refused e) → ⊥
+never_misread kinds rows e all (inl none) = let clash = none in cc
+never_misread kinds rows e all (inr it) =
+    let reads = subst (AreReadAs kinds) it.3 (all-get_or (AreReadAs kinds) rows it.0 it.1 all it.2) in
+    let odd = it.4 in
+    odd.3.1 (read_at kinds it.1 odd.0 odd.1 odd.2 reads)
