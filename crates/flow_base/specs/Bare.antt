@@ -2,7 +2,8 @@
 use Rattle.std.specs.Prelude.{map}
 use Rattle.flow_base.specs.declared.syntax.Parameter.{Parameter}
 use Rattle.flow_base.specs.declared.syntax.TypeAt.{TypeAt}
-use Rattle.flow_base.specs.Syntax.{Expression, Number, Literal, Variable, Now, Apply, Combine, Retry, Statement, Let, Assign, Call, WaitSignal, WaitSignalFor, Sleep, If, While, Parallel, Patch, Return, FailWith, Continue, Block, End, Next, Otherwise, NoElse, Else, Branches, NoBranch, Branch, Declared, Activity, Signal, Program}
+use Rattle.flow_base.specs.Syntax.{Expression, Number, Literal, Variable, Now, Apply, Combine, Statement, Let, Assign, Call, WaitSignal, WaitSignalFor, Sleep, If, While, Parallel, Patch, Return, FailWith, Continue, Block, End, Next, Otherwise, NoElse, Else, Branches, NoBranch, Branch, Declared, Activity, Signal, Program}
+use Rattle.flow_base.specs.declared.syntax.Retry.{Retry}
 
 abbrev pub bare_expression : Expression → Expression
 bare_expression (Number at n) = Number 0 n

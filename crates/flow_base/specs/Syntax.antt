@@ -4,6 +4,7 @@ use Rattle.std.specs.Prelude.{ℕ, List, [], ◌∷◌, ℤ, map}
 use Rattle.flow_base.specs.declared.value.Kind.{Kind}
 use Rattle.flow_base.specs.declared.syntax.Unary.{Unary}
 use Rattle.flow_base.specs.declared.syntax.Binary.{Binary}
+use Rattle.flow_base.specs.declared.syntax.Retry.{Retry}
 use Rattle.flow_base.specs.declared.syntax.Parameter.{Parameter}
 use Rattle.flow_base.specs.declared.syntax.TypeAt.{TypeAt}
 
@@ -19,13 +20,6 @@ pub data Expression : Type 0 where
   Apply : (at : ℕ) → Unary → Expression → Expression
   -- it begins where its left operand does
   Combine : Binary → Expression → Expression → Expression
-
--- how often a call is tried, and the pause between two attempts, with the places of the two numbers
-pub record Retry : Type 0 where
-  pub tries_at : ℕ
-  pub tries : ℕ
-  pub every_at : ℕ
-  pub every : ℕ
 
 mutual
   -- the first place is that of the statement's first token

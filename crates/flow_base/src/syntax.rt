@@ -1,5 +1,6 @@
 ghost use Rattle.std.specs.Prelude.{◌≡◌, IfOk, map};
 ghost use Rattle.flow_base.specs.Shown.{shown_expr, shown_stmt};
+ghost use Rattle.flow_base.specs.Syntax.{once};
 
 use crate::text::{Key, Text};
 use crate::value::Kind;
@@ -44,6 +45,8 @@ pub enum Expr {
     Int(usize, i64),
     Text(usize, Text),
     Var(usize, Key),
+    /// The turn's moment.
+    Now(usize),
     Unary(usize, Unary, Box<Expr>),
     Binary(Binary, Box<Expr>, Box<Expr>),
 }
@@ -56,6 +59,7 @@ impl Expr {
             Expr::Int(at, n) => Ok(Expr::Int(*at, *n)),
             Expr::Text(at, t) => Ok(Expr::Text(*at, t.copy(alloc)?)),
             Expr::Var(at, x) => Ok(Expr::Var(*at, x.copy(alloc)?)),
+            Expr::Now(at) => Ok(Expr::Now(*at)),
             Expr::Unary(at, op, a) => {
                 let a = Box::new(alloc, a.copy(alloc)?)?;
                 Ok(Expr::Unary(*at, *op, a))
@@ -69,15 +73,40 @@ impl Expr {
     }
 }
 
+/// How often a call is tried, and the pause between two attempts in milliseconds, with the places of the two numbers.
+#[derive(Clone, Copy, Debug, PartialEq, Eq)]
+pub struct Retry {
+    pub tries_at: usize,
+    pub tries: u64,
+    pub every_at: usize,
+    pub every: u64,
+}
+
+impl Retry {
+    /// That of a call with no `retry`, which stands at no place: it is tried once.
+    pub fn once() -> Retry
+        ensures { result ≡ once }
+    {
+        Retry { tries_at: 0, tries: 1, every_at: 0, every: 0 }
+    }
+}
+
 /// A statement. The first place is that of its first token, each further one that of the name behind it.
 #[derive(Debug, Drop)]
 pub enum Stmt {
     /// `let`, and the place of the name.
     Let(usize, usize, Key, Expr),
     Assign(usize, Key, Expr),
-    /// A variable, the place of the activity, the activity and its arguments.
-    Call(usize, Key, usize, Key, Vec<Expr>),
+    /// A variable, the place of the activity, the activity, its arguments, and how often it is tried.
+    Call(usize, Key, usize, Key, Vec<Expr>, Retry),
+    /// A variable, the place of the signal, and the signal that it waits for.
+    WaitSignal(usize, Key, usize, Key),
+    /// The delay, in milliseconds.
+    Sleep(usize, Expr),
     Return(usize, Expr),
+    FailWith(usize, Expr),
+    /// `continue as new`, with the arguments of the next run.
+    Continue(usize, Vec<Expr>),
 }
 
 impl Stmt {
@@ -92,11 +121,20 @@ impl Stmt {
                 e.copy(alloc)?,
             )),
             Stmt::Assign(at, x, e) => Ok(Stmt::Assign(*at, x.copy(alloc)?, e.copy(alloc)?)),
-            Stmt::Call(at, x, activity_at, a, es) => {
+            Stmt::Call(at, x, activity_at, a, es, r) => {
                 let es = copy_exprs(alloc, es)?;
-                Ok(Stmt::Call(*at, x.copy(alloc)?, *activity_at, a.copy(alloc)?, es))
+                Ok(Stmt::Call(*at, x.copy(alloc)?, *activity_at, a.copy(alloc)?, es, *r))
             }
+            Stmt::WaitSignal(at, x, signal_at, n) => Ok(Stmt::WaitSignal(
+                *at,
+                x.copy(alloc)?,
+                *signal_at,
+                n.copy(alloc)?,
+            )),
+            Stmt::Sleep(at, e) => Ok(Stmt::Sleep(*at, e.copy(alloc)?)),
             Stmt::Return(at, e) => Ok(Stmt::Return(*at, e.copy(alloc)?)),
+            Stmt::FailWith(at, e) => Ok(Stmt::FailWith(*at, e.copy(alloc)?)),
+            Stmt::Continue(at, es) => Ok(Stmt::Continue(*at, copy_exprs(alloc, es)?)),
         }
     }
 }
@@ -131,6 +169,8 @@ pub struct TypeAt {
 pub enum Declaration {
     /// An activity: its name, what it takes and what it gives.
     Activity(usize, usize, Key, Vec<TypeAt>, Kind),
+    /// A signal: its name and what it carries.
+    Signal(usize, usize, Key, Kind),
 }
 
 /// The program of a text, with the places of its parts in the text.

@@ -13,7 +13,8 @@ use Rattle.flow_base.specs.declared.syntax.Parameter.{Parameter}
 use Rattle.flow_base.specs.declared.event.Cause.{Cause}
 use Rattle.flow_base.specs.declared.event.Cause.TheVariants.{WaitLimit, TurnBudget, ChainLimit}
 use Rattle.flow_base.specs.declared.event.Cmd.TheVariants.{Schedule, StartTimer, CancelTimer, RecordMarker, ContinueAsNew}
-use Rattle.flow_base.specs.Syntax.{Bytes, Expression, Retry, Statement, Let, Assign, Call, WaitSignal, WaitSignalFor, Sleep, If, While, Parallel, Patch, Return, FailWith, Continue, Block, End, Next, Otherwise, NoElse, Else, Branches, NoBranch, Branch, Declared, Activity, Signal, Program, activities_of}
+use Rattle.flow_base.specs.Syntax.{Bytes, Expression, Statement, Let, Assign, Call, WaitSignal, WaitSignalFor, Sleep, If, While, Parallel, Patch, Return, FailWith, Continue, Block, End, Next, Otherwise, NoElse, Else, Branches, NoBranch, Branch, Declared, Activity, Signal, Program, activities_of}
+use Rattle.flow_base.specs.declared.syntax.Retry.{Retry}
 use Rattle.flow_model.specs.Values.{Variables, with_variable, value as value_of, values, due, is_true}
 use Rattle.flow_model.specs.Rest.{Rest, Done, OnActivity, OnTimer, OnSignal, OnSignalFor, Raised, Then, Beside, rest_of, branches_of, is_done}
 use Rattle.flow_model.specs.Step.{Store, Setting, Move, Stays, Goes, Asks, Ends, on_value, set_in, gives_of, oldest, without_oldest, take_signal, on_signal, waiting, wait_limit, test_limit, tested, picked, decide, patched, begin, around, followed_by, first_of, or_move, move, raise}

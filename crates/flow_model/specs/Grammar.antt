@@ -1,7 +1,7 @@
 -- The grammar. A reading says which productions make a text, one constructor for each production, with the place of
 -- each token. `.._tokens` are its tokens in order: this is the grammar, read aloud. `.._of` is the tree that it stands
 -- for: parentheses leave no trace, repeated operators group to the left.
-use Rattle.std.specs.Prelude.{◌≡◌, ℕ, ℤ, List, [], ◌∷◌, ◌++◌}
+use Rattle.std.specs.Prelude.{◌≡◌, ℕ, ℤ, pos, negsuc, List, [], ◌∷◌, ◌++◌}
 use Rattle.flow_base.specs.declared.token.Word.TheVariants as word
 use Rattle.flow_base.specs.declared.token.Mark.{Mark}
 use Rattle.flow_base.specs.declared.token.Mark.TheVariants as mark
@@ -10,6 +10,7 @@ use Rattle.flow_base.specs.declared.value.Kind.TheVariants as kind
 use Rattle.flow_base.specs.declared.syntax.Unary.TheVariants as unary
 use Rattle.flow_base.specs.declared.syntax.Binary.{Binary}
 use Rattle.flow_base.specs.declared.syntax.Binary.TheVariants as binary
+use Rattle.flow_base.specs.declared.syntax.Retry.{Retry}
 use Rattle.flow_base.specs.declared.syntax.Parameter.{Parameter}
 use Rattle.flow_base.specs.declared.syntax.TypeAt.{TypeAt}
 use Rattle.flow_base.specs.Syntax as tree
@@ -42,11 +43,12 @@ mutual
   pub data ParensReading : Type 0 where
     parens : ℕ → ExprReading → ℕ → ParensReading
 
-  -- prim = INT | TEXT | NAME | "text" "(" expr ")" | "len" "(" expr ")" | "(" expr ")"
+  -- prim = INT | TEXT | NAME | "now" | "text" "(" expr ")" | "len" "(" expr ")" | "(" expr ")"
   pub data PrimReading : Type 0 where
     int : ℕ → ℤ → PrimReading
     text : ℕ → Bytes → PrimReading
     name : ℕ → Bytes → PrimReading
+    now : ℕ → PrimReading
     text_of : ℕ → ParensReading → PrimReading
     len_of : ℕ → ParensReading → PrimReading
     inner : ParensReading → PrimReading
@@ -139,20 +141,31 @@ mutual
     last_parameter : ℕ → ParameterTail
     next_parameter : ℕ → ParameterReading → ParameterTail → ParameterTail
 
--- decl = "activity" NAME "(" [type {"," type}] ")" "->" type ";"
+-- decl = "activity" NAME "(" [type {"," type}] ")" "->" type ";" | "signal" NAME ":" type ";"
 pub data DeclarationReading : Type 0 where
   activity : ℕ → ℕ → Bytes → ℕ → TypesReading → ℕ → TypeReading → ℕ → DeclarationReading
+  signal : ℕ → ℕ → Bytes → ℕ → TypeReading → ℕ → DeclarationReading
 
--- behind NAME "=": expr ";" | "call" NAME "(" [expr {"," expr}] ")" ";"
+-- behind the arguments of a call: ["retry" INT "every" INT] ";"
+pub data CallTail : Type 0 where
+  no_retry : ℕ → CallTail
+  retry : ℕ → ℕ → ℤ → ℕ → ℕ → ℤ → ℕ → CallTail
+
+-- behind NAME "=": expr ";" | "call" NAME "(" [expr {"," expr}] ")" .. | "wait" "signal" NAME ";"
 pub data SideReading : Type 0 where
   value : ExprReading → ℕ → SideReading
-  call : ℕ → ℕ → Bytes → ℕ → ArgumentsReading → ℕ → SideReading
+  call : ℕ → ℕ → Bytes → ℕ → ArgumentsReading → CallTail → SideReading
+  wait : ℕ → ℕ → ℕ → Bytes → ℕ → SideReading
 
--- stmt = "let" NAME "=" expr ";" | NAME "=" .. | "return" expr ";"
+-- stmt = "let" NAME "=" expr ";" | NAME "=" .. | "sleep" expr ";" | "return" expr ";" | "fail" expr ";"
+--      | "continue" "as" "new" "(" [expr {"," expr}] ")" ";"
 pub data StatementReading : Type 0 where
   let_ : ℕ → ℕ → Bytes → ℕ → ExprReading → ℕ → StatementReading
   assign : ℕ → Bytes → ℕ → SideReading → StatementReading
+  sleep : ℕ → ExprReading → ℕ → StatementReading
   return_ : ℕ → ExprReading → ℕ → StatementReading
+  fail : ℕ → ExprReading → ℕ → StatementReading
+  continue_ : ℕ → ℕ → ℕ → ℕ → ArgumentsReading → ℕ → StatementReading
 
 -- {stmt} "}"
 pub data StatementsReading : Type 0 where
@@ -175,6 +188,9 @@ marked at m = record { at = at; word = word.Mark m }
 
 abbrev pub named : ℕ → Bytes → Lexeme
 named at x = record { at = at; word = word.Name x }
+
+abbrev pub numbered : ℕ → ℤ → Lexeme
+numbered at n = record { at = at; word = word.Int n }
 
 abbrev pub term_mark : TermSign → Mark
 term_mark times = mark.Times
@@ -203,9 +219,10 @@ abbrev mutual
   parens_tokens (parens at e to) = marked at mark.Open ∷ (expr_tokens e ++ (marked to mark.Close ∷ []))
 
   pub prim_tokens : PrimReading → List Lexeme
-  prim_tokens (int at n) = record { at = at; word = word.Int n } ∷ []
+  prim_tokens (int at n) = numbered at n ∷ []
   prim_tokens (text at t) = record { at = at; word = word.Text t } ∷ []
   prim_tokens (name at x) = named at x ∷ []
+  prim_tokens (now at) = marked at mark.Now ∷ []
   prim_tokens (text_of at p) = marked at mark.Text ∷ parens_tokens p
   prim_tokens (len_of at p) = marked at mark.Len ∷ parens_tokens p
   prim_tokens (inner p) = parens_tokens p
@@ -287,14 +304,27 @@ abbrev pub declaration_tokens : DeclarationReading → List Lexeme
 declaration_tokens (activity at name_at x paren ts arrow t end) =
     marked at mark.Activity ∷ named name_at x ∷ marked paren mark.Open ∷ (types_tokens ts ++ (marked arrow mark.Arrow ∷ (type_tokens t ++ (marked end mark.Semicolon ∷ []))))
 
+declaration_tokens (signal at name_at x colon t end) =
+    marked at mark.Signal ∷ named name_at x ∷ marked colon mark.Colon ∷ (type_tokens t ++ (marked end mark.Semicolon ∷ []))
+
+abbrev pub call_tail_tokens : CallTail → List Lexeme
+call_tail_tokens (no_retry end) = marked end mark.Semicolon ∷ []
+call_tail_tokens (retry at tries_at tries every every_at pause end) =
+    marked at mark.Retry ∷ numbered tries_at tries ∷ marked every mark.Every ∷ numbered every_at pause ∷ marked end mark.Semicolon ∷ []
+
 abbrev pub side_tokens : SideReading → List Lexeme
 side_tokens (value e end) = expr_tokens e ++ (marked end mark.Semicolon ∷ [])
-side_tokens (call at name_at a paren es end) = marked at mark.Call ∷ named name_at a ∷ marked paren mark.Open ∷ (arguments_tokens es ++ (marked end mark.Semicolon ∷ []))
+side_tokens (call at name_at a paren es more) = marked at mark.Call ∷ named name_at a ∷ marked paren mark.Open ∷ (arguments_tokens es ++ call_tail_tokens more)
+side_tokens (wait at signal_at name_at n end) = marked at mark.Wait ∷ marked signal_at mark.Signal ∷ named name_at n ∷ marked end mark.Semicolon ∷ []
 
 abbrev pub statement_tokens : StatementReading → List Lexeme
 statement_tokens (let_ at name_at x eq e end) = marked at mark.Let ∷ named name_at x ∷ marked eq mark.Assign ∷ (expr_tokens e ++ (marked end mark.Semicolon ∷ []))
 statement_tokens (assign at x eq s) = named at x ∷ marked eq mark.Assign ∷ side_tokens s
+statement_tokens (sleep at e end) = marked at mark.Sleep ∷ (expr_tokens e ++ (marked end mark.Semicolon ∷ []))
 statement_tokens (return_ at e end) = marked at mark.Return ∷ (expr_tokens e ++ (marked end mark.Semicolon ∷ []))
+statement_tokens (fail at e end) = marked at mark.Fail ∷ (expr_tokens e ++ (marked end mark.Semicolon ∷ []))
+statement_tokens (continue_ at as_at new_at paren es end) =
+    marked at mark.Continue ∷ marked as_at mark.As ∷ marked new_at mark.New ∷ marked paren mark.Open ∷ (arguments_tokens es ++ (marked end mark.Semicolon ∷ []))
 
 abbrev pub statements_tokens : StatementsReading → List Lexeme
 statements_tokens (no_statement to) = marked to mark.BraceClose ∷ []
@@ -336,6 +366,7 @@ abbrev mutual
   prim_of (int at n) = tree.Number at n
   prim_of (text at t) = tree.Literal at t
   prim_of (name at x) = tree.Variable at x
+  prim_of (now at) = tree.Now at
   prim_of (text_of at p) = tree.Apply at unary.TextOf (parens_of p)
   prim_of (len_of at p) = tree.Apply at unary.Length (parens_of p)
   prim_of (inner p) = parens_of p
@@ -428,15 +459,31 @@ parameters_end (parameter_ p more) = parameter_tail_end more
 abbrev pub declaration_of : DeclarationReading → tree.Declared
 declaration_of (activity at name_at x paren ts arrow t end) = tree.Activity at name_at x (types_of ts) (kind_of t)
 
+declaration_of (signal at name_at x colon t end) = tree.Signal at name_at x (kind_of t)
+
+-- a number as a count; a token's is never negative
+abbrev pub whole : ℤ → ℕ
+whole (pos n) = n
+whole (negsuc n) = 0
+
+abbrev pub retry_of : CallTail → Retry
+retry_of (no_retry end) = once
+retry_of (retry at tries_at tries every every_at pause end) =
+    record { tries_at = tries_at; tries = whole tries; every_at = every_at; every = whole pause }
+
 -- the statement that begins with this name
 abbrev pub side_of : ℕ → Bytes → SideReading → tree.Statement
 side_of at x (value e end) = tree.Assign at x (expr_of e)
-side_of at x (call call_at name_at a paren es end) = tree.Call at x name_at a (arguments_of es) once tree.NoElse
+side_of at x (call call_at name_at a paren es more) = tree.Call at x name_at a (arguments_of es) (retry_of more) tree.NoElse
+side_of at x (wait wait_at signal_at name_at n end) = tree.WaitSignal at x name_at n
 
 abbrev pub statement_of : StatementReading → tree.Statement
 statement_of (let_ at name_at x eq e end) = tree.Let at name_at x (expr_of e)
 statement_of (assign at x eq s) = side_of at x s
+statement_of (sleep at e end) = tree.Sleep at (expr_of e)
 statement_of (return_ at e end) = tree.Return at (expr_of e)
+statement_of (fail at e end) = tree.FailWith at (expr_of e)
+statement_of (continue_ at as_at new_at paren es end) = tree.Continue at (arguments_of es)
 
 abbrev pub statements_of : StatementsReading → tree.Block
 statements_of (no_statement to) = tree.End

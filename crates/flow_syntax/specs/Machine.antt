@@ -10,6 +10,7 @@ use Rattle.flow_model.specs.Lexeme.{Lexeme}
 -- What may be owed. The tails of expressions may also be nothing.
 pub data Symbol : Type 0 where
   name : Symbol
+  number : Symbol
   sign : Mark → Symbol
   parens : Symbol
   prim : Symbol
@@ -33,7 +34,8 @@ pub data Symbol : Type 0 where
   parameter : Symbol
   parameters : Symbol
   more_parameters : Symbol
-  activity : Symbol
+  declaration : Symbol
+  call_tail : Symbol
   side : Symbol
   statement : Symbol
   statements : Symbol
@@ -41,58 +43,58 @@ pub data Symbol : Type 0 where
   program : Symbol
 
 -- marks by number, so that they can be compared
-abbrev pub number : Mark → ℕ
-number mark.Workflow = 0
-number mark.Activity = 1
-number mark.Signal = 2
-number mark.Let = 3
-number mark.If = 4
-number mark.Else = 5
-number mark.While = 6
-number mark.Call = 7
-number mark.Retry = 8
-number mark.Every = 9
-number mark.Sleep = 10
-number mark.Wait = 11
-number mark.For = 12
-number mark.Parallel = 13
-number mark.Patch = 14
-number mark.Return = 15
-number mark.Fail = 16
-number mark.Continue = 17
-number mark.As = 18
-number mark.New = 19
-number mark.Int = 20
-number mark.Text = 21
-number mark.Len = 22
-number mark.Now = 23
-number mark.And = 24
-number mark.Or = 25
-number mark.Not = 26
-number mark.Open = 27
-number mark.Close = 28
-number mark.BraceOpen = 29
-number mark.BraceClose = 30
-number mark.Comma = 31
-number mark.Semicolon = 32
-number mark.Colon = 33
-number mark.Assign = 34
-number mark.Equal = 35
-number mark.Differ = 36
-number mark.Less = 37
-number mark.AtMost = 38
-number mark.Greater = 39
-number mark.AtLeast = 40
-number mark.Arrow = 41
-number mark.Plus = 42
-number mark.Join = 43
-number mark.Minus = 44
-number mark.Times = 45
-number mark.Over = 46
-number mark.Percent = 47
+abbrev pub mark_number : Mark → ℕ
+mark_number mark.Workflow = 0
+mark_number mark.Activity = 1
+mark_number mark.Signal = 2
+mark_number mark.Let = 3
+mark_number mark.If = 4
+mark_number mark.Else = 5
+mark_number mark.While = 6
+mark_number mark.Call = 7
+mark_number mark.Retry = 8
+mark_number mark.Every = 9
+mark_number mark.Sleep = 10
+mark_number mark.Wait = 11
+mark_number mark.For = 12
+mark_number mark.Parallel = 13
+mark_number mark.Patch = 14
+mark_number mark.Return = 15
+mark_number mark.Fail = 16
+mark_number mark.Continue = 17
+mark_number mark.As = 18
+mark_number mark.New = 19
+mark_number mark.Int = 20
+mark_number mark.Text = 21
+mark_number mark.Len = 22
+mark_number mark.Now = 23
+mark_number mark.And = 24
+mark_number mark.Or = 25
+mark_number mark.Not = 26
+mark_number mark.Open = 27
+mark_number mark.Close = 28
+mark_number mark.BraceOpen = 29
+mark_number mark.BraceClose = 30
+mark_number mark.Comma = 31
+mark_number mark.Semicolon = 32
+mark_number mark.Colon = 33
+mark_number mark.Assign = 34
+mark_number mark.Equal = 35
+mark_number mark.Differ = 36
+mark_number mark.Less = 37
+mark_number mark.AtMost = 38
+mark_number mark.Greater = 39
+mark_number mark.AtLeast = 40
+mark_number mark.Arrow = 41
+mark_number mark.Plus = 42
+mark_number mark.Join = 43
+mark_number mark.Minus = 44
+mark_number mark.Times = 45
+mark_number mark.Over = 46
+mark_number mark.Percent = 47
 
 abbrev pub is_mark : Mark → Mark → Bool
-is_mark m n = nat_eq (number m) (number n)
+is_mark m n = nat_eq (mark_number m) (mark_number n)
 
 -- more is owed behind what is owed
 abbrev pub then_more : Option (List Symbol) → List Symbol → Option (List Symbol)
@@ -103,6 +105,7 @@ abbrev pub prim_takes : Word → Option (List Symbol)
 prim_takes (word.Int n) = Some []
 prim_takes (word.Text t) = Some []
 prim_takes (word.Name x) = Some []
+prim_takes (word.Mark mark.Now) = Some []
 prim_takes (word.Mark mark.Open) = Some (expr ∷ sign mark.Close ∷ [])
 prim_takes (word.Mark mark.Text) = Some (parens ∷ [])
 prim_takes (word.Mark mark.Len) = Some (parens ∷ [])
@@ -152,13 +155,22 @@ abbrev pub parameters_takes : Word → Option (List Symbol)
 parameters_takes (word.Mark mark.Close) = Some []
 parameters_takes k = then_more (parameter_takes k) (more_parameters ∷ [])
 
+abbrev pub call_tail_takes : Word → Option (List Symbol)
+call_tail_takes (word.Mark mark.Semicolon) = Some []
+call_tail_takes (word.Mark mark.Retry) = Some (number ∷ sign mark.Every ∷ number ∷ sign mark.Semicolon ∷ [])
+call_tail_takes _ = None
+
 abbrev pub side_takes : Word → Option (List Symbol)
-side_takes (word.Mark mark.Call) = Some (name ∷ sign mark.Open ∷ arguments ∷ sign mark.Semicolon ∷ [])
+side_takes (word.Mark mark.Call) = Some (name ∷ sign mark.Open ∷ arguments ∷ call_tail ∷ [])
+side_takes (word.Mark mark.Wait) = Some (sign mark.Signal ∷ name ∷ sign mark.Semicolon ∷ [])
 side_takes k = then_more (expr_takes k) (sign mark.Semicolon ∷ [])
 
 abbrev pub statement_takes : Word → Option (List Symbol)
 statement_takes (word.Mark mark.Let) = Some (name ∷ sign mark.Assign ∷ expr ∷ sign mark.Semicolon ∷ [])
+statement_takes (word.Mark mark.Sleep) = Some (expr ∷ sign mark.Semicolon ∷ [])
 statement_takes (word.Mark mark.Return) = Some (expr ∷ sign mark.Semicolon ∷ [])
+statement_takes (word.Mark mark.Fail) = Some (expr ∷ sign mark.Semicolon ∷ [])
+statement_takes (word.Mark mark.Continue) = Some (sign mark.As ∷ sign mark.New ∷ sign mark.Open ∷ arguments ∷ sign mark.Semicolon ∷ [])
 statement_takes (word.Name x) = Some (sign mark.Assign ∷ side ∷ [])
 statement_takes _ = None
 
@@ -166,17 +178,20 @@ abbrev pub statements_takes : Word → Option (List Symbol)
 statements_takes (word.Mark mark.BraceClose) = Some []
 statements_takes k = then_more (statement_takes k) (statements ∷ [])
 
-abbrev pub activity_takes : Word → Option (List Symbol)
-activity_takes (word.Mark mark.Activity) = Some (name ∷ sign mark.Open ∷ types ∷ sign mark.Arrow ∷ type_ ∷ sign mark.Semicolon ∷ [])
-activity_takes _ = None
+abbrev pub declaration_takes : Word → Option (List Symbol)
+declaration_takes (word.Mark mark.Activity) = Some (name ∷ sign mark.Open ∷ types ∷ sign mark.Arrow ∷ type_ ∷ sign mark.Semicolon ∷ [])
+declaration_takes (word.Mark mark.Signal) = Some (name ∷ sign mark.Colon ∷ type_ ∷ sign mark.Semicolon ∷ [])
+declaration_takes _ = None
 
 abbrev pub body_takes : Word → Option (List Symbol)
-body_takes (word.Mark mark.Activity) = then_more (activity_takes (word.Mark mark.Activity)) (body ∷ [])
+body_takes (word.Mark mark.Activity) = then_more (declaration_takes (word.Mark mark.Activity)) (body ∷ [])
+body_takes (word.Mark mark.Signal) = then_more (declaration_takes (word.Mark mark.Signal)) (body ∷ [])
 body_takes k = statements_takes k
 
 -- What is owed after a token instead of the symbol, if the symbol begins with it.
 abbrev pub takes : Symbol → Word → Option (List Symbol)
 takes name (word.Name x) = Some []
+takes number (word.Int n) = Some []
 takes (sign m) (word.Mark n) = cond (is_mark m n) (Some []) None
 takes parens (word.Mark mark.Open) = Some (expr ∷ sign mark.Close ∷ [])
 takes prim k = prim_takes k
@@ -212,7 +227,8 @@ takes parameter k = parameter_takes k
 takes parameters k = parameters_takes k
 takes more_parameters (word.Mark mark.Close) = Some []
 takes more_parameters (word.Mark mark.Comma) = Some (parameter ∷ more_parameters ∷ [])
-takes activity k = activity_takes k
+takes declaration k = declaration_takes k
+takes call_tail k = call_tail_takes k
 takes side k = side_takes k
 takes statement k = statement_takes k
 takes statements k = statements_takes k

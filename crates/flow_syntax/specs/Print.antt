@@ -16,7 +16,8 @@ use Rattle.flow_base.specs.declared.syntax.Binary.TheVariants as binary
 use Rattle.flow_base.specs.declared.syntax.Parameter.{Parameter}
 use Rattle.flow_base.specs.declared.syntax.TypeAt.{TypeAt}
 use Rattle.flow_base.specs.Syntax as tree
-use Rattle.flow_base.specs.Syntax.{Bytes, Expression, Retry, Statement, Block, End, Next, Otherwise, NoElse, Else, Branches, NoBranch, Branch, Declared, Program}
+use Rattle.flow_base.specs.Syntax.{Bytes, Expression, Statement, Block, End, Next, Otherwise, NoElse, Else, Branches, NoBranch, Branch, Declared, Program}
+use Rattle.flow_base.specs.declared.syntax.Retry.{Retry}
 use Rattle.flow_base.specs.Bare.{bare}
 use Rattle.flow_model.specs.Lexeme.{Lexeme, lexemes}
 use Rattle.flow_model.specs.Grammar.{Reads}
