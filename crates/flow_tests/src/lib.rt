@@ -15,3 +15,5 @@ mod stops;
 mod texts;
 #[cfg(test)]
 mod turns;
+#[cfg(test)]
+mod waits;

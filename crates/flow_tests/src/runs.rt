@@ -26,7 +26,7 @@ const OPEN_HISTORY_OF_A: &str =
     "{\"events\":[[1,\"WorkflowExecutionStarted\",{\"args\":[7],\"at\":1000}],[2,\"ActivityTaskScheduled\",{\"activity\":\"c\",\"args\":[7,\"eur\"],\"at\":1000,\"every\":0,\"gives\":\"int\",\"tries\":1}]],\"reply\":\"history\"}\n";
 
 /// Whether the lines, over an empty book, give these replies and this status.
-fn replies_to(
+pub(crate) fn replies_to(
     rt: &HostRuntime,
     lines: &[&str],
     replies: &[&str],

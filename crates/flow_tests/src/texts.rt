@@ -1,5 +1,5 @@
 //! Texts: what `flow check` says of them, and that a printed program is read as the same program.
-use flow_base::syntax::{Declaration, Expr, Parameter, Program, Stmt, TypeAt};
+use flow_base::syntax::{Declaration, Expr, Parameter, Program, Retry, Stmt, TypeAt};
 use flow_check::language::Language;
 use flow_cli::check::tell_verdict;
 use flow_syntax::parse::parse;
@@ -13,6 +13,7 @@ fn same_expr(left: &Expr, right: &Expr) -> bool {
         (Expr::Int(_, n), Expr::Int(_, m)) => *n == *m,
         (Expr::Text(_, t), Expr::Text(_, u)) => t.is(u),
         (Expr::Var(_, x), Expr::Var(_, y)) => x.is(y),
+        (Expr::Now(_), Expr::Now(_)) => true,
         (Expr::Unary(_, f, a), Expr::Unary(_, g, b)) => *f == *g && same_expr(a, b),
         (Expr::Binary(f, a, b), Expr::Binary(g, c, d)) => *f == *g
             && same_expr(a, c)
@@ -25,14 +26,23 @@ fn same_exprs(left: &[Expr], right: &[Expr]) -> bool {
     left.len() == right.len() && left.iter().zip(right).all(|(a, b)| same_expr(a, b))
 }
 
+fn same_retry(left: &Retry, right: &Retry) -> bool {
+    left.tries == right.tries && left.every == right.every
+}
+
 fn same_stmt(left: &Stmt, right: &Stmt) -> bool {
     match (left, right) {
         (Stmt::Let(_, _, x, e), Stmt::Let(_, _, y, f)) => x.is(y) && same_expr(e, f),
         (Stmt::Assign(_, x, e), Stmt::Assign(_, y, f)) => x.is(y) && same_expr(e, f),
-        (Stmt::Call(_, x, _, a, es), Stmt::Call(_, y, _, b, fs)) => x.is(y)
+        (Stmt::Call(_, x, _, a, es, n), Stmt::Call(_, y, _, b, fs, m)) => x.is(y)
             && a.is(b)
-            && same_exprs(es, fs),
+            && same_exprs(es, fs)
+            && same_retry(n, m),
+        (Stmt::WaitSignal(_, x, _, a), Stmt::WaitSignal(_, y, _, b)) => x.is(y) && a.is(b),
+        (Stmt::Sleep(_, e), Stmt::Sleep(_, f)) => same_expr(e, f),
         (Stmt::Return(_, e), Stmt::Return(_, f)) => same_expr(e, f),
+        (Stmt::FailWith(_, e), Stmt::FailWith(_, f)) => same_expr(e, f),
+        (Stmt::Continue(_, es), Stmt::Continue(_, fs)) => same_exprs(es, fs),
         _ => false,
     }
 }
@@ -42,9 +52,15 @@ fn same_types(left: &[TypeAt], right: &[TypeAt]) -> bool {
 }
 
 fn same_declaration(left: &Declaration, right: &Declaration) -> bool {
-    let Declaration::Activity(_, _, x, takes, gives) = left;
-    let Declaration::Activity(_, _, y, also_takes, also_gives) = right;
-    x.is(y) && same_types(takes, also_takes) && *gives == *also_gives
+    match (left, right) {
+        (
+            Declaration::Activity(_, _, x, takes, gives),
+            Declaration::Activity(_, _, y, also_takes, also_gives),
+        ) => x.is(y) && same_types(takes, also_takes) && *gives == *also_gives,
+        (Declaration::Signal(_, _, x, kind), Declaration::Signal(_, _, y, other)) => x.is(y)
+            && *kind == *other,
+        _ => false,
+    }
 }
 
 fn same_parameter(left: &Parameter, right: &Parameter) -> bool {
@@ -97,6 +113,21 @@ fn programs_are_printed_and_read_again(rt: HostRuntime) -> Result<(), Fail> {
 }
 
 #[test]
+fn waits_and_ends_are_printed_and_read_again(rt: HostRuntime) -> Result<(), Fail> {
+    let text =
+        "workflow w(n:int){activity c()->int;signal s:text;let r=\"\";let i=0;r=wait signal s;i=call c() retry 3 every 1000;sleep now-(n-1);continue as new(i);fail r;}";
+    let printed =
+        "workflow w ( n : int ) { activity c ( ) -> int ; signal s : text ; let r = \"\" ; let i = 0 ; r = wait signal s ; i = call c ( ) retry 3 every 1000 ; sleep now - ( n - 1 ) ; continue as new ( i ) ; fail r ; }";
+    assert!(rt; is_printed_as(&rt, text, printed)?);
+    // a call that is tried once has no `retry`
+    let once = "workflow w(){activity c()->int;let i=0;i=call c() retry 1 every 0;}";
+    let printed =
+        "workflow w ( ) { activity c ( ) -> int ; let i = 0 ; i = call c ( ) ; }";
+    assert!(rt; is_printed_as(&rt, once, printed)?);
+    Ok(())
+}
+
+#[test]
 fn parentheses_stand_where_the_grammar_needs_them(rt: HostRuntime) -> Result<(), Fail> {
     let text =
         "workflow o(a: int, b: text) { let x = ((not a) == 1) and (2 < 3) or (1 - (2 - 3) * (-4)); return text(len(((b ++ \"q\\\"\\\\\\n\"))) % 5); }";
@@ -130,7 +161,7 @@ fn the_first_fault_is_named(rt: HostRuntime) -> Result<(), Fail> {
 }
 
 /// Each rule of the checks broken where a text can first break it, and where it can last.
-const BROKEN: [(&str, &str); 13] = [
+const BROKEN: [(&str, &str); 24] = [
     ("workflow x(){y=1;}", "E20 at 13"),
     ("workflow x(){let y=1;y=y;return y+z;}", "E20 at 34"),
     ("workflow x(a:int,a:int){}", "E21 at 17"),
@@ -162,6 +193,29 @@ const BROKEN: [(&str, &str); 13] = [
         "workflow x(a:int){activity f()->int;a=call f();a=call g();}",
         "E29 at 54",
     ),
+    ("workflow x(){signal s:int;signal s:text;}", "E21 at 33"),
+    ("workflow x(){sleep \"\";}", "E22 at 19"),
+    ("workflow x(){fail now;}", "E22 at 18"),
+    (
+        "workflow x(a:int){signal s:text;a=wait signal s;}",
+        "E22 at 32",
+    ),
+    ("workflow x(a:int){continue as new(\"\");}", "E22 at 34"),
+    ("workflow x(a:int){continue as new();}", "E23 at 18"),
+    (
+        "workflow x(a:int){activity f()->int;a=call f() retry 0 every 0;}",
+        "E28 at 53",
+    ),
+    (
+        "workflow x(a:int){activity f()->int;a=call f() retry 21 every 0;}",
+        "E28 at 53",
+    ),
+    (
+        "workflow x(a:int){activity f()->int;a=call f() retry 20 every 86400001;}",
+        "E28 at 62",
+    ),
+    ("workflow x(a:int){b=wait signal s;}", "E20 at 18"),
+    ("workflow x(a:int){a=wait signal s;}", "E29 at 32"),
 ];
 
 #[test]
