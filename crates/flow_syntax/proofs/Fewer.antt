@@ -1,12 +1,12 @@
 -- Words that are some tokens but for pairs of parentheses: they are no more, and where the tokens are such as a text has,
 -- and pass no limit, so are the words.
-use Rattle.std.proofs.Common.{◌≡◌, ℕ, ◌+◌, ◌-◌, ◌≤◌, List, [], ◌∷◌, ◌++◌, length, length-append, append_assoc, sym, subst, arith}
+use Rattle.std.proofs.Common.{◌≡◌, ℕ, ℤ, pos, negsuc, ◌+◌, ◌-◌, ◌≤◌, List, [], ◌∷◌, ◌++◌, length, length-append, append_assoc, refl, sym, subst, arith}
 use Rattle.flow_base.specs.declared.token.Mark.{Mark}
 use Rattle.flow_base.specs.declared.token.Mark.TheVariants as mark
 use Rattle.flow_base.specs.declared.token.Word.{Word}
 use Rattle.flow_base.specs.declared.token.Word.TheVariants as word
 use Rattle.flow_model.specs.Lexeme.{Lexeme}
-use Rattle.flow_model.specs.Grammar.{marked}
+use Rattle.flow_model.specs.Grammar.{marked, numbered, whole}
 use Rattle.flow_model.specs.Limits.{brackets_after, operators_behind, operators_after}
 use Rattle.flow_syntax.specs.Print.{words_of, IsPrintable}
 
@@ -53,6 +53,20 @@ kept t ws ts flat f =
             omega (arith, one, h.2),
             subst (λ v. Good v (operators_after p t.word) (ws ++ end)) (sym (flat c)) (f.good b (operators_after o t.word) c (operators_after p t.word) more end lb one tail k),
           );
+      least = omega (arith, f.least);
+    }
+
+-- a number that is kept: no text has a negative one
+pub number_kept : (at : ℕ) (z : ℤ) (ws : List Word) (ts : List Lexeme) → Fewer ws ts → Fewer (word.Int (pos (whole z)) ∷ ws) (numbered at z ∷ ts)
+number_kept at (pos n) ws ts f = kept (numbered at (pos n)) ws ts (λ b. refl) f
+number_kept at (negsuc n) ws ts f = record { good = λ b o c p more end lb lo h k. absurd h.0; least = omega (arith, f.least) }
+
+-- a word that is left out: it is no bracket and no operator, and no expression ends at it
+pub left_out : (t : Lexeme) (ws : List Word) (ts : List Lexeme) → IsFlat t.word → ((o : ℕ) → operators_after o t.word ≡ o) → Fewer ws ts → Fewer ws (t ∷ ts)
+left_out t ws ts flat still f =
+    record {
+      good = λ b o c p more end lb lo h k.
+          f.good b o c p more end lb lo (subst (λ v. Good v o (words_of (ts ++ more))) (flat b) (subst (λ v. Good (brackets_after b t.word) v (words_of (ts ++ more))) (still o) h.3)) k;
       least = omega (arith, f.least);
     }
 

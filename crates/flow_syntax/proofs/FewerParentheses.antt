@@ -1,5 +1,5 @@
 -- The words of a program are the tokens that it was read from, but for pairs of parentheses.
-use Rattle.std.proofs.Common.{◌≡◌, ◌∙◌, ℕ, ◌<◌, ◌≤◌, Bool, true, false, if◌then◌else◌, nat_lt, List, [], ◌∷◌, ◌++◌, map, append_assoc, refl, ap, sym, subst, arith}
+use Rattle.std.proofs.Common.{◌≡◌, ◌∙◌, ℕ, ℤ, pos, ◌<◌, ◌≤◌, Bool, true, false, if◌then◌else◌, nat_lt, List, [], ◌∷◌, ◌++◌, map, append_assoc, refl, ap, sym, subst, arith}
 use Rattle.std.proofs.lemmas.Bool.{ltb-true}
 use Rattle.std.proofs.lemmas.List.{append-nil}
 use Rattle.flow_base.specs.Syntax as tree
@@ -11,11 +11,12 @@ use Rattle.flow_base.specs.declared.token.Word.TheVariants as word
 use Rattle.flow_base.specs.declared.value.Kind.{Kind}
 use Rattle.flow_base.specs.declared.value.Kind.TheVariants as kind
 use Rattle.flow_model.specs.Lexeme.{Lexeme}
-use Rattle.flow_model.specs.Grammar.{TermSign, times, over, percent, SumSign, plus, minus, join, CompareSign, equal, differ, less, at_most, greater, at_least, ParensReading, parens, PrimReading, int, text, name, text_of, len_of, inner, UnaryReading, negate, prim, TermReading, term, TermTail, no_factor, factor, SumReading, sum, SumTail, no_term, added, CompareReading, compare, CompareTail, no_side, compared, NegReading, not, plain, ConjReading, conj, ConjTail, no_and, and, ExprReading, expr, ExprTail, no_or, or, ArgumentsReading, no_argument, argument, ArgumentTail, last_argument, next_argument, TypeReading, typed, TypesReading, no_type, type_, TypeTail, last_type, next_type, ParameterReading, parameter, ParametersReading, no_parameter, parameter_, ParameterTail, last_parameter, next_parameter, DeclarationReading, activity, SideReading, value, call, StatementReading, let_, assign, return_, StatementsReading, no_statement, statement, BodyReading, statements, declaration, ProgramReading, workflow}
-use Rattle.flow_model.specs.Grammar.{marked, named, term_mark, sum_mark, compare_mark, term_operator, sum_operator, compare_operator, parens_tokens, prim_tokens, unary_tokens, term_tokens, term_tail_tokens, sum_tokens, sum_tail_tokens, compare_tokens, compare_tail_tokens, neg_tokens, conj_tokens, conj_tail_tokens, expr_tokens, expr_tail_tokens, argument_tail_tokens, arguments_tokens, type_tokens, type_tail_tokens, types_tokens, parameter_tokens, parameter_tail_tokens, parameters_tokens, declaration_tokens, side_tokens, statement_tokens, statements_tokens, body_tokens, program_tokens}
-use Rattle.flow_model.specs.Grammar.{parens_of, prim_of, unary_of, term_of, factors_of, sum_of, added_of, compare_of, compared_of, neg_of, conj_of, and_of, expr_of, or_of, argument_tail_of, arguments_of, type_of, kind_of, type_tail_of, types_of, parameter_of, parameter_tail_of, parameters_of, declaration_of, side_of, statement_of, statements_of, body_statements, declarations_of, program_of}
-use Rattle.flow_syntax.specs.Print.{in_parentheses, fitted, level, kind_mark, expression_words, behind_commas, between_commas, listed, type_words, parameter_words, statement_words, block_words, declared_words, declarations_words, program_words}
-use Rattle.flow_syntax.proofs.Fewer.{Fewer, Closed, IsFlat, no_word, kept, together, together_closed, kept_closed, opened, brace_opened, closing, brace_closing, dropped}
+use Rattle.flow_model.specs.Grammar.{TermSign, times, over, percent, SumSign, plus, minus, join, CompareSign, equal, differ, less, at_most, greater, at_least, ParensReading, parens, PrimReading, int, text, name, now, text_of, len_of, inner, UnaryReading, negate, prim, TermReading, term, TermTail, no_factor, factor, SumReading, sum, SumTail, no_term, added, CompareReading, compare, CompareTail, no_side, compared, NegReading, not, plain, ConjReading, conj, ConjTail, no_and, and, ExprReading, expr, ExprTail, no_or, or, ArgumentsReading, no_argument, argument, ArgumentTail, last_argument, next_argument, TypeReading, typed, TypesReading, no_type, type_, TypeTail, last_type, next_type, ParameterReading, parameter, ParametersReading, no_parameter, parameter_, ParameterTail, last_parameter, next_parameter, DeclarationReading, activity, signal, CallTail, no_retry, retry, SideReading, value, call, wait, StatementReading, let_, assign, sleep, return_, fail, continue_, StatementsReading, no_statement, statement, BodyReading, statements, declaration, ProgramReading, workflow}
+use Rattle.flow_model.specs.Grammar.{marked, named, numbered, whole, term_mark, sum_mark, compare_mark, term_operator, sum_operator, compare_operator, parens_tokens, prim_tokens, unary_tokens, term_tokens, term_tail_tokens, sum_tokens, sum_tail_tokens, compare_tokens, compare_tail_tokens, neg_tokens, conj_tokens, conj_tail_tokens, expr_tokens, expr_tail_tokens, argument_tail_tokens, arguments_tokens, type_tokens, type_tail_tokens, types_tokens, parameter_tokens, parameter_tail_tokens, parameters_tokens, declaration_tokens, call_tail_tokens, side_tokens, statement_tokens, statements_tokens, body_tokens, program_tokens}
+use Rattle.flow_model.specs.Grammar.{parens_of, prim_of, unary_of, term_of, factors_of, sum_of, added_of, compare_of, compared_of, neg_of, conj_of, and_of, expr_of, or_of, argument_tail_of, arguments_of, type_of, kind_of, type_tail_of, types_of, parameter_of, parameter_tail_of, parameters_of, declaration_of, retry_of, side_of, statement_of, statements_of, body_statements, declarations_of, program_of}
+use Rattle.flow_syntax.specs.Print.{in_parentheses, fitted, level, kind_mark, expression_words, behind_commas, between_commas, listed, type_words, parameter_words, retry_words, statement_words, block_words, declared_words, declarations_words, program_words}
+use Rattle.flow_syntax.proofs.Printing.{is_once, retry_or_none}
+use Rattle.flow_syntax.proofs.Fewer.{Fewer, Closed, IsFlat, no_word, kept, number_kept, left_out, together, together_closed, kept_closed, opened, brace_opened, closing, brace_closing, dropped}
 
 ---- Expressions
 
@@ -90,6 +91,7 @@ mutual
   prim_fits (int at n) = of_level 7 (tree.Number at n) (record { at = at; word = word.Int n } ∷ []) (omega arith) (kept (record { at = at; word = word.Int n }) [] [] (λ b. refl) no_word)
   prim_fits (text at t) = of_level 7 (tree.Literal at t) (record { at = at; word = word.Text t } ∷ []) (omega arith) (kept (record { at = at; word = word.Text t }) [] [] (λ b. refl) no_word)
   prim_fits (name at x) = of_level 7 (tree.Variable at x) (named at x ∷ []) (omega arith) (kept (named at x) [] [] (λ b. refl) no_word)
+  prim_fits (now at) = of_level 7 (tree.Now at) (marked at mark.Now ∷ []) (omega arith) (kept (marked at mark.Now) [] [] (λ b. refl) no_word)
   prim_fits (text_of at p) =
       of_level 7 (tree.Apply at unary.TextOf (parens_of p)) (marked at mark.Text ∷ parens_tokens p) (omega arith)
       (kept (marked at mark.Text) (in_parentheses (expression_words (parens_of p))) (parens_tokens p) (λ b. refl) (parens_enclosed p))
@@ -222,36 +224,76 @@ parameters_fewer (parameter_ p more) =
 
 ---- Statements
 
+abbrev end : List Word
+end = word.Mark mark.Semicolon ∷ []
+
+ending : (at : ℕ) → Fewer end (marked at mark.Semicolon ∷ [])
+ending at = kept (marked at mark.Semicolon) [] [] (λ b. refl) no_word
+
 -- an expression and the semicolon behind it
-ended : (e : ExprReading) (end : ℕ) → Fewer (expression_words (expr_of e) ++ (word.Mark mark.Semicolon ∷ [])) (expr_tokens e ++ (marked end mark.Semicolon ∷ []))
-ended e end =
-    together (expression_words (expr_of e)) (word.Mark mark.Semicolon ∷ []) (expr_tokens e) (marked end mark.Semicolon ∷ []) (expression_fewer e) (kept (marked end mark.Semicolon) [] [] (λ b. refl) no_word)
+ended : (e : ExprReading) (to : ℕ) → Fewer (expression_words (expr_of e) ++ end) (expr_tokens e ++ (marked to mark.Semicolon ∷ []))
+ended e to = together (expression_words (expr_of e)) end (expr_tokens e) (marked to mark.Semicolon ∷ []) (expression_fewer e) (ending to)
+
+-- arguments with their parentheses, and what is behind them
+list_then : (paren : ℕ) (es : ArgumentsReading) (ws : List Word) (ts : List Lexeme) → Fewer ws ts → Fewer (listed (map expression_words (arguments_of es)) ++ ws) (marked paren mark.Open ∷ (arguments_tokens es ++ ts))
+list_then paren es ws ts f =
+    together (listed (map expression_words (arguments_of es))) ws (marked paren mark.Open ∷ arguments_tokens es) ts (opened paren (between_commas (map expression_words (arguments_of es)) ++ close) (arguments_tokens es) (arguments_fewer es)) f
+
+-- that a call is tried once is left out, also where it was written
+retry_fewer : (once : Bool) (at tries_at : ℕ) (tries : ℤ) (every every_at : ℕ) (pause : ℤ) (to : ℕ)
+    → Fewer (retry_or_none once (retry_of (retry at tries_at tries every every_at pause to)) ++ end) (call_tail_tokens (retry at tries_at tries every every_at pause to))
+retry_fewer true at tries_at tries every every_at pause to =
+    let behind_every : List Lexeme = numbered every_at pause ∷ marked to mark.Semicolon ∷ [] in
+    left_out (marked at mark.Retry) end (numbered tries_at tries ∷ marked every mark.Every ∷ behind_every) (λ b. refl) (λ o. refl)
+    (left_out (numbered tries_at tries) end (marked every mark.Every ∷ behind_every) (λ b. refl) (λ o. refl)
+    (left_out (marked every mark.Every) end behind_every (λ b. refl) (λ o. refl) (left_out (numbered every_at pause) end (marked to mark.Semicolon ∷ []) (λ b. refl) (λ o. refl) (ending to))))
+retry_fewer false at tries_at tries every every_at pause to =
+    let words_behind_every : List Word = word.Int (pos (whole pause)) ∷ end in
+    let behind_every : List Lexeme = numbered every_at pause ∷ marked to mark.Semicolon ∷ [] in
+    kept (marked at mark.Retry) (word.Int (pos (whole tries)) ∷ word.Mark mark.Every ∷ words_behind_every) (numbered tries_at tries ∷ marked every mark.Every ∷ behind_every) (λ b. refl)
+    (number_kept tries_at tries (word.Mark mark.Every ∷ words_behind_every) (marked every mark.Every ∷ behind_every)
+    (kept (marked every mark.Every) words_behind_every behind_every (λ b. refl) (number_kept every_at pause end (marked to mark.Semicolon ∷ []) (ending to))))
+
+call_tail_fewer : (m : CallTail) → Fewer (retry_words (retry_of m) ++ end) (call_tail_tokens m)
+call_tail_fewer (no_retry to) = ending to
+call_tail_fewer (retry at tries_at tries every every_at pause to) =
+    retry_fewer (is_once (retry_of (retry at tries_at tries every every_at pause to))) at tries_at tries every every_at pause to
 
 side_fewer : (at : ℕ) (x : tree.Bytes) (eq : ℕ) (s : SideReading) → Fewer (statement_words (side_of at x s)) (named at x ∷ marked eq mark.Assign ∷ side_tokens s)
-side_fewer at x eq (value e end) =
-    let ws : List Word = expression_words (expr_of e) ++ (word.Mark mark.Semicolon ∷ []) in
-    let ts : List Lexeme = expr_tokens e ++ (marked end mark.Semicolon ∷ []) in
-    kept (named at x) (word.Mark mark.Assign ∷ ws) (marked eq mark.Assign ∷ ts) (λ b. refl) (kept (marked eq mark.Assign) ws ts (λ b. refl) (ended e end))
-side_fewer at x eq (call call_at name_at a paren es end) =
-    let ws : List Word = listed (map expression_words (arguments_of es)) ++ (word.Mark mark.Semicolon ∷ []) in
-    let ts : List Lexeme = marked paren mark.Open ∷ (arguments_tokens es ++ (marked end mark.Semicolon ∷ [])) in
-    let list : Fewer ws ts =
-    together (listed (map expression_words (arguments_of es))) (word.Mark mark.Semicolon ∷ []) (marked paren mark.Open ∷ arguments_tokens es) (marked end mark.Semicolon ∷ [])
-    (opened paren (between_commas (map expression_words (arguments_of es)) ++ close) (arguments_tokens es) (arguments_fewer es))
-    (kept (marked end mark.Semicolon) [] [] (λ b. refl) no_word) in
+side_fewer at x eq (value e to) =
+    let ws : List Word = expression_words (expr_of e) ++ end in
+    let ts : List Lexeme = expr_tokens e ++ (marked to mark.Semicolon ∷ []) in
+    kept (named at x) (word.Mark mark.Assign ∷ ws) (marked eq mark.Assign ∷ ts) (λ b. refl) (kept (marked eq mark.Assign) ws ts (λ b. refl) (ended e to))
+side_fewer at x eq (call call_at name_at a paren es more) =
+    let ws : List Word = listed (map expression_words (arguments_of es)) ++ (retry_words (retry_of more) ++ end) in
+    let ts : List Lexeme = marked paren mark.Open ∷ (arguments_tokens es ++ call_tail_tokens more) in
+    let list : Fewer ws ts = list_then paren es (retry_words (retry_of more) ++ end) (call_tail_tokens more) (call_tail_fewer more) in
     kept (named at x) (word.Mark mark.Assign ∷ word.Mark mark.Call ∷ word.Name a ∷ ws) (marked eq mark.Assign ∷ marked call_at mark.Call ∷ named name_at a ∷ ts) (λ b. refl)
     (kept (marked eq mark.Assign) (word.Mark mark.Call ∷ word.Name a ∷ ws) (marked call_at mark.Call ∷ named name_at a ∷ ts) (λ b. refl)
     (kept (marked call_at mark.Call) (word.Name a ∷ ws) (named name_at a ∷ ts) (λ b. refl) (kept (named name_at a) ws ts (λ b. refl) list)))
+side_fewer at x eq (wait wait_at signal_at name_at n to) =
+    let ts : List Lexeme = marked to mark.Semicolon ∷ [] in
+    kept (named at x) (word.Mark mark.Assign ∷ word.Mark mark.Wait ∷ word.Mark mark.Signal ∷ word.Name n ∷ end) (marked eq mark.Assign ∷ marked wait_at mark.Wait ∷ marked signal_at mark.Signal ∷ named name_at n ∷ ts) (λ b. refl)
+    (kept (marked eq mark.Assign) (word.Mark mark.Wait ∷ word.Mark mark.Signal ∷ word.Name n ∷ end) (marked wait_at mark.Wait ∷ marked signal_at mark.Signal ∷ named name_at n ∷ ts) (λ b. refl)
+    (kept (marked wait_at mark.Wait) (word.Mark mark.Signal ∷ word.Name n ∷ end) (marked signal_at mark.Signal ∷ named name_at n ∷ ts) (λ b. refl)
+    (kept (marked signal_at mark.Signal) (word.Name n ∷ end) (named name_at n ∷ ts) (λ b. refl) (kept (named name_at n) end ts (λ b. refl) (ending to)))))
 
 statement_fewer : (s : StatementReading) → Fewer (statement_words (statement_of s)) (statement_tokens s)
-statement_fewer (let_ at name_at x eq e end) =
-    let ws : List Word = expression_words (expr_of e) ++ (word.Mark mark.Semicolon ∷ []) in
-    let ts : List Lexeme = expr_tokens e ++ (marked end mark.Semicolon ∷ []) in
+statement_fewer (let_ at name_at x eq e to) =
+    let ws : List Word = expression_words (expr_of e) ++ end in
+    let ts : List Lexeme = expr_tokens e ++ (marked to mark.Semicolon ∷ []) in
     kept (marked at mark.Let) (word.Name x ∷ word.Mark mark.Assign ∷ ws) (named name_at x ∷ marked eq mark.Assign ∷ ts) (λ b. refl)
-    (kept (named name_at x) (word.Mark mark.Assign ∷ ws) (marked eq mark.Assign ∷ ts) (λ b. refl) (kept (marked eq mark.Assign) ws ts (λ b. refl) (ended e end)))
+    (kept (named name_at x) (word.Mark mark.Assign ∷ ws) (marked eq mark.Assign ∷ ts) (λ b. refl) (kept (marked eq mark.Assign) ws ts (λ b. refl) (ended e to)))
 statement_fewer (assign at x eq s) = side_fewer at x eq s
-statement_fewer (return_ at e end) =
-    kept (marked at mark.Return) (expression_words (expr_of e) ++ (word.Mark mark.Semicolon ∷ [])) (expr_tokens e ++ (marked end mark.Semicolon ∷ [])) (λ b. refl) (ended e end)
+statement_fewer (sleep at e to) = kept (marked at mark.Sleep) (expression_words (expr_of e) ++ end) (expr_tokens e ++ (marked to mark.Semicolon ∷ [])) (λ b. refl) (ended e to)
+statement_fewer (return_ at e to) = kept (marked at mark.Return) (expression_words (expr_of e) ++ end) (expr_tokens e ++ (marked to mark.Semicolon ∷ [])) (λ b. refl) (ended e to)
+statement_fewer (fail at e to) = kept (marked at mark.Fail) (expression_words (expr_of e) ++ end) (expr_tokens e ++ (marked to mark.Semicolon ∷ [])) (λ b. refl) (ended e to)
+statement_fewer (continue_ at as_at new_at paren es to) =
+    let ws : List Word = listed (map expression_words (arguments_of es)) ++ end in
+    let ts : List Lexeme = marked paren mark.Open ∷ (arguments_tokens es ++ (marked to mark.Semicolon ∷ [])) in
+    kept (marked at mark.Continue) (word.Mark mark.As ∷ word.Mark mark.New ∷ ws) (marked as_at mark.As ∷ marked new_at mark.New ∷ ts) (λ b. refl)
+    (kept (marked as_at mark.As) (word.Mark mark.New ∷ ws) (marked new_at mark.New ∷ ts) (λ b. refl)
+    (kept (marked new_at mark.New) ws ts (λ b. refl) (list_then paren es end (marked to mark.Semicolon ∷ []) (ending to))))
 
 abbrev brace : List Word
 brace = word.Mark mark.BraceClose ∷ []
@@ -264,17 +306,24 @@ statements_fewer (statement s more) =
 
 ---- Programs
 
+-- a type and the semicolon behind it
+type_ended : (t : TypeReading) (to : ℕ) → Fewer (word.Mark (kind_mark (kind_of t)) ∷ end) (type_tokens t ++ (marked to mark.Semicolon ∷ []))
+type_ended t to = together (word.Mark (kind_mark (kind_of t)) ∷ []) end (type_tokens t) (marked to mark.Semicolon ∷ []) (type_fewer t) (ending to)
+
 declaration_fewer : (d : DeclarationReading) → Fewer (declared_words (declaration_of d)) (declaration_tokens d)
-declaration_fewer (activity at name_at a paren us arrow t end) =
+declaration_fewer (activity at name_at a paren us arrow t to) =
     let list : List Word = listed (map type_words (types_of us)) in
-    let ws : List Word = word.Mark mark.Arrow ∷ word.Mark (kind_mark (kind_of t)) ∷ word.Mark mark.Semicolon ∷ [] in
-    let ts : List Lexeme = marked arrow mark.Arrow ∷ (type_tokens t ++ (marked end mark.Semicolon ∷ [])) in
-    let ending : Fewer ws ts =
-    kept (marked arrow mark.Arrow) (word.Mark (kind_mark (kind_of t)) ∷ word.Mark mark.Semicolon ∷ []) (type_tokens t ++ (marked end mark.Semicolon ∷ [])) (λ b. refl)
-    (together (word.Mark (kind_mark (kind_of t)) ∷ []) (word.Mark mark.Semicolon ∷ []) (type_tokens t) (marked end mark.Semicolon ∷ []) (type_fewer t) (kept (marked end mark.Semicolon) [] [] (λ b. refl) no_word)) in
+    let ws : List Word = word.Mark mark.Arrow ∷ word.Mark (kind_mark (kind_of t)) ∷ end in
+    let ts : List Lexeme = marked arrow mark.Arrow ∷ (type_tokens t ++ (marked to mark.Semicolon ∷ [])) in
+    let behind : Fewer ws ts = kept (marked arrow mark.Arrow) (word.Mark (kind_mark (kind_of t)) ∷ end) (type_tokens t ++ (marked to mark.Semicolon ∷ [])) (λ b. refl) (type_ended t to) in
     kept (marked at mark.Activity) (word.Name a ∷ (list ++ ws)) (named name_at a ∷ marked paren mark.Open ∷ (types_tokens us ++ ts)) (λ b. refl)
     (kept (named name_at a) (list ++ ws) (marked paren mark.Open ∷ (types_tokens us ++ ts)) (λ b. refl)
-    (together list ws (marked paren mark.Open ∷ types_tokens us) ts (opened paren (between_commas (map type_words (types_of us)) ++ close) (types_tokens us) (types_fewer us)) ending))
+    (together list ws (marked paren mark.Open ∷ types_tokens us) ts (opened paren (between_commas (map type_words (types_of us)) ++ close) (types_tokens us) (types_fewer us)) behind))
+declaration_fewer (signal at name_at n colon t to) =
+    let ws : List Word = word.Mark (kind_mark (kind_of t)) ∷ end in
+    let ts : List Lexeme = type_tokens t ++ (marked to mark.Semicolon ∷ []) in
+    kept (marked at mark.Signal) (word.Name n ∷ word.Mark mark.Colon ∷ ws) (named name_at n ∷ marked colon mark.Colon ∷ ts) (λ b. refl)
+    (kept (named name_at n) (word.Mark mark.Colon ∷ ws) (marked colon mark.Colon ∷ ts) (λ b. refl) (kept (marked colon mark.Colon) ws ts (λ b. refl) (type_ended t to)))
 
 body_fewer : (r : BodyReading) → Closed ((declarations_words (declarations_of r) ++ block_words (statements_of (body_statements r))) ++ brace) (body_tokens r)
 body_fewer (statements ss) = statements_fewer ss

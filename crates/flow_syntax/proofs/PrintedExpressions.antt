@@ -13,7 +13,7 @@ use Rattle.flow_base.specs.declared.syntax.Unary.TheVariants as unary
 use Rattle.flow_base.specs.declared.syntax.Binary.{Binary}
 use Rattle.flow_base.specs.declared.syntax.Binary.TheVariants as binary
 use Rattle.flow_model.specs.Lexeme.{Lexeme}
-use Rattle.flow_model.specs.Grammar.{TermSign, times, over, percent, SumSign, plus, minus, join, CompareSign, equal, differ, less, at_most, greater, at_least, parens, int, text, name, text_of, len_of, inner, negate, prim, TermReading, term, TermTail, no_factor, factor, SumReading, sum, SumTail, no_term, added, compare, no_side, compared, not, plain, ConjReading, conj, ConjTail, no_and, and, ExprReading, expr, ExprTail, no_or, or}
+use Rattle.flow_model.specs.Grammar.{TermSign, times, over, percent, SumSign, plus, minus, join, CompareSign, equal, differ, less, at_most, greater, at_least, parens, int, text, name, now, text_of, len_of, inner, negate, prim, TermReading, term, TermTail, no_factor, factor, SumReading, sum, SumTail, no_term, added, compare, no_side, compared, not, plain, ConjReading, conj, ConjTail, no_and, and, ExprReading, expr, ExprTail, no_or, or}
 use Rattle.flow_model.specs.Grammar.{marked, term_mark, sum_mark, compare_mark, term_operator, sum_operator, compare_operator, parens_tokens, prim_tokens, unary_tokens, term_tokens, term_tail_tokens, sum_tokens, sum_tail_tokens, compare_tokens, neg_tokens, conj_tokens, conj_tail_tokens, expr_tokens, expr_tail_tokens, parens_of, prim_of, unary_of, term_of, factors_of, sum_of, added_of, compare_of, neg_of, conj_of, and_of, expr_of, or_of}
 use Rattle.flow_syntax.specs.Print.{words_of, in_parentheses, fitted, level, expression_words}
 
@@ -430,6 +430,9 @@ text_read at s ts h = let t = only (word.Text s) ts h in (text t.0 s, sym t.1, r
 name_read : (at : ℕ) (x : tree.Bytes) → Read IsPrim (word.Name x ∷ []) (tree.Variable at x)
 name_read at x ts h = let t = only (word.Name x) ts h in (name t.0 x, sym t.1, refl)
 
+now_read : (at : ℕ) → Read IsPrim (word.Mark mark.Now ∷ []) (tree.Now at)
+now_read at ts h = let t = only (word.Mark mark.Now) ts h in (now t.0, sym t.1, refl)
+
 abbrev words : Expr → List Word
 words e = expression_words (shown_expr e)
 
@@ -441,6 +444,7 @@ pub operands : (e : Expr) → Operands (shown_expr e) (level (shown_expr e)) (wo
 operands (code.Int at z) = from_prim (word.Int z ∷ []) (tree.Number at z) (int_read at z)
 operands (code.Text at t) = from_prim (word.Text t ∷ []) (tree.Literal at t) (text_read at t)
 operands (code.Var at x) = from_prim (word.Name x ∷ []) (tree.Variable at x) (name_read at x)
+operands (code.Now at) = from_prim (word.Mark mark.Now ∷ []) (tree.Now at) (now_read at)
 operands (code.Unary' at unary.Not p a) = from_neg (word.Mark mark.Not ∷ put a 2) (shown_expr (code.Unary' at unary.Not p a)) (not_read (put a 2) (shown_expr a) at (operands a).as_neg)
 operands (code.Unary' at unary.Negate p a) = from_unary (word.Mark mark.Minus ∷ put a 6) (shown_expr (code.Unary' at unary.Negate p a)) (negate_read (put a 6) (shown_expr a) at (operands a).as_unary)
 operands (code.Unary' at unary.TextOf p a) = from_prim (word.Mark mark.Text ∷ in_parentheses (words a)) (shown_expr (code.Unary' at unary.TextOf p a)) (text_of_read (words a) (shown_expr a) at (operands a).on_its_own)

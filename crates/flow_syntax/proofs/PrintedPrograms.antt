@@ -1,13 +1,14 @@
 -- What is printed of a program is read as it, up to places, wherever its tokens stand.
-use Rattle.std.proofs.Common.{◌≡◌, ◌∙◌, ℕ, List, [], ◌∷◌, ◌++◌, map, refl, ap, sym, append_assoc}
+use Rattle.std.proofs.Common.{◌≡◌, ◌∙◌, ℕ, pos, Bool, true, false, List, [], ◌∷◌, ◌++◌, map, refl, ap, sym, append_assoc}
 use Rattle.flow_base.specs.Syntax as tree
-use Rattle.flow_base.specs.Bare.{bare_expression, bare_statement, bare_block, bare_declared, bare_type, bare_parameter}
+use Rattle.flow_base.specs.Bare.{bare_expression, bare_retry, bare_statement, bare_block, bare_declared, bare_type, bare_parameter}
 use Rattle.flow_base.specs.Shown.{shown_expr, shown_stmt, shown_block, shown_declaration, shown_program}
 use Rattle.flow_base.specs.declared.syntax.Expr.{Expr}
 use Rattle.flow_base.specs.declared.syntax.Stmt.{Stmt}
 use Rattle.flow_base.specs.declared.syntax.Stmt.TheVariants as stmt
 use Rattle.flow_base.specs.declared.syntax.Declaration.{Declaration}
 use Rattle.flow_base.specs.declared.syntax.Declaration.TheVariants as declared
+use Rattle.flow_base.specs.declared.syntax.Retry.{Retry}
 use Rattle.flow_base.specs.declared.syntax.Parameter.{Parameter}
 use Rattle.flow_base.specs.declared.syntax.TypeAt.{TypeAt}
 use Rattle.flow_base.specs.declared.syntax.Program.{Program}
@@ -17,10 +18,11 @@ use Rattle.flow_base.specs.declared.token.Word.{Word}
 use Rattle.flow_base.specs.declared.token.Word.TheVariants as word
 use Rattle.flow_base.specs.declared.token.Mark.TheVariants as mark
 use Rattle.flow_model.specs.Lexeme.{Lexeme}
-use Rattle.flow_model.specs.Grammar.{ExprReading, no_argument, argument, last_argument, next_argument, TypeReading, typed, no_type, type_, last_type, next_type, ParameterReading, parameter, no_parameter, parameter_, last_parameter, next_parameter, DeclarationReading, activity, value, call, StatementReading, let_, assign, return_, StatementsReading, no_statement, statement, BodyReading, statements, declaration, ProgramReading, workflow}
-use Rattle.flow_model.specs.Grammar.{marked, named, expr_tokens, expr_of, argument_tail_tokens, arguments_tokens, type_tokens, type_tail_tokens, types_tokens, parameter_tokens, parameter_tail_tokens, parameters_tokens, declaration_tokens, statement_tokens, statements_tokens, body_tokens, program_tokens, argument_tail_of, arguments_of, type_of, kind_of, type_tail_of, types_of, parameter_of, parameter_tail_of, parameters_of, declaration_of, statement_of, statements_of, body_statements, declarations_of, program_of}
-use Rattle.flow_syntax.specs.Print.{words_of, AreReadAs, kind_mark, expression_words, behind_commas, between_commas, type_words, parameter_words, statement_words, block_words, declared_words, declarations_words, program_words}
+use Rattle.flow_model.specs.Grammar.{ExprReading, no_argument, argument, last_argument, next_argument, TypeReading, typed, no_type, type_, last_type, next_type, ParameterReading, parameter, no_parameter, parameter_, last_parameter, next_parameter, DeclarationReading, activity, signal, CallTail, no_retry, retry, value, call, wait, StatementReading, let_, assign, sleep, return_, fail, continue_, StatementsReading, no_statement, statement, BodyReading, statements, declaration, ProgramReading, workflow}
+use Rattle.flow_model.specs.Grammar.{marked, named, numbered, expr_tokens, expr_of, argument_tail_tokens, arguments_tokens, type_tokens, type_tail_tokens, types_tokens, parameter_tokens, parameter_tail_tokens, parameters_tokens, declaration_tokens, call_tail_tokens, statement_tokens, statements_tokens, body_tokens, program_tokens, argument_tail_of, arguments_of, type_of, kind_of, type_tail_of, types_of, parameter_of, parameter_tail_of, parameters_of, declaration_of, retry_of, statement_of, statements_of, body_statements, declarations_of, program_of}
+use Rattle.flow_syntax.specs.Print.{words_of, AreReadAs, kind_mark, expression_words, behind_commas, between_commas, type_words, parameter_words, retry_words, statement_words, block_words, declared_words, declarations_words, program_words}
 use Rattle.flow_syntax.proofs.PrintedExpressions.{first, only, split, expression_read}
+use Rattle.flow_syntax.proofs.Printing.{is_once, retry_or_none, once_means}
 
 -- the tokens have a reading that stands for these items, up to places
 abbrev Listed : {R A B : Type 0} → (R → List Lexeme) → (R → List A) → (A → B) → List Lexeme → List A → Type 0
@@ -144,6 +146,40 @@ ended_read e ts h =
     let c = only (word.Mark mark.Semicolon) s.1 s.4 in
     (here.0, c.0, joined ts s.0 s.1 (expr_tokens here.0) (marked c.0 mark.Semicolon ∷ []) here.1 (sym c.1) s.2, here.2)
 
+-- what is behind the arguments of a call
+abbrev IsCallTail : List Lexeme → Retry → Type 0
+IsCallTail ts r = (m : CallTail) × (call_tail_tokens m ≡ ts) × (bare_retry (retry_of m) ≡ bare_retry r)
+
+abbrev end : List Word
+end = word.Mark mark.Semicolon ∷ []
+
+-- how often, at no place
+abbrev often : ℕ → ℕ → Retry
+often tries every = record { tries_at = 0; tries = tries; every_at = 0; every = every }
+
+tail_read : (once : Bool) (r : Retry) (ts : List Lexeme) → is_once r ≡ once → words_of ts ≡ retry_or_none once r ++ end → IsCallTail ts r
+tail_read true r ts e h =
+    let z = only (word.Mark mark.Semicolon) ts h in
+    let o = once_means r e in
+    (no_retry z.0, sym z.1, sym (ap (λ n. often n r.every) o.0 ∙ ap (often 1) o.1))
+tail_read false r ts e h =
+    let o = first (word.Mark mark.Retry) (word.Int (pos r.tries) ∷ word.Mark mark.Every ∷ word.Int (pos r.every) ∷ end) ts h in
+    let n = first (word.Int (pos r.tries)) (word.Mark mark.Every ∷ word.Int (pos r.every) ∷ end) o.1 o.3 in
+    let v = first (word.Mark mark.Every) (word.Int (pos r.every) ∷ end) n.1 n.3 in
+    let m = first (word.Int (pos r.every)) end v.1 v.3 in
+    let z = only (word.Mark mark.Semicolon) m.1 m.3 in (
+      retry o.0 n.0 (pos r.tries) v.0 m.0 (pos r.every) z.0,
+      ap (λ w. marked o.0 mark.Retry ∷ numbered n.0 (pos r.tries) ∷ marked v.0 mark.Every ∷ numbered m.0 (pos r.every) ∷ w) (sym z.1)
+          ∙ ap (λ w. marked o.0 mark.Retry ∷ numbered n.0 (pos r.tries) ∷ marked v.0 mark.Every ∷ w) (sym m.2)
+          ∙ ap (λ w. marked o.0 mark.Retry ∷ numbered n.0 (pos r.tries) ∷ w) (sym v.2)
+          ∙ ap (λ w. marked o.0 mark.Retry ∷ w) (sym n.2)
+          ∙ sym o.2,
+      refl,
+    )
+
+call_tail_read : (r : Retry) (ts : List Lexeme) → words_of ts ≡ retry_words r ++ end → IsCallTail ts r
+call_tail_read r ts h = tail_read (is_once r) r ts refl h
+
 statement_read : (s : Stmt) (ts : List Lexeme) → words_of ts ≡ statement_words (shown_stmt s) → IsStatement ts (shown_stmt s)
 statement_read (stmt.Let at name_at x e) ts h =
     let o = first (word.Mark mark.Let) (word.Name x ∷ word.Mark mark.Assign ∷ (expression_words (shown_expr e) ++ (word.Mark mark.Semicolon ∷ []))) ts h in
@@ -166,25 +202,66 @@ statement_read (stmt.Return at e) ts h =
     let o = first (word.Mark mark.Return) (expression_words (shown_expr e) ++ (word.Mark mark.Semicolon ∷ [])) ts h in
     let v = ended_read e o.1 o.3 in
     (return_ o.0 v.0 v.1, ap (λ w. marked o.0 mark.Return ∷ w) v.2 ∙ sym o.2, ap (λ w. tree.Return 0 w) v.3)
-statement_read (stmt.Call at x activity_at b es) ts h =
-    let tail : List Word = between_commas (arguments_words es.items) ++ (word.Mark mark.Close ∷ []) in
-    let end : List Word = word.Mark mark.Semicolon ∷ [] in
-    let n = first (word.Name x) (word.Mark mark.Assign ∷ word.Mark mark.Call ∷ word.Name b ∷ word.Mark mark.Open ∷ (tail ++ end)) ts h in
-    let a = first (word.Mark mark.Assign) (word.Mark mark.Call ∷ word.Name b ∷ word.Mark mark.Open ∷ (tail ++ end)) n.1 n.3 in
-    let c = first (word.Mark mark.Call) (word.Name b ∷ word.Mark mark.Open ∷ (tail ++ end)) a.1 a.3 in
-    let m = first (word.Name b) (word.Mark mark.Open ∷ (tail ++ end)) c.1 c.3 in
-    let o = first (word.Mark mark.Open) (tail ++ end) m.1 m.3 in
-    let s = split tail end o.1 o.3 in
-    let list = arguments_read es.items s.0 s.3 in
+statement_read (stmt.Sleep at e) ts h =
+    let o = first (word.Mark mark.Sleep) (expression_words (shown_expr e) ++ (word.Mark mark.Semicolon ∷ [])) ts h in
+    let v = ended_read e o.1 o.3 in
+    (sleep o.0 v.0 v.1, ap (λ w. marked o.0 mark.Sleep ∷ w) v.2 ∙ sym o.2, ap (λ w. tree.Sleep 0 w) v.3)
+statement_read (stmt.FailWith at e) ts h =
+    let o = first (word.Mark mark.Fail) (expression_words (shown_expr e) ++ (word.Mark mark.Semicolon ∷ [])) ts h in
+    let v = ended_read e o.1 o.3 in
+    (fail o.0 v.0 v.1, ap (λ w. marked o.0 mark.Fail ∷ w) v.2 ∙ sym o.2, ap (λ w. tree.FailWith 0 w) v.3)
+statement_read (stmt.WaitSignal at x signal_at b) ts h =
+    let n = first (word.Name x) (word.Mark mark.Assign ∷ word.Mark mark.Wait ∷ word.Mark mark.Signal ∷ word.Name b ∷ end) ts h in
+    let a = first (word.Mark mark.Assign) (word.Mark mark.Wait ∷ word.Mark mark.Signal ∷ word.Name b ∷ end) n.1 n.3 in
+    let w = first (word.Mark mark.Wait) (word.Mark mark.Signal ∷ word.Name b ∷ end) a.1 a.3 in
+    let g = first (word.Mark mark.Signal) (word.Name b ∷ end) w.1 w.3 in
+    let m = first (word.Name b) end g.1 g.3 in
+    let z = only (word.Mark mark.Semicolon) m.1 m.3 in (
+      assign n.0 x a.0 (wait w.0 g.0 m.0 b z.0),
+      ap (λ v. named n.0 x ∷ marked a.0 mark.Assign ∷ marked w.0 mark.Wait ∷ marked g.0 mark.Signal ∷ named m.0 b ∷ v) (sym z.1)
+          ∙ ap (λ v. named n.0 x ∷ marked a.0 mark.Assign ∷ marked w.0 mark.Wait ∷ marked g.0 mark.Signal ∷ v) (sym m.2)
+          ∙ ap (λ v. named n.0 x ∷ marked a.0 mark.Assign ∷ marked w.0 mark.Wait ∷ v) (sym g.2)
+          ∙ ap (λ v. named n.0 x ∷ marked a.0 mark.Assign ∷ v) (sym w.2)
+          ∙ ap (λ v. named n.0 x ∷ v) (sym a.2)
+          ∙ sym n.2,
+      refl,
+    )
+statement_read (stmt.Continue at es) ts h =
+    let list : List Word = between_commas (arguments_words es.items) ++ (word.Mark mark.Close ∷ []) in
+    let k = first (word.Mark mark.Continue) (word.Mark mark.As ∷ word.Mark mark.New ∷ word.Mark mark.Open ∷ (list ++ end)) ts h in
+    let a = first (word.Mark mark.As) (word.Mark mark.New ∷ word.Mark mark.Open ∷ (list ++ end)) k.1 k.3 in
+    let n = first (word.Mark mark.New) (word.Mark mark.Open ∷ (list ++ end)) a.1 a.3 in
+    let o = first (word.Mark mark.Open) (list ++ end) n.1 n.3 in
+    let s = split list end o.1 o.3 in
+    let r = arguments_read es.items s.0 s.3 in
     let z = only (word.Mark mark.Semicolon) s.1 s.4 in (
-      assign n.0 x a.0 (call c.0 m.0 b o.0 list.0 z.0),
-      ap (λ w. named n.0 x ∷ marked a.0 mark.Assign ∷ marked c.0 mark.Call ∷ named m.0 b ∷ marked o.0 mark.Open ∷ w) (joined o.1 s.0 s.1 (arguments_tokens list.0) (marked z.0 mark.Semicolon ∷ []) list.1 (sym z.1) s.2)
+      continue_ k.0 a.0 n.0 o.0 r.0 z.0,
+      ap (λ w. marked k.0 mark.Continue ∷ marked a.0 mark.As ∷ marked n.0 mark.New ∷ marked o.0 mark.Open ∷ w) (joined o.1 s.0 s.1 (arguments_tokens r.0) (marked z.0 mark.Semicolon ∷ []) r.1 (sym z.1) s.2)
+          ∙ ap (λ w. marked k.0 mark.Continue ∷ marked a.0 mark.As ∷ marked n.0 mark.New ∷ w) (sym o.2)
+          ∙ ap (λ w. marked k.0 mark.Continue ∷ marked a.0 mark.As ∷ w) (sym n.2)
+          ∙ ap (λ w. marked k.0 mark.Continue ∷ w) (sym a.2)
+          ∙ sym k.2,
+      ap (λ w. tree.Continue 0 w) r.2,
+    )
+statement_read (stmt.Call at x activity_at b es r) ts h =
+    let list : List Word = between_commas (arguments_words es.items) ++ (word.Mark mark.Close ∷ []) in
+    let tail : List Word = retry_words r ++ end in
+    let n = first (word.Name x) (word.Mark mark.Assign ∷ word.Mark mark.Call ∷ word.Name b ∷ word.Mark mark.Open ∷ (list ++ tail)) ts h in
+    let a = first (word.Mark mark.Assign) (word.Mark mark.Call ∷ word.Name b ∷ word.Mark mark.Open ∷ (list ++ tail)) n.1 n.3 in
+    let c = first (word.Mark mark.Call) (word.Name b ∷ word.Mark mark.Open ∷ (list ++ tail)) a.1 a.3 in
+    let m = first (word.Name b) (word.Mark mark.Open ∷ (list ++ tail)) c.1 c.3 in
+    let o = first (word.Mark mark.Open) (list ++ tail) m.1 m.3 in
+    let s = split list tail o.1 o.3 in
+    let given = arguments_read es.items s.0 s.3 in
+    let more = call_tail_read r s.1 s.4 in (
+      assign n.0 x a.0 (call c.0 m.0 b o.0 given.0 more.0),
+      ap (λ w. named n.0 x ∷ marked a.0 mark.Assign ∷ marked c.0 mark.Call ∷ named m.0 b ∷ marked o.0 mark.Open ∷ w) (joined o.1 s.0 s.1 (arguments_tokens given.0) (call_tail_tokens more.0) given.1 more.1 s.2)
           ∙ ap (λ w. named n.0 x ∷ marked a.0 mark.Assign ∷ marked c.0 mark.Call ∷ named m.0 b ∷ w) (sym o.2)
           ∙ ap (λ w. named n.0 x ∷ marked a.0 mark.Assign ∷ marked c.0 mark.Call ∷ w) (sym m.2)
           ∙ ap (λ w. named n.0 x ∷ marked a.0 mark.Assign ∷ w) (sym c.2)
           ∙ ap (λ w. named n.0 x ∷ w) (sym a.2)
           ∙ sym n.2,
-      ap (λ w. tree.Call 0 x 0 b w tree.once tree.NoElse) list.2,
+      ap (λ w. tree.Call 0 x 0 b w (bare_retry (retry_of more.0)) tree.NoElse) given.2 ∙ ap (λ w. tree.Call 0 x 0 b (map bare_expression (map shown_expr es.items)) w tree.NoElse) more.2,
     )
 
 -- statements up to the brace behind them
@@ -228,6 +305,20 @@ declaration_read (declared.Activity at name_at b takes gives) ts h =
           ∙ ap (λ v. marked a.0 mark.Activity ∷ v) (sym n.2)
           ∙ sym a.2,
       ap (λ v. tree.Activity 0 0 b v (kind_of t.0)) us.2 ∙ ap (λ v. tree.Activity 0 0 b (map bare_type takes.items) v) t.2,
+    )
+declaration_read (declared.Signal at name_at b carries) ts h =
+    let a = first (word.Mark mark.Signal) (word.Name b ∷ word.Mark mark.Colon ∷ word.Mark (kind_mark carries) ∷ end) ts h in
+    let n = first (word.Name b) (word.Mark mark.Colon ∷ word.Mark (kind_mark carries) ∷ end) a.1 a.3 in
+    let c = first (word.Mark mark.Colon) (word.Mark (kind_mark carries) ∷ end) n.1 n.3 in
+    let q = split (word.Mark (kind_mark carries) ∷ []) end c.1 c.3 in
+    let t = type_read carries q.0 q.3 in
+    let z = only (word.Mark mark.Semicolon) q.1 q.4 in (
+      signal a.0 n.0 b c.0 t.0 z.0,
+      ap (λ v. marked a.0 mark.Signal ∷ named n.0 b ∷ marked c.0 mark.Colon ∷ v) (joined c.1 q.0 q.1 (type_tokens t.0) (marked z.0 mark.Semicolon ∷ []) t.1 (sym z.1) q.2)
+          ∙ ap (λ v. marked a.0 mark.Signal ∷ named n.0 b ∷ v) (sym c.2)
+          ∙ ap (λ v. marked a.0 mark.Signal ∷ v) (sym n.2)
+          ∙ sym a.2,
+      ap (λ v. tree.Signal 0 0 b v) t.2,
     )
 
 abbrev IsBody : List Lexeme → List tree.Declared → tree.Block → Type 0

@@ -1,15 +1,18 @@
 -- What is written of a program's words, token by token.
-use Rattle.std.proofs.Common.{◌≡◌, ℕ, suc, ◌+◌, ◌<◌, ◌≤◌, ◌==◌, false, List, [], ◌∷◌, ◌++◌, length, map, drop, get_or, add-one, drop-cons, append_assoc, append-nil, sym, ap, ◌∙◌, refl, arith}
+use Rattle.std.proofs.Common.{◌≡◌, ℕ, pos, suc, ◌+◌, ◌<◌, ◌≤◌, ◌==◌, ◌&&◌, Bool, true, false, if◌then◌else◌, List, [], ◌∷◌, ◌++◌, length, map, drop, get_or, add-one, drop-cons, append_assoc, append-nil, sym, ap, ◌∙◌, refl, arith}
 use Rattle.std.proofs.lemmas.List.{drop_all, nil_from_length}
+use Rattle.std.proofs.lemmas.Bool.{and_parts}
 use Rattle.std.proofs.lemmas.Bool.Decides.{nat_tests}
 use Rattle.std.proofs.lemmas.Str.{inside_one}
 use Rattle.std.specs.Char.{encode_utf8}
 use Rattle.flow_base.specs.declared.syntax.Binary.{Binary}
+use Rattle.flow_base.specs.declared.syntax.Retry.{Retry}
 use Rattle.flow_base.specs.declared.token.Mark as declared
+use Rattle.flow_base.specs.declared.token.Mark.TheVariants as mark
 use Rattle.flow_base.specs.declared.token.Word.TheVariants as word
 use Rattle.flow_base.specs.Syntax.{Expression}
 use Rattle.flow_base.specs.declared.token.Word.{Word}
-use Rattle.flow_syntax.specs.Print.{written, all_written, spelled_word, spaced, level, left_level, right_level, binary_mark, binary_words, fitted, expression_words, between_commas}
+use Rattle.flow_syntax.specs.Print.{written, all_written, spelled_word, spaced, level, left_level, right_level, binary_mark, binary_words, fitted, expression_words, between_commas, retry_words}
 
 pub spaced_append : (a b : List Word) → spaced (a ++ b) ≡ spaced a ++ spaced b
 unfolding spaced
@@ -54,6 +57,25 @@ binary_written op l r m a b old mid behind new e f g h i j =
     words_then old mid new (fitted (level a) (left_level op) (expression_words a)) (word.Mark (binary_mark op) ∷ fitted (level b) (right_level op) (expression_words b))
     (rw e at h)
     (words_then mid behind new (word.Mark (binary_mark op) ∷ []) (fitted (level b) (right_level op) (expression_words b)) (rw g at i) (rw f at j))
+
+-- ---- how often a call is tried
+
+abbrev pub is_once : Retry → Bool
+is_once r = (r.tries == 1) && (r.every == 0)
+
+-- the words, by that test
+abbrev pub retry_or_none : Bool → Retry → List Word
+retry_or_none once r = if once then [] else word.Mark mark.Retry ∷ word.Int (pos r.tries) ∷ word.Mark mark.Every ∷ word.Int (pos r.every) ∷ []
+
+pub once_means : (r : Retry) → is_once r ≡ true → (r.tries ≡ 1) × (r.every ≡ 0)
+once_means r h =
+    let s = and_parts (r.tries == 1) (r.every == 0) h in
+    let tries : (r.tries == 1) ≡ true = s.0 in
+    let every : (r.every == 0) ≡ true = s.1 in
+    (grind (arith, nat_tests), grind (arith, nat_tests))
+
+pub retry_written : (once : Bool) (r : Retry) → once ≡ is_once r → retry_words r ≡ retry_or_none once r
+retry_written once r e = ap (λ b. retry_or_none b r) (sym e)
 
 -- ---- texts
 

@@ -13,7 +13,7 @@ pub fn level(expr: &Expr) -> u8
     ensures { result ≡ level (shown_expr expr.now) }
 {
     match expr {
-        Expr::Int(_, _) | Expr::Text(_, _) | Expr::Var(_, _) => 7,
+        Expr::Int(_, _) | Expr::Text(_, _) | Expr::Var(_, _) | Expr::Now(_) => 7,
         Expr::Unary(_, operator, _) => unary_level(*operator),
         Expr::Binary(operator, _, _) => binary_level(*operator),
     }

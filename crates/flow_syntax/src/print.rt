@@ -1,14 +1,17 @@
 //! The text of a program: its tokens, joined by one space.
-ghost use Rattle.std.specs.Prelude.{◌≡◌, ◌≤◌, ◌++◌, map, length, OnOk, IfOk, string_bytes};
-ghost use Rattle.flow_base.specs.Syntax.{Bytes, Let, Assign, Call, Return, NoElse, once, Activity};
+ghost use Rattle.std.specs.Prelude.{◌≡◌, ◌≤◌, ◌==◌, ◌&&◌, ◌∷◌, ◌++◌, map, length, OnOk, IfOk, string_bytes};
+ghost use Rattle.flow_base.specs.declared.token.Word.TheVariants as word;
+ghost use Rattle.flow_base.specs.Syntax.{Bytes, Let, Assign, Call, WaitSignal, Continue, NoElse, Activity, Signal};
 ghost use Rattle.flow_base.specs.Shown.{shown_expr, shown_stmt, shown_block, shown_declaration, shown_program};
 ghost use Rattle.flow_model.specs.Meaning.{IsProgramOf};
-ghost use Rattle.flow_syntax.specs.Print.{spaced, fitted, in_parentheses, level, unary_words, expression_words, arguments_words, type_words, parameter_words, statement_words, block_words, declared_words, declarations_words, words_behind_keyword, program_words, joined, AreReadAs, ArePrintable, HasTokens, IsTextOf, IsProgramAgain, HasLeastWords};
+ghost use Rattle.flow_syntax.specs.Print.{spaced, fitted, in_parentheses, level, unary_words, expression_words, arguments_words, type_words, parameter_words, end, retry_words, statement_words, block_words, declared_words, declarations_words, words_behind_keyword, program_words, joined, AreReadAs, ArePrintable, HasTokens, IsTextOf, IsProgramAgain, HasLeastWords};
 
 use crate::levels::{binary_mark, left_level, level, right_level};
 use crate::listed::{Item, print_list};
 use crate::printer::Printer;
-use flow_base::syntax::{Binary, Declaration, Expr, Parameter, Program, Stmt, TypeAt, Unary};
+use flow_base::syntax::{
+    Binary, Declaration, Expr, Parameter, Program, Retry, Stmt, TypeAt, Unary,
+};
 use flow_base::text::Key;
 use flow_base::token::Mark;
 use flow_base::value::Kind;
@@ -22,6 +25,7 @@ fn expr(out: &mut Printer, expr: &Expr) -> Result<(), AllocError>
         Expr::Int(_, number) => out.number(*number),
         Expr::Text(_, text) => out.quoted(text),
         Expr::Var(_, name) => out.name(name),
+        Expr::Now(_) => out.mark(Mark::Now),
         Expr::Unary(_, operator, inner) => unary(out, *operator, inner),
         Expr::Binary(operator, left, right) => {
             operand(out, left, left_level(*operator))?;
@@ -134,23 +138,75 @@ fn assign(out: &mut Printer, name: &Key, value: &Expr) -> Result<(), AllocError>
     Ok(())
 }
 
-fn call(out: &mut Printer, into: &Key, activity: &Key, list: &[Expr]) -> Result<(), AllocError>
-    ensures { OnOk result (out.new ≡ out.old ++ spaced (statement_words (Call 0 into.now 0 activity.now (map shown_expr list.now) once NoElse))) }
+fn call(
+    out: &mut Printer,
+    into: &Key,
+    activity: &Key,
+    list: &[Expr],
+    often: Retry,
+) -> Result<(), AllocError>
+    ensures { OnOk result (out.new ≡ out.old ++ spaced (statement_words (Call 0 into.now 0 activity.now (map shown_expr list.now) often NoElse))) }
 {
     out.name(into)?;
     out.mark(Mark::Assign)?;
     out.mark(Mark::Call)?;
     out.name(activity)?;
     arguments(out, list)?;
+    retry(out, often)?;
     out.mark(Mark::Semicolon)?;
     Ok(())
 }
 
-fn return_statement(out: &mut Printer, value: &Expr) -> Result<(), AllocError>
-    ensures { OnOk result (out.new ≡ out.old ++ spaced (statement_words (Return 0 (shown_expr value.now)))) }
+/// Whether a call with no `retry` is tried as often.
+fn is_once(often: Retry) -> bool
+    ensures { result ≡ (often.tries == 1) && (often.every == 0) }
 {
-    out.mark(Mark::Return)?;
+    often.tries == 1 && often.every == 0
+}
+
+/// How often a call is tried, which is left out where a call with no `retry` is tried as often.
+fn retry(out: &mut Printer, often: Retry) -> Result<(), AllocError>
+    ensures { OnOk result (out.new ≡ out.old ++ spaced (retry_words often)) }
+{
+    if is_once(often) {
+        return Ok(());
+    }
+    out.mark(Mark::Retry)?;
+    out.count(often.tries)?;
+    out.mark(Mark::Every)?;
+    out.count(often.every)?;
+    Ok(())
+}
+
+fn wait(out: &mut Printer, into: &Key, signal: &Key) -> Result<(), AllocError>
+    ensures { OnOk result (out.new ≡ out.old ++ spaced (statement_words (WaitSignal 0 into.now 0 signal.now))) }
+{
+    out.name(into)?;
+    out.mark(Mark::Assign)?;
+    out.mark(Mark::Wait)?;
+    out.mark(Mark::Signal)?;
+    out.name(signal)?;
+    out.mark(Mark::Semicolon)?;
+    Ok(())
+}
+
+/// A statement of a keyword and an expression.
+fn keyword_statement(out: &mut Printer, keyword: Mark, value: &Expr) -> Result<(), AllocError>
+    ensures { OnOk result (out.new ≡ out.old ++ spaced (word.Mark keyword ∷ (expression_words (shown_expr value.now) ++ end))) }
+{
+    out.mark(keyword)?;
     expr(out, value)?;
+    out.mark(Mark::Semicolon)?;
+    Ok(())
+}
+
+fn continue_as_new(out: &mut Printer, list: &[Expr]) -> Result<(), AllocError>
+    ensures { OnOk result (out.new ≡ out.old ++ spaced (statement_words (Continue 0 (map shown_expr list.now)))) }
+{
+    out.mark(Mark::Continue)?;
+    out.mark(Mark::As)?;
+    out.mark(Mark::New)?;
+    arguments(out, list)?;
     out.mark(Mark::Semicolon)?;
     Ok(())
 }
@@ -161,8 +217,12 @@ fn statement(out: &mut Printer, stmt: &Stmt) -> Result<(), AllocError>
     match stmt {
         Stmt::Let(_, _, name, value) => let_statement(out, name, value),
         Stmt::Assign(_, name, value) => assign(out, name, value),
-        Stmt::Call(_, into, _, activity, list) => call(out, into, activity, list),
-        Stmt::Return(_, value) => return_statement(out, value),
+        Stmt::Call(_, into, _, activity, list, often) => call(out, into, activity, list, *often),
+        Stmt::WaitSignal(_, into, _, signal) => wait(out, into, signal),
+        Stmt::Sleep(_, delay) => keyword_statement(out, Mark::Sleep, delay),
+        Stmt::Return(_, value) => keyword_statement(out, Mark::Return, value),
+        Stmt::FailWith(_, value) => keyword_statement(out, Mark::Fail, value),
+        Stmt::Continue(_, list) => continue_as_new(out, list),
     }
 }
 
@@ -187,11 +247,23 @@ fn activity(out: &mut Printer, name: &Key, takes: &[TypeAt], gives: Kind) -> Res
     Ok(())
 }
 
+fn signal(out: &mut Printer, name: &Key, carries: Kind) -> Result<(), AllocError>
+    ensures { OnOk result (out.new ≡ out.old ++ spaced (declared_words (Signal 0 0 name.now carries))) }
+{
+    out.mark(Mark::Signal)?;
+    out.name(name)?;
+    out.mark(Mark::Colon)?;
+    out.kind(carries)?;
+    out.mark(Mark::Semicolon)?;
+    Ok(())
+}
+
 fn declaration(out: &mut Printer, declaration: &Declaration) -> Result<(), AllocError>
     ensures { OnOk result (out.new ≡ out.old ++ spaced (declared_words (shown_declaration declaration.now))) }
 {
     match declaration {
         Declaration::Activity(_, _, name, takes, gives) => activity(out, name, takes, *gives),
+        Declaration::Signal(_, _, name, carries) => signal(out, name, *carries),
     }
 }
 

@@ -1,7 +1,7 @@
 //! What writes the text of a program, token by token.
-ghost use Rattle.std.specs.Prelude.{◌≡◌, [], ◌∷◌, ◌++◌, OnOk, IfOk, string_bytes};
+ghost use Rattle.std.specs.Prelude.{◌≡◌, pos, [], ◌∷◌, ◌++◌, OnOk, IfOk, string_bytes};
 ghost use Rattle.std.specs.Char.{encode_utf8};
-ghost use Rattle.std.specs.Fmt.{signed_decimal};
+ghost use Rattle.std.specs.Fmt.{decimal, signed_decimal};
 ghost use Rattle.flow_base.specs.declared.token.Word.TheVariants as word;
 ghost use Rattle.flow_syntax.specs.Print.{all_written, spaced, kind_mark};
 
@@ -91,6 +91,22 @@ impl Printer {
 
     fn digits(&mut self, number: i64) -> Result<(), AllocError>
         ensures { OnOk result (self.new ≡ self.old ++ signed_decimal number) }
+    {
+        write!(self.text, "{number}")
+    }
+
+    /// A number that is never negative.
+    #[tactic(auto, unfolding(crate::specs::Print::spaced))]
+    pub fn count(&mut self, number: u64) -> Result<(), AllocError>
+        ensures { OnOk result (self.new ≡ self.old ++ spaced (word.Int (pos number) ∷ [])) }
+    {
+        self.push(" ")?;
+        self.count_digits(number)?;
+        Ok(())
+    }
+
+    fn count_digits(&mut self, number: u64) -> Result<(), AllocError>
+        ensures { OnOk result (self.new ≡ self.old ++ decimal number) }
     {
         write!(self.text, "{number}")
     }

@@ -28,8 +28,8 @@ const FAULTS: [(&str, Code, usize); 12] = [
     ("workflow x( { }", Code::Unexpected, 12),
     ("workflow x() { let a = 1 ! 2; }", Code::BadToken, 25),
     ("workflow x() { let a = 1 2 ! }", Code::Unexpected, 25),
-    ("workflow x() { let a = now; }", Code::Unexpected, 23),
-    ("workflow x() { sleep 1; }", Code::Unexpected, 15),
+    ("workflow x() { let a = sleep; }", Code::Unexpected, 23),
+    ("workflow x() { sleep; }", Code::Unexpected, 20),
     (
         "workflow x() { a = call b() else { }; }",
         Code::Unexpected,
@@ -63,7 +63,7 @@ fn names_the_first_fault(rt: HostRuntime) {
 }
 
 /// Programs, each with what it prints as.
-const PRINTED: [(&str, &str); 7] = [
+const PRINTED: [(&str, &str); 10] = [
     ("workflow e() {}", "workflow e ( ) { }"),
     (
         "workflow a(n: int) { activity c(int, text) -> int; let r = 0; r = call c(n, \"eur\"); return r + 1; }",
@@ -88,6 +88,18 @@ const PRINTED: [(&str, &str); 7] = [
     (
         "workflow e() { return text((len(\"a\\n\\\"\\\\\"))); }",
         "workflow e ( ) { return text ( len ( \"a\\n\\\"\\\\\" ) ) ; }",
+    ),
+    (
+        "workflow s() { signal go: text; let a = (now); a = wait signal go; sleep (a + 1) * 2; fail (text(a)); }",
+        "workflow s ( ) { signal go : text ; let a = now ; a = wait signal go ; sleep ( a + 1 ) * 2 ; fail text ( a ) ; }",
+    ),
+    (
+        "workflow r(n: int) { activity c() -> int; n = call c() retry 3 every 500; n = call c() retry 1 every 0; n = call c() retry 1 every 5; n = call c() retry 2 every 0; }",
+        "workflow r ( n : int ) { activity c ( ) -> int ; n = call c ( ) retry 3 every 500 ; n = call c ( ) ; n = call c ( ) retry 1 every 5 ; n = call c ( ) retry 2 every 0 ; }",
+    ),
+    (
+        "workflow r(n: int) { continue as new(); n = call c(n) retry 9223372036854775807 every 9223372036854775807; continue as new((n), now - 1); }",
+        "workflow r ( n : int ) { continue as new ( ) ; n = call c ( n ) retry 9223372036854775807 every 9223372036854775807 ; continue as new ( n , now - 1 ) ; }",
     ),
 ];
 
