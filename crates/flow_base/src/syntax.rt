@@ -87,7 +87,12 @@ impl Retry {
     pub fn once() -> Retry
         ensures { result ≡ once }
     {
-        Retry { tries_at: 0, tries: 1, every_at: 0, every: 0 }
+        Retry {
+            tries_at: 0,
+            tries: 1,
+            every_at: 0,
+            every: 0,
+        }
     }
 }
 

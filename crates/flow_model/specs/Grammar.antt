@@ -303,7 +303,6 @@ parameters_tokens (parameter_ p more) = parameter_tokens p ++ parameter_tail_tok
 abbrev pub declaration_tokens : DeclarationReading → List Lexeme
 declaration_tokens (activity at name_at x paren ts arrow t end) =
     marked at mark.Activity ∷ named name_at x ∷ marked paren mark.Open ∷ (types_tokens ts ++ (marked arrow mark.Arrow ∷ (type_tokens t ++ (marked end mark.Semicolon ∷ []))))
-
 declaration_tokens (signal at name_at x colon t end) =
     marked at mark.Signal ∷ named name_at x ∷ marked colon mark.Colon ∷ (type_tokens t ++ (marked end mark.Semicolon ∷ []))
 
@@ -458,7 +457,6 @@ parameters_end (parameter_ p more) = parameter_tail_end more
 
 abbrev pub declaration_of : DeclarationReading → tree.Declared
 declaration_of (activity at name_at x paren ts arrow t end) = tree.Activity at name_at x (types_of ts) (kind_of t)
-
 declaration_of (signal at name_at x colon t end) = tree.Signal at name_at x (kind_of t)
 
 -- a number as a count; a token's is never negative

@@ -121,8 +121,7 @@ fn waits_and_ends_are_printed_and_read_again(rt: HostRuntime) -> Result<(), Fail
     assert!(rt; is_printed_as(&rt, text, printed)?);
     // a call that is tried once has no `retry`
     let once = "workflow w(){activity c()->int;let i=0;i=call c() retry 1 every 0;}";
-    let printed =
-        "workflow w ( ) { activity c ( ) -> int ; let i = 0 ; i = call c ( ) ; }";
+    let printed = "workflow w ( ) { activity c ( ) -> int ; let i = 0 ; i = call c ( ) ; }";
     assert!(rt; is_printed_as(&rt, once, printed)?);
     Ok(())
 }
