@@ -13,7 +13,7 @@ use Rattle.flow_base.specs.declared.syntax.Binary.{Binary}
 use Rattle.flow_base.specs.declared.value.Kind.{Kind}
 use Rattle.flow_base.specs.Shown.{shown_expr}
 use Rattle.flow_base.specs.Syntax.{Expression, Apply, Combine, Declared}
-use Rattle.flow_model.specs.WellFormed.{Types, fault, fault_at_first, earliest, kind_of, kinds_of, beginning, wrong_kind, wrong_operands, operand_kind, operands_kind, faults_of_expression, faults_of_arguments, faults_of_declared, faults_of_declarations}
+use Rattle.flow_model.specs.WellFormed.{Types, fault, fault_at_first, earliest, kind_of, kinds_of, beginning, wrong_kind, wrong_operands, operand_kind, operands_kind, faults_of_expression, faults_of_wanted, faults_of_arguments, faults_of_declared, faults_of_declarations}
 use Rattle.flow_check.specs.Tables.{faults_of_argument}
 use Rattle.flow_model.proofs.FirstFault.{earliest-append}
 
@@ -55,10 +55,10 @@ arguments_from types [] (suc i) e es = refl
 arguments_from types (k ∷ ks) zero e es = refl
 arguments_from types (k ∷ ks) (suc i) e es = arguments_from types ks i e es
 
-pub argument_noted : (types : Types) (e : Expression) (w : Kind) (wanted k : Option Kind) (b : ℕ) (o o1 o2 : Option TextFault)
-    → wanted ≡ Some w → o1 ≡ earliest o (faults_of_expression types e) → k ≡ kind_of types e → b ≡ beginning e → o2 ≡ earliest o1 (wrong_kind w k b) → o2 ≡ earliest o (faults_of_argument types wanted e)
-argument_noted types e w wanted k b o o1 o2 is one kind place two =
-    rw (is, two, one, kind, place) (sym (earliest-append o (faults_of_expression types e) (wrong_kind w (kind_of types e) (beginning e))))
+pub wanted_noted : (types : Types) (e : Expression) (w : Kind) (k : Option Kind) (b : ℕ) (o o1 o2 : Option TextFault)
+    → o1 ≡ earliest o (faults_of_expression types e) → k ≡ kind_of types e → b ≡ beginning e → o2 ≡ earliest o1 (wrong_kind w k b) → o2 ≡ earliest o (faults_of_wanted types w e)
+wanted_noted types e w k b o o1 o2 one kind place two =
+    rw (two, one, kind, place) (sym (earliest-append o (faults_of_expression types e) (wrong_kind w (kind_of types e) (beginning e))))
 
 abbrev pub Rest : Types → List Kind → List Expr → ℕ → Option TextFault → Option TextFault
 Rest types ks es i o = earliest o (faults_of_arguments types (drop i ks) (map shown_expr (drop i es)))
