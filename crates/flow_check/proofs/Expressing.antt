@@ -1,7 +1,6 @@
 -- Expressions, arguments and calls: which faults are noted.
-use Rattle.std.proofs.Common.{◌≡◌, ℕ, ◌+◌, ◌<◌, ◌≤◌, zero, suc, List, [], ◌∷◌, ◌++◌, length, map, drop, get_or, slice_get, option_map, Option, Some, None, refl, sym, ap, ◌∙◌, append_assoc, add-one, drop-cons}
+use Rattle.std.proofs.Common.{◌≡◌, ℕ, ◌+◌, ◌<◌, ◌≤◌, zero, suc, List, [], ◌∷◌, ◌++◌, length, map, drop, get_or, slice_get, Option, refl, sym, ap, ◌∙◌, append_assoc, add-one, drop-cons}
 use Rattle.std.proofs.lemmas.List.{append-nil}
-use Rattle.std.proofs.lemmas.Option.{slice_get-map, slice_get-get_or, slice_get_past}
 use Rattle.std.proofs.Math.ListN.{drop_of_length-le}
 use Rattle.std.proofs.Math.Seq.{drop-length}
 use Rattle.flow_base.specs.declared.code.Code.{Code}
@@ -13,7 +12,7 @@ use Rattle.flow_base.specs.declared.syntax.Binary.{Binary}
 use Rattle.flow_base.specs.declared.value.Kind.{Kind}
 use Rattle.flow_base.specs.Shown.{shown_expr}
 use Rattle.flow_base.specs.Syntax.{Expression, Apply, Combine, Declared}
-use Rattle.flow_model.specs.WellFormed.{Types, fault, fault_at_first, earliest, kind_of, kinds_of, beginning, wrong_kind, wrong_operands, operand_kind, operands_kind, faults_of_expression, faults_of_wanted, faults_of_arguments, faults_of_declared, faults_of_declarations}
+use Rattle.flow_model.specs.WellFormed.{Types, fault, fault_at_first, earliest, kind_of, beginning, wrong_kind, wrong_operands, operand_kind, operands_kind, faults_of_expression, faults_of_wanted, faults_of_arguments, faults_of_declared, faults_of_declarations}
 use Rattle.flow_check.specs.Tables.{faults_of_argument}
 use Rattle.flow_model.proofs.FirstFault.{earliest-append}
 
@@ -41,12 +40,6 @@ first_beyond code ts n t h k = ap (λ (us : List TypeAt). fault_at_first code (m
 
 pub none_beyond : (code : Code) (ts : List TypeAt) (n : ℕ) → length ts ≤ n → fault_at_first code (map (λ (u : TypeAt). u.at) (drop n ts)) ≡ []
 none_beyond code ts n h = ap (λ (us : List TypeAt). fault_at_first code (map (λ (u : TypeAt). u.at) us)) (drop_of_length-le ts h)
-
-pub kind_some : (ts : List TypeAt) (i : ℕ) (t : TypeAt) → i < length ts → t ≡ get_or ts i t → Some t.kind ≡ slice_get (kinds_of ts) i
-kind_some ts i t l e = sym (slice_get-map (λ (u : TypeAt). u.kind) ts i ∙ ap (option_map (λ (u : TypeAt). u.kind)) (slice_get-get_or ts i t l) ∙ ap (λ (u : TypeAt). Some u.kind) (sym e))
-
-pub kind_none : (ts : List TypeAt) (i : ℕ) → length ts ≤ i → None ≡ slice_get (kinds_of ts) i
-kind_none ts i l = sym (slice_get-map (λ (u : TypeAt). u.kind) ts i ∙ ap (option_map (λ (u : TypeAt). u.kind)) (slice_get_past ts i l))
 
 -- one more argument
 arguments_from : (types : Types) (ks : List Kind) (i : ℕ) (e : Expression) (es : List Expression) → faults_of_arguments types (drop i ks) (e ∷ es) ≡ faults_of_argument types (slice_get ks i) e ++ faults_of_arguments types (drop (suc i) ks) es

@@ -59,7 +59,7 @@ nothing_known x = None
 abbrev pub only : {X : Type 0} → Bytes → X → Bytes → Option X
 only name a = λ x. if bytes_eq name x then Some a else None
 
--- What the table knows. No list of statements of a parallel block is checked yet.
+-- What the table knows. The code has no parallel block yet, so no statement stands within one.
 abbrev pub shown_scope : Scope → rule.Scope
 shown_scope s =
     record {

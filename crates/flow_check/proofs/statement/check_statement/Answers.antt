@@ -1,7 +1,7 @@
 use Rattle.std.proofs.Common.{ap, map, option_map}
 use Rattle.flow_base.specs.Shown.{shown_expr, shown_stmt}
 use Rattle.flow_check.specs.Tables.{shown_signature}
-use Rattle.flow_check.proofs.Checking.{let_checked, assign_checked, call_checked, wait_checked, sleep_checked, return_checked, fail_checked, continue_checked}
+use Rattle.flow_check.proofs.Checking.{assign_checked, call_checked}
 use Rattle.flow_check.proofs.statement.check_statement.Goals as goal
 
 pub returns-in-Assign : goal.returns-in-Assign
