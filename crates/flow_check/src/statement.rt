@@ -76,13 +76,8 @@ fn check_statement<'a>(
             Ok(())
         }
         Stmt::Continue(at, arguments) => {
-            check_applied(
-                scope,
-                arguments,
-                Wanted::Parameters(scope.parameters()),
-                *at,
-                found,
-            );
+            let wanted = Wanted::Parameters(scope.parameters());
+            check_applied(scope, arguments, wanted, *at, found);
             Ok(())
         }
     }
