@@ -1,11 +1,12 @@
 -- Names, one after another: what the table has behind them, and which faults are noted.
-use Rattle.std.proofs.Common.{◌≡◌, ℕ, ◌+◌, ◌<◌, ◌≤◌, min, Bool, true, false, not, cond, ◌||◌, List, [], ◌∷◌, ◌++◌, length, map, take, get_or, Option, refl, sym, ap, subst, ◌∙◌, nat_eq, bytes_eq, arith, append_assoc, length-append}
+use Rattle.std.proofs.Common.{◌≡◌, ℕ, ◌+◌, ◌<◌, ◌≤◌, min, Bool, true, false, not, cond, ◌&&◌, ◌||◌, List, [], ◌∷◌, ◌++◌, length, map, take, get_or, Option, refl, sym, ap, subst, ◌∙◌, nat_eq, bytes_eq, arith, append_assoc, length-append}
 use Rattle.std.proofs.lemmas.List.{append-nil, take_more, map-append}
 use Rattle.std.proofs.lemmas.List.Folds.{list_any-append}
 use Rattle.std.proofs.lemmas.Bool.Decides.{nat_tests, same_from_decides}
 use Rattle.std.proofs.lemmas.Slice.Eq.{bytes_eq-Decides}
 use Rattle.std.specs.List.{list_any}
 use Rattle.std.specs.HashSet.{HashSet, contains_by, UpdatesBy}
+use Rattle.flow_base.specs.declared.code.Code.{Code}
 use Rattle.flow_base.specs.declared.code.Code.TheVariants as code
 use Rattle.flow_base.specs.declared.command.TextFault.{TextFault}
 use Rattle.flow_base.specs.declared.syntax.Parameter.{Parameter}
@@ -13,7 +14,7 @@ use Rattle.flow_base.specs.declared.syntax.Declaration.{Declaration}
 use Rattle.flow_base.specs.declared.syntax.Stmt.{Stmt}
 use Rattle.flow_base.specs.Shown.{shown_stmt, shown_declaration, shown_block}
 use Rattle.flow_base.specs.Syntax.{Bytes, Statement, block_of}
-use Rattle.flow_model.specs.WellFormed.{Named, named, variables, activities, same_name, fault, earliest, declared_twice, one_too_many, faults_of_names, names_of_block, names_of_statement, name_of_parameter, name_of_declared}
+use Rattle.flow_model.specs.WellFormed.{Space, Named, named, variables, activities, signals, is_space, same_name, fault, earliest, twice_code, declared_twice, one_too_many, faults_of_names, names_of_block, names_of_statement, name_of_parameter, name_of_declared}
 use Rattle.flow_model.proofs.FirstFault.{earliest-append}
 use Rattle.flow_check.specs.declared.names.Names.{Names}
 use Rattle.flow_check.specs.Tables.{Lists, Declares, noted_name}
@@ -77,29 +78,69 @@ noted_in is_new b n m at h k = ap (λ c. noted_name c n at) h ∙ noted_by b n m
 small : (n m : ℕ) → n ≡ min m 257 → n ≤ 257
 small n m h = omega arith
 
+-- what a set has of the names of its space
+abbrev Has : {S : Type 0} → Space → HashSet (Bor Bytes) S → List Named → Type 0
+Has space s ns = (y : Bytes) → contains_by (λ k. bytes_eq y k.now) s ≡ list_any (same_name (named space 0 y)) ns
+
+module _ {S : Type 0} (space : Space) (before : List Named) (s s' : HashSet (Bor Bytes) S) where
+  -- one more name of the space
+  has_more : (at : ℕ) (name : Bytes) → Adds s name s' → Has space s before → is_space space space ≡ true → Has space s' (before ++ named space at name ∷ [])
+  has_more at name added has own = λ y.
+      let seen = list_any (same_name (named space 0 y)) before in
+      added y ∙ ap (cond (bytes_eq name y) true) (has y) ∙ or_form (bytes_eq name y) seen ∙ ap (λ b. seen || (b || false)) (bytes_either_way name y)
+      ∙ ap (λ b. seen || ((b && bytes_eq y name) || false)) (sym own) ∙ sym (list_any-append (same_name (named space 0 y)) before (named space at name ∷ []))
+
+  -- one more name of another space
+  has_same : (x : Named) → s' ≡ s → Has space s before → is_space space x.space ≡ false → Has space s' (before ++ x ∷ [])
+  has_same x same has other = λ y.
+      let seen = list_any (same_name (named space 0 y)) before in
+      ap (λ t. contains_by (λ k. bytes_eq y k.now) t) same ∙ has y ∙ or_nothing seen ∙ ap (λ b. seen || ((b && bytes_eq y x.name) || false)) (sym other)
+      ∙ sym (list_any-append (same_name (named space 0 y)) before (x ∷ []))
+
 module _ (n n' : Names) (o o' : Option TextFault) (at : ℕ) (name : Bytes) (is_new : Bool) (counted : n.count ≤ 257 → n'.count ≡ min (n.count + 1) 257) (noted : o' ≡ earliest o (noted_name is_new n.count at)) where
-  pub declares_variable : is_new ≡ not (contains_by (λ k. bytes_eq name k.now) n.variables) → Adds n.variables name n'.variables → n'.activities ≡ n.activities → Declares n o (named variables at name ∷ []) n' o'
-  declares_variable new added same = λ before l.
+  count_more : (before : List Named) (x : Named) → Lists n before → n'.count ≡ min (length (before ++ x ∷ [])) 257
+  count_more before x l = counted (small n.count (length before) l.count) ∙ count_after n.count before x l.count
+
+  noted_more : (before : List Named) (x : Named) (b : Bool) → Lists n before → is_new ≡ not b → b ≡ list_any (same_name x) before → twice_code x.space ≡ code.DeclaredTwice → x.at ≡ at → o' ≡ earliest o (faults_of_names before (x ∷ []))
+  noted_more before x b l new seen twice place =
+      noted ∙ ap (earliest o) (noted_in is_new (list_any (same_name x) before) n.count (length before) at (new ∙ ap not seen) l.count)
+      ∙ ap (λ (c : Code). earliest o ((cond (list_any (same_name x) before) (fault c at) [] ++ cond (nat_eq (length before) 256) (fault code.TooManyNames at) []) ++ [])) (sym twice)
+      ∙ ap (λ (p : ℕ). earliest o ((cond (list_any (same_name x) before) (fault (twice_code x.space) p) [] ++ cond (nat_eq (length before) 256) (fault code.TooManyNames p) []) ++ [])) (sym place)
+
+  pub declares_variable : is_new ≡ not (contains_by (λ k. bytes_eq name k.now) n.variables) → Adds n.variables name n'.variables → n'.activities ≡ n.activities → n'.signals ≡ n.signals → Declares n o (named variables at name ∷ []) n' o'
+  declares_variable new added same alike = λ before l.
       let x = named variables at name in (
         record {
-          variables = λ y. added y ∙ ap (cond (bytes_eq name y) true) (l.variables y) ∙ or_form (bytes_eq name y) (list_any (same_name (named variables 0 y)) before)
-              ∙ ap (λ b. list_any (same_name (named variables 0 y)) before || (b || false)) (bytes_either_way name y) ∙ sym (list_any-append (same_name (named variables 0 y)) before (x ∷ []));
-          activities = λ y. ap (λ s. contains_by (λ k. bytes_eq y k.now) s) same ∙ l.activities y ∙ or_nothing (list_any (same_name (named activities 0 y)) before) ∙ sym (list_any-append (same_name (named activities 0 y)) before (x ∷ []));
-          count = counted (small n.count (length before) l.count) ∙ count_after n.count before x l.count;
+          variables = has_more variables before n.variables n'.variables at name added l.variables refl;
+          activities = has_same activities before n.activities n'.activities x same l.activities refl;
+          signals = has_same signals before n.signals n'.signals x alike l.signals refl;
+          count = count_more before x l;
         },
-        noted ∙ ap (earliest o) (noted_in is_new (list_any (same_name x) before) n.count (length before) at (new ∙ ap not (l.variables name)) l.count),
+        noted_more before x (contains_by (λ k. bytes_eq name k.now) n.variables) l new (l.variables name) refl refl,
       )
 
-  pub declares_activity : is_new ≡ not (contains_by (λ k. bytes_eq name k.now) n.activities) → Adds n.activities name n'.activities → n'.variables ≡ n.variables → Declares n o (named activities at name ∷ []) n' o'
-  declares_activity new added same = λ before l.
+  pub declares_activity : is_new ≡ not (contains_by (λ k. bytes_eq name k.now) n.activities) → Adds n.activities name n'.activities → n'.variables ≡ n.variables → n'.signals ≡ n.signals → Declares n o (named activities at name ∷ []) n' o'
+  declares_activity new added same alike = λ before l.
       let x = named activities at name in (
         record {
-          variables = λ y. ap (λ s. contains_by (λ k. bytes_eq y k.now) s) same ∙ l.variables y ∙ or_nothing (list_any (same_name (named variables 0 y)) before) ∙ sym (list_any-append (same_name (named variables 0 y)) before (x ∷ []));
-          activities = λ y. added y ∙ ap (cond (bytes_eq name y) true) (l.activities y) ∙ or_form (bytes_eq name y) (list_any (same_name (named activities 0 y)) before)
-              ∙ ap (λ b. list_any (same_name (named activities 0 y)) before || (b || false)) (bytes_either_way name y) ∙ sym (list_any-append (same_name (named activities 0 y)) before (x ∷ []));
-          count = counted (small n.count (length before) l.count) ∙ count_after n.count before x l.count;
+          variables = has_same variables before n.variables n'.variables x same l.variables refl;
+          activities = has_more activities before n.activities n'.activities at name added l.activities refl;
+          signals = has_same signals before n.signals n'.signals x alike l.signals refl;
+          count = count_more before x l;
         },
-        noted ∙ ap (earliest o) (noted_in is_new (list_any (same_name x) before) n.count (length before) at (new ∙ ap not (l.activities name)) l.count),
+        noted_more before x (contains_by (λ k. bytes_eq name k.now) n.activities) l new (l.activities name) refl refl,
+      )
+
+  pub declares_signal : is_new ≡ not (contains_by (λ k. bytes_eq name k.now) n.signals) → Adds n.signals name n'.signals → n'.variables ≡ n.variables → n'.activities ≡ n.activities → Declares n o (named signals at name ∷ []) n' o'
+  declares_signal new added same alike = λ before l.
+      let x = named signals at name in (
+        record {
+          variables = has_same variables before n.variables n'.variables x same l.variables refl;
+          activities = has_same activities before n.activities n'.activities x alike l.activities refl;
+          signals = has_more signals before n.signals n'.signals at name added l.signals refl;
+          count = count_more before x l;
+        },
+        noted_more before x (contains_by (λ k. bytes_eq name k.now) n.signals) l new (l.signals name) refl refl,
       )
 
 pub names_of_block-append : (xs ys : List Statement) → names_of_block (block_of (xs ++ ys)) ≡ names_of_block (block_of xs) ++ names_of_block (block_of ys)

@@ -1,7 +1,6 @@
 -- Expressions, arguments and calls: which faults are noted.
-use Rattle.std.proofs.Common.{◌≡◌, ℕ, ◌+◌, ◌<◌, ◌≤◌, zero, suc, List, [], ◌∷◌, ◌++◌, length, map, drop, get_or, slice_get, option_map, Option, Some, None, refl, sym, ap, ◌∙◌, append_assoc, add-one, drop-cons}
+use Rattle.std.proofs.Common.{◌≡◌, ℕ, ◌+◌, ◌<◌, ◌≤◌, zero, suc, List, [], ◌∷◌, ◌++◌, length, map, drop, get_or, slice_get, Option, refl, sym, ap, ◌∙◌, append_assoc, add-one, drop-cons}
 use Rattle.std.proofs.lemmas.List.{append-nil}
-use Rattle.std.proofs.lemmas.Option.{slice_get-map, slice_get-get_or, slice_get_past}
 use Rattle.std.proofs.Math.ListN.{drop_of_length-le}
 use Rattle.std.proofs.Math.Seq.{drop-length}
 use Rattle.flow_base.specs.declared.code.Code.{Code}
@@ -13,7 +12,7 @@ use Rattle.flow_base.specs.declared.syntax.Binary.{Binary}
 use Rattle.flow_base.specs.declared.value.Kind.{Kind}
 use Rattle.flow_base.specs.Shown.{shown_expr}
 use Rattle.flow_base.specs.Syntax.{Expression, Apply, Combine, Declared}
-use Rattle.flow_model.specs.WellFormed.{Types, fault, fault_at_first, earliest, kind_of, kinds_of, beginning, wrong_kind, wrong_operands, operand_kind, operands_kind, faults_of_expression, faults_of_arguments, faults_of_declared, faults_of_declarations}
+use Rattle.flow_model.specs.WellFormed.{Types, fault, fault_at_first, earliest, kind_of, beginning, wrong_kind, wrong_operands, operand_kind, operands_kind, faults_of_expression, faults_of_wanted, faults_of_arguments, faults_of_declared, faults_of_declarations}
 use Rattle.flow_check.specs.Tables.{faults_of_argument}
 use Rattle.flow_model.proofs.FirstFault.{earliest-append}
 
@@ -42,12 +41,6 @@ first_beyond code ts n t h k = ap (λ (us : List TypeAt). fault_at_first code (m
 pub none_beyond : (code : Code) (ts : List TypeAt) (n : ℕ) → length ts ≤ n → fault_at_first code (map (λ (u : TypeAt). u.at) (drop n ts)) ≡ []
 none_beyond code ts n h = ap (λ (us : List TypeAt). fault_at_first code (map (λ (u : TypeAt). u.at) us)) (drop_of_length-le ts h)
 
-pub kind_some : (ts : List TypeAt) (i : ℕ) (t : TypeAt) → i < length ts → t ≡ get_or ts i t → Some t.kind ≡ slice_get (kinds_of ts) i
-kind_some ts i t l e = sym (slice_get-map (λ (u : TypeAt). u.kind) ts i ∙ ap (option_map (λ (u : TypeAt). u.kind)) (slice_get-get_or ts i t l) ∙ ap (λ (u : TypeAt). Some u.kind) (sym e))
-
-pub kind_none : (ts : List TypeAt) (i : ℕ) → length ts ≤ i → None ≡ slice_get (kinds_of ts) i
-kind_none ts i l = sym (slice_get-map (λ (u : TypeAt). u.kind) ts i ∙ ap (option_map (λ (u : TypeAt). u.kind)) (slice_get_past ts i l))
-
 -- one more argument
 arguments_from : (types : Types) (ks : List Kind) (i : ℕ) (e : Expression) (es : List Expression) → faults_of_arguments types (drop i ks) (e ∷ es) ≡ faults_of_argument types (slice_get ks i) e ++ faults_of_arguments types (drop (suc i) ks) es
 arguments_from types [] zero e es = refl
@@ -55,10 +48,10 @@ arguments_from types [] (suc i) e es = refl
 arguments_from types (k ∷ ks) zero e es = refl
 arguments_from types (k ∷ ks) (suc i) e es = arguments_from types ks i e es
 
-pub argument_noted : (types : Types) (e : Expression) (w : Kind) (wanted k : Option Kind) (b : ℕ) (o o1 o2 : Option TextFault)
-    → wanted ≡ Some w → o1 ≡ earliest o (faults_of_expression types e) → k ≡ kind_of types e → b ≡ beginning e → o2 ≡ earliest o1 (wrong_kind w k b) → o2 ≡ earliest o (faults_of_argument types wanted e)
-argument_noted types e w wanted k b o o1 o2 is one kind place two =
-    rw (is, two, one, kind, place) (sym (earliest-append o (faults_of_expression types e) (wrong_kind w (kind_of types e) (beginning e))))
+pub wanted_noted : (types : Types) (e : Expression) (w : Kind) (k : Option Kind) (b : ℕ) (o o1 o2 : Option TextFault)
+    → o1 ≡ earliest o (faults_of_expression types e) → k ≡ kind_of types e → b ≡ beginning e → o2 ≡ earliest o1 (wrong_kind w k b) → o2 ≡ earliest o (faults_of_wanted types w e)
+wanted_noted types e w k b o o1 o2 one kind place two =
+    rw (two, one, kind, place) (sym (earliest-append o (faults_of_expression types e) (wrong_kind w (kind_of types e) (beginning e))))
 
 abbrev pub Rest : Types → List Kind → List Expr → ℕ → Option TextFault → Option TextFault
 Rest types ks es i o = earliest o (faults_of_arguments types (drop i ks) (map shown_expr (drop i es)))

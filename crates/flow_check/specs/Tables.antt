@@ -1,5 +1,5 @@
 -- What the checker's tables show of themselves, in the words of the rules.
-use Rattle.std.specs.Prelude.{◌≡◌, ℕ, Bool, false, List, [], ◌++◌, length, min, Option, Some, None, option_map, bytes_eq, nat_eq, if◌then◌else◌}
+use Rattle.std.specs.Prelude.{◌≡◌, ℕ, Bool, false, List, [], ◌++◌, length, map, min, Option, Some, None, option_map, bytes_eq, nat_eq, if◌then◌else◌}
 use Rattle.std.specs.List.{list_any}
 use Rattle.std.specs.HashMap.{get_by}
 use Rattle.std.specs.HashSet.{contains_by}
@@ -7,11 +7,14 @@ use Rattle.flow_base.specs.declared.code.Code.TheVariants as code
 use Rattle.flow_base.specs.declared.command.TextFault.{TextFault}
 use Rattle.flow_base.specs.Syntax.{Bytes, Expression, Block, End, Next}
 use Rattle.flow_base.specs.declared.value.Kind.{Kind}
+use Rattle.flow_base.specs.declared.syntax.Parameter.{Parameter}
 use Rattle.flow_model.specs.WellFormed as rule
 use Rattle.flow_model.specs.WellFormed.{Named, named, same_name, earliest, faults_of_names, faults_of_block, behind, fault}
 use Rattle.flow_check.specs.declared.names.Names.{Names}
 use Rattle.flow_check.specs.declared.scope.Scope.{Scope}
 use Rattle.flow_check.specs.declared.scope.Signature.{Signature}
+use Rattle.flow_check.specs.declared.wanted.Wanted.{Wanted}
+use Rattle.flow_check.specs.declared.wanted.Wanted.TheVariants as wanted
 
 -- the types of the visible variables
 abbrev pub types_of : Scope → rule.Types
@@ -24,27 +27,48 @@ shown_signature a = record { takes = rule.kinds_of a.takes.now; gives = a.gives 
 abbrev pub activities_of : Scope → Bytes → Option rule.Signature
 activities_of s = λ x. option_map shown_signature (get_by (λ k. bytes_eq x k.now) s.activities)
 
+-- what the declared signals carry
+abbrev pub signals_of : Scope → Bytes → Option Kind
+signals_of s = λ x. get_by (λ k. bytes_eq x k.now) s.signals
+
+abbrev pub kinds_of_parameters : List Parameter → List Kind
+kinds_of_parameters ps = map (λ (p : Parameter). p.kind) ps
+
+-- what the program takes
+abbrev pub parameters_of : Scope → List Kind
+parameters_of s = kinds_of_parameters s.parameters.now
+
+-- the types that are wanted, in their order
+abbrev pub kinds_wanted : Wanted → List Kind
+kinds_wanted (wanted.Types ts) = rule.kinds_of ts.now
+kinds_wanted (wanted.Parameters ps) = kinds_of_parameters ps.now
+
 -- where one answer is missing, another
-abbrev pub or_else : Option rule.Signature → Option rule.Signature → Option rule.Signature
+abbrev pub or_else : {X : Type 0} → Option X → Option X → Option X
 or_else None b = b
 or_else (Some a) b = Some a
 
 -- what one table says, and where it says nothing, another
-abbrev pub first_then : (Bytes → Option rule.Signature) → (Bytes → Option rule.Signature) → Bytes → Option rule.Signature
+abbrev pub first_then : {X : Type 0} → (Bytes → Option X) → (Bytes → Option X) → Bytes → Option X
 first_then f g = λ x. or_else (f x) (g x)
 
-abbrev pub nothing_known : Bytes → Option rule.Signature
+abbrev pub nothing_known : {X : Type 0} → Bytes → Option X
 nothing_known x = None
 
--- one activity alone
-abbrev pub only : Bytes → rule.Signature → Bytes → Option rule.Signature
+-- one entry alone
+abbrev pub only : {X : Type 0} → Bytes → X → Bytes → Option X
 only name a = λ x. if bytes_eq name x then Some a else None
 
--- The table knows what is known there.
-pub record Knows (s : Scope) (m : rule.Scope) : Type 0 where
-  pub types : types_of s ≡ m.types
-  pub activities : activities_of s ≡ m.activities
-  pub outside : m.in_parallel ≡ false
+-- What the table knows. The code has no parallel block yet, so no statement stands within one.
+abbrev pub shown_scope : Scope → rule.Scope
+shown_scope s =
+    record {
+      types = types_of s;
+      activities = activities_of s;
+      signals = signals_of s;
+      parameters = parameters_of s;
+      in_parallel = false;
+    }
 
 -- an argument at whose position a type may be wanted
 abbrev pub faults_of_argument : rule.Types → Option Kind → Expression → List TextFault
@@ -58,12 +82,13 @@ behind_block m (Next t b) = behind_block (behind m t) b
 
 -- A list of statements takes a table to another, and its faults are noted.
 abbrev pub Checks : Scope → Option TextFault → Block → Scope → Option TextFault → Type 0
-Checks s found b s' found' = (m : rule.Scope) → Knows s m → Knows s' (behind_block m b) × (found' ≡ earliest found (faults_of_block m b))
+Checks s found b s' found' = (shown_scope s' ≡ behind_block (shown_scope s) b) × (found' ≡ earliest found (faults_of_block (shown_scope s) b))
 
 -- The table has the names that were declared, and counts them as far as it needs to.
 pub record Lists (n : Names) (before : List Named) : Type 0 where
   pub variables : (x : Bytes) → contains_by (λ k. bytes_eq x k.now) n.variables ≡ list_any (same_name (named rule.variables 0 x)) before
   pub activities : (x : Bytes) → contains_by (λ k. bytes_eq x k.now) n.activities ≡ list_any (same_name (named rule.activities 0 x)) before
+  pub signals : (x : Bytes) → contains_by (λ k. bytes_eq x k.now) n.signals ≡ list_any (same_name (named rule.signals 0 x)) before
   pub count : n.count ≡ min (length before) 257
 
 -- More names take a table to another, and their faults are noted.

@@ -38,7 +38,7 @@ fn first_fault(alloc: Global, program: &Program) -> Result<Option<TextFault>, Al
     let mut found = FirstFault::none();
     check_names(alloc, program, &mut found)?;
     check_types(&program.declarations, &mut found);
-    let mut scope = Scope::none(alloc);
+    let mut scope = Scope::none(alloc, &program.parameters);
     scope.add_parameters(&program.parameters)?;
     scope.add_declarations(&program.declarations)?;
     check_statements(&mut scope, &program.body, &mut found)?;

@@ -1,6 +1,6 @@
 ghost use Rattle.std.specs.Prelude.{◌≡◌, ℕ};
 ghost use Rattle.flow_base.specs.Shown.{shown_expr};
-ghost use Rattle.flow_model.specs.WellFormed.{kind_of, is_kind, faults_of_expression, earliest, wrong_kind, wrong_operands, applied_kind, combined_kind, operand_kind, operands_kind, operands_fit, not_visible, type_known, beginning as beginning_of};
+ghost use Rattle.flow_model.specs.WellFormed.{kind_of, is_kind, faults_of_expression, faults_of_wanted, earliest, wrong_kind, wrong_operands, applied_kind, combined_kind, operand_kind, operands_kind, operands_fit, not_visible, type_known, beginning as beginning_of};
 ghost use Rattle.flow_check.specs.Tables.{types_of};
 
 use crate::first::FirstFault;
@@ -18,6 +18,7 @@ pub fn check_expression(scope: &Scope, expr: &Expr, found: &mut FirstFault) -> O
         Expr::Int(_, _) => Some(Kind::Int),
         Expr::Text(_, _) => Some(Kind::Text),
         Expr::Var(at, name) => check_variable(scope.variable(name), *at, found),
+        Expr::Now(_) => Some(Kind::Int),
         Expr::Unary(_, op, a) => {
             let kind = check_expression(scope, a, found);
             check_kind(kind, operand_of(*op), beginning(a), found);
@@ -57,6 +58,14 @@ pub fn check_kind(kind: Option<Kind>, wanted: Kind, at: usize, found: &mut First
     }
 }
 
+/// Notes the faults of an expression, and a type other than the wanted one.
+pub fn check_wanted(scope: &Scope, wanted: Kind, expr: &Expr, found: &mut FirstFault)
+    ensures { found.new ≡ earliest found.old (faults_of_wanted (types_of scope.now) wanted (shown_expr expr.now)) }
+{
+    let kind = check_expression(scope, expr, found);
+    check_kind(kind, wanted, beginning(expr), found);
+}
+
 /// Notes operands of the wrong type, with the places where they begin.
 fn check_operands(
     op: Binary,
@@ -94,6 +103,7 @@ pub fn beginning(expr: &Expr) -> usize
         Expr::Int(at, _) => *at,
         Expr::Text(at, _) => *at,
         Expr::Var(at, _) => *at,
+        Expr::Now(at) => *at,
         Expr::Unary(at, _, _) => *at,
         Expr::Binary(_, left, _) => beginning(left),
     }

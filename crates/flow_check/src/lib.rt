@@ -12,3 +12,4 @@ mod names;
 mod scope;
 mod statement;
 pub mod texts;
+mod wanted;

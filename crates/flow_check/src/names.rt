@@ -1,6 +1,6 @@
 ghost use Rattle.std.specs.Prelude.{◌≡◌, ◌+◌, ◌≤◌, min, [], ◌∷◌, map, drop, OnOk};
 ghost use Rattle.flow_base.specs.Shown.{shown_program, shown_declaration, shown_stmt, shown_block};
-ghost use Rattle.flow_model.specs.WellFormed.{named, variables, activities, names_of, names_of_statement, names_of_block, name_of_parameter, name_of_declared, faults_of_names, faults_of_declared, faults_of_declarations, earliest, fault_at_first};
+ghost use Rattle.flow_model.specs.WellFormed.{named, variables, activities, signals, names_of, names_of_statement, names_of_block, name_of_parameter, name_of_declared, faults_of_names, faults_of_declared, faults_of_declarations, earliest, fault_at_first};
 ghost use Rattle.flow_check.specs.Tables.{Lists, Declares, noted_name};
 
 use crate::first::FirstFault;
@@ -18,6 +18,7 @@ pub const LIMIT: usize = 256;
 struct Names<'a> {
     variables: IndexSet<&'a str>,
     activities: IndexSet<&'a str>,
+    signals: IndexSet<&'a str>,
     /// How many declarations there were, but no more than one above the limit.
     count: usize,
 }
@@ -29,6 +30,7 @@ impl<'a> Names<'a> {
         Names {
             variables: IndexSet::new(alloc),
             activities: IndexSet::new(alloc),
+            signals: IndexSet::new(alloc),
             count: 0,
         }
     }
@@ -59,9 +61,18 @@ impl<'a> Names<'a> {
         Ok(())
     }
 
+    fn signal(&mut self, at: usize, name: &'a Key, found: &mut FirstFault) -> Result<(), AllocError>
+        ensures { OnOk result (Declares self.old found.old (named signals at name.now ∷ []) self.new found.new) }
+    {
+        let is_new = self.signals.insert(name.as_str())?;
+        self.declares(is_new, at, found);
+        Ok(())
+    }
+
     fn declares(&mut self, is_new: bool, at: usize, found: &mut FirstFault)
         ensures variables { self.new.variables ≡ self.old.variables }
         ensures activities { self.new.activities ≡ self.old.activities }
+        ensures signals { self.new.signals ≡ self.old.signals }
         ensures count { self.old.count ≤ 257 → self.new.count ≡ min (self.old.count + 1) 257 }
         ensures noted { found.new ≡ earliest found.old (noted_name is_new self.old.count at) }
     {
@@ -126,6 +137,7 @@ fn declaration_name<'a>(
 {
     match declaration {
         Declaration::Activity(_, name_at, name, _, _) => names.activity(*name_at, name, found),
+        Declaration::Signal(_, name_at, name, _) => names.signal(*name_at, name, found),
     }
 }
 
@@ -152,8 +164,12 @@ fn statement_name<'a>(
     match statement {
         Stmt::Let(_, name_at, name, _) => names.variable(*name_at, name, found),
         Stmt::Assign(_, _, _) => Ok(()),
-        Stmt::Call(_, _, _, _, _) => Ok(()),
+        Stmt::Call(_, _, _, _, _, _) => Ok(()),
+        Stmt::WaitSignal(_, _, _, _) => Ok(()),
+        Stmt::Sleep(_, _) => Ok(()),
         Stmt::Return(_, _) => Ok(()),
+        Stmt::FailWith(_, _) => Ok(()),
+        Stmt::Continue(_, _) => Ok(()),
     }
 }
 
@@ -171,6 +187,7 @@ fn check_declaration(declaration: &Declaration, found: &mut FirstFault)
 {
     match declaration {
         Declaration::Activity(_, _, _, takes, _) => check_takes(takes, found),
+        Declaration::Signal(_, _, _, _) => {}
     }
 }
 

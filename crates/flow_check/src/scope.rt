@@ -1,7 +1,7 @@
 ghost use Rattle.std.specs.Prelude.{◌≡◌, [], ◌∷◌, map, option_map, OnOk};
 ghost use Rattle.flow_base.specs.Shown.{shown_declaration};
-ghost use Rattle.flow_model.specs.WellFormed.{with_type, no_types, types_of_parameters, activity_of};
-ghost use Rattle.flow_check.specs.Tables.{types_of, activities_of, shown_signature, nothing_known, first_then, only};
+ghost use Rattle.flow_model.specs.WellFormed.{with_type, no_types, types_of_parameters, activity_of, signal_of};
+ghost use Rattle.flow_check.specs.Tables.{types_of, activities_of, signals_of, parameters_of, kinds_of_parameters, shown_signature, nothing_known, first_then, only};
 
 use flow_base::syntax::{Declaration, Parameter, TypeAt};
 use flow_base::text::Key;
@@ -16,30 +16,40 @@ pub struct Signature<'a> {
     pub gives: Kind,
 }
 
-/// What is known where a statement stands: the visible variables with their types, and the activities.
+/// What is known where a statement stands: the visible variables with their types, the activities and the signals, and the
+/// parameters with which the program continues as new.
 #[derive(Drop)]
 pub struct Scope<'a> {
     /// A variable whose value has a fault has no type.
     variables: IndexMap<&'a str, Option<Kind>>,
     /// Of two activities of one name the first.
     activities: IndexMap<&'a str, Signature<'a>>,
+    /// What each signal carries; of two of one name the first.
+    signals: IndexMap<&'a str, Kind>,
+    parameters: &'a [Parameter],
 }
 
 impl<'a> Scope<'a> {
-    /// Nothing is known.
-    pub fn none(alloc: Global) -> Scope<'a>
+    /// Nothing is known but how the program continues as new.
+    pub fn none(alloc: Global, parameters: &'a [Parameter]) -> Scope<'a>
         ensures types { types_of result ≡ no_types }
         ensures activities { activities_of result ≡ nothing_known }
+        ensures signals { signals_of result ≡ nothing_known }
+        ensures parameters { parameters_of result ≡ kinds_of_parameters parameters.now }
     {
         Scope {
             variables: IndexMap::new(alloc),
             activities: IndexMap::new(alloc),
+            signals: IndexMap::new(alloc),
+            parameters,
         }
     }
 
     pub fn add_parameters(&mut self, parameters: &'a [Parameter]) -> Result<(), AllocError>
         ensures types { OnOk result (types_of self.new ≡ types_of_parameters (types_of self.old) parameters.now) }
         ensures activities { OnOk result (activities_of self.new ≡ activities_of self.old) }
+        ensures signals { OnOk result (signals_of self.new ≡ signals_of self.old) }
+        ensures parameters { OnOk result (parameters_of self.new ≡ parameters_of self.old) }
     {
         for parameter in parameters {
             self.add_variable(&parameter.name, Some(parameter.kind))?;
@@ -50,6 +60,8 @@ impl<'a> Scope<'a> {
     pub fn add_declarations(&mut self, declarations: &'a [Declaration]) -> Result<(), AllocError>
         ensures types { OnOk result (types_of self.new ≡ types_of self.old) }
         ensures activities { OnOk result (activities_of self.new ≡ first_then (activities_of self.old) (activity_of (map shown_declaration declarations.now))) }
+        ensures signals { OnOk result (signals_of self.new ≡ first_then (signals_of self.old) (signal_of (map shown_declaration declarations.now))) }
+        ensures parameters { OnOk result (parameters_of self.new ≡ parameters_of self.old) }
     {
         for declaration in declarations {
             self.add_declaration(declaration)?;
@@ -60,6 +72,8 @@ impl<'a> Scope<'a> {
     fn add_declaration(&mut self, declaration: &'a Declaration) -> Result<(), AllocError>
         ensures types { OnOk result (types_of self.new ≡ types_of self.old) }
         ensures activities { OnOk result (activities_of self.new ≡ first_then (activities_of self.old) (activity_of (shown_declaration declaration.now ∷ []))) }
+        ensures signals { OnOk result (signals_of self.new ≡ first_then (signals_of self.old) (signal_of (shown_declaration declaration.now ∷ []))) }
+        ensures parameters { OnOk result (parameters_of self.new ≡ parameters_of self.old) }
     {
         match declaration {
             Declaration::Activity(_, _, name, takes, gives) => self.add_activity(
@@ -69,6 +83,7 @@ impl<'a> Scope<'a> {
                     gives: *gives,
                 },
             ),
+            Declaration::Signal(_, _, name, carries) => self.add_signal(name, *carries),
         }
     }
 
@@ -76,9 +91,24 @@ impl<'a> Scope<'a> {
     fn add_activity(&mut self, name: &'a Key, signature: Signature<'a>) -> Result<(), AllocError>
         ensures types { OnOk result (types_of self.new ≡ types_of self.old) }
         ensures activities { OnOk result (activities_of self.new ≡ first_then (activities_of self.old) (only name.now (shown_signature signature.entry))) }
+        ensures signals { OnOk result (signals_of self.new ≡ signals_of self.old) }
+        ensures parameters { OnOk result (parameters_of self.new ≡ parameters_of self.old) }
     {
         if !self.activities.contains_key(name.as_str()) {
             self.activities.insert(name.as_str(), signature)?;
+        }
+        Ok(())
+    }
+
+    /// The signal is declared, if none of its name was.
+    fn add_signal(&mut self, name: &'a Key, carries: Kind) -> Result<(), AllocError>
+        ensures types { OnOk result (types_of self.new ≡ types_of self.old) }
+        ensures activities { OnOk result (activities_of self.new ≡ activities_of self.old) }
+        ensures signals { OnOk result (signals_of self.new ≡ first_then (signals_of self.old) (only name.now carries)) }
+        ensures parameters { OnOk result (parameters_of self.new ≡ parameters_of self.old) }
+    {
+        if !self.signals.contains_key(name.as_str()) {
+            self.signals.insert(name.as_str(), carries)?;
         }
         Ok(())
     }
@@ -87,6 +117,8 @@ impl<'a> Scope<'a> {
     pub fn add_variable(&mut self, name: &'a Key, kind: Option<Kind>) -> Result<(), AllocError>
         ensures types { OnOk result (types_of self.new ≡ with_type (types_of self.old) name.now kind) }
         ensures activities { OnOk result (activities_of self.new ≡ activities_of self.old) }
+        ensures signals { OnOk result (signals_of self.new ≡ signals_of self.old) }
+        ensures parameters { OnOk result (parameters_of self.new ≡ parameters_of self.old) }
     {
         self.variables.insert(name.as_str(), kind)?;
         Ok(())
@@ -104,5 +136,19 @@ impl<'a> Scope<'a> {
         ensures { option_map shown_signature result ≡ activities_of self.now name.now }
     {
         self.activities.get(name.as_str()).copied()
+    }
+
+    /// What a signal carries, if it is declared.
+    pub fn signal(&self, name: &Key) -> Option<Kind>
+        ensures { result ≡ signals_of self.now name.now }
+    {
+        self.signals.get(name.as_str()).copied()
+    }
+
+    /// What the program takes.
+    pub fn parameters(&self) -> &'a [Parameter]
+        ensures { kinds_of_parameters result.now ≡ parameters_of self.now }
+    {
+        self.parameters
     }
 }

@@ -1,16 +1,23 @@
-ghost use Rattle.std.specs.Prelude.{◌≡◌, [], map, option_map, slice_get, OnOk};
+ghost use Rattle.std.specs.Prelude.{◌≡◌, ◌++◌, map, option_map, OnOk};
 ghost use Rattle.flow_base.specs.Shown.{shown_expr, shown_stmt, shown_block};
 ghost use Rattle.flow_base.specs.Syntax.{Next, End};
-ghost use Rattle.flow_model.specs.WellFormed.{earliest, faults_of_assigned, faults_of_call, faults_of_arguments, wrong_count, kinds_of, given};
-ghost use Rattle.flow_check.specs.Tables.{types_of, shown_signature, Checks, faults_of_argument};
+ghost use Rattle.flow_model.specs.WellFormed.{earliest, faults_of_assigned, faults_of_call, faults_of_arguments, faults_of_retry, out_of_range, unknown_signal, wrong_count, given};
+ghost use Rattle.flow_check.specs.Tables.{types_of, shown_signature, kinds_wanted, Checks, faults_of_argument};
 
-use crate::expression::{beginning, check_expression, check_kind};
+use crate::expression::{beginning, check_expression, check_kind, check_wanted};
 use crate::first::FirstFault;
 use crate::scope::{Scope, Signature};
+use crate::wanted::Wanted;
 use flow_base::code::Code;
-use flow_base::syntax::{Expr, Stmt, TypeAt};
+use flow_base::syntax::{Expr, Retry, Stmt};
 use flow_base::value::Kind;
 use std::alloc::AllocError;
+
+/// The most attempts of a call.
+const MOST_TRIES: u64 = 20;
+
+/// The longest pause between two attempts of a call, in milliseconds: a day.
+const LONGEST_PAUSE: u64 = 86_400_000;
 
 /// Notes the faults of a list of statements.
 pub fn check_statements<'a>(
@@ -43,14 +50,34 @@ fn check_statement<'a>(
             check_assigned(scope.variable(name), *at, kind, beginning(value), found);
             Ok(())
         }
-        Stmt::Call(at, name, activity_at, activity, arguments) => {
+        Stmt::Call(at, name, activity_at, activity, arguments, retry) => {
             let signature = scope.activity(activity);
             check_call(scope, signature, *activity_at, arguments, found);
             check_assigned(scope.variable(name), *at, gives(signature), *at, found);
+            check_retry(retry, found);
+            Ok(())
+        }
+        Stmt::WaitSignal(at, name, signal_at, signal) => {
+            let carried = scope.signal(signal);
+            check_signal(carried, *signal_at, found);
+            check_assigned(scope.variable(name), *at, carried, *at, found);
+            Ok(())
+        }
+        Stmt::Sleep(_, delay) => {
+            check_wanted(scope, Kind::Int, delay, found);
             Ok(())
         }
         Stmt::Return(_, value) => {
             check_expression(scope, value, found);
+            Ok(())
+        }
+        Stmt::FailWith(_, text) => {
+            check_wanted(scope, Kind::Text, text, found);
+            Ok(())
+        }
+        Stmt::Continue(at, arguments) => {
+            let wanted = Wanted::Parameters(scope.parameters());
+            check_applied(scope, arguments, wanted, *at, found);
             Ok(())
         }
     }
@@ -73,7 +100,7 @@ fn check_assigned(
     }
 }
 
-/// Notes the faults of a call but those of its result.
+/// Notes the faults of a call but those of its result and of how often it is tried.
 fn check_call(
     scope: &Scope,
     signature: Option<Signature>,
@@ -86,11 +113,10 @@ fn check_call(
     match signature {
         None => {
             found.note(Code::NotDeclared, at);
-            check_arguments(scope, arguments, &[], found);
+            check_arguments(scope, arguments, Wanted::Types(&[]), found);
         }
         Some(signature) => {
-            check_count(arguments, signature.takes, at, found);
-            check_arguments(scope, arguments, signature.takes, found);
+            check_applied(scope, arguments, Wanted::Types(signature.takes), at, found);
         }
     }
 }
@@ -104,31 +130,62 @@ fn gives(signature: Option<Signature>) -> Option<Kind>
     }
 }
 
-/// Notes another number of arguments than of types.
-fn check_count(arguments: &[Expr], takes: &[TypeAt], at: usize, found: &mut FirstFault)
-    ensures { found.new ≡ earliest found.old (wrong_count (kinds_of takes.now) (map shown_expr arguments.now) at) }
+/// Notes a number of attempts and a pause between them that are out of their ranges.
+fn check_retry(retry: &Retry, found: &mut FirstFault)
+    ensures { found.new ≡ earliest found.old (faults_of_retry retry.now) }
 {
-    if arguments.len() != takes.len() {
+    check_range(1, MOST_TRIES, retry.tries, retry.tries_at, found);
+    check_range(0, LONGEST_PAUSE, retry.every, retry.every_at, found);
+}
+
+/// Notes a number that is out of its range.
+fn check_range(least: u64, most: u64, number: u64, at: usize, found: &mut FirstFault)
+    ensures { found.new ≡ earliest found.old (out_of_range least most number at) }
+{
+    if number < least || most < number {
+        found.note(Code::BadRetry, at);
+    }
+}
+
+/// Notes a signal that isn't declared.
+fn check_signal(carried: Option<Kind>, at: usize, found: &mut FirstFault)
+    ensures { found.new ≡ earliest found.old (unknown_signal carried at) }
+{
+    match carried {
+        None => found.note(Code::NotDeclared, at),
+        Some(_) => {}
+    }
+}
+
+/// Notes another number of arguments than is wanted, and then the faults of the arguments.
+fn check_applied(
+    scope: &Scope,
+    arguments: &[Expr],
+    wanted: Wanted,
+    at: usize,
+    found: &mut FirstFault,
+)
+    ensures { found.new ≡ earliest found.old (wrong_count (kinds_wanted wanted.entry) (map shown_expr arguments.now) at ++ faults_of_arguments (types_of scope.now) (kinds_wanted wanted.entry) (map shown_expr arguments.now)) }
+{
+    check_count(arguments, wanted, at, found);
+    check_arguments(scope, arguments, wanted, found);
+}
+
+/// Notes another number of arguments than of types.
+fn check_count(arguments: &[Expr], wanted: Wanted, at: usize, found: &mut FirstFault)
+    ensures { found.new ≡ earliest found.old (wrong_count (kinds_wanted wanted.entry) (map shown_expr arguments.now) at) }
+{
+    if arguments.len() != wanted.count() {
         found.note(Code::BadCount, at);
     }
 }
 
 /// Notes the faults of arguments, and those of another type than the one at their position.
-fn check_arguments(scope: &Scope, arguments: &[Expr], takes: &[TypeAt], found: &mut FirstFault)
-    ensures { found.new ≡ earliest found.old (faults_of_arguments (types_of scope.now) (kinds_of takes.now) (map shown_expr arguments.now)) }
+fn check_arguments(scope: &Scope, arguments: &[Expr], wanted: Wanted, found: &mut FirstFault)
+    ensures { found.new ≡ earliest found.old (faults_of_arguments (types_of scope.now) (kinds_wanted wanted.entry) (map shown_expr arguments.now)) }
 {
     for (i, argument) in arguments.iter().enumerate() {
-        check_argument(scope, kind_at(takes, i), argument, found);
-    }
-}
-
-/// The type at a position, if there is one.
-fn kind_at(takes: &[TypeAt], i: usize) -> Option<Kind>
-    ensures { result ≡ slice_get (kinds_of takes.now) i }
-{
-    match takes.get(i) {
-        Some(wanted) => Some(wanted.kind),
-        None => None,
+        check_argument(scope, wanted.kind_at(i), argument, found);
     }
 }
 
@@ -136,8 +193,10 @@ fn kind_at(takes: &[TypeAt], i: usize) -> Option<Kind>
 fn check_argument(scope: &Scope, wanted: Option<Kind>, argument: &Expr, found: &mut FirstFault)
     ensures { found.new ≡ earliest found.old (faults_of_argument (types_of scope.now) wanted (shown_expr argument.now)) }
 {
-    let kind = check_expression(scope, argument, found);
-    if let Some(wanted) = wanted {
-        check_kind(kind, wanted, beginning(argument), found);
+    match wanted {
+        None => {
+            check_expression(scope, argument, found);
+        }
+        Some(wanted) => check_wanted(scope, wanted, argument, found),
     }
 }

@@ -12,4 +12,4 @@ returns c =
     (declares_activity c.args.self.now c.declares.new.self c.args.found.now c.declares.new.found c.args.at name c.in_ok-is_new.is_new c.declares.ensures.count c.declares.ensures.noted
     (search rules)
     (subst (λ n. Adds c.args.self.now.activities name n) (sym c.declares.ensures.activities) (adds c.args.self.now.activities c.insert.new.self name c.in_ok-is_new.ensures.updates))
-    c.declares.ensures.variables)
+    c.declares.ensures.variables c.declares.ensures.signals)

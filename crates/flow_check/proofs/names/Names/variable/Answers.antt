@@ -12,4 +12,4 @@ returns c =
     (declares_variable c.args.self.now c.declares.new.self c.args.found.now c.declares.new.found c.args.at name c.in_ok-is_new.is_new c.declares.ensures.count c.declares.ensures.noted
     (search rules)
     (subst (λ n. Adds c.args.self.now.variables name n) (sym c.declares.ensures.variables) (adds c.args.self.now.variables c.insert.new.self name c.in_ok-is_new.ensures.updates))
-    c.declares.ensures.activities)
+    c.declares.ensures.activities c.declares.ensures.signals)
