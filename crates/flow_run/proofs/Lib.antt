@@ -2,4 +2,3 @@ pub mod First
 pub mod Lefts
 pub mod Stores
 pub mod Turns
-pub mod Unheard

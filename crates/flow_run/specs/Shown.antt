@@ -15,7 +15,7 @@ use Rattle.flow_model.specs.Step as step
 use Rattle.flow_model.specs.Deliver.{Progress, target_of, replaced, when_completed}
 use Rattle.flow_model.specs.Turn as turn
 use Rattle.flow_run.specs.declared.rest.Rest.{Rest}
-use Rattle.flow_run.specs.declared.rest.Rest.TheVariants.{Done, OnActivity, Raised, Then', Beside'}
+use Rattle.flow_run.specs.declared.rest.Rest.TheVariants.{Done, OnActivity, OnTimer, OnSignal, Raised, Then', Beside'}
 use Rattle.flow_run.specs.declared.rest.OpenWait.{OpenWait}
 use Rattle.flow_run.specs.declared.rest.OpenWait.TheVariants as wait
 use Rattle.flow_run.specs.declared.step.Store.{Store}
@@ -40,6 +40,8 @@ left_from ss i = block_of (drop i (map shown_stmt ss))
 abbrev pub shown_rest : Rest → tree.Rest
 shown_rest Done = tree.Done
 shown_rest (OnActivity n x k) = tree.OnActivity n x k NoElse
+shown_rest (OnTimer n) = tree.OnTimer n
+shown_rest (OnSignal x s) = tree.OnSignal x s
 shown_rest (Raised c t) = tree.Raised c t
 shown_rest (Then' p r b i) = tree.Then (shown_rest r) (left_from b.items i)
 shown_rest (Beside' p a q b) = tree.Beside (shown_rest a) (shown_rest b)

@@ -1,5 +1,6 @@
-ghost use Rattle.std.specs.Prelude.{◌≡◌, IfOk, Some, is_some};
-ghost use Rattle.flow_base.specs.Shown.{shown_program};
+ghost use Rattle.std.specs.Prelude.{◌≡◌, [], ◌∷◌, ◌++◌, IfOk, Some, None, is_some, map, if◌then◌else◌};
+ghost use Rattle.flow_base.specs.Syntax.{signals_of};
+ghost use Rattle.flow_base.specs.Shown.{shown_program, shown_declaration};
 ghost use Rattle.flow_model.specs.Rest as tree;
 ghost use Rattle.flow_model.specs.Deliver as model;
 ghost use Rattle.flow_values.specs.Named.{look_up};
@@ -11,7 +12,7 @@ use crate::rest::{Rest, copy_stmts};
 use crate::step::Store;
 use flow_base::event::{Cause, Cmd, Input, State};
 use flow_base::number::EventId;
-use flow_base::syntax::{Parameter, Program};
+use flow_base::syntax::{Declaration, Parameter, Program};
 use flow_base::text::{Key, Text};
 use flow_base::value::{Kind, Value};
 use flow_model::kinds::{all_fit, has_kind};
@@ -62,8 +63,14 @@ pub fn deliver(
             State::Open => terminate(alloc, run),
             _ => Ok(None),
         },
-        Input::Signaled(_, _, _) => Ok(None),
-        Input::TimerFired(_) => Ok(None),
+        Input::Signaled(name, _, v) => match run.state {
+            State::Open => signal(alloc, program, run, name, v),
+            _ => Ok(None),
+        },
+        Input::TimerFired(n) => match run.state {
+            State::Open => fire(alloc, run, *n),
+            _ => Ok(None),
+        },
     }
 }
 
@@ -121,6 +128,43 @@ fn fail(
     ensures { IfOk result (λ o. shown_started o ≡ model.with_rest (plain_configuration run.now) (model.replaced (model.when_failed n text.now) (shown_rest run.now.rest))) }
 {
     match failed(alloc, &run.rest, n, text)? {
+        Some(rest) => {
+            let variables = run.variables.copy(alloc)?;
+            let buffer = run.buffer.copy(alloc)?;
+            let decided = run.decided.copy(alloc)?;
+            Ok(Some(start_from(alloc, rest, variables, buffer, decided, State::Open)))
+        }
+        None => Ok(None),
+    }
+}
+
+// A signal is put behind those that nobody took yet.
+fn signal(
+    alloc: Global,
+    program: &Program,
+    run: &PlainRun,
+    name: &Key,
+    v: &Value,
+) -> Result<Option<Turning>, AllocError>
+    requires { run.now.state ≡ State.Open }
+    ensures { IfOk result (λ o. shown_started o ≡ (if model.signal_fits (signals_of (shown_program program.now).declarations) name.now v.now then Some (started_with (shown_rest run.now.rest) (look_up run.now.variables) (run.now.buffer ++ (name.now, v.now) ∷ []) (look_up run.now.decided) State.Open) else None)) }
+{
+    if !signal_fits(&program.declarations, name, v) {
+        return Ok(None);
+    }
+    let rest = run.rest.copy(alloc)?;
+    let variables = run.variables.copy(alloc)?;
+    let mut buffer = run.buffer.copy(alloc)?;
+    buffer.push(alloc, name, v.copy(alloc)?)?;
+    let decided = run.decided.copy(alloc)?;
+    Ok(Some(start_from(alloc, rest, variables, buffer, decided, State::Open)))
+}
+
+fn fire(alloc: Global, run: &PlainRun, n: EventId) -> Result<Option<Turning>, AllocError>
+    requires { run.now.state ≡ State.Open }
+    ensures { IfOk result (λ o. shown_started o ≡ model.with_rest (plain_configuration run.now) (model.replaced (model.when_fired n) (shown_rest run.now.rest))) }
+{
+    match fired(alloc, &run.rest, n)? {
         Some(rest) => {
             let variables = run.variables.copy(alloc)?;
             let buffer = run.buffer.copy(alloc)?;
@@ -266,6 +310,56 @@ fn failed(alloc: Global, rest: &Rest, n: EventId, text: &Text) -> Result<Option<
     }
 }
 
+// What is left where a timer has fired.
+fn fired(alloc: Global, rest: &Rest, n: EventId) -> Result<Option<Rest>, AllocError>
+    ensures { IfOk result (λ o. shown_rest_of o ≡ model.replaced (model.when_fired n) (shown_rest rest.now)) }
+{
+    match rest {
+        Rest::OnTimer(m) => {
+            if *m == n.get() {
+                Ok(Some(Rest::Done))
+            } else {
+                Ok(None)
+            }
+        }
+        Rest::Then(r, b, i) => match fired(alloc, r, n)? {
+            Some(r) => Ok(Some(Rest::Then(Box::new(alloc, r)?, copy_stmts(alloc, b)?, *i))),
+            None => Ok(None),
+        },
+        Rest::Beside(a, b) => match fired(alloc, a, n)? {
+            Some(r) => {
+                let b = Box::new(alloc, b.copy(alloc)?)?;
+                Ok(Some(Rest::Beside(Box::new(alloc, r)?, b)))
+            }
+            None => match fired(alloc, b, n)? {
+                Some(r) => {
+                    let a = Box::new(alloc, a.copy(alloc)?)?;
+                    Ok(Some(Rest::Beside(a, Box::new(alloc, r)?)))
+                }
+                None => Ok(None),
+            },
+        },
+        _ => Ok(None),
+    }
+}
+
+// Whether a signal is declared with the value's type.
+fn signal_fits(declarations: &[Declaration], name: &Key, v: &Value) -> bool
+    ensures { result ≡ model.signal_fits (signals_of (map shown_declaration declarations.now)) name.now v.now }
+{
+    for d in declarations {
+        match d {
+            Declaration::Signal(_, _, signal, kind) => {
+                if signal.is(name) {
+                    return has_kind(*kind, v);
+                }
+            }
+            Declaration::Activity(_, _, _, _, _) => {}
+        }
+    }
+    false
+}
+
 /// Whether an input can be delivered to a run.
 pub fn takes(program: &Program, run: &PlainRun, input: &Input) -> bool
     ensures { result ≡ is_some (model.deliver (shown_program program.now) (plain_configuration run.now) input.now) }
@@ -290,7 +384,13 @@ pub fn takes(program: &Program, run: &PlainRun, input: &Input) -> bool
             State::Open => true,
             _ => false,
         },
-        Input::Signaled(_, _, _) => false,
-        Input::TimerFired(_) => false,
+        Input::Signaled(name, _, v) => match run.state {
+            State::Open => signal_fits(&program.declarations, name, v),
+            _ => false,
+        },
+        Input::TimerFired(n) => match run.state {
+            State::Open => run.rest.awaits_timer(*n),
+            _ => false,
+        },
     }
 }

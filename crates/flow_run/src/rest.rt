@@ -1,7 +1,7 @@
-ghost use Rattle.std.specs.Prelude.{◌≡◌, ◌++◌, IfOk, OnOk, map};
+ghost use Rattle.std.specs.Prelude.{◌≡◌, ◌++◌, IfOk, OnOk, map, is_some};
 ghost use Rattle.flow_base.specs.Shown.{shown_stmt};
 ghost use Rattle.flow_run.specs.Shown.{shown_rest, waits_of};
-ghost use Rattle.flow_model.specs.Deliver.{target_of, awaited_kind};
+ghost use Rattle.flow_model.specs.Deliver.{target_of, awaited_kind, replaced, when_fired};
 
 use flow_base::event::Cause;
 use flow_base::number::EventId;
@@ -10,12 +10,16 @@ use flow_base::text::{Key, Text};
 use flow_base::value::Kind;
 use std::alloc::{AllocError, Global};
 
-/// What is left of a program, as far as the language of now gets.
+/// What is left of a program.
 #[derive(Debug, Drop)]
 pub(crate) enum Rest {
     Done,
     /// The event that scheduled the activity, the variable that waits for it, and the type that it gives.
     OnActivity(u64, Key, Kind),
+    /// A sleep waits on the timer that this event started.
+    OnTimer(u64),
+    /// The variable that waits, and the signal.
+    OnSignal(Key, Key),
     /// An activity failed: the run is to fail, with this text.
     Raised(Cause, Text),
     /// What goes on, and then the statements of a list from this number on.
@@ -44,6 +48,8 @@ impl Rest {
         match self {
             Rest::Done => Ok(Rest::Done),
             Rest::OnActivity(n, x, k) => Ok(Rest::OnActivity(*n, x.copy(alloc)?, *k)),
+            Rest::OnTimer(n) => Ok(Rest::OnTimer(*n)),
+            Rest::OnSignal(x, s) => Ok(Rest::OnSignal(x.copy(alloc)?, s.copy(alloc)?)),
             Rest::Raised(c, t) => Ok(Rest::Raised(*c, t.copy(alloc)?)),
             Rest::Then(r, b, i) => {
                 let r = Box::new(alloc, r.copy(alloc)?)?;
@@ -67,6 +73,14 @@ impl Rest {
                 list.push(OpenWait::Activity(*n, x.copy(alloc)?, *k))?;
                 Ok(())
             }
+            Rest::OnTimer(n) => {
+                list.push(OpenWait::Timer(*n))?;
+                Ok(())
+            }
+            Rest::OnSignal(x, s) => {
+                list.push(OpenWait::Signal(x.copy(alloc)?, s.copy(alloc)?))?;
+                Ok(())
+            }
             Rest::Raised(_, _) => Ok(()),
             Rest::Then(r, _, _) => r.add_waits(alloc, list),
             Rest::Beside(a, b) => {
@@ -88,6 +102,18 @@ impl Rest {
                 None => b.awaited(event),
             },
             _ => None,
+        }
+    }
+
+    /// Whether a wait is on the timer that an event started.
+    pub fn awaits_timer(&self, event: EventId) -> bool
+        ensures { result ≡ is_some (replaced (when_fired event) (shown_rest self.now)) }
+    {
+        match self {
+            Rest::OnTimer(n) => *n == event.get(),
+            Rest::Then(r, _, _) => r.awaits_timer(event),
+            Rest::Beside(a, b) => a.awaits_timer(event) || b.awaits_timer(event),
+            _ => false,
         }
     }
 }

@@ -1,6 +1,7 @@
-ghost use Rattle.std.specs.Prelude.{◌≡◌, ◌<◌, ◌+◌, IfOk, MatchOption, map, min, length, OnOk, []};
-ghost use Rattle.flow_base.specs.Syntax.{End, Next, Let as ALet, Call as ACall, Return as AReturn, once, NoElse, activities_of};
+ghost use Rattle.std.specs.Prelude.{◌≡◌, ◌<◌, ◌+◌, IfOk, MatchOption, map, min, length, OnOk, [], false, nat_lt, if◌then◌else◌};
+ghost use Rattle.flow_base.specs.Syntax.{End, Next, Let as ALet, Call as ACall, WaitSignal as AWaitSignal, Sleep as ASleep, Return as AReturn, FailWith as AFailWith, Continue as AContinue, NoElse, activities_of};
 ghost use Rattle.flow_base.specs.Shown.{shown_stmt, shown_declaration, shown_expr};
+ghost use Rattle.flow_model.specs.Values.{text_of};
 ghost use Rattle.flow_model.specs.Rest as tree;
 ghost use Rattle.flow_model.specs.Step as model;
 ghost use Rattle.flow_run.specs.Shown.{shown_rest, shown_store, shown_move, shown_setting, left_from, KeepsRest, Begins};
@@ -11,10 +12,10 @@ use crate::rest::Rest;
 use flow_base::event::{Cause, Cmd};
 use flow_base::number::Moment;
 use flow_base::sequence::Sequence;
-use flow_base::syntax::{Declaration, Expr, Stmt};
+use flow_base::syntax::{Declaration, Expr, Retry, Stmt};
 use flow_base::text::{Key, Text};
 use flow_base::value::{Kind, Value};
-use flow_values::evaluate::{eval, eval_all};
+use flow_values::evaluate::{due, eval, eval_all};
 use flow_values::fault::Fault;
 use flow_values::named::NamedValues;
 use std::alloc::Global;
@@ -61,6 +62,8 @@ pub fn step(alloc: Global, s: &Setting, t: &mut Store, rest: Rest) -> Result<Mov
     match rest {
         Rest::Done => Ok(Moved::Stays(Rest::Done)),
         Rest::OnActivity(n, x, k) => Ok(Moved::Stays(Rest::OnActivity(n, x, k))),
+        Rest::OnTimer(n) => Ok(Moved::Stays(Rest::OnTimer(n))),
+        Rest::OnSignal(x, name) => hear(alloc, t, x, name),
         Rest::Raised(c, text) => Ok(Moved::Ends(Cmd::Fail(c, text))),
         Rest::Then(r, b, i) => {
             if is_done(&r) {
@@ -121,6 +124,8 @@ pub fn open_waits(rest: &Rest) -> u32
 {
     match rest {
         Rest::OnActivity(_, _, _) => 1,
+        Rest::OnTimer(_) => 1,
+        Rest::OnSignal(_, _) => 1,
         Rest::Then(r, _, _) => open_waits(r),
         Rest::Beside(a, b) => (open_waits(a) + open_waits(b)).min(32),
         _ => 0,
@@ -157,8 +162,12 @@ fn begin(alloc: Global, s: &Setting, t: &mut Store, stmt: &Stmt) -> Result<Moved
     match stmt {
         Stmt::Let(_, _, x, e) => assign(alloc, s, t, x, e),
         Stmt::Assign(_, x, e) => assign(alloc, s, t, x, e),
-        Stmt::Call(_, x, _, a, es) => call(alloc, s, t, x, a, es),
+        Stmt::Call(_, x, _, a, es, r) => call(alloc, s, t, x, a, es, *r),
+        Stmt::WaitSignal(_, x, _, name) => wait(alloc, s, t, x, name),
+        Stmt::Sleep(_, e) => sleep(alloc, s, t, e),
         Stmt::Return(_, e) => finish(alloc, s, t, e),
+        Stmt::FailWith(_, e) => give_up(alloc, s, t, e),
+        Stmt::Continue(_, es) => go_on_anew(alloc, s, t, es),
     }
 }
 
@@ -182,19 +191,20 @@ fn call(
     into: &Key,
     activity: &Key,
     es: &[Expr],
+    retry: Retry,
 ) -> Result<Moved, Fault>
-    ensures step { IfOk result (λ m. shown_move t.now m ≡ model.begin (shown_setting s.now) (shown_store t.now) (ACall 0 into.now 0 activity.now (map shown_expr es.now) once NoElse)) }
+    ensures step { IfOk result (λ m. shown_move t.now m ≡ model.begin (shown_setting s.now) (shown_store t.now) (ACall 0 into.now 0 activity.now (map shown_expr es.now) retry NoElse)) }
     ensures kept { IfOk result (λ m. Begins t.now t.now m) }
 {
     match eval_all(alloc, &t.variables, s.at, es)? {
         Ok(values) => {
-            if s.waits < 32 {
+            if may_wait(s) {
                 let kind = gives(s.declarations, activity);
                 let asked = Cmd::Schedule(
                     activity.copy(alloc)?,
                     Sequence::from_vec(values),
-                    1,
-                    0,
+                    retry.tries,
+                    retry.every,
                     kind,
                 );
                 Ok(Moved::Asks(Rest::OnActivity(s.event, into.copy(alloc)?, kind), asked))
@@ -206,6 +216,63 @@ fn call(
     }
 }
 
+fn sleep(alloc: Global, s: &Setting, t: &Store, delay: &Expr) -> Result<Moved, Fault>
+    ensures step { IfOk result (λ m. shown_move t.now m ≡ model.begin (shown_setting s.now) (shown_store t.now) (ASleep 0 (shown_expr delay.now))) }
+    ensures kept { IfOk result (λ m. Begins t.now t.now m) }
+{
+    match due(alloc, &t.variables, s.at, delay)? {
+        Ok(at) => {
+            if may_wait(s) {
+                Ok(Moved::Asks(Rest::OnTimer(s.event), Cmd::StartTimer(at)))
+            } else {
+                Ok(Moved::Ends(raise(alloc, Cause::WaitLimit)))
+            }
+        }
+        Err(c) => Ok(Moved::Ends(raise(alloc, c))),
+    }
+}
+
+// A signal that is there is taken, however many waits are open.
+fn wait(alloc: Global, s: &Setting, t: &mut Store, into: &Key, signal: &Key) -> Result<Moved, Fault>
+    ensures step { IfOk result (λ m. shown_move t.new m ≡ model.begin (shown_setting s.now) (shown_store t.old) (AWaitSignal 0 into.now 0 signal.now)) }
+    ensures kept { IfOk result (λ m. Begins t.old t.new m) }
+{
+    if take(alloc, t, into, signal)? {
+        return Ok(Moved::Goes(Rest::Done));
+    }
+    if may_wait(s) {
+        Ok(Moved::Goes(Rest::OnSignal(into.copy(alloc)?, signal.copy(alloc)?)))
+    } else {
+        Ok(Moved::Ends(raise(alloc, Cause::WaitLimit)))
+    }
+}
+
+// A wait takes its signal, where that is there.
+fn hear(alloc: Global, t: &mut Store, into: Key, signal: Key) -> Result<Moved, Fault>
+    ensures step { IfOk result (λ m. shown_move t.new m ≡ model.on_signal (model.oldest signal t.old.buffer) (λ v. model.Goes tree.Done (model.take_signal (shown_store t.old) into signal v)) model.Stays) }
+    ensures kept { IfOk result (λ m. KeepsRest t.old (tree.OnSignal into signal) t.new m) }
+{
+    if take(alloc, t, &into, &signal)? {
+        Ok(Moved::Goes(Rest::Done))
+    } else {
+        Ok(Moved::Stays(Rest::OnSignal(into, signal)))
+    }
+}
+
+// A variable gets the oldest signal of a name, which leaves the buffer; says whether one was there.
+fn take(alloc: Global, t: &mut Store, into: &Key, signal: &Key) -> Result<bool, Fault>
+    ensures taken { IfOk result (λ is. (m : model.Move) → (if is then model.Goes tree.Done (shown_store t.new) else m) ≡ model.on_signal (model.oldest signal.now t.old.buffer) (λ v. model.Goes tree.Done (model.take_signal (shown_store t.old) into.now signal.now v)) m) }
+    ensures kept { IfOk result (λ is. is ≡ false → t.new ≡ t.old) }
+{
+    match t.buffer.take(signal) {
+        Some(v) => {
+            set(alloc, t, into, v)?;
+            Ok(true)
+        }
+        None => Ok(false),
+    }
+}
+
 fn finish(alloc: Global, s: &Setting, t: &Store, e: &Expr) -> Result<Moved, Fault>
     ensures step { IfOk result (λ m. shown_move t.now m ≡ model.begin (shown_setting s.now) (shown_store t.now) (AReturn 0 (shown_expr e.now))) }
     ensures kept { IfOk result (λ m. Begins t.now t.now m) }
@@ -213,6 +280,50 @@ fn finish(alloc: Global, s: &Setting, t: &Store, e: &Expr) -> Result<Moved, Faul
     match eval(alloc, &t.variables, s.at, e)? {
         Ok(v) => Ok(Moved::Ends(Cmd::Complete(v))),
         Err(c) => Ok(Moved::Ends(raise(alloc, c))),
+    }
+}
+
+fn give_up(alloc: Global, s: &Setting, t: &Store, e: &Expr) -> Result<Moved, Fault>
+    ensures step { IfOk result (λ m. shown_move t.now m ≡ model.begin (shown_setting s.now) (shown_store t.now) (AFailWith 0 (shown_expr e.now))) }
+    ensures kept { IfOk result (λ m. Begins t.now t.now m) }
+{
+    match eval(alloc, &t.variables, s.at, e)? {
+        Ok(v) => Ok(Moved::Ends(Cmd::Fail(Cause::UserFail, text_in(alloc, v)))),
+        Err(c) => Ok(Moved::Ends(raise(alloc, c))),
+    }
+}
+
+// `continue as new`: a run's first turn can't, so that a chain of runs doesn't go on without an input.
+fn go_on_anew(alloc: Global, s: &Setting, t: &Store, es: &[Expr]) -> Result<Moved, Fault>
+    ensures step { IfOk result (λ m. shown_move t.now m ≡ model.begin (shown_setting s.now) (shown_store t.now) (AContinue 0 (map shown_expr es.now))) }
+    ensures kept { IfOk result (λ m. Begins t.now t.now m) }
+{
+    match eval_all(alloc, &t.variables, s.at, es)? {
+        Ok(values) => {
+            if s.is_first {
+                Ok(Moved::Ends(raise(alloc, Cause::ChainLimit)))
+            } else {
+                Ok(Moved::Ends(Cmd::ContinueAsNew(Sequence::from_vec(values))))
+            }
+        }
+        Err(c) => Ok(Moved::Ends(raise(alloc, c))),
+    }
+}
+
+// Whether one more wait can be opened.
+fn may_wait(s: &Setting) -> bool
+    ensures { result ≡ nat_lt s.now.waits model.wait_limit }
+{
+    s.waits < 32
+}
+
+// A value as a text: empty where it is a number.
+fn text_in(alloc: Global, v: Value) -> Text
+    ensures { result ≡ text_of v }
+{
+    match v {
+        Value::Int(_) => Text::empty(alloc),
+        Value::Text(t) => t,
     }
 }
 
@@ -227,6 +338,7 @@ fn gives(declarations: &[Declaration], name: &Key) -> Kind
                     return *kind;
                 }
             }
+            Declaration::Signal(_, _, _, _) => {}
         }
     }
     Kind::Int

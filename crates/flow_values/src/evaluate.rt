@@ -43,6 +43,7 @@ pub fn eval<V: Vars>(
             let v = read(alloc, vars, x)?;
             Ok(Ok(v))
         }
+        Expr::Now(_) => Ok(Ok(Value::Int(at.get() as i64))),
         Expr::Unary(_, op, a) => match eval(alloc, vars, at, a)? {
             Ok(v) => apply(alloc, *op, v),
             Err(c) => Ok(Err(c)),

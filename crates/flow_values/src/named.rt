@@ -1,6 +1,7 @@
-ghost use Rattle.std.specs.Prelude.{◌≡◌, [], IfOk, OnOk, OnErr, MatchOption, None, Some};
+ghost use Rattle.std.specs.Prelude.{◌≡◌, [], ◌∷◌, ◌++◌, IfOk, OnOk, OnErr, MatchOption, None, Some};
 ghost use Rattle.flow_model.specs.Values.{with_variable};
-ghost use Rattle.flow_values.specs.Named.{look_up, put, IsPlace};
+ghost use Rattle.flow_model.specs.Step.{oldest, without_oldest};
+ghost use Rattle.flow_values.specs.Named.{look_up, put, IsPlace, IsOldest};
 
 use crate::evaluate::Vars;
 use flow_base::text::Key;
@@ -53,6 +54,31 @@ impl NamedValues {
     {
         put_in(alloc, &mut self.entries, name, value)?;
         Ok(())
+    }
+
+    /// Puts an entry behind all others, whether or not the name has one. After an error all is as it was.
+    pub fn push(&mut self, alloc: Global, name: &Key, value: Value) -> Result<(), AllocError>
+        ensures ok { OnOk result (self.new ≡ self.old ++ (name.now, value) ∷ []) }
+        ensures err { OnErr result (self.new ≡ self.old) }
+    {
+        let name = name.copy(alloc)?;
+        self.entries.push((name, value))?;
+        Ok(())
+    }
+
+    /// Takes the first entry of this name out, and gives what it has.
+    pub fn take(&mut self, name: &Key) -> Option<Value>
+        ensures taken { result ≡ oldest name.now self.old }
+        ensures others { self.new ≡ without_oldest name.now self.old }
+        ensures none { result ≡ None → self.new ≡ self.old }
+    {
+        match first(&self.entries, name) {
+            Some(i) => {
+                let (_name, value) = self.entries.remove(i);
+                Some(value)
+            }
+            None => None,
+        }
     }
 
     /// What the first entry of this name has.
@@ -115,6 +141,18 @@ fn put_in(
 // Where a name stands.
 fn place(entries: &[(Key, Value)], name: &Key) -> Option<usize>
     ensures { IsPlace entries.now name.now result }
+{
+    for (i, e) in entries.iter().enumerate() {
+        if e.0.is(name) {
+            return Some(i);
+        }
+    }
+    None
+}
+
+// Where the first entry of a name stands.
+fn first(entries: &[(Key, Value)], name: &Key) -> Option<usize>
+    ensures { IsOldest entries.now name.now result }
 {
     for (i, e) in entries.iter().enumerate() {
         if e.0.is(name) {

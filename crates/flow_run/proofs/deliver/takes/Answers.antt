@@ -2,7 +2,6 @@ use Rattle.std.proofs.Common.{◌∙◌, sym, ap, is_some}
 use Rattle.flow_model.specs.Configuration.{is_open}
 use Rattle.flow_run.specs.Shown.{plain_configuration}
 use Rattle.flow_model.proofs.Awaits.{takes_value, takes_failure}
-use Rattle.flow_run.proofs.Unheard.{no_signal, no_timer, no_fire}
 use Rattle.flow_run.proofs.deliver.takes.Goals as goal
 
 pub returns-in-Some : goal.returns-in-Some
@@ -12,9 +11,3 @@ returns-in-Some c =
 pub returns-in-Open-state : goal.returns-in-Open-state
 returns-in-Open-state c =
     rw c.in-ActivityFailed.is (c.is_some.ensures ∙ ap is_some c.awaited-in-Open-state.ensures ∙ sym (takes_failure (plain_configuration c.args.run.now) c.in-ActivityFailed.n c.in-ActivityFailed.field-1 (ap is_open c.in-Open-state.is)))
-
-pub returns-in-Signaled : goal.returns-in-Signaled
-returns-in-Signaled c = rw c.in-Signaled.is (sym (ap is_some (no_signal c.args.program.now.declarations.items (is_open c.args.run.now.state) c.in-Signaled.field-0 c.in-Signaled.field-2 _)))
-
-pub returns-in-TimerFired : goal.returns-in-TimerFired
-returns-in-TimerFired c = rw c.in-TimerFired.is (sym (ap is_some (no_fire (plain_configuration c.args.run.now) c.in-TimerFired.field-0 (no_timer c.in-TimerFired.field-0 c.args.run.now.rest))))
