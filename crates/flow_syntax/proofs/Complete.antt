@@ -4,8 +4,8 @@ use Rattle.std.proofs.lemmas.List.{append-nil}
 use Rattle.flow_base.specs.declared.token.Mark.TheVariants as mark
 use Rattle.flow_base.specs.declared.value.Kind.TheVariants as kind
 use Rattle.flow_model.specs.Lexeme.{Lexeme}
-use Rattle.flow_model.specs.Grammar.{plus, minus, join, equal, differ, less, at_most, greater, at_least, ParensReading, parens, PrimReading, int, text, name, text_of, len_of, inner, UnaryReading, negate, prim, TermReading, term, TermTail, no_factor, factor, SumReading, sum, SumTail, no_term, added, CompareReading, compare, CompareTail, no_side, compared, NegReading, not, plain, ConjReading, conj, ConjTail, no_and, and, ExprReading, expr, ExprTail, no_or, or, ArgumentsReading, no_argument, argument, ArgumentTail, last_argument, next_argument, TypeReading, typed, TypesReading, no_type, type_, TypeTail, last_type, next_type, ParameterReading, parameter, ParametersReading, no_parameter, parameter_, ParameterTail, last_parameter, next_parameter, DeclarationReading, activity, SideReading, value, call, StatementReading, let_, assign, return_, StatementsReading, no_statement, statement, BodyReading, statements, declaration, ProgramReading, workflow}
-use Rattle.flow_model.specs.Grammar.{marked, parens_tokens, prim_tokens, unary_tokens, term_tokens, term_tail_tokens, sum_tokens, sum_tail_tokens, compare_tokens, compare_tail_tokens, neg_tokens, conj_tokens, conj_tail_tokens, expr_tokens, expr_tail_tokens, argument_tail_tokens, arguments_tokens, type_tokens, type_tail_tokens, types_tokens, parameter_tokens, parameter_tail_tokens, parameters_tokens, declaration_tokens, side_tokens, statement_tokens, statements_tokens, body_tokens, program_tokens}
+use Rattle.flow_model.specs.Grammar.{plus, minus, join, equal, differ, less, at_most, greater, at_least, ParensReading, parens, PrimReading, int, text, name, now, text_of, len_of, inner, UnaryReading, negate, prim, TermReading, term, TermTail, no_factor, factor, SumReading, sum, SumTail, no_term, added, CompareReading, compare, CompareTail, no_side, compared, NegReading, not, plain, ConjReading, conj, ConjTail, no_and, and, ExprReading, expr, ExprTail, no_or, or, ArgumentsReading, no_argument, argument, ArgumentTail, last_argument, next_argument, TypeReading, typed, TypesReading, no_type, type_, TypeTail, last_type, next_type, ParameterReading, parameter, ParametersReading, no_parameter, parameter_, ParameterTail, last_parameter, next_parameter, DeclarationReading, activity, signal, CallTail, no_retry, retry, SideReading, value, call, wait, StatementReading, let_, assign, sleep, return_, fail, continue_, StatementsReading, no_statement, statement, BodyReading, statements, declaration, ProgramReading, workflow}
+use Rattle.flow_model.specs.Grammar.{marked, parens_tokens, prim_tokens, unary_tokens, term_tokens, term_tail_tokens, sum_tokens, sum_tail_tokens, compare_tokens, compare_tail_tokens, neg_tokens, conj_tokens, conj_tail_tokens, expr_tokens, expr_tail_tokens, argument_tail_tokens, arguments_tokens, type_tokens, type_tail_tokens, types_tokens, parameter_tokens, parameter_tail_tokens, parameters_tokens, declaration_tokens, call_tail_tokens, side_tokens, statement_tokens, statements_tokens, body_tokens, program_tokens}
 use Rattle.flow_syntax.specs.Machine.{Symbol, fault}
 use Rattle.flow_syntax.specs.Machine as m
 use Rattle.flow_syntax.specs.Parsing.{Past}
@@ -60,6 +60,7 @@ prim_begins : (p : PrimReading) (owed : List Symbol) (x : List Lexeme) → fault
 prim_begins (int at n) owed x = refl
 prim_begins (text at t) owed x = refl
 prim_begins (name at n) owed x = refl
+prim_begins (now at) owed x = refl
 prim_begins (text_of at p) owed x = refl
 prim_begins (len_of at p) owed x = refl
 prim_begins (inner (parens at e to)) owed x = refl
@@ -69,6 +70,7 @@ compare_begins (compare (sum (term (negate at u) f) g) h) owed x = refl
 compare_begins (compare (sum (term (prim (int at n)) f) g) h) owed x = refl
 compare_begins (compare (sum (term (prim (text at t)) f) g) h) owed x = refl
 compare_begins (compare (sum (term (prim (name at n)) f) g) h) owed x = refl
+compare_begins (compare (sum (term (prim (now at)) f) g) h) owed x = refl
 compare_begins (compare (sum (term (prim (text_of at p)) f) g) h) owed x = refl
 compare_begins (compare (sum (term (prim (len_of at p)) f) g) h) owed x = refl
 compare_begins (compare (sum (term (prim (inner (parens at e to))) f) g) h) owed x = refl
@@ -79,6 +81,7 @@ argument_begins (expr (conj (plain (compare (sum (term (negate at u) f) g) h)) i
 argument_begins (expr (conj (plain (compare (sum (term (prim (int at n)) f) g) h)) i) j) owed x = refl
 argument_begins (expr (conj (plain (compare (sum (term (prim (text at t)) f) g) h)) i) j) owed x = refl
 argument_begins (expr (conj (plain (compare (sum (term (prim (name at n)) f) g) h)) i) j) owed x = refl
+argument_begins (expr (conj (plain (compare (sum (term (prim (now at)) f) g) h)) i) j) owed x = refl
 argument_begins (expr (conj (plain (compare (sum (term (prim (text_of at p)) f) g) h)) i) j) owed x = refl
 argument_begins (expr (conj (plain (compare (sum (term (prim (len_of at p)) f) g) h)) i) j) owed x = refl
 argument_begins (expr (conj (plain (compare (sum (term (prim (inner (parens at e to))) f) g) h)) i) j) owed x = refl
@@ -89,6 +92,7 @@ value_begins (expr (conj (plain (compare (sum (term (negate at u) f) g) h)) i) j
 value_begins (expr (conj (plain (compare (sum (term (prim (int at n)) f) g) h)) i) j) owed x = refl
 value_begins (expr (conj (plain (compare (sum (term (prim (text at t)) f) g) h)) i) j) owed x = refl
 value_begins (expr (conj (plain (compare (sum (term (prim (name at n)) f) g) h)) i) j) owed x = refl
+value_begins (expr (conj (plain (compare (sum (term (prim (now at)) f) g) h)) i) j) owed x = refl
 value_begins (expr (conj (plain (compare (sum (term (prim (text_of at p)) f) g) h)) i) j) owed x = refl
 value_begins (expr (conj (plain (compare (sum (term (prim (len_of at p)) f) g) h)) i) j) owed x = refl
 value_begins (expr (conj (plain (compare (sum (term (prim (inner (parens at e to))) f) g) h)) i) j) owed x = refl
@@ -101,6 +105,7 @@ mutual
   through_prim (int at n) owed ts = refl
   through_prim (text at t) owed ts = refl
   through_prim (name at n) owed ts = refl
+  through_prim (now at) owed ts = refl
   through_prim (text_of at p) owed ts = through_parens p owed ts
   through_prim (len_of at p) owed ts = through_parens p owed ts
   through_prim (inner (parens at e to)) owed ts = through_parens (parens at e to) owed ts
@@ -181,24 +186,36 @@ through_parameters (no_parameter to) owed ts = refl
 through_parameters (parameter_ (parameter at x colon (typed a kind.Int)) more) owed ts = through_parameter_tail more owed ts
 through_parameters (parameter_ (parameter at x colon (typed a kind.Text)) more) owed ts = through_parameter_tail more owed ts
 
-pub through_activity : (d : DeclarationReading) (owed : List Symbol) (ts : List Lexeme) → fault (m.activity ∷ owed) (declaration_tokens d ++ ts) ≡ fault owed ts
-through_activity (activity at name_at x paren us arrow t end) owed ts =
+pub through_declaration : (d : DeclarationReading) (owed : List Symbol) (ts : List Lexeme) → fault (m.declaration ∷ owed) (declaration_tokens d ++ ts) ≡ fault owed ts
+through_declaration (activity at name_at x paren us arrow t end) owed ts =
     simp append_assoc (through_types us (m.sign mark.Arrow ∷ m.type_ ∷ m.sign mark.Semicolon ∷ owed) (marked arrow mark.Arrow ∷ (type_tokens t ++ (marked end mark.Semicolon ∷ ts)))
     ∙ through_type t (m.sign mark.Semicolon ∷ owed) (marked end mark.Semicolon ∷ ts))
+through_declaration (signal at name_at x colon t end) owed ts = rw append_assoc (through_type t (m.sign mark.Semicolon ∷ owed) (marked end mark.Semicolon ∷ ts))
+
+pub through_call_tail : (r : CallTail) (owed : List Symbol) (ts : List Lexeme) → fault (m.call_tail ∷ owed) (call_tail_tokens r ++ ts) ≡ fault owed ts
+through_call_tail (no_retry end) owed ts = refl
+through_call_tail (retry at tries_at tries every every_at pause end) owed ts = refl
 
 pub through_side : (s : SideReading) (owed : List Symbol) (ts : List Lexeme) → fault (m.side ∷ owed) (side_tokens s ++ ts) ≡ fault owed ts
 through_side (value e end) owed ts = rw append_assoc (value_begins e owed (marked end mark.Semicolon ∷ ts) ∙ through_expr e (m.sign mark.Semicolon ∷ owed) (marked end mark.Semicolon ∷ ts) ((((refl, refl), refl), refl), refl))
-through_side (call at name_at a paren es end) owed ts = rw append_assoc (through_arguments es (m.sign mark.Semicolon ∷ owed) (marked end mark.Semicolon ∷ ts))
+through_side (call at name_at a paren es more) owed ts = rw append_assoc (through_arguments es (m.call_tail ∷ owed) (call_tail_tokens more ++ ts) ∙ through_call_tail more owed ts)
+through_side (wait at signal_at name_at n end) owed ts = refl
 
 pub through_statement : (s : StatementReading) (owed : List Symbol) (ts : List Lexeme) → fault (m.statement ∷ owed) (statement_tokens s ++ ts) ≡ fault owed ts
 through_statement (let_ at name_at x eq e end) owed ts = rw append_assoc (through_expr e (m.sign mark.Semicolon ∷ owed) (marked end mark.Semicolon ∷ ts) ((((refl, refl), refl), refl), refl))
 through_statement (assign at x eq s) owed ts = through_side s owed ts
+through_statement (sleep at e end) owed ts = rw append_assoc (through_expr e (m.sign mark.Semicolon ∷ owed) (marked end mark.Semicolon ∷ ts) ((((refl, refl), refl), refl), refl))
 through_statement (return_ at e end) owed ts = rw append_assoc (through_expr e (m.sign mark.Semicolon ∷ owed) (marked end mark.Semicolon ∷ ts) ((((refl, refl), refl), refl), refl))
+through_statement (fail at e end) owed ts = rw append_assoc (through_expr e (m.sign mark.Semicolon ∷ owed) (marked end mark.Semicolon ∷ ts) ((((refl, refl), refl), refl), refl))
+through_statement (continue_ at as_at new_at paren es end) owed ts = rw append_assoc (through_arguments es (m.sign mark.Semicolon ∷ owed) (marked end mark.Semicolon ∷ ts))
 
 statement_begins : (s : StatementReading) (owed : List Symbol) (x : List Lexeme) → fault (m.statements ∷ owed) (statement_tokens s ++ x) ≡ fault (m.statement ∷ m.statements ∷ owed) (statement_tokens s ++ x)
 statement_begins (let_ at name_at n eq e end) owed x = refl
 statement_begins (assign at n eq s) owed x = refl
+statement_begins (sleep at e end) owed x = refl
 statement_begins (return_ at e end) owed x = refl
+statement_begins (fail at e end) owed x = refl
+statement_begins (continue_ at as_at new_at paren es end) owed x = refl
 
 pub through_statements : (ss : StatementsReading) (owed : List Symbol) (ts : List Lexeme) → fault (m.statements ∷ owed) (statements_tokens ss ++ ts) ≡ fault owed ts
 through_statements (no_statement to) owed ts = refl
@@ -208,14 +225,18 @@ statements_begin : (ss : StatementsReading) (owed : List Symbol) (x : List Lexem
 statements_begin (no_statement to) owed x = refl
 statements_begin (statement (let_ at name_at n eq e end) more) owed x = refl
 statements_begin (statement (assign at n eq s) more) owed x = refl
+statements_begin (statement (sleep at e end) more) owed x = refl
 statements_begin (statement (return_ at e end) more) owed x = refl
+statements_begin (statement (fail at e end) more) owed x = refl
+statements_begin (statement (continue_ at as_at new_at paren es end) more) owed x = refl
 
-activity_begins : (d : DeclarationReading) (owed : List Symbol) (x : List Lexeme) → fault (m.body ∷ owed) (declaration_tokens d ++ x) ≡ fault (m.activity ∷ m.body ∷ owed) (declaration_tokens d ++ x)
-activity_begins (activity at name_at n paren us arrow t end) owed x = refl
+declaration_begins : (d : DeclarationReading) (owed : List Symbol) (x : List Lexeme) → fault (m.body ∷ owed) (declaration_tokens d ++ x) ≡ fault (m.declaration ∷ m.body ∷ owed) (declaration_tokens d ++ x)
+declaration_begins (activity at name_at n paren us arrow t end) owed x = refl
+declaration_begins (signal at name_at n colon t end) owed x = refl
 
 pub through_body : (b : BodyReading) (owed : List Symbol) (ts : List Lexeme) → fault (m.body ∷ owed) (body_tokens b ++ ts) ≡ fault owed ts
 through_body (statements ss) owed ts = statements_begin ss owed ts ∙ through_statements ss owed ts
-through_body (declaration d more) owed ts = rw append_assoc (activity_begins d owed (body_tokens more ++ ts) ∙ through_activity d (m.body ∷ owed) (body_tokens more ++ ts) ∙ through_body more owed ts)
+through_body (declaration d more) owed ts = rw append_assoc (declaration_begins d owed (body_tokens more ++ ts) ∙ through_declaration d (m.body ∷ owed) (body_tokens more ++ ts) ∙ through_body more owed ts)
 
 pub through_program : (r : ProgramReading) → fault (m.program ∷ []) (program_tokens r) ≡ None
 through_program (workflow at name_at x paren ps brace body) =

@@ -12,7 +12,7 @@ use Rattle.flow_base.specs.declared.syntax.Unary.TheVariants as unary
 use Rattle.flow_base.specs.declared.syntax.Binary.{Binary}
 use Rattle.flow_base.specs.declared.syntax.Binary.TheVariants as binary
 use Rattle.flow_model.specs.Lexeme.{Lexeme}
-use Rattle.flow_model.specs.Grammar.{parens, int, text, name, text_of, len_of, inner, negate, prim, term, no_factor, factor, sum, no_term, added, compare, no_side, compared, not, plain, conj, no_and, and, expr, no_or, or, no_argument, argument, last_argument, next_argument}
+use Rattle.flow_model.specs.Grammar.{parens, int, text, name, now, text_of, len_of, inner, negate, prim, term, no_factor, factor, sum, no_term, added, compare, no_side, compared, not, plain, conj, no_and, and, expr, no_or, or, no_argument, argument, last_argument, next_argument}
 use Rattle.flow_model.specs.Grammar.{marked, term_mark, sum_mark, compare_mark, compare_operator, parens_tokens, prim_tokens, unary_tokens, term_tokens, term_tail_tokens, sum_tokens, sum_tail_tokens, compare_tokens, neg_tokens, conj_tokens, conj_tail_tokens, expr_tokens, expr_tail_tokens, argument_tail_tokens, arguments_tokens, parens_of, prim_of, unary_of, term_of, factors_of, sum_of, added_of, compare_of, neg_of, conj_of, and_of, expr_of, or_of, argument_tail_of, arguments_of}
 use Rattle.flow_syntax.specs.Machine.{Symbol, takes, then_more, fault}
 use Rattle.flow_syntax.specs.Machine as m
@@ -28,7 +28,7 @@ abbrev pub IsExpr : List Lexeme → tree.Expression → List Lexeme → Type 0
 IsExpr ts x rest = Parsed m.expr expr_tokens expr_of ts x rest
 
 -- a token by its parts
-first_is : (t : Lexeme) (k : Word) (ts rest : List Lexeme) → ts ≡ t ∷ rest → t.word ≡ k → (let u : Lexeme = record { at = t.at; word = k } in u ∷ rest ≡ ts)
+pub first_is : (t : Lexeme) (k : Word) (ts rest : List Lexeme) → ts ≡ t ∷ rest → t.word ≡ k → (let u : Lexeme = record { at = t.at; word = k } in u ∷ rest ≡ ts)
 first_is t k ts rest h e = ap (λ j. let u : Lexeme = record { at = t.at; word = j } in u ∷ rest) (sym e) ∙ sym h
 
 pub prim_int : (t : Lexeme) (n : ℤ) (ts rest : List Lexeme) → ts ≡ t ∷ rest → t.word ≡ word.Int n → Parsed m.prim prim_tokens prim_of ts (tree.Number t.at n) rest
@@ -39,6 +39,9 @@ prim_text t x ts rest h k = (text t.at x, first_is t (word.Text x) ts rest h k, 
 
 pub prim_name : (t : Lexeme) (x : Bytes) (ts rest : List Lexeme) → ts ≡ t ∷ rest → t.word ≡ word.Name x → Parsed m.prim prim_tokens prim_of ts (tree.Variable t.at x) rest
 prim_name t x ts rest h k = (name t.at x, first_is t (word.Name x) ts rest h k, refl, λ owed. rw (h, k) refl)
+
+pub prim_now : (t : Lexeme) (ts rest : List Lexeme) → ts ≡ t ∷ rest → t.word ≡ word.Mark mark.Now → Parsed m.prim prim_tokens prim_of ts (tree.Now t.at) rest
+prim_now t ts rest h k = (now t.at, first_is t (word.Mark mark.Now) ts rest h k, refl, λ owed. rw (h, k) refl)
 
 pub open_is : (t : Lexeme) (ts rest : List Lexeme) → ts ≡ t ∷ rest → t.word ≡ word.Mark mark.Open → (owed : List Symbol) → fault (m.prim ∷ owed) ts ≡ fault (m.parens ∷ owed) ts
 open_is t ts rest h k owed = rw (h, k) refl

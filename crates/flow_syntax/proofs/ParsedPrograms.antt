@@ -1,5 +1,5 @@
 -- The same for statements, declarations and programs.
-use Rattle.std.proofs.Common.{◌≡◌, ◌∙◌, ℕ, suc, List, [], ◌∷◌, ◌++◌, Some, length, refl, ap, sym, append_assoc}
+use Rattle.std.proofs.Common.{◌≡◌, ◌∙◌, ℕ, ℤ, suc, List, [], ◌∷◌, ◌++◌, Some, length, refl, ap, sym, append_assoc}
 use Rattle.std.proofs.lemmas.List.{append-nil}
 use Rattle.flow_base.specs.Syntax as tree
 use Rattle.flow_base.specs.Syntax.{Bytes, once, block_of}
@@ -8,19 +8,23 @@ use Rattle.flow_base.specs.declared.token.Word.TheVariants as word
 use Rattle.flow_base.specs.declared.token.Mark.{Mark}
 use Rattle.flow_base.specs.declared.token.Mark.TheVariants as mark
 use Rattle.flow_base.specs.declared.value.Kind.TheVariants as kind
+use Rattle.flow_base.specs.declared.syntax.Retry.{Retry}
 use Rattle.flow_base.specs.declared.syntax.Parameter.{Parameter}
 use Rattle.flow_base.specs.declared.syntax.TypeAt.{TypeAt}
 use Rattle.flow_model.specs.Lexeme.{Lexeme}
-use Rattle.flow_model.specs.Grammar.{TypeReading, typed, no_type, type_, last_type, next_type, parameter, ParametersReading, no_parameter, parameter_, last_parameter, next_parameter, activity, value, call, let_, assign, return_, no_statement, statement, BodyReading, statements, declaration, workflow}
-use Rattle.flow_model.specs.Grammar.{marked, named, expr_tokens, arguments_tokens, type_tokens, type_tail_tokens, types_tokens, parameter_tokens, parameter_tail_tokens, parameters_tokens, declaration_tokens, side_tokens, statement_tokens, statements_tokens, body_tokens, arguments_of, type_of, kind_of, type_tail_of, types_of, parameter_of, parameter_tail_of, parameter_tail_end, parameters_end, declaration_of, side_of, statement_of, statements_of, statements_end, body_statements, declarations_of, program_of, Reads}
+use Rattle.flow_model.specs.Grammar.{TypeReading, typed, no_type, type_, last_type, next_type, parameter, ParametersReading, no_parameter, parameter_, last_parameter, next_parameter, activity, signal, no_retry, retry, value, call, wait, let_, assign, sleep, return_, fail, continue_, no_statement, statement, BodyReading, statements, declaration, workflow}
+use Rattle.flow_model.specs.Grammar.{marked, named, numbered, whole, expr_tokens, arguments_tokens, type_tokens, type_tail_tokens, types_tokens, parameter_tokens, parameter_tail_tokens, parameters_tokens, declaration_tokens, call_tail_tokens, side_tokens, statement_tokens, statements_tokens, body_tokens, arguments_of, type_of, kind_of, type_tail_of, types_of, parameter_of, parameter_tail_of, parameter_tail_end, parameters_end, declaration_of, retry_of, side_of, statement_of, statements_of, statements_end, body_statements, declarations_of, program_of, Reads}
 use Rattle.flow_syntax.specs.declared.fault.Stop.{Stop}
 use Rattle.flow_syntax.specs.declared.fault.Stop.TheVariants.{NoMemory, Unexpected}
 use Rattle.flow_syntax.specs.Machine.{Symbol, takes, then_more, fault, fault_by, step}
 use Rattle.flow_syntax.specs.Machine as m
-use Rattle.flow_syntax.specs.Parsing.{Parsed, StopsAt, StopsProgram, Lacks, both_of, end_of, whole_body_of}
-use Rattle.flow_syntax.proofs.Steps.{Same, Alike, is_then, is_alike, types_same, parameters_same, side_same, statements_same, body_alike}
+use Rattle.flow_syntax.specs.Parsing.{Parsed, StopsAt, StopsProgram, IsNoMark, LacksMark, Lacks, IsNumber, Declares, both_of, end_of, whole_body_of}
+use Rattle.flow_syntax.proofs.Steps.{Same, Alike, is_then, is_alike, types_same, parameters_same, call_tail_alike, side_same, statements_same, body_alike}
 use Rattle.flow_syntax.proofs.Parsed.{SoFar, so_begins, so_more, so_next}
-use Rattle.flow_syntax.proofs.ParsedExpressions.{Marked, IsExpr}
+use Rattle.flow_syntax.proofs.ParsedExpressions.{Marked, IsExpr, first_is}
+
+pub number_read : (t : Lexeme) (n : ℤ) (count : ℕ) (ts rest : List Lexeme) → ts ≡ t ∷ rest → t.word ≡ word.Int n → count ≡ whole n → IsNumber ts t.at count rest
+number_read t n count ts rest h k e = (n, sym (first_is t (word.Int n) ts rest h k), sym e)
 
 abbrev pub IsType : List Lexeme → TypeAt → List Lexeme → Type 0
 IsType ts t rest = Parsed m.type_ type_tokens type_of ts t rest
@@ -90,7 +94,7 @@ parameters_close at ts rest end xs so f h = let r = so (last_parameter at) end (
 same_kind : (r : TypeReading) (t : TypeAt) → type_of r ≡ t → kind_of r ≡ t.kind
 same_kind (typed a k) t h = ap (λ (v : TypeAt). v.kind) h
 
-pub activity_parsed : (at name_at paren arrow end_at : ℕ) (x : Bytes) (ts r1 r2 r3 r4 r5 end : List Lexeme) (xs : List TypeAt) (t : TypeAt) → ts ≡ named name_at x ∷ r1 → Marked mark.Open r1 paren r2 → Parsed m.types types_tokens types_of r2 xs r3 → Marked mark.Arrow r3 arrow r4 → IsType r4 t r5 → Marked mark.Semicolon r5 end_at end → Parsed m.activity declaration_tokens declaration_of (marked at mark.Activity ∷ ts) (tree.Activity at name_at x xs t.kind) end
+pub activity_parsed : (at name_at paren arrow end_at : ℕ) (x : Bytes) (ts r1 r2 r3 r4 r5 end : List Lexeme) (xs : List TypeAt) (t : TypeAt) → ts ≡ named name_at x ∷ r1 → Marked mark.Open r1 paren r2 → Parsed m.types types_tokens types_of r2 xs r3 → Marked mark.Arrow r3 arrow r4 → IsType r4 t r5 → Marked mark.Semicolon r5 end_at end → Parsed m.declaration declaration_tokens declaration_of (marked at mark.Activity ∷ ts) (tree.Activity at name_at x xs t.kind) end
 activity_parsed at name_at paren arrow end_at x ts r1 r2 r3 r4 r5 end xs t h p q r u v = (
   activity at name_at x p.0 q.0 r.0 u.0 v.0,
   ap (λ y. marked at mark.Activity ∷ named name_at x ∷ marked p.0 mark.Open ∷ y) (
@@ -100,6 +104,15 @@ activity_parsed at name_at paren arrow end_at x ts r1 r2 r3 r4 r5 end xs t h p q
       ∙ ap (λ y. marked at mark.Activity ∷ named name_at x ∷ y) p.1 ∙ ap (λ y. marked at mark.Activity ∷ y) (sym h),
   ap (λ ys. tree.Activity at name_at x ys (kind_of u.0)) q.2 ∙ ap (tree.Activity at name_at x xs) (same_kind u.0 t u.2),
   λ owed. rw h (p.3 (m.types ∷ m.sign mark.Arrow ∷ m.type_ ∷ m.sign mark.Semicolon ∷ owed) ∙ q.3 (m.sign mark.Arrow ∷ m.type_ ∷ m.sign mark.Semicolon ∷ owed) ∙ r.3 (m.type_ ∷ m.sign mark.Semicolon ∷ owed) ∙ u.3 (m.sign mark.Semicolon ∷ owed) ∙ v.3 owed),
+)
+
+pub signal_parsed : (at name_at colon end_at : ℕ) (x : Bytes) (ts r1 r2 r3 end : List Lexeme) (t : TypeAt) → ts ≡ named name_at x ∷ r1 → Marked mark.Colon r1 colon r2 → IsType r2 t r3 → Marked mark.Semicolon r3 end_at end → Parsed m.declaration declaration_tokens declaration_of (marked at mark.Signal ∷ ts) (tree.Signal at name_at x t.kind) end
+signal_parsed at name_at colon end_at x ts r1 r2 r3 end t h p q r = (
+  signal at name_at x p.0 q.0 r.0,
+  ap (λ y. marked at mark.Signal ∷ named name_at x ∷ marked p.0 mark.Colon ∷ y) (append_assoc (type_tokens q.0) (marked r.0 mark.Semicolon ∷ []) end ∙ ap (λ y. type_tokens q.0 ++ y) r.1 ∙ q.1)
+      ∙ ap (λ y. marked at mark.Signal ∷ named name_at x ∷ y) p.1 ∙ ap (λ y. marked at mark.Signal ∷ y) (sym h),
+  ap (tree.Signal at name_at x) (same_kind q.0 t q.2),
+  λ owed. rw h (p.3 (m.type_ ∷ m.sign mark.Semicolon ∷ owed) ∙ q.3 (m.sign mark.Semicolon ∷ owed) ∙ r.3 owed),
 )
 
 -- statements
@@ -120,26 +133,78 @@ return_parsed at end_at ts r3 end e q r = (
   λ owed. q.3 (m.sign mark.Semicolon ∷ owed) ∙ r.3 owed,
 )
 
+pub sleep_parsed : (at end_at : ℕ) (ts r3 end : List Lexeme) (e : tree.Expression) → IsExpr ts e r3 → Marked mark.Semicolon r3 end_at end → Parsed m.statement statement_tokens statement_of (marked at mark.Sleep ∷ ts) (tree.Sleep at e) end
+sleep_parsed at end_at ts r3 end e q r = (
+  sleep at q.0 r.0,
+  ap (λ y. marked at mark.Sleep ∷ y) (append_assoc (expr_tokens q.0) (marked r.0 mark.Semicolon ∷ []) end ∙ ap (λ y. expr_tokens q.0 ++ y) r.1 ∙ q.1),
+  ap (tree.Sleep at) q.2,
+  λ owed. q.3 (m.sign mark.Semicolon ∷ owed) ∙ r.3 owed,
+)
+
+pub fail_parsed : (at end_at : ℕ) (ts r3 end : List Lexeme) (e : tree.Expression) → IsExpr ts e r3 → Marked mark.Semicolon r3 end_at end → Parsed m.statement statement_tokens statement_of (marked at mark.Fail ∷ ts) (tree.FailWith at e) end
+fail_parsed at end_at ts r3 end e q r = (
+  fail at q.0 r.0,
+  ap (λ y. marked at mark.Fail ∷ y) (append_assoc (expr_tokens q.0) (marked r.0 mark.Semicolon ∷ []) end ∙ ap (λ y. expr_tokens q.0 ++ y) r.1 ∙ q.1),
+  ap (tree.FailWith at) q.2,
+  λ owed. q.3 (m.sign mark.Semicolon ∷ owed) ∙ r.3 owed,
+)
+
+pub continue_parsed : (at as_at new_at paren end_at : ℕ) (ts r1 r2 r3 r4 end : List Lexeme) (es : List tree.Expression) → Marked mark.As ts as_at r1 → Marked mark.New r1 new_at r2 → Marked mark.Open r2 paren r3 → Parsed m.arguments arguments_tokens arguments_of r3 es r4 → Marked mark.Semicolon r4 end_at end → Parsed m.statement statement_tokens statement_of (marked at mark.Continue ∷ ts) (tree.Continue at es) end
+continue_parsed at as_at new_at paren end_at ts r1 r2 r3 r4 end es p q r u v = (
+  continue_ at p.0 q.0 r.0 u.0 v.0,
+  ap (λ y. marked at mark.Continue ∷ y) (ap (λ y. marked p.0 mark.As ∷ y) (ap (λ y. marked q.0 mark.New ∷ y) (ap (λ y. marked r.0 mark.Open ∷ y) (append_assoc (arguments_tokens u.0) (marked v.0 mark.Semicolon ∷ []) end ∙ ap (λ y. arguments_tokens u.0 ++ y) v.1 ∙ u.1) ∙ r.1) ∙ q.1) ∙ p.1),
+  ap (tree.Continue at) u.2,
+  λ owed. p.3 (m.sign mark.New ∷ m.sign mark.Open ∷ m.arguments ∷ m.sign mark.Semicolon ∷ owed) ∙ q.3 (m.sign mark.Open ∷ m.arguments ∷ m.sign mark.Semicolon ∷ owed) ∙ r.3 (m.arguments ∷ m.sign mark.Semicolon ∷ owed) ∙ u.3 (m.sign mark.Semicolon ∷ owed) ∙ v.3 owed,
+)
+
+-- behind the arguments of a call
+
+abbrev pub IsCallTail : List Lexeme → Retry → List Lexeme → Type 0
+IsCallTail ts r end = Parsed m.call_tail call_tail_tokens retry_of ts r end
+
+pub retry_parsed : (at tries_at tries every every_at pause end_at : ℕ) (ts r1 r2 r3 end : List Lexeme) → IsNumber ts tries_at tries r1 → Marked mark.Every r1 every r2 → IsNumber r2 every_at pause r3 → Marked mark.Semicolon r3 end_at end → IsCallTail (marked at mark.Retry ∷ ts) (record { tries_at = tries_at; tries = tries; every_at = every_at; every = pause }) end
+retry_parsed at tries_at tries every every_at pause end_at ts r1 r2 r3 end p q r u = (
+  retry at tries_at p.0 q.0 every_at r.0 u.0,
+  ap (λ y. marked at mark.Retry ∷ y) (ap (λ y. numbered tries_at p.0 ∷ y) (ap (λ y. marked q.0 mark.Every ∷ y) (ap (λ y. numbered every_at r.0 ∷ y) u.1 ∙ sym r.1) ∙ q.1) ∙ sym p.1),
+  ap (λ (n : ℕ). let v : Retry = record { tries_at = tries_at; tries = n; every_at = every_at; every = whole r.0 } in v) p.2
+      ∙ ap (λ (n : ℕ). let v : Retry = record { tries_at = tries_at; tries = tries; every_at = every_at; every = n } in v) r.2,
+  λ owed. ap (fault (m.number ∷ m.sign mark.Every ∷ m.number ∷ m.sign mark.Semicolon ∷ owed)) p.1 ∙ q.3 (m.number ∷ m.sign mark.Semicolon ∷ owed) ∙ ap (fault (m.number ∷ m.sign mark.Semicolon ∷ owed)) r.1 ∙ u.3 owed,
+)
+
+pub call_tail_is : (owed : List Symbol) (ts : List Lexeme) → Lacks mark.Retry ts → fault (m.call_tail ∷ owed) ts ≡ fault (m.sign mark.Semicolon ∷ owed) ts
+call_tail_is owed ts h = is_alike (m.sign mark.Semicolon) m.call_tail refl refl owed ts (call_tail_alike ts h)
+
+pub once_parsed : (end_at : ℕ) (ts end : List Lexeme) → Lacks mark.Retry ts → Marked mark.Semicolon ts end_at end → IsCallTail ts once end
+once_parsed end_at ts end h p = (no_retry p.0, p.1, refl, λ owed. call_tail_is owed ts h ∙ p.3 owed)
+
 abbrev pub IsSide : ℕ → Bytes → List Lexeme → tree.Statement → List Lexeme → Type 0
 IsSide at x ts s end = Parsed m.side side_tokens (side_of at x) ts s end
 
-pub call_parsed : (at call_at name_at paren end_at : ℕ) (x a : Bytes) (ts r1 r2 r3 end : List Lexeme) (es : List tree.Expression) → ts ≡ named name_at a ∷ r1 → Marked mark.Open r1 paren r2 → Parsed m.arguments arguments_tokens arguments_of r2 es r3 → Marked mark.Semicolon r3 end_at end → IsSide at x (marked call_at mark.Call ∷ ts) (tree.Call at x name_at a es once tree.NoElse) end
-call_parsed at call_at name_at paren end_at x a ts r1 r2 r3 end es h p q r = (
+pub call_parsed : (at call_at name_at paren : ℕ) (x a : Bytes) (ts r1 r2 r3 end : List Lexeme) (es : List tree.Expression) (z : Retry) → ts ≡ named name_at a ∷ r1 → Marked mark.Open r1 paren r2 → Parsed m.arguments arguments_tokens arguments_of r2 es r3 → IsCallTail r3 z end → IsSide at x (marked call_at mark.Call ∷ ts) (tree.Call at x name_at a es z tree.NoElse) end
+call_parsed at call_at name_at paren x a ts r1 r2 r3 end es z h p q r = (
   call call_at name_at a p.0 q.0 r.0,
-  ap (λ y. marked call_at mark.Call ∷ y) (ap (λ y. named name_at a ∷ y) (ap (λ y. marked p.0 mark.Open ∷ y) (append_assoc (arguments_tokens q.0) (marked r.0 mark.Semicolon ∷ []) end ∙ ap (λ y. arguments_tokens q.0 ++ y) r.1 ∙ q.1) ∙ p.1) ∙ sym h),
-  ap (λ ys. tree.Call at x name_at a ys once tree.NoElse) q.2,
-  λ owed. rw h (p.3 (m.arguments ∷ m.sign mark.Semicolon ∷ owed) ∙ q.3 (m.sign mark.Semicolon ∷ owed) ∙ r.3 owed),
+  ap (λ y. marked call_at mark.Call ∷ y) (ap (λ y. named name_at a ∷ y) (ap (λ y. marked p.0 mark.Open ∷ y) (append_assoc (arguments_tokens q.0) (call_tail_tokens r.0) end ∙ ap (λ y. arguments_tokens q.0 ++ y) r.1 ∙ q.1) ∙ p.1) ∙ sym h),
+  ap (λ ys. tree.Call at x name_at a ys (retry_of r.0) tree.NoElse) q.2 ∙ ap (λ v. tree.Call at x name_at a es v tree.NoElse) r.2,
+  λ owed. rw h (p.3 (m.arguments ∷ m.call_tail ∷ owed) ∙ q.3 (m.call_tail ∷ owed) ∙ r.3 owed),
 )
 
-pub side_is : (owed : List Symbol) (ts : List Lexeme) → Lacks mark.Call ts → fault (m.side ∷ owed) ts ≡ fault (m.expr ∷ m.sign mark.Semicolon ∷ owed) ts
-side_is owed ts h = is_then m.expr m.side (m.sign mark.Semicolon ∷ []) refl refl owed ts (side_same ts h)
+pub wait_parsed : (at wait_at signal_at name_at end_at : ℕ) (x n : Bytes) (ts r1 r2 end : List Lexeme) → Marked mark.Signal ts signal_at r1 → r1 ≡ named name_at n ∷ r2 → Marked mark.Semicolon r2 end_at end → IsSide at x (marked wait_at mark.Wait ∷ ts) (tree.WaitSignal at x name_at n) end
+wait_parsed at wait_at signal_at name_at end_at x n ts r1 r2 end p h q = (
+  wait wait_at p.0 name_at n q.0,
+  ap (λ y. marked wait_at mark.Wait ∷ y) (ap (λ y. marked p.0 mark.Signal ∷ y) (ap (λ y. named name_at n ∷ y) q.1 ∙ sym h) ∙ p.1),
+  refl,
+  λ owed. p.3 (m.name ∷ m.sign mark.Semicolon ∷ owed) ∙ ap (fault (m.name ∷ m.sign mark.Semicolon ∷ owed)) h ∙ q.3 owed,
+)
 
-pub value_parsed : (at end_at : ℕ) (x : Bytes) (ts r1 end : List Lexeme) (e : tree.Expression) → Lacks mark.Call ts → IsExpr ts e r1 → Marked mark.Semicolon r1 end_at end → IsSide at x ts (tree.Assign at x e) end
-value_parsed at end_at x ts r1 end e h q r = (
+pub side_is : (owed : List Symbol) (ts : List Lexeme) → Lacks mark.Call ts → Lacks mark.Wait ts → fault (m.side ∷ owed) ts ≡ fault (m.expr ∷ m.sign mark.Semicolon ∷ owed) ts
+side_is owed ts g h = is_then m.expr m.side (m.sign mark.Semicolon ∷ []) refl refl owed ts (side_same ts g h)
+
+pub value_parsed : (at end_at : ℕ) (x : Bytes) (ts r1 end : List Lexeme) (e : tree.Expression) → Lacks mark.Call ts → Lacks mark.Wait ts → IsExpr ts e r1 → Marked mark.Semicolon r1 end_at end → IsSide at x ts (tree.Assign at x e) end
+value_parsed at end_at x ts r1 end e g h q r = (
   value q.0 r.0,
   append_assoc (expr_tokens q.0) (marked r.0 mark.Semicolon ∷ []) end ∙ ap (λ y. expr_tokens q.0 ++ y) r.1 ∙ q.1,
   ap (tree.Assign at x) q.2,
-  λ owed. side_is owed ts h ∙ q.3 (m.sign mark.Semicolon ∷ owed) ∙ r.3 owed,
+  λ owed. side_is owed ts g h ∙ q.3 (m.sign mark.Semicolon ∷ owed) ∙ r.3 owed,
 )
 
 pub assign_parsed : (at eq : ℕ) (x : Bytes) (ts r1 r2 end : List Lexeme) (s : tree.Statement) → ts ≡ named at x ∷ r1 → Marked mark.Assign r1 eq r2 → IsSide at x r2 s end → Parsed m.statement statement_tokens statement_of ts s end
@@ -188,20 +253,29 @@ BodySoFar ts ds rest = SoFar body_tokens body_tokens whole_body_of (λ more. (ds
 pub body_begins : (ts : List Lexeme) → BodySoFar ts [] ts
 body_begins ts = λ more end h. (more, h, refl)
 
-activity_same : (k : Word) → k ≡ word.Mark mark.Activity → takes m.body k ≡ then_more (takes m.activity k) (m.body ∷ [])
-activity_same k h = rw h refl
+abbrev pub IsDeclaration : List Lexeme → tree.Declared → List Lexeme → Type 0
+IsDeclaration ts d rest = Parsed m.declaration declaration_tokens declaration_of ts d rest
 
-pub body_step : (at : ℕ) (rest after : List Lexeme) → rest ≡ marked at mark.Activity ∷ after → (owed : List Symbol) → fault (m.body ∷ owed) rest ≡ fault (m.activity ∷ m.body ∷ owed) rest
-body_step at rest after h owed = rw h refl
+pub activity_step : (at : ℕ) (ts after : List Lexeme) → ts ≡ marked at mark.Activity ∷ after → (owed : List Symbol) → fault (m.body ∷ owed) ts ≡ fault (m.declaration ∷ m.body ∷ owed) (marked at mark.Activity ∷ after)
+activity_step at ts after h owed = rw h refl
 
-pub body_more : (ts rest next : List Lexeme) (ds : List tree.Declared) (d : tree.Declared) → BodySoFar ts ds rest → Parsed m.activity declaration_tokens declaration_of rest d next → BodySoFar ts (ds ++ (d ∷ [])) next
-body_more ts rest next ds d so p = so_next m.activity declaration_tokens declaration_of body_tokens body_tokens whole_body_of (λ zs more. (zs ++ declarations_of more, end_of (body_statements more))) (λ zs v. zs ++ (v ∷ [])) declaration (λ q more. refl) ds (λ q more. ap (λ zs. (zs, end_of (body_statements more))) (sym (append_assoc ds (declaration_of q ∷ []) (declarations_of more)))) ts rest next d so p
+pub signal_step : (at : ℕ) (ts after : List Lexeme) → ts ≡ marked at mark.Signal ∷ after → (owed : List Symbol) → fault (m.body ∷ owed) ts ≡ fault (m.declaration ∷ m.body ∷ owed) (marked at mark.Signal ∷ after)
+signal_step at ts after h owed = rw h refl
 
-pub body_is : (owed : List Symbol) (ts : List Lexeme) → Lacks mark.Activity ts → fault (m.body ∷ owed) ts ≡ fault (m.statements ∷ owed) ts
-body_is owed ts h = is_alike m.statements m.body refl refl owed ts (body_alike ts h)
+pub activity_declares : (at : ℕ) (ts after rest : List Lexeme) (d : tree.Declared) → ts ≡ marked at mark.Activity ∷ after → IsDeclaration (marked at mark.Activity ∷ after) d rest → Declares ts d rest
+activity_declares at ts after rest d h p = rw h (p, λ owed. refl)
 
-pub body_ends : (ts rest end : List Lexeme) (ds : List tree.Declared) (b : tree.Block) (at : ℕ) → BodySoFar ts ds rest → ((owed : List Symbol) → fault (m.body ∷ owed) ts ≡ fault (m.body ∷ owed) rest) → Lacks mark.Activity rest → Parsed m.statements statements_tokens end_of rest (b, at) end → Parsed m.body body_tokens whole_body_of ts (ds, (b, at)) end
-body_ends ts rest end ds b at so f h p = let r = so (statements p.0) end p.1 in (r.0, r.1, r.2 ∙ ap (λ zs. (zs, end_of p.0)) (append-nil ds) ∙ ap (λ z. (ds, z)) p.2, λ owed. f owed ∙ body_is owed rest h ∙ p.3 owed)
+pub signal_declares : (at : ℕ) (ts after rest : List Lexeme) (d : tree.Declared) → ts ≡ marked at mark.Signal ∷ after → IsDeclaration (marked at mark.Signal ∷ after) d rest → Declares ts d rest
+signal_declares at ts after rest d h p = rw h (p, λ owed. refl)
+
+pub body_more : (ts rest next : List Lexeme) (ds : List tree.Declared) (d : tree.Declared) → BodySoFar ts ds rest → IsDeclaration rest d next → BodySoFar ts (ds ++ (d ∷ [])) next
+body_more ts rest next ds d so p = so_next m.declaration declaration_tokens declaration_of body_tokens body_tokens whole_body_of (λ zs more. (zs ++ declarations_of more, end_of (body_statements more))) (λ zs v. zs ++ (v ∷ [])) declaration (λ q more. refl) ds (λ q more. ap (λ zs. (zs, end_of (body_statements more))) (sym (append_assoc ds (declaration_of q ∷ []) (declarations_of more)))) ts rest next d so p
+
+pub body_is : (owed : List Symbol) (ts : List Lexeme) → Lacks mark.Activity ts → Lacks mark.Signal ts → fault (m.body ∷ owed) ts ≡ fault (m.statements ∷ owed) ts
+body_is owed ts g h = is_alike m.statements m.body refl refl owed ts (body_alike ts g h)
+
+pub body_ends : (ts rest end : List Lexeme) (ds : List tree.Declared) (b : tree.Block) (at : ℕ) → BodySoFar ts ds rest → ((owed : List Symbol) → fault (m.body ∷ owed) ts ≡ fault (m.body ∷ owed) rest) → Lacks mark.Activity rest → Lacks mark.Signal rest → Parsed m.statements statements_tokens end_of rest (b, at) end → Parsed m.body body_tokens whole_body_of ts (ds, (b, at)) end
+body_ends ts rest end ds b at so f g h p = let r = so (statements p.0) end p.1 in (r.0, r.1, r.2 ∙ ap (λ zs. (zs, end_of p.0)) (append-nil ds) ∙ ap (λ z. (ds, z)) p.2, λ owed. f owed ∙ body_is owed rest g h ∙ p.3 owed)
 
 -- programs
 
@@ -286,15 +360,14 @@ parameter_same (t ∷ ts) = colon_same t.word
 pub parameter_is : (owed : List Symbol) (ts : List Lexeme) → fault (m.parameter ∷ owed) ts ≡ fault (m.name ∷ m.sign mark.Colon ∷ m.type_ ∷ owed) ts
 parameter_is owed ts = is_then m.name m.parameter (m.sign mark.Colon ∷ m.type_ ∷ []) refl refl owed ts (parameter_same ts)
 
-not_keyword : (k : Word) → (k ≡ word.Mark mark.Let → ⊥) → (k ≡ word.Mark mark.Return → ⊥) → takes m.statement k ≡ then_more (takes m.name k) (m.sign mark.Assign ∷ m.side ∷ [])
-not_keyword (word.Mark mark.Let) g h = absurd (g refl)
-not_keyword (word.Mark mark.Return) g h = absurd (h refl)
-not_keyword (word.Name x) g h = refl
-not_keyword _ g h = refl
+no_keyword : (k : Word) → IsNoMark k → takes m.statement k ≡ then_more (takes m.name k) (m.sign mark.Assign ∷ m.side ∷ [])
+no_keyword (word.Mark k) h = absurd h
+no_keyword (word.Name x) h = refl
+no_keyword _ h = refl
 
-statement_same : (ts : List Lexeme) → Lacks mark.Let ts → Lacks mark.Return ts → Same m.name m.statement (m.sign mark.Assign ∷ m.side ∷ []) ts
-statement_same [] g h = tt
-statement_same (t ∷ ts) g h = not_keyword t.word g h
+statement_same : (ts : List Lexeme) → LacksMark ts → Same m.name m.statement (m.sign mark.Assign ∷ m.side ∷ []) ts
+statement_same [] h = tt
+statement_same (t ∷ ts) h = no_keyword t.word h
 
-pub statement_is : (owed : List Symbol) (ts : List Lexeme) → Lacks mark.Let ts → Lacks mark.Return ts → fault (m.statement ∷ owed) ts ≡ fault (m.name ∷ m.sign mark.Assign ∷ m.side ∷ owed) ts
-statement_is owed ts g h = is_then m.name m.statement (m.sign mark.Assign ∷ m.side ∷ []) refl refl owed ts (statement_same ts g h)
+pub statement_is : (owed : List Symbol) (ts : List Lexeme) → LacksMark ts → fault (m.statement ∷ owed) ts ≡ fault (m.name ∷ m.sign mark.Assign ∷ m.side ∷ owed) ts
+statement_is owed ts h = is_then m.name m.statement (m.sign mark.Assign ∷ m.side ∷ []) refl refl owed ts (statement_same ts h)

@@ -1,5 +1,5 @@
 -- What the machine still owes can be written, and then stands for a reading.
-use Rattle.std.proofs.Common.{◌≡◌, ◌∙◌, ℕ, Bool, true, false, cond, List, [], ◌∷◌, ◌++◌, Option, Some, None, refl, ap, sym, append_assoc, get_or, eqb-true}
+use Rattle.std.proofs.Common.{◌≡◌, ◌∙◌, ℕ, ℤ, Bool, true, false, cond, List, [], ◌∷◌, ◌++◌, Option, Some, None, refl, ap, sym, append_assoc, get_or, eqb-true}
 use Rattle.std.proofs.lemmas.List.{append-nil}
 use Rattle.flow_base.specs.Syntax.{Bytes}
 use Rattle.flow_base.specs.declared.token.Word.{Word}
@@ -8,14 +8,16 @@ use Rattle.flow_base.specs.declared.token.Mark.{Mark}
 use Rattle.flow_base.specs.declared.token.Mark.TheVariants as mark
 use Rattle.flow_base.specs.declared.value.Kind.TheVariants as kind
 use Rattle.flow_model.specs.Lexeme.{Lexeme}
-use Rattle.flow_model.specs.Grammar.{times, over, percent, plus, minus, join, equal, differ, less, at_most, greater, at_least, ParensReading, parens, PrimReading, int, text, name, text_of, len_of, inner, UnaryReading, negate, prim, TermReading, term, TermTail, factor, SumReading, sum, SumTail, added, CompareReading, compare, CompareTail, compared, NegReading, not, plain, ConjReading, conj, ConjTail, and, ExprReading, expr, ExprTail, or, ArgumentsReading, no_argument, argument, ArgumentTail, last_argument, next_argument, TypeReading, typed, TypesReading, no_type, type_, TypeTail, last_type, next_type, ParameterReading, parameter, ParametersReading, no_parameter, parameter_, ParameterTail, last_parameter, next_parameter, DeclarationReading, activity, SideReading, value, call, StatementReading, let_, assign, return_, StatementsReading, no_statement, statement, BodyReading, statements, declaration, ProgramReading, workflow}
-use Rattle.flow_model.specs.Grammar.{marked, named, parens_tokens, prim_tokens, unary_tokens, term_tokens, term_tail_tokens, sum_tokens, sum_tail_tokens, compare_tokens, compare_tail_tokens, neg_tokens, conj_tokens, conj_tail_tokens, expr_tokens, expr_tail_tokens, argument_tail_tokens, arguments_tokens, type_tokens, type_tail_tokens, types_tokens, parameter_tokens, parameter_tail_tokens, parameters_tokens, declaration_tokens, side_tokens, statement_tokens, statements_tokens, body_tokens, program_tokens}
-use Rattle.flow_syntax.specs.Machine.{Symbol, takes, then_more, prim_takes, unary_takes, term_takes, sum_takes, compare_takes, neg_takes, conj_takes, expr_takes, arguments_takes, type_takes, types_takes, parameter_takes, parameters_takes, side_takes, statement_takes, statements_takes, activity_takes, body_takes, number, is_mark}
+use Rattle.flow_model.specs.Grammar.{times, over, percent, plus, minus, join, equal, differ, less, at_most, greater, at_least, ParensReading, parens, PrimReading, int, text, name, text_of, len_of, inner, UnaryReading, negate, prim, TermReading, term, TermTail, factor, SumReading, sum, SumTail, added, CompareReading, compare, CompareTail, compared, NegReading, not, plain, ConjReading, conj, ConjTail, and, ExprReading, expr, ExprTail, or, ArgumentsReading, no_argument, argument, ArgumentTail, last_argument, next_argument, TypeReading, typed, TypesReading, no_type, type_, TypeTail, last_type, next_type, ParameterReading, parameter, ParametersReading, no_parameter, parameter_, ParameterTail, last_parameter, next_parameter, DeclarationReading, activity, signal, CallTail, no_retry, retry, SideReading, value, call, wait, StatementReading, let_, assign, sleep, return_, fail, continue_, StatementsReading, no_statement, statement, BodyReading, statements, declaration, ProgramReading, workflow}
+use Rattle.flow_model.specs.Grammar as reading
+use Rattle.flow_model.specs.Grammar.{marked, named, numbered, parens_tokens, prim_tokens, unary_tokens, term_tokens, term_tail_tokens, sum_tokens, sum_tail_tokens, compare_tokens, compare_tail_tokens, neg_tokens, conj_tokens, conj_tail_tokens, expr_tokens, expr_tail_tokens, argument_tail_tokens, arguments_tokens, type_tokens, type_tail_tokens, types_tokens, parameter_tokens, parameter_tail_tokens, parameters_tokens, declaration_tokens, call_tail_tokens, side_tokens, statement_tokens, statements_tokens, body_tokens, program_tokens}
+use Rattle.flow_syntax.specs.Machine.{Symbol, takes, then_more, prim_takes, unary_takes, term_takes, sum_takes, compare_takes, neg_takes, conj_takes, expr_takes, arguments_takes, type_takes, types_takes, parameter_takes, parameters_takes, call_tail_takes, side_takes, statement_takes, statements_takes, declaration_takes, body_takes, mark_number, is_mark}
 use Rattle.flow_syntax.specs.Machine as m
 
 -- what may stand for a symbol
 abbrev pub Reading : Symbol → Type 0
 Reading m.name = ℕ × Bytes
+Reading m.number = ℕ × ℤ
 Reading (m.sign _) = ℕ
 Reading m.parens = ParensReading
 Reading m.prim = PrimReading
@@ -39,7 +41,8 @@ Reading m.more_types = TypeTail
 Reading m.parameter = ParameterReading
 Reading m.parameters = ParametersReading
 Reading m.more_parameters = ParameterTail
-Reading m.activity = DeclarationReading
+Reading m.declaration = DeclarationReading
+Reading m.call_tail = CallTail
 Reading m.side = SideReading
 Reading m.statement = StatementReading
 Reading m.statements = StatementsReading
@@ -48,6 +51,7 @@ Reading m.program = ProgramReading
 
 abbrev pub spelled : (s : Symbol) → Reading s → List Lexeme
 spelled m.name x = named x.0 x.1 ∷ []
+spelled m.number n = numbered n.0 n.1 ∷ []
 spelled (m.sign k) at = marked at k ∷ []
 spelled m.parens r = parens_tokens r
 spelled m.prim r = prim_tokens r
@@ -71,7 +75,8 @@ spelled m.more_types r = type_tail_tokens r
 spelled m.parameter r = parameter_tokens r
 spelled m.parameters r = parameters_tokens r
 spelled m.more_parameters r = parameter_tail_tokens r
-spelled m.activity r = declaration_tokens r
+spelled m.declaration r = declaration_tokens r
+spelled m.call_tail r = call_tail_tokens r
 spelled m.side r = side_tokens r
 spelled m.statement r = statement_tokens r
 spelled m.statements r = statements_tokens r
@@ -95,58 +100,58 @@ Comes s t (Some now) = (rs : Readings now) → (r : Reading s) × (spelled s r �
 abbrev by_number : List Mark
 by_number = mark.Workflow ∷ mark.Activity ∷ mark.Signal ∷ mark.Let ∷ mark.If ∷ mark.Else ∷ mark.While ∷ mark.Call ∷ mark.Retry ∷ mark.Every ∷ mark.Sleep ∷ mark.Wait ∷ mark.For ∷ mark.Parallel ∷ mark.Patch ∷ mark.Return ∷ mark.Fail ∷ mark.Continue ∷ mark.As ∷ mark.New ∷ mark.Int ∷ mark.Text ∷ mark.Len ∷ mark.Now ∷ mark.And ∷ mark.Or ∷ mark.Not ∷ mark.Open ∷ mark.Close ∷ mark.BraceOpen ∷ mark.BraceClose ∷ mark.Comma ∷ mark.Semicolon ∷ mark.Colon ∷ mark.Assign ∷ mark.Equal ∷ mark.Differ ∷ mark.Less ∷ mark.AtMost ∷ mark.Greater ∷ mark.AtLeast ∷ mark.Arrow ∷ mark.Plus ∷ mark.Join ∷ mark.Minus ∷ mark.Times ∷ mark.Over ∷ mark.Percent ∷ []
 
-numbered : (m : Mark) → get_or by_number (number m) mark.Workflow ≡ m
-numbered mark.Workflow = refl
-numbered mark.Activity = refl
-numbered mark.Signal = refl
-numbered mark.Let = refl
-numbered mark.If = refl
-numbered mark.Else = refl
-numbered mark.While = refl
-numbered mark.Call = refl
-numbered mark.Retry = refl
-numbered mark.Every = refl
-numbered mark.Sleep = refl
-numbered mark.Wait = refl
-numbered mark.For = refl
-numbered mark.Parallel = refl
-numbered mark.Patch = refl
-numbered mark.Return = refl
-numbered mark.Fail = refl
-numbered mark.Continue = refl
-numbered mark.As = refl
-numbered mark.New = refl
-numbered mark.Int = refl
-numbered mark.Text = refl
-numbered mark.Len = refl
-numbered mark.Now = refl
-numbered mark.And = refl
-numbered mark.Or = refl
-numbered mark.Not = refl
-numbered mark.Open = refl
-numbered mark.Close = refl
-numbered mark.BraceOpen = refl
-numbered mark.BraceClose = refl
-numbered mark.Comma = refl
-numbered mark.Semicolon = refl
-numbered mark.Colon = refl
-numbered mark.Assign = refl
-numbered mark.Equal = refl
-numbered mark.Differ = refl
-numbered mark.Less = refl
-numbered mark.AtMost = refl
-numbered mark.Greater = refl
-numbered mark.AtLeast = refl
-numbered mark.Arrow = refl
-numbered mark.Plus = refl
-numbered mark.Join = refl
-numbered mark.Minus = refl
-numbered mark.Times = refl
-numbered mark.Over = refl
-numbered mark.Percent = refl
+is_numbered : (m : Mark) → get_or by_number (mark_number m) mark.Workflow ≡ m
+is_numbered mark.Workflow = refl
+is_numbered mark.Activity = refl
+is_numbered mark.Signal = refl
+is_numbered mark.Let = refl
+is_numbered mark.If = refl
+is_numbered mark.Else = refl
+is_numbered mark.While = refl
+is_numbered mark.Call = refl
+is_numbered mark.Retry = refl
+is_numbered mark.Every = refl
+is_numbered mark.Sleep = refl
+is_numbered mark.Wait = refl
+is_numbered mark.For = refl
+is_numbered mark.Parallel = refl
+is_numbered mark.Patch = refl
+is_numbered mark.Return = refl
+is_numbered mark.Fail = refl
+is_numbered mark.Continue = refl
+is_numbered mark.As = refl
+is_numbered mark.New = refl
+is_numbered mark.Int = refl
+is_numbered mark.Text = refl
+is_numbered mark.Len = refl
+is_numbered mark.Now = refl
+is_numbered mark.And = refl
+is_numbered mark.Or = refl
+is_numbered mark.Not = refl
+is_numbered mark.Open = refl
+is_numbered mark.Close = refl
+is_numbered mark.BraceOpen = refl
+is_numbered mark.BraceClose = refl
+is_numbered mark.Comma = refl
+is_numbered mark.Semicolon = refl
+is_numbered mark.Colon = refl
+is_numbered mark.Assign = refl
+is_numbered mark.Equal = refl
+is_numbered mark.Differ = refl
+is_numbered mark.Less = refl
+is_numbered mark.AtMost = refl
+is_numbered mark.Greater = refl
+is_numbered mark.AtLeast = refl
+is_numbered mark.Arrow = refl
+is_numbered mark.Plus = refl
+is_numbered mark.Join = refl
+is_numbered mark.Minus = refl
+is_numbered mark.Times = refl
+is_numbered mark.Over = refl
+is_numbered mark.Percent = refl
 
 pub same_mark : (m n : Mark) → is_mark m n ≡ true → m ≡ n
-same_mark m n h = sym (numbered m) ∙ ap (λ k. get_or by_number k mark.Workflow) (eqb-true (number m) (number n) h) ∙ numbered n
+same_mark m n h = sym (is_numbered m) ∙ ap (λ k. get_or by_number k mark.Workflow) (eqb-true (mark_number m) (mark_number n) h) ∙ is_numbered n
 
 signs : (k n : Mark) (at : ℕ) (b : Bool) → is_mark k n ≡ b → Comes (m.sign k) (record { at = at; word = word.Mark n }) (cond b (Some []) None)
 signs k n at true h = λ rs. (at, ap (λ j. marked at j ∷ []) (same_mark k n h))
@@ -176,6 +181,7 @@ prim_comes : (at : ℕ) (k : Word) → Comes m.prim (record { at = at; word = k 
 prim_comes at (word.Int n) = λ rs. (int at n, refl)
 prim_comes at (word.Text t) = λ rs. (text at t, refl)
 prim_comes at (word.Name x) = λ rs. (name at x, refl)
+prim_comes at (word.Mark mark.Now) = λ rs. (reading.now at, refl)
 prim_comes at (word.Mark mark.Open) = λ (e, (to, u)). (inner (parens at e to), refl)
 prim_comes at (word.Mark mark.Text) = λ (p, u). (text_of at p, simp append-nil)
 prim_comes at (word.Mark mark.Len) = λ (p, u). (len_of at p, simp append-nil)
@@ -225,13 +231,22 @@ parameters_comes : (at : ℕ) (k : Word) → Comes m.parameters (record { at = a
 parameters_comes at (word.Mark mark.Close) = λ rs. (no_parameter at, refl)
 parameters_comes at k = comes_then m.parameter m.parameters (record { at = at; word = k }) (parameter_takes k) (m.more_parameters ∷ []) (λ p q. (parameter_ p q.0, simp append-nil)) (parameter_comes at k)
 
+call_tail_comes : (at : ℕ) (k : Word) → Comes m.call_tail (record { at = at; word = k }) (call_tail_takes k)
+call_tail_comes at (word.Mark mark.Semicolon) = λ rs. (no_retry at, refl)
+call_tail_comes at (word.Mark mark.Retry) = λ (n, (every, (p, (end, u)))). (retry at n.0 n.1 every p.0 p.1 end, refl)
+call_tail_comes at _ = tt
+
 side_comes : (at : ℕ) (k : Word) → Comes m.side (record { at = at; word = k }) (side_takes k)
-side_comes at (word.Mark mark.Call) = λ (x, (paren, (es, (end, u)))). (call at x.0 x.1 paren es end, refl)
+side_comes at (word.Mark mark.Call) = λ (x, (paren, (es, (more, u)))). (call at x.0 x.1 paren es more, simp append-nil)
+side_comes at (word.Mark mark.Wait) = λ (signal_at, (x, (end, u))). (wait at signal_at x.0 x.1 end, refl)
 side_comes at k = comes_then m.expr m.side (record { at = at; word = k }) (expr_takes k) (m.sign mark.Semicolon ∷ []) (λ p q. (value p q.0, refl)) (expr_comes at k)
 
 statement_comes : (at : ℕ) (k : Word) → Comes m.statement (record { at = at; word = k }) (statement_takes k)
 statement_comes at (word.Mark mark.Let) = λ (x, (eq, (e, (end, u)))). (let_ at x.0 x.1 eq e end, refl)
+statement_comes at (word.Mark mark.Sleep) = λ (e, (end, u)). (sleep at e end, refl)
 statement_comes at (word.Mark mark.Return) = λ (e, (end, u)). (return_ at e end, refl)
+statement_comes at (word.Mark mark.Fail) = λ (e, (end, u)). (fail at e end, refl)
+statement_comes at (word.Mark mark.Continue) = λ (as_at, (new_at, (paren, (es, (end, u))))). (continue_ at as_at new_at paren es end, refl)
 statement_comes at (word.Name x) = λ (eq, (s, u)). (assign at x eq s, simp append-nil)
 statement_comes at _ = tt
 
@@ -239,16 +254,19 @@ statements_comes : (at : ℕ) (k : Word) → Comes m.statements (record { at = a
 statements_comes at (word.Mark mark.BraceClose) = λ rs. (no_statement at, refl)
 statements_comes at k = comes_then m.statement m.statements (record { at = at; word = k }) (statement_takes k) (m.statements ∷ []) (λ p q. (statement p q.0, simp append-nil)) (statement_comes at k)
 
-activity_comes : (at : ℕ) (k : Word) → Comes m.activity (record { at = at; word = k }) (activity_takes k)
-activity_comes at (word.Mark mark.Activity) = λ (x, (paren, (us, (arrow, (t, (end, u)))))). (activity at x.0 x.1 paren us arrow t end, refl)
-activity_comes at _ = tt
+declaration_comes : (at : ℕ) (k : Word) → Comes m.declaration (record { at = at; word = k }) (declaration_takes k)
+declaration_comes at (word.Mark mark.Activity) = λ (x, (paren, (us, (arrow, (t, (end, u)))))). (activity at x.0 x.1 paren us arrow t end, refl)
+declaration_comes at (word.Mark mark.Signal) = λ (x, (colon, (t, (end, u)))). (signal at x.0 x.1 colon t end, refl)
+declaration_comes at _ = tt
 
 body_comes : (at : ℕ) (k : Word) → Comes m.body (record { at = at; word = k }) (body_takes k)
-body_comes at (word.Mark mark.Activity) = comes_then m.activity m.body (record { at = at; word = word.Mark mark.Activity }) (activity_takes (word.Mark mark.Activity)) (m.body ∷ []) (λ p q. (declaration p q.0, simp append-nil)) (activity_comes at (word.Mark mark.Activity))
+body_comes at (word.Mark mark.Activity) = comes_then m.declaration m.body (record { at = at; word = word.Mark mark.Activity }) (declaration_takes (word.Mark mark.Activity)) (m.body ∷ []) (λ p q. (declaration p q.0, simp append-nil)) (declaration_comes at (word.Mark mark.Activity))
+body_comes at (word.Mark mark.Signal) = comes_then m.declaration m.body (record { at = at; word = word.Mark mark.Signal }) (declaration_takes (word.Mark mark.Signal)) (m.body ∷ []) (λ p q. (declaration p q.0, simp append-nil)) (declaration_comes at (word.Mark mark.Signal))
 body_comes at k = comes_as m.statements m.body (record { at = at; word = k }) (statements_takes k) (λ p. (statements p, refl)) (statements_comes at k)
 
 pub comes : (s : Symbol) (at : ℕ) (k : Word) → Comes s (record { at = at; word = k }) (takes s k)
 comes m.name at (word.Name x) = λ rs. ((at, x), refl)
+comes m.number at (word.Int n) = λ rs. ((at, n), refl)
 comes (m.sign k) at (word.Mark n) = signs k n at (is_mark k n) refl
 comes m.parens at (word.Mark mark.Open) = λ (e, (to, u)). (parens at e to, refl)
 comes m.prim at k = prim_comes at k
@@ -284,7 +302,8 @@ comes m.parameter at k = parameter_comes at k
 comes m.parameters at k = parameters_comes at k
 comes m.more_parameters at (word.Mark mark.Close) = λ rs. (last_parameter at, refl)
 comes m.more_parameters at (word.Mark mark.Comma) = λ (p, (more, u)). (next_parameter at p more, simp append-nil)
-comes m.activity at k = activity_comes at k
+comes m.declaration at k = declaration_comes at k
+comes m.call_tail at k = call_tail_comes at k
 comes m.side at k = side_comes at k
 comes m.statement at k = statement_comes at k
 comes m.statements at k = statements_comes at k

@@ -99,17 +99,23 @@ no_parameter_close : (k : Word) → (k ≡ word.Mark mark.Close → ⊥) → tak
 no_parameter_close (word.Mark mark.Close) h = absurd (h refl)
 no_parameter_close _ h = refl
 
-not_call : (k : Word) → (k ≡ word.Mark mark.Call → ⊥) → takes m.side k ≡ then_more (takes m.expr k) (m.sign mark.Semicolon ∷ [])
-not_call (word.Mark mark.Call) h = absurd (h refl)
-not_call _ h = refl
+not_retry : (k : Word) → (k ≡ word.Mark mark.Retry → ⊥) → takes m.call_tail k ≡ takes (m.sign mark.Semicolon) k
+not_retry (word.Mark mark.Retry) h = absurd (h refl)
+not_retry _ h = refl
+
+not_call : (k : Word) → (k ≡ word.Mark mark.Call → ⊥) → (k ≡ word.Mark mark.Wait → ⊥) → takes m.side k ≡ then_more (takes m.expr k) (m.sign mark.Semicolon ∷ [])
+not_call (word.Mark mark.Call) g h = absurd (g refl)
+not_call (word.Mark mark.Wait) g h = absurd (h refl)
+not_call _ g h = refl
 
 not_closed : (k : Word) → (k ≡ word.Mark mark.BraceClose → ⊥) → takes m.statements k ≡ then_more (takes m.statement k) (m.statements ∷ [])
 not_closed (word.Mark mark.BraceClose) h = absurd (h refl)
 not_closed _ h = refl
 
-not_activity : (k : Word) → (k ≡ word.Mark mark.Activity → ⊥) → takes m.body k ≡ takes m.statements k
-not_activity (word.Mark mark.Activity) h = absurd (h refl)
-not_activity _ h = refl
+not_declaration : (k : Word) → (k ≡ word.Mark mark.Activity → ⊥) → (k ≡ word.Mark mark.Signal → ⊥) → takes m.body k ≡ takes m.statements k
+not_declaration (word.Mark mark.Activity) g h = absurd (g refl)
+not_declaration (word.Mark mark.Signal) g h = absurd (h refl)
+not_declaration _ g h = refl
 
 pub unary_alike : (ts : List Lexeme) → Lacks mark.Minus ts → Alike m.prim m.unary ts
 unary_alike [] h = tt
@@ -131,17 +137,21 @@ pub parameters_same : (ts : List Lexeme) → Lacks mark.Close ts → Same m.para
 parameters_same [] h = tt
 parameters_same (t ∷ ts) h = no_parameter_close t.word h
 
-pub side_same : (ts : List Lexeme) → Lacks mark.Call ts → Same m.expr m.side (m.sign mark.Semicolon ∷ []) ts
-side_same [] h = tt
-side_same (t ∷ ts) h = not_call t.word h
+pub call_tail_alike : (ts : List Lexeme) → Lacks mark.Retry ts → Alike (m.sign mark.Semicolon) m.call_tail ts
+call_tail_alike [] h = tt
+call_tail_alike (t ∷ ts) h = not_retry t.word h
+
+pub side_same : (ts : List Lexeme) → Lacks mark.Call ts → Lacks mark.Wait ts → Same m.expr m.side (m.sign mark.Semicolon ∷ []) ts
+side_same [] g h = tt
+side_same (t ∷ ts) g h = not_call t.word g h
 
 pub statements_same : (ts : List Lexeme) → Lacks mark.BraceClose ts → Same m.statement m.statements (m.statements ∷ []) ts
 statements_same [] h = tt
 statements_same (t ∷ ts) h = not_closed t.word h
 
-pub body_alike : (ts : List Lexeme) → Lacks mark.Activity ts → Alike m.statements m.body ts
-body_alike [] h = tt
-body_alike (t ∷ ts) h = not_activity t.word h
+pub body_alike : (ts : List Lexeme) → Lacks mark.Activity ts → Lacks mark.Signal ts → Alike m.statements m.body ts
+body_alike [] g h = tt
+body_alike (t ∷ ts) g h = not_declaration t.word g h
 
 -- the machine behind an operator
 

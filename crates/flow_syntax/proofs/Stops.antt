@@ -1,11 +1,11 @@
 -- Where the machine stops, the tokens before are the beginning of a program, and no program begins with them and the next one.
-use Rattle.std.proofs.Common.{◌≡◌, ◌∙◌, ℕ, suc, ◌≤◌, Bool, true, false, cond, List, [], ◌∷◌, ◌++◌, Option, Some, None, refl, ap, sym, subst, append_assoc, length, ◌-◌, drop, length-append, arith}
+use Rattle.std.proofs.Common.{◌≡◌, ◌∙◌, ℕ, pos, suc, ◌≤◌, Bool, true, false, cond, List, [], ◌∷◌, ◌++◌, Option, Some, None, refl, ap, sym, subst, append_assoc, length, ◌-◌, drop, length-append, arith}
 use Rattle.std.proofs.lemmas.List.{append-nil}
 use Rattle.std.proofs.Math.Seq.{drop-append_seam}
 use Rattle.flow_base.specs.Syntax as tree
 use Rattle.flow_base.specs.declared.value.Kind.TheVariants as kind
 use Rattle.flow_model.specs.Lexeme.{Lexeme}
-use Rattle.flow_model.specs.Grammar.{parens, name, prim, term, no_factor, sum, no_term, compare, no_side, plain, conj, no_and, expr, no_or, no_argument, last_argument, typed, no_type, last_type, parameter, no_parameter, last_parameter, activity, value, return_, no_statement, statements, ProgramReading, workflow, program_tokens, Reads, Begins, Stops}
+use Rattle.flow_model.specs.Grammar.{parens, name, prim, term, no_factor, sum, no_term, compare, no_side, plain, conj, no_and, expr, no_or, no_argument, last_argument, typed, no_type, last_type, parameter, no_parameter, last_parameter, activity, no_retry, value, return_, no_statement, statements, ProgramReading, workflow, program_tokens, Reads, Begins, Stops}
 use Rattle.flow_syntax.specs.Machine.{Symbol, takes, may_be_nothing, step, step_by, is_done, fault, fault_by}
 use Rattle.flow_syntax.specs.Machine as m
 use Rattle.flow_syntax.specs.Parsing.{place_of}
@@ -29,6 +29,7 @@ least_expr = expr (conj (plain (compare least_sum no_side)) no_and) no_or
 
 least : (s : Symbol) → Reading s
 least m.name = (0, [])
+least m.number = (0, pos 0)
 least (m.sign k) = 0
 least m.parens = parens 0 least_expr 0
 least m.prim = name 0 []
@@ -52,7 +53,8 @@ least m.more_types = last_type 0
 least m.parameter = parameter 0 [] 0 (typed 0 kind.Int)
 least m.parameters = no_parameter 0
 least m.more_parameters = last_parameter 0
-least m.activity = activity 0 0 [] 0 (no_type 0) 0 (typed 0 kind.Int) 0
+least m.declaration = activity 0 0 [] 0 (no_type 0) 0 (typed 0 kind.Int) 0
+least m.call_tail = no_retry 0
 least m.side = value least_expr 0
 least m.statement = return_ 0 least_expr 0
 least m.statements = no_statement 0

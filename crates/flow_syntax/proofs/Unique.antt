@@ -7,8 +7,8 @@ use Rattle.flow_base.specs.declared.token.Mark.TheVariants as mark
 use Rattle.flow_base.specs.declared.value.Kind.{Kind}
 use Rattle.flow_base.specs.declared.value.Kind.TheVariants as kind
 use Rattle.flow_model.specs.Lexeme.{Lexeme}
-use Rattle.flow_model.specs.Grammar.{TermSign, times, over, percent, SumSign, plus, minus, join, CompareSign, equal, differ, less, at_most, greater, at_least, ParensReading, parens, PrimReading, int, text, name, text_of, len_of, inner, UnaryReading, negate, prim, TermReading, term, TermTail, no_factor, factor, SumReading, sum, SumTail, no_term, added, CompareReading, compare, CompareTail, no_side, compared, NegReading, not, plain, ConjReading, conj, ConjTail, no_and, and, ExprReading, expr, ExprTail, no_or, or, ArgumentsReading, no_argument, argument, ArgumentTail, last_argument, next_argument, TypeReading, typed, TypesReading, no_type, type_, TypeTail, last_type, next_type, ParameterReading, parameter, ParametersReading, no_parameter, parameter_, ParameterTail, last_parameter, next_parameter, DeclarationReading, activity, SideReading, value, call, StatementReading, let_, assign, return_, StatementsReading, no_statement, statement, BodyReading, statements, declaration, ProgramReading, workflow}
-use Rattle.flow_model.specs.Grammar.{marked, term_mark, sum_mark, compare_mark, kind_mark, parens_tokens, prim_tokens, unary_tokens, term_tokens, term_tail_tokens, sum_tokens, sum_tail_tokens, compare_tokens, compare_tail_tokens, neg_tokens, conj_tokens, conj_tail_tokens, expr_tokens, expr_tail_tokens, argument_tail_tokens, arguments_tokens, type_tokens, type_tail_tokens, types_tokens, parameter_tokens, parameter_tail_tokens, parameters_tokens, declaration_tokens, side_tokens, statement_tokens, statements_tokens, body_tokens, program_tokens, program_of, Reads}
+use Rattle.flow_model.specs.Grammar.{TermSign, times, over, percent, SumSign, plus, minus, join, CompareSign, equal, differ, less, at_most, greater, at_least, ParensReading, parens, PrimReading, int, text, name, now, text_of, len_of, inner, UnaryReading, negate, prim, TermReading, term, TermTail, no_factor, factor, SumReading, sum, SumTail, no_term, added, CompareReading, compare, CompareTail, no_side, compared, NegReading, not, plain, ConjReading, conj, ConjTail, no_and, and, ExprReading, expr, ExprTail, no_or, or, ArgumentsReading, no_argument, argument, ArgumentTail, last_argument, next_argument, TypeReading, typed, TypesReading, no_type, type_, TypeTail, last_type, next_type, ParameterReading, parameter, ParametersReading, no_parameter, parameter_, ParameterTail, last_parameter, next_parameter, DeclarationReading, activity, signal, CallTail, no_retry, retry, SideReading, value, call, wait, StatementReading, let_, assign, sleep, return_, fail, continue_, StatementsReading, no_statement, statement, BodyReading, statements, declaration, ProgramReading, workflow}
+use Rattle.flow_model.specs.Grammar.{marked, term_mark, sum_mark, compare_mark, kind_mark, parens_tokens, prim_tokens, unary_tokens, term_tokens, term_tail_tokens, sum_tokens, sum_tail_tokens, compare_tokens, compare_tail_tokens, neg_tokens, conj_tokens, conj_tail_tokens, expr_tokens, expr_tail_tokens, argument_tail_tokens, arguments_tokens, type_tokens, type_tail_tokens, types_tokens, parameter_tokens, parameter_tail_tokens, parameters_tokens, declaration_tokens, call_tail_tokens, side_tokens, statement_tokens, statements_tokens, body_tokens, program_tokens, program_of, Reads}
 use Rattle.flow_syntax.specs.Machine.{Symbol, takes}
 use Rattle.flow_syntax.specs.Machine as m
 use Rattle.flow_syntax.specs.Parsing.{Past}
@@ -81,6 +81,7 @@ prim_starts : (p : PrimReading) (x : List Lexeme) → Past m.prim (prim_tokens p
 prim_starts (int at n) x h = cc
 prim_starts (text at t) x h = cc
 prim_starts (name at n) x h = cc
+prim_starts (now at) x h = cc
 prim_starts (text_of at p) x h = cc
 prim_starts (len_of at p) x h = cc
 prim_starts (inner (parens at e to)) x h = cc
@@ -90,6 +91,7 @@ compare_starts (compare (sum (term (negate at u) f) g) i) x h = cc
 compare_starts (compare (sum (term (prim (int at n)) f) g) i) x h = cc
 compare_starts (compare (sum (term (prim (text at t)) f) g) i) x h = cc
 compare_starts (compare (sum (term (prim (name at n)) f) g) i) x h = cc
+compare_starts (compare (sum (term (prim (now at)) f) g) i) x h = cc
 compare_starts (compare (sum (term (prim (text_of at p)) f) g) i) x h = cc
 compare_starts (compare (sum (term (prim (len_of at p)) f) g) i) x h = cc
 compare_starts (compare (sum (term (prim (inner (parens at e to))) f) g) i) x h = cc
@@ -100,6 +102,7 @@ expr_starts (expr (conj (plain (compare (sum (term (negate at u) f) g) i)) j) k)
 expr_starts (expr (conj (plain (compare (sum (term (prim (int at n)) f) g) i)) j) k) x h = cc
 expr_starts (expr (conj (plain (compare (sum (term (prim (text at t)) f) g) i)) j) k) x h = cc
 expr_starts (expr (conj (plain (compare (sum (term (prim (name at n)) f) g) i)) j) k) x h = cc
+expr_starts (expr (conj (plain (compare (sum (term (prim (now at)) f) g) i)) j) k) x h = cc
 expr_starts (expr (conj (plain (compare (sum (term (prim (text_of at p)) f) g) i)) j) k) x h = cc
 expr_starts (expr (conj (plain (compare (sum (term (prim (len_of at p)) f) g) i)) j) k) x h = cc
 expr_starts (expr (conj (plain (compare (sum (term (prim (inner (parens at e to))) f) g) i)) j) k) x h = cc
@@ -111,13 +114,19 @@ type_starts (typed at kind.Text) x h = cc
 statement_starts : (s : StatementReading) (x : List Lexeme) → Past m.statement (statement_tokens s ++ x) → ⊥
 statement_starts (let_ at name_at n eq e end) x h = cc
 statement_starts (assign at n eq s) x h = cc
+statement_starts (sleep at e end) x h = cc
 statement_starts (return_ at e end) x h = cc
+statement_starts (fail at e end) x h = cc
+statement_starts (continue_ at as_at new_at paren es end) x h = cc
 
 statements_start : (ss : StatementsReading) (x : List Lexeme) → Past m.statements (statements_tokens ss ++ x) → ⊥
 statements_start (no_statement to) x h = cc
 statements_start (statement (let_ at name_at n eq e end) more) x h = cc
 statements_start (statement (assign at n eq s) more) x h = cc
+statements_start (statement (sleep at e end) more) x h = cc
 statements_start (statement (return_ at e end) more) x h = cc
+statements_start (statement (fail at e end) more) x h = cc
+statements_start (statement (continue_ at as_at new_at paren es end) more) x h = cc
 
 mutual
   pub same_parens : (p q : ParensReading) (x y : List Lexeme) → parens_tokens p ++ x ≡ parens_tokens q ++ y → (p ≡ q) × (x ≡ y)
@@ -131,6 +140,7 @@ mutual
   same_prim (int a n) (int b k) x y h = let ha = at_of h in let hk = word_of h in (cc, tail_of h)
   same_prim (text a n) (text b k) x y h = let ha = at_of h in let hk = word_of h in (cc, tail_of h)
   same_prim (name a n) (name b k) x y h = let ha = at_of h in let hk = word_of h in (cc, tail_of h)
+  same_prim (now a) (now b) x y h = let ha = at_of h in (cc, tail_of h)
   same_prim (text_of a p) (text_of b q) x y h = let ha = at_of h in let i = same_parens p q x y (tail_of h) in (cc, i.1)
   same_prim (len_of a p) (len_of b q) x y h = let ha = at_of h in let i = same_parens p q x y (tail_of h) in (cc, i.1)
   same_prim (inner p) (inner q) x y h = let i = same_parens p q x y h in (ap inner i.0, i.1)
@@ -316,6 +326,28 @@ same_declaration (activity a b n c us d t e) (activity a' b' n' c' us' d' t' e')
     let j = same_type t t' (marked e mark.Semicolon ∷ x) (marked e' mark.Semicolon ∷ y) (regrouped (type_tokens t) (marked e mark.Semicolon ∷ []) x (type_tokens t') (marked e' mark.Semicolon ∷ []) y (tail_of i.1)) in
     let he = at_of j.1 in
     (cc, tail_of j.1)
+same_declaration (signal a b n c t e) (signal a' b' n' c' t' e') x y h =
+    let ha = at_of h in
+    let hb = at_of (tail_of h) in
+    let hn = word_of (tail_of h) in
+    let hc = at_of (tail_of (tail_of h)) in
+    let j = same_type t t' (marked e mark.Semicolon ∷ x) (marked e' mark.Semicolon ∷ y) (regrouped (type_tokens t) (marked e mark.Semicolon ∷ []) x (type_tokens t') (marked e' mark.Semicolon ∷ []) y (tail_of (tail_of (tail_of h)))) in
+    let he = at_of j.1 in
+    (cc, tail_of j.1)
+same_declaration _ _ x y h = let hk = word_of h in absurd (cc)
+
+same_call_tail : (p q : CallTail) (x y : List Lexeme) → call_tail_tokens p ++ x ≡ call_tail_tokens q ++ y → (p ≡ q) × (x ≡ y)
+same_call_tail (no_retry a) (no_retry b) x y h = let ha = at_of h in (cc, tail_of h)
+same_call_tail (retry a b n c d k e) (retry a' b' n' c' d' k' e') x y h =
+    let ha = at_of h in
+    let hb = at_of (tail_of h) in
+    let hn = word_of (tail_of h) in
+    let hc = at_of (tail_of (tail_of h)) in
+    let hd = at_of (tail_of (tail_of (tail_of h))) in
+    let hk = word_of (tail_of (tail_of (tail_of h))) in
+    let he = at_of (tail_of (tail_of (tail_of (tail_of h)))) in
+    (cc, tail_of (tail_of (tail_of (tail_of (tail_of h)))))
+same_call_tail _ _ x y h = let hk = word_of h in absurd (cc)
 
 same_side : (p q : SideReading) (x y : List Lexeme) → side_tokens p ++ x ≡ side_tokens q ++ y → (p ≡ q) × (x ≡ y)
 same_side (value e c) (value f d) x y h = let i = same_before e f c d x y h in (cc, i.2)
@@ -324,11 +356,21 @@ same_side (call a b n c es d) (call a' b' n' c' es' d') x y h =
     let hb = at_of (tail_of h) in
     let hn = word_of (tail_of h) in
     let hc = at_of (tail_of (tail_of h)) in
-    let i = same_arguments es es' (marked d mark.Semicolon ∷ x) (marked d' mark.Semicolon ∷ y) (regrouped (arguments_tokens es) (marked d mark.Semicolon ∷ []) x (arguments_tokens es') (marked d' mark.Semicolon ∷ []) y (tail_of (tail_of (tail_of h)))) in
-    let hd = at_of i.1 in
-    (cc, tail_of i.1)
+    let i = same_arguments es es' (call_tail_tokens d ++ x) (call_tail_tokens d' ++ y) (regrouped (arguments_tokens es) (call_tail_tokens d) x (arguments_tokens es') (call_tail_tokens d') y (tail_of (tail_of (tail_of h)))) in
+    let j = same_call_tail d d' x y i.1 in
+    (cc, j.1)
+same_side (wait a b c n d) (wait a' b' c' n' d') x y h =
+    let ha = at_of h in
+    let hb = at_of (tail_of h) in
+    let hc = at_of (tail_of (tail_of h)) in
+    let hn = word_of (tail_of (tail_of h)) in
+    let hd = at_of (tail_of (tail_of (tail_of h))) in
+    (cc, tail_of (tail_of (tail_of (tail_of h))))
 same_side (value e c) (call a b n p es d) x y h = absurd (expr_starts e ((marked c mark.Semicolon ∷ []) ++ x) (clash m.expr (side_tokens (call a b n p es d) ++ y) (expr_tokens e ++ ((marked c mark.Semicolon ∷ []) ++ x)) refl (sym h ∙ append_assoc (expr_tokens e) (marked c mark.Semicolon ∷ []) x)))
 same_side (call a b n p es d) (value e c) x y h = absurd (expr_starts e ((marked c mark.Semicolon ∷ []) ++ y) (clash m.expr (side_tokens (call a b n p es d) ++ x) (expr_tokens e ++ ((marked c mark.Semicolon ∷ []) ++ y)) refl (h ∙ append_assoc (expr_tokens e) (marked c mark.Semicolon ∷ []) y)))
+same_side (value e c) (wait a b p n d) x y h = absurd (expr_starts e ((marked c mark.Semicolon ∷ []) ++ x) (clash m.expr (side_tokens (wait a b p n d) ++ y) (expr_tokens e ++ ((marked c mark.Semicolon ∷ []) ++ x)) refl (sym h ∙ append_assoc (expr_tokens e) (marked c mark.Semicolon ∷ []) x)))
+same_side (wait a b p n d) (value e c) x y h = absurd (expr_starts e ((marked c mark.Semicolon ∷ []) ++ y) (clash m.expr (side_tokens (wait a b p n d) ++ x) (expr_tokens e ++ ((marked c mark.Semicolon ∷ []) ++ y)) refl (h ∙ append_assoc (expr_tokens e) (marked c mark.Semicolon ∷ []) y)))
+same_side _ _ x y h = let hk = word_of h in absurd (cc)
 
 same_statement : (p q : StatementReading) (x y : List Lexeme) → statement_tokens p ++ x ≡ statement_tokens q ++ y → (p ≡ q) × (x ≡ y)
 same_statement (let_ a b n c e d) (let_ a' b' n' c' e' d') x y h =
@@ -344,10 +386,26 @@ same_statement (assign a n c s) (assign a' n' c' s') x y h =
     let hn = word_of h in
     let hc = at_of (tail_of h) in
     (cc, i.1)
+same_statement (sleep a e c) (sleep a' e' c') x y h =
+    let i = same_before e e' c c' x y (tail_of h) in
+    let ha = at_of h in
+    (cc, i.2)
 same_statement (return_ a e c) (return_ a' e' c') x y h =
     let i = same_before e e' c c' x y (tail_of h) in
     let ha = at_of h in
     (cc, i.2)
+same_statement (fail a e c) (fail a' e' c') x y h =
+    let i = same_before e e' c c' x y (tail_of h) in
+    let ha = at_of h in
+    (cc, i.2)
+same_statement (continue_ a b n p es c) (continue_ a' b' n' p' es' c') x y h =
+    let ha = at_of h in
+    let hb = at_of (tail_of h) in
+    let hn = at_of (tail_of (tail_of h)) in
+    let hp = at_of (tail_of (tail_of (tail_of h))) in
+    let i = same_arguments es es' (marked c mark.Semicolon ∷ x) (marked c' mark.Semicolon ∷ y) (regrouped (arguments_tokens es) (marked c mark.Semicolon ∷ []) x (arguments_tokens es') (marked c' mark.Semicolon ∷ []) y (tail_of (tail_of (tail_of (tail_of h))))) in
+    let hc = at_of i.1 in
+    (cc, tail_of i.1)
 same_statement _ _ x y h = let hk = word_of h in absurd (cc)
 
 same_statements : (p q : StatementsReading) (x y : List Lexeme) → statements_tokens p ++ x ≡ statements_tokens q ++ y → (p ≡ q) × (x ≡ y)
@@ -359,8 +417,9 @@ same_statements (statement s ms) (statement u ns) x y h =
 same_statements (no_statement a) (statement u ns) x y h = absurd (statement_starts u (statements_tokens ns ++ y) (clash m.statement (marked a mark.BraceClose ∷ x) (statement_tokens u ++ (statements_tokens ns ++ y)) refl (h ∙ append_assoc (statement_tokens u) (statements_tokens ns) y)))
 same_statements (statement s ms) (no_statement b) x y h = absurd (statement_starts s (statements_tokens ms ++ x) (clash m.statement (marked b mark.BraceClose ∷ y) (statement_tokens s ++ (statements_tokens ms ++ x)) refl (sym h ∙ append_assoc (statement_tokens s) (statements_tokens ms) x)))
 
-activity_ends : (d : DeclarationReading) (x : List Lexeme) → Past m.statements (declaration_tokens d ++ x)
-activity_ends (activity a b n c us d t e) x = refl
+declaration_ends : (d : DeclarationReading) (x : List Lexeme) → Past m.statements (declaration_tokens d ++ x)
+declaration_ends (activity a b n c us d t e) x = refl
+declaration_ends (signal a b n c t e) x = refl
 
 same_body : (p q : BodyReading) (x y : List Lexeme) → body_tokens p ++ x ≡ body_tokens q ++ y → (p ≡ q) × (x ≡ y)
 same_body (statements p) (statements q) x y h = let i = same_statements p q x y h in (ap statements i.0, i.1)
@@ -368,8 +427,8 @@ same_body (declaration d ms) (declaration e ns) x y h =
     let i = same_declaration d e (body_tokens ms ++ x) (body_tokens ns ++ y) (regrouped (declaration_tokens d) (body_tokens ms) x (declaration_tokens e) (body_tokens ns) y h) in
     let j = same_body ms ns x y i.1 in
     (cc, j.1)
-same_body (statements p) (declaration e ns) x y h = absurd (statements_start p x (clash m.statements (declaration_tokens e ++ (body_tokens ns ++ y)) (statements_tokens p ++ x) (activity_ends e (body_tokens ns ++ y)) (sym (h ∙ append_assoc (declaration_tokens e) (body_tokens ns) y))))
-same_body (declaration d ms) (statements q) x y h = absurd (statements_start q y (clash m.statements (declaration_tokens d ++ (body_tokens ms ++ x)) (statements_tokens q ++ y) (activity_ends d (body_tokens ms ++ x)) (sym (append_assoc (declaration_tokens d) (body_tokens ms) x) ∙ h)))
+same_body (statements p) (declaration e ns) x y h = absurd (statements_start p x (clash m.statements (declaration_tokens e ++ (body_tokens ns ++ y)) (statements_tokens p ++ x) (declaration_ends e (body_tokens ns ++ y)) (sym (h ∙ append_assoc (declaration_tokens e) (body_tokens ns) y))))
+same_body (declaration d ms) (statements q) x y h = absurd (statements_start q y (clash m.statements (declaration_tokens d ++ (body_tokens ms ++ x)) (statements_tokens q ++ y) (declaration_ends d (body_tokens ms ++ x)) (sym (append_assoc (declaration_tokens d) (body_tokens ms) x) ∙ h)))
 
 pub same_program : (p q : ProgramReading) → program_tokens p ≡ program_tokens q → p ≡ q
 same_program (workflow a b n c ps d body) (workflow a' b' n' c' ps' d' body') h =

@@ -1,5 +1,5 @@
 -- What the parser's private functions say.
-use Rattle.std.specs.Prelude.{◌≡◌, ℕ, List, [], ◌∷◌, ◌++◌, Some, None}
+use Rattle.std.specs.Prelude.{◌≡◌, ℕ, ℤ, List, [], ◌∷◌, ◌++◌, Some, None}
 use Rattle.flow_base.specs.declared.token.Word.{Word}
 use Rattle.flow_base.specs.declared.token.Word.TheVariants as word
 use Rattle.flow_base.specs.declared.token.Mark.{Mark}
@@ -9,7 +9,7 @@ use Rattle.flow_base.specs.Syntax as tree
 use Rattle.flow_syntax.specs.declared.fault.Stop.{Stop}
 use Rattle.flow_syntax.specs.declared.fault.Stop.TheVariants.{NoMemory, Unexpected}
 use Rattle.flow_model.specs.Lexeme.{Lexeme}
-use Rattle.flow_model.specs.Grammar.{marked, TermSign, SumSign, CompareSign, term_mark, term_operator, sum_mark, sum_operator, compare_mark, compare_operator, ParametersReading, parameters_of, parameters_end, StatementsReading, statements_of, statements_end, BodyReading, declarations_of, body_statements}
+use Rattle.flow_model.specs.Grammar.{marked, numbered, whole, declaration_tokens, declaration_of, TermSign, SumSign, CompareSign, term_mark, term_operator, sum_mark, sum_operator, compare_mark, compare_operator, ParametersReading, parameters_of, parameters_end, StatementsReading, statements_of, statements_end, BodyReading, declarations_of, body_statements}
 use Rattle.flow_syntax.specs.Machine as m
 use Rattle.flow_syntax.specs.Machine.{Symbol, takes, fault}
 
@@ -41,6 +41,10 @@ abbrev pub Lacks : Mark → List Lexeme → Type 0
 Lacks m [] = Unit {0}
 Lacks m (t ∷ ts) = t.word ≡ word.Mark m → ⊥
 
+-- a number as a count, its place, and what follows it
+abbrev pub IsNumber : List Lexeme → ℕ → ℕ → List Lexeme → Type 0
+IsNumber ts at count rest = (n : ℤ) × (ts ≡ numbered at n ∷ rest) × (whole n ≡ count)
+
 -- an operator of the level, and what follows it
 abbrev pub IsFactor : List Lexeme → ℕ → Binary → List Lexeme → Type 0
 IsFactor ts at op rest = (s : TermSign) × (ts ≡ marked at (term_mark s) ∷ rest) × (term_operator s ≡ op)
@@ -59,6 +63,11 @@ place_of end (t ∷ ts) = t.at
 abbrev pub StopsProgram : List Lexeme → Stop → Type 0
 StopsProgram ts NoMemory = Unit {0}
 StopsProgram ts (Unexpected left) = fault (m.program ∷ []) ts ≡ Some left
+
+-- The tokens of a body begin with a declaration that stands for d; what follows is rest, and the machine of a body goes to
+-- the machine of a declaration.
+abbrev pub Declares : List Lexeme → tree.Declared → List Lexeme → Type 0
+Declares ts d rest = Parsed m.declaration declaration_tokens declaration_of ts d rest × ((owed : List Symbol) → fault (m.body ∷ owed) ts ≡ fault (m.declaration ∷ m.body ∷ owed) ts)
 
 -- parameters with the place of their `)`, statements and a body with that of their brace
 abbrev pub both_of : ParametersReading → List Parameter × ℕ

@@ -1,9 +1,9 @@
 //! Steps over tokens.
 ghost use Rattle.std.specs.Prelude.{◌≡◌, [], ◌∷◌, ◌<◌, length, IfOk, IfErr, IfSome, MatchOption};
 ghost use Rattle.flow_model.specs.Lexeme.{lexeme, lexemes};
-ghost use Rattle.flow_model.specs.Grammar.{marked, named, type_tokens, type_of};
+ghost use Rattle.flow_model.specs.Grammar.{marked, named, type_tokens, type_of, whole};
 ghost use Rattle.flow_syntax.specs.Machine as m;
-ghost use Rattle.flow_syntax.specs.Parsing.{Parsed, StopsAt, Lacks, LacksMark};
+ghost use Rattle.flow_syntax.specs.Parsing.{Parsed, StopsAt, Lacks, LacksMark, IsNumber};
 
 use crate::fault::Stop;
 use flow_base::syntax::TypeAt;
@@ -80,6 +80,28 @@ pub fn name(alloc: Global, tokens: &[Token]) -> Result<(usize, Key, &[Token]), S
     };
     match &first.word {
         Word::Name(name) => Ok((first.from, name.copy(alloc)?, rest)),
+        _ => Err(Stop::Unexpected(tokens.len())),
+    }
+}
+
+/// What a number says as a count. A token's number is never negative.
+fn whole(number: i64) -> u64
+    ensures { result ≡ whole number }
+{
+    if number < 0 { 0 } else { number as u64 }
+}
+
+/// A number with its place, and what follows it.
+pub fn number(tokens: &[Token]) -> Result<(usize, u64, &[Token]), Stop>
+    ensures ok { IfOk result (λ x. IsNumber (lexemes tokens.now) x.0 x.1 (lexemes x.2.now)) }
+    ensures shorter { IfOk result (λ x. length x.2.now < length tokens.now) }
+    ensures err { IfErr result (λ e. StopsAt m.number (lexemes tokens.now) e) }
+{
+    let Some((first, rest)) = next(tokens) else {
+        return Err(Stop::Unexpected(0));
+    };
+    match &first.word {
+        Word::Int(number) => Ok((first.from, whole(*number), rest)),
         _ => Err(Stop::Unexpected(tokens.len())),
     }
 }

@@ -117,6 +117,7 @@ fn prim(alloc: Global, tokens: &[Token]) -> Result<(Expr, &[Token]), Stop>
         Word::Text(text) => Ok((Expr::Text(first.from, text.copy(alloc)?), rest)),
         Word::Name(name) => Ok((Expr::Var(first.from, name.copy(alloc)?), rest)),
         Word::Mark(mark) => match mark {
+            Mark::Now => Ok((Expr::Now(first.from), rest)),
             Mark::Open => parens(alloc, tokens),
             Mark::Text => applied(alloc, first.from, Unary::TextOf, rest),
             Mark::Len => applied(alloc, first.from, Unary::Length, rest),

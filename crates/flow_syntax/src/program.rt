@@ -1,10 +1,10 @@
 //! Declarations and whole programs.
-ghost use Rattle.std.specs.Prelude.{◌∷◌, ◌<◌, length, map, IfOk, IfErr};
+ghost use Rattle.std.specs.Prelude.{◌∷◌, ◌<◌, length, map, IfOk, IfErr, IfSome, MatchOption};
 ghost use Rattle.flow_base.specs.Shown.{shown_declaration, shown_block, shown_program};
 ghost use Rattle.flow_model.specs.Lexeme.{lexemes};
 ghost use Rattle.flow_model.specs.Grammar.{marked, types_tokens, types_of, parameter_tokens, parameter_of, parameters_tokens, declaration_tokens, declaration_of, body_tokens, Reads};
 ghost use Rattle.flow_syntax.specs.Machine as m;
-ghost use Rattle.flow_syntax.specs.Parsing.{Parsed, StopsAt, StopsProgram, both_of, whole_body_of};
+ghost use Rattle.flow_syntax.specs.Parsing.{Parsed, StopsAt, StopsProgram, Lacks, Declares, both_of, whole_body_of};
 
 use crate::cursor::{eat, expect, kind, name, next};
 use crate::fault::Stop;
@@ -69,9 +69,9 @@ fn types(alloc: Global, tokens: &[Token]) -> Result<(Vec<TypeAt>, &[Token]), Sto
 
 /// An activity, behind its keyword, which stands at this place.
 fn activity(alloc: Global, at: usize, tokens: &[Token]) -> Result<(Declaration, &[Token]), Stop>
-    ensures ok { IfOk result (λ x. Parsed m.activity declaration_tokens declaration_of (marked at Mark.Activity ∷ lexemes tokens.now) (shown_declaration x.0) (lexemes x.1.now)) }
+    ensures ok { IfOk result (λ x. Parsed m.declaration declaration_tokens declaration_of (marked at Mark.Activity ∷ lexemes tokens.now) (shown_declaration x.0) (lexemes x.1.now)) }
     ensures shorter { IfOk result (λ x. length x.1.now < length tokens.now) }
-    ensures err { IfErr result (λ e. StopsAt m.activity (marked at Mark.Activity ∷ lexemes tokens.now) e) }
+    ensures err { IfErr result (λ e. StopsAt m.declaration (marked at Mark.Activity ∷ lexemes tokens.now) e) }
 {
     let (name_at, name, after_name) = name(alloc, tokens)?;
     let (_, after_open) = expect(after_name, Mark::Open)?;
@@ -85,6 +85,34 @@ fn activity(alloc: Global, at: usize, tokens: &[Token]) -> Result<(Declaration, 
     ))
 }
 
+/// A signal, behind its keyword, which stands at this place.
+fn signal(alloc: Global, at: usize, tokens: &[Token]) -> Result<(Declaration, &[Token]), Stop>
+    ensures ok { IfOk result (λ x. Parsed m.declaration declaration_tokens declaration_of (marked at Mark.Signal ∷ lexemes tokens.now) (shown_declaration x.0) (lexemes x.1.now)) }
+    ensures shorter { IfOk result (λ x. length x.1.now < length tokens.now) }
+    ensures err { IfErr result (λ e. StopsAt m.declaration (marked at Mark.Signal ∷ lexemes tokens.now) e) }
+{
+    let (name_at, name, after_name) = name(alloc, tokens)?;
+    let (_, after_colon) = expect(after_name, Mark::Colon)?;
+    let (carries, after) = kind(after_colon)?;
+    let (_, end) = expect(after, Mark::Semicolon)?;
+    Ok((Declaration::Signal(at, name_at, name, carries.kind), end))
+}
+
+/// The declaration that a body begins with, if it does, and what follows it.
+fn declaration(alloc: Global, tokens: &[Token]) -> Result<Option<(Declaration, &[Token])>, Stop>
+    ensures ok { IfOk result (λ o. MatchOption o (Lacks Mark.Activity (lexemes tokens.now) × Lacks Mark.Signal (lexemes tokens.now)) (λ x. Declares (lexemes tokens.now) (shown_declaration x.0) (lexemes x.1.now))) }
+    ensures shorter { IfOk result (λ o. IfSome o (λ x. length x.1.now < length tokens.now)) }
+    ensures err { IfErr result (λ e. StopsAt m.body (lexemes tokens.now) e) }
+{
+    if let Some((at, rest)) = eat(tokens, Mark::Activity) {
+        return Ok(Some(activity(alloc, at, rest)?));
+    }
+    if let Some((at, rest)) = eat(tokens, Mark::Signal) {
+        return Ok(Some(signal(alloc, at, rest)?));
+    }
+    Ok(None)
+}
+
 /// Declarations, statements up to the last brace, its place, and what follows it.
 fn body(
     alloc: Global,
@@ -96,9 +124,8 @@ fn body(
 {
     let mut declarations = Vec::new(alloc);
     let mut rest = tokens;
-    while let Some((at, after)) = eat(rest, Mark::Activity) {
-        let (declaration, next) = activity(alloc, at, after)?;
-        declarations.push(declaration)?;
+    while let Some((found, next)) = declaration(alloc, rest)? {
+        declarations.push(found)?;
         rest = next;
     }
     let (list, at, end) = statements(alloc, rest)?;

@@ -8,7 +8,7 @@ use Rattle.flow_syntax.specs.Machine.{fault}
 use Rattle.flow_syntax.specs.Machine as m
 use Rattle.flow_syntax.proofs.Steps.{term_is, sum_is, compare_is, conj_is, expr_is}
 use Rattle.flow_syntax.proofs.Parsed.{stops_in}
-use Rattle.flow_syntax.proofs.ParsedExpressions.{prim_int, prim_text, prim_name, open_is, prim_parens, prim_text_of, prim_len_of, parens_is, parens_parsed, unary_is, unary_prim, unary_negate, neg_is, neg_plain, neg_not, term_begins, term_more, term_step, term_ends, sum_begins, sum_more, sum_step, sum_ends, compare_plain, compare_step, compare_parsed, conj_begins, conj_more, conj_ends, expr_begins, expr_more, expr_ends}
+use Rattle.flow_syntax.proofs.ParsedExpressions.{prim_int, prim_text, prim_name, prim_now, open_is, prim_parens, prim_text_of, prim_len_of, parens_is, parens_parsed, unary_is, unary_prim, unary_negate, neg_is, neg_plain, neg_not, term_begins, term_more, term_step, term_ends, sum_begins, sum_more, sum_step, sum_ends, compare_plain, compare_step, compare_parsed, conj_begins, conj_more, conj_ends, expr_begins, expr_more, expr_ends}
 use Rattle.flow_syntax.proofs.expression.+expression.Goals as goal
 
 pub compared-returns-in_err-left-clause-err : goal.compared-returns-in_err-left-clause-err
@@ -159,6 +159,9 @@ prim-returns-in_ok-copy-in-Text-clause-ok t c = rw c.in_ok-copy-in-Text.ensures 
 
 pub prim-returns-in_ok-copy-in-Name-clause-ok : goal.prim-returns-in_ok-copy-in-Name-clause-ok
 prim-returns-in_ok-copy-in-Name-clause-ok t c = rw c.in_ok-copy-in-Name.ensures (prim_name (lexeme c.in-Some.first.now) _ (lexemes c.args.tokens.now) (lexemes c.in-Some.rest.now) c.in-Some.ensures.found c.in-Name.is)
+
+pub prim-returns-in-Now-clause-ok : goal.prim-returns-in-Now-clause-ok
+prim-returns-in-Now-clause-ok t c = prim_now (lexeme c.in-Some.first.now) (lexemes c.args.tokens.now) (lexemes c.in-Some.rest.now) c.in-Some.ensures.found (c.in-Mark.is ∙ ap word.Mark c.in-Now.is)
 
 pub prim-returns-in-Open-clause-ok : goal.prim-returns-in-Open-clause-ok
 prim-returns-in-Open-clause-ok t c = IfOk-weaker c.parens.result _ _ (λ x h. prim_parens (lexeme c.in-Some.first.now) (lexemes c.args.tokens.now) (lexemes c.in-Some.rest.now) (lexemes x.1.now) (shown_expr x.0) c.in-Some.ensures.found (c.in-Mark.is ∙ ap word.Mark c.in-Open.is) h) c.parens.ensures.ok
