@@ -18,7 +18,7 @@ use Rattle.flow_syntax.specs.declared.fault.Stop.{Stop}
 use Rattle.flow_syntax.specs.declared.fault.Stop.TheVariants.{NoMemory, Unexpected}
 use Rattle.flow_syntax.specs.Machine.{Symbol, takes, then_more, fault, fault_by, step}
 use Rattle.flow_syntax.specs.Machine as m
-use Rattle.flow_syntax.specs.Parsing.{Parsed, StopsAt, StopsProgram, IsNoMark, LacksMark, Lacks, IsNumber, Declares, both_of, end_of, whole_body_of}
+use Rattle.flow_syntax.specs.Parsing.{Parsed, StopsAt, StopsProgram, IsNoMark, LacksMark, Lacks, IsNumber, both_of, end_of, whole_body_of}
 use Rattle.flow_syntax.proofs.Steps.{Same, Alike, is_then, is_alike, types_same, parameters_same, call_tail_alike, side_same, statements_same, body_alike}
 use Rattle.flow_syntax.proofs.Parsed.{SoFar, so_begins, so_more, so_next}
 use Rattle.flow_syntax.proofs.ParsedExpressions.{Marked, IsExpr, first_is}
@@ -255,18 +255,6 @@ body_begins ts = λ more end h. (more, h, refl)
 
 abbrev pub IsDeclaration : List Lexeme → tree.Declared → List Lexeme → Type 0
 IsDeclaration ts d rest = Parsed m.declaration declaration_tokens declaration_of ts d rest
-
-pub activity_step : (at : ℕ) (ts after : List Lexeme) → ts ≡ marked at mark.Activity ∷ after → (owed : List Symbol) → fault (m.body ∷ owed) ts ≡ fault (m.declaration ∷ m.body ∷ owed) (marked at mark.Activity ∷ after)
-activity_step at ts after h owed = rw h refl
-
-pub signal_step : (at : ℕ) (ts after : List Lexeme) → ts ≡ marked at mark.Signal ∷ after → (owed : List Symbol) → fault (m.body ∷ owed) ts ≡ fault (m.declaration ∷ m.body ∷ owed) (marked at mark.Signal ∷ after)
-signal_step at ts after h owed = rw h refl
-
-pub activity_declares : (at : ℕ) (ts after rest : List Lexeme) (d : tree.Declared) → ts ≡ marked at mark.Activity ∷ after → IsDeclaration (marked at mark.Activity ∷ after) d rest → Declares ts d rest
-activity_declares at ts after rest d h p = rw h (p, λ owed. refl)
-
-pub signal_declares : (at : ℕ) (ts after rest : List Lexeme) (d : tree.Declared) → ts ≡ marked at mark.Signal ∷ after → IsDeclaration (marked at mark.Signal ∷ after) d rest → Declares ts d rest
-signal_declares at ts after rest d h p = rw h (p, λ owed. refl)
 
 pub body_more : (ts rest next : List Lexeme) (ds : List tree.Declared) (d : tree.Declared) → BodySoFar ts ds rest → IsDeclaration rest d next → BodySoFar ts (ds ++ (d ∷ [])) next
 body_more ts rest next ds d so p = so_next m.declaration declaration_tokens declaration_of body_tokens body_tokens whole_body_of (λ zs more. (zs ++ declarations_of more, end_of (body_statements more))) (λ zs v. zs ++ (v ∷ [])) declaration (λ q more. refl) ds (λ q more. ap (λ zs. (zs, end_of (body_statements more))) (sym (append_assoc ds (declaration_of q ∷ []) (declarations_of more)))) ts rest next d so p

@@ -121,7 +121,10 @@ fn call_statement(
     let (_, after_open) = expect(after_name, Mark::Open)?;
     let (list, after) = arguments(alloc, after_open)?;
     let (retry, end) = call_tail(after)?;
-    Ok((Stmt::Call(at, into, activity_at, activity, list, retry), end))
+    Ok((
+        Stmt::Call(at, into, activity_at, activity, list, retry),
+        end,
+    ))
 }
 
 /// A wait for a signal into this variable, behind its keyword.

@@ -62,6 +62,58 @@ fn names_the_first_fault(rt: HostRuntime) {
     assert_eq!(rt; first_other_fault(rt.alloc(), &FAULTS), None);
 }
 
+/// Texts, each with the place of the first token that no beginning of a program admits.
+const UNFIT: [(&str, usize); 24] = [
+    ("workflow x() { let a = now(); }", 26),
+    ("workflow x() { sleep ; }", 21),
+    ("workflow x() { sleep 1 2; }", 23),
+    ("workflow x() { fail }", 20),
+    ("workflow x() { fail \"a\" \"b\"; }", 24),
+    ("workflow x() { continue new (); }", 24),
+    ("workflow x() { continue as (); }", 27),
+    ("workflow x() { continue as new x(); }", 31),
+    ("workflow x() { continue as new (1) 2; }", 35),
+    ("workflow x() { a = call b() every 5; }", 28),
+    ("workflow x() { a = call b() retry every 5; }", 34),
+    ("workflow x() { a = call b() retry - 1 every 5; }", 34),
+    ("workflow x() { a = call b() retry 2 5; }", 36),
+    ("workflow x() { a = call b() retry 2 every n; }", 42),
+    ("workflow x() { a = call b() retry 2 every 5 retry 2 every 5; }", 44),
+    ("workflow x() { a = wait b; }", 24),
+    ("workflow x() { a = wait signal ; }", 31),
+    ("workflow x() { a = wait signal b (); }", 33),
+    ("workflow x() { wait signal b; }", 15),
+    ("workflow x() { signal : int; }", 22),
+    ("workflow x() { signal b (int); }", 24),
+    ("workflow x() { signal b: n; }", 25),
+    ("workflow x() { signal b: int }", 29),
+    ("workflow x() { let a = 1; signal b: int; }", 26),
+];
+
+/// The number of the first text with another such place.
+fn first_other_place(alloc: Global, rows: &[(&str, usize)]) -> Option<usize> {
+    for i in 0..rows.len() {
+        let (text, at) = rows[i];
+        if fault(alloc, text) != Some((Code::Unexpected, Some(at))) {
+            return Some(i);
+        }
+    }
+    None
+}
+
+#[test]
+fn stops_at_the_first_token_that_does_not_fit(rt: HostRuntime) {
+    assert_eq!(rt; first_other_place(rt.alloc(), &UNFIT), None);
+}
+
+/// A program with each form that has no block of its own.
+const WITH_EACH_FORM: &str = "workflow x(n: int) { signal s: text; activity b(int) -> int; signal t: int; let a = now; a = call b(now - 1) retry 3 every 500; a = call b(n); s = wait signal s; sleep 1000 * n; fail \"a\"; continue as new (a + 1, n); return now; continue as new (); }";
+
+#[test]
+fn reads_each_form(rt: HostRuntime) {
+    assert_eq!(rt; fault(rt.alloc(), WITH_EACH_FORM), None);
+}
+
 /// Programs, each with what it prints as.
 const PRINTED: [(&str, &str); 10] = [
     ("workflow e() {}", "workflow e ( ) { }"),

@@ -1,5 +1,4 @@
-use Rattle.std.proofs.Common.{◌∷◌}
-use Rattle.std.proofs.lemmas.Result.{err_from_is_err_and, IfOk-weaker, IfErr-weaker}
+use Rattle.std.proofs.lemmas.Result.{err_from_is_err_and, IfOk-weaker}
 use Rattle.flow_base.specs.declared.token.Mark.TheVariants as mark
 use Rattle.flow_model.specs.Lexeme.{lexemes}
 use Rattle.flow_syntax.specs.Machine as m

@@ -11,7 +11,7 @@ use Rattle.flow_syntax.proofs.statement.named_statement.Goals as goal
 pub returns-in_err-at-clause-err : goal.returns-in_err-at-clause-err
 returns-in_err-at-clause-err c =
     let p = err_from_is_err_and c.from_residual.result c.from_residual.ensures.1 in
-    rw (p.1, p.2) (stops_in m.statement m.name (lexemes c.args.tokens.now) (lexemes c.args.tokens.now) (λ owed. m.sign mark.Assign ∷ m.side ∷ owed) (λ owed. statement_is owed (lexemes c.args.tokens.now) c.args.requires) c.in_err-at.field-0.0 c.in_err-at.ensures.err)
+    rw (p.1, p.2) (stops_in m.statement m.name (lexemes c.args.tokens.now) (lexemes c.args.tokens.now) (λ owed. m.sign mark.Assign ∷ m.side ∷ owed) (λ owed. statement_is owed (lexemes c.args.tokens.now) c.requires) c.in_err-at.field-0.0 c.in_err-at.ensures.err)
 
 pub returns-clause-ok : goal.returns-clause-ok
 returns-clause-ok c = IfOk-weaker c.right_side.result _ _ (λ x h. assign_parsed c.in_ok-at.at c.in_ok-right.field-0-0 c.in_ok-at.into (lexemes c.args.tokens.now) (lexemes c.in_ok-at.after_name.now) (lexemes c.in_ok-right.right.now) (lexemes x.1.now) (shown_stmt x.0) c.in_ok-at.ensures.ok c.in_ok-right.ensures.ok h) c.right_side.ensures.ok
