@@ -78,7 +78,10 @@ const UNFIT: [(&str, usize); 24] = [
     ("workflow x() { a = call b() retry - 1 every 5; }", 34),
     ("workflow x() { a = call b() retry 2 5; }", 36),
     ("workflow x() { a = call b() retry 2 every n; }", 42),
-    ("workflow x() { a = call b() retry 2 every 5 retry 2 every 5; }", 44),
+    (
+        "workflow x() { a = call b() retry 2 every 5 retry 2 every 5; }",
+        44,
+    ),
     ("workflow x() { a = wait b; }", 24),
     ("workflow x() { a = wait signal ; }", 31),
     ("workflow x() { a = wait signal b (); }", 33),
@@ -107,7 +110,8 @@ fn stops_at_the_first_token_that_does_not_fit(rt: HostRuntime) {
 }
 
 /// A program with each form that has no block of its own.
-const WITH_EACH_FORM: &str = "workflow x(n: int) { signal s: text; activity b(int) -> int; signal t: int; let a = now; a = call b(now - 1) retry 3 every 500; a = call b(n); s = wait signal s; sleep 1000 * n; fail \"a\"; continue as new (a + 1, n); return now; continue as new (); }";
+const WITH_EACH_FORM: &str =
+    "workflow x(n: int) { signal s: text; activity b(int) -> int; signal t: int; let a = now; a = call b(now - 1) retry 3 every 500; a = call b(n); s = wait signal s; sleep 1000 * n; fail \"a\"; continue as new (a + 1, n); return now; continue as new (); }";
 
 #[test]
 fn reads_each_form(rt: HostRuntime) {
