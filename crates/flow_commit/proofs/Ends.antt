@@ -1,5 +1,5 @@
 -- How a commit ends.
-use Rattle.std.proofs.Common.{◌≡◌, ◌⊎◌, inl, inr, ℕ, suc, ◌+◌, false, List, [], ◌∷◌, length, Result, Ok, Err, refl, ap, ◌∙◌, subst, arith}
+use Rattle.std.proofs.Common.{◌≡◌, ◌⊎◌, inl, inr, ℕ, suc, ◌+◌, false, List, [], ◌∷◌, length, Result, Ok, Err, refl, ap, ◌∙◌, sym, subst, arith, true≢false}
 use Rattle.std.specs.Prelude.{IfOk, OnOk}
 use Rattle.sqlite_trees.specs.declared.store.Store.{Ghosts}
 use Rattle.flow_base.specs.declared.command.Reply.{Reply}
@@ -8,14 +8,14 @@ use Rattle.flow_model.specs.Apply.{after, after_one, replies}
 use Rattle.flow_machine.specs.declared.submission.Taken.{Taken}
 use Rattle.flow_machine.specs.declared.submission.Receipt.{Receipt}
 use Rattle.flow_tables.specs.Owned.{Stored, IsFit, Follows, Keeps, state_of}
-use Rattle.flow_tables.specs.Faults.{HasFailed, IsCutOff}
+use Rattle.flow_tables.specs.Faults.{HasFailed, IsCutOff, IsKeptOut}
 use Rattle.flow_view.specs.Reading.{Caused}
 use Rattle.flow_view.specs.declared.fault.ViewFault.{ViewFault}
 use Rattle.flow_view.specs.declared.fault.ViewFault.TheVariants as fault
 use Rattle.flow_commit.specs.declared.outcome.Outcome.TheVariants as outcomes
 use Rattle.flow_commit.specs.declared.transaction.End.{End}
 use Rattle.flow_commit.specs.declared.transaction.End.TheVariants as end
-use Rattle.flow_commit.specs.Committing.{CantBeApplied, EndsFor, IsFor, WasGivenUp}
+use Rattle.flow_commit.specs.Committing.{CantBeApplied, EndsFor, IsDown, IsFor, WasGivenUp}
 use Rattle.flow_commit.specs.Keeping.{Keeping, rules, HasKept, commands_of, receipt_of, receipts_of, receipts_with}
 
 -- where commands or replies have come to their end, nothing more is made
@@ -49,6 +49,20 @@ kept_all g old new b batch rs receipts ends told counts goes = record {
 }
 
 ---- Why it ends so
+
+pub caused_so : (C : Type 0) (f : ViewFault) → (f ≡ fault.StoreRefused → C) → Caused {A = Unit} (Err f) C
+caused_so C fault.NoMemory h = tt
+caused_so C fault.StoreRefused h = h refl
+
+pub failed_down : {S : Type 0} (g : Ghosts S) (old new : Stored S) → HasFailed (state_of g old) (state_of g new) → IsDown g old new
+failed_down g old new (inl more) = inr (inl more)
+failed_down g old new (inr shut) = inl shut
+
+-- what keeps a transaction from being begun, where none runs any more
+pub kept_down : {S : Type 0} (g : Ghosts S) (old mid new : Stored S) → Follows g old mid → IsFit g mid → (state_of g mid).in_transaction ≡ false → IsKeptOut (state_of g mid) (state_of g new) → IsDown g old new
+kept_down g old mid new follows fit outside (inl inside) = absurd (true≢false (sym inside ∙ outside))
+kept_down g old mid new follows fit outside (inr (inl more)) = inr (inl (omega (arith, (follows.3 fit.0 fit.1).0, more)))
+kept_down g old mid new follows fit outside (inr (inr shut)) = inl shut
 
 -- what follows of a result's value, by three clauses on it
 pub ok_on : {A : Type 0} (P T : A → Type 0) (Q G : Type 0) (r : Result A ViewFault) → ((v : A) → P v → Q → G → T v) → IfOk r P → OnOk r Q → OnOk r G → IfOk r T

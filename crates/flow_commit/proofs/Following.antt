@@ -4,7 +4,7 @@ use Rattle.sqlite_trees.specs.declared.store.Store.{Ghosts}
 use Rattle.sqlite.specs.Held.{state}
 use Rattle.flow_model.specs.Book.{Book}
 use Rattle.flow_tables.specs.Owned.{Stored, IsFit, IsUp, is_sure, IsHindered, IsOurs, Follows, Keeps, LeavesEither, LeavesWritten, IsFileOf, state_of}
-use Rattle.flow_tables.proofs.Stopping.{since_self}
+use Rattle.flow_tables.proofs.Stopping.{since_self, since_then}
 
 module _ {S : Type 0} (g : Ghosts S) (a b : Stored S) (follows : Follows g a b) (fit : IsFit g b) where
   pub fit_before : IsFit g a
@@ -21,6 +21,17 @@ module _ {S : Type 0} (g : Ghosts S) (a b : Stored S) (follows : Follows g a b) 
 
 pub follows_self : {S : Type 0} (g : Ghosts S) (a : Stored S) → Follows g a a
 follows_self g a = (refl, λ ours clean. (clean, λ b keeps. keeps), λ ours clean up. up, λ ours clean. since_self (state_of g a))
+
+pub follows_then : {S : Type 0} (g : Ghosts S) (a b c : Stored S) → Follows g a b → Follows g b c → Follows g a c
+follows_then g a b c one two = (
+  two.0 ∙ one.0,
+  λ ours clean. (let it = two.1 ours clean in let was = one.1 (before ours) it.0 in (was.0, λ k keeps. it.1 k (was.1 k keeps))),
+  λ ours clean up. one.2 (before ours) (two.1 ours clean).0 (two.2 ours clean up),
+  λ ours clean. since_then (state_of g a) (state_of g b) (state_of g c) (one.3 (before ours) (two.1 ours clean).0) (two.3 ours clean),
+)
+  where
+    before : IsOurs (state g c.opened) → IsOurs (state g b.opened)
+    before ours = subst (λ h. IsOurs (state g h)) two.0 ours
 
 -- what was written is what apply makes of the book
 pub written_either : {S : Type 0} (g : Ghosts S) (b : Stored S) (sure : Type 0) (k k' k'' : Book) → (sure → k' ≡ k'') → LeavesWritten sure (state_of g b) k k' → LeavesEither (state_of g b) k k''

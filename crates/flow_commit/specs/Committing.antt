@@ -10,7 +10,7 @@ use Rattle.flow_machine.specs.Fitting.{IsUnfitWithin}
 use Rattle.flow_tables.specs.Puts.{IsUnfit, PassesLast}
 use Rattle.flow_view.specs.declared.fault.ViewFault.{ViewFault}
 use Rattle.flow_view.specs.declared.fault.ViewFault.TheVariants as fault
-use Rattle.flow_tables.specs.Faults.{WasStopped, HasFailed, IsCutOff}
+use Rattle.flow_tables.specs.Faults.{HasFailed, IsCutOff}
 use Rattle.flow_tables.specs.States.{HasGoneBack}
 use Rattle.flow_tables.specs.Owned.{Stored, state_of, IsUp, Keeps, Follows, Refuses, LeavesEither}
 use Rattle.flow_commit.specs.declared.outcome.Outcome.{Outcome}
@@ -45,10 +45,13 @@ NumbersRunOut b cs = IsUnfitWithin PassesLast rules b cs
 abbrev pub OnlyNumbersRunOut : Type 0
 OnlyNumbersRunOut = (b : Book) (cs : List Command) → IsWell b → CantBeApplied b cs → NumbersRunOut b cs
 
--- The store refused something of a transaction, and what it had begun was rolled back.
+-- The connection is shut, or the store hindered what was done since the first state.
+abbrev pub IsDown : {S : Type 0} → Ghosts S → Stored S → Stored S → Type 0
+IsDown g first t = ((state_of g t).is_open ≡ false) ⊎ Refuses g first t
+
+-- The store refused something of a transaction for this, and what it had begun was rolled back.
 abbrev pub WasGivenUp : {S : Type 0} → Ghosts S → Stored S → Stored S → Type 0
-WasGivenUp {S} g old new =
-    (mid : Stored S) × Follows g old mid × (WasStopped (codes "BEGIN") (state_of g old) (state_of g mid) ⊎ Refuses g old mid) × HasGoneBack g mid.held new.held
+WasGivenUp {S} g old new = (mid : Stored S) × Follows g old mid × IsDown g old mid × HasGoneBack g mid.held new.held
 
 -- The store refused the commit, or the way back, with this. Where it is E80 the disk has failed once more since the beginning, or
 -- the connection is shut.

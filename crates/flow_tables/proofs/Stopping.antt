@@ -6,17 +6,18 @@ use Rattle.flow_sql.proofs.Leaves.{left_open}
 use Rattle.sqlite_disk.specs.Disk.{MoreFaults}
 use Rattle.sqlite.specs.Tree.{Trees}
 use Rattle.sqlite.specs.declared.error.Error.TheVariants.{QueryReturnedNoRows}
+use Rattle.flow_view.specs.Reading.{Caused}
 use Rattle.flow_view.specs.declared.fault.ViewFault.TheVariants as view
 use Rattle.flow_sql.specs.Coming.{IsFull}
 use Rattle.flow_sql.proofs.Finding.{format_refused, blank_refused}
 use Rattle.flow_base.specs.declared.fault.Fault.TheVariants as fault
 use Rattle.flow_tables.specs.Opening.{opening_fault, read_fault_of, IsCutShort, StopsRows, StopsMaking, IsHeldUp, StopsOpening}
 use Rattle.flow_sql.specs.States.{RunsTo}
-use Rattle.flow_sql.proofs.Transactions.{commit_refused, rollback_refused}
+use Rattle.flow_sql.proofs.Transactions.{begin_refused, commit_refused, rollback_refused}
 use Rattle.flow_sql.specs.Stored.{HasOddText}
 use Rattle.flow_tables.specs.Asking.{StopsAsk}
 use Rattle.flow_tables.specs.Reads.{IsReadFault}
-use Rattle.flow_tables.specs.Faults.{Since, fault_of, read_refusal, told_fault, HasFailed, IsCutOff}
+use Rattle.flow_tables.specs.Faults.{Since, fault_of, read_refusal, told_fault, HasFailed, IsCutOff, IsKeptOut}
 use Rattle.flow_tables.specs.declared.fault.StoreFault.TheVariants.{NoMemory, Refused}
 use Rattle.flow_tables.specs.declared.fault.Refusal.TheVariants as refusal
 use Rattle.flow_tables.proofs.Causes.{because_on}
@@ -102,8 +103,8 @@ fault_told kinds sql params old new e h = inl (other e refl, h)
 
 ---- Transactions
 
--- what refuses a COMMIT or a ROLLBACK: the disk, or the want of memory
-module _ (sql : List ℕ) (old new : State) (e : Error) (inside : old.in_transaction ≡ true) (ran : Executes sql [] old new (Err e))
+-- what refuses a BEGIN, a COMMIT or a ROLLBACK in its place: the disk, or the want of memory
+module _ (sql : List ℕ) (old new : State) (e : Error) (ran : Executes sql [] old new (Err e))
     (refused : e ≢ SqliteFailure OutOfMemory → IsTrue old.is_open → MoreFaults old.faults new.faults) (f : ViewFault) (told : f ≡ told_fault (refusal_of e)) where
   cut_failed : f ≡ view.StoreRefused → HasFailed old new
   cut_failed is = elim (cases_Bool old.is_open) [
@@ -114,15 +115,25 @@ module _ (sql : List ℕ) (old new : State) (e : Error) (inside : old.in_transac
     ])
   ]
 
-  cut_off : IsCutOff sql old new f
-  cut_off = record { error = e; inside = inside; refused = ran; told = told; failed = cut_failed }
+  cut_off : old.in_transaction ≡ true → IsCutOff sql old new f
+  cut_off inside = record { error = e; inside = inside; refused = ran; told = told; failed = cut_failed }
 
-module _ (old new : State) (e : Error) (f : ViewFault) (told : f ≡ told_fault (refusal_of e)) (inside : old.in_transaction ≡ true) where
-  pub commit_cut : Executes (codes "COMMIT") [] old new (Err e) → IsCutOff (codes "COMMIT") old new f
-  commit_cut ran = cut_off (codes "COMMIT") old new e inside ran (λ other up. commit_refused old new e other up inside ran) f told
+module _ (old new : State) (e : Error) (f : ViewFault) (told : f ≡ told_fault (refusal_of e)) where
+  pub commit_cut : old.in_transaction ≡ true → Executes (codes "COMMIT") [] old new (Err e) → IsCutOff (codes "COMMIT") old new f
+  commit_cut inside ran = cut_off (codes "COMMIT") old new e ran (λ other up. commit_refused old new e other up inside ran) f told inside
 
-  pub rollback_cut : Executes (codes "ROLLBACK") [] old new (Err e) → IsCutOff (codes "ROLLBACK") old new f
-  rollback_cut ran = cut_off (codes "ROLLBACK") old new e inside ran (λ other up. rollback_refused old new e other up inside ran) f told
+  pub rollback_cut : old.in_transaction ≡ true → Executes (codes "ROLLBACK") [] old new (Err e) → IsCutOff (codes "ROLLBACK") old new f
+  rollback_cut inside ran = cut_off (codes "ROLLBACK") old new e ran (λ other up. rollback_refused old new e other up inside ran) f told inside
+
+  pub begin_kept_out : Executes (codes "BEGIN") [] old new (Err e) → Caused {A = Unit} (Err f) (IsKeptOut old new)
+  begin_kept_out ran = caused_so f (λ is. elim (cases_Bool old.in_transaction) [
+    | inl inside ↦ inl inside
+    | inr outside ↦ inr (cut_failed (codes "BEGIN") old new e ran (λ other up. begin_refused old new e other up outside ran) f told is)
+  ])
+    where
+      caused_so : (f : ViewFault) → (f ≡ view.StoreRefused → IsKeptOut old new) → Caused {A = Unit} (Err f) (IsKeptOut old new)
+      caused_so view.NoMemory h = tt
+      caused_so view.StoreRefused h = h refl
 
 ---- Opening
 

@@ -84,6 +84,10 @@ Because refusal.Unfit stopped unfit = unfit
 abbrev pub HasFailed : State → State → Type 0
 HasFailed old new = MoreFaults old.faults new.faults ⊎ (new.is_open ≡ false)
 
+-- BEGIN was refused: a transaction runs already, the disk has failed once more, or the connection is shut.
+abbrev pub IsKeptOut : State → State → Type 0
+IsKeptOut old new = (old.in_transaction ≡ true) ⊎ HasFailed old new
+
 -- This statement was refused within a transaction, and its error is told so: where it is E80, the disk has failed.
 pub record IsCutOff (sql : List ℕ) (old new : State) (f : ViewFault) : Type 0 where
   pub error : Error
