@@ -11,3 +11,5 @@ mod replays;
 mod turns;
 #[cfg(test)]
 mod values;
+#[cfg(test)]
+mod waits;

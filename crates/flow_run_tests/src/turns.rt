@@ -1,5 +1,5 @@
 //! The first turn of a run and those after it, with ample memory.
-use crate::numbers::moment;
+use crate::numbers::{event_id, moment};
 use flow_base::event::{Cmd, Input, State};
 use flow_base::text::Text;
 use flow_base::value::Value;
@@ -48,6 +48,36 @@ fn arguments_fit_their_parameters(rt: HostRuntime) -> Result<(), Fail> {
     let program = program(rt.alloc())?;
     let refused = Stance::first(rt.alloc(), &program, &[], at, Answers::Fresh);
     assert!(rt; matches!(refused, Err(RunFault::NotAwaited)));
+    Ok(())
+}
+
+// A run of the program with no arguments, after its first turn at moment 10, and whether that starts one timer alone.
+fn sleeper(alloc: Global, program: &Checked) -> Result<(Stance, bool), Fail> {
+    let at = moment(10)?;
+    let (stance, commands) = Stance::first(alloc, program, &[], at, Answers::Fresh)?;
+    let sleeps = matches!(commands.as_slice(), [Cmd::StartTimer(_)]);
+    Ok((stance, sleeps))
+}
+
+// Whether the run ends with the number 20 when the timer of its second event fires at moment 20.
+fn wakes(alloc: Global, stance: &mut Stance, program: &Checked) -> Result<bool, Fail> {
+    let at = moment(20)?;
+    if stance.events() > 100 {
+        return Ok(false);
+    }
+    let fired = Input::TimerFired(event_id(2)?);
+    let commands = turn(alloc, stance, program, at, &fired, Answers::Fresh)?;
+    Ok(matches!(commands.as_slice(), [Cmd::Complete(Value::Int(20))]))
+}
+
+#[test]
+fn a_sleep_waits_on_its_timer(rt: HostRuntime) -> Result<(), Fail> {
+    let program = parse(rt.alloc(), "workflow a() { sleep 5; return now; }")?;
+    let program = check(rt.alloc(), program)?;
+    let (mut stance, sleeps) = sleeper(rt.alloc(), &program)?;
+    assert!(rt; sleeps && stance.state() == State::Open);
+    let wakes = wakes(rt.alloc(), &mut stance, &program)?;
+    assert!(rt; wakes);
     Ok(())
 }
 
