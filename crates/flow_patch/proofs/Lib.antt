@@ -1,0 +1,13 @@
+pub mod Normal
+pub mod Passed
+pub mod Waits
+pub mod Owned
+pub mod Own
+pub mod Simulate
+pub mod Turns
+pub mod Law
+pub mod Calls
+pub mod Words
+pub mod Same
+pub mod Differences
+mod Rows

@@ -1,0 +1,3 @@
+-- each file a subject
+pub mod Wrap
+pub mod Difference
