@@ -10,6 +10,8 @@ mod lines;
 #[cfg(test)]
 mod runs;
 #[cfg(test)]
+mod same;
+#[cfg(test)]
 mod stops;
 #[cfg(test)]
 mod texts;
