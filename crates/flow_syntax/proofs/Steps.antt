@@ -3,7 +3,6 @@ use Rattle.std.proofs.Common.{◌≡◌, ℕ, suc, true, List, [], ◌∷◌, �
 use Rattle.flow_base.specs.Syntax.{Bytes}
 use Rattle.flow_base.specs.declared.token.Word.{Word}
 use Rattle.flow_base.specs.declared.token.Word.TheVariants as word
-use Rattle.flow_base.specs.declared.token.Mark.{Mark}
 use Rattle.flow_base.specs.declared.token.Mark.TheVariants as mark
 use Rattle.flow_model.specs.Lexeme.{Lexeme}
 use Rattle.flow_model.specs.Grammar.{marked, worded, is_patch_id, TermSign, times, over, percent, SumSign, plus, minus, join, CompareSign, equal, differ, less, at_most, greater, at_least, term_mark, sum_mark, compare_mark}

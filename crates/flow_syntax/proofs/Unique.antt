@@ -4,7 +4,6 @@ use Rattle.std.proofs.Math.Bool.{Bool-set}
 use Rattle.flow_base.specs.Syntax.{Bytes}
 use Rattle.flow_base.specs.Syntax as tree
 use Rattle.flow_base.specs.declared.token.Word.TheVariants as word
-use Rattle.flow_base.specs.declared.token.Mark.{Mark}
 use Rattle.flow_base.specs.declared.token.Mark.TheVariants as mark
 use Rattle.flow_base.specs.declared.value.Kind.{Kind}
 use Rattle.flow_base.specs.declared.value.Kind.TheVariants as kind
