@@ -1,16 +1,18 @@
 //! The text of a program: its tokens, joined by one space.
-ghost use Rattle.std.specs.Prelude.{◌≡◌, ◌≤◌, ◌==◌, ◌&&◌, ◌∷◌, ◌++◌, map, length, OnOk, IfOk, string_bytes};
+ghost use Rattle.std.specs.Prelude.{◌≡◌, ◌≤◌, ◌==◌, ◌&&◌, [], ◌∷◌, ◌++◌, map, length, OnOk, IfOk, string_bytes};
 ghost use Rattle.flow_base.specs.declared.token.Word.TheVariants as word;
-ghost use Rattle.flow_base.specs.Syntax.{Bytes, Let, Assign, Call, WaitSignal, Continue, NoElse, Activity, Signal};
-ghost use Rattle.flow_base.specs.Shown.{shown_expr, shown_stmt, shown_block, shown_declaration, shown_program};
+ghost use Rattle.flow_base.specs.declared.token.Mark.TheVariants as mark;
+ghost use Rattle.flow_base.specs.Syntax.{Bytes, Let, Assign, Call, WaitSignal, WaitSignalFor, While, Continue, Activity, Signal};
+ghost use Rattle.flow_base.specs.Shown.{shown_expr, shown_stmt, shown_braced, shown_branch, shown_otherwise, branches_of, shown_block, shown_declaration, shown_program};
 ghost use Rattle.flow_model.specs.Meaning.{IsProgramOf};
-ghost use Rattle.flow_syntax.specs.Print.{spaced, fitted, in_parentheses, level, unary_words, expression_words, arguments_words, type_words, parameter_words, end, retry_words, statement_words, block_words, declared_words, declarations_words, words_behind_keyword, program_words, joined, AreReadAs, ArePrintable, HasTokens, IsTextOf, IsProgramAgain, HasLeastWords};
+ghost use Rattle.flow_syntax.specs.Print.{spaced, fitted, in_parentheses, level, unary_words, expression_words, arguments_words, type_words, parameter_words, end, in_braces, retry_words, statement_words, block_words, is_end, else_words, otherwise_words, branches_words, declared_words, declarations_words, words_behind_keyword, program_words, joined, AreReadAs, ArePrintable, HasTokens, IsTextOf, IsProgramAgain, HasLeastWords};
 
 use crate::levels::{binary_mark, left_level, level, right_level};
 use crate::listed::{Item, print_list};
 use crate::printer::Printer;
+use crate::readable;
 use flow_base::syntax::{
-    Binary, Declaration, Expr, Parameter, Program, Retry, Stmt, TypeAt, Unary,
+    Binary, Block, Branch, Declaration, Expr, Parameter, Program, Retry, Stmt, TypeAt, Unary,
 };
 use flow_base::text::Key;
 use flow_base::token::Mark;
@@ -23,7 +25,7 @@ fn expr(out: &mut Printer, expr: &Expr) -> Result<(), AllocError>
 {
     match expr {
         Expr::Int(_, number) => out.number(*number),
-        Expr::Text(_, text) => out.quoted(text),
+        Expr::Text(_, text) => out.quoted(text.as_str()),
         Expr::Var(_, name) => out.name(name),
         Expr::Now(_) => out.mark(Mark::Now),
         Expr::Unary(_, operator, inner) => unary(out, *operator, inner),
@@ -138,25 +140,6 @@ fn assign(out: &mut Printer, name: &Key, value: &Expr) -> Result<(), AllocError>
     Ok(())
 }
 
-fn call(
-    out: &mut Printer,
-    into: &Key,
-    activity: &Key,
-    list: &[Expr],
-    often: Retry,
-) -> Result<(), AllocError>
-    ensures { OnOk result (out.new ≡ out.old ++ spaced (statement_words (Call 0 into.now 0 activity.now (map shown_expr list.now) often NoElse))) }
-{
-    out.name(into)?;
-    out.mark(Mark::Assign)?;
-    out.mark(Mark::Call)?;
-    out.name(activity)?;
-    arguments(out, list)?;
-    retry(out, often)?;
-    out.mark(Mark::Semicolon)?;
-    Ok(())
-}
-
 /// Whether a call with no `retry` is tried as often.
 fn is_once(often: Retry) -> bool
     ensures { result ≡ (often.tries == 1) && (often.every == 0) }
@@ -178,14 +161,22 @@ fn retry(out: &mut Printer, often: Retry) -> Result<(), AllocError>
     Ok(())
 }
 
-fn wait(out: &mut Printer, into: &Key, signal: &Key) -> Result<(), AllocError>
-    ensures { OnOk result (out.new ≡ out.old ++ spaced (statement_words (WaitSignal 0 into.now 0 signal.now))) }
+/// A wait without what is behind its signal.
+fn wait_head(out: &mut Printer, into: &Key, signal: &Key) -> Result<(), AllocError>
+    ensures { OnOk result (out.new ≡ out.old ++ spaced (word.Name into.now ∷ word.Mark mark.Assign ∷ word.Mark mark.Wait ∷ word.Mark mark.Signal ∷ word.Name signal.now ∷ [])) }
 {
     out.name(into)?;
     out.mark(Mark::Assign)?;
     out.mark(Mark::Wait)?;
     out.mark(Mark::Signal)?;
     out.name(signal)?;
+    Ok(())
+}
+
+fn wait(out: &mut Printer, into: &Key, signal: &Key) -> Result<(), AllocError>
+    ensures { OnOk result (out.new ≡ out.old ++ spaced (statement_words (WaitSignal 0 into.now 0 signal.now))) }
+{
+    wait_head(out, into, signal)?;
     out.mark(Mark::Semicolon)?;
     Ok(())
 }
@@ -211,27 +202,210 @@ fn continue_as_new(out: &mut Printer, list: &[Expr]) -> Result<(), AllocError>
     Ok(())
 }
 
+/// A keyword and the condition behind it.
+fn before_list(out: &mut Printer, keyword: Mark, condition: &Expr) -> Result<(), AllocError>
+    ensures { OnOk result (out.new ≡ out.old ++ spaced (word.Mark keyword ∷ expression_words (shown_expr condition.now))) }
+{
+    out.mark(keyword)?;
+    expr(out, condition)?;
+    Ok(())
+}
+
+/// A patch before its lists.
+fn before_lists(out: &mut Printer, id: &Key) -> Result<(), AllocError>
+    ensures { OnOk result (out.new ≡ out.old ++ spaced (word.Mark mark.Patch ∷ word.Text id.now ∷ [])) }
+{
+    out.mark(Mark::Patch)?;
+    out.quoted(id.as_str())?;
+    Ok(())
+}
+
+fn before_branches(out: &mut Printer) -> Result<(), AllocError>
+    ensures { OnOk result (out.new ≡ out.old ++ spaced (word.Mark mark.Parallel ∷ word.Mark mark.BraceOpen ∷ [])) }
+{
+    out.mark(Mark::Parallel)?;
+    out.mark(Mark::BraceOpen)?;
+    Ok(())
+}
+
+/// The list behind an `else`.
+#[cycle(statement)]
+fn else_block(out: &mut Printer, list: &Block) -> Result<(), AllocError>
+    ensures { OnOk result (out.new ≡ out.old ++ spaced (word.Mark mark.Else ∷ in_braces (block_words (shown_braced list.now).0))) }
+{
+    out.mark(Mark::Else)?;
+    block(out, list)?;
+    Ok(())
+}
+
+fn is_empty(list: &Block) -> bool
+    ensures { result ≡ is_end (shown_braced list.now).0 }
+{
+    has_none(&list.list)
+}
+
+fn has_none(list: &[Stmt]) -> bool
+    ensures { result ≡ is_end (shown_block list.now) }
+{
+    list.len() == 0
+}
+
+/// The second list of `if` and `patch`, which is left out where it is empty.
+#[cycle(statement)]
+fn second(out: &mut Printer, list: &Block) -> Result<(), AllocError>
+    ensures { OnOk result (out.new ≡ out.old ++ spaced (else_words (shown_braced list.now).0)) }
+{
+    if is_empty(list) {
+        return Ok(());
+    }
+    else_block(out, list)?;
+    Ok(())
+}
+
+#[cycle(statement)]
+fn while_statement(out: &mut Printer, body: &Block, condition: &Expr) -> Result<(), AllocError>
+    ensures { OnOk result (out.new ≡ out.old ++ spaced (statement_words (While 0 (shown_expr condition.now) (shown_braced body.now).0 0))) }
+{
+    before_list(out, Mark::While, condition)?;
+    block(out, body)?;
+    Ok(())
+}
+
+/// What a call does where its activity fails: a missing list is left out, an empty one isn't.
+#[cycle(statement)]
+fn otherwise(out: &mut Printer, failing: &Option<Block>) -> Result<(), AllocError>
+    ensures { OnOk result (out.new ≡ out.old ++ spaced (otherwise_words (shown_otherwise failing.now))) }
+{
+    match failing {
+        None => Ok(()),
+        Some(list) => else_block(out, list),
+    }
+}
+
+#[cycle(statement)]
+fn call(
+    out: &mut Printer,
+    failing: &Option<Block>,
+    into: &Key,
+    activity: &Key,
+    list: &[Expr],
+    often: Retry,
+) -> Result<(), AllocError>
+    ensures { OnOk result (out.new ≡ out.old ++ spaced (statement_words (Call 0 into.now 0 activity.now (map shown_expr list.now) often (shown_otherwise failing.now)))) }
+{
+    out.name(into)?;
+    out.mark(Mark::Assign)?;
+    out.mark(Mark::Call)?;
+    out.name(activity)?;
+    arguments(out, list)?;
+    retry(out, often)?;
+    otherwise(out, failing)?;
+    out.mark(Mark::Semicolon)?;
+    Ok(())
+}
+
+/// A wait for at most a delay.
+#[cycle(statement)]
+fn wait_for(
+    out: &mut Printer,
+    late: &Block,
+    into: &Key,
+    signal: &Key,
+    delay: &Expr,
+) -> Result<(), AllocError>
+    ensures { OnOk result (out.new ≡ out.old ++ spaced (statement_words (WaitSignalFor 0 into.now 0 signal.now (shown_expr delay.now) (shown_braced late.now).0 0))) }
+{
+    wait_head(out, into, signal)?;
+    out.mark(Mark::For)?;
+    expr(out, delay)?;
+    else_block(out, late)?;
+    out.mark(Mark::Semicolon)?;
+    Ok(())
+}
+
+#[cycle(statement)]
+fn branch(out: &mut Printer, one: &Branch) -> Result<(), AllocError>
+    ensures { OnOk result (out.new ≡ out.old ++ spaced (in_braces (block_words (shown_branch one.now).1.0))) }
+{
+    block(out, &one.body)
+}
+
+#[cycle(statement)]
+fn branches(out: &mut Printer, list: &[Branch]) -> Result<(), AllocError>
+    ensures { OnOk result (out.new ≡ out.old ++ spaced (branches_words (branches_of (map shown_branch list.now)))) }
+{
+    for next in list {
+        branch(out, next)?;
+    }
+    Ok(())
+}
+
+#[cycle(statement)]
 fn statement(out: &mut Printer, stmt: &Stmt) -> Result<(), AllocError>
     ensures { OnOk result (out.new ≡ out.old ++ spaced (statement_words (shown_stmt stmt.now))) }
 {
     match stmt {
         Stmt::Let(_, _, name, value) => let_statement(out, name, value),
         Stmt::Assign(_, name, value) => assign(out, name, value),
-        Stmt::Call(_, into, _, activity, list, often) => call(out, into, activity, list, *often),
+        Stmt::Call(_, into, _, activity, list, often, failing) => {
+            call(out, failing, into, activity, list, *often)
+        }
         Stmt::WaitSignal(_, into, _, signal) => wait(out, into, signal),
+        Stmt::WaitSignalFor(_, into, _, signal, delay, late) => {
+            wait_for(out, late, into, signal, delay)
+        }
         Stmt::Sleep(_, delay) => keyword_statement(out, Mark::Sleep, delay),
+        Stmt::If(_, condition, first, other) => {
+            before_list(out, Mark::If, condition)?;
+            block(out, first)?;
+            second(out, other)?;
+            Ok(())
+        }
+        Stmt::While(_, condition, body) => while_statement(out, body, condition),
+        Stmt::Parallel(_, first, others) => {
+            before_branches(out)?;
+            branch(out, first)?;
+            branches(out, others)?;
+            out.mark(Mark::BraceClose)?;
+            Ok(())
+        }
+        Stmt::Patch(_, _, id, first, other) => {
+            before_lists(out, id)?;
+            block(out, first)?;
+            second(out, other)?;
+            Ok(())
+        }
         Stmt::Return(_, value) => keyword_statement(out, Mark::Return, value),
         Stmt::FailWith(_, value) => keyword_statement(out, Mark::Fail, value),
         Stmt::Continue(_, list) => continue_as_new(out, list),
     }
 }
 
+#[cycle(statement)]
 fn statements(out: &mut Printer, list: &[Stmt]) -> Result<(), AllocError>
     ensures { OnOk result (out.new ≡ out.old ++ spaced (block_words (shown_block list.now))) }
 {
     for stmt in list {
         statement(out, stmt)?;
     }
+    Ok(())
+}
+
+/// The statements of a list.
+#[cycle(statement)]
+fn inside(out: &mut Printer, list: &Block) -> Result<(), AllocError>
+    ensures { OnOk result (out.new ≡ out.old ++ spaced (block_words (shown_braced list.now).0)) }
+{
+    statements(out, &list.list)
+}
+
+#[cycle(statement)]
+fn block(out: &mut Printer, list: &Block) -> Result<(), AllocError>
+    ensures { OnOk result (out.new ≡ out.old ++ spaced (in_braces (block_words (shown_braced list.now).0))) }
+{
+    out.mark(Mark::BraceOpen)?;
+    inside(out, list)?;
+    out.mark(Mark::BraceClose)?;
     Ok(())
 }
 
@@ -306,6 +480,7 @@ pub fn print(alloc: Global, program: &Program) -> Result<String, AllocError>
     // No tokens that are read as the program, up to places, are fewer: there is no needless pair of parentheses.
     ensures least { OnOk result (HasLeastWords (shown_program program.now)) }
 {
+    readable::statements(&program.body);
     let mut out = Printer::new(alloc, "workflow")?;
     behind_keyword(&mut out, program)?;
     Ok(out.finish())
