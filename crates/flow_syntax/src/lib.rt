@@ -11,4 +11,5 @@ pub mod parse;
 pub mod print;
 mod printer;
 mod program;
+mod readable;
 mod statement;

@@ -181,12 +181,20 @@ fn wait(out: &mut Printer, into: &Key, signal: &Key) -> Result<(), AllocError>
     Ok(())
 }
 
+/// A keyword and the expression behind it.
+fn keyword_head(out: &mut Printer, keyword: Mark, value: &Expr) -> Result<(), AllocError>
+    ensures { OnOk result (out.new ≡ out.old ++ spaced (word.Mark keyword ∷ expression_words (shown_expr value.now))) }
+{
+    out.mark(keyword)?;
+    expr(out, value)?;
+    Ok(())
+}
+
 /// A statement of a keyword and an expression.
 fn keyword_statement(out: &mut Printer, keyword: Mark, value: &Expr) -> Result<(), AllocError>
     ensures { OnOk result (out.new ≡ out.old ++ spaced (word.Mark keyword ∷ (expression_words (shown_expr value.now) ++ end))) }
 {
-    out.mark(keyword)?;
-    expr(out, value)?;
+    keyword_head(out, keyword, value)?;
     out.mark(Mark::Semicolon)?;
     Ok(())
 }
@@ -202,17 +210,8 @@ fn continue_as_new(out: &mut Printer, list: &[Expr]) -> Result<(), AllocError>
     Ok(())
 }
 
-/// A keyword and the condition behind it.
-fn before_list(out: &mut Printer, keyword: Mark, condition: &Expr) -> Result<(), AllocError>
-    ensures { OnOk result (out.new ≡ out.old ++ spaced (word.Mark keyword ∷ expression_words (shown_expr condition.now))) }
-{
-    out.mark(keyword)?;
-    expr(out, condition)?;
-    Ok(())
-}
-
-/// A patch before its lists.
-fn before_lists(out: &mut Printer, id: &Key) -> Result<(), AllocError>
+/// A patch without its lists.
+fn patch_head(out: &mut Printer, id: &Key) -> Result<(), AllocError>
     ensures { OnOk result (out.new ≡ out.old ++ spaced (word.Mark mark.Patch ∷ word.Text id.now ∷ [])) }
 {
     out.mark(Mark::Patch)?;
@@ -220,7 +219,8 @@ fn before_lists(out: &mut Printer, id: &Key) -> Result<(), AllocError>
     Ok(())
 }
 
-fn before_branches(out: &mut Printer) -> Result<(), AllocError>
+/// What is before the branches.
+fn parallel_head(out: &mut Printer) -> Result<(), AllocError>
     ensures { OnOk result (out.new ≡ out.old ++ spaced (word.Mark mark.Parallel ∷ word.Mark mark.BraceOpen ∷ [])) }
 {
     out.mark(Mark::Parallel)?;
@@ -266,7 +266,7 @@ fn second(out: &mut Printer, list: &Block) -> Result<(), AllocError>
 fn while_statement(out: &mut Printer, body: &Block, condition: &Expr) -> Result<(), AllocError>
     ensures { OnOk result (out.new ≡ out.old ++ spaced (statement_words (While 0 (shown_expr condition.now) (shown_braced body.now).0 0))) }
 {
-    before_list(out, Mark::While, condition)?;
+    keyword_head(out, Mark::While, condition)?;
     block(out, body)?;
     Ok(())
 }
@@ -356,21 +356,21 @@ fn statement(out: &mut Printer, stmt: &Stmt) -> Result<(), AllocError>
         }
         Stmt::Sleep(_, delay) => keyword_statement(out, Mark::Sleep, delay),
         Stmt::If(_, condition, first, other) => {
-            before_list(out, Mark::If, condition)?;
+            keyword_head(out, Mark::If, condition)?;
             block(out, first)?;
             second(out, other)?;
             Ok(())
         }
         Stmt::While(_, condition, body) => while_statement(out, body, condition),
         Stmt::Parallel(_, first, others) => {
-            before_branches(out)?;
+            parallel_head(out)?;
             branch(out, first)?;
             branches(out, others)?;
             out.mark(Mark::BraceClose)?;
             Ok(())
         }
         Stmt::Patch(_, _, id, first, other) => {
-            before_lists(out, id)?;
+            patch_head(out, id)?;
             block(out, first)?;
             second(out, other)?;
             Ok(())

@@ -41,7 +41,7 @@ pub else_block-returns : goal.else_block-returns
 else_block-returns t c = words_then _ _ _ _ _ c.in_ok-mark.ensures c.in_ok-block.ensures
 
 pub while_statement-returns : goal.while_statement-returns
-while_statement-returns t c = words_then _ _ _ _ _ c.in_ok-before_list.ensures c.in_ok-block.ensures
+while_statement-returns t c = words_then _ _ _ _ _ c.in_ok-keyword_head.ensures c.in_ok-block.ensures
 
 pub call-returns : goal.call-returns
 call-returns t c = words_then _ _ _ _ _ c.in_ok-name.ensures (words_then _ _ _ _ _ c.in_ok-mark.ensures (words_then _ _ _ _ _ c.in_ok-mark-2.ensures (words_then _ _ _ _ _ c.in_ok-name-2.ensures (words_then _ _ _ _ _ c.in_ok-arguments.ensures (words_then _ _ _ _ _ c.in_ok-retry.ensures (words_then _ _ _ _ _ c.in_ok-otherwise.ensures c.in_ok-mark-3.ensures))))))
@@ -60,14 +60,14 @@ otherwise-returns-in-None t c = rw c.in-None.is (no_words c.args.out.now [] refl
 
 pub statement-returns-in_ok-second-in-If : goal.statement-returns-in_ok-second-in-If
 statement-returns-in_ok-second-in-If t c =
-    rw c.in-If.is (rw (shown_if c.in-If.field-0 c.in-If.condition c.in-If.first c.in-If.other) (words_then _ _ _ _ _ c.in_ok-before_list-in-If.ensures (words_then _ _ _ _ _ c.in_ok-block-in-If.ensures c.in_ok-second-in-If.ensures)))
+    rw c.in-If.is (rw (shown_if c.in-If.field-0 c.in-If.condition c.in-If.first c.in-If.other) (words_then _ _ _ _ _ c.in_ok-keyword_head-in-If.ensures (words_then _ _ _ _ _ c.in_ok-block-in-If.ensures c.in_ok-second-in-If.ensures)))
 
 pub statement-returns-in_ok-mark-in-Parallel : goal.statement-returns-in_ok-mark-in-Parallel
 statement-returns-in_ok-mark-in-Parallel t c =
     let others = rw c.deref-in-Parallel.ensures.value at c.in_ok-branches-in-Parallel.ensures in
     let inside = words_then _ _ _ _ _ (words_then _ _ _ _ _ c.in_ok-branch-in-Parallel.ensures others) c.in_ok-mark-in-Parallel.ensures in
-    rw c.in-Parallel.is (rw (shown_parallel c.in-Parallel.field-0 c.in-Parallel.first c.in-Parallel.others) (words_then _ _ _ _ _ c.in_ok-before_branches-in-Parallel.ensures inside))
+    rw c.in-Parallel.is (rw (shown_parallel c.in-Parallel.field-0 c.in-Parallel.first c.in-Parallel.others) (words_then _ _ _ _ _ c.in_ok-parallel_head-in-Parallel.ensures inside))
 
 pub statement-returns-in_ok-second-in-Patch : goal.statement-returns-in_ok-second-in-Patch
 statement-returns-in_ok-second-in-Patch t c =
-    rw c.in-Patch.is (rw (shown_patch c.in-Patch.field-0 c.in-Patch.field-1 c.in-Patch.id c.in-Patch.first c.in-Patch.other) (words_then _ _ _ _ _ c.in_ok-before_lists-in-Patch.ensures (words_then _ _ _ _ _ c.in_ok-block-in-Patch.ensures c.in_ok-second-in-Patch.ensures)))
+    rw c.in-Patch.is (rw (shown_patch c.in-Patch.field-0 c.in-Patch.field-1 c.in-Patch.id c.in-Patch.first c.in-Patch.other) (words_then _ _ _ _ _ c.in_ok-patch_head-in-Patch.ensures (words_then _ _ _ _ _ c.in_ok-block-in-Patch.ensures c.in_ok-second-in-Patch.ensures)))

@@ -31,7 +31,7 @@ returns-clause-printable c = λ source h. program_printable source (shown_progra
 
 pub returns-clause-parsed : goal.returns-clause-parsed
 returns-clause-parsed c = λ source h short.
-    program_again c.args.program.now source (string_bytes c.finish.result) (returns-clause-words c) h short
+    program_again (shown_program c.args.program.now) (rw c.deref.ensures.value at c.statements.ensures) source (string_bytes c.finish.result) (returns-clause-words c) h short
 
 pub returns-clause-least : goal.returns-clause-least
 returns-clause-least c = program_least (shown_program c.args.program.now)

@@ -1,4 +1,4 @@
-use Rattle.std.proofs.Common.{map, drop, take}
+use Rattle.std.proofs.Common.{map, drop}
 use Rattle.flow_base.specs.Shown.{shown_block, shown_branch, branches_of}
 use Rattle.flow_syntax.specs.Print.{AreReadable, AreReadableBranches}
 use Rattle.flow_syntax.proofs.readable.+readable.Given as goal
