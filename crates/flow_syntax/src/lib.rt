@@ -9,6 +9,8 @@ pub mod limits;
 mod listed;
 pub mod parse;
 pub mod print;
+mod print_expression;
+mod print_statement;
 mod printer;
 mod program;
 mod readable;
