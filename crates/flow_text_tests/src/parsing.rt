@@ -119,7 +119,7 @@ fn reads_each_form(rt: HostRuntime) {
 }
 
 /// Programs, each with what it prints as.
-const PRINTED: [(&str, &str); 10] = [
+const PRINTED: [(&str, &str); 16] = [
     ("workflow e() {}", "workflow e ( ) { }"),
     (
         "workflow a(n: int) { activity c(int, text) -> int; let r = 0; r = call c(n, \"eur\"); return r + 1; }",
@@ -156,6 +156,30 @@ const PRINTED: [(&str, &str); 10] = [
     (
         "workflow r(n: int) { continue as new(); n = call c(n) retry 9223372036854775807 every 9223372036854775807; continue as new((n), now - 1); }",
         "workflow r ( n : int ) { continue as new ( ) ; n = call c ( n ) retry 9223372036854775807 every 9223372036854775807 ; continue as new ( n , now - 1 ) ; }",
+    ),
+    (
+        "workflow i(n: int) { if n < 1 { } else { } if (n < 2) { n = 1; } if n < 3 { } else { n = 2; } return n; }",
+        "workflow i ( n : int ) { if n < 1 { } if n < 2 { n = 1 ; } if n < 3 { } else { n = 2 ; } return n ; }",
+    ),
+    (
+        "workflow w(n: int) { while n > 0 { n = n - 1; while (n == 5) { } } }",
+        "workflow w ( n : int ) { while n > 0 { n = n - 1 ; while n == 5 { } } }",
+    ),
+    (
+        "workflow c(n: int) { activity b() -> int; n = call b() else { }; n = call b() retry 2 every 5 else { n = 0; return n; }; n = call b() retry 1 every 0 else { fail \"a\"; }; }",
+        "workflow c ( n : int ) { activity b ( ) -> int ; n = call b ( ) else { } ; n = call b ( ) retry 2 every 5 else { n = 0 ; return n ; } ; n = call b ( ) else { fail \"a\" ; } ; }",
+    ),
+    (
+        "workflow s(n: int) { signal go: int; n = wait signal go for (n * 2) else { }; n = wait signal go for 5 else { n = 1; }; }",
+        "workflow s ( n : int ) { signal go : int ; n = wait signal go for n * 2 else { } ; n = wait signal go for 5 else { n = 1 ; } ; }",
+    ),
+    (
+        "workflow p() { patch \"one\" { } patch \"two\" { sleep 1; } else { } patch \"a b\" { } else { sleep 2; } }",
+        "workflow p ( ) { patch \"one\" { } patch \"two\" { sleep 1 ; } patch \"a b\" { } else { sleep 2 ; } }",
+    ),
+    (
+        "workflow b() { parallel { { } { sleep 1; parallel { { } } } { if now < 1 { } else { return 1; } } } }",
+        "workflow b ( ) { parallel { { } { sleep 1 ; parallel { { } } } { if now < 1 { } else { return 1 ; } } } }",
     ),
 ];
 

@@ -2,7 +2,7 @@ use Rattle.std.proofs.Common.{◌≡◌, ◌++◌}
 use Rattle.flow_base.specs.Shown.{shown_expr}
 use Rattle.flow_syntax.specs.Print.{spaced, fitted, level, expression_words}
 use Rattle.flow_syntax.proofs.Printing.{words_then, binary_written}
-use Rattle.flow_syntax.proofs.print.+expression.Goals as goal
+use Rattle.flow_syntax.proofs.print_expression.+expression.Goals as goal
 
 pub enclosed-returns : goal.enclosed-returns
 enclosed-returns t c = words_then _ _ _ _ _ c.in_ok-mark.ensures (words_then _ _ _ _ _ c.in_ok-expr.ensures c.in_ok-mark-2.ensures)

@@ -1,7 +1,7 @@
 use Rattle.std.proofs.Common.{true, false, ◌++◌, ap, sym, ◌∙◌}
 use Rattle.flow_syntax.specs.Print.{spaced}
 use Rattle.flow_syntax.proofs.Printing.{words_then, no_words, retry_written}
-use Rattle.flow_syntax.proofs.print.retry.Goals as goal
+use Rattle.flow_syntax.proofs.print_statement.retry.Goals as goal
 
 pub returns-then-is_once : goal.returns-then-is_once
 returns-then-is_once c = no_words c.args.out.now _ (retry_written true c.args.often (sym c.if-is_once.true ∙ c.is_once.ensures))
