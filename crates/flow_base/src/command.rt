@@ -2,7 +2,7 @@ use crate::code::Code;
 use crate::event::{Event, State};
 use crate::number::{EventId, Moment, RunId, TextNo};
 use crate::sequence::Sequence;
-use crate::text::{Key, RawText};
+use crate::text::{Key, RawText, Text};
 use crate::value::Value;
 
 /// What is asked of the engine.
@@ -14,6 +14,8 @@ pub enum Command {
     Start(Key, Key, TextNo, Sequence<Value>, Moment),
     /// A run, the event that scheduled the activity, the attempt, what the activity gave, and a moment.
     Complete(RunId, EventId, u64, Value, Moment),
+    /// A run, why it is to be closed, and a moment.
+    Terminate(RunId, Text, Moment),
     Describe(RunId),
     History(RunId),
 }

@@ -9,9 +9,9 @@ use Rattle.serde_json.specs.Find.{as_object}
 use Rattle.serde_json.specs.Read.{read}
 use Rattle.flow_base.specs.declared.command.Command.{Command}
 use Rattle.flow_base.specs.declared.command.Command.TheVariants as command
-use Rattle.flow_base.specs.Limits.{IsMoment, IsPosition, IsKey, FitsValue, FitsList}
+use Rattle.flow_base.specs.Limits.{IsMoment, IsPosition, IsKey, IsText, FitsValue, FitsList}
 use Rattle.flow_base.proofs.Exact.{IsExactTable, map_some, nothing_exact, with_exact, whole_exact, text_exact, any_text_exact, value_exact, values_exact, fixed_exact, as_object_back}
-use Rattle.flow_cli.specs.Commands.{register, start, complete, describe, history, members_out, members_in, command_out, command_in, line_command, verb_in, IsCommand}
+use Rattle.flow_cli.specs.Commands.{register, start, complete, terminate, describe, history, members_out, members_in, command_out, command_in, line_command, verb_in, IsCommand}
 use Rattle.flow_cli.specs.Faults.{GivesCommand, GivesLine}
 use Rattle.flow_cli.specs.declared.command.LineFault.{LineFault}
 use Rattle.flow_cli.specs.declared.command.LineFault.TheVariants as fault
@@ -31,6 +31,11 @@ complete_exact =
     with_exact _ _ _ _ _ (whole_exact _ _) (with_exact _ _ _ _ _ (whole_exact _ _) (with_exact _ _ _ _ _ (fixed_exact _) (with_exact _ _ _ _ _ (whole_exact _ _)
     (with_exact _ _ _ _ _ (whole_exact _ _) (with_exact _ _ _ _ _ value_exact nothing_exact)))))
 
+terminate_exact : IsExactTable terminate (λ p. IsMoment p.0 × (Unit {0} × (IsText p.1.1.0 × (IsPosition p.1.1.1.0 × Unit {0}))))
+terminate_exact =
+    with_exact _ _ _ _ _ (whole_exact _ _) (with_exact _ _ _ _ _ (fixed_exact _) (with_exact _ _ _ _ _ (text_exact _ _)
+    (with_exact _ _ _ _ _ (whole_exact _ _) nothing_exact)))
+
 describe_exact : IsExactTable describe (λ p. Unit {0} × (IsPosition p.1.0 × Unit {0}))
 describe_exact = with_exact _ _ _ _ _ (fixed_exact _) (with_exact _ _ _ _ _ (whole_exact _ _) nothing_exact)
 
@@ -44,6 +49,7 @@ members_back : (v : Verb) (ms : Members) (c : Command) → members_in v ms ≡ S
 members_back verb.Register ms c e = map_some _ (register.read ms) c e (λ p reads is. along ms _ c is (register_exact.back ms p reads))
 members_back verb.Start ms c e = map_some _ (start.read ms) c e (λ p reads is. along ms _ c is (start_exact.back ms p reads))
 members_back verb.Complete ms c e = map_some _ (complete.read ms) c e (λ p reads is. along ms _ c is (complete_exact.back ms p reads))
+members_back verb.Terminate ms c e = map_some _ (terminate.read ms) c e (λ p reads is. along ms _ c is (terminate_exact.back ms p reads))
 members_back verb.Describe ms c e = map_some _ (describe.read ms) c e (λ p reads is. along ms _ c is (describe_exact.back ms p reads))
 members_back verb.History ms c e = map_some _ (history.read ms) c e (λ p reads is. along ms _ c is (history_exact.back ms p reads))
 
@@ -59,6 +65,7 @@ command_there (command.Start req flow text args at) f =
     rw (start_exact.there (args, (at, (tt, (flow, (req, (text, tt)))))) (f.3, (f.4, (tt, (f.1, (f.0, (f.2, tt))))))) refl
 command_there (command.Complete run event attempt v at) f =
     rw (complete_exact.there (at, (attempt, (tt, (event, (run, (v, tt)))))) (f.4, (f.2, (tt, (f.1, (f.0, (f.3, tt))))))) refl
+command_there (command.Terminate run reason at) f = rw (terminate_exact.there (at, (tt, (reason, (run, tt)))) (f.2, (tt, (f.1, (f.0, tt))))) refl
 command_there (command.Describe run) f = rw (describe_exact.there (tt, (run, tt)) (tt, (f, tt))) refl
 command_there (command.History run) f = rw (history_exact.there (tt, (run, tt)) (tt, (f, tt))) refl
 

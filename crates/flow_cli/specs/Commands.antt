@@ -5,8 +5,8 @@ use Rattle.serde_json.specs.Data.{Data, object, Members}
 use Rattle.serde_json.specs.Find.{as_object, as_str, get}
 use Rattle.serde_json.specs.Read.{read}
 use Rattle.flow_base.specs.Codec.{Table, with, nothing}
-use Rattle.flow_base.specs.Leaves.{moment, position, key, value, values, any_text, fixed}
-use Rattle.flow_base.specs.Limits.{IsMoment, IsPosition, IsKey, FitsValue, FitsList}
+use Rattle.flow_base.specs.Leaves.{moment, position, key, long_text, value, values, any_text, fixed}
+use Rattle.flow_base.specs.Limits.{IsMoment, IsPosition, IsKey, IsText, FitsValue, FitsList}
 use Rattle.flow_base.specs.Names.{first_named}
 use Rattle.flow_base.specs.declared.value.Value.{Value}
 use Rattle.flow_base.specs.declared.command.Command.{Command}
@@ -20,11 +20,12 @@ abbrev pub verb_name : Verb → List ℕ
 verb_name verb.Register = codes "register"
 verb_name verb.Start = codes "start"
 verb_name verb.Complete = codes "complete"
+verb_name verb.Terminate = codes "terminate"
 verb_name verb.Describe = codes "describe"
 verb_name verb.History = codes "history"
 
 abbrev pub verbs : List Verb
-verbs = verb.Register ∷ verb.Start ∷ verb.Complete ∷ verb.Describe ∷ verb.History ∷ []
+verbs = verb.Register ∷ verb.Start ∷ verb.Complete ∷ verb.Terminate ∷ verb.Describe ∷ verb.History ∷ []
 
 abbrev pub verb_named : List ℕ → Option Verb
 verb_named = first_named verb_name verbs
@@ -44,6 +45,10 @@ complete =
     with (codes "at") moment (with (codes "attempt") position (with (codes "do") (fixed (codes "complete")) (with (codes "event") position
     (with (codes "run") position (with (codes "value") value nothing)))))
 
+abbrev pub terminate : Table (ℕ × (Unit {0} × (List ℕ × (ℕ × Unit {0}))))
+terminate =
+    with (codes "at") moment (with (codes "do") (fixed (codes "terminate")) (with (codes "reason") long_text (with (codes "run") position nothing)))
+
 abbrev pub describe : Table (Unit {0} × (ℕ × Unit {0}))
 describe = with (codes "do") (fixed (codes "describe")) (with (codes "run") position nothing)
 
@@ -57,6 +62,7 @@ abbrev pub members_out : Command → Members
 members_out (command.Register src) = register.write (tt, (src, tt))
 members_out (command.Start req flow text args at) = start.write (args, (at, (tt, (flow, (req, (text, tt))))))
 members_out (command.Complete run event attempt v at) = complete.write (at, (attempt, (tt, (event, (run, (v, tt))))))
+members_out (command.Terminate run reason at) = terminate.write (at, (tt, (reason, (run, tt))))
 members_out (command.Describe run) = describe.write (tt, (run, tt))
 members_out (command.History run) = history.write (tt, (run, tt))
 
@@ -65,6 +71,7 @@ abbrev pub members_in : Verb → Members → Option Command
 members_in verb.Register ms = option_map (λ p. command.Register p.1.0) (register.read ms)
 members_in verb.Start ms = option_map (λ p. command.Start p.1.1.1.1.0 p.1.1.1.0 p.1.1.1.1.1.0 p.0 p.1.0) (start.read ms)
 members_in verb.Complete ms = option_map (λ p. command.Complete p.1.1.1.1.0 p.1.1.1.0 p.1.0 p.1.1.1.1.1.0 p.0) (complete.read ms)
+members_in verb.Terminate ms = option_map (λ p. command.Terminate p.1.1.1.0 p.1.1.0 p.0) (terminate.read ms)
 members_in verb.Describe ms = option_map (λ p. command.Describe p.1.0) (describe.read ms)
 members_in verb.History ms = option_map (λ p. command.History p.1.0) (history.read ms)
 
@@ -89,5 +96,6 @@ abbrev pub IsCommand : Command → Type 0
 IsCommand (command.Register src) = Unit {0}
 IsCommand (command.Start req flow text args at) = IsKey req × IsKey flow × IsPosition text × FitsList args × IsMoment at
 IsCommand (command.Complete run event attempt v at) = IsPosition run × IsPosition event × IsPosition attempt × FitsValue v × IsMoment at
+IsCommand (command.Terminate run reason at) = IsPosition run × IsText reason × IsMoment at
 IsCommand (command.Describe run) = IsPosition run
 IsCommand (command.History run) = IsPosition run

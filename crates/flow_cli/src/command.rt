@@ -22,6 +22,7 @@ pub enum Verb {
     Register,
     Start,
     Complete,
+    Terminate,
     Describe,
     History,
 }
@@ -35,6 +36,7 @@ impl Verb {
             "register" => Some(Verb::Register),
             "start" => Some(Verb::Start),
             "complete" => Some(Verb::Complete),
+            "terminate" => Some(Verb::Terminate),
             "describe" => Some(Verb::Describe),
             "history" => Some(Verb::History),
             _ => None,
@@ -112,6 +114,17 @@ fn complete_of(alloc: Global, mut fields: Fields) -> Result<Command, Refused>
     Ok(Command::Complete(run, event, attempt, value, at))
 }
 
+fn terminate_of(alloc: Global, mut fields: Fields) -> Result<Command, Refused>
+    ensures { Gives (λ c. c) result (members_in verb.Terminate (left fields)) }
+{
+    let at = fields.moment("at")?;
+    fields.fixed("do", "terminate")?;
+    let reason = fields.text(alloc, "reason")?;
+    let run = fields.run("run")?;
+    fields.finish()?;
+    Ok(Command::Terminate(run, reason, at))
+}
+
 fn describe_of(mut fields: Fields) -> Result<Command, Refused>
     ensures { Gives (λ c. c) result (members_in verb.Describe (left fields)) }
 {
@@ -145,6 +158,7 @@ fn of_json(alloc: Global, json: Json) -> Result<Command, Refused>
         Verb::Register => register_of(alloc, fields),
         Verb::Start => start_of(alloc, fields),
         Verb::Complete => complete_of(alloc, fields),
+        Verb::Terminate => terminate_of(alloc, fields),
         Verb::Describe => describe_of(fields),
         Verb::History => history_of(fields),
     }

@@ -16,7 +16,7 @@ fn code_of(alloc: Global, line: &[u8]) -> u8 {
 
 #[test]
 fn commands(rt: HostRuntime) -> Result<(), Fail> {
-    let lines: [&[u8]; 9] = [
+    let lines: [&[u8]; 10] = [
         b"{\"do\":\"register\",\"src\":\"\"}",
         b"{\"src\":\"a\",\"do\":\"register\"}",
         b" \t{ \"do\" : \"describe\", \"run\": 1 }\r\n",
@@ -26,6 +26,7 @@ fn commands(rt: HostRuntime) -> Result<(), Fail> {
         b"{\"args\":[],\"at\":1000000000000000,\"do\":\"start\",\"flow\":\"f\",\"req\":\"q\",\"text\":1}",
         b"{\"args\":[-9223372036854775808,\"\"],\"at\":0,\"do\":\"start\",\"flow\":\"f\",\"req\":\"q\",\"text\":1}",
         b"{\"at\":0,\"attempt\":1,\"do\":\"complete\",\"event\":2,\"run\":1,\"value\":9223372036854775807}",
+        b"{\"at\":0,\"do\":\"terminate\",\"reason\":\"\",\"run\":1}",
     ];
     for line in lines {
         assert_eq!(rt; code_of(rt.alloc(), line), 0);
@@ -35,7 +36,7 @@ fn commands(rt: HostRuntime) -> Result<(), Fail> {
 
 #[test]
 fn other_lines_are_no_command(rt: HostRuntime) -> Result<(), Fail> {
-    let bad: [&[u8]; 21] = [
+    let bad: [&[u8]; 23] = [
         b"",
         b" ",
         b"[]",
@@ -54,6 +55,8 @@ fn other_lines_are_no_command(rt: HostRuntime) -> Result<(), Fail> {
         b"{\"do\":\"describe\",\"run\":9223372036854775808}",
         b"{\"do\":\"Describe\",\"run\":1}",
         b"{\"at\":0,\"do\":\"tick\"}",
+        b"{\"at\":0,\"do\":\"terminate\",\"run\":1}",
+        b"{\"at\":0,\"do\":\"terminate\",\"reason\":1,\"run\":1}",
         b"{\"do\":\"register\",\"src\":\"\xff\"}",
         b"{\"args\":[],\"at\":1000000000000001,\"do\":\"start\",\"flow\":\"f\",\"req\":\"q\",\"text\":1}",
         b"{\"args\":[null],\"at\":0,\"do\":\"start\",\"flow\":\"f\",\"req\":\"q\",\"text\":1}",
@@ -114,6 +117,15 @@ fn is_report(command: &Command) -> bool {
     }
 }
 
+fn is_end(command: &Command) -> bool {
+    match command {
+        Command::Terminate(run, reason, at) => {
+            run.get() == 3 && reason.as_str() == "why" && at.get() == 1500
+        }
+        _ => false,
+    }
+}
+
 #[test]
 fn keys(rt: HostRuntime) -> Result<(), Fail> {
     let line = start_line(rt.alloc(), 2, 3)?;
@@ -124,6 +136,11 @@ fn keys(rt: HostRuntime) -> Result<(), Fail> {
         b"{\"at\":1500,\"attempt\":4,\"do\":\"complete\",\"event\":2,\"run\":1,\"value\":41}",
     );
     assert!(rt; matches!(&report, Ok(command) if is_report(command)));
+    let end = command_of(
+        rt.alloc(),
+        b"{\"at\":1500,\"do\":\"terminate\",\"reason\":\"why\",\"run\":3}",
+    );
+    assert!(rt; matches!(&end, Ok(command) if is_end(command)));
     Ok(())
 }
 
@@ -163,10 +180,17 @@ fn numbers_have_limits(rt: HostRuntime) -> Result<(), Fail> {
     Ok(())
 }
 
+fn end_of_bytes(alloc: Global, count: usize) -> Result<String, Fail> {
+    let reason = "x".repeat(alloc, count)?;
+    Ok(format!(in alloc; "{{\"at\":0,\"do\":\"terminate\",\"reason\":\"{reason}\",\"run\":1}}")?)
+}
+
 #[test]
 fn texts_have_limits(rt: HostRuntime) -> Result<(), Fail> {
     for (count, code) in [(4096, 0), (4097, 2)] {
         let line = report_of_bytes(rt.alloc(), count)?;
+        assert_eq!(rt; code_of(rt.alloc(), line.as_bytes()), code);
+        let line = end_of_bytes(rt.alloc(), count)?;
         assert_eq!(rt; code_of(rt.alloc(), line.as_bytes()), code);
     }
     Ok(())

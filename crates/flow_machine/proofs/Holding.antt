@@ -13,18 +13,19 @@ use Rattle.flow_base.specs.declared.book.Run.{Run}
 use Rattle.flow_base.specs.declared.book.Turn.{Turn}
 use Rattle.flow_base.specs.declared.book.Change.TheVariants.{AddText, AddTurn, AddRun}
 use Rattle.flow_base.specs.declared.code.Code.{Code}
-use Rattle.flow_base.specs.declared.code.Code.TheVariants.{NoText, BadArguments, AlreadyOpen, NoRun}
+use Rattle.flow_base.specs.declared.code.Code.TheVariants.{NoText, BadArguments, AlreadyOpen, NotOpen, NoRun}
 use Rattle.flow_base.specs.declared.command.Command.{Command}
 use Rattle.flow_base.specs.declared.command.Command.TheVariants as command
 use Rattle.flow_base.specs.declared.command.TextFault.{TextFault}
 use Rattle.flow_base.specs.declared.command.Reply.{Reply}
 use Rattle.flow_base.specs.declared.command.Reply.TheVariants as reply
+use Rattle.flow_model.specs.Configuration.{is_open}
 use Rattle.flow_model.specs.Deliver.{all_fit}
 use Rattle.flow_model.specs.Turn.{Fresh}
 use Rattle.flow_model.specs.Turned.{turned, position_of}
 use Rattle.flow_model.specs.Open.{open_timers, state_of, moment_of}
 use Rattle.flow_model.specs.Book.{Book, nth, text_number, requested, open_run, changed, changed_by}
-use Rattle.flow_model.specs.Apply.{Rules, Outcome, says, none_there, must_be, must_hold, tested, if_sound, program_if, program_at, first_turn, continued, run_from, next_run, history_limit, turn_made, recorded, input_recorded, report_refusal, on_program, register, start, complete, describe, history, outcome, after_one, after}
+use Rattle.flow_model.specs.Apply.{Rules, Outcome, says, none_there, must_be, must_hold, tested, if_sound, program_if, program_at, first_turn, continued, run_from, next_run, history_limit, turn_made, recorded, input_recorded, report_refusal, on_program, register, start, complete, terminated, terminate, describe, history, outcome, after_one, after}
 use Rattle.flow_model.specs.Sound.{IsProgram}
 
 -- A property of books that the changes keep which commands make.
@@ -122,6 +123,14 @@ module _ (u : Rules) (P : Book → Type 0) (k : IsKept u P) where
       must_keeps P b h (nth b.runs n) NoRun (λ r. tested (report_refusal r event attempt v) (takes r))
       (λ r. tested_keeps P b h (report_refusal r event attempt v) (takes r) (input_keeps b r n at (ActivityCompleted event v) h))
 
+  terminate_keeps : (b : Book) (n : ℕ) (reason : Bytes) (at : ℕ) → P b → Keeps P b (terminate b n reason at)
+  unfolding terminate
+  terminate_keeps b n reason at h =
+      let closes : Run → Outcome = λ r. terminated r n reason at in
+      must_keeps P b h (nth b.runs n) NoRun (λ r. must_hold (is_open (state_of r.history)) NotOpen (closes r))
+      (λ r. hold_keeps P b h (is_open (state_of r.history)) NotOpen (closes r)
+      (k.turn b n (record { at = max at (moment_of r.history); input = Terminated reason; commands = [] }) h))
+
   describe_keeps : (b : Book) (n : ℕ) → P b → Keeps P b (describe b n)
   unfolding describe
   describe_keeps b n h = elim (nth b.runs n) as (λ o. Keeps P b (must_be o NoRun (λ r. says (reply.Run (record {
@@ -143,6 +152,7 @@ module _ (u : Rules) (P : Book → Type 0) (k : IsKept u P) where
   one_keeps b (command.Register body) h = register_keeps b body h
   one_keeps b (command.Start request flow text vs at) h = start_keeps b request flow text vs at h
   one_keeps b (command.Complete run event attempt v at) h = complete_keeps b run event attempt v at h
+  one_keeps b (command.Terminate run reason at) h = terminate_keeps b run reason at h
   one_keeps b (command.Describe run) h = describe_keeps b run h
   one_keeps b (command.History run) h = history_keeps b run h
 

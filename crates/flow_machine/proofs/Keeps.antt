@@ -15,7 +15,7 @@ use Rattle.flow_base.specs.declared.book.Run.{Run}
 use Rattle.flow_base.specs.declared.book.Turn.{Turn}
 use Rattle.flow_base.specs.declared.book.Change.TheVariants.{AddText, AddTurn, AddRun}
 use Rattle.flow_base.specs.declared.code.Code.{Code}
-use Rattle.flow_base.specs.declared.code.Code.TheVariants.{NoText, BadArguments, AlreadyOpen, NoRun}
+use Rattle.flow_base.specs.declared.code.Code.TheVariants.{NoText, BadArguments, AlreadyOpen, NotOpen, NoRun}
 use Rattle.flow_base.specs.declared.command.Command.{Command}
 use Rattle.flow_base.specs.declared.command.Command.TheVariants as command
 use Rattle.flow_base.specs.declared.command.TextFault.{TextFault}
@@ -29,7 +29,7 @@ use Rattle.flow_model.specs.Turned.{turned, position_of}
 use Rattle.flow_model.specs.Stands.{Stands}
 use Rattle.flow_model.specs.Open.{open_timers, state_of, moment_of}
 use Rattle.flow_model.specs.Book.{Book, no_book, nth, text_number, requested, open_run, unbegun_run, with_turn, changed, changed_by}
-use Rattle.flow_model.specs.Apply.{Rules, Outcome, says, none_there, must_be, must_hold, tested, if_sound, program_if, program_at, first_turn, continued, run_from, next_run, history_limit, turn_made, recorded, input_recorded, report_refusal, on_program, register, start, complete, describe, history, outcome, after_one, after}
+use Rattle.flow_model.specs.Apply.{Rules, Outcome, says, none_there, must_be, must_hold, tested, if_sound, program_if, program_at, first_turn, continued, run_from, next_run, history_limit, turn_made, recorded, input_recorded, report_refusal, on_program, register, start, complete, terminated, terminate, describe, history, outcome, after_one, after}
 use Rattle.flow_model.specs.Sound.{IsSoundRun, IsSound}
 use Rattle.flow_model.proofs.Positions.{position_computed, turned_is}
 use Rattle.flow_machine.specs.Soundness.{ReadsWellFormed, NoBookIsSound, SoundAfter}
@@ -52,8 +52,8 @@ module _ (u : Rules) (b : Book) (h : IsSound u b) where
   must_be_keeps None c next f = h
   must_be_keeps (Some x) c next f = f x refl
 
-  must_hold_keeps : (t : Bool) (c : Code) (next : Outcome) → Keeps u b next → Keeps u b (must_hold t c next)
-  must_hold_keeps true c next f = f
+  must_hold_keeps : (t : Bool) (c : Code) (next : Outcome) → (t ≡ true → Keeps u b next) → Keeps u b (must_hold t c next)
+  must_hold_keeps true c next f = f refl
   must_hold_keeps false c next f = h
 
   tested_keeps : (o : Option Code) (next : Outcome) → Keeps u b next → Keeps u b (tested o next)
@@ -128,10 +128,12 @@ module _ (u : Rules) (w : ReadsWellFormed u) (b : Book) (h : IsSound u b) (n : �
             ] refl
       ] refl
 
-  full_keeps : (at : ℕ) → k.moment ≤ at → is_open k.state ≡ true → IsSound u (put_run b n (with_turn (record { at = at; input = Terminated history_limit; commands = [] }) r))
-  full_keeps at le going =
-      let made = terminates p k at history_limit going in
-      turn_keeps (record { at = at; input = Terminated history_limit; commands = [] }) made.0 le refl made.1
+  -- it is closed for a reason
+  closed_keeps : (at : ℕ) (reason : Bytes) → k.moment ≤ at → is_open k.state ≡ true → IsSound u (changed b (AddTurn n (record { at = at; input = Terminated reason; commands = [] })))
+  closed_keeps at reason le going =
+      let made = terminates p k at reason going in
+      let t : Turn = record { at = at; input = Terminated reason; commands = [] } in
+      subst (λ (x : Book). IsSound u x) (sym (put t)) (turn_keeps t made.0 le refl made.1)
 
   made_keeps : (limit at : ℕ) (i : Input) (cs : List Cmd) (k2 : Configuration) → k.moment ≤ at → is_started i ≡ false → turn.Turn p Fresh k at i cs k2 → Keeps u b (turn_made limit p r n at i cs)
   made_keeps limit at i cs k2 le f made =
@@ -143,7 +145,7 @@ module _ (u : Rules) (w : ReadsWellFormed u) (b : Book) (h : IsSound u b) (n : �
       then record { reply = reply.Recorded n (length r.history + 1); changes = AddTurn n t ∷ next_run p r at (continued cs) }
       else record { reply = reply.Full n (length r.history + 1); changes = AddTurn n full ∷ [] })) [
         | true ↦ subst (λ (x : Book). IsSound u (changed_by x (next_run p r at (continued cs)))) (sym (put t)) (next_keeps t k2 le f made going)
-        | false ↦ subst (λ (x : Book). IsSound u x) (sym (put full)) (full_keeps at le going)
+        | false ↦ closed_keeps at history_limit le going
       ]
 
 -- a run takes an input other than its start
@@ -191,7 +193,7 @@ start_keeps u b request flow text vs at w h =
     (λ new. must_be_keeps u b h (nth b.texts text) NoText read
     (λ body e. if_sound_keeps u b h (program_if (u.program_of body)) fits
     (λ p g. must_hold_keeps u b h (all_fit p.parameters vs) BadArguments (alone p)
-    (none_there_keeps u b h (open_run b flow) (λ n. reply.Refused AlreadyOpen) (begins p)
+    (λ they_fit. none_there_keeps u b h (open_run b flow) (λ n. reply.Refused AlreadyOpen) (begins p)
     (λ none. if_sound_keeps u b h (first_turn p at vs) adds
     (λ t made.
     let its : program_at u.program_of b text ≡ Some p = ap (λ (o : Option Bytes). elim o [ None ↦ None | Some x ↦ program_if (u.program_of x) ]) e ∙ g in
@@ -204,6 +206,22 @@ complete_keeps u b n event attempt v at w h =
     let takes : Run → Outcome = λ r. input_recorded u b r n at (ActivityCompleted event v) in
     must_be_keeps u b h (nth b.runs n) NoRun (λ r. tested (report_refusal r event attempt v) (takes r))
     (λ r e. tested_keeps u b h (report_refusal r event attempt v) (takes r) (input_keeps u b n r at (ActivityCompleted event v) w h e refl))
+
+-- an open run is closed for a reason
+terminated_keeps : (u : Rules) (b : Book) (n : ℕ) (r : Run) (reason : Bytes) (at : ℕ) → ReadsWellFormed u → IsSound u b → nth b.runs n ≡ Some r → is_open (state_of r.history) ≡ true → Keeps u b (terminated r n reason at)
+terminated_keeps u b n r reason at w h there opened =
+    let its : IsSoundRun u b r = get_all (IsSoundRun u b) b.runs (n - 1) r (nth_place b.runs n r there) h.runs in
+    let left = stands_left its.program r.history its.place (well_formed_tried its.program (text_well_formed u b r.text its.program w its.its_text)) its.stands in
+    let now : ℕ = max at (moment_of r.history) in
+    let later : its.place.moment ≤ now = subst (λ m. m ≤ now) left.moment (le-max_right at (moment_of r.history)) in
+    closed_keeps u w b h n r there its.program its.its_text its.place its.stands now reason later (ap is_open (sym left.leaves) ∙ opened)
+
+terminate_keeps : (u : Rules) (b : Book) (n : ℕ) (reason : Bytes) (at : ℕ) → ReadsWellFormed u → IsSound u b → Keeps u b (terminate b n reason at)
+unfolding terminate
+terminate_keeps u b n reason at w h =
+    let closes : Run → Outcome = λ r. terminated r n reason at in
+    must_be_keeps u b h (nth b.runs n) NoRun (λ r. must_hold (is_open (state_of r.history)) NotOpen (closes r))
+    (λ r e. must_hold_keeps u b h (is_open (state_of r.history)) NotOpen (closes r) (λ opened. terminated_keeps u b n r reason at w h e opened))
 
 describe_keeps : (u : Rules) (b : Book) (n : ℕ) → IsSound u b → Keeps u b (describe b n)
 unfolding describe
@@ -227,6 +245,7 @@ unfolding outcome
 step_keeps u b (command.Register body) w h = register_keeps u b body h
 step_keeps u b (command.Start request flow text vs at) w h = start_keeps u b request flow text vs at w h
 step_keeps u b (command.Complete run event attempt v at) w h = complete_keeps u b run event attempt v at w h
+step_keeps u b (command.Terminate run reason at) w h = terminate_keeps u b run reason at w h
 step_keeps u b (command.Describe run) w h = describe_keeps u b run h
 step_keeps u b (command.History run) w h = history_keeps u b run h
 

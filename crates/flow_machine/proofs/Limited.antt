@@ -17,7 +17,7 @@ use Rattle.flow_base.specs.declared.book.Turn.{Turn}
 use Rattle.flow_base.specs.declared.book.Change.{Change}
 use Rattle.flow_base.specs.declared.book.Change.TheVariants.{AddText, AddTurn, AddRun}
 use Rattle.flow_base.specs.declared.code.Code.{Code}
-use Rattle.flow_base.specs.declared.code.Code.TheVariants.{NoText, BadArguments, AlreadyOpen, NoRun}
+use Rattle.flow_base.specs.declared.code.Code.TheVariants.{NoText, BadArguments, AlreadyOpen, NotOpen, NoRun}
 use Rattle.flow_base.specs.declared.command.Command.{Command}
 use Rattle.flow_base.specs.declared.command.Command.TheVariants as command
 use Rattle.flow_base.specs.declared.command.TextFault.{TextFault}
@@ -25,7 +25,7 @@ use Rattle.flow_base.specs.declared.command.Reply.{Reply}
 use Rattle.flow_base.specs.declared.command.Reply.TheVariants as reply
 use Rattle.flow_events.specs.Row.{IsInputWithinLimits, IsCommandWithinLimits}
 use Rattle.flow_model.specs.WellFormed.{WellFormed}
-use Rattle.flow_model.specs.Configuration.{Configuration, first_configuration}
+use Rattle.flow_model.specs.Configuration.{Configuration, first_configuration, is_open}
 use Rattle.flow_model.specs.Deliver.{all_fit, has_kind}
 use Rattle.flow_model.specs.Turn as turn
 use Rattle.flow_model.specs.Deliver.{Progress}
@@ -34,7 +34,7 @@ use Rattle.flow_model.specs.Turned.{turned, position_of}
 use Rattle.flow_model.specs.Stands.{Stands}
 use Rattle.flow_model.specs.Open.{open_timers, state_of, moment_of}
 use Rattle.flow_model.specs.Book.{Book, nth, text_number, requested, open_run}
-use Rattle.flow_model.specs.Apply.{Rules, Outcome, says, none_there, must_be, must_hold, tested, if_sound, program_if, program_at, first_turn, continued, run_from, next_run, history_limit, turn_made, recorded, input_recorded, report_refusal, on_program, register, start, complete, describe, history, outcome}
+use Rattle.flow_model.specs.Apply.{Rules, Outcome, says, none_there, must_be, must_hold, tested, if_sound, program_if, program_at, first_turn, continued, run_from, next_run, history_limit, turn_made, recorded, input_recorded, report_refusal, on_program, register, start, complete, terminated, terminate, describe, history, outcome}
 use Rattle.flow_model.specs.Sound.{IsSoundRun, IsSound}
 use Rattle.flow_model.proofs.Positions.{position_computed, turned_is}
 use Rattle.flow_model.proofs.Tries.{AskedWell, TriedRest, well_formed_tried, few_parameters}
@@ -215,6 +215,14 @@ module _ (u : Rules) (b : Book) (w : ReadsWellFormed u) (h : IsSound u b) where
       must_be_within (nth b.runs n) NoRun (λ r. tested (report_refusal r event attempt v) (takes r))
       (λ r there. tested_within (report_refusal r event attempt v) (takes r) (input_within n r at (ActivityCompleted event v) there refl))
 
+  terminate_within : (n : ℕ) (reason : Bytes) (at : ℕ) → Within (terminate b n reason at)
+  unfolding terminate
+  terminate_within n reason at =
+      let closes : Run → Outcome = λ r. terminated r n reason at in
+      must_be_within (nth b.runs n) NoRun (λ r. must_hold (is_open (state_of r.history)) NotOpen (closes r))
+      (λ r there. must_hold_within (is_open (state_of r.history)) NotOpen (closes r)
+      (one (AddTurn n (record { at = max at (moment_of r.history); input = Terminated reason; commands = [] })) ((tt, All-nil IsCommandWithinLimits), refl)))
+
   describe_within : (n : ℕ) → Within (describe b n)
   unfolding describe
   describe_within n = elim (nth b.runs n) as (λ o. Within (must_be o NoRun (λ r. says (reply.Run (record {
@@ -235,5 +243,6 @@ unfolding outcome
 changes_within u b (command.Register body) w h = register_within u b w h body
 changes_within u b (command.Start request flow text vs at) w h = start_within u b w h request flow text vs at
 changes_within u b (command.Complete run event attempt v at) w h = complete_within u b w h run event attempt v at
+changes_within u b (command.Terminate run reason at) w h = terminate_within u b w h run reason at
 changes_within u b (command.Describe run) w h = describe_within u b w h run
 changes_within u b (command.History run) w h = history_within u b w h run

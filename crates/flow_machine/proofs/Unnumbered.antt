@@ -119,5 +119,6 @@ unfolding IsStuck outcome
 stuck_unnumbered u b (command.Register body) reads h stuck = register_ends u b body stuck
 stuck_unnumbered u b (command.Start request flow text vs at) reads h stuck = start_ends u b request flow text vs at reads stuck
 stuck_unnumbered u b (command.Complete run event attempt v at) reads h stuck = absurd (complete_goes_on u b run event attempt v h stuck)
+stuck_unnumbered u b (command.Terminate run reason at) reads h stuck = absurd stuck
 stuck_unnumbered u b (command.Describe run) reads h stuck = absurd stuck
 stuck_unnumbered u b (command.History run) reads h stuck = absurd stuck

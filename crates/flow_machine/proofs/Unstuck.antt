@@ -111,5 +111,6 @@ unfolding IsStuck
 sound_decides u b (command.Register body) reads h stuck = register_decides u b body stuck
 sound_decides u b (command.Start request flow text vs at) reads h stuck = start_decides u b request flow text vs reads stuck
 sound_decides u b (command.Complete run event attempt v at) reads h stuck = absurd (complete_goes_on u b run event attempt v h stuck)
+sound_decides u b (command.Terminate run reason at) reads h stuck = absurd stuck
 sound_decides u b (command.Describe run) reads h stuck = absurd stuck
 sound_decides u b (command.History run) reads h stuck = absurd stuck

@@ -13,17 +13,18 @@ use Rattle.flow_base.specs.declared.book.Run.{Run}
 use Rattle.flow_base.specs.declared.book.Turn.{Turn}
 use Rattle.flow_base.specs.declared.book.Change.TheVariants.{AddText, AddTurn, AddRun}
 use Rattle.flow_base.specs.declared.code.Code.{Code}
-use Rattle.flow_base.specs.declared.code.Code.TheVariants.{NoText, BadArguments, AlreadyOpen, NoRun}
+use Rattle.flow_base.specs.declared.code.Code.TheVariants.{NoText, BadArguments, AlreadyOpen, NotOpen, NoRun}
 use Rattle.flow_base.specs.declared.command.Command.TheVariants as command
 use Rattle.flow_base.specs.declared.command.TextFault.{TextFault}
 use Rattle.flow_base.specs.declared.command.Reply.{Reply}
 use Rattle.flow_base.specs.declared.command.Reply.TheVariants as reply
+use Rattle.flow_model.specs.Configuration.{is_open}
 use Rattle.flow_model.specs.Deliver.{all_fit}
 use Rattle.flow_model.specs.Turn.{Fresh}
 use Rattle.flow_model.specs.Turned.{turned, position_of}
 use Rattle.flow_model.specs.Open.{open_timers, state_of, moment_of}
 use Rattle.flow_model.specs.Book.{Book, nth, text_number, requested, open_run, with_turn, changed}
-use Rattle.flow_model.specs.Apply.{Rules, Outcome, says, none_there, must_be, must_hold, tested, if_sound, program_if, program_at, first_turn, continued, run_from, next_run, history_limit, turn_made, recorded, input_recorded, report_refusal, on_program, register, start, complete, describe, history, outcome}
+use Rattle.flow_model.specs.Apply.{Rules, Outcome, says, none_there, must_be, must_hold, tested, if_sound, program_if, program_at, first_turn, continued, run_from, next_run, history_limit, turn_made, recorded, input_recorded, report_refusal, on_program, register, start, complete, terminated, terminate, describe, history, outcome}
 use Rattle.flow_machine.specs.Welcome.{AreWelcome, ChangesWelcome}
 
 -- a turn brings no text
@@ -139,6 +140,13 @@ module _ (u : Rules) (b : Book) where
       must_be_takes (nth b.runs n) NoRun (λ r. tested (report_refusal r event attempt v) (takes r))
       (λ r there. tested_takes (report_refusal r event attempt v) (takes r) (input_takes r n at (ActivityCompleted event v) there))
 
+  terminate_takes : (n : ℕ) (reason : Bytes) (at : ℕ) → Takes (terminate b n reason at)
+  unfolding terminate
+  terminate_takes n reason at =
+      let closes : Run → Outcome = λ r. terminated r n reason at in
+      must_be_takes (nth b.runs n) NoRun (λ r. must_hold (is_open (state_of r.history)) NotOpen (closes r))
+      (λ r there. must_hold_takes (is_open (state_of r.history)) NotOpen (closes r) ((r, there), tt))
+
   describe_takes : (n : ℕ) → Takes (describe b n)
   unfolding describe
   describe_takes n = elim (nth b.runs n) as (λ o. Takes (must_be o NoRun (λ r. says (reply.Run (record {
@@ -159,5 +167,6 @@ unfolding outcome
 changes_welcome u b (command.Register body) = register_takes u b body
 changes_welcome u b (command.Start request flow text vs at) = start_takes u b request flow text vs at
 changes_welcome u b (command.Complete run event attempt v at) = complete_takes u b run event attempt v at
+changes_welcome u b (command.Terminate run reason at) = terminate_takes u b run reason at
 changes_welcome u b (command.Describe run) = describe_takes u b run
 changes_welcome u b (command.History run) = history_takes u b run

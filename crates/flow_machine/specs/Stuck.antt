@@ -90,6 +90,7 @@ unfoldable pub IsStuck : (Bytes → Result Program TextFault) → Book → Comma
 IsStuck program_of b (command.Register body) = StuckRegister program_of b body
 IsStuck program_of b (command.Start request flow text vs at) = StuckStart program_of b request flow text vs
 IsStuck program_of b (command.Complete run event attempt v at) = StuckComplete program_of b run event attempt v
+IsStuck program_of b (command.Terminate run reason at) = ⊥
 IsStuck program_of b (command.Describe run) = ⊥
 IsStuck program_of b (command.History run) = ⊥
 

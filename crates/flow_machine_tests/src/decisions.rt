@@ -1,10 +1,10 @@
 //! Each command decided over plain lists, with ample memory.
 use flow_base::code::Code;
 use flow_base::command::{Command, Description, Reply};
-use flow_base::event::{Cmd, Event, State, What};
+use flow_base::event::{Cmd, Event, Input, State, What};
 use flow_base::number::{EventId, Moment, RunId, TextNo};
 use flow_base::sequence::Sequence;
-use flow_base::text::{Key, RawText};
+use flow_base::text::{Key, RawText, Text};
 use flow_base::value::Value;
 use flow_check::language::Language;
 use flow_machine::decide::{decide, decide_all};
@@ -66,6 +66,13 @@ fn complete(event: u64) -> Result<Command, Fail> {
     Ok(Command::Complete(run, event, 1, Value::Int(41), at))
 }
 
+fn terminate(alloc: Global, number: u64) -> Result<Command, Fail> {
+    let run = RunId::new(number).ok_or("no run")?;
+    let at = Moment::new(900).ok_or("no moment")?;
+    let reason = Text::new(alloc, "why").ok().ok_or("no text")?;
+    Ok(Command::Terminate(run, reason, at))
+}
+
 fn describe(number: u64) -> Result<Command, Fail> {
     Ok(Command::Describe(RunId::new(number).ok_or("no run")?))
 }
@@ -94,6 +101,10 @@ fn put_describe(alloc: Global, book: &mut Lists, number: u64) -> Result<(Told, u
 
 fn put_history(alloc: Global, book: &mut Lists, number: u64) -> Result<(Told, usize), Fail> {
     put(alloc, book, &history(number)?)
+}
+
+fn put_end(alloc: Global, book: &mut Lists, number: u64) -> Result<(Told, usize), Fail> {
+    put(alloc, book, &terminate(alloc, number)?)
 }
 
 fn put_report(alloc: Global, book: &mut Lists) -> Result<(Told, usize), Fail> {
@@ -226,10 +237,64 @@ fn a_history_is_told(rt: HostRuntime) -> Result<(), Fail> {
 }
 
 #[test]
+fn a_run_is_terminated_once(rt: HostRuntime) -> Result<(), Fail> {
+    let alloc = rt.alloc();
+    let mut book = Lists::new(alloc);
+    begin(alloc, &mut book)?;
+    let first = put_end(alloc, &mut book, 1)?;
+    let second = put_end(alloc, &mut book, 1)?;
+    let report = put_report(alloc, &mut book)?;
+    assert!(rt; first == (Told::Recorded(1, 3), 1));
+    assert!(rt; second == (Told::Refused(Code::NotOpen), 0));
+    assert!(rt; report == (Told::Refused(Code::NotOpen), 0));
+    Ok(())
+}
+
+// The moment handed in was before that of the last event.
+fn ends_with_reason(events: &[Event]) -> bool {
+    match events.last() {
+        Some(last) => {
+            let told = match &last.what {
+                What::Came(Input::Terminated(reason)) => reason.as_str() == "why",
+                _ => false,
+            };
+            told && last.id.get() == 3 && last.at.get() == 1000
+        }
+        None => false,
+    }
+}
+
+fn tells_reason(replies: &[Reply]) -> bool {
+    match replies {
+        [Reply::History(events)] => events.len() == 3 && ends_with_reason(events.as_slice()),
+        _ => false,
+    }
+}
+
+// Whether the history of a run that was terminated ends with the reason.
+fn is_reason_told(alloc: Global, book: &mut Lists) -> Result<bool, Fail> {
+    put_end(alloc, book, 1)?;
+    let replies = ask(alloc, book, history(1)?)?;
+    Ok(tells_reason(&replies))
+}
+
+#[test]
+fn the_reason_of_an_end_is_told(rt: HostRuntime) -> Result<(), Fail> {
+    let alloc = rt.alloc();
+    let mut book = Lists::new(alloc);
+    begin(alloc, &mut book)?;
+    let is_told = is_reason_told(alloc, &mut book)?;
+    assert!(rt; is_told);
+    Ok(())
+}
+
+#[test]
 fn a_run_that_is_not_there_is_refused(rt: HostRuntime) -> Result<(), Fail> {
     let alloc = rt.alloc();
     let mut book = Lists::new(alloc);
     begin(alloc, &mut book)?;
+    let ended = put_end(alloc, &mut book, 2)?;
+    assert!(rt; ended == (Told::Refused(Code::NoRun), 0));
     let described = put_describe(alloc, &mut book, 2)?;
     let history = put_history(alloc, &mut book, 2)?;
     assert!(rt; described == (Told::Refused(Code::NoRun), 0));

@@ -17,7 +17,7 @@ use Rattle.flow_base.specs.declared.command.TextFault.{TextFault}
 use Rattle.flow_base.specs.declared.command.Reply.TheVariants as reply
 use Rattle.flow_model.specs.Turned.{turned, position_from}
 use Rattle.flow_model.specs.Book.{no_book}
-use Rattle.flow_model.specs.Apply.{Rules, rules_of, outcome, register, start, complete, report_refusal, input_recorded, recorded, describe, history, after, replies}
+use Rattle.flow_model.specs.Apply.{Rules, rules_of, outcome, register, start, complete, report_refusal, input_recorded, recorded, terminate, describe, history, after, replies}
 
 -- workflow a(n: int) { activity c(int, text) -> int; let r = 0; r = call c(n, "eur"); return r + 1; }
 abbrev A : Program
@@ -113,3 +113,25 @@ full_history : replies tight no_book (reported ++ command.History 1 ∷ []) ≡ 
     ∷ record { id = 3; at = 1500; what = Came (input.Terminated (codes "history limit")) } ∷ []) ∷ []
 unfolding outcome register start complete history report_refusal input_recorded recorded turned position_from
 full_history = refl
+
+-- with room for two events
+abbrev full : Rules
+full = record { limit = 2; program_of = library }
+
+-- An open run is terminated, not before its last event. A full history takes the reason too, in the place of the text that would
+-- close it.
+terminated_run : replies full no_book (begun ++ command.Terminate 1 (codes "why") 900 ∷ command.History 1 ∷ []) ≡ reply.Registered 1 ∷ reply.Started 1 ∷ reply.Recorded 1 3 ∷ reply.History (
+    record { id = 1; at = 1000; what = Came (input.Started (int 7 ∷ [])) }
+    ∷ record { id = 2; at = 1000; what = Asked (cmd.Schedule (codes "c") (int 7 ∷ Text (codes "eur") ∷ []) 1 0 kind.Int) }
+    ∷ record { id = 3; at = 1000; what = Came (input.Terminated (codes "why")) } ∷ []) ∷ []
+unfolding outcome register start terminate history turned
+terminated_run = refl
+
+-- Its activity is open no more, and it is terminated once. A run that isn't there is told as such.
+terminated_once : replies rules (after rules no_book begun) (
+    command.Terminate 1 (codes "why") 1500 ∷ command.Describe 1 ∷ command.Complete 1 2 1 (int 41) 1500 ∷ command.Terminate 1 (codes "again") 1500
+    ∷ command.Terminate 2 [] 1500 ∷ [])
+    ≡ reply.Recorded 1 3 ∷ reply.Run (record { flow = codes "f"; text = 1; state = state.Terminated; events = 3; activities = []; timers = [] })
+    ∷ reply.Refused NotOpen ∷ reply.Refused NotOpen ∷ reply.Refused NoRun ∷ []
+unfolding outcome register start complete terminate describe report_refusal turned
+terminated_once = refl

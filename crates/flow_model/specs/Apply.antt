@@ -21,7 +21,7 @@ use Rattle.flow_base.specs.declared.command.Command.TheVariants as command
 use Rattle.flow_base.specs.declared.command.TextFault.{TextFault}
 use Rattle.flow_base.specs.declared.command.Reply.{Reply}
 use Rattle.flow_base.specs.declared.command.Reply.TheVariants as reply
-use Rattle.flow_model.specs.Configuration.{first_configuration}
+use Rattle.flow_model.specs.Configuration.{first_configuration, is_open}
 use Rattle.flow_model.specs.Deliver.{all_fit, has_kind}
 use Rattle.flow_model.specs.Turn.{Fresh}
 use Rattle.flow_model.specs.Turned.{turned, position_of}
@@ -196,6 +196,20 @@ complete u b run event attempt v at =
     tested (report_refusal r event attempt v) (
     input_recorded u b r run at (ActivityCompleted event v)))
 
+-- a run is closed for this reason, and its program isn't run
+abbrev pub terminated : Run → ℕ → Bytes → ℕ → Outcome
+terminated r run reason at =
+    record {
+      reply = reply.Recorded run (length r.history + 1);
+      changes = AddTurn run (record { at = max at (moment_of r.history); input = Terminated reason; commands = [] }) ∷ [];
+    }
+
+-- An open run is terminated. Its last event has this reason however long the history is: a full one takes it too.
+unfoldable pub terminate : Book → ℕ → Bytes → ℕ → Outcome
+terminate b run reason at =
+    must_be (nth b.runs run) NoRun (λ r.
+    must_hold (is_open (state_of r.history)) NotOpen (terminated r run reason at))
+
 -- A run, told.
 unfoldable pub describe : Book → ℕ → Outcome
 describe b run =
@@ -216,6 +230,7 @@ unfoldable pub outcome : Rules → Book → Command → Outcome
 outcome u b (command.Register body) = register u.program_of b body
 outcome u b (command.Start request flow text vs at) = start u.program_of b request flow text vs at
 outcome u b (command.Complete run event attempt v at) = complete u b run event attempt v at
+outcome u b (command.Terminate run reason at) = terminate b run reason at
 outcome u b (command.Describe run) = describe b run
 outcome u b (command.History run) = history b run
 
