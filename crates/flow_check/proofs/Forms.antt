@@ -1,9 +1,9 @@
 -- What each form of a statement shows: one level of its tree, with what the lists within show.
-use Rattle.std.proofs.Common.{rules, ◌≡◌, ◌∙◌, ◌∷◌, ap, sym, map, ℕ, Vec, Option}
+use Rattle.std.proofs.Common.{rules, ◌≡◌, ◌∷◌, map, ℕ, Vec, Option}
 use Rattle.std.specs.declared.alloc.Global.{Global}
 use Rattle.flow_base.specs.Syntax as tree
 use Rattle.flow_base.specs.Syntax.{Bytes}
-use Rattle.flow_base.specs.Shown.{shown_stmt, shown_braced, shown_branch, shown_expr, shown_block, shown_otherwise, branches_of, Braced, stmt_step, block_step, branch_step}
+use Rattle.flow_base.specs.Shown.{shown_stmt, shown_braced, shown_branch, shown_expr, shown_block, shown_otherwise, branches_of}
 use Rattle.flow_base.specs.declared.syntax.Expr.{Expr}
 use Rattle.flow_base.specs.declared.syntax.Retry.{Retry}
 use Rattle.flow_base.specs.declared.syntax.Stmt.{Let, Assign, Call, WaitSignal, WaitSignalFor, Sleep, If, While, Parallel, Patch, Return, FailWith, Continue, the_lemmas}

@@ -1,5 +1,5 @@
 -- What the checker's tables show of themselves, in the words of the rules.
-use Rattle.std.specs.Prelude.{◌≡◌, ℕ, Bool, true, false, List, [], ◌∷◌, ◌++◌, length, map, take, min, Option, Some, None, option_map, bytes_eq, nat_eq, if◌then◌else◌}
+use Rattle.std.specs.Prelude.{◌≡◌, ℕ, Bool, false, List, [], ◌∷◌, ◌++◌, length, map, take, min, Option, Some, None, option_map, bytes_eq, nat_eq, if◌then◌else◌}
 use Rattle.std.specs.List.{list_any}
 use Rattle.std.specs.HashMap.{get_by}
 use Rattle.std.specs.HashSet.{contains_by}

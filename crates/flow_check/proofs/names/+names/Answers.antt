@@ -1,8 +1,8 @@
 use Rattle.std.proofs.Common.{[], ◌∷◌, ◌++◌, ap, sym, subst, ◌∙◌, map}
 use Rattle.std.proofs.lemmas.Result.{on_ok_weaker}
-use Rattle.flow_base.specs.Syntax.{Statement, Block}
+use Rattle.flow_base.specs.Syntax.{Statement}
 use Rattle.flow_base.specs.Shown.{Braced, shown_stmt, shown_braced, shown_branch, branches_of}
-use Rattle.flow_model.specs.WellFormed.{Named, named, patches, names_of_block, names_of_statement, names_of_branches}
+use Rattle.flow_model.specs.WellFormed.{named, patches, names_of_block, names_of_statement, names_of_branches}
 use Rattle.flow_check.specs.Tables.{Declares}
 use Rattle.flow_check.proofs.Forms.{shown_if, shown_parallel, shown_patch, shown_body}
 use Rattle.flow_check.proofs.Declaring.{declares_then, one_more_statement, one_more_branch}

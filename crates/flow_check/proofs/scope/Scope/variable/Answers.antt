@@ -1,6 +1,5 @@
-use Rattle.std.proofs.Common.{◌≡◌, ◌+◌, ◌-◌, ◌<◌, ◌≤◌, Bool, true, false, Some, cond, length, take, get_or, bytes_eq, sym, ap, subst, ◌∙◌, arith, rules}
+use Rattle.std.proofs.Common.{◌≡◌, ◌+◌, ◌-◌, ◌<◌, true, false, Some, cond, length, take, bytes_eq, sym, ap, ◌∙◌, arith}
 use Rattle.flow_model.specs.WellFormed.{no_types}
-use Rattle.flow_base.specs.declared.value.Kind.{Kind}
 use Rattle.flow_check.specs.Tables.{variables_of, types_in}
 use Rattle.flow_check.proofs.Scoping.{last_type}
 use Rattle.flow_check.proofs.scope.Scope.variable.Goals as goal
