@@ -8,7 +8,7 @@ use std::alloc::Global;
 use std::test::Fail;
 
 // Whether a run asks this in its first turn, which is answered so.
-fn asks(alloc: Global, text: &str, answers: Answers, wanted: [Asks; 3]) -> Result<bool, Fail> {
+fn begins(alloc: Global, text: &str, answers: Answers, wanted: [Asks; 3]) -> Result<bool, Fail> {
     let program = program(alloc, text)?;
     let at = moment(10)?;
     let (_stance, commands) = Stance::first(alloc, &program, &[], at, answers)?;
@@ -25,14 +25,14 @@ fn marker(alloc: Global, number: u64, patch: &str) -> Result<Event, Fail> {
 }
 
 // Whether a run asks this in its first turn, behind whose input a history has the marker of this patch alone.
-fn asks_with_marker(
+fn begins_with_marker(
     alloc: Global,
     text: &str,
     patch: &str,
     wanted: [Asks; 3],
 ) -> Result<bool, Fail> {
     let later = vec![in alloc; marker(alloc, 2, patch)?]?;
-    asks(alloc, text, Answers::Recorded(&later), wanted)
+    begins(alloc, text, Answers::Recorded(&later), wanted)
 }
 
 const PATCHED: &str = "workflow a() { patch \"p\" { return 1; } else { return 2; } }";
@@ -40,17 +40,17 @@ const PATCHED: &str = "workflow a() { patch \"p\" { return 1; } else { return 2;
 #[test]
 fn a_fresh_patch_takes_its_first_list(rt: HostRuntime) -> Result<(), Fail> {
     let wanted = [Asks::Marker("p"), Asks::Ends(1), NO];
-    assert!(rt; asks(rt.alloc(), PATCHED, Answers::Fresh, wanted)?);
+    assert!(rt; begins(rt.alloc(), PATCHED, Answers::Fresh, wanted)?);
     Ok(())
 }
 
 #[test]
 fn a_recorded_patch_goes_by_its_marker(rt: HostRuntime) -> Result<(), Fail> {
     let first = [Asks::Marker("p"), Asks::Ends(1), NO];
-    assert!(rt; asks_with_marker(rt.alloc(), PATCHED, "p", first)?);
+    assert!(rt; begins_with_marker(rt.alloc(), PATCHED, "p", first)?);
     let second = [Asks::Ends(2), NO, NO];
-    assert!(rt; asks_with_marker(rt.alloc(), PATCHED, "q", second)?);
-    assert!(rt; asks(rt.alloc(), PATCHED, Answers::Recorded(&[]), second)?);
+    assert!(rt; begins_with_marker(rt.alloc(), PATCHED, "q", second)?);
+    assert!(rt; begins(rt.alloc(), PATCHED, Answers::Recorded(&[]), second)?);
     Ok(())
 }
 
@@ -61,9 +61,9 @@ const TWICE: &str =
 #[test]
 fn a_patch_has_one_answer(rt: HostRuntime) -> Result<(), Fail> {
     let first = [Asks::Marker("p"), Asks::Ends(20), NO];
-    assert!(rt; asks(rt.alloc(), TWICE, Answers::Fresh, first)?);
+    assert!(rt; begins(rt.alloc(), TWICE, Answers::Fresh, first)?);
     let second = [Asks::Ends(2), NO, NO];
-    assert!(rt; asks(rt.alloc(), TWICE, Answers::Recorded(&[]), second)?);
+    assert!(rt; begins(rt.alloc(), TWICE, Answers::Recorded(&[]), second)?);
     Ok(())
 }
 
@@ -74,10 +74,10 @@ const TWO: &str =
 #[test]
 fn a_marker_answers_one_patch(rt: HostRuntime) -> Result<(), Fail> {
     let both = [Asks::Marker("p"), Asks::Marker("q"), Asks::Ends(11)];
-    assert!(rt; asks(rt.alloc(), TWO, Answers::Fresh, both)?);
+    assert!(rt; begins(rt.alloc(), TWO, Answers::Fresh, both)?);
     let first = [Asks::Marker("p"), Asks::Ends(1), NO];
-    assert!(rt; asks_with_marker(rt.alloc(), TWO, "p", first)?);
+    assert!(rt; begins_with_marker(rt.alloc(), TWO, "p", first)?);
     let second = [Asks::Marker("q"), Asks::Ends(10), NO];
-    assert!(rt; asks_with_marker(rt.alloc(), TWO, "q", second)?);
+    assert!(rt; begins_with_marker(rt.alloc(), TWO, "q", second)?);
     Ok(())
 }

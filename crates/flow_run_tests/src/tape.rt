@@ -113,7 +113,7 @@ pub fn program(alloc: Global, text: &str) -> Result<Checked, Fail> {
 }
 
 // Whether the next turn of a stance asks what is wanted.
-fn asks(
+fn stance_goes(
     alloc: Global,
     program: &Checked,
     stance: &mut Stance,
@@ -133,7 +133,7 @@ fn asks(
 }
 
 // Whether the next turn of a plain run does.
-fn plainly_asks(
+fn plain_goes(
     alloc: Global,
     program: &Checked,
     run: &mut PlainRun,
@@ -162,9 +162,9 @@ fn goes(
 ) -> Result<bool, Fail> {
     let (at, comes, wanted) = next;
     let input = input(alloc, comes)?;
-    let plainly = plainly_asks(alloc, program, run, at, &input, wanted)?;
-    let asks = asks(alloc, program, stance, at, &input, wanted)?;
-    Ok(plainly && asks)
+    let plain = plain_goes(alloc, program, run, at, &input, wanted)?;
+    let stance = stance_goes(alloc, program, stance, at, &input, wanted)?;
+    Ok(plain && stance)
 }
 
 /// The number, from 0, of the first of these turns in which a run of the program asks something else; how many there are
