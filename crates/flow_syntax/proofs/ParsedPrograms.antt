@@ -206,12 +206,11 @@ IsSide at x ts s end = Parsed m.side side_tokens (side_of at x) ts s end
 pub called_parsed : (at call_at name_at paren : ℕ) (x a : Bytes) (ts r1 r2 r3 rest : List Lexeme) (es : List tree.Expression) (z : Retry) → ts ≡ named name_at a ∷ r1 → Marked mark.Open r1 paren r2 → Parsed m.arguments arguments_tokens arguments_of r2 es r3 → IsTried r3 z rest → IsCalled at x (marked call_at mark.Call ∷ ts) name_at a es z rest
 called_parsed at call_at name_at paren x a ts r1 r2 r3 rest es z h p q r = (
   λ more end g.
-    let v = r.0 more end g in
-    (
-      call call_at name_at a p.0 q.0 v.0,
-      ap (λ y. marked call_at mark.Call ∷ y) (ap (λ y. named name_at a ∷ y) (ap (λ y. marked p.0 mark.Open ∷ y) (append_assoc (arguments_tokens q.0) (call_tail_tokens v.0) end ∙ ap (λ y. arguments_tokens q.0 ++ y) v.1 ∙ q.1) ∙ p.1) ∙ sym h),
-      ap (λ ys. tree.Call at x name_at a ys (retry_of v.0) (failing_of v.0)) q.2 ∙ ap (λ (w : Retry × tree.Otherwise). tree.Call at x name_at a es w.0 w.1) v.2,
-    ),
+      let v = r.0 more end g in (
+        call call_at name_at a p.0 q.0 v.0,
+        ap (λ y. marked call_at mark.Call ∷ y) (ap (λ y. named name_at a ∷ y) (ap (λ y. marked p.0 mark.Open ∷ y) (append_assoc (arguments_tokens q.0) (call_tail_tokens v.0) end ∙ ap (λ y. arguments_tokens q.0 ++ y) v.1 ∙ q.1) ∙ p.1) ∙ sym h),
+        ap (λ ys. tree.Call at x name_at a ys (retry_of v.0) (failing_of v.0)) q.2 ∙ ap (λ (w : Retry × tree.Otherwise). tree.Call at x name_at a es w.0 w.1) v.2,
+      ),
   λ owed. rw h (p.3 (m.arguments ∷ m.call_tail ∷ owed) ∙ q.3 (m.call_tail ∷ owed) ∙ r.1 owed),
 )
 
@@ -357,15 +356,14 @@ choice_both brace at other ts r1 r2 rest a b p h q = (
 pub if_member : (at : ℕ) (ts r1 r2 rest : List Lexeme) (e : tree.Expression) (a b : tree.Block × ℕ) → ts ≡ marked at mark.If ∷ r1 → IsExpr r1 e r2 → IsChoice r2 a b rest → IsMember ts (tree.If at e a.0 a.1 b.0 b.1) rest
 if_member at ts r1 r2 rest e a b h p q = (
   λ more end g.
-    let v = q.0 more end g in
-    (
-      if_ at p.0 v.0 v.1 v.2,
-      ap (λ y. marked at mark.If ∷ y) (append_assoc (expr_tokens p.0) (marked v.0 mark.BraceOpen ∷ (statements_tokens v.1 ++ choice_tokens v.2)) end ∙ ap (λ y. expr_tokens p.0 ++ (marked v.0 mark.BraceOpen ∷ y)) (append_assoc (statements_tokens v.1) (choice_tokens v.2) end) ∙ ap (λ y. expr_tokens p.0 ++ y) v.3 ∙ p.1) ∙ sym h,
-      ap (λ f. (tree.Next (tree.If at f (statements_of v.1) (statements_end v.1) (second_of v.2) (second_end (statements_end v.1) v.2)) (behind_choice v.2), choice_end v.2)) p.2
-          ∙ ap (λ (w : tree.Block × ℕ). (tree.Next (tree.If at e w.0 w.1 (second_of v.2) (second_end (statements_end v.1) v.2)) (behind_choice v.2), choice_end v.2)) v.4
-          ∙ ap (λ (w : tree.Block × ℕ). (tree.Next (tree.If at e a.0 a.1 w.0 w.1) (behind_choice v.2), choice_end v.2)) v.5
-          ∙ ap (λ (w : tree.Block × ℕ). (tree.Next (tree.If at e a.0 a.1 b.0 b.1) w.0, w.1)) v.6,
-    ),
+      let v = q.0 more end g in (
+        if_ at p.0 v.0 v.1 v.2,
+        ap (λ y. marked at mark.If ∷ y) (append_assoc (expr_tokens p.0) (marked v.0 mark.BraceOpen ∷ (statements_tokens v.1 ++ choice_tokens v.2)) end ∙ ap (λ y. expr_tokens p.0 ++ (marked v.0 mark.BraceOpen ∷ y)) (append_assoc (statements_tokens v.1) (choice_tokens v.2) end) ∙ ap (λ y. expr_tokens p.0 ++ y) v.3 ∙ p.1) ∙ sym h,
+        ap (λ f. (tree.Next (tree.If at f (statements_of v.1) (statements_end v.1) (second_of v.2) (second_end (statements_end v.1) v.2)) (behind_choice v.2), choice_end v.2)) p.2
+            ∙ ap (λ (w : tree.Block × ℕ). (tree.Next (tree.If at e w.0 w.1 (second_of v.2) (second_end (statements_end v.1) v.2)) (behind_choice v.2), choice_end v.2)) v.4
+            ∙ ap (λ (w : tree.Block × ℕ). (tree.Next (tree.If at e a.0 a.1 w.0 w.1) (behind_choice v.2), choice_end v.2)) v.5
+            ∙ ap (λ (w : tree.Block × ℕ). (tree.Next (tree.If at e a.0 a.1 b.0 b.1) w.0, w.1)) v.6,
+      ),
   λ owed. ap (fault (m.statements ∷ owed)) h ∙ p.3 (m.sign mark.BraceOpen ∷ m.statements ∷ m.after_choice ∷ owed) ∙ q.1 owed,
 )
 
@@ -375,14 +373,13 @@ patch_is at id_at id ts r1 r2 h p owed = ap (fault (m.statements ∷ owed)) h �
 pub patch_member : (at id_at : ℕ) (id : Bytes) (ts r1 r2 rest : List Lexeme) (a b : tree.Block × ℕ) → ts ≡ marked at mark.Patch ∷ r1 → IsPatchId r1 id_at id r2 → IsChoice r2 a b rest → IsMember ts (tree.Patch at id_at id a.0 a.1 b.0 b.1) rest
 patch_member at id_at id ts r1 r2 rest a b h p q = (
   λ more end g.
-    let v = q.0 more end g in
-    (
-      patch at id_at id p.0 v.0 v.1 v.2,
-      ap (λ y. marked at mark.Patch ∷ y) (ap (λ y. worded id_at id ∷ marked v.0 mark.BraceOpen ∷ y) (append_assoc (statements_tokens v.1) (choice_tokens v.2) end) ∙ ap (λ y. worded id_at id ∷ y) v.3 ∙ sym p.1) ∙ sym h,
-      ap (λ (w : tree.Block × ℕ). (tree.Next (tree.Patch at id_at id w.0 w.1 (second_of v.2) (second_end (statements_end v.1) v.2)) (behind_choice v.2), choice_end v.2)) v.4
-          ∙ ap (λ (w : tree.Block × ℕ). (tree.Next (tree.Patch at id_at id a.0 a.1 w.0 w.1) (behind_choice v.2), choice_end v.2)) v.5
-          ∙ ap (λ (w : tree.Block × ℕ). (tree.Next (tree.Patch at id_at id a.0 a.1 b.0 b.1) w.0, w.1)) v.6,
-    ),
+      let v = q.0 more end g in (
+        patch at id_at id p.0 v.0 v.1 v.2,
+        ap (λ y. marked at mark.Patch ∷ y) (ap (λ y. worded id_at id ∷ marked v.0 mark.BraceOpen ∷ y) (append_assoc (statements_tokens v.1) (choice_tokens v.2) end) ∙ ap (λ y. worded id_at id ∷ y) v.3 ∙ sym p.1) ∙ sym h,
+        ap (λ (w : tree.Block × ℕ). (tree.Next (tree.Patch at id_at id w.0 w.1 (second_of v.2) (second_end (statements_end v.1) v.2)) (behind_choice v.2), choice_end v.2)) v.4
+            ∙ ap (λ (w : tree.Block × ℕ). (tree.Next (tree.Patch at id_at id a.0 a.1 w.0 w.1) (behind_choice v.2), choice_end v.2)) v.5
+            ∙ ap (λ (w : tree.Block × ℕ). (tree.Next (tree.Patch at id_at id a.0 a.1 b.0 b.1) w.0, w.1)) v.6,
+      ),
   λ owed. patch_is at id_at id ts r1 r2 h p owed ∙ q.1 owed,
 )
 

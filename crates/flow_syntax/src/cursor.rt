@@ -128,10 +128,12 @@ pub fn patch_id(alloc: Global, tokens: &[Token]) -> Result<(usize, Key, &[Token]
         return Err(Stop::Unexpected(0));
     };
     match &first.word {
-        Word::Text(text) => match as_patch_id(alloc, text)? {
-            Some(id) => Ok((first.from, id, rest)),
-            None => Err(Stop::Unexpected(tokens.len())),
-        },
+        Word::Text(text) => {
+            let Some(id) = as_patch_id(alloc, text)? else {
+                return Err(Stop::Unexpected(tokens.len()));
+            };
+            Ok((first.from, id, rest))
+        }
         _ => Err(Stop::Unexpected(tokens.len())),
     }
 }

@@ -108,10 +108,7 @@ fn tried(tokens: &[Token]) -> Result<(Retry, &[Token]), Stop>
 
 /// A call behind its keyword, up to its `else`: the place of the activity, the activity, its arguments, and how often it
 /// is tried.
-fn called(
-    alloc: Global,
-    tokens: &[Token],
-) -> Result<(usize, Key, Vec<Expr>, Retry, &[Token]), Stop>
+fn called(alloc: Global, tokens: &[Token]) -> Result<(usize, Key, Vec<Expr>, Retry, &[Token]), Stop>
     ensures ok { IfOk result (λ x. (at : ℕ) (into : tree.Bytes) (call_at : ℕ) → IsCalled at into (marked call_at Mark.Call ∷ lexemes tokens.now) x.0 x.1 (map shown_expr x.2.items) x.3 (lexemes x.4.now)) }
     ensures shorter { IfOk result (λ x. length x.4.now < length tokens.now) }
     ensures err { IfErr result (λ e. (call_at : ℕ) → StopsAt m.side (marked call_at Mark.Call ∷ lexemes tokens.now) e) }
@@ -317,11 +314,7 @@ fn branches(alloc: Global, tokens: &[Token]) -> Result<(Vec<Branch>, &[Token]), 
 
 /// A `parallel`, behind its keyword, which stands at this place.
 #[cycle(statement)]
-fn parallel_statement(
-    alloc: Global,
-    at: usize,
-    tokens: &[Token],
-) -> Result<(Stmt, &[Token]), Stop>
+fn parallel_statement(alloc: Global, at: usize, tokens: &[Token]) -> Result<(Stmt, &[Token]), Stop>
     ensures ok { IfOk result (λ x. Parsed m.statement statement_tokens statement_of (marked at Mark.Parallel ∷ lexemes tokens.now) (shown_stmt x.0) (lexemes x.1.now)) }
     ensures shorter { IfOk result (λ x. length x.1.now < length tokens.now) }
     ensures err { IfErr result (λ e. StopsAt m.statement (marked at Mark.Parallel ∷ lexemes tokens.now) e) }
