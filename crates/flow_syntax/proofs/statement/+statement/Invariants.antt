@@ -28,7 +28,7 @@ abbrev pub decreases-while_statement : goal.decreases-while_statement
 decreases-while_statement l = 10 * length l.tokens.now + 0
 
 abbrev pub decreases-branches : goal.decreases-branches
-decreases-branches l = 10 * length l.tokens.now + 0
+decreases-branches l = 10 * length l.tokens.now + 1
 
 abbrev pub decreases-parallel_statement : goal.decreases-parallel_statement
 decreases-parallel_statement l = 10 * length l.tokens.now + 0
@@ -37,13 +37,13 @@ abbrev pub decreases-statement : goal.decreases-statement
 decreases-statement l = 10 * length l.tokens.now + 0
 
 abbrev pub decreases-choice : goal.decreases-choice
-decreases-choice l = 10 * length l.tokens.now + 0
+decreases-choice l = 10 * length l.tokens.now + 1
 
 abbrev pub decreases-member : goal.decreases-member
-decreases-member l = 10 * length l.tokens.now + 1
+decreases-member l = 10 * length l.tokens.now + 2
 
 abbrev pub decreases-statements : goal.decreases-statements
-decreases-statements l = 10 * length l.tokens.now + 2
+decreases-statements l = 10 * length l.tokens.now + 3
 
 abbrev pub invariant-statements-loop-at : goal.invariant-statements-loop-at
 invariant-statements-loop-at l =
