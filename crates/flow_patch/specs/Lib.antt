@@ -1,0 +1,2 @@
+-- each file a subject
+pub mod Wrap

@@ -1,0 +1,179 @@
+-- Which changes of a text are safe for the runs that have begun under it: some lists of statements of the old text stand in
+-- the new one as the second lists of patches with new ids. All of it up to places in the texts.
+use Rattle.std.specs.Prelude.{◌≡◌, ◌⊎◌, ◌↔◌, ℕ, Bool, true, false, not, ◌||◌, List, [], ◌∷◌, ◌++◌, map, bytes_eq, if◌then◌else◌}
+use Rattle.flow_base.specs.Syntax.{Bytes, Statement, Let, Assign, Call, WaitSignal, WaitSignalFor, Sleep, If, While, Parallel, Patch, Return, FailWith, Continue, Block, End, Next, Otherwise, NoElse, Else, Branches, NoBranch, Branch, Declared, Program}
+use Rattle.flow_base.specs.Bare.{bare_expression, bare_retry, bare_block, bare_parameter, bare_declared}
+use Rattle.flow_base.specs.declared.value.Kind.{Kind}
+use Rattle.flow_base.specs.declared.event.Event.{Event}
+use Rattle.flow_model.specs.Rest.{Rest, Done, OnActivity, OnTimer, OnSignal, OnSignalFor, Raised, Then, Beside}
+use Rattle.flow_model.specs.Configuration.{Configuration}
+use Rattle.flow_model.specs.Stands.{Stands}
+use Rattle.flow_model.specs.WellFormed.{WellFormed}
+
+-- one list of statements behind another
+abbrev pub joined : Block → Block → Block
+joined End c = c
+joined (Next s b) c = Next s (joined b c)
+
+---- The relation
+
+-- whether a patch within has this id
+abbrev mutual
+  pub has_id : Bytes → Statement → Bool
+  has_id i (Let at name_at x e) = false
+  has_id i (Assign at x e) = false
+  has_id i (Call at x activity_at a es r o) = otherwise_has i o
+  has_id i (WaitSignal at x signal_at n) = false
+  has_id i (WaitSignalFor at x signal_at n e b end) = block_has i b
+  has_id i (Sleep at e) = false
+  has_id i (If at e a a_end b b_end) = block_has i a || block_has i b
+  has_id i (While at e b end) = block_has i b
+  has_id i (Parallel at bs) = branches_have i bs
+  has_id i (Patch at id_at id a a_end b b_end) = bytes_eq id i || (block_has i a || block_has i b)
+  has_id i (Return at e) = false
+  has_id i (FailWith at e) = false
+  has_id i (Continue at es) = false
+
+  pub block_has : Bytes → Block → Bool
+  block_has i End = false
+  block_has i (Next s b) = has_id i s || block_has i b
+
+  pub otherwise_has : Bytes → Otherwise → Bool
+  otherwise_has i NoElse = false
+  otherwise_has i (Else b end) = block_has i b
+
+  pub branches_have : Bytes → Branches → Bool
+  branches_have i NoBranch = false
+  branches_have i (Branch at b end bs) = block_has i b || branches_have i bs
+
+-- an id that no patch of the program has
+abbrev pub new_in : Program → Bytes → Bool
+new_in p id = not (block_has id p.body)
+
+-- The old list b begins with what the new statement stands for, and R holds of what is left of b. The lists have no places.
+abbrev mutual
+  pub From : (Bytes → Bool) → Block → Statement → (Block → Type 0) → Type 0
+  From f b (Call at x activity_at a es r o') R =
+      (o : Otherwise) × ((k : Block) × ((b ≡ Next (Call at x activity_at a es r o) k) × SameElse f o o' × R k))
+  From f b (WaitSignalFor at x signal_at n e c' end) R =
+      (c : Block) × ((k : Block) × ((b ≡ Next (WaitSignalFor at x signal_at n e c end) k) × Wraps f c c' × R k))
+  From f b (If at e c' c_end d' d_end) R =
+      (c : Block) × ((d : Block) × ((k : Block) × ((b ≡ Next (If at e c c_end d d_end) k) × Wraps f c c' × Wraps f d d' × R k)))
+  From f b (While at e c' end) R = (c : Block) × ((k : Block) × ((b ≡ Next (While at e c end) k) × Wraps f c c' × R k))
+  From f b (Parallel at bs') R = (bs : Branches) × ((k : Block) × ((b ≡ Next (Parallel at bs) k) × SameBranches f bs bs' × R k))
+  -- a patch with a new id stands for its second list
+  From f b (Patch at id_at id c' c_end d' d_end) R =
+      ((f id ≡ true) × ((d : Block) × ((k : Block) × ((b ≡ joined d k) × Wraps f d d' × R k))))
+      ⊎ ((f id ≡ false) × ((c : Block) × ((d : Block) × ((k : Block) × ((b ≡ Next (Patch at id_at id c c_end d d_end) k) × Wraps f c c' × Wraps f d d' × R k)))))
+  From f b (Let at name_at x e) R = (k : Block) × ((b ≡ Next (Let at name_at x e) k) × R k)
+  From f b (Assign at x e) R = (k : Block) × ((b ≡ Next (Assign at x e) k) × R k)
+  From f b (WaitSignal at x signal_at n) R = (k : Block) × ((b ≡ Next (WaitSignal at x signal_at n) k) × R k)
+  From f b (Sleep at e) R = (k : Block) × ((b ≡ Next (Sleep at e) k) × R k)
+  From f b (Return at e) R = (k : Block) × ((b ≡ Next (Return at e) k) × R k)
+  From f b (FailWith at e) R = (k : Block) × ((b ≡ Next (FailWith at e) k) × R k)
+  From f b (Continue at es) R = (k : Block) × ((b ≡ Next (Continue at es) k) × R k)
+
+  -- the second list is the first with some of its lists in patches whose ids are new
+  pub Wraps : (Bytes → Bool) → Block → Block → Type 0
+  Wraps f b End = b ≡ End
+  Wraps f b (Next s' b') = From f b s' (λ k. Wraps f k b')
+
+  pub SameElse : (Bytes → Bool) → Otherwise → Otherwise → Type 0
+  SameElse f o NoElse = o ≡ NoElse
+  SameElse f o (Else c' end) = (c : Block) × ((o ≡ Else c end) × Wraps f c c')
+
+  pub SameBranches : (Bytes → Bool) → Branches → Branches → Type 0
+  SameBranches f bs NoBranch = bs ≡ NoBranch
+  SameBranches f bs (Branch at c' end bs') =
+      (c : Block) × ((cs : Branches) × ((bs ≡ Branch at c end cs) × Wraps f c c' × SameBranches f cs bs'))
+
+-- The second program wraps the first: it has its name and parameters, declares what it does and perhaps more at the end, and
+-- its body is that of the first with some lists in patches whose ids the first hasn't.
+pub record Wrap (p p' : Program) : Type 0 where
+  pub name : p'.name ≡ p.name
+  pub parameters : map bare_parameter p'.parameters ≡ map bare_parameter p.parameters
+  pub more : List Declared
+  pub declarations : map bare_declared p'.declarations ≡ map bare_declared p.declarations ++ more
+  pub body : Wraps (new_in p) (bare_block p.body) (bare_block p'.body)
+
+---- Taking patches out
+
+-- What becomes of a patch: its id, what its two lists became, and what follows it in its list.
+abbrev pub Patching : Type 0
+Patching = Bytes → Block → Block → Block → Block
+
+-- A list without places, each patch in it changed.
+abbrev mutual
+  -- a statement, and then what the rest of its list became
+  pub placed : Patching → Statement → Block → Block
+  placed t (Let at name_at x e) k = Next (Let 0 0 x (bare_expression e)) k
+  placed t (Assign at x e) k = Next (Assign 0 x (bare_expression e)) k
+  placed t (Call at x activity_at a es r o) k = Next (Call 0 x 0 a (map bare_expression es) (bare_retry r) (changed_otherwise t o)) k
+  placed t (WaitSignal at x signal_at n) k = Next (WaitSignal 0 x 0 n) k
+  placed t (WaitSignalFor at x signal_at n e b end) k = Next (WaitSignalFor 0 x 0 n (bare_expression e) (changed t b) 0) k
+  placed t (Sleep at e) k = Next (Sleep 0 (bare_expression e)) k
+  placed t (If at e a a_end b b_end) k = Next (If 0 (bare_expression e) (changed t a) 0 (changed t b) 0) k
+  placed t (While at e b end) k = Next (While 0 (bare_expression e) (changed t b) 0) k
+  placed t (Parallel at bs) k = Next (Parallel 0 (changed_branches t bs)) k
+  placed t (Patch at id_at id a a_end b b_end) k = t id (changed t a) (changed t b) k
+  placed t (Return at e) k = Next (Return 0 (bare_expression e)) k
+  placed t (FailWith at e) k = Next (FailWith 0 (bare_expression e)) k
+  placed t (Continue at es) k = Next (Continue 0 (map bare_expression es)) k
+
+  pub changed : Patching → Block → Block
+  changed t End = End
+  changed t (Next s b) = placed t s (changed t b)
+
+  pub changed_otherwise : Patching → Otherwise → Otherwise
+  changed_otherwise t NoElse = NoElse
+  changed_otherwise t (Else b end) = Else (changed t b) 0
+
+  pub changed_branches : Patching → Branches → Branches
+  changed_branches t NoBranch = NoBranch
+  changed_branches t (Branch at b end bs) = Branch 0 (changed t b) 0 (changed_branches t bs)
+
+-- a patch whose id is new gives way to its second list
+abbrev pub without_new : (Bytes → Bool) → Patching
+without_new f id a b k = if f id then joined b k else Next (Patch 0 0 id a 0 b 0) k
+
+-- A list without its new patches.
+abbrev pub plain : (Bytes → Bool) → Block → Block
+plain f b = changed (without_new f) b
+
+-- Taking the new patches out decides it.
+abbrev pub WrapIsComputed : Type 0
+WrapIsComputed = (f : Bytes → Bool) (b b' : Block) → Wraps f (bare_block b) (bare_block b') ↔ (bare_block b ≡ plain f b')
+
+---- The law
+
+-- an open wait
+pub data Wait : Type 0 where
+  ForActivity : (event : ℕ) (into : Bytes) (gives : Kind) → Wait
+  ForTimer : (event : ℕ) → Wait
+  ForSignal : (into signal : Bytes) → Wait
+  ForSignalOrTimer : (into signal : Bytes) (event : ℕ) → Wait
+
+-- the open waits, in the order of the text
+abbrev pub waits_of : Rest → List Wait
+waits_of Done = []
+waits_of (OnActivity n x k o) = ForActivity n x k ∷ []
+waits_of (OnTimer n) = ForTimer n ∷ []
+waits_of (OnSignal x s) = ForSignal x s ∷ []
+waits_of (OnSignalFor x s n b) = ForSignalOrTimer x s n ∷ []
+waits_of (Raised c t) = []
+waits_of (Then r b) = waits_of r
+waits_of (Beside a b) = waits_of a ++ waits_of b
+
+-- Whoever sends commands sees no difference between the two.
+pub record SameToASubmitter (k k' : Configuration) : Type 0 where
+  pub variables : k'.variables ≡ k.variables
+  pub buffer : k'.buffer ≡ k.buffer
+  pub waits : waits_of k'.rest ≡ waits_of k.rest
+  pub state : k'.state ≡ k.state
+  pub events : k'.events ≡ k.events
+  pub moment : k'.moment ≡ k.moment
+
+-- A history that stands under a program stands under each that wraps it, and leaves the run the same to a submitter.
+abbrev pub WrappedStands : Type 0
+WrappedStands = (p p' : Program) (h : List Event) (k : Configuration)
+    → WellFormed p → Wrap p p' → Stands p h k → (k' : Configuration) × (Stands p' h k' × SameToASubmitter k k')

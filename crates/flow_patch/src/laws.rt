@@ -1,0 +1,2 @@
+/// nothing yet
+pub fn one() -> u8 { 1 }
