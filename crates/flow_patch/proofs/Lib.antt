@@ -5,3 +5,6 @@ pub mod Owned
 pub mod Own
 pub mod Simulate
 pub mod Turns
+pub mod Law
+pub mod Calls
+pub mod Words

@@ -1,12 +1,12 @@
 -- New patches that are answered no are passed: each step of a rest is one of its plain form, or passes a new patch.
-use Rattle.std.proofs.Common.{◌≡◌, refl, ℕ, Option, Some, None, Bool, true, false, ⊎_elim, inl, inr}
-use Rattle.std.specs.Prelude.{if◌then◌else◌, ◌⊎◌}
+use Rattle.std.proofs.Common.{◌≡◌, refl, Option, Some, None, Bool, true, false, ⊎_elim, inl, inr}
+use Rattle.std.specs.Prelude.{◌⊎◌}
 use Rattle.flow_base.specs.Syntax.{Bytes, Patch, Block}
 use Rattle.flow_base.specs.declared.event.Cmd.TheVariants.{RecordMarker}
 use Rattle.flow_model.specs.Rest.{Rest, Done, rest_of}
-use Rattle.flow_model.specs.Step.{Store, Setting, Move, Goes, Asks, picked, patched, decide, move}
+use Rattle.flow_model.specs.Step.{Store, Setting, Move, Goes, Asks, patched, decide}
 use Rattle.flow_patch.specs.Wrap.{Patching, changed, without_new}
-use Rattle.flow_patch.proofs.Normal.{cases, behind_twice, norm, Alike, NormTo, SameStore, if_alike, picked_alike, Aside, Skips, Begins, Patches, plainly, Steps, normal_steps}
+use Rattle.flow_patch.proofs.Normal.{cases, behind_twice, norm, Alike, NormTo, SameStore, if_alike, picked_alike, Aside, Patches, plainly, Steps, normal_steps}
 
 -- without places and new patches
 abbrev pub plain_rest : (Bytes → Bool) → Rest → Rest
