@@ -8,3 +8,4 @@ pub mod Turns
 pub mod Law
 pub mod Calls
 pub mod Words
+mod Rows

@@ -1,2 +1,3 @@
 -- each file a subject
 pub mod Wrap
+pub mod Difference
