@@ -5,7 +5,8 @@ use Rattle.flow_base.specs.Syntax.{Bytes, Statement, Let, Assign, Call, WaitSign
 use Rattle.flow_base.specs.Bare.{bare_expression, bare_retry, bare_statement, bare_block, bare_otherwise, bare_branches, bare_type, bare_declared}
 use Rattle.flow_base.specs.declared.syntax.TypeAt.{TypeAt}
 use Rattle.flow_model.specs.WellFormed.{WellFormed}
-use Rattle.flow_patch.specs.Wrap.{joined, placed, plain, changed_otherwise, changed_branches, without_new, From, Wraps, SameElse, SameBranches, new_in, Wrap, WrapIsComputed, WrappedStands}
+use Rattle.flow_patch.specs.Wrap.{joined, placed, plain, changed_otherwise, changed_branches, without_new, From, Wraps, SameElse, SameBranches, new_in, Wrap, WrapIsComputed, WrappedStands, WrappedNeverFails}
+use Rattle.flow_model.proofs.Chains.{not_both}
 use Rattle.flow_patch.proofs.Normal.{cases}
 use Rattle.flow_patch.proofs.Calls.{own_body}
 use Rattle.flow_patch.proofs.Law.{Change, change_stands}
@@ -134,3 +135,7 @@ change_of p p' c w =
 
 pub wrapped_stands : WrappedStands
 wrapped_stands p p' h k c w s = change_stands p p' h k (change_of p p' c w) s
+
+pub wrapped_never_fails : WrappedNeverFails
+wrapped_never_fails p p' h k place w c wrap s m =
+    let there = wrapped_stands p p' h k c wrap s in not_both p' h there.0 place w m there.1.0

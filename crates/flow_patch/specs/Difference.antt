@@ -1,5 +1,5 @@
 -- Where a text first differs from what it would have to be to wrap another: the place in the new text, or none.
-use Rattle.std.specs.Prelude.{ℕ, Bool, true, false, ◌&&◌, List, [], ◌∷◌, Option, Some, None, nat_eq, bytes_eq, if◌then◌else◌}
+use Rattle.std.specs.Prelude.{◌≡◌, ◌↔◌, ℕ, Bool, true, false, ◌&&◌, List, [], ◌∷◌, Option, Some, None, nat_eq, bytes_eq, if◌then◌else◌}
 use Rattle.flow_base.specs.Syntax.{Bytes, Expression, Number, Literal, Variable, Now, Apply, Combine, Statement, Let, Assign, Call, WaitSignal, WaitSignalFor, Sleep, If, While, Parallel, Patch, Return, FailWith, Continue, Block, End, Next, Otherwise, NoElse, Else, Branches, NoBranch, Branch, Declared, Activity, Signal, Program}
 use Rattle.flow_base.specs.declared.syntax.Unary.{Unary}
 use Rattle.flow_base.specs.declared.syntax.Unary.TheVariants as unary
@@ -10,7 +10,7 @@ use Rattle.flow_base.specs.declared.syntax.Parameter.{Parameter}
 use Rattle.flow_base.specs.declared.syntax.TypeAt.{TypeAt}
 use Rattle.flow_model.specs.Values.{int_same}
 use Rattle.flow_model.specs.WellFormed.{is_kind}
-use Rattle.flow_patch.specs.Wrap.{joined, new_in}
+use Rattle.flow_patch.specs.Wrap.{joined, new_in, Wrap}
 
 ---- The same up to places
 
@@ -240,3 +240,7 @@ first_difference p p' =
     (first_place (difference_of_parameters p.parameters p'.parameters p'.parameters_end)
     (first_place (difference_of_declarations p.declarations p'.declarations (beginning_of p'.body p'.body_end))
     (difference p.body (spliced (new_in p) p'.body) p'.body_end)))
+
+-- There is none exactly where it wraps the first.
+abbrev pub DifferenceDecides : Type 0
+DifferenceDecides = (p p' : Program) → (first_difference p p' ≡ None) ↔ Wrap p p'

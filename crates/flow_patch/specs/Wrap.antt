@@ -5,9 +5,10 @@ use Rattle.flow_base.specs.Syntax.{Bytes, Statement, Let, Assign, Call, WaitSign
 use Rattle.flow_base.specs.Bare.{bare_expression, bare_retry, bare_block, bare_parameter, bare_declared}
 use Rattle.flow_base.specs.declared.value.Kind.{Kind}
 use Rattle.flow_base.specs.declared.event.Event.{Event}
+use Rattle.flow_base.specs.declared.event.Wrong.{Wrong}
 use Rattle.flow_model.specs.Rest.{Rest, Done, OnActivity, OnTimer, OnSignal, OnSignalFor, Raised, Then, Beside}
 use Rattle.flow_model.specs.Configuration.{Configuration}
-use Rattle.flow_model.specs.Stands.{Stands}
+use Rattle.flow_model.specs.Stands.{Stands, FirstMismatch}
 use Rattle.flow_model.specs.WellFormed.{WellFormed}
 
 -- one list of statements behind another
@@ -177,3 +178,8 @@ pub record SameToASubmitter (k k' : Configuration) : Type 0 where
 abbrev pub WrappedStands : Type 0
 WrappedStands = (p p' : Program) (h : List Event) (k : Configuration)
     → WellFormed p → Wrap p p' → Stands p h k → (k' : Configuration) × (Stands p' h k' × SameToASubmitter k k')
+
+-- So a run of the first program is never refused the second, as one whose history fails there.
+abbrev pub WrappedNeverFails : Type 0
+WrappedNeverFails = (p p' : Program) (h : List Event) (k : Configuration) (place : ℕ) (w : Wrong)
+    → WellFormed p → Wrap p p' → Stands p h k → FirstMismatch p' h place w → ⊥
