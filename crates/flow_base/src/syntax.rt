@@ -1,5 +1,5 @@
 ghost use Rattle.std.specs.Prelude.{◌≡◌, IfOk, map};
-ghost use Rattle.flow_base.specs.Shown.{shown_expr, shown_stmt};
+ghost use Rattle.flow_base.specs.Shown.{shown_expr, shown_stmt, shown_braced, shown_branch, shown_otherwise};
 ghost use Rattle.flow_base.specs.Syntax.{once};
 
 use crate::text::{Key, Text};
@@ -96,18 +96,70 @@ impl Retry {
     }
 }
 
+/// A list of statements between braces, and the place of its closing brace.
+#[derive(Debug, Drop)]
+#[cycle(statements)]
+pub struct Block {
+    pub list: Vec<Stmt>,
+    pub end: usize,
+}
+
+impl Block {
+    #[cycle(copies)]
+    pub fn copy(&self, alloc: Global) -> Result<Block, AllocError>
+        ensures { IfOk result (λ b. shown_braced b ≡ shown_braced self.now) }
+    {
+        let list = copy_stmts(alloc, &self.list)?;
+        Ok(Block {
+            list,
+            end: self.end,
+        })
+    }
+}
+
+/// A branch of a parallel block, and the place of its opening brace.
+#[derive(Debug, Drop)]
+#[cycle(statements)]
+pub struct Branch {
+    pub at: usize,
+    pub body: Block,
+}
+
+impl Branch {
+    #[cycle(copies)]
+    pub fn copy(&self, alloc: Global) -> Result<Branch, AllocError>
+        ensures { IfOk result (λ b. shown_branch b ≡ shown_branch self.now) }
+    {
+        let body = self.body.copy(alloc)?;
+        Ok(Branch { at: self.at, body })
+    }
+}
+
 /// A statement. The first place is that of its first token, each further one that of the name behind it.
 #[derive(Debug, Drop)]
+#[cycle(statements)]
 pub enum Stmt {
     /// `let`, and the place of the name.
     Let(usize, usize, Key, Expr),
     Assign(usize, Key, Expr),
-    /// A variable, the place of the activity, the activity, its arguments, and how often it is tried.
-    Call(usize, Key, usize, Key, Vec<Expr>, Retry),
+    /// A variable, the place of the activity, the activity, its arguments, how often it is tried, and what is done where
+    /// it fails for good: with no such list the run fails.
+    Call(usize, Key, usize, Key, Vec<Expr>, Retry, Option<Block>),
     /// A variable, the place of the signal, and the signal that it waits for.
     WaitSignal(usize, Key, usize, Key),
+    /// The same for at most a delay, in milliseconds, and what is done where none came.
+    WaitSignalFor(usize, Key, usize, Key, Expr, Block),
     /// The delay, in milliseconds.
     Sleep(usize, Expr),
+    /// What is done where the condition holds, and where it doesn't. A missing second list is an empty one that ends where
+    /// the first does.
+    If(usize, Expr, Block, Block),
+    While(usize, Expr, Block),
+    /// The first branch, and the others.
+    Parallel(usize, Branch, Vec<Branch>),
+    /// The place of the patch's id, the id, what is done since the patch, and what was done before it. A missing second
+    /// list is as that of `If`.
+    Patch(usize, usize, Key, Block, Block),
     Return(usize, Expr),
     FailWith(usize, Expr),
     /// `continue as new`, with the arguments of the next run.
@@ -115,6 +167,7 @@ pub enum Stmt {
 }
 
 impl Stmt {
+    #[cycle(copies)]
     pub fn copy(&self, alloc: Global) -> Result<Stmt, AllocError>
         ensures { IfOk result (λ s. shown_stmt s ≡ shown_stmt self.now) }
     {
@@ -126,9 +179,11 @@ impl Stmt {
                 e.copy(alloc)?,
             )),
             Stmt::Assign(at, x, e) => Ok(Stmt::Assign(*at, x.copy(alloc)?, e.copy(alloc)?)),
-            Stmt::Call(at, x, activity_at, a, es, r) => {
+            Stmt::Call(at, x, activity_at, a, es, r, o) => {
                 let es = copy_exprs(alloc, es)?;
-                Ok(Stmt::Call(*at, x.copy(alloc)?, *activity_at, a.copy(alloc)?, es, *r))
+                let o = copy_otherwise(alloc, o)?;
+                let x = x.copy(alloc)?;
+                Ok(Stmt::Call(*at, x, *activity_at, a.copy(alloc)?, es, *r, o))
             }
             Stmt::WaitSignal(at, x, signal_at, n) => Ok(Stmt::WaitSignal(
                 *at,
@@ -136,11 +191,68 @@ impl Stmt {
                 *signal_at,
                 n.copy(alloc)?,
             )),
+            Stmt::WaitSignalFor(at, x, signal_at, n, e, late) => {
+                let x = x.copy(alloc)?;
+                let n = n.copy(alloc)?;
+                let e = e.copy(alloc)?;
+                Ok(Stmt::WaitSignalFor(*at, x, *signal_at, n, e, late.copy(alloc)?))
+            }
             Stmt::Sleep(at, e) => Ok(Stmt::Sleep(*at, e.copy(alloc)?)),
+            Stmt::If(at, e, a, b) => {
+                let e = e.copy(alloc)?;
+                let a = a.copy(alloc)?;
+                Ok(Stmt::If(*at, e, a, b.copy(alloc)?))
+            }
+            Stmt::While(at, e, b) => {
+                let e = e.copy(alloc)?;
+                Ok(Stmt::While(*at, e, b.copy(alloc)?))
+            }
+            Stmt::Parallel(at, first, others) => {
+                let first = first.copy(alloc)?;
+                Ok(Stmt::Parallel(*at, first, copy_branches(alloc, others)?))
+            }
+            Stmt::Patch(at, id_at, id, a, b) => {
+                let id = id.copy(alloc)?;
+                let a = a.copy(alloc)?;
+                Ok(Stmt::Patch(*at, *id_at, id, a, b.copy(alloc)?))
+            }
             Stmt::Return(at, e) => Ok(Stmt::Return(*at, e.copy(alloc)?)),
             Stmt::FailWith(at, e) => Ok(Stmt::FailWith(*at, e.copy(alloc)?)),
             Stmt::Continue(at, es) => Ok(Stmt::Continue(*at, copy_exprs(alloc, es)?)),
         }
+    }
+}
+
+/// The statements in their order.
+#[cycle(copies)]
+pub fn copy_stmts(alloc: Global, stmts: &[Stmt]) -> Result<Vec<Stmt>, AllocError>
+    ensures { IfOk result (λ v. map shown_stmt v.items ≡ map shown_stmt stmts.now) }
+{
+    let mut list = Vec::new(alloc);
+    for s in stmts {
+        list.push(s.copy(alloc)?)?;
+    }
+    Ok(list)
+}
+
+#[cycle(copies)]
+fn copy_branches(alloc: Global, branches: &[Branch]) -> Result<Vec<Branch>, AllocError>
+    ensures { IfOk result (λ v. map shown_branch v.items ≡ map shown_branch branches.now) }
+{
+    let mut list = Vec::new(alloc);
+    for b in branches {
+        list.push(b.copy(alloc)?)?;
+    }
+    Ok(list)
+}
+
+#[cycle(copies)]
+fn copy_otherwise(alloc: Global, otherwise: &Option<Block>) -> Result<Option<Block>, AllocError>
+    ensures { IfOk result (λ o. shown_otherwise o ≡ shown_otherwise otherwise.now) }
+{
+    match otherwise {
+        None => Ok(None),
+        Some(b) => Ok(Some(b.copy(alloc)?)),
     }
 }
 

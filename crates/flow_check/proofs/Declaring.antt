@@ -12,9 +12,10 @@ use Rattle.flow_base.specs.declared.command.TextFault.{TextFault}
 use Rattle.flow_base.specs.declared.syntax.Parameter.{Parameter}
 use Rattle.flow_base.specs.declared.syntax.Declaration.{Declaration}
 use Rattle.flow_base.specs.declared.syntax.Stmt.{Stmt}
-use Rattle.flow_base.specs.Shown.{shown_stmt, shown_declaration, shown_block}
+use Rattle.flow_base.specs.declared.syntax.Branch.{Branch}
+use Rattle.flow_base.specs.Shown.{Braced, shown_stmt, shown_branch, shown_declaration, shown_block, branches_of}
 use Rattle.flow_base.specs.Syntax.{Bytes, Statement, block_of}
-use Rattle.flow_model.specs.WellFormed.{Space, Named, named, variables, activities, signals, is_space, same_name, fault, earliest, twice_code, declared_twice, one_too_many, faults_of_names, names_of_block, names_of_statement, name_of_parameter, name_of_declared}
+use Rattle.flow_model.specs.WellFormed.{Space, Named, named, variables, activities, signals, patches, is_space, same_name, fault, earliest, twice_code, declared_twice, one_too_many, faults_of_names, names_of_block, names_of_statement, names_of_branches, name_of_parameter, name_of_declared}
 use Rattle.flow_model.proofs.FirstFault.{earliest-append}
 use Rattle.flow_check.specs.declared.names.Names.{Names}
 use Rattle.flow_check.specs.Tables.{Lists, Declares, noted_name}
@@ -72,8 +73,8 @@ noted_by : (b : Bool) (n m : ℕ) (fs gs : List TextFault) → nat_eq n 256 ≡ 
 noted_by b n m fs gs h =
     ap (λ xs. xs ++ cond (nat_eq n 256) gs []) (not_form b fs) ∙ ap (λ t. cond b fs [] ++ cond t gs []) h ∙ sym (append-nil (cond b fs [] ++ cond (nat_eq m 256) gs []))
 
-noted_in : (is_new b : Bool) (n m at : ℕ) → is_new ≡ not b → n ≡ min m 257 → noted_name is_new n at ≡ (cond b (fault code.DeclaredTwice at) [] ++ cond (nat_eq m 256) (fault code.TooManyNames at) []) ++ []
-noted_in is_new b n m at h k = ap (λ c. noted_name c n at) h ∙ noted_by b n m (fault code.DeclaredTwice at) (fault code.TooManyNames at) (at_limit n m k)
+noted_in : (is_new b : Bool) (twice : Code) (n m at : ℕ) → is_new ≡ not b → n ≡ min m 257 → noted_name is_new twice n at ≡ (cond b (fault twice at) [] ++ cond (nat_eq m 256) (fault code.TooManyNames at) []) ++ []
+noted_in is_new b twice n m at h k = ap (λ c. noted_name c twice n at) h ∙ noted_by b n m (fault twice at) (fault code.TooManyNames at) (at_limit n m k)
 
 small : (n m : ℕ) → n ≡ min m 257 → n ≤ 257
 small n m h = omega arith
@@ -97,55 +98,80 @@ module _ {S : Type 0} (space : Space) (before : List Named) (s s' : HashSet (Bor
       ap (λ t. contains_by (λ k. bytes_eq y k.now) t) same ∙ has y ∙ or_nothing seen ∙ ap (λ b. seen || ((b && bytes_eq y x.name) || false)) (sym other)
       ∙ sym (list_any-append (same_name (named space 0 y)) before (x ∷ []))
 
-module _ (n n' : Names) (o o' : Option TextFault) (at : ℕ) (name : Bytes) (is_new : Bool) (counted : n.count ≤ 257 → n'.count ≡ min (n.count + 1) 257) (noted : o' ≡ earliest o (noted_name is_new n.count at)) where
+module _ (n n' : Names) (o o' : Option TextFault) (at : ℕ) (name : Bytes) (is_new : Bool) (twice : Code) (counted : n.count ≤ 257 → n'.count ≡ min (n.count + 1) 257) (noted : o' ≡ earliest o (noted_name is_new twice n.count at)) where
   count_more : (before : List Named) (x : Named) → Lists n before → n'.count ≡ min (length (before ++ x ∷ [])) 257
   count_more before x l = counted (small n.count (length before) l.count) ∙ count_after n.count before x l.count
 
-  noted_more : (before : List Named) (x : Named) (b : Bool) → Lists n before → is_new ≡ not b → b ≡ list_any (same_name x) before → twice_code x.space ≡ code.DeclaredTwice → x.at ≡ at → o' ≡ earliest o (faults_of_names before (x ∷ []))
-  noted_more before x b l new seen twice place =
-      noted ∙ ap (earliest o) (noted_in is_new (list_any (same_name x) before) n.count (length before) at (new ∙ ap not seen) l.count)
-      ∙ ap (λ (c : Code). earliest o ((cond (list_any (same_name x) before) (fault c at) [] ++ cond (nat_eq (length before) 256) (fault code.TooManyNames at) []) ++ [])) (sym twice)
+  noted_more : (before : List Named) (x : Named) (b : Bool) → Lists n before → is_new ≡ not b → b ≡ list_any (same_name x) before → twice_code x.space ≡ twice → x.at ≡ at → o' ≡ earliest o (faults_of_names before (x ∷ []))
+  noted_more before x b l new seen called place =
+      noted ∙ ap (earliest o) (noted_in is_new (list_any (same_name x) before) twice n.count (length before) at (new ∙ ap not seen) l.count)
+      ∙ ap (λ (c : Code). earliest o ((cond (list_any (same_name x) before) (fault c at) [] ++ cond (nat_eq (length before) 256) (fault code.TooManyNames at) []) ++ [])) (sym called)
       ∙ ap (λ (p : ℕ). earliest o ((cond (list_any (same_name x) before) (fault (twice_code x.space) p) [] ++ cond (nat_eq (length before) 256) (fault code.TooManyNames p) []) ++ [])) (sym place)
 
-  pub declares_variable : is_new ≡ not (contains_by (λ k. bytes_eq name k.now) n.variables) → Adds n.variables name n'.variables → n'.activities ≡ n.activities → n'.signals ≡ n.signals → Declares n o (named variables at name ∷ []) n' o'
-  declares_variable new added same alike = λ before l.
+  pub declares_variable : twice ≡ code.DeclaredTwice → is_new ≡ not (contains_by (λ k. bytes_eq name k.now) n.variables) → Adds n.variables name n'.variables
+      → n'.activities ≡ n.activities → n'.signals ≡ n.signals → n'.patches ≡ n.patches → Declares n o (named variables at name ∷ []) n' o'
+  declares_variable called new added same alike too = λ before l.
       let x = named variables at name in (
         record {
           variables = has_more variables before n.variables n'.variables at name added l.variables refl;
           activities = has_same activities before n.activities n'.activities x same l.activities refl;
           signals = has_same signals before n.signals n'.signals x alike l.signals refl;
+          patches = has_same patches before n.patches n'.patches x too l.patches refl;
           count = count_more before x l;
         },
-        noted_more before x (contains_by (λ k. bytes_eq name k.now) n.variables) l new (l.variables name) refl refl,
+        noted_more before x (contains_by (λ k. bytes_eq name k.now) n.variables) l new (l.variables name) (sym called) refl,
       )
 
-  pub declares_activity : is_new ≡ not (contains_by (λ k. bytes_eq name k.now) n.activities) → Adds n.activities name n'.activities → n'.variables ≡ n.variables → n'.signals ≡ n.signals → Declares n o (named activities at name ∷ []) n' o'
-  declares_activity new added same alike = λ before l.
+  pub declares_activity : twice ≡ code.DeclaredTwice → is_new ≡ not (contains_by (λ k. bytes_eq name k.now) n.activities) → Adds n.activities name n'.activities
+      → n'.variables ≡ n.variables → n'.signals ≡ n.signals → n'.patches ≡ n.patches → Declares n o (named activities at name ∷ []) n' o'
+  declares_activity called new added same alike too = λ before l.
       let x = named activities at name in (
         record {
           variables = has_same variables before n.variables n'.variables x same l.variables refl;
           activities = has_more activities before n.activities n'.activities at name added l.activities refl;
           signals = has_same signals before n.signals n'.signals x alike l.signals refl;
+          patches = has_same patches before n.patches n'.patches x too l.patches refl;
           count = count_more before x l;
         },
-        noted_more before x (contains_by (λ k. bytes_eq name k.now) n.activities) l new (l.activities name) refl refl,
+        noted_more before x (contains_by (λ k. bytes_eq name k.now) n.activities) l new (l.activities name) (sym called) refl,
       )
 
-  pub declares_signal : is_new ≡ not (contains_by (λ k. bytes_eq name k.now) n.signals) → Adds n.signals name n'.signals → n'.variables ≡ n.variables → n'.activities ≡ n.activities → Declares n o (named signals at name ∷ []) n' o'
-  declares_signal new added same alike = λ before l.
+  pub declares_signal : twice ≡ code.DeclaredTwice → is_new ≡ not (contains_by (λ k. bytes_eq name k.now) n.signals) → Adds n.signals name n'.signals
+      → n'.variables ≡ n.variables → n'.activities ≡ n.activities → n'.patches ≡ n.patches → Declares n o (named signals at name ∷ []) n' o'
+  declares_signal called new added same alike too = λ before l.
       let x = named signals at name in (
         record {
           variables = has_same variables before n.variables n'.variables x same l.variables refl;
           activities = has_same activities before n.activities n'.activities x alike l.activities refl;
           signals = has_more signals before n.signals n'.signals at name added l.signals refl;
+          patches = has_same patches before n.patches n'.patches x too l.patches refl;
           count = count_more before x l;
         },
-        noted_more before x (contains_by (λ k. bytes_eq name k.now) n.signals) l new (l.signals name) refl refl,
+        noted_more before x (contains_by (λ k. bytes_eq name k.now) n.signals) l new (l.signals name) (sym called) refl,
+      )
+
+  pub declares_patch : twice ≡ code.PatchTwice → is_new ≡ not (contains_by (λ k. bytes_eq name k.now) n.patches) → Adds n.patches name n'.patches
+      → n'.variables ≡ n.variables → n'.activities ≡ n.activities → n'.signals ≡ n.signals → Declares n o (named patches at name ∷ []) n' o'
+  declares_patch called new added same alike too = λ before l.
+      let x = named patches at name in (
+        record {
+          variables = has_same variables before n.variables n'.variables x same l.variables refl;
+          activities = has_same activities before n.activities n'.activities x alike l.activities refl;
+          signals = has_same signals before n.signals n'.signals x too l.signals refl;
+          patches = has_more patches before n.patches n'.patches at name added l.patches refl;
+          count = count_more before x l;
+        },
+        noted_more before x (contains_by (λ k. bytes_eq name k.now) n.patches) l new (l.patches name) (sym called) refl,
       )
 
 pub names_of_block-append : (xs ys : List Statement) → names_of_block (block_of (xs ++ ys)) ≡ names_of_block (block_of xs) ++ names_of_block (block_of ys)
 names_of_block-append [] ys = refl
 names_of_block-append (x ∷ xs) ys = ap (λ ns. names_of_statement x ++ ns) (names_of_block-append xs ys) ∙ sym (append_assoc (names_of_statement x) (names_of_block (block_of xs)) (names_of_block (block_of ys)))
+
+names_of_branches-append : (xs ys : List (ℕ × Braced)) → names_of_branches (branches_of (xs ++ ys)) ≡ names_of_branches (branches_of xs) ++ names_of_branches (branches_of ys)
+names_of_branches-append [] ys = refl
+names_of_branches-append (x ∷ xs) ys =
+    ap (λ ns. names_of_block x.1.0 ++ ns) (names_of_branches-append xs ys) ∙ sym (append_assoc (names_of_block x.1.0) (names_of_branches (branches_of xs)) (names_of_branches (branches_of ys)))
 
 -- one more of a list
 module _ {X Y : Type 0} (f : X → Y) where
@@ -171,3 +197,11 @@ module _ (n n1 n2 : Names) (o o1 o2 : Option TextFault) (i : ℕ) where
   pub one_more_statement : (ss : List Stmt) (s : Stmt) → i < length ss → s ≡ get_or ss i s → Declares n o (names_of_block (shown_block (take i ss))) n1 o1 → Declares n1 o1 (names_of_statement (shown_stmt s)) n2 o2 → Declares n o (names_of_block (shown_block (take (i + 1) ss))) n2 o2
   one_more_statement ss s l e first second =
       subst (λ (ys : List Named). Declares n o ys n2 o2) (sym (block_one_more ss i s l e)) (declares_then n n1 n2 o o1 o2 (names_of_block (shown_block (take i ss))) (names_of_statement (shown_stmt s)) first second)
+
+  pub one_more_branch : (bs : List Branch) (b : Branch) → i < length bs → b ≡ get_or bs i b → Declares n o (names_of_branches (branches_of (map shown_branch (take i bs)))) n1 o1
+      → Declares n1 o1 (names_of_block (shown_branch b).1.0) n2 o2 → Declares n o (names_of_branches (branches_of (map shown_branch (take (i + 1) bs)))) n2 o2
+  one_more_branch bs b l e first second =
+      let before = map shown_branch (take i bs) in
+      subst (λ (ys : List Named). Declares n o ys n2 o2)
+      (sym (ap (λ ys. names_of_branches (branches_of ys)) (map_one_more shown_branch bs i b l e) ∙ names_of_branches-append before (shown_branch b ∷ []) ∙ ap (λ ns. names_of_branches (branches_of before) ++ ns) (append-nil (names_of_block (shown_branch b).1.0))))
+      (declares_then n n1 n2 o o1 o2 (names_of_branches (branches_of before)) (names_of_block (shown_branch b).1.0) first second)

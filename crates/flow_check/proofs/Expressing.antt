@@ -10,11 +10,13 @@ use Rattle.flow_base.specs.declared.syntax.Expr.{Expr}
 use Rattle.flow_base.specs.declared.syntax.Unary.{Unary}
 use Rattle.flow_base.specs.declared.syntax.Binary.{Binary}
 use Rattle.flow_base.specs.declared.value.Kind.{Kind}
-use Rattle.flow_base.specs.Shown.{shown_expr}
+use Rattle.flow_base.specs.declared.syntax.Branch.{Branch}
+use Rattle.flow_base.specs.Shown.{shown_expr, shown_branch, branches_of}
 use Rattle.flow_base.specs.Syntax.{Expression, Apply, Combine, Declared}
-use Rattle.flow_model.specs.WellFormed.{Types, fault, fault_at_first, earliest, kind_of, beginning, wrong_kind, wrong_operands, operand_kind, operands_kind, faults_of_expression, faults_of_wanted, faults_of_arguments, faults_of_declared, faults_of_declarations}
+use Rattle.flow_model.specs.WellFormed.{Types, fault, fault_at_first, branch_places, earliest, kind_of, beginning, wrong_kind, wrong_operands, operand_kind, operands_kind, faults_of_expression, faults_of_wanted, faults_of_arguments, faults_of_declared, faults_of_declarations}
 use Rattle.flow_check.specs.Tables.{faults_of_argument}
 use Rattle.flow_model.proofs.FirstFault.{earliest-append}
+use Rattle.flow_check.proofs.Forms.{shown_place}
 
 pub unary_noted : (types : Types) (x e : Expression) (at b : ℕ) (op : Unary) (w : Kind) (k : Option Kind) (o o1 o2 : Option TextFault)
     → x ≡ Apply at op e → o1 ≡ earliest o (faults_of_expression types e) → k ≡ kind_of types e → w ≡ operand_kind op → b ≡ beginning e → o2 ≡ earliest o1 (wrong_kind w k b)
@@ -40,6 +42,21 @@ first_beyond code ts n t h k = ap (λ (us : List TypeAt). fault_at_first code (m
 
 pub none_beyond : (code : Code) (ts : List TypeAt) (n : ℕ) → length ts ≤ n → fault_at_first code (map (λ (u : TypeAt). u.at) (drop n ts)) ≡ []
 none_beyond code ts n h = ap (λ (us : List TypeAt). fault_at_first code (map (λ (u : TypeAt). u.at) us)) (drop_of_length-le ts h)
+
+-- where branches begin that are beyond a number
+places : (bs : List Branch) (n : ℕ) → drop n (branch_places (branches_of (map shown_branch bs))) ≡ branch_places (branches_of (map shown_branch (drop n bs)))
+places bs zero = refl
+places [] (suc n) = refl
+places (b ∷ bs) (suc n) = places bs n
+
+pub first_branch_beyond : (code : Code) (bs : List Branch) (n : ℕ) (b : Branch) → n < length bs → b ≡ get_or bs n b
+    → fault_at_first code (drop n (branch_places (branches_of (map shown_branch bs)))) ≡ fault code b.at
+first_branch_beyond code bs n b h k =
+    ap (fault_at_first code) (places bs n) ∙ ap (λ (cs : List Branch). fault_at_first code (branch_places (branches_of (map shown_branch cs)))) (dropped bs n b h k) ∙ ap (fault code) (shown_place b)
+
+pub no_branch_beyond : (code : Code) (bs : List Branch) (n : ℕ) → length bs ≤ n → fault_at_first code (drop n (branch_places (branches_of (map shown_branch bs)))) ≡ []
+no_branch_beyond code bs n h =
+    ap (fault_at_first code) (places bs n) ∙ ap (λ (cs : List Branch). fault_at_first code (branch_places (branches_of (map shown_branch cs)))) (drop_of_length-le bs h)
 
 -- one more argument
 arguments_from : (types : Types) (ks : List Kind) (i : ℕ) (e : Expression) (es : List Expression) → faults_of_arguments types (drop i ks) (e ∷ es) ≡ faults_of_argument types (slice_get ks i) e ++ faults_of_arguments types (drop (suc i) ks) es

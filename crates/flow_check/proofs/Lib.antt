@@ -1,3 +1,4 @@
+pub mod Forms
 pub mod Declaring
 pub mod Scoping
 pub mod Expressing

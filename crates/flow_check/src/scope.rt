@@ -1,7 +1,7 @@
-ghost use Rattle.std.specs.Prelude.{◌≡◌, [], ◌∷◌, map, option_map, OnOk};
+ghost use Rattle.std.specs.Prelude.{◌≡◌, [], ◌∷◌, map, take, length, option_map, OnOk};
 ghost use Rattle.flow_base.specs.Shown.{shown_declaration};
 ghost use Rattle.flow_model.specs.WellFormed.{with_type, no_types, types_of_parameters, activity_of, signal_of};
-ghost use Rattle.flow_check.specs.Tables.{types_of, activities_of, signals_of, parameters_of, kinds_of_parameters, shown_signature, nothing_known, first_then, only};
+ghost use Rattle.flow_check.specs.Tables.{variables_of, types_of, activities_of, signals_of, parameters_of, kinds_of_parameters, shown_signature, nothing_known, first_then, only};
 
 use flow_base::syntax::{Declaration, Parameter, TypeAt};
 use flow_base::text::Key;
@@ -16,12 +16,20 @@ pub struct Signature<'a> {
     pub gives: Kind,
 }
 
+/// A visible variable. One whose value has a fault has no type.
+#[derive(Drop)]
+pub struct Variable<'a> {
+    pub name: &'a Key,
+    pub kind: Option<Kind>,
+}
+
 /// What is known where a statement stands: the visible variables with their types, the activities and the signals, and the
 /// parameters with which the program continues as new.
 #[derive(Drop)]
 pub struct Scope<'a> {
-    /// A variable whose value has a fault has no type.
-    variables: IndexMap<&'a str, Option<Kind>>,
+    /// In the order of their declarations, so that behind a list what it declared is at the end; of two of one name the
+    /// last is meant.
+    variables: Vec<Variable<'a>>,
     /// Of two activities of one name the first.
     activities: IndexMap<&'a str, Signature<'a>>,
     /// What each signal carries; of two of one name the first.
@@ -38,7 +46,7 @@ impl<'a> Scope<'a> {
         ensures parameters { parameters_of result ≡ kinds_of_parameters parameters.now }
     {
         Scope {
-            variables: IndexMap::new(alloc),
+            variables: Vec::new(alloc),
             activities: IndexMap::new(alloc),
             signals: IndexMap::new(alloc),
             parameters,
@@ -115,20 +123,46 @@ impl<'a> Scope<'a> {
 
     /// The variable is visible from here on.
     pub fn add_variable(&mut self, name: &'a Key, kind: Option<Kind>) -> Result<(), AllocError>
+        ensures variables { OnOk result (take (length (variables_of self.old)) (variables_of self.new) ≡ variables_of self.old) }
         ensures types { OnOk result (types_of self.new ≡ with_type (types_of self.old) name.now kind) }
         ensures activities { OnOk result (activities_of self.new ≡ activities_of self.old) }
         ensures signals { OnOk result (signals_of self.new ≡ signals_of self.old) }
         ensures parameters { OnOk result (parameters_of self.new ≡ parameters_of self.old) }
     {
-        self.variables.insert(name.as_str(), kind)?;
+        self.variables.push(Variable { name, kind })?;
         Ok(())
+    }
+
+    /// How many variables are visible.
+    pub fn visible(&self) -> usize
+        ensures { result ≡ length (variables_of self.now) }
+    {
+        self.variables.len()
+    }
+
+    /// Only so many of the variables are visible from here on, those that were declared first.
+    pub fn forget_beyond(&mut self, count: usize)
+        ensures variables { variables_of self.new ≡ take count (variables_of self.old) }
+        ensures activities { activities_of self.new ≡ activities_of self.old }
+        ensures signals { signals_of self.new ≡ signals_of self.old }
+        ensures parameters { parameters_of self.new ≡ parameters_of self.old }
+    {
+        self.variables.truncate(count);
     }
 
     /// The type of a visible variable, if it has one.
     pub fn variable(&self, name: &Key) -> Option<Option<Kind>>
         ensures { result ≡ types_of self.now name.now }
     {
-        self.variables.get(name.as_str()).copied()
+        let mut i = self.variables.len();
+        while i > 0 {
+            i -= 1;
+            let variable = &self.variables[i];
+            if variable.name.as_str() == name.as_str() {
+                return Some(variable.kind);
+            }
+        }
+        None
     }
 
     /// What an activity takes and gives, if it is declared.

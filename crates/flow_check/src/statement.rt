@@ -1,86 +1,192 @@
-ghost use Rattle.std.specs.Prelude.{◌≡◌, ◌++◌, map, option_map, OnOk};
-ghost use Rattle.flow_base.specs.Shown.{shown_expr, shown_stmt, shown_block};
+ghost use Rattle.std.specs.Prelude.{◌≡◌, true, ◌++◌, map, drop, option_map, OnOk};
+ghost use Rattle.flow_base.specs.Shown.{shown_expr, shown_stmt, shown_braced, shown_branch, shown_block, shown_otherwise, branches_of};
 ghost use Rattle.flow_base.specs.Syntax.{Next, End};
-ghost use Rattle.flow_model.specs.WellFormed.{earliest, faults_of_assigned, faults_of_call, faults_of_arguments, faults_of_retry, out_of_range, unknown_signal, wrong_count, given};
-ghost use Rattle.flow_check.specs.Tables.{types_of, shown_signature, kinds_wanted, Checks, faults_of_argument};
+ghost use Rattle.flow_model.specs.WellFormed.{earliest, fault_at_first, branch_places, faults_of_block, faults_of_otherwise, faults_of_branches, faults_of_assigned, faults_of_call, faults_of_arguments, faults_of_retry, out_of_range, unknown_signal, wrong_count, given};
+ghost use Rattle.flow_check.specs.Tables.{types_of, signals_of, shown_scope, shown_signature, kinds_wanted, Checks, Notes, ends_within, faults_of_argument};
 
 use crate::expression::{beginning, check_expression, check_kind, check_wanted};
 use crate::first::FirstFault;
 use crate::scope::{Scope, Signature};
 use crate::wanted::Wanted;
 use flow_base::code::Code;
-use flow_base::syntax::{Expr, Retry, Stmt};
+use flow_base::syntax::{Block, Branch, Expr, Retry, Stmt};
+use flow_base::text::Key;
 use flow_base::value::Kind;
 use std::alloc::AllocError;
 
 /// The most attempts of a call.
 const MOST_TRIES: u64 = 20;
 
+/// The most branches of a parallel block behind its first one.
+const MOST_OTHERS: usize = 7;
+
 /// The longest pause between two attempts of a call, in milliseconds: a day.
 const LONGEST_PAUSE: u64 = 86_400_000;
 
-/// Notes the faults of a list of statements.
+/// Notes the faults of a list of statements, which may stand within a parallel block.
+#[cycle(checks)]
 pub fn check_statements<'a>(
     scope: &mut Scope<'a>,
     statements: &'a [Stmt],
+    in_parallel: bool,
     found: &mut FirstFault,
 ) -> Result<(), AllocError>
-    ensures { OnOk result (Checks scope.old found.old (shown_block statements.now) scope.new found.new) }
+    ensures { OnOk result (Checks in_parallel scope.old found.old (shown_block statements.now) scope.new found.new) }
 {
     for statement in statements {
-        check_statement(scope, statement, found)?;
+        check_statement(scope, statement, in_parallel, found)?;
     }
     Ok(())
 }
 
+#[cycle(checks)]
 fn check_statement<'a>(
     scope: &mut Scope<'a>,
     statement: &'a Stmt,
+    in_parallel: bool,
     found: &mut FirstFault,
 ) -> Result<(), AllocError>
-    ensures { OnOk result (Checks scope.old found.old (Next (shown_stmt statement.now) End) scope.new found.new) }
+    ensures { OnOk result (Checks in_parallel scope.old found.old (Next (shown_stmt statement.now) End) scope.new found.new) }
 {
     match statement {
         Stmt::Let(_, _, name, value) => {
             let kind = check_expression(scope, value, found);
-            scope.add_variable(name, kind)
+            scope.add_variable(name, kind)?;
         }
         Stmt::Assign(at, name, value) => {
             let kind = check_expression(scope, value, found);
             check_assigned(scope.variable(name), *at, kind, beginning(value), found);
-            Ok(())
         }
-        Stmt::Call(at, name, activity_at, activity, arguments, retry) => {
+        Stmt::Call(at, name, activity_at, activity, arguments, retry, otherwise) => {
             let signature = scope.activity(activity);
             check_call(scope, signature, *activity_at, arguments, found);
             check_assigned(scope.variable(name), *at, gives(signature), *at, found);
             check_retry(retry, found);
-            Ok(())
+            check_otherwise(scope, otherwise, in_parallel, found)?;
         }
         Stmt::WaitSignal(at, name, signal_at, signal) => {
-            let carried = scope.signal(signal);
-            check_signal(carried, *signal_at, found);
-            check_assigned(scope.variable(name), *at, carried, *at, found);
-            Ok(())
+            check_wait(scope, *at, name, *signal_at, signal, found);
         }
-        Stmt::Sleep(_, delay) => {
+        Stmt::WaitSignalFor(at, name, signal_at, signal, delay, late) => {
+            check_wait(scope, *at, name, *signal_at, signal, found);
             check_wanted(scope, Kind::Int, delay, found);
-            Ok(())
+            check_inner(scope, late, in_parallel, found)?;
         }
-        Stmt::Return(_, value) => {
+        Stmt::Sleep(_, delay) => check_wanted(scope, Kind::Int, delay, found),
+        Stmt::If(_, condition, then, otherwise) => {
+            check_wanted(scope, Kind::Int, condition, found);
+            check_inner(scope, then, in_parallel, found)?;
+            check_inner(scope, otherwise, in_parallel, found)?;
+        }
+        Stmt::While(_, condition, body) => {
+            check_wanted(scope, Kind::Int, condition, found);
+            check_inner(scope, body, in_parallel, found)?;
+        }
+        Stmt::Parallel(_, first, others) => {
+            check_branch_count(others, found);
+            check_inner(scope, &first.body, true, found)?;
+            check_branches(scope, others, found)?;
+        }
+        Stmt::Patch(_, _, _, since, before) => {
+            check_inner(scope, since, in_parallel, found)?;
+            check_inner(scope, before, in_parallel, found)?;
+        }
+        Stmt::Return(at, value) => {
             check_expression(scope, value, found);
-            Ok(())
+            check_end(in_parallel, *at, found);
         }
-        Stmt::FailWith(_, text) => {
+        Stmt::FailWith(at, text) => {
             check_wanted(scope, Kind::Text, text, found);
-            Ok(())
+            check_end(in_parallel, *at, found);
         }
         Stmt::Continue(at, arguments) => {
             let wanted = Wanted::Parameters(scope.parameters());
             check_applied(scope, arguments, wanted, *at, found);
-            Ok(())
+            check_end(in_parallel, *at, found);
         }
     }
+    Ok(())
+}
+
+/// Notes the faults of a list within a statement. Behind it the same is known as before it.
+#[cycle(checks)]
+fn check_inner<'a>(
+    scope: &mut Scope<'a>,
+    block: &'a Block,
+    in_parallel: bool,
+    found: &mut FirstFault,
+) -> Result<(), AllocError>
+    ensures { OnOk result (Notes scope.old found.old (faults_of_block (shown_scope in_parallel scope.old) (shown_braced block.now).0) scope.new found.new) }
+{
+    let visible = scope.visible();
+    check_statements(scope, &block.list, in_parallel, found)?;
+    scope.forget_beyond(visible);
+    Ok(())
+}
+
+/// Notes the faults of what is done where a call fails, if that is said.
+#[cycle(checks)]
+fn check_otherwise<'a>(
+    scope: &mut Scope<'a>,
+    otherwise: &'a Option<Block>,
+    in_parallel: bool,
+    found: &mut FirstFault,
+) -> Result<(), AllocError>
+    ensures { OnOk result (Notes scope.old found.old (faults_of_otherwise (shown_scope in_parallel scope.old) (shown_otherwise otherwise.now)) scope.new found.new) }
+{
+    match otherwise {
+        None => Ok(()),
+        Some(block) => check_inner(scope, block, in_parallel, found),
+    }
+}
+
+/// Notes the faults of branches.
+#[cycle(checks)]
+fn check_branches<'a>(
+    scope: &mut Scope<'a>,
+    branches: &'a [Branch],
+    found: &mut FirstFault,
+) -> Result<(), AllocError>
+    ensures { OnOk result (Notes scope.old found.old (faults_of_branches (shown_scope true scope.old) (branches_of (map shown_branch branches.now))) scope.new found.new) }
+{
+    for branch in branches {
+        check_inner(scope, &branch.body, true, found)?;
+    }
+    Ok(())
+}
+
+/// Notes the branch with which there are too many, of those behind the first.
+fn check_branch_count(others: &Vec<Branch>, found: &mut FirstFault)
+    ensures { found.new ≡ earliest found.old (fault_at_first Code.TooManyBranches (drop MOST_OTHERS (branch_places (branches_of (map shown_branch others.now.items))))) }
+{
+    if let Some(beyond) = others.get(MOST_OTHERS) {
+        found.note(Code::TooManyBranches, beyond.at);
+    }
+}
+
+/// Notes a statement that ends the run within a parallel block.
+fn check_end(in_parallel: bool, at: usize, found: &mut FirstFault)
+    ensures { found.new ≡ earliest found.old (ends_within in_parallel at) }
+{
+    if in_parallel {
+        found.note(Code::EndsInParallel, at);
+    }
+}
+
+/// Notes the faults of a wait but those of its delay and of what is done behind it.
+fn check_wait(
+    scope: &Scope,
+    at: usize,
+    name: &Key,
+    signal_at: usize,
+    signal: &Key,
+    found: &mut FirstFault,
+)
+    ensures { found.new ≡ earliest found.old (unknown_signal (signals_of scope.now signal.now) signal_at ++ faults_of_assigned (types_of scope.now name.now) at (signals_of scope.now signal.now) at) }
+{
+    let carried = scope.signal(signal);
+    check_signal(carried, signal_at, found);
+    check_assigned(scope.variable(name), at, carried, at, found);
 }
 
 /// Notes a variable that isn't visible where it is assigned, and a value of another type at the place of the value.

@@ -1,7 +1,7 @@
 -- The grammar. A reading says which productions make a text, one constructor for each production, with the place of
 -- each token. `.._tokens` are its tokens in order: this is the grammar, read aloud. `.._of` is the tree that it stands
 -- for: parentheses leave no trace, repeated operators group to the left.
-use Rattle.std.specs.Prelude.{◌≡◌, ℕ, ℤ, pos, negsuc, List, [], ◌∷◌, ◌++◌}
+use Rattle.std.specs.Prelude.{◌≡◌, ℕ, ℤ, pos, negsuc, Bool, nat_lt, ◌&&◌, IsTrue, List, [], ◌∷◌, ◌++◌, length}
 use Rattle.flow_base.specs.declared.token.Word.TheVariants as word
 use Rattle.flow_base.specs.declared.token.Mark.{Mark}
 use Rattle.flow_base.specs.declared.token.Mark.TheVariants as mark
@@ -113,6 +113,10 @@ mutual
     last_argument : ℕ → ArgumentTail
     next_argument : ℕ → ExprReading → ArgumentTail → ArgumentTail
 
+-- the text behind "patch" has 1 to 64 bytes
+abbrev pub is_patch_id : Bytes → Bool
+is_patch_id id = nat_lt 0 (length id) && nat_lt (length id) 65
+
 -- type = "int" | "text"
 pub data TypeReading : Type 0 where
   typed : ℕ → Kind → TypeReading
@@ -146,31 +150,57 @@ pub data DeclarationReading : Type 0 where
   activity : ℕ → ℕ → Bytes → ℕ → TypesReading → ℕ → TypeReading → ℕ → DeclarationReading
   signal : ℕ → ℕ → Bytes → ℕ → TypeReading → ℕ → DeclarationReading
 
--- behind the arguments of a call: ["retry" INT "every" INT] ";"
-pub data CallTail : Type 0 where
-  no_retry : ℕ → CallTail
-  retry : ℕ → ℕ → ℤ → ℕ → ℕ → ℤ → ℕ → CallTail
+mutual
+  -- behind a call and how often it is tried: ["else" block] ";"
+  pub data ElseTail : Type 0 where
+    no_else : ℕ → ElseTail
+    else_ : ℕ → ℕ → StatementsReading → ℕ → ElseTail
 
--- behind NAME "=": expr ";" | "call" NAME "(" [expr {"," expr}] ")" .. | "wait" "signal" NAME ";"
-pub data SideReading : Type 0 where
-  value : ExprReading → ℕ → SideReading
-  call : ℕ → ℕ → Bytes → ℕ → ArgumentsReading → CallTail → SideReading
-  wait : ℕ → ℕ → ℕ → Bytes → ℕ → SideReading
+  -- behind the arguments of a call: ["retry" INT "every" INT] ["else" block] ";"
+  pub data CallTail : Type 0 where
+    no_retry : ElseTail → CallTail
+    retry : ℕ → ℕ → ℤ → ℕ → ℕ → ℤ → ElseTail → CallTail
 
--- stmt = "let" NAME "=" expr ";" | NAME "=" .. | "sleep" expr ";" | "return" expr ";" | "fail" expr ";"
---      | "continue" "as" "new" "(" [expr {"," expr}] ")" ";"
-pub data StatementReading : Type 0 where
-  let_ : ℕ → ℕ → Bytes → ℕ → ExprReading → ℕ → StatementReading
-  assign : ℕ → Bytes → ℕ → SideReading → StatementReading
-  sleep : ℕ → ExprReading → ℕ → StatementReading
-  return_ : ℕ → ExprReading → ℕ → StatementReading
-  fail : ℕ → ExprReading → ℕ → StatementReading
-  continue_ : ℕ → ℕ → ℕ → ℕ → ArgumentsReading → ℕ → StatementReading
+  -- behind the signal of a wait: ["for" expr "else" block] ";"
+  pub data WaitTail : Type 0 where
+    for_ever : ℕ → WaitTail
+    for_ : ℕ → ExprReading → ℕ → ℕ → StatementsReading → ℕ → WaitTail
 
--- {stmt} "}"
-pub data StatementsReading : Type 0 where
-  no_statement : ℕ → StatementsReading
-  statement : StatementReading → StatementsReading → StatementsReading
+  -- behind NAME "=": expr ";" | "call" NAME "(" [expr {"," expr}] ")" .. | "wait" "signal" NAME ..
+  pub data SideReading : Type 0 where
+    value : ExprReading → ℕ → SideReading
+    call : ℕ → ℕ → Bytes → ℕ → ArgumentsReading → CallTail → SideReading
+    wait : ℕ → ℕ → ℕ → Bytes → WaitTail → SideReading
+
+  -- behind the first branch: {block} "}"
+  pub data BranchesReading : Type 0 where
+    no_branch : ℕ → BranchesReading
+    branch : ℕ → StatementsReading → BranchesReading → BranchesReading
+
+  -- stmt = "let" NAME "=" expr ";" | NAME "=" .. | "sleep" expr ";" | "while" expr block | "parallel" "{" block {block} "}"
+  --      | "return" expr ";" | "fail" expr ";" | "continue" "as" "new" "(" [expr {"," expr}] ")" ";"
+  -- and "if" and "patch", which stand with what follows them, since they may have no second list
+  pub data StatementReading : Type 0 where
+    let_ : ℕ → ℕ → Bytes → ℕ → ExprReading → ℕ → StatementReading
+    assign : ℕ → Bytes → ℕ → SideReading → StatementReading
+    sleep : ℕ → ExprReading → ℕ → StatementReading
+    while_ : ℕ → ExprReading → ℕ → StatementsReading → StatementReading
+    parallel : ℕ → ℕ → ℕ → StatementsReading → BranchesReading → StatementReading
+    return_ : ℕ → ExprReading → ℕ → StatementReading
+    fail : ℕ → ExprReading → ℕ → StatementReading
+    continue_ : ℕ → ℕ → ℕ → ℕ → ArgumentsReading → ℕ → StatementReading
+
+  -- {stmt} "}", where stmt is also "if" expr block ["else" block] | "patch" TEXT block ["else" block]
+  pub data StatementsReading : Type 0 where
+    no_statement : ℕ → StatementsReading
+    statement : StatementReading → StatementsReading → StatementsReading
+    if_ : ℕ → ExprReading → ℕ → StatementsReading → AfterChoice → StatementsReading
+    patch : ℕ → ℕ → (id : Bytes) → IsTrue (is_patch_id id) → ℕ → StatementsReading → AfterChoice → StatementsReading
+
+  -- behind the first list of "if" and "patch": ["else" block] {stmt} "}"
+  pub data AfterChoice : Type 0 where
+    otherwise : ℕ → ℕ → StatementsReading → StatementsReading → AfterChoice
+    without : StatementsReading → AfterChoice
 
 -- {decl} {stmt} "}"
 pub data BodyReading : Type 0 where
@@ -191,6 +221,9 @@ named at x = record { at = at; word = word.Name x }
 
 abbrev pub numbered : ℕ → ℤ → Lexeme
 numbered at n = record { at = at; word = word.Int n }
+
+abbrev pub worded : ℕ → Bytes → Lexeme
+worded at t = record { at = at; word = word.Text t }
 
 abbrev pub term_mark : TermSign → Mark
 term_mark times = mark.Times
@@ -220,7 +253,7 @@ abbrev mutual
 
   pub prim_tokens : PrimReading → List Lexeme
   prim_tokens (int at n) = numbered at n ∷ []
-  prim_tokens (text at t) = record { at = at; word = word.Text t } ∷ []
+  prim_tokens (text at t) = worded at t ∷ []
   prim_tokens (name at x) = named at x ∷ []
   prim_tokens (now at) = marked at mark.Now ∷ []
   prim_tokens (text_of at p) = marked at mark.Text ∷ parens_tokens p
@@ -306,28 +339,52 @@ declaration_tokens (activity at name_at x paren ts arrow t end) =
 declaration_tokens (signal at name_at x colon t end) =
     marked at mark.Signal ∷ named name_at x ∷ marked colon mark.Colon ∷ (type_tokens t ++ (marked end mark.Semicolon ∷ []))
 
-abbrev pub call_tail_tokens : CallTail → List Lexeme
-call_tail_tokens (no_retry end) = marked end mark.Semicolon ∷ []
-call_tail_tokens (retry at tries_at tries every every_at pause end) =
-    marked at mark.Retry ∷ numbered tries_at tries ∷ marked every mark.Every ∷ numbered every_at pause ∷ marked end mark.Semicolon ∷ []
+abbrev mutual
+  pub else_tail_tokens : ElseTail → List Lexeme
+  else_tail_tokens (no_else end) = marked end mark.Semicolon ∷ []
+  else_tail_tokens (else_ at brace ss end) = marked at mark.Else ∷ marked brace mark.BraceOpen ∷ (statements_tokens ss ++ (marked end mark.Semicolon ∷ []))
 
-abbrev pub side_tokens : SideReading → List Lexeme
-side_tokens (value e end) = expr_tokens e ++ (marked end mark.Semicolon ∷ [])
-side_tokens (call at name_at a paren es more) = marked at mark.Call ∷ named name_at a ∷ marked paren mark.Open ∷ (arguments_tokens es ++ call_tail_tokens more)
-side_tokens (wait at signal_at name_at n end) = marked at mark.Wait ∷ marked signal_at mark.Signal ∷ named name_at n ∷ marked end mark.Semicolon ∷ []
+  pub call_tail_tokens : CallTail → List Lexeme
+  call_tail_tokens (no_retry more) = else_tail_tokens more
+  call_tail_tokens (retry at tries_at tries every every_at pause more) =
+      marked at mark.Retry ∷ numbered tries_at tries ∷ marked every mark.Every ∷ numbered every_at pause ∷ else_tail_tokens more
 
-abbrev pub statement_tokens : StatementReading → List Lexeme
-statement_tokens (let_ at name_at x eq e end) = marked at mark.Let ∷ named name_at x ∷ marked eq mark.Assign ∷ (expr_tokens e ++ (marked end mark.Semicolon ∷ []))
-statement_tokens (assign at x eq s) = named at x ∷ marked eq mark.Assign ∷ side_tokens s
-statement_tokens (sleep at e end) = marked at mark.Sleep ∷ (expr_tokens e ++ (marked end mark.Semicolon ∷ []))
-statement_tokens (return_ at e end) = marked at mark.Return ∷ (expr_tokens e ++ (marked end mark.Semicolon ∷ []))
-statement_tokens (fail at e end) = marked at mark.Fail ∷ (expr_tokens e ++ (marked end mark.Semicolon ∷ []))
-statement_tokens (continue_ at as_at new_at paren es end) =
-    marked at mark.Continue ∷ marked as_at mark.As ∷ marked new_at mark.New ∷ marked paren mark.Open ∷ (arguments_tokens es ++ (marked end mark.Semicolon ∷ []))
+  pub wait_tail_tokens : WaitTail → List Lexeme
+  wait_tail_tokens (for_ever end) = marked end mark.Semicolon ∷ []
+  wait_tail_tokens (for_ at e else_at brace ss end) =
+      marked at mark.For ∷ (expr_tokens e ++ (marked else_at mark.Else ∷ marked brace mark.BraceOpen ∷ (statements_tokens ss ++ (marked end mark.Semicolon ∷ []))))
 
-abbrev pub statements_tokens : StatementsReading → List Lexeme
-statements_tokens (no_statement to) = marked to mark.BraceClose ∷ []
-statements_tokens (statement s more) = statement_tokens s ++ statements_tokens more
+  pub side_tokens : SideReading → List Lexeme
+  side_tokens (value e end) = expr_tokens e ++ (marked end mark.Semicolon ∷ [])
+  side_tokens (call at name_at a paren es more) = marked at mark.Call ∷ named name_at a ∷ marked paren mark.Open ∷ (arguments_tokens es ++ call_tail_tokens more)
+  side_tokens (wait at signal_at name_at n more) = marked at mark.Wait ∷ marked signal_at mark.Signal ∷ named name_at n ∷ wait_tail_tokens more
+
+  pub branches_tokens : BranchesReading → List Lexeme
+  branches_tokens (no_branch to) = marked to mark.BraceClose ∷ []
+  branches_tokens (branch at ss more) = marked at mark.BraceOpen ∷ (statements_tokens ss ++ branches_tokens more)
+
+  pub statement_tokens : StatementReading → List Lexeme
+  statement_tokens (let_ at name_at x eq e end) = marked at mark.Let ∷ named name_at x ∷ marked eq mark.Assign ∷ (expr_tokens e ++ (marked end mark.Semicolon ∷ []))
+  statement_tokens (assign at x eq s) = named at x ∷ marked eq mark.Assign ∷ side_tokens s
+  statement_tokens (sleep at e end) = marked at mark.Sleep ∷ (expr_tokens e ++ (marked end mark.Semicolon ∷ []))
+  statement_tokens (while_ at e brace ss) = marked at mark.While ∷ (expr_tokens e ++ (marked brace mark.BraceOpen ∷ statements_tokens ss))
+  statement_tokens (parallel at brace first ss more) =
+      marked at mark.Parallel ∷ marked brace mark.BraceOpen ∷ marked first mark.BraceOpen ∷ (statements_tokens ss ++ branches_tokens more)
+  statement_tokens (return_ at e end) = marked at mark.Return ∷ (expr_tokens e ++ (marked end mark.Semicolon ∷ []))
+  statement_tokens (fail at e end) = marked at mark.Fail ∷ (expr_tokens e ++ (marked end mark.Semicolon ∷ []))
+  statement_tokens (continue_ at as_at new_at paren es end) =
+      marked at mark.Continue ∷ marked as_at mark.As ∷ marked new_at mark.New ∷ marked paren mark.Open ∷ (arguments_tokens es ++ (marked end mark.Semicolon ∷ []))
+
+  pub statements_tokens : StatementsReading → List Lexeme
+  statements_tokens (no_statement to) = marked to mark.BraceClose ∷ []
+  statements_tokens (statement s more) = statement_tokens s ++ statements_tokens more
+  statements_tokens (if_ at e brace ss more) = marked at mark.If ∷ (expr_tokens e ++ (marked brace mark.BraceOpen ∷ (statements_tokens ss ++ choice_tokens more)))
+  statements_tokens (patch at id_at id is brace ss more) =
+      marked at mark.Patch ∷ worded id_at id ∷ marked brace mark.BraceOpen ∷ (statements_tokens ss ++ choice_tokens more)
+
+  pub choice_tokens : AfterChoice → List Lexeme
+  choice_tokens (otherwise at brace ss more) = marked at mark.Else ∷ marked brace mark.BraceOpen ∷ (statements_tokens ss ++ statements_tokens more)
+  choice_tokens (without more) = statements_tokens more
 
 abbrev pub body_tokens : BodyReading → List Lexeme
 body_tokens (statements ss) = statements_tokens ss
@@ -465,32 +522,77 @@ whole (pos n) = n
 whole (negsuc n) = 0
 
 abbrev pub retry_of : CallTail → Retry
-retry_of (no_retry end) = once
-retry_of (retry at tries_at tries every every_at pause end) =
+retry_of (no_retry more) = once
+retry_of (retry at tries_at tries every every_at pause more) =
     record { tries_at = tries_at; tries = whole tries; every_at = every_at; every = whole pause }
 
--- the statement that begins with this name
-abbrev pub side_of : ℕ → Bytes → SideReading → tree.Statement
-side_of at x (value e end) = tree.Assign at x (expr_of e)
-side_of at x (call call_at name_at a paren es more) = tree.Call at x name_at a (arguments_of es) (retry_of more) tree.NoElse
-side_of at x (wait wait_at signal_at name_at n end) = tree.WaitSignal at x name_at n
+-- the place of the brace that closes a list; of one with what follows it, that of the last
+abbrev mutual
+  pub statements_end : StatementsReading → ℕ
+  statements_end (no_statement to) = to
+  statements_end (statement s more) = statements_end more
+  statements_end (if_ at e brace ss more) = choice_end more
+  statements_end (patch at id_at id is brace ss more) = choice_end more
 
-abbrev pub statement_of : StatementReading → tree.Statement
-statement_of (let_ at name_at x eq e end) = tree.Let at name_at x (expr_of e)
-statement_of (assign at x eq s) = side_of at x s
-statement_of (sleep at e end) = tree.Sleep at (expr_of e)
-statement_of (return_ at e end) = tree.Return at (expr_of e)
-statement_of (fail at e end) = tree.FailWith at (expr_of e)
-statement_of (continue_ at as_at new_at paren es end) = tree.Continue at (arguments_of es)
+  pub choice_end : AfterChoice → ℕ
+  choice_end (otherwise at brace ss more) = statements_end more
+  choice_end (without more) = statements_end more
 
-abbrev pub statements_of : StatementsReading → tree.Block
-statements_of (no_statement to) = tree.End
-statements_of (statement s more) = tree.Next (statement_of s) (statements_of more)
+-- the place of the brace that closes the second list; that of the first where there is none
+abbrev pub second_end : ℕ → AfterChoice → ℕ
+second_end first_end (otherwise at brace ss more) = statements_end ss
+second_end first_end (without more) = first_end
 
--- the place of the closing brace
-abbrev pub statements_end : StatementsReading → ℕ
-statements_end (no_statement to) = to
-statements_end (statement s more) = statements_end more
+abbrev mutual
+  pub otherwise_of : ElseTail → tree.Otherwise
+  otherwise_of (no_else end) = tree.NoElse
+  otherwise_of (else_ at brace ss end) = tree.Else (statements_of ss) (statements_end ss)
+
+  -- what a call does where its activity fails
+  pub failing_of : CallTail → tree.Otherwise
+  failing_of (no_retry more) = otherwise_of more
+  failing_of (retry at tries_at tries every every_at pause more) = otherwise_of more
+
+  -- the wait for this signal into this variable
+  pub wait_of : ℕ → Bytes → ℕ → Bytes → WaitTail → tree.Statement
+  wait_of at x name_at n (for_ever end) = tree.WaitSignal at x name_at n
+  wait_of at x name_at n (for_ for_at e else_at brace ss end) = tree.WaitSignalFor at x name_at n (expr_of e) (statements_of ss) (statements_end ss)
+
+  -- the statement that begins with this name
+  pub side_of : ℕ → Bytes → SideReading → tree.Statement
+  side_of at x (value e end) = tree.Assign at x (expr_of e)
+  side_of at x (call call_at name_at a paren es more) = tree.Call at x name_at a (arguments_of es) (retry_of more) (failing_of more)
+  side_of at x (wait wait_at signal_at name_at n more) = wait_of at x name_at n more
+
+  pub branches_of : BranchesReading → tree.Branches
+  branches_of (no_branch to) = tree.NoBranch
+  branches_of (branch at ss more) = tree.Branch at (statements_of ss) (statements_end ss) (branches_of more)
+
+  pub statement_of : StatementReading → tree.Statement
+  statement_of (let_ at name_at x eq e end) = tree.Let at name_at x (expr_of e)
+  statement_of (assign at x eq s) = side_of at x s
+  statement_of (sleep at e end) = tree.Sleep at (expr_of e)
+  statement_of (while_ at e brace ss) = tree.While at (expr_of e) (statements_of ss) (statements_end ss)
+  statement_of (parallel at brace first ss more) = tree.Parallel at (tree.Branch first (statements_of ss) (statements_end ss) (branches_of more))
+  statement_of (return_ at e end) = tree.Return at (expr_of e)
+  statement_of (fail at e end) = tree.FailWith at (expr_of e)
+  statement_of (continue_ at as_at new_at paren es end) = tree.Continue at (arguments_of es)
+
+  pub statements_of : StatementsReading → tree.Block
+  statements_of (no_statement to) = tree.End
+  statements_of (statement s more) = tree.Next (statement_of s) (statements_of more)
+  statements_of (if_ at e brace ss more) = tree.Next (tree.If at (expr_of e) (statements_of ss) (statements_end ss) (second_of more) (second_end (statements_end ss) more)) (behind_choice more)
+  statements_of (patch at id_at id is brace ss more) =
+      tree.Next (tree.Patch at id_at id (statements_of ss) (statements_end ss) (second_of more) (second_end (statements_end ss) more)) (behind_choice more)
+
+  -- the second list, and what follows
+  pub second_of : AfterChoice → tree.Block
+  second_of (otherwise at brace ss more) = statements_of ss
+  second_of (without more) = tree.End
+
+  pub behind_choice : AfterChoice → tree.Block
+  behind_choice (otherwise at brace ss more) = statements_of more
+  behind_choice (without more) = statements_of more
 
 abbrev pub body_statements : BodyReading → StatementsReading
 body_statements (statements ss) = ss

@@ -1,7 +1,7 @@
 -- What the plain run shows of itself: its configuration, and what its parts mean in the definitions.
 use Rattle.std.specs.Prelude.{◌≡◌, ℕ, List, [], ◌∷◌, ◌++◌, map, drop, Option, Some, None, Bool}
-use Rattle.flow_base.specs.Syntax.{Bytes, Block, NoElse, activities_of, block_of}
-use Rattle.flow_base.specs.Shown.{shown_stmt, shown_declaration}
+use Rattle.flow_base.specs.Syntax.{Bytes, Statement, Block, End, Next, activities_of, block_of}
+use Rattle.flow_base.specs.Shown.{shown_stmt, shown_braced, shown_otherwise, shown_declaration}
 use Rattle.flow_base.specs.declared.syntax.Stmt.{Stmt}
 use Rattle.flow_base.specs.declared.value.Value.{Value}
 use Rattle.flow_base.specs.declared.event.State.{State}
@@ -15,13 +15,15 @@ use Rattle.flow_model.specs.Step as step
 use Rattle.flow_model.specs.Deliver.{Progress, target_of, replaced, when_completed}
 use Rattle.flow_model.specs.Turn as turn
 use Rattle.flow_run.specs.declared.rest.Rest.{Rest}
-use Rattle.flow_run.specs.declared.rest.Rest.TheVariants.{Done, OnActivity, OnTimer, OnSignal, Raised, Then', Beside'}
+use Rattle.flow_run.specs.declared.rest.Rest.TheVariants.{Done, OnActivity, OnTimer, OnSignal, OnSignalFor, Raised, Then', Beside'}
 use Rattle.flow_run.specs.declared.rest.OpenWait.{OpenWait}
 use Rattle.flow_run.specs.declared.rest.OpenWait.TheVariants as wait
 use Rattle.flow_run.specs.declared.step.Store.{Store}
 use Rattle.flow_run.specs.declared.step.Setting.{Setting}
 use Rattle.flow_run.specs.declared.step.Moved.{Moved}
 use Rattle.flow_run.specs.declared.step.Moved.TheVariants as moved
+use Rattle.flow_run.specs.declared.step.Begun.{Begun}
+use Rattle.flow_run.specs.declared.step.Begun.TheVariants as begun
 use Rattle.flow_run.specs.declared.deliver.Turning.{Turning}
 use Rattle.flow_run.specs.declared.deliver.Resumed.{Resumed}
 use Rattle.flow_run.specs.declared.turn.Frame.{Frame}
@@ -39,9 +41,10 @@ left_from ss i = block_of (drop i (map shown_stmt ss))
 
 abbrev pub shown_rest : Rest → tree.Rest
 shown_rest Done = tree.Done
-shown_rest (OnActivity n x k) = tree.OnActivity n x k NoElse
+shown_rest (OnActivity n x k o) = tree.OnActivity n x k (shown_otherwise o)
 shown_rest (OnTimer n) = tree.OnTimer n
 shown_rest (OnSignal x s) = tree.OnSignal x s
+shown_rest (OnSignalFor x s n b) = tree.OnSignalFor x s n (shown_braced b).0
 shown_rest (Raised c t) = tree.Raised c t
 shown_rest (Then' p r b i) = tree.Then (shown_rest r) (left_from b.items i)
 shown_rest (Beside' p a q b) = tree.Beside (shown_rest a) (shown_rest b)
@@ -94,6 +97,11 @@ shown_setting s =
       answer = turn.answer_of (shown_answers s.answers) s.taken;
     }
 
+-- what a statement does that begins; one that repeats goes on behind its list
+abbrev pub shown_begun : Statement → Store → Begun → step.Move
+shown_begun st s (begun.Moves m) = shown_move s m
+shown_begun st s (begun.Repeats r) = step.Goes (tree.Then (shown_rest r) (Next st End)) (shown_store s)
+
 -- what a step leaves where it doesn't go on
 abbrev pub KeepsRest : Store → tree.Rest → Store → Moved → Type 0
 KeepsRest old r new (moved.Stays q) = (shown_rest q ≡ r) × (new ≡ old)
@@ -107,6 +115,10 @@ Begins old new (moved.Stays q) = ⊥
 Begins old new (moved.Goes q) = Unit {0}
 Begins old new (moved.Asks q c) = Unit {0}
 Begins old new (moved.Ends c) = new ≡ old
+
+abbrev pub Starts : Store → Store → Begun → Type 0
+Starts old new (begun.Moves m) = Begins old new m
+Starts old new (begun.Repeats r) = Unit {0}
 
 abbrev pub shown_progress : Turning → Progress
 shown_progress p = record { rest = shown_rest p.rest; store = shown_store p.store; asked = p.asked.items; state = p.state }

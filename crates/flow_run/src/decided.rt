@@ -1,4 +1,4 @@
-ghost use Rattle.std.specs.Prelude.{◌≡◌, [], IfOk};
+ghost use Rattle.std.specs.Prelude.{◌≡◌, [], ◌∷◌, IfOk, OnOk, OnErr};
 ghost use Rattle.flow_model.specs.Configuration.{none_decided};
 ghost use Rattle.flow_values.specs.Named.{look_up};
 
@@ -28,6 +28,28 @@ impl Decided {
         Decided {
             entries: Vec::new(alloc),
         }
+    }
+
+    /// The answer of a patch, if it has one.
+    pub fn find(&self, id: &Key) -> Option<bool>
+        ensures { result ≡ look_up self.now id.now }
+    {
+        for e in &self.entries {
+            if id.is(&e.0) {
+                return Some(e.1);
+            }
+        }
+        None
+    }
+
+    /// Gives a patch its answer, for good. After an error all is as it was.
+    pub fn insert(&mut self, alloc: Global, id: &Key, answer: bool) -> Result<(), AllocError>
+        ensures ok { OnOk result (self.new ≡ (id.now, answer) ∷ self.old) }
+        ensures err { OnErr result (self.new ≡ self.old) }
+    {
+        let id = id.copy(alloc)?;
+        self.entries.insert(0, (id, answer))?;
+        Ok(())
     }
 
     pub fn copy(&self, alloc: Global) -> Result<Decided, AllocError>

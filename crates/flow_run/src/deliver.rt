@@ -1,6 +1,6 @@
 ghost use Rattle.std.specs.Prelude.{◌≡◌, [], ◌∷◌, ◌++◌, IfOk, Some, None, is_some, map, if◌then◌else◌};
 ghost use Rattle.flow_base.specs.Syntax.{signals_of};
-ghost use Rattle.flow_base.specs.Shown.{shown_program, shown_declaration};
+ghost use Rattle.flow_base.specs.Shown.{shown_program, shown_declaration, shown_otherwise};
 ghost use Rattle.flow_model.specs.Rest as tree;
 ghost use Rattle.flow_model.specs.Deliver as model;
 ghost use Rattle.flow_values.specs.Named.{look_up};
@@ -8,11 +8,11 @@ ghost use Rattle.flow_run.specs.Shown.{shown_rest, shown_started, shown_rest_of,
 
 use crate::decided::Decided;
 use crate::plain::PlainRun;
-use crate::rest::{Rest, copy_stmts};
+use crate::rest::{Rest, entered};
 use crate::step::Store;
 use flow_base::event::{Cause, Cmd, Input, State};
 use flow_base::number::EventId;
-use flow_base::syntax::{Declaration, Parameter, Program};
+use flow_base::syntax::{Block, Declaration, Parameter, Program, copy_stmts};
 use flow_base::text::{Key, Text};
 use flow_base::value::{Kind, Value};
 use flow_model::kinds::{all_fit, has_kind};
@@ -240,7 +240,7 @@ fn resume(alloc: Global, rest: &Rest, n: EventId) -> Result<Option<Resumed>, All
     ensures { IfOk result (λ o. IsResumed n (shown_rest rest.now) o) }
 {
     match rest {
-        Rest::OnActivity(m, x, k) => {
+        Rest::OnActivity(m, x, k, _) => {
             if *m == n.get() {
                 Ok(Some(Resumed {
                     rest: Rest::Done,
@@ -282,9 +282,9 @@ fn failed(alloc: Global, rest: &Rest, n: EventId, text: &Text) -> Result<Option<
     ensures { IfOk result (λ o. shown_rest_of o ≡ model.replaced (model.when_failed n text.now) (shown_rest rest.now)) }
 {
     match rest {
-        Rest::OnActivity(m, _, _) => {
+        Rest::OnActivity(m, _, _, o) => {
             if *m == n.get() {
-                Ok(Some(Rest::Raised(Cause::ActivityFailed, text.copy(alloc)?)))
+                Ok(Some(otherwise(alloc, o, text)?))
             } else {
                 Ok(None)
             }
@@ -310,6 +310,16 @@ fn failed(alloc: Global, rest: &Rest, n: EventId, text: &Text) -> Result<Option<
     }
 }
 
+// What a call does whose activity has failed: its `else` begins, or the run is to fail.
+fn otherwise(alloc: Global, otherwise: &Option<Block>, text: &Text) -> Result<Rest, AllocError>
+    ensures { IfOk result (λ r. shown_rest r ≡ tree.rest_else (shown_otherwise otherwise.now) (tree.Raised Cause.ActivityFailed text.now)) }
+{
+    match otherwise {
+        None => Ok(Rest::Raised(Cause::ActivityFailed, text.copy(alloc)?)),
+        Some(b) => entered(alloc, b),
+    }
+}
+
 // What is left where a timer has fired.
 fn fired(alloc: Global, rest: &Rest, n: EventId) -> Result<Option<Rest>, AllocError>
     ensures { IfOk result (λ o. shown_rest_of o ≡ model.replaced (model.when_fired n) (shown_rest rest.now)) }
@@ -318,6 +328,13 @@ fn fired(alloc: Global, rest: &Rest, n: EventId) -> Result<Option<Rest>, AllocEr
         Rest::OnTimer(m) => {
             if *m == n.get() {
                 Ok(Some(Rest::Done))
+            } else {
+                Ok(None)
+            }
+        }
+        Rest::OnSignalFor(_, _, m, late) => {
+            if m.get() == n.get() {
+                Ok(Some(entered(alloc, late)?))
             } else {
                 Ok(None)
             }

@@ -1,6 +1,7 @@
 //! One turn of a run: the interpreter of programs, and the position of a run.
 #![tactic(auto)]
 
+mod blocks;
 mod decided;
 mod deliver;
 pub mod fault;

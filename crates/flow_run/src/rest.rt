@@ -1,11 +1,12 @@
-ghost use Rattle.std.specs.Prelude.{◌≡◌, ◌++◌, IfOk, OnOk, map, is_some};
-ghost use Rattle.flow_base.specs.Shown.{shown_stmt};
+ghost use Rattle.std.specs.Prelude.{◌≡◌, ◌++◌, IfOk, OnOk, is_some};
+ghost use Rattle.flow_base.specs.Shown.{shown_braced, shown_otherwise};
 ghost use Rattle.flow_run.specs.Shown.{shown_rest, waits_of};
+ghost use Rattle.flow_model.specs.Rest.{rest_of};
 ghost use Rattle.flow_model.specs.Deliver.{target_of, awaited_kind, replaced, when_fired};
 
 use flow_base::event::Cause;
 use flow_base::number::EventId;
-use flow_base::syntax::Stmt;
+use flow_base::syntax::{Block, Stmt, copy_stmts};
 use flow_base::text::{Key, Text};
 use flow_base::value::Kind;
 use std::alloc::{AllocError, Global};
@@ -14,12 +15,15 @@ use std::alloc::{AllocError, Global};
 #[derive(Debug, Drop)]
 pub(crate) enum Rest {
     Done,
-    /// The event that scheduled the activity, the variable that waits for it, and the type that it gives.
-    OnActivity(u64, Key, Kind),
+    /// The event that scheduled the activity, the variable that waits for it, the type that it gives, and what is done
+    /// where it fails: with no such list the run fails.
+    OnActivity(u64, Key, Kind, Option<Block>),
     /// A sleep waits on the timer that this event started.
     OnTimer(u64),
     /// The variable that waits, and the signal.
     OnSignal(Key, Key),
+    /// The same, with the event that started the timer, and what is done where that fires first.
+    OnSignalFor(Key, Key, EventId, Block),
     /// An activity failed: the run is to fail, with this text.
     Raised(Cause, Text),
     /// What goes on, and then the statements of a list from this number on.
@@ -47,9 +51,17 @@ impl Rest {
     {
         match self {
             Rest::Done => Ok(Rest::Done),
-            Rest::OnActivity(n, x, k) => Ok(Rest::OnActivity(*n, x.copy(alloc)?, *k)),
+            Rest::OnActivity(n, x, k, o) => {
+                let x = x.copy(alloc)?;
+                Ok(Rest::OnActivity(*n, x, *k, copy_otherwise(alloc, o)?))
+            }
             Rest::OnTimer(n) => Ok(Rest::OnTimer(*n)),
             Rest::OnSignal(x, s) => Ok(Rest::OnSignal(x.copy(alloc)?, s.copy(alloc)?)),
+            Rest::OnSignalFor(x, s, n, late) => {
+                let x = x.copy(alloc)?;
+                let s = s.copy(alloc)?;
+                Ok(Rest::OnSignalFor(x, s, *n, late.copy(alloc)?))
+            }
             Rest::Raised(c, t) => Ok(Rest::Raised(*c, t.copy(alloc)?)),
             Rest::Then(r, b, i) => {
                 let r = Box::new(alloc, r.copy(alloc)?)?;
@@ -69,7 +81,7 @@ impl Rest {
     {
         match self {
             Rest::Done => Ok(()),
-            Rest::OnActivity(n, x, k) => {
+            Rest::OnActivity(n, x, k, _) => {
                 list.push(OpenWait::Activity(*n, x.copy(alloc)?, *k))?;
                 Ok(())
             }
@@ -79,6 +91,11 @@ impl Rest {
             }
             Rest::OnSignal(x, s) => {
                 list.push(OpenWait::Signal(x.copy(alloc)?, s.copy(alloc)?))?;
+                Ok(())
+            }
+            Rest::OnSignalFor(x, s, n, _) => {
+                let x = x.copy(alloc)?;
+                list.push(OpenWait::SignalFor(x, s.copy(alloc)?, n.get()))?;
                 Ok(())
             }
             Rest::Raised(_, _) => Ok(()),
@@ -95,7 +112,7 @@ impl Rest {
         ensures { result ≡ awaited_kind (target_of event (shown_rest self.now)) }
     {
         match self {
-            Rest::OnActivity(n, _, k) => { if *n == event.get() { Some(*k) } else { None } }
+            Rest::OnActivity(n, _, k, _) => { if *n == event.get() { Some(*k) } else { None } }
             Rest::Then(r, _, _) => r.awaited(event),
             Rest::Beside(a, b) => match a.awaited(event) {
                 Some(k) => Some(k),
@@ -111,6 +128,7 @@ impl Rest {
     {
         match self {
             Rest::OnTimer(n) => *n == event.get(),
+            Rest::OnSignalFor(_, _, n, _) => n.get() == event.get(),
             Rest::Then(r, _, _) => r.awaits_timer(event),
             Rest::Beside(a, b) => a.awaits_timer(event) || b.awaits_timer(event),
             _ => false,
@@ -118,13 +136,23 @@ impl Rest {
     }
 }
 
-/// The same statements.
-pub(crate) fn copy_stmts(alloc: Global, stmts: &[Stmt]) -> Result<Vec<Stmt>, AllocError>
-    ensures { IfOk result (λ v. map shown_stmt v.items ≡ map shown_stmt stmts.now) }
+/// A list that begins.
+pub(crate) fn entered(alloc: Global, block: &Block) -> Result<Rest, AllocError>
+    ensures { IfOk result (λ r. shown_rest r ≡ rest_of (shown_braced block.now).0) }
 {
-    let mut list = Vec::new(alloc);
-    for s in stmts {
-        list.push(s.copy(alloc)?)?;
+    let list = copy_stmts(alloc, &block.list)?;
+    Ok(Rest::Then(Box::new(alloc, Rest::Done)?, list, 0))
+}
+
+/// The same list, if there is one.
+pub(crate) fn copy_otherwise(
+    alloc: Global,
+    otherwise: &Option<Block>,
+) -> Result<Option<Block>, AllocError>
+    ensures { IfOk result (λ o. shown_otherwise o ≡ shown_otherwise otherwise.now) }
+{
+    match otherwise {
+        None => Ok(None),
+        Some(b) => Ok(Some(b.copy(alloc)?)),
     }
-    Ok(list)
 }

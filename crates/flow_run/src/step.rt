@@ -1,18 +1,19 @@
 ghost use Rattle.std.specs.Prelude.{◌≡◌, ◌<◌, ◌+◌, IfOk, MatchOption, map, min, length, OnOk, [], false, nat_lt, if◌then◌else◌};
-ghost use Rattle.flow_base.specs.Syntax.{End, Next, Let as ALet, Call as ACall, WaitSignal as AWaitSignal, Sleep as ASleep, Return as AReturn, FailWith as AFailWith, Continue as AContinue, NoElse, activities_of};
-ghost use Rattle.flow_base.specs.Shown.{shown_stmt, shown_declaration, shown_expr};
+ghost use Rattle.flow_base.specs.Syntax.{Statement, End, Next, Let as ALet, Call as ACall, WaitSignal as AWaitSignal, WaitSignalFor as AWaitSignalFor, Sleep as ASleep, Return as AReturn, FailWith as AFailWith, Continue as AContinue, activities_of};
+ghost use Rattle.flow_base.specs.Shown.{shown_stmt, shown_braced, shown_otherwise, shown_declaration, shown_expr};
 ghost use Rattle.flow_model.specs.Values.{text_of};
 ghost use Rattle.flow_model.specs.Rest as tree;
 ghost use Rattle.flow_model.specs.Step as model;
-ghost use Rattle.flow_run.specs.Shown.{shown_rest, shown_store, shown_move, shown_setting, left_from, KeepsRest, Begins};
+ghost use Rattle.flow_run.specs.Shown.{shown_rest, shown_store, shown_move, shown_setting, shown_begun, left_from, KeepsRest, Begins, Starts};
 
+use crate::blocks::{pick, repeat, side_by_side, since_patch};
 use crate::decided::Decided;
 use crate::plain::Answers;
-use crate::rest::Rest;
+use crate::rest::{Rest, copy_otherwise};
 use flow_base::event::{Cause, Cmd};
-use flow_base::number::Moment;
+use flow_base::number::{EventId, Moment};
 use flow_base::sequence::Sequence;
-use flow_base::syntax::{Declaration, Expr, Retry, Stmt};
+use flow_base::syntax::{Block, Declaration, Expr, Retry, Stmt};
 use flow_base::text::{Key, Text};
 use flow_base::value::{Kind, Value};
 use flow_values::evaluate::{due, eval, eval_all};
@@ -39,7 +40,7 @@ pub struct Setting<'a> {
     /// The open waits of the whole run, or 32 where they are more.
     pub waits: u32,
     /// The id of the next command's event.
-    pub event: u64,
+    pub event: EventId,
     pub answers: Answers<'a>,
     /// The commands of this turn so far.
     pub taken: usize,
@@ -54,6 +55,14 @@ pub enum Moved {
     Ends(Cmd),
 }
 
+/// What a statement does that begins.
+#[derive(Drop)]
+pub enum Begun {
+    Moves(Moved),
+    /// A list goes on, and then the statement begins again.
+    Repeats(Rest),
+}
+
 /// The leftmost place that can step does.
 pub fn step(alloc: Global, s: &Setting, t: &mut Store, rest: Rest) -> Result<Moved, Fault>
     ensures step { IfOk result (λ m. shown_move t.new m ≡ model.move (shown_setting s.now) (shown_store t.old) (shown_rest rest)) }
@@ -61,9 +70,10 @@ pub fn step(alloc: Global, s: &Setting, t: &mut Store, rest: Rest) -> Result<Mov
 {
     match rest {
         Rest::Done => Ok(Moved::Stays(Rest::Done)),
-        Rest::OnActivity(n, x, k) => Ok(Moved::Stays(Rest::OnActivity(n, x, k))),
+        Rest::OnActivity(n, x, k, o) => Ok(Moved::Stays(Rest::OnActivity(n, x, k, o))),
         Rest::OnTimer(n) => Ok(Moved::Stays(Rest::OnTimer(n))),
         Rest::OnSignal(x, name) => hear(alloc, t, x, name),
+        Rest::OnSignalFor(x, name, n, late) => hear_in_time(alloc, t, x, name, n, late),
         Rest::Raised(c, text) => Ok(Moved::Ends(Cmd::Fail(c, text))),
         Rest::Then(r, b, i) => {
             if is_done(&r) {
@@ -123,9 +133,10 @@ pub fn open_waits(rest: &Rest) -> u32
     ensures { result ≡ min (tree.open_waits (shown_rest rest.now)) 32 }
 {
     match rest {
-        Rest::OnActivity(_, _, _) => 1,
+        Rest::OnActivity(_, _, _, _) => 1,
         Rest::OnTimer(_) => 1,
         Rest::OnSignal(_, _) => 1,
+        Rest::OnSignalFor(_, _, _, _) => 1,
         Rest::Then(r, _, _) => open_waits(r),
         Rest::Beside(a, b) => (open_waits(a) + open_waits(b)).min(32),
         _ => 0,
@@ -146,28 +157,62 @@ fn first_of(
 {
     match first(&b, i) {
         None => Ok(Moved::Stays(Rest::Then(Box::new(alloc, r)?, b, i))),
+        Some(stmt) => match begin(alloc, s, t, stmt)? {
+            Begun::Moves(m) => {
+                let n = followed(alloc, m, b, i + 1)?;
+                Ok(n)
+            }
+            Begun::Repeats(r) => {
+                let q = repeated(alloc, r, b, i)?;
+                Ok(Moved::Goes(q))
+            }
+        },
+    }
+}
+
+// What goes on, then the statement at a place of a list again, and those after it. Where it is the last, the list serves
+// as it is: so a loop's list is copied once for each time that it begins.
+fn repeated(alloc: Global, r: Rest, b: Vec<Stmt>, i: usize) -> Result<Rest, Fault>
+    ensures { IfOk result (λ q. (st : Statement) → left_from b.items i ≡ Next st (left_from b.items (i + 1)) → shown_rest q ≡ model.followed_by (left_from b.items (i + 1)) (tree.Then (shown_rest r) (Next st End))) }
+{
+    let r = Box::new(alloc, r)?;
+    match first(&b, i) {
+        None => Ok(Rest::Then(r, b, i)),
         Some(stmt) => {
-            let m = begin(alloc, s, t, stmt)?;
-            let n = followed(alloc, m, b, i + 1)?;
-            Ok(n)
+            if is_end(&b, i + 1) {
+                return Ok(Rest::Then(r, b, i));
+            }
+            let mut again = Vec::new(alloc);
+            again.push(stmt.copy(alloc)?)?;
+            let r = Rest::Then(r, again, 0);
+            Ok(Rest::Then(Box::new(alloc, r)?, b, i + 1))
         }
     }
 }
 
 // A statement begins.
-fn begin(alloc: Global, s: &Setting, t: &mut Store, stmt: &Stmt) -> Result<Moved, Fault>
-    ensures step { IfOk result (λ m. shown_move t.new m ≡ model.begin (shown_setting s.now) (shown_store t.old) (shown_stmt stmt.now)) }
-    ensures kept { IfOk result (λ m. Begins t.old t.new m) }
+fn begin(alloc: Global, s: &Setting, t: &mut Store, stmt: &Stmt) -> Result<Begun, Fault>
+    ensures step { IfOk result (λ m. shown_begun (shown_stmt stmt.now) t.new m ≡ model.begin (shown_setting s.now) (shown_store t.old) (shown_stmt stmt.now)) }
+    ensures kept { IfOk result (λ m. Starts t.old t.new m) }
 {
     match stmt {
-        Stmt::Let(_, _, x, e) => assign(alloc, s, t, x, e),
-        Stmt::Assign(_, x, e) => assign(alloc, s, t, x, e),
-        Stmt::Call(_, x, _, a, es, r) => call(alloc, s, t, x, a, es, *r),
-        Stmt::WaitSignal(_, x, _, name) => wait(alloc, s, t, x, name),
-        Stmt::Sleep(_, e) => sleep(alloc, s, t, e),
-        Stmt::Return(_, e) => finish(alloc, s, t, e),
-        Stmt::FailWith(_, e) => give_up(alloc, s, t, e),
-        Stmt::Continue(_, es) => go_on_anew(alloc, s, t, es),
+        Stmt::Let(_, _, x, e) => Ok(Begun::Moves(assign(alloc, s, t, x, e)?)),
+        Stmt::Assign(_, x, e) => Ok(Begun::Moves(assign(alloc, s, t, x, e)?)),
+        Stmt::Call(_, x, _, a, es, r, o) => {
+            Ok(Begun::Moves(call(alloc, s, t, x, a, es, *r, o)?))
+        }
+        Stmt::WaitSignal(_, x, _, name) => Ok(Begun::Moves(wait(alloc, s, t, x, name)?)),
+        Stmt::WaitSignalFor(_, x, _, name, e, late) => {
+            Ok(Begun::Moves(wait_for(alloc, s, t, x, name, e, late)?))
+        }
+        Stmt::Sleep(_, e) => Ok(Begun::Moves(sleep(alloc, s, t, e)?)),
+        Stmt::If(_, e, a, b) => Ok(Begun::Moves(pick(alloc, s, t, e, a, b)?)),
+        Stmt::While(at, e, b) => repeat(alloc, s, t, *at, e, b),
+        Stmt::Parallel(_, a, bs) => Ok(Begun::Moves(Moved::Goes(side_by_side(alloc, a, bs)?))),
+        Stmt::Patch(_, _, id, a, b) => Ok(Begun::Moves(since_patch(alloc, s, t, id, a, b)?)),
+        Stmt::Return(_, e) => Ok(Begun::Moves(finish(alloc, s, t, e)?)),
+        Stmt::FailWith(_, e) => Ok(Begun::Moves(give_up(alloc, s, t, e)?)),
+        Stmt::Continue(_, es) => Ok(Begun::Moves(go_on_anew(alloc, s, t, es)?)),
     }
 }
 
@@ -192,8 +237,9 @@ fn call(
     activity: &Key,
     es: &[Expr],
     retry: Retry,
+    otherwise: &Option<Block>,
 ) -> Result<Moved, Fault>
-    ensures step { IfOk result (λ m. shown_move t.now m ≡ model.begin (shown_setting s.now) (shown_store t.now) (ACall 0 into.now 0 activity.now (map shown_expr es.now) retry NoElse)) }
+    ensures step { IfOk result (λ m. shown_move t.now m ≡ model.begin (shown_setting s.now) (shown_store t.now) (ACall 0 into.now 0 activity.now (map shown_expr es.now) retry (shown_otherwise otherwise.now))) }
     ensures kept { IfOk result (λ m. Begins t.now t.now m) }
 {
     match eval_all(alloc, &t.variables, s.at, es)? {
@@ -207,7 +253,10 @@ fn call(
                     retry.every,
                     kind,
                 );
-                Ok(Moved::Asks(Rest::OnActivity(s.event, into.copy(alloc)?, kind), asked))
+                let into = into.copy(alloc)?;
+                let otherwise = copy_otherwise(alloc, otherwise)?;
+                let rest = Rest::OnActivity(s.event.get(), into, kind, otherwise);
+                Ok(Moved::Asks(rest, asked))
             } else {
                 Ok(Moved::Ends(raise(alloc, Cause::WaitLimit)))
             }
@@ -223,7 +272,7 @@ fn sleep(alloc: Global, s: &Setting, t: &Store, delay: &Expr) -> Result<Moved, F
     match due(alloc, &t.variables, s.at, delay)? {
         Ok(at) => {
             if may_wait(s) {
-                Ok(Moved::Asks(Rest::OnTimer(s.event), Cmd::StartTimer(at)))
+                Ok(Moved::Asks(Rest::OnTimer(s.event.get()), Cmd::StartTimer(at)))
             } else {
                 Ok(Moved::Ends(raise(alloc, Cause::WaitLimit)))
             }
@@ -247,6 +296,38 @@ fn wait(alloc: Global, s: &Setting, t: &mut Store, into: &Key, signal: &Key) -> 
     }
 }
 
+// The same for at most a delay, which isn't computed where the signal is there.
+fn wait_for(
+    alloc: Global,
+    s: &Setting,
+    t: &mut Store,
+    into: &Key,
+    signal: &Key,
+    delay: &Expr,
+    late: &Block,
+) -> Result<Moved, Fault>
+    ensures step { IfOk result (λ m. shown_move t.new m ≡ model.begin (shown_setting s.now) (shown_store t.old) (AWaitSignalFor 0 into.now 0 signal.now (shown_expr delay.now) (shown_braced late.now).0 0)) }
+    ensures kept { IfOk result (λ m. Begins t.old t.new m) }
+{
+    let is_there = take(alloc, t, into, signal)?;
+    if is_there {
+        return Ok(Moved::Goes(Rest::Done));
+    }
+    match due(alloc, &t.variables, s.at, delay)? {
+        Ok(at) => {
+            if may_wait(s) {
+                let into = into.copy(alloc)?;
+                let signal = signal.copy(alloc)?;
+                let rest = Rest::OnSignalFor(into, signal, s.event, late.copy(alloc)?);
+                Ok(Moved::Asks(rest, Cmd::StartTimer(at)))
+            } else {
+                Ok(Moved::Ends(raise(alloc, Cause::WaitLimit)))
+            }
+        }
+        Err(c) => Ok(Moved::Ends(raise(alloc, c))),
+    }
+}
+
 // A wait takes its signal, where that is there.
 fn hear(alloc: Global, t: &mut Store, into: Key, signal: Key) -> Result<Moved, Fault>
     ensures step { IfOk result (λ m. shown_move t.new m ≡ model.on_signal (model.oldest signal t.old.buffer) (λ v. model.Goes tree.Done (model.take_signal (shown_store t.old) into signal v)) model.Stays) }
@@ -259,9 +340,30 @@ fn hear(alloc: Global, t: &mut Store, into: Key, signal: Key) -> Result<Moved, F
     }
 }
 
+// The same for a wait with a timer, which is cancelled then.
+fn hear_in_time(
+    alloc: Global,
+    t: &mut Store,
+    into: Key,
+    signal: Key,
+    timer: EventId,
+    late: Block,
+) -> Result<Moved, Fault>
+    ensures step { IfOk result (λ m. shown_move t.new m ≡ model.on_signal (model.oldest signal t.old.buffer) (λ v. model.Asks tree.Done (model.take_signal (shown_store t.old) into signal v) (Cmd.CancelTimer timer)) model.Stays) }
+    ensures kept { IfOk result (λ m. KeepsRest t.old (tree.OnSignalFor into signal timer (shown_braced late).0) t.new m) }
+{
+    let is_there = take(alloc, t, &into, &signal)?;
+    if is_there {
+        Ok(Moved::Asks(Rest::Done, Cmd::CancelTimer(timer)))
+    } else {
+        Ok(Moved::Stays(Rest::OnSignalFor(into, signal, timer, late)))
+    }
+}
+
 // A variable gets the oldest signal of a name, which leaves the buffer; says whether one was there.
 fn take(alloc: Global, t: &mut Store, into: &Key, signal: &Key) -> Result<bool, Fault>
     ensures taken { IfOk result (λ is. (m : model.Move) → (if is then model.Goes tree.Done (shown_store t.new) else m) ≡ model.on_signal (model.oldest signal.now t.old.buffer) (λ v. model.Goes tree.Done (model.take_signal (shown_store t.old) into.now signal.now v)) m) }
+    ensures in_time { IfOk result (λ is. (c : Cmd) (m : model.Move) → (if is then model.Asks tree.Done (shown_store t.new) c else m) ≡ model.on_signal (model.oldest signal.now t.old.buffer) (λ v. model.Asks tree.Done (model.take_signal (shown_store t.old) into.now signal.now v) c) m) }
     ensures kept { IfOk result (λ is. is ≡ false → t.new ≡ t.old) }
 {
     match t.buffer.take(signal) {
@@ -344,7 +446,8 @@ fn gives(declarations: &[Declaration], name: &Key) -> Kind
     Kind::Int
 }
 
-fn raise(alloc: Global, cause: Cause) -> Cmd
+/// A fault fails the run.
+pub fn raise(alloc: Global, cause: Cause) -> Cmd
     ensures { result ≡ Cmd.Fail cause [] }
 {
     Cmd::Fail(cause, Text::empty(alloc))

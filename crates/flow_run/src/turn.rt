@@ -12,7 +12,7 @@ use crate::rest::Rest;
 use crate::step::{Moved, Setting, Store, is_done, open_waits, step};
 use flow_base::effect::effect_of_command;
 use flow_base::event::{Cmd, Input, State};
-use flow_base::number::Moment;
+use flow_base::number::{EventId, Moment};
 use flow_base::syntax::{Declaration, Program};
 use flow_base::text::Text;
 use flow_base::value::Value;
@@ -117,7 +117,7 @@ fn next(alloc: Global, f: &Frame, p: Turning) -> Result<Stepped, Fault>
         at: f.at,
         is_first: f.is_first,
         waits: open_waits(&rest),
-        event: f.events + count(&asked) + 1,
+        event: EventId::new(f.events + count(&asked) + 1).unwrap(),
         answers: f.answers,
         taken: asked.len(),
     };
@@ -167,7 +167,7 @@ fn is_started(input: &Input) -> bool
 
 fn count(asked: &[Cmd]) -> u64
     ensures value { result ≡ length asked.now }
-    ensures fits { result < 2 ^ 63 }
+    ensures fits { result < 2 ^ 59 }
 {
     asked.len() as u64
 }

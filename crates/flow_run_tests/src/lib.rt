@@ -2,11 +2,19 @@
 #![tactic(auto)]
 
 #[cfg(test)]
+mod blocks;
+#[cfg(test)]
+mod branches;
+#[cfg(test)]
 mod numbers;
+#[cfg(test)]
+mod patches;
 #[cfg(test)]
 mod plain_turns;
 #[cfg(test)]
 mod replays;
+#[cfg(test)]
+mod tape;
 #[cfg(test)]
 mod turns;
 #[cfg(test)]

@@ -4,12 +4,12 @@ use Rattle.std.proofs.lemmas.List.{append-nil}
 use Rattle.flow_base.specs.declared.token.Mark.TheVariants as mark
 use Rattle.flow_base.specs.declared.value.Kind.TheVariants as kind
 use Rattle.flow_model.specs.Lexeme.{Lexeme}
-use Rattle.flow_model.specs.Grammar.{plus, minus, join, equal, differ, less, at_most, greater, at_least, ParensReading, parens, PrimReading, int, text, name, now, text_of, len_of, inner, UnaryReading, negate, prim, TermReading, term, TermTail, no_factor, factor, SumReading, sum, SumTail, no_term, added, CompareReading, compare, CompareTail, no_side, compared, NegReading, not, plain, ConjReading, conj, ConjTail, no_and, and, ExprReading, expr, ExprTail, no_or, or, ArgumentsReading, no_argument, argument, ArgumentTail, last_argument, next_argument, TypeReading, typed, TypesReading, no_type, type_, TypeTail, last_type, next_type, ParameterReading, parameter, ParametersReading, no_parameter, parameter_, ParameterTail, last_parameter, next_parameter, DeclarationReading, activity, signal, CallTail, no_retry, retry, SideReading, value, call, wait, StatementReading, let_, assign, sleep, return_, fail, continue_, StatementsReading, no_statement, statement, BodyReading, statements, declaration, ProgramReading, workflow}
-use Rattle.flow_model.specs.Grammar.{marked, parens_tokens, prim_tokens, unary_tokens, term_tokens, term_tail_tokens, sum_tokens, sum_tail_tokens, compare_tokens, compare_tail_tokens, neg_tokens, conj_tokens, conj_tail_tokens, expr_tokens, expr_tail_tokens, argument_tail_tokens, arguments_tokens, type_tokens, type_tail_tokens, types_tokens, parameter_tokens, parameter_tail_tokens, parameters_tokens, declaration_tokens, call_tail_tokens, side_tokens, statement_tokens, statements_tokens, body_tokens, program_tokens}
+use Rattle.flow_model.specs.Grammar.{plus, minus, join, equal, differ, less, at_most, greater, at_least, ParensReading, parens, PrimReading, int, text, name, now, text_of, len_of, inner, UnaryReading, negate, prim, TermReading, term, TermTail, no_factor, factor, SumReading, sum, SumTail, no_term, added, CompareReading, compare, CompareTail, no_side, compared, NegReading, not, plain, ConjReading, conj, ConjTail, no_and, and, ExprReading, expr, ExprTail, no_or, or, ArgumentsReading, no_argument, argument, ArgumentTail, last_argument, next_argument, TypeReading, typed, TypesReading, no_type, type_, TypeTail, last_type, next_type, ParameterReading, parameter, ParametersReading, no_parameter, parameter_, ParameterTail, last_parameter, next_parameter, DeclarationReading, activity, signal, ElseTail, no_else, else_, CallTail, no_retry, retry, WaitTail, for_ever, for_, SideReading, value, call, wait, BranchesReading, no_branch, branch, StatementReading, let_, assign, sleep, while_, parallel, return_, fail, continue_, StatementsReading, no_statement, statement, if_, patch, AfterChoice, otherwise, without, BodyReading, statements, declaration, ProgramReading, workflow}
+use Rattle.flow_model.specs.Grammar.{marked, parens_tokens, prim_tokens, unary_tokens, term_tokens, term_tail_tokens, sum_tokens, sum_tail_tokens, compare_tokens, compare_tail_tokens, neg_tokens, conj_tokens, conj_tail_tokens, expr_tokens, expr_tail_tokens, argument_tail_tokens, arguments_tokens, type_tokens, type_tail_tokens, types_tokens, parameter_tokens, parameter_tail_tokens, parameters_tokens, declaration_tokens, else_tail_tokens, call_tail_tokens, wait_tail_tokens, side_tokens, branches_tokens, statement_tokens, statements_tokens, choice_tokens, body_tokens, program_tokens}
 use Rattle.flow_syntax.specs.Machine.{Symbol, fault}
 use Rattle.flow_syntax.specs.Machine as m
 use Rattle.flow_syntax.specs.Parsing.{Past}
-use Rattle.flow_syntax.proofs.Steps.{passes, term_is, sum_is, compare_is, conj_is, expr_is, factor_step, added_step, compared_step}
+use Rattle.flow_syntax.proofs.Steps.{passes, term_is, sum_is, compare_is, conj_is, expr_is, factor_step, added_step, compared_step, patch_id_step}
 
 -- the tokens do not go on with an operator of the level, or of a tighter one
 abbrev pub EndsTerm : List Lexeme → Type 0
@@ -192,43 +192,93 @@ through_declaration (activity at name_at x paren us arrow t end) owed ts =
     ∙ through_type t (m.sign mark.Semicolon ∷ owed) (marked end mark.Semicolon ∷ ts))
 through_declaration (signal at name_at x colon t end) owed ts = rw append_assoc (through_type t (m.sign mark.Semicolon ∷ owed) (marked end mark.Semicolon ∷ ts))
 
-pub through_call_tail : (r : CallTail) (owed : List Symbol) (ts : List Lexeme) → fault (m.call_tail ∷ owed) (call_tail_tokens r ++ ts) ≡ fault owed ts
-through_call_tail (no_retry end) owed ts = refl
-through_call_tail (retry at tries_at tries every every_at pause end) owed ts = refl
-
-pub through_side : (s : SideReading) (owed : List Symbol) (ts : List Lexeme) → fault (m.side ∷ owed) (side_tokens s ++ ts) ≡ fault owed ts
-through_side (value e end) owed ts = rw append_assoc (value_begins e owed (marked end mark.Semicolon ∷ ts) ∙ through_expr e (m.sign mark.Semicolon ∷ owed) (marked end mark.Semicolon ∷ ts) ((((refl, refl), refl), refl), refl))
-through_side (call at name_at a paren es more) owed ts = rw append_assoc (through_arguments es (m.call_tail ∷ owed) (call_tail_tokens more ++ ts) ∙ through_call_tail more owed ts)
-through_side (wait at signal_at name_at n end) owed ts = refl
-
-pub through_statement : (s : StatementReading) (owed : List Symbol) (ts : List Lexeme) → fault (m.statement ∷ owed) (statement_tokens s ++ ts) ≡ fault owed ts
-through_statement (let_ at name_at x eq e end) owed ts = rw append_assoc (through_expr e (m.sign mark.Semicolon ∷ owed) (marked end mark.Semicolon ∷ ts) ((((refl, refl), refl), refl), refl))
-through_statement (assign at x eq s) owed ts = through_side s owed ts
-through_statement (sleep at e end) owed ts = rw append_assoc (through_expr e (m.sign mark.Semicolon ∷ owed) (marked end mark.Semicolon ∷ ts) ((((refl, refl), refl), refl), refl))
-through_statement (return_ at e end) owed ts = rw append_assoc (through_expr e (m.sign mark.Semicolon ∷ owed) (marked end mark.Semicolon ∷ ts) ((((refl, refl), refl), refl), refl))
-through_statement (fail at e end) owed ts = rw append_assoc (through_expr e (m.sign mark.Semicolon ∷ owed) (marked end mark.Semicolon ∷ ts) ((((refl, refl), refl), refl), refl))
-through_statement (continue_ at as_at new_at paren es end) owed ts = rw append_assoc (through_arguments es (m.sign mark.Semicolon ∷ owed) (marked end mark.Semicolon ∷ ts))
+else_begins : (r : ElseTail) (owed : List Symbol) (x : List Lexeme) → fault (m.call_tail ∷ owed) (else_tail_tokens r ++ x) ≡ fault (m.else_tail ∷ owed) (else_tail_tokens r ++ x)
+else_begins (no_else end) owed x = refl
+else_begins (else_ at brace ss end) owed x = refl
 
 statement_begins : (s : StatementReading) (owed : List Symbol) (x : List Lexeme) → fault (m.statements ∷ owed) (statement_tokens s ++ x) ≡ fault (m.statement ∷ m.statements ∷ owed) (statement_tokens s ++ x)
 statement_begins (let_ at name_at n eq e end) owed x = refl
 statement_begins (assign at n eq s) owed x = refl
 statement_begins (sleep at e end) owed x = refl
+statement_begins (while_ at e brace ss) owed x = refl
+statement_begins (parallel at brace first ss more) owed x = refl
 statement_begins (return_ at e end) owed x = refl
 statement_begins (fail at e end) owed x = refl
 statement_begins (continue_ at as_at new_at paren es end) owed x = refl
-
-pub through_statements : (ss : StatementsReading) (owed : List Symbol) (ts : List Lexeme) → fault (m.statements ∷ owed) (statements_tokens ss ++ ts) ≡ fault owed ts
-through_statements (no_statement to) owed ts = refl
-through_statements (statement s more) owed ts = rw append_assoc (statement_begins s owed (statements_tokens more ++ ts) ∙ through_statement s (m.statements ∷ owed) (statements_tokens more ++ ts) ∙ through_statements more owed ts)
 
 statements_begin : (ss : StatementsReading) (owed : List Symbol) (x : List Lexeme) → fault (m.body ∷ owed) (statements_tokens ss ++ x) ≡ fault (m.statements ∷ owed) (statements_tokens ss ++ x)
 statements_begin (no_statement to) owed x = refl
 statements_begin (statement (let_ at name_at n eq e end) more) owed x = refl
 statements_begin (statement (assign at n eq s) more) owed x = refl
 statements_begin (statement (sleep at e end) more) owed x = refl
+statements_begin (statement (while_ at e brace ss) more) owed x = refl
+statements_begin (statement (parallel at brace first ss others) more) owed x = refl
 statements_begin (statement (return_ at e end) more) owed x = refl
 statements_begin (statement (fail at e end) more) owed x = refl
 statements_begin (statement (continue_ at as_at new_at paren es end) more) owed x = refl
+statements_begin (if_ at e brace ss more) owed x = refl
+statements_begin (patch at id_at id is brace ss more) owed x = refl
+
+statements_follow : (ss : StatementsReading) (owed : List Symbol) (x : List Lexeme) → fault (m.after_choice ∷ owed) (statements_tokens ss ++ x) ≡ fault (m.statements ∷ owed) (statements_tokens ss ++ x)
+statements_follow (no_statement to) owed x = refl
+statements_follow (statement (let_ at name_at n eq e end) more) owed x = refl
+statements_follow (statement (assign at n eq s) more) owed x = refl
+statements_follow (statement (sleep at e end) more) owed x = refl
+statements_follow (statement (while_ at e brace ss) more) owed x = refl
+statements_follow (statement (parallel at brace first ss others) more) owed x = refl
+statements_follow (statement (return_ at e end) more) owed x = refl
+statements_follow (statement (fail at e end) more) owed x = refl
+statements_follow (statement (continue_ at as_at new_at paren es end) more) owed x = refl
+statements_follow (if_ at e brace ss more) owed x = refl
+statements_follow (patch at id_at id is brace ss more) owed x = refl
+
+mutual
+  pub through_else_tail : (r : ElseTail) (owed : List Symbol) (ts : List Lexeme) → fault (m.else_tail ∷ owed) (else_tail_tokens r ++ ts) ≡ fault owed ts
+  through_else_tail (no_else end) owed ts = refl
+  through_else_tail (else_ at brace ss end) owed ts = rw append_assoc (through_statements ss (m.sign mark.Semicolon ∷ owed) (marked end mark.Semicolon ∷ ts))
+
+  pub through_call_tail : (r : CallTail) (owed : List Symbol) (ts : List Lexeme) → fault (m.call_tail ∷ owed) (call_tail_tokens r ++ ts) ≡ fault owed ts
+  through_call_tail (no_retry more) owed ts = else_begins more owed ts ∙ through_else_tail more owed ts
+  through_call_tail (retry at tries_at tries every every_at pause more) owed ts = through_else_tail more owed ts
+
+  pub through_wait_tail : (r : WaitTail) (owed : List Symbol) (ts : List Lexeme) → fault (m.wait_tail ∷ owed) (wait_tail_tokens r ++ ts) ≡ fault owed ts
+  through_wait_tail (for_ever end) owed ts = refl
+  through_wait_tail (for_ at e else_at brace ss end) owed ts =
+      simp append_assoc (through_expr e (m.sign mark.Else ∷ m.sign mark.BraceOpen ∷ m.statements ∷ m.sign mark.Semicolon ∷ owed) (marked else_at mark.Else ∷ marked brace mark.BraceOpen ∷ (statements_tokens ss ++ (marked end mark.Semicolon ∷ ts))) ((((refl, refl), refl), refl), refl)
+      ∙ through_statements ss (m.sign mark.Semicolon ∷ owed) (marked end mark.Semicolon ∷ ts))
+
+  pub through_side : (s : SideReading) (owed : List Symbol) (ts : List Lexeme) → fault (m.side ∷ owed) (side_tokens s ++ ts) ≡ fault owed ts
+  through_side (value e end) owed ts = rw append_assoc (value_begins e owed (marked end mark.Semicolon ∷ ts) ∙ through_expr e (m.sign mark.Semicolon ∷ owed) (marked end mark.Semicolon ∷ ts) ((((refl, refl), refl), refl), refl))
+  through_side (call at name_at a paren es more) owed ts = rw append_assoc (through_arguments es (m.call_tail ∷ owed) (call_tail_tokens more ++ ts) ∙ through_call_tail more owed ts)
+  through_side (wait at signal_at name_at n more) owed ts = through_wait_tail more owed ts
+
+  pub through_branches : (r : BranchesReading) (owed : List Symbol) (ts : List Lexeme) → fault (m.more_branches ∷ owed) (branches_tokens r ++ ts) ≡ fault owed ts
+  through_branches (no_branch to) owed ts = refl
+  through_branches (branch at ss more) owed ts = rw append_assoc (through_statements ss (m.more_branches ∷ owed) (branches_tokens more ++ ts) ∙ through_branches more owed ts)
+
+  pub through_statement : (s : StatementReading) (owed : List Symbol) (ts : List Lexeme) → fault (m.statement ∷ owed) (statement_tokens s ++ ts) ≡ fault owed ts
+  through_statement (let_ at name_at x eq e end) owed ts = rw append_assoc (through_expr e (m.sign mark.Semicolon ∷ owed) (marked end mark.Semicolon ∷ ts) ((((refl, refl), refl), refl), refl))
+  through_statement (assign at x eq s) owed ts = through_side s owed ts
+  through_statement (sleep at e end) owed ts = rw append_assoc (through_expr e (m.sign mark.Semicolon ∷ owed) (marked end mark.Semicolon ∷ ts) ((((refl, refl), refl), refl), refl))
+  through_statement (while_ at e brace ss) owed ts = rw append_assoc (through_expr e (m.sign mark.BraceOpen ∷ m.statements ∷ owed) (marked brace mark.BraceOpen ∷ (statements_tokens ss ++ ts)) ((((refl, refl), refl), refl), refl) ∙ through_statements ss owed ts)
+  through_statement (parallel at brace first ss more) owed ts = rw append_assoc (through_statements ss (m.more_branches ∷ owed) (branches_tokens more ++ ts) ∙ through_branches more owed ts)
+  through_statement (return_ at e end) owed ts = rw append_assoc (through_expr e (m.sign mark.Semicolon ∷ owed) (marked end mark.Semicolon ∷ ts) ((((refl, refl), refl), refl), refl))
+  through_statement (fail at e end) owed ts = rw append_assoc (through_expr e (m.sign mark.Semicolon ∷ owed) (marked end mark.Semicolon ∷ ts) ((((refl, refl), refl), refl), refl))
+  through_statement (continue_ at as_at new_at paren es end) owed ts = rw append_assoc (through_arguments es (m.sign mark.Semicolon ∷ owed) (marked end mark.Semicolon ∷ ts))
+
+  pub through_statements : (ss : StatementsReading) (owed : List Symbol) (ts : List Lexeme) → fault (m.statements ∷ owed) (statements_tokens ss ++ ts) ≡ fault owed ts
+  through_statements (no_statement to) owed ts = refl
+  through_statements (statement s more) owed ts = rw append_assoc (statement_begins s owed (statements_tokens more ++ ts) ∙ through_statement s (m.statements ∷ owed) (statements_tokens more ++ ts) ∙ through_statements more owed ts)
+  through_statements (if_ at e brace ss more) owed ts =
+      simp append_assoc (through_expr e (m.sign mark.BraceOpen ∷ m.statements ∷ m.after_choice ∷ owed) (marked brace mark.BraceOpen ∷ (statements_tokens ss ++ (choice_tokens more ++ ts))) ((((refl, refl), refl), refl), refl)
+      ∙ through_statements ss (m.after_choice ∷ owed) (choice_tokens more ++ ts) ∙ through_choice more owed ts)
+  through_statements (patch at id_at id is brace ss more) owed ts =
+      rw append_assoc (patch_id_step id_at id (m.sign mark.BraceOpen ∷ m.statements ∷ m.after_choice ∷ owed) (marked brace mark.BraceOpen ∷ (statements_tokens ss ++ (choice_tokens more ++ ts))) is
+      ∙ through_statements ss (m.after_choice ∷ owed) (choice_tokens more ++ ts) ∙ through_choice more owed ts)
+
+  pub through_choice : (r : AfterChoice) (owed : List Symbol) (ts : List Lexeme) → fault (m.after_choice ∷ owed) (choice_tokens r ++ ts) ≡ fault owed ts
+  through_choice (otherwise at brace ss more) owed ts = rw append_assoc (through_statements ss (m.statements ∷ owed) (statements_tokens more ++ ts) ∙ through_statements more owed ts)
+  through_choice (without more) owed ts = statements_follow more owed ts ∙ through_statements more owed ts
 
 declaration_begins : (d : DeclarationReading) (owed : List Symbol) (x : List Lexeme) → fault (m.body ∷ owed) (declaration_tokens d ++ x) ≡ fault (m.declaration ∷ m.body ∷ owed) (declaration_tokens d ++ x)
 declaration_begins (activity at name_at n paren us arrow t end) owed x = refl

@@ -1,5 +1,5 @@
 -- From what the machine says to the first fault.
-use Rattle.std.proofs.Common.{◌≡◌, ◌∙◌, inl, inr, ℕ, ◌≤◌, ◌-◌, ◌+◌, List, [], ◌∷◌, ◌++◌, Some, length, drop, take, map, refl, ap, sym, subst, append_assoc, length-append, length-drop, arith}
+use Rattle.std.proofs.Common.{◌≡◌, ◌∙◌, inl, inr, ℕ, ◌≤◌, ◌-◌, List, [], ◌∷◌, ◌++◌, Some, length, drop, take, refl, ap, sym, subst, append_assoc, length-append, length-drop, arith}
 use Rattle.std.proofs.lemmas.List.{append-nil, length-map, take_all, take-append-le, take-map, drop-map}
 use Rattle.flow_base.specs.Syntax as tree
 use Rattle.flow_base.specs.declared.token.Token.{Token}

@@ -1,4 +1,4 @@
--- Words that are some tokens but for pairs of parentheses: they are no more, and where the tokens are such as a text has,
+-- Words that are some tokens but for what may be left out: they are no more, and where the tokens are such as a text has,
 -- and pass no limit, so are the words.
 use Rattle.std.proofs.Common.{◌≡◌, ℕ, ℤ, pos, negsuc, ◌+◌, ◌-◌, ◌≤◌, List, [], ◌∷◌, ◌++◌, length, length-append, append_assoc, refl, sym, subst, arith}
 use Rattle.flow_base.specs.declared.token.Mark.{Mark}
@@ -21,9 +21,15 @@ pub record Fewer (ws : List Word) (ts : List Lexeme) : Type 0 where
   pub good : (b o c p : ℕ) (more : List Lexeme) (end : List Word) → c ≤ b → p ≤ o → Good b o (words_of (ts ++ more)) → ((n m : ℕ) → m ≤ n → Good b n (words_of more) → Good c m end) → Good c p (ws ++ end)
   pub least : length ws ≤ length ts
 
--- the same up to the bracket behind them, which closes one more
+-- the same up to the parenthesis behind them, which closes one more
 pub record Closed (ws : List Word) (ts : List Lexeme) : Type 0 where
   pub good : (b o c p : ℕ) (more : List Lexeme) (end : List Word) → c ≤ b → p ≤ o → Good (b + 1) o (words_of (ts ++ more)) → ((n m : ℕ) → m ≤ n → Good b n (words_of more) → Good c m end) → Good (c + 1) p (ws ++ end)
+  pub least : length ws ≤ length ts
+
+-- The same up to the brace behind them. It ends an outermost expression, so what follows is asked for from no operator on:
+-- an `else { }` can be left out there alone, since its braces end one too.
+pub record Shut (ws : List Word) (ts : List Lexeme) : Type 0 where
+  pub good : (b o c p : ℕ) (more : List Lexeme) (end : List Word) → c ≤ b → p ≤ o → Good (b + 1) o (words_of (ts ++ more)) → (Good b 0 (words_of more) → Good c 0 end) → Good (c + 1) p (ws ++ end)
   pub least : length ws ≤ length ts
 
 -- a word that is no bracket
@@ -88,8 +94,20 @@ together_closed us ws xs ts f g =
       least = omega (arith, length-append us ws, length-append xs ts, f.least, g.least);
     }
 
+pub together_shut : (us ws : List Word) (xs ts : List Lexeme) → Fewer us xs → Shut ws ts → Shut (us ++ ws) (xs ++ ts)
+together_shut us ws xs ts f g =
+    record {
+      good = λ b o c p more end lb lo h k.
+          subst (Good (c + 1) p) (sym (append_assoc us ws end))
+          (f.good (b + 1) o (c + 1) p (ts ++ more) (ws ++ end) (omega (arith, lb)) lo (subst (λ v. Good (b + 1) o (words_of v)) (append_assoc xs ts more) h) (λ n m l r. g.good b n c m more end lb l r k));
+      least = omega (arith, length-append us ws, length-append xs ts, f.least, g.least);
+    }
+
 pub kept_closed : (t : Lexeme) (ws : List Word) (ts : List Lexeme) → IsFlat t.word → Closed ws ts → Closed (t.word ∷ ws) (t ∷ ts)
 kept_closed t ws ts flat f = together_closed (t.word ∷ []) ws (t ∷ []) ts (kept t [] [] flat no_word) f
+
+pub kept_shut : (t : Lexeme) (ws : List Word) (ts : List Lexeme) → IsFlat t.word → Shut ws ts → Shut (t.word ∷ ws) (t ∷ ts)
+kept_shut t ws ts flat f = together_shut (t.word ∷ []) ws (t ∷ []) ts (kept t [] [] flat no_word) f
 
 less_one : (b : ℕ) → b + 1 - 1 ≡ b
 less_one b = omega arith
@@ -103,10 +121,10 @@ opened at ws ts f =
       least = omega (arith, f.least);
     }
 
-pub brace_opened : (at : ℕ) (ws : List Word) (ts : List Lexeme) → Closed ws ts → Fewer (word.Mark mark.BraceOpen ∷ ws) (marked at mark.BraceOpen ∷ ts)
+pub brace_opened : (at : ℕ) (ws : List Word) (ts : List Lexeme) → Shut ws ts → Fewer (word.Mark mark.BraceOpen ∷ ws) (marked at mark.BraceOpen ∷ ts)
 brace_opened at ws ts f =
     record {
-      good = λ b o c p more end lb lo h k. (tt, omega (arith, lb, h.1), omega arith, f.good b 0 c 0 more end lb (omega arith) h.3 k);
+      good = λ b o c p more end lb lo h k. (tt, omega (arith, lb, h.1), omega arith, f.good b 0 c 0 more end lb (omega arith) h.3 (k 0 0 (omega arith)));
       least = omega (arith, f.least);
     }
 
@@ -122,14 +140,14 @@ closing to =
       least = omega arith;
     }
 
-pub brace_closing : (to : ℕ) → Closed (word.Mark mark.BraceClose ∷ []) (marked to mark.BraceClose ∷ [])
+pub brace_closing : (to : ℕ) → Shut (word.Mark mark.BraceClose ∷ []) (marked to mark.BraceClose ∷ [])
 brace_closing to =
     record {
       good = λ b o c p more end lb lo h k. (
         tt,
         omega (arith, lb, h.1),
         omega arith,
-        subst (λ v. Good v 0 end) (sym (less_one c)) (k 0 0 (omega arith) (subst (λ v. Good v 0 (words_of more)) (less_one b) h.3)),
+        subst (λ v. Good v 0 end) (sym (less_one c)) (k (subst (λ v. Good v 0 (words_of more)) (less_one b) h.3)),
       );
       least = omega arith;
     }
@@ -143,4 +161,20 @@ dropped at to ws ts f =
           (subst (λ v. Good (b + 1) o (words_of v)) (append_assoc ts (marked to mark.Close ∷ []) more) h.3)
           (λ n m l r. k n m l (subst (λ v. Good v n (words_of more)) (less_one b) r.3));
       least = omega (arith, length-append ts (marked to mark.Close ∷ []), f.least);
+    }
+
+-- a list in braces, and the `else { }` that is left out behind it
+pub else_dropped : (brace at brace_at to : ℕ) (ws : List Word) (ts : List Lexeme) → Shut ws ts
+    → Fewer (word.Mark mark.BraceOpen ∷ ws) (marked brace mark.BraceOpen ∷ (ts ++ (marked at mark.Else ∷ marked brace_at mark.BraceOpen ∷ marked to mark.BraceClose ∷ [])))
+else_dropped brace at brace_at to ws ts f =
+    let none : List Lexeme = marked at mark.Else ∷ marked brace_at mark.BraceOpen ∷ marked to mark.BraceClose ∷ [] in
+    record {
+      good = λ b o c p more end lb lo h k. (
+        tt,
+        omega (arith, lb, h.1),
+        omega arith,
+        f.good b 0 c 0 (none ++ more) end lb (omega arith) (subst (λ v. Good (b + 1) 0 (words_of v)) (append_assoc ts none more) h.3)
+            (λ r. k 0 0 (omega arith) (subst (λ v. Good v 0 (words_of more)) (less_one b) r.3.3.3)),
+      );
+      least = omega (arith, length-append ts none, f.least);
     }

@@ -1,4 +1,5 @@
--- The words of a program are the tokens that it was read from, but for pairs of parentheses.
+-- The words of a program are the tokens that it was read from, but for pairs of parentheses, a `retry` that is none and
+-- an `else { }` of a choice.
 use Rattle.std.proofs.Common.{◌≡◌, ◌∙◌, ℕ, ℤ, pos, ◌<◌, ◌≤◌, Bool, true, false, if◌then◌else◌, nat_lt, List, [], ◌∷◌, ◌++◌, map, append_assoc, refl, ap, sym, subst, arith}
 use Rattle.std.proofs.lemmas.Bool.{ltb-true}
 use Rattle.std.proofs.lemmas.List.{append-nil}
@@ -11,12 +12,12 @@ use Rattle.flow_base.specs.declared.token.Word.TheVariants as word
 use Rattle.flow_base.specs.declared.value.Kind.{Kind}
 use Rattle.flow_base.specs.declared.value.Kind.TheVariants as kind
 use Rattle.flow_model.specs.Lexeme.{Lexeme}
-use Rattle.flow_model.specs.Grammar.{TermSign, times, over, percent, SumSign, plus, minus, join, CompareSign, equal, differ, less, at_most, greater, at_least, ParensReading, parens, PrimReading, int, text, name, now, text_of, len_of, inner, UnaryReading, negate, prim, TermReading, term, TermTail, no_factor, factor, SumReading, sum, SumTail, no_term, added, CompareReading, compare, CompareTail, no_side, compared, NegReading, not, plain, ConjReading, conj, ConjTail, no_and, and, ExprReading, expr, ExprTail, no_or, or, ArgumentsReading, no_argument, argument, ArgumentTail, last_argument, next_argument, TypeReading, typed, TypesReading, no_type, type_, TypeTail, last_type, next_type, ParameterReading, parameter, ParametersReading, no_parameter, parameter_, ParameterTail, last_parameter, next_parameter, DeclarationReading, activity, signal, CallTail, no_retry, retry, SideReading, value, call, wait, StatementReading, let_, assign, sleep, return_, fail, continue_, StatementsReading, no_statement, statement, BodyReading, statements, declaration, ProgramReading, workflow}
-use Rattle.flow_model.specs.Grammar.{marked, named, numbered, whole, term_mark, sum_mark, compare_mark, term_operator, sum_operator, compare_operator, parens_tokens, prim_tokens, unary_tokens, term_tokens, term_tail_tokens, sum_tokens, sum_tail_tokens, compare_tokens, compare_tail_tokens, neg_tokens, conj_tokens, conj_tail_tokens, expr_tokens, expr_tail_tokens, argument_tail_tokens, arguments_tokens, type_tokens, type_tail_tokens, types_tokens, parameter_tokens, parameter_tail_tokens, parameters_tokens, declaration_tokens, call_tail_tokens, side_tokens, statement_tokens, statements_tokens, body_tokens, program_tokens}
-use Rattle.flow_model.specs.Grammar.{parens_of, prim_of, unary_of, term_of, factors_of, sum_of, added_of, compare_of, compared_of, neg_of, conj_of, and_of, expr_of, or_of, argument_tail_of, arguments_of, type_of, kind_of, type_tail_of, types_of, parameter_of, parameter_tail_of, parameters_of, declaration_of, retry_of, side_of, statement_of, statements_of, body_statements, declarations_of, program_of}
-use Rattle.flow_syntax.specs.Print.{in_parentheses, fitted, level, kind_mark, expression_words, behind_commas, between_commas, listed, type_words, parameter_words, retry_words, statement_words, block_words, declared_words, declarations_words, program_words}
+use Rattle.flow_model.specs.Grammar.{TermSign, times, over, percent, SumSign, plus, minus, join, CompareSign, equal, differ, less, at_most, greater, at_least, ParensReading, parens, PrimReading, int, text, name, now, text_of, len_of, inner, UnaryReading, negate, prim, TermReading, term, TermTail, no_factor, factor, SumReading, sum, SumTail, no_term, added, CompareReading, compare, CompareTail, no_side, compared, NegReading, not, plain, ConjReading, conj, ConjTail, no_and, and, ExprReading, expr, ExprTail, no_or, or, ArgumentsReading, no_argument, argument, ArgumentTail, last_argument, next_argument, TypeReading, typed, TypesReading, no_type, type_, TypeTail, last_type, next_type, ParameterReading, parameter, ParametersReading, no_parameter, parameter_, ParameterTail, last_parameter, next_parameter, DeclarationReading, activity, signal, ElseTail, no_else, else_, CallTail, no_retry, retry, WaitTail, for_ever, for_, SideReading, value, call, wait, BranchesReading, no_branch, branch, StatementReading, let_, assign, sleep, while_, parallel, return_, fail, continue_, StatementsReading, no_statement, statement, if_, patch, AfterChoice, otherwise, without, BodyReading, statements, declaration, ProgramReading, workflow}
+use Rattle.flow_model.specs.Grammar.{marked, named, numbered, worded, whole, term_mark, sum_mark, compare_mark, term_operator, sum_operator, compare_operator, parens_tokens, prim_tokens, unary_tokens, term_tokens, term_tail_tokens, sum_tokens, sum_tail_tokens, compare_tokens, compare_tail_tokens, neg_tokens, conj_tokens, conj_tail_tokens, expr_tokens, expr_tail_tokens, argument_tail_tokens, arguments_tokens, type_tokens, type_tail_tokens, types_tokens, parameter_tokens, parameter_tail_tokens, parameters_tokens, declaration_tokens, else_tail_tokens, call_tail_tokens, wait_tail_tokens, side_tokens, branches_tokens, statement_tokens, statements_tokens, choice_tokens, body_tokens, program_tokens}
+use Rattle.flow_model.specs.Grammar.{parens_of, prim_of, unary_of, term_of, factors_of, sum_of, added_of, compare_of, compared_of, neg_of, conj_of, and_of, expr_of, or_of, argument_tail_of, arguments_of, type_of, kind_of, type_tail_of, types_of, parameter_of, parameter_tail_of, parameters_of, declaration_of, retry_of, otherwise_of, failing_of, wait_of, side_of, branches_of, statement_of, statements_of, second_of, behind_choice, body_statements, declarations_of, program_of}
+use Rattle.flow_syntax.specs.Print.{in_parentheses, fitted, level, kind_mark, expression_words, behind_commas, between_commas, listed, type_words, parameter_words, in_braces, retry_words, statement_words, block_words, else_words, otherwise_words, branches_words, declared_words, declarations_words, program_words}
 use Rattle.flow_syntax.proofs.Printing.{is_once, retry_or_none}
-use Rattle.flow_syntax.proofs.Fewer.{Fewer, Closed, IsFlat, no_word, kept, number_kept, left_out, together, together_closed, kept_closed, opened, brace_opened, closing, brace_closing, dropped}
+use Rattle.flow_syntax.proofs.Fewer.{Fewer, Closed, Shut, IsFlat, no_word, kept, number_kept, left_out, together, together_closed, together_shut, kept_closed, opened, brace_opened, closing, brace_closing, dropped, else_dropped}
 
 ---- Expressions
 
@@ -240,69 +241,159 @@ list_then paren es ws ts f =
     together (listed (map expression_words (arguments_of es))) ws (marked paren mark.Open ∷ arguments_tokens es) ts (opened paren (between_commas (map expression_words (arguments_of es)) ++ close) (arguments_tokens es) (arguments_fewer es)) f
 
 -- that a call is tried once is left out, also where it was written
-retry_fewer : (once : Bool) (at tries_at : ℕ) (tries : ℤ) (every every_at : ℕ) (pause : ℤ) (to : ℕ)
-    → Fewer (retry_or_none once (retry_of (retry at tries_at tries every every_at pause to)) ++ end) (call_tail_tokens (retry at tries_at tries every every_at pause to))
-retry_fewer true at tries_at tries every every_at pause to =
-    let behind_every : List Lexeme = numbered every_at pause ∷ marked to mark.Semicolon ∷ [] in
-    left_out (marked at mark.Retry) end (numbered tries_at tries ∷ marked every mark.Every ∷ behind_every) (λ b. refl) (λ o. refl)
-    (left_out (numbered tries_at tries) end (marked every mark.Every ∷ behind_every) (λ b. refl) (λ o. refl)
-    (left_out (marked every mark.Every) end behind_every (λ b. refl) (λ o. refl) (left_out (numbered every_at pause) end (marked to mark.Semicolon ∷ []) (λ b. refl) (λ o. refl) (ending to))))
-retry_fewer false at tries_at tries every every_at pause to =
-    let words_behind_every : List Word = word.Int (pos (whole pause)) ∷ end in
-    let behind_every : List Lexeme = numbered every_at pause ∷ marked to mark.Semicolon ∷ [] in
+retry_fewer : (once : Bool) (at tries_at : ℕ) (tries : ℤ) (every every_at : ℕ) (pause : ℤ) (more : ElseTail) (ws : List Word) → Fewer ws (else_tail_tokens more)
+    → Fewer (retry_or_none once (retry_of (retry at tries_at tries every every_at pause more)) ++ ws) (call_tail_tokens (retry at tries_at tries every every_at pause more))
+retry_fewer true at tries_at tries every every_at pause more ws f =
+    let behind_every : List Lexeme = numbered every_at pause ∷ else_tail_tokens more in
+    left_out (marked at mark.Retry) ws (numbered tries_at tries ∷ marked every mark.Every ∷ behind_every) (λ b. refl) (λ o. refl)
+    (left_out (numbered tries_at tries) ws (marked every mark.Every ∷ behind_every) (λ b. refl) (λ o. refl)
+    (left_out (marked every mark.Every) ws behind_every (λ b. refl) (λ o. refl) (left_out (numbered every_at pause) ws (else_tail_tokens more) (λ b. refl) (λ o. refl) f)))
+retry_fewer false at tries_at tries every every_at pause more ws f =
+    let words_behind_every : List Word = word.Int (pos (whole pause)) ∷ ws in
+    let behind_every : List Lexeme = numbered every_at pause ∷ else_tail_tokens more in
     kept (marked at mark.Retry) (word.Int (pos (whole tries)) ∷ word.Mark mark.Every ∷ words_behind_every) (numbered tries_at tries ∷ marked every mark.Every ∷ behind_every) (λ b. refl)
     (number_kept tries_at tries (word.Mark mark.Every ∷ words_behind_every) (marked every mark.Every ∷ behind_every)
-    (kept (marked every mark.Every) words_behind_every behind_every (λ b. refl) (number_kept every_at pause end (marked to mark.Semicolon ∷ []) (ending to))))
+    (kept (marked every mark.Every) words_behind_every behind_every (λ b. refl) (number_kept every_at pause ws (else_tail_tokens more) f)))
 
-call_tail_fewer : (m : CallTail) → Fewer (retry_words (retry_of m) ++ end) (call_tail_tokens m)
-call_tail_fewer (no_retry to) = ending to
-call_tail_fewer (retry at tries_at tries every every_at pause to) =
-    retry_fewer (is_once (retry_of (retry at tries_at tries every every_at pause to))) at tries_at tries every every_at pause to
-
-side_fewer : (at : ℕ) (x : tree.Bytes) (eq : ℕ) (s : SideReading) → Fewer (statement_words (side_of at x s)) (named at x ∷ marked eq mark.Assign ∷ side_tokens s)
-side_fewer at x eq (value e to) =
-    let ws : List Word = expression_words (expr_of e) ++ end in
-    let ts : List Lexeme = expr_tokens e ++ (marked to mark.Semicolon ∷ []) in
-    kept (named at x) (word.Mark mark.Assign ∷ ws) (marked eq mark.Assign ∷ ts) (λ b. refl) (kept (marked eq mark.Assign) ws ts (λ b. refl) (ended e to))
-side_fewer at x eq (call call_at name_at a paren es more) =
-    let ws : List Word = listed (map expression_words (arguments_of es)) ++ (retry_words (retry_of more) ++ end) in
-    let ts : List Lexeme = marked paren mark.Open ∷ (arguments_tokens es ++ call_tail_tokens more) in
-    let list : Fewer ws ts = list_then paren es (retry_words (retry_of more) ++ end) (call_tail_tokens more) (call_tail_fewer more) in
-    kept (named at x) (word.Mark mark.Assign ∷ word.Mark mark.Call ∷ word.Name a ∷ ws) (marked eq mark.Assign ∷ marked call_at mark.Call ∷ named name_at a ∷ ts) (λ b. refl)
-    (kept (marked eq mark.Assign) (word.Mark mark.Call ∷ word.Name a ∷ ws) (marked call_at mark.Call ∷ named name_at a ∷ ts) (λ b. refl)
-    (kept (marked call_at mark.Call) (word.Name a ∷ ws) (named name_at a ∷ ts) (λ b. refl) (kept (named name_at a) ws ts (λ b. refl) list)))
-side_fewer at x eq (wait wait_at signal_at name_at n to) =
-    let ts : List Lexeme = marked to mark.Semicolon ∷ [] in
-    kept (named at x) (word.Mark mark.Assign ∷ word.Mark mark.Wait ∷ word.Mark mark.Signal ∷ word.Name n ∷ end) (marked eq mark.Assign ∷ marked wait_at mark.Wait ∷ marked signal_at mark.Signal ∷ named name_at n ∷ ts) (λ b. refl)
-    (kept (marked eq mark.Assign) (word.Mark mark.Wait ∷ word.Mark mark.Signal ∷ word.Name n ∷ end) (marked wait_at mark.Wait ∷ marked signal_at mark.Signal ∷ named name_at n ∷ ts) (λ b. refl)
-    (kept (marked wait_at mark.Wait) (word.Mark mark.Signal ∷ word.Name n ∷ end) (marked signal_at mark.Signal ∷ named name_at n ∷ ts) (λ b. refl)
-    (kept (marked signal_at mark.Signal) (word.Name n ∷ end) (named name_at n ∷ ts) (λ b. refl) (kept (named name_at n) end ts (λ b. refl) (ending to)))))
-
-statement_fewer : (s : StatementReading) → Fewer (statement_words (statement_of s)) (statement_tokens s)
-statement_fewer (let_ at name_at x eq e to) =
-    let ws : List Word = expression_words (expr_of e) ++ end in
-    let ts : List Lexeme = expr_tokens e ++ (marked to mark.Semicolon ∷ []) in
-    kept (marked at mark.Let) (word.Name x ∷ word.Mark mark.Assign ∷ ws) (named name_at x ∷ marked eq mark.Assign ∷ ts) (λ b. refl)
-    (kept (named name_at x) (word.Mark mark.Assign ∷ ws) (marked eq mark.Assign ∷ ts) (λ b. refl) (kept (marked eq mark.Assign) ws ts (λ b. refl) (ended e to)))
-statement_fewer (assign at x eq s) = side_fewer at x eq s
-statement_fewer (sleep at e to) = kept (marked at mark.Sleep) (expression_words (expr_of e) ++ end) (expr_tokens e ++ (marked to mark.Semicolon ∷ [])) (λ b. refl) (ended e to)
-statement_fewer (return_ at e to) = kept (marked at mark.Return) (expression_words (expr_of e) ++ end) (expr_tokens e ++ (marked to mark.Semicolon ∷ [])) (λ b. refl) (ended e to)
-statement_fewer (fail at e to) = kept (marked at mark.Fail) (expression_words (expr_of e) ++ end) (expr_tokens e ++ (marked to mark.Semicolon ∷ [])) (λ b. refl) (ended e to)
-statement_fewer (continue_ at as_at new_at paren es to) =
-    let ws : List Word = listed (map expression_words (arguments_of es)) ++ end in
-    let ts : List Lexeme = marked paren mark.Open ∷ (arguments_tokens es ++ (marked to mark.Semicolon ∷ [])) in
-    kept (marked at mark.Continue) (word.Mark mark.As ∷ word.Mark mark.New ∷ ws) (marked as_at mark.As ∷ marked new_at mark.New ∷ ts) (λ b. refl)
-    (kept (marked as_at mark.As) (word.Mark mark.New ∷ ws) (marked new_at mark.New ∷ ts) (λ b. refl)
-    (kept (marked new_at mark.New) ws ts (λ b. refl) (list_then paren es end (marked to mark.Semicolon ∷ []) (ending to))))
+-- a variable, and the signal that it waits for
+signal_then : (at : ℕ) (x : tree.Bytes) (eq wait_at signal_at name_at : ℕ) (n : tree.Bytes) (ws : List Word) (ts : List Lexeme) → Fewer ws ts
+    → Fewer (word.Name x ∷ word.Mark mark.Assign ∷ word.Mark mark.Wait ∷ word.Mark mark.Signal ∷ word.Name n ∷ ws) (named at x ∷ marked eq mark.Assign ∷ marked wait_at mark.Wait ∷ marked signal_at mark.Signal ∷ named name_at n ∷ ts)
+signal_then at x eq wait_at signal_at name_at n ws ts f =
+    kept (named at x) (word.Mark mark.Assign ∷ word.Mark mark.Wait ∷ word.Mark mark.Signal ∷ word.Name n ∷ ws) (marked eq mark.Assign ∷ marked wait_at mark.Wait ∷ marked signal_at mark.Signal ∷ named name_at n ∷ ts) (λ b. refl)
+    (kept (marked eq mark.Assign) (word.Mark mark.Wait ∷ word.Mark mark.Signal ∷ word.Name n ∷ ws) (marked wait_at mark.Wait ∷ marked signal_at mark.Signal ∷ named name_at n ∷ ts) (λ b. refl)
+    (kept (marked wait_at mark.Wait) (word.Mark mark.Signal ∷ word.Name n ∷ ws) (marked signal_at mark.Signal ∷ named name_at n ∷ ts) (λ b. refl)
+    (kept (marked signal_at mark.Signal) (word.Name n ∷ ws) (named name_at n ∷ ts) (λ b. refl) (kept (named name_at n) ws ts (λ b. refl) f))))
 
 abbrev brace : List Word
 brace = word.Mark mark.BraceClose ∷ []
 
-statements_fewer : (r : StatementsReading) → Closed (block_words (statements_of r) ++ brace) (statements_tokens r)
-statements_fewer (no_statement to) = brace_closing to
-statements_fewer (statement s more) =
-    subst (λ v. Closed v (statement_tokens s ++ statements_tokens more)) (sym (append_assoc (statement_words (statement_of s)) (block_words (statements_of more)) brace))
-    (together_closed (statement_words (statement_of s)) (block_words (statements_of more) ++ brace) (statement_tokens s) (statements_tokens more) (statement_fewer s) (statements_fewer more))
+-- a list in braces that is kept, behind `else`
+else_kept : (at brace_at : ℕ) (us : List Word) (xs : List Lexeme) → Shut (us ++ brace) xs → Fewer (word.Mark mark.Else ∷ in_braces us) (marked at mark.Else ∷ marked brace_at mark.BraceOpen ∷ xs)
+else_kept at brace_at us xs f = kept (marked at mark.Else) (in_braces us) (marked brace_at mark.BraceOpen ∷ xs) (λ b. refl) (brace_opened brace_at (us ++ brace) xs f)
+
+-- the same before a semicolon
+else_ended : (at brace_at : ℕ) (us : List Word) (xs : List Lexeme) (to : ℕ) → Shut (us ++ brace) xs
+    → Fewer (word.Mark mark.Else ∷ (in_braces us ++ end)) (marked at mark.Else ∷ marked brace_at mark.BraceOpen ∷ (xs ++ (marked to mark.Semicolon ∷ [])))
+else_ended at brace_at us xs to f = together (word.Mark mark.Else ∷ in_braces us) end (marked at mark.Else ∷ marked brace_at mark.BraceOpen ∷ xs) (marked to mark.Semicolon ∷ []) (else_kept at brace_at us xs f) (ending to)
+
+-- two lists in braces that are kept
+both_kept : (first at second : ℕ) (us ws : List Word) (xs ys : List Lexeme) → Shut (us ++ brace) xs → Shut (ws ++ brace) ys
+    → Fewer (in_braces us ++ (word.Mark mark.Else ∷ in_braces ws)) (marked first mark.BraceOpen ∷ (xs ++ (marked at mark.Else ∷ marked second mark.BraceOpen ∷ ys)))
+both_kept first at second us ws xs ys f g =
+    together (in_braces us) (word.Mark mark.Else ∷ in_braces ws) (marked first mark.BraceOpen ∷ xs) (marked at mark.Else ∷ marked second mark.BraceOpen ∷ ys) (brace_opened first (us ++ brace) xs f) (else_kept at second ws ys g)
+
+-- two lists in braces: a second one with nothing in it is left out, also where it was written
+both_fewer : (first at second : ℕ) (us : List Word) (xs : List Lexeme) (r : StatementsReading) → Shut (us ++ brace) xs → Shut (block_words (statements_of r) ++ brace) (statements_tokens r)
+    → Fewer (in_braces us ++ else_words (statements_of r)) (marked first mark.BraceOpen ∷ (xs ++ (marked at mark.Else ∷ marked second mark.BraceOpen ∷ statements_tokens r)))
+both_fewer first at second us xs (no_statement to) f g =
+    subst (λ v. Fewer v (marked first mark.BraceOpen ∷ (xs ++ (marked at mark.Else ∷ marked second mark.BraceOpen ∷ marked to mark.BraceClose ∷ [])))) (sym (append-nil (in_braces us))) (else_dropped first at second to (us ++ brace) xs f)
+both_fewer first at second us xs (statement s more) f g = both_kept first at second us (block_words (statements_of (statement s more))) xs (statements_tokens (statement s more)) f g
+both_fewer first at second us xs (if_ if_at e brace_at ss more) f g =
+    both_kept first at second us (block_words (statements_of (if_ if_at e brace_at ss more))) xs (statements_tokens (if_ if_at e brace_at ss more)) f g
+both_fewer first at second us xs (patch patch_at id_at id is brace_at ss more) f g =
+    both_kept first at second us (block_words (statements_of (patch patch_at id_at id is brace_at ss more))) xs (statements_tokens (patch patch_at id_at id is brace_at ss more)) f g
+
+-- a statement, and those behind it
+statement_then : (us ws : List Word) (xs ts : List Lexeme) → Fewer us xs → Shut (ws ++ brace) ts → Shut ((us ++ ws) ++ brace) (xs ++ ts)
+statement_then us ws xs ts f g = subst (λ v. Shut v (xs ++ ts)) (sym (append_assoc us ws brace)) (together_shut us (ws ++ brace) xs ts f g)
+
+-- a branch, and those behind it
+branch_then : (at : ℕ) (us ws : List Word) (xs ts : List Lexeme) → Shut (us ++ brace) xs → Shut (ws ++ brace) ts → Shut ((in_braces us ++ ws) ++ brace) (marked at mark.BraceOpen ∷ (xs ++ ts))
+branch_then at us ws xs ts f g = statement_then (in_braces us) ws (marked at mark.BraceOpen ∷ xs) ts (brace_opened at (us ++ brace) xs f) g
+
+-- what stands before two lists in braces, these lists, and the statements behind them
+choice_then : (us ws vs : List Word) (xs ys ts : List Lexeme) → Fewer us xs → Shut (ws ++ (vs ++ brace)) (ys ++ ts) → Shut (((us ++ ws) ++ vs) ++ brace) (xs ++ (ys ++ ts))
+choice_then us ws vs xs ys ts f g =
+    subst (λ v. Shut v (xs ++ (ys ++ ts))) (sym (append_assoc us ws (vs ++ brace)) ∙ sym (append_assoc (us ++ ws) vs brace)) (together_shut us (ws ++ (vs ++ brace)) xs (ys ++ ts) f g)
+
+mutual
+  else_tail_fewer : (m : ElseTail) → Fewer (otherwise_words (otherwise_of m) ++ end) (else_tail_tokens m)
+  else_tail_fewer (no_else to) = ending to
+  else_tail_fewer (else_ at brace_at ss to) = else_ended at brace_at (block_words (statements_of ss)) (statements_tokens ss) to (statements_fewer ss)
+
+  call_tail_fewer : (m : CallTail) → Fewer (retry_words (retry_of m) ++ (otherwise_words (failing_of m) ++ end)) (call_tail_tokens m)
+  call_tail_fewer (no_retry more) = else_tail_fewer more
+  call_tail_fewer (retry at tries_at tries every every_at pause more) =
+      retry_fewer (is_once (retry_of (retry at tries_at tries every every_at pause more))) at tries_at tries every every_at pause more (otherwise_words (otherwise_of more) ++ end) (else_tail_fewer more)
+
+  wait_fewer : (at : ℕ) (x : tree.Bytes) (eq wait_at signal_at name_at : ℕ) (n : tree.Bytes) (m : WaitTail)
+      → Fewer (statement_words (wait_of at x name_at n m)) (named at x ∷ marked eq mark.Assign ∷ marked wait_at mark.Wait ∷ marked signal_at mark.Signal ∷ named name_at n ∷ wait_tail_tokens m)
+  wait_fewer at x eq wait_at signal_at name_at n (for_ever to) = signal_then at x eq wait_at signal_at name_at n end (marked to mark.Semicolon ∷ []) (ending to)
+  wait_fewer at x eq wait_at signal_at name_at n (for_ for_at e else_at brace_at ss to) =
+      let ws : List Word = word.Mark mark.Else ∷ (in_braces (block_words (statements_of ss)) ++ end) in
+      let ts : List Lexeme = marked else_at mark.Else ∷ marked brace_at mark.BraceOpen ∷ (statements_tokens ss ++ (marked to mark.Semicolon ∷ [])) in
+      let late : Fewer ws ts = else_ended else_at brace_at (block_words (statements_of ss)) (statements_tokens ss) to (statements_fewer ss) in
+      signal_then at x eq wait_at signal_at name_at n (word.Mark mark.For ∷ (expression_words (expr_of e) ++ ws)) (marked for_at mark.For ∷ (expr_tokens e ++ ts))
+      (kept (marked for_at mark.For) (expression_words (expr_of e) ++ ws) (expr_tokens e ++ ts) (λ b. refl) (together (expression_words (expr_of e)) ws (expr_tokens e) ts (expression_fewer e) late))
+
+  side_fewer : (at : ℕ) (x : tree.Bytes) (eq : ℕ) (s : SideReading) → Fewer (statement_words (side_of at x s)) (named at x ∷ marked eq mark.Assign ∷ side_tokens s)
+  side_fewer at x eq (value e to) =
+      let ws : List Word = expression_words (expr_of e) ++ end in
+      let ts : List Lexeme = expr_tokens e ++ (marked to mark.Semicolon ∷ []) in
+      kept (named at x) (word.Mark mark.Assign ∷ ws) (marked eq mark.Assign ∷ ts) (λ b. refl) (kept (marked eq mark.Assign) ws ts (λ b. refl) (ended e to))
+  side_fewer at x eq (call call_at name_at a paren es more) =
+      let behind : List Word = retry_words (retry_of more) ++ (otherwise_words (failing_of more) ++ end) in
+      let ws : List Word = listed (map expression_words (arguments_of es)) ++ behind in
+      let ts : List Lexeme = marked paren mark.Open ∷ (arguments_tokens es ++ call_tail_tokens more) in
+      let list : Fewer ws ts = list_then paren es behind (call_tail_tokens more) (call_tail_fewer more) in
+      kept (named at x) (word.Mark mark.Assign ∷ word.Mark mark.Call ∷ word.Name a ∷ ws) (marked eq mark.Assign ∷ marked call_at mark.Call ∷ named name_at a ∷ ts) (λ b. refl)
+      (kept (marked eq mark.Assign) (word.Mark mark.Call ∷ word.Name a ∷ ws) (marked call_at mark.Call ∷ named name_at a ∷ ts) (λ b. refl)
+      (kept (marked call_at mark.Call) (word.Name a ∷ ws) (named name_at a ∷ ts) (λ b. refl) (kept (named name_at a) ws ts (λ b. refl) list)))
+  side_fewer at x eq (wait wait_at signal_at name_at n more) = wait_fewer at x eq wait_at signal_at name_at n more
+
+  branches_fewer : (m : BranchesReading) → Shut (branches_words (branches_of m) ++ brace) (branches_tokens m)
+  branches_fewer (no_branch to) = brace_closing to
+  branches_fewer (branch at ss more) = branch_then at (block_words (statements_of ss)) (branches_words (branches_of more)) (statements_tokens ss) (branches_tokens more) (statements_fewer ss) (branches_fewer more)
+
+  statement_fewer : (s : StatementReading) → Fewer (statement_words (statement_of s)) (statement_tokens s)
+  statement_fewer (let_ at name_at x eq e to) =
+      let ws : List Word = expression_words (expr_of e) ++ end in
+      let ts : List Lexeme = expr_tokens e ++ (marked to mark.Semicolon ∷ []) in
+      kept (marked at mark.Let) (word.Name x ∷ word.Mark mark.Assign ∷ ws) (named name_at x ∷ marked eq mark.Assign ∷ ts) (λ b. refl)
+      (kept (named name_at x) (word.Mark mark.Assign ∷ ws) (marked eq mark.Assign ∷ ts) (λ b. refl) (kept (marked eq mark.Assign) ws ts (λ b. refl) (ended e to)))
+  statement_fewer (assign at x eq s) = side_fewer at x eq s
+  statement_fewer (sleep at e to) = kept (marked at mark.Sleep) (expression_words (expr_of e) ++ end) (expr_tokens e ++ (marked to mark.Semicolon ∷ [])) (λ b. refl) (ended e to)
+  statement_fewer (while_ at e brace_at ss) =
+      let ws : List Word = in_braces (block_words (statements_of ss)) in
+      let ts : List Lexeme = marked brace_at mark.BraceOpen ∷ statements_tokens ss in
+      let list : Fewer ws ts = brace_opened brace_at (block_words (statements_of ss) ++ brace) (statements_tokens ss) (statements_fewer ss) in
+      kept (marked at mark.While) (expression_words (expr_of e) ++ ws) (expr_tokens e ++ ts) (λ b. refl) (together (expression_words (expr_of e)) ws (expr_tokens e) ts (expression_fewer e) list)
+  statement_fewer (parallel at brace_at first ss more) =
+      let ws : List Word = (in_braces (block_words (statements_of ss)) ++ branches_words (branches_of more)) ++ brace in
+      let ts : List Lexeme = branches_tokens (branch first ss more) in
+      kept (marked at mark.Parallel) (word.Mark mark.BraceOpen ∷ ws) (marked brace_at mark.BraceOpen ∷ ts) (λ b. refl) (brace_opened brace_at ws ts
+      (branch_then first (block_words (statements_of ss)) (branches_words (branches_of more)) (statements_tokens ss) (branches_tokens more) (statements_fewer ss) (branches_fewer more)))
+  statement_fewer (return_ at e to) = kept (marked at mark.Return) (expression_words (expr_of e) ++ end) (expr_tokens e ++ (marked to mark.Semicolon ∷ [])) (λ b. refl) (ended e to)
+  statement_fewer (fail at e to) = kept (marked at mark.Fail) (expression_words (expr_of e) ++ end) (expr_tokens e ++ (marked to mark.Semicolon ∷ [])) (λ b. refl) (ended e to)
+  statement_fewer (continue_ at as_at new_at paren es to) =
+      let ws : List Word = listed (map expression_words (arguments_of es)) ++ end in
+      let ts : List Lexeme = marked paren mark.Open ∷ (arguments_tokens es ++ (marked to mark.Semicolon ∷ [])) in
+      kept (marked at mark.Continue) (word.Mark mark.As ∷ word.Mark mark.New ∷ ws) (marked as_at mark.As ∷ marked new_at mark.New ∷ ts) (λ b. refl)
+      (kept (marked as_at mark.As) (word.Mark mark.New ∷ ws) (marked new_at mark.New ∷ ts) (λ b. refl)
+      (kept (marked new_at mark.New) ws ts (λ b. refl) (list_then paren es end (marked to mark.Semicolon ∷ []) (ending to))))
+
+  statements_fewer : (r : StatementsReading) → Shut (block_words (statements_of r) ++ brace) (statements_tokens r)
+  statements_fewer (no_statement to) = brace_closing to
+  statements_fewer (statement s more) = statement_then (statement_words (statement_of s)) (block_words (statements_of more)) (statement_tokens s) (statements_tokens more) (statement_fewer s) (statements_fewer more)
+  statements_fewer (if_ at e brace_at ss more) =
+      choice_then (word.Mark mark.If ∷ expression_words (expr_of e)) (in_braces (block_words (statements_of ss)) ++ else_words (second_of more)) (block_words (behind_choice more)) (marked at mark.If ∷ expr_tokens e) (marked brace_at mark.BraceOpen ∷ statements_tokens ss) (choice_tokens more)
+      (kept (marked at mark.If) (expression_words (expr_of e)) (expr_tokens e) (λ b. refl) (expression_fewer e)) (choice_fewer brace_at (block_words (statements_of ss)) (statements_tokens ss) more (statements_fewer ss))
+  statements_fewer (patch at id_at id is brace_at ss more) =
+      choice_then (word.Mark mark.Patch ∷ word.Text id ∷ []) (in_braces (block_words (statements_of ss)) ++ else_words (second_of more)) (block_words (behind_choice more)) (marked at mark.Patch ∷ worded id_at id ∷ []) (marked brace_at mark.BraceOpen ∷ statements_tokens ss) (choice_tokens more)
+      (kept (marked at mark.Patch) (word.Text id ∷ []) (worded id_at id ∷ []) (λ b. refl) (kept (worded id_at id) [] [] (λ b. refl) no_word)) (choice_fewer brace_at (block_words (statements_of ss)) (statements_tokens ss) more (statements_fewer ss))
+
+  -- the first list of a choice, its second one, and the statements behind it
+  choice_fewer : (first : ℕ) (us : List Word) (xs : List Lexeme) (more : AfterChoice) → Shut (us ++ brace) xs
+      → Shut ((in_braces us ++ else_words (second_of more)) ++ (block_words (behind_choice more) ++ brace)) (marked first mark.BraceOpen ∷ (xs ++ choice_tokens more))
+  choice_fewer first us xs (otherwise at brace_at ss more) f =
+      let us_behind : List Word = block_words (statements_of more) ++ brace in
+      let both : List Lexeme = marked at mark.Else ∷ marked brace_at mark.BraceOpen ∷ statements_tokens ss in
+      subst (λ v. Shut ((in_braces us ++ else_words (statements_of ss)) ++ us_behind) (marked first mark.BraceOpen ∷ v)) (append_assoc xs both (statements_tokens more))
+      (together_shut (in_braces us ++ else_words (statements_of ss)) us_behind (marked first mark.BraceOpen ∷ (xs ++ both)) (statements_tokens more) (both_fewer first at brace_at us xs ss f (statements_fewer ss)) (statements_fewer more))
+  choice_fewer first us xs (without more) f =
+      let us_behind : List Word = block_words (statements_of more) ++ brace in
+      subst (λ v. Shut (v ++ us_behind) (marked first mark.BraceOpen ∷ (xs ++ statements_tokens more))) (sym (append-nil (in_braces us)))
+      (together_shut (in_braces us) us_behind (marked first mark.BraceOpen ∷ xs) (statements_tokens more) (brace_opened first (us ++ brace) xs f) (statements_fewer more))
 
 ---- Programs
 
@@ -325,13 +416,13 @@ declaration_fewer (signal at name_at n colon t to) =
     kept (marked at mark.Signal) (word.Name n ∷ word.Mark mark.Colon ∷ ws) (named name_at n ∷ marked colon mark.Colon ∷ ts) (λ b. refl)
     (kept (named name_at n) (word.Mark mark.Colon ∷ ws) (marked colon mark.Colon ∷ ts) (λ b. refl) (kept (marked colon mark.Colon) ws ts (λ b. refl) (type_ended t to)))
 
-body_fewer : (r : BodyReading) → Closed ((declarations_words (declarations_of r) ++ block_words (statements_of (body_statements r))) ++ brace) (body_tokens r)
+body_fewer : (r : BodyReading) → Shut ((declarations_words (declarations_of r) ++ block_words (statements_of (body_statements r))) ++ brace) (body_tokens r)
 body_fewer (statements ss) = statements_fewer ss
 body_fewer (declaration d more) =
     let ds : List Word = declarations_words (declarations_of more) in
     let ss : List Word = block_words (statements_of (body_statements more)) in
-    subst (λ v. Closed v (declaration_tokens d ++ body_tokens more)) (sym (append_assoc (declared_words (declaration_of d)) (ds ++ ss) brace) ∙ ap (λ v. v ++ brace) (sym (append_assoc (declared_words (declaration_of d)) ds ss)))
-    (together_closed (declared_words (declaration_of d)) ((ds ++ ss) ++ brace) (declaration_tokens d) (body_tokens more) (declaration_fewer d) (body_fewer more))
+    subst (λ v. Shut v (declaration_tokens d ++ body_tokens more)) (sym (append_assoc (declared_words (declaration_of d)) (ds ++ ss) brace) ∙ ap (λ v. v ++ brace) (sym (append_assoc (declared_words (declaration_of d)) ds ss)))
+    (together_shut (declared_words (declaration_of d)) ((ds ++ ss) ++ brace) (declaration_tokens d) (body_tokens more) (declaration_fewer d) (body_fewer more))
 
 -- the words of a program, and the tokens that it was read from
 pub program_fewer : (r : ProgramReading) → Fewer (program_words (program_of r)) (program_tokens r)

@@ -6,6 +6,7 @@ pub mod Unique
 pub mod Parsed
 pub mod ParsedExpressions
 pub mod ParsedPrograms
+pub mod ParsedShown
 pub mod Faults
 pub mod Codes
 pub mod MeansOnce

@@ -16,9 +16,9 @@ use Rattle.flow_model.specs.Grammar.{parens, int, text, name, now, text_of, len_
 use Rattle.flow_model.specs.Grammar.{marked, term_mark, sum_mark, compare_mark, compare_operator, parens_tokens, prim_tokens, unary_tokens, term_tokens, term_tail_tokens, sum_tokens, sum_tail_tokens, compare_tokens, neg_tokens, conj_tokens, conj_tail_tokens, expr_tokens, expr_tail_tokens, argument_tail_tokens, arguments_tokens, parens_of, prim_of, unary_of, term_of, factors_of, sum_of, added_of, compare_of, neg_of, conj_of, and_of, expr_of, or_of, argument_tail_of, arguments_of}
 use Rattle.flow_syntax.specs.Machine.{Symbol, takes, then_more, fault}
 use Rattle.flow_syntax.specs.Machine as m
-use Rattle.flow_syntax.specs.Parsing.{Parsed, Lacks, Past, IsFactor, IsAdded, IsCompared}
+use Rattle.flow_syntax.specs.Parsing.{Parsed, SoFar, Lacks, Past, IsFactor, IsAdded, IsCompared}
 use Rattle.flow_syntax.proofs.Steps.{passes, Same, Alike, is_then, is_alike, unary_alike, neg_alike, compare_is, factor_step, added_step, compared_step, past_and, past_or, arguments_same}
-use Rattle.flow_syntax.proofs.Parsed.{SoFar, so_begins, so_more}
+use Rattle.flow_syntax.proofs.Parsed.{so_begins, so_more}
 
 -- a mark that was read
 abbrev pub Marked : Mark → List Lexeme → ℕ → List Lexeme → Type 0

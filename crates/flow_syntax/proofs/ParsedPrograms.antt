@@ -3,6 +3,8 @@ use Rattle.std.proofs.Common.{◌≡◌, ◌∙◌, ℕ, ℤ, suc, List, [], ◌
 use Rattle.std.proofs.lemmas.List.{append-nil}
 use Rattle.flow_base.specs.Syntax as tree
 use Rattle.flow_base.specs.Syntax.{Bytes, once, block_of}
+use Rattle.flow_base.specs.Shown.{Braced}
+use Rattle.flow_base.specs.Shown.{branches_of as shown_branches}
 use Rattle.flow_base.specs.declared.token.Word.{Word}
 use Rattle.flow_base.specs.declared.token.Word.TheVariants as word
 use Rattle.flow_base.specs.declared.token.Mark.{Mark}
@@ -12,15 +14,15 @@ use Rattle.flow_base.specs.declared.syntax.Retry.{Retry}
 use Rattle.flow_base.specs.declared.syntax.Parameter.{Parameter}
 use Rattle.flow_base.specs.declared.syntax.TypeAt.{TypeAt}
 use Rattle.flow_model.specs.Lexeme.{Lexeme}
-use Rattle.flow_model.specs.Grammar.{TypeReading, typed, no_type, type_, last_type, next_type, parameter, ParametersReading, no_parameter, parameter_, last_parameter, next_parameter, activity, signal, no_retry, retry, value, call, wait, let_, assign, sleep, return_, fail, continue_, no_statement, statement, BodyReading, statements, declaration, workflow}
-use Rattle.flow_model.specs.Grammar.{marked, named, numbered, whole, expr_tokens, arguments_tokens, type_tokens, type_tail_tokens, types_tokens, parameter_tokens, parameter_tail_tokens, parameters_tokens, declaration_tokens, call_tail_tokens, side_tokens, statement_tokens, statements_tokens, body_tokens, arguments_of, type_of, kind_of, type_tail_of, types_of, parameter_of, parameter_tail_of, parameter_tail_end, parameters_end, declaration_of, retry_of, side_of, statement_of, statements_of, statements_end, body_statements, declarations_of, program_of, Reads}
+use Rattle.flow_model.specs.Grammar.{TypeReading, typed, no_type, type_, last_type, next_type, parameter, ParametersReading, no_parameter, parameter_, last_parameter, next_parameter, activity, signal, no_else, else_, no_retry, retry, for_ever, for_, value, call, wait, no_branch, branch, let_, assign, sleep, while_, parallel, return_, fail, continue_, no_statement, statement, if_, patch, otherwise, without, BodyReading, statements, declaration, workflow}
+use Rattle.flow_model.specs.Grammar.{marked, named, numbered, worded, whole, expr_tokens, arguments_tokens, type_tokens, type_tail_tokens, types_tokens, parameter_tokens, parameter_tail_tokens, parameters_tokens, declaration_tokens, else_tail_tokens, call_tail_tokens, wait_tail_tokens, side_tokens, branches_tokens, statement_tokens, statements_tokens, choice_tokens, body_tokens, arguments_of, type_of, kind_of, type_tail_of, types_of, parameter_of, parameter_tail_of, parameter_tail_end, parameters_end, declaration_of, otherwise_of, retry_of, failing_of, wait_of, side_of, branches_of, statement_of, statements_of, statements_end, second_of, second_end, behind_choice, choice_end, body_statements, declarations_of, program_of, Reads}
 use Rattle.flow_syntax.specs.declared.fault.Stop.{Stop}
 use Rattle.flow_syntax.specs.declared.fault.Stop.TheVariants.{NoMemory, Unexpected}
 use Rattle.flow_syntax.specs.Machine.{Symbol, takes, then_more, fault, fault_by, step}
 use Rattle.flow_syntax.specs.Machine as m
-use Rattle.flow_syntax.specs.Parsing.{Parsed, StopsAt, StopsProgram, IsNoMark, LacksMark, Lacks, IsNumber, both_of, end_of, whole_body_of}
-use Rattle.flow_syntax.proofs.Steps.{Same, Alike, is_then, is_alike, types_same, parameters_same, call_tail_alike, side_same, statements_same, body_alike}
-use Rattle.flow_syntax.proofs.Parsed.{SoFar, so_begins, so_more, so_next}
+use Rattle.flow_syntax.specs.Parsing.{Parsed, SoFar, StopsAt, StopsProgram, IsNoMark, LacksMark, Lacks, IsNumber, IsPatchId, in_braces, IsBlock, IsTried, IsCalled, IsTarget, IsChoice, IsMember, both_of, end_of, whole_body_of}
+use Rattle.flow_syntax.proofs.Steps.{Same, Alike, is_then, is_alike, types_same, parameters_same, side_same, body_alike, else_tail_is, call_tail_is, wait_tail_is, statements_is, after_choice_is, patch_id_step}
+use Rattle.flow_syntax.proofs.Parsed.{so_begins, so_more, so_next}
 use Rattle.flow_syntax.proofs.ParsedExpressions.{Marked, IsExpr, first_is}
 
 pub number_read : (t : Lexeme) (n : ℤ) (count : ℕ) (ts rest : List Lexeme) → ts ≡ t ∷ rest → t.word ≡ word.Int n → count ≡ whole n → IsNumber ts t.at count rest
@@ -157,44 +159,94 @@ continue_parsed at as_at new_at paren end_at ts r1 r2 r3 r4 end es p q r u v = (
   λ owed. p.3 (m.sign mark.New ∷ m.sign mark.Open ∷ m.arguments ∷ m.sign mark.Semicolon ∷ owed) ∙ q.3 (m.sign mark.Open ∷ m.arguments ∷ m.sign mark.Semicolon ∷ owed) ∙ r.3 (m.arguments ∷ m.sign mark.Semicolon ∷ owed) ∙ u.3 (m.sign mark.Semicolon ∷ owed) ∙ v.3 owed,
 )
 
--- behind the arguments of a call
+-- lists in braces
 
-abbrev pub IsCallTail : List Lexeme → Retry → List Lexeme → Type 0
-IsCallTail ts r end = Parsed m.call_tail call_tail_tokens retry_of ts r end
-
-pub retry_parsed : (at tries_at tries every every_at pause end_at : ℕ) (ts r1 r2 r3 end : List Lexeme) → IsNumber ts tries_at tries r1 → Marked mark.Every r1 every r2 → IsNumber r2 every_at pause r3 → Marked mark.Semicolon r3 end_at end → IsCallTail (marked at mark.Retry ∷ ts) (record { tries_at = tries_at; tries = tries; every_at = every_at; every = pause }) end
-retry_parsed at tries_at tries every every_at pause end_at ts r1 r2 r3 end p q r u = (
-  retry at tries_at p.0 q.0 every_at r.0 u.0,
-  ap (λ y. marked at mark.Retry ∷ y) (ap (λ y. numbered tries_at p.0 ∷ y) (ap (λ y. marked q.0 mark.Every ∷ y) (ap (λ y. numbered every_at r.0 ∷ y) u.1 ∙ sym r.1) ∙ q.1) ∙ sym p.1),
-  ap (λ (n : ℕ). let v : Retry = record { tries_at = tries_at; tries = n; every_at = every_at; every = whole r.0 } in v) p.2
-      ∙ ap (λ (n : ℕ). let v : Retry = record { tries_at = tries_at; tries = tries; every_at = every_at; every = n } in v) r.2,
-  λ owed. ap (fault (m.number ∷ m.sign mark.Every ∷ m.number ∷ m.sign mark.Semicolon ∷ owed)) p.1 ∙ q.3 (m.number ∷ m.sign mark.Semicolon ∷ owed) ∙ ap (fault (m.number ∷ m.sign mark.Semicolon ∷ owed)) r.1 ∙ u.3 owed,
+pub block_parsed : (at : ℕ) (ts r1 end : List Lexeme) (b : tree.Block × ℕ) → Marked mark.BraceOpen ts at r1 → Parsed m.statements statements_tokens end_of r1 b end → IsBlock ts at b end
+block_parsed at ts r1 end b p q = (
+  q.0,
+  ap (λ y. marked at mark.BraceOpen ∷ y) q.1 ∙ ap (λ a. marked a mark.BraceOpen ∷ r1) (sym p.2) ∙ p.1,
+  q.2,
+  λ owed. p.3 (m.statements ∷ owed) ∙ q.3 owed,
 )
 
-pub call_tail_is : (owed : List Symbol) (ts : List Lexeme) → Lacks mark.Retry ts → fault (m.call_tail ∷ owed) ts ≡ fault (m.sign mark.Semicolon ∷ owed) ts
-call_tail_is owed ts h = is_alike (m.sign mark.Semicolon) m.call_tail refl refl owed ts (call_tail_alike ts h)
+-- behind the arguments of a call
 
-pub once_parsed : (end_at : ℕ) (ts end : List Lexeme) → Lacks mark.Retry ts → Marked mark.Semicolon ts end_at end → IsCallTail ts once end
-once_parsed end_at ts end h p = (no_retry p.0, p.1, refl, λ owed. call_tail_is owed ts h ∙ p.3 owed)
+pub retry_parsed : (at tries_at tries every every_at pause : ℕ) (ts r1 r2 rest : List Lexeme) → IsNumber ts tries_at tries r1 → Marked mark.Every r1 every r2 → IsNumber r2 every_at pause rest → IsTried (marked at mark.Retry ∷ ts) (record { tries_at = tries_at; tries = tries; every_at = every_at; every = pause }) rest
+retry_parsed at tries_at tries every every_at pause ts r1 r2 rest p q r = (
+  λ more end h. (
+    retry at tries_at p.0 q.0 every_at r.0 more,
+    ap (λ y. marked at mark.Retry ∷ y) (ap (λ y. numbered tries_at p.0 ∷ y) (ap (λ y. marked q.0 mark.Every ∷ y) (ap (λ y. numbered every_at r.0 ∷ y) h ∙ sym r.1) ∙ q.1) ∙ sym p.1),
+    ap (λ (n : ℕ). let v : Retry = record { tries_at = tries_at; tries = n; every_at = every_at; every = whole r.0 } in (v, otherwise_of more)) p.2
+        ∙ ap (λ (n : ℕ). let v : Retry = record { tries_at = tries_at; tries = tries; every_at = every_at; every = n } in (v, otherwise_of more)) r.2,
+  ),
+  λ owed. ap (fault (m.number ∷ m.sign mark.Every ∷ m.number ∷ m.else_tail ∷ owed)) p.1 ∙ q.3 (m.number ∷ m.else_tail ∷ owed) ∙ ap (fault (m.number ∷ m.else_tail ∷ owed)) r.1,
+)
+
+pub once_parsed : (ts : List Lexeme) → Lacks mark.Retry ts → IsTried ts once ts
+once_parsed ts h = (λ more end g. (no_retry more, g, refl), λ owed. call_tail_is owed ts h)
+
+abbrev pub IsElse : List Lexeme → tree.Otherwise → List Lexeme → Type 0
+IsElse ts o end = Parsed m.else_tail else_tail_tokens otherwise_of ts o end
+
+pub no_else_parsed : (end_at : ℕ) (ts end : List Lexeme) → Lacks mark.Else ts → Marked mark.Semicolon ts end_at end → IsElse ts tree.NoElse end
+no_else_parsed end_at ts end h p = (no_else p.0, p.1, refl, λ owed. else_tail_is owed ts h ∙ p.3 owed)
+
+pub else_parsed : (at brace end_at : ℕ) (ts r1 r2 end : List Lexeme) (b : tree.Block × ℕ) → ts ≡ marked at mark.Else ∷ r1 → IsBlock r1 brace b r2 → Marked mark.Semicolon r2 end_at end → IsElse ts (tree.Else b.0 b.1) end
+else_parsed at brace end_at ts r1 r2 end b h p q = (
+  else_ at brace p.0 q.0,
+  ap (λ y. marked at mark.Else ∷ marked brace mark.BraceOpen ∷ y) (append_assoc (statements_tokens p.0) (marked q.0 mark.Semicolon ∷ []) end ∙ ap (λ y. statements_tokens p.0 ++ y) q.1)
+      ∙ ap (λ y. marked at mark.Else ∷ y) p.1 ∙ sym h,
+  ap (λ (v : tree.Block × ℕ). tree.Else v.0 v.1) p.2,
+  λ owed. rw h (p.3 (m.sign mark.Semicolon ∷ owed) ∙ q.3 owed),
+)
 
 abbrev pub IsSide : ℕ → Bytes → List Lexeme → tree.Statement → List Lexeme → Type 0
 IsSide at x ts s end = Parsed m.side side_tokens (side_of at x) ts s end
 
-pub call_parsed : (at call_at name_at paren : ℕ) (x a : Bytes) (ts r1 r2 r3 end : List Lexeme) (es : List tree.Expression) (z : Retry) → ts ≡ named name_at a ∷ r1 → Marked mark.Open r1 paren r2 → Parsed m.arguments arguments_tokens arguments_of r2 es r3 → IsCallTail r3 z end → IsSide at x (marked call_at mark.Call ∷ ts) (tree.Call at x name_at a es z tree.NoElse) end
-call_parsed at call_at name_at paren x a ts r1 r2 r3 end es z h p q r = (
-  call call_at name_at a p.0 q.0 r.0,
-  ap (λ y. marked call_at mark.Call ∷ y) (ap (λ y. named name_at a ∷ y) (ap (λ y. marked p.0 mark.Open ∷ y) (append_assoc (arguments_tokens q.0) (call_tail_tokens r.0) end ∙ ap (λ y. arguments_tokens q.0 ++ y) r.1 ∙ q.1) ∙ p.1) ∙ sym h),
-  ap (λ ys. tree.Call at x name_at a ys (retry_of r.0) tree.NoElse) q.2 ∙ ap (λ v. tree.Call at x name_at a es v tree.NoElse) r.2,
-  λ owed. rw h (p.3 (m.arguments ∷ m.call_tail ∷ owed) ∙ q.3 (m.call_tail ∷ owed) ∙ r.3 owed),
+pub called_parsed : (at call_at name_at paren : ℕ) (x a : Bytes) (ts r1 r2 r3 rest : List Lexeme) (es : List tree.Expression) (z : Retry) → ts ≡ named name_at a ∷ r1 → Marked mark.Open r1 paren r2 → Parsed m.arguments arguments_tokens arguments_of r2 es r3 → IsTried r3 z rest → IsCalled at x (marked call_at mark.Call ∷ ts) name_at a es z rest
+called_parsed at call_at name_at paren x a ts r1 r2 r3 rest es z h p q r = (
+  λ more end g.
+      let v = r.0 more end g in (
+        call call_at name_at a p.0 q.0 v.0,
+        ap (λ y. marked call_at mark.Call ∷ y) (ap (λ y. named name_at a ∷ y) (ap (λ y. marked p.0 mark.Open ∷ y) (append_assoc (arguments_tokens q.0) (call_tail_tokens v.0) end ∙ ap (λ y. arguments_tokens q.0 ++ y) v.1 ∙ q.1) ∙ p.1) ∙ sym h),
+        ap (λ ys. tree.Call at x name_at a ys (retry_of v.0) (failing_of v.0)) q.2 ∙ ap (λ (w : Retry × tree.Otherwise). tree.Call at x name_at a es w.0 w.1) v.2,
+      ),
+  λ owed. rw h (p.3 (m.arguments ∷ m.call_tail ∷ owed) ∙ q.3 (m.call_tail ∷ owed) ∙ r.1 owed),
 )
 
-pub wait_parsed : (at wait_at signal_at name_at end_at : ℕ) (x n : Bytes) (ts r1 r2 end : List Lexeme) → Marked mark.Signal ts signal_at r1 → r1 ≡ named name_at n ∷ r2 → Marked mark.Semicolon r2 end_at end → IsSide at x (marked wait_at mark.Wait ∷ ts) (tree.WaitSignal at x name_at n) end
-wait_parsed at wait_at signal_at name_at end_at x n ts r1 r2 end p h q = (
+pub call_parsed : (at name_at : ℕ) (x a : Bytes) (ts rest end : List Lexeme) (es : List tree.Expression) (z : Retry) (o : tree.Otherwise) → IsCalled at x ts name_at a es z rest → IsElse rest o end → IsSide at x ts (tree.Call at x name_at a es z o) end
+call_parsed at name_at x a ts rest end es z o p q = let v = p.0 q.0 end q.1 in (v.0, v.1, v.2 ∙ ap (tree.Call at x name_at a es z) q.2, λ owed. p.1 owed ∙ q.3 owed)
+
+-- waits
+
+abbrev pub IsWaitTail : ℕ → Bytes → ℕ → Bytes → List Lexeme → tree.Statement → List Lexeme → Type 0
+IsWaitTail at x name_at n ts s end = Parsed m.wait_tail wait_tail_tokens (wait_of at x name_at n) ts s end
+
+pub waits_ever : (at name_at end_at : ℕ) (x n : Bytes) (ts end : List Lexeme) → Lacks mark.For ts → Marked mark.Semicolon ts end_at end → IsWaitTail at x name_at n ts (tree.WaitSignal at x name_at n) end
+waits_ever at name_at end_at x n ts end h p = (for_ever p.0, p.1, refl, λ owed. wait_tail_is owed ts h ∙ p.3 owed)
+
+pub waits_for : (at name_at for_at else_at brace end_at : ℕ) (x n : Bytes) (ts r1 r2 r3 r4 end : List Lexeme) (e : tree.Expression) (b : tree.Block × ℕ) → ts ≡ marked for_at mark.For ∷ r1 → IsExpr r1 e r2 → Marked mark.Else r2 else_at r3 → IsBlock r3 brace b r4 → Marked mark.Semicolon r4 end_at end → IsWaitTail at x name_at n ts (tree.WaitSignalFor at x name_at n e b.0 b.1) end
+waits_for at name_at for_at else_at brace end_at x n ts r1 r2 r3 r4 end e b h p q u v = (
+  for_ for_at p.0 q.0 brace u.0 v.0,
+  ap (λ y. marked for_at mark.For ∷ y) (
+      append_assoc (expr_tokens p.0) (marked q.0 mark.Else ∷ marked brace mark.BraceOpen ∷ (statements_tokens u.0 ++ (marked v.0 mark.Semicolon ∷ []))) end
+      ∙ ap (λ y. expr_tokens p.0 ++ (marked q.0 mark.Else ∷ marked brace mark.BraceOpen ∷ y)) (append_assoc (statements_tokens u.0) (marked v.0 mark.Semicolon ∷ []) end ∙ ap (λ y. statements_tokens u.0 ++ y) v.1)
+      ∙ ap (λ y. expr_tokens p.0 ++ (marked q.0 mark.Else ∷ y)) u.1 ∙ ap (λ y. expr_tokens p.0 ++ y) q.1 ∙ p.1)
+      ∙ sym h,
+  ap (λ f. tree.WaitSignalFor at x name_at n f (statements_of u.0) (statements_end u.0)) p.2 ∙ ap (λ (w : tree.Block × ℕ). tree.WaitSignalFor at x name_at n e w.0 w.1) u.2,
+  λ owed. rw h (p.3 (m.sign mark.Else ∷ m.sign mark.BraceOpen ∷ m.statements ∷ m.sign mark.Semicolon ∷ owed) ∙ q.3 (m.sign mark.BraceOpen ∷ m.statements ∷ m.sign mark.Semicolon ∷ owed) ∙ u.3 (m.sign mark.Semicolon ∷ owed) ∙ v.3 owed),
+)
+
+pub wait_parsed : (at wait_at signal_at name_at : ℕ) (x n : Bytes) (ts r1 r2 end : List Lexeme) (s : tree.Statement) → Marked mark.Signal ts signal_at r1 → r1 ≡ named name_at n ∷ r2 → IsWaitTail at x name_at n r2 s end → IsSide at x (marked wait_at mark.Wait ∷ ts) s end
+wait_parsed at wait_at signal_at name_at x n ts r1 r2 end s p h q = (
   wait wait_at p.0 name_at n q.0,
   ap (λ y. marked wait_at mark.Wait ∷ y) (ap (λ y. marked p.0 mark.Signal ∷ y) (ap (λ y. named name_at n ∷ y) q.1 ∙ sym h) ∙ p.1),
-  refl,
-  λ owed. p.3 (m.name ∷ m.sign mark.Semicolon ∷ owed) ∙ ap (fault (m.name ∷ m.sign mark.Semicolon ∷ owed)) h ∙ q.3 owed,
+  q.2,
+  λ owed. p.3 (m.name ∷ m.wait_tail ∷ owed) ∙ ap (fault (m.name ∷ m.wait_tail ∷ owed)) h ∙ q.3 owed,
 )
+
+pub wait_stops : (wait_at signal_at name_at : ℕ) (n : Bytes) (ts r1 r2 : List Lexeme) → Marked mark.Signal ts signal_at r1 → r1 ≡ named name_at n ∷ r2 → (owed : List Symbol) → fault (m.side ∷ owed) (marked wait_at mark.Wait ∷ ts) ≡ fault (m.wait_tail ∷ owed) r2
+wait_stops wait_at signal_at name_at n ts r1 r2 p h owed = p.3 (m.name ∷ m.wait_tail ∷ owed) ∙ ap (fault (m.name ∷ m.wait_tail ∷ owed)) h
 
 pub side_is : (owed : List Symbol) (ts : List Lexeme) → Lacks mark.Call ts → Lacks mark.Wait ts → fault (m.side ∷ owed) ts ≡ fault (m.expr ∷ m.sign mark.Semicolon ∷ owed) ts
 side_is owed ts g h = is_then m.expr m.side (m.sign mark.Semicolon ∷ []) refl refl owed ts (side_same ts g h)
@@ -207,12 +259,134 @@ value_parsed at end_at x ts r1 end e g h q r = (
   λ owed. side_is owed ts g h ∙ q.3 (m.sign mark.Semicolon ∷ owed) ∙ r.3 owed,
 )
 
-pub assign_parsed : (at eq : ℕ) (x : Bytes) (ts r1 r2 end : List Lexeme) (s : tree.Statement) → ts ≡ named at x ∷ r1 → Marked mark.Assign r1 eq r2 → IsSide at x r2 s end → Parsed m.statement statement_tokens statement_of ts s end
-assign_parsed at eq x ts r1 r2 end s h p q = (
+-- statements that begin with a name
+
+pub target_read : (at eq : ℕ) (x : Bytes) (ts r1 r2 : List Lexeme) → ts ≡ named at x ∷ r1 → Marked mark.Assign r1 eq r2 → IsTarget ts at x r2
+target_read at eq x ts r1 r2 h p = (p.0, h ∙ ap (λ y. named at x ∷ y) (sym p.1))
+
+pub target_is : (at : ℕ) (x : Bytes) (ts rest : List Lexeme) → IsTarget ts at x rest → (owed : List Symbol) → fault (m.statement ∷ owed) ts ≡ fault (m.side ∷ owed) rest
+target_is at x ts rest p owed = rw p.1 refl
+
+pub assign_parsed : (at : ℕ) (x : Bytes) (ts rest end : List Lexeme) (s : tree.Statement) → IsTarget ts at x rest → IsSide at x rest s end → Parsed m.statement statement_tokens statement_of ts s end
+assign_parsed at x ts rest end s p q = (
   assign at x p.0 q.0,
-  ap (λ y. named at x ∷ y) (ap (λ y. marked p.0 mark.Assign ∷ y) q.1 ∙ p.1) ∙ sym h,
+  ap (λ y. named at x ∷ marked p.0 mark.Assign ∷ y) q.1 ∙ sym p.1,
   q.2,
-  λ owed. rw h (p.3 (m.side ∷ owed) ∙ q.3 owed),
+  λ owed. target_is at x ts rest p owed ∙ q.3 owed,
+)
+
+-- statements with lists in braces
+
+pub while_parsed : (at brace : ℕ) (ts r1 end : List Lexeme) (e : tree.Expression) (b : tree.Block × ℕ) → IsExpr ts e r1 → IsBlock r1 brace b end → Parsed m.statement statement_tokens statement_of (marked at mark.While ∷ ts) (tree.While at e b.0 b.1) end
+while_parsed at brace ts r1 end e b p q = (
+  while_ at p.0 brace q.0,
+  ap (λ y. marked at mark.While ∷ y) (append_assoc (expr_tokens p.0) (marked brace mark.BraceOpen ∷ statements_tokens q.0) end ∙ ap (λ y. expr_tokens p.0 ++ y) q.1 ∙ p.1),
+  ap (λ f. tree.While at f (statements_of q.0) (statements_end q.0)) p.2 ∙ ap (λ (v : tree.Block × ℕ). tree.While at e v.0 v.1) q.2,
+  λ owed. p.3 (m.sign mark.BraceOpen ∷ m.statements ∷ owed) ∙ q.3 owed,
+)
+
+-- branches before others
+abbrev pub before_branches : List (ℕ × Braced) → tree.Branches → tree.Branches
+before_branches [] b = b
+before_branches (x ∷ xs) b = tree.Branch x.0 x.1.0 x.1.1 (before_branches xs b)
+
+before_another : (xs : List (ℕ × Braced)) (x : ℕ × Braced) (b : tree.Branches) → before_branches xs (tree.Branch x.0 x.1.0 x.1.1 b) ≡ before_branches (xs ++ (x ∷ [])) b
+before_another [] x b = refl
+before_another (y ∷ ys) x b = ap (tree.Branch y.0 y.1.0 y.1.1) (before_another ys x b)
+
+before_none : (xs : List (ℕ × Braced)) → before_branches xs tree.NoBranch ≡ shown_branches xs
+before_none [] = refl
+before_none (y ∷ ys) = ap (tree.Branch y.0 y.1.0 y.1.1) (before_none ys)
+
+abbrev pub BranchesSoFar : List Lexeme → List (ℕ × Braced) → List Lexeme → Type 0
+BranchesSoFar ts bs rest = SoFar branches_tokens branches_tokens branches_of (λ more. before_branches bs (branches_of more)) ts rest
+
+pub branches_begin : (ts : List Lexeme) → BranchesSoFar ts [] ts
+branches_begin ts = λ more end h. (more, h, refl)
+
+not_shut : (k : Word) → (k ≡ word.Mark mark.BraceClose → ⊥) → takes m.more_branches k ≡ then_more (takes (m.sign mark.BraceOpen) k) (m.statements ∷ m.more_branches ∷ [])
+not_shut (word.Mark mark.BraceClose) h = absurd (h refl)
+not_shut _ h = refl
+
+branches_same : (ts : List Lexeme) → Lacks mark.BraceClose ts → Same (m.sign mark.BraceOpen) m.more_branches (m.statements ∷ m.more_branches ∷ []) ts
+branches_same [] h = tt
+branches_same (t ∷ ts) h = not_shut t.word h
+
+pub branches_is : (owed : List Symbol) (ts : List Lexeme) → Lacks mark.BraceClose ts → fault (m.more_branches ∷ owed) ts ≡ fault (in_braces ++ (m.more_branches ∷ owed)) ts
+branches_is owed ts h = is_then (m.sign mark.BraceOpen) m.more_branches (m.statements ∷ m.more_branches ∷ []) refl refl owed ts (branches_same ts h)
+
+pub branches_more : (ts rest next : List Lexeme) (bs : List (ℕ × Braced)) (at : ℕ) (b : tree.Block × ℕ) → BranchesSoFar ts bs rest → IsBlock rest at b next → BranchesSoFar ts (bs ++ ((at, b) ∷ [])) next
+branches_more ts rest next bs at b so p = λ more end g.
+    let r = so (branch at p.0 more) end (ap (λ v. marked at mark.BraceOpen ∷ v) (append_assoc (statements_tokens p.0) (branches_tokens more) end ∙ ap (λ v. statements_tokens p.0 ++ v) g) ∙ p.1) in
+    (r.0, r.1, r.2 ∙ ap (λ (v : tree.Block × ℕ). before_branches bs (tree.Branch at v.0 v.1 (branches_of more))) p.2 ∙ before_another bs (at, b) (branches_of more))
+
+pub branches_close : (at : ℕ) (ts rest end : List Lexeme) (bs : List (ℕ × Braced)) → BranchesSoFar ts bs rest → ((owed : List Symbol) → fault (m.more_branches ∷ owed) ts ≡ fault (m.more_branches ∷ owed) rest) → rest ≡ marked at mark.BraceClose ∷ end → Parsed m.more_branches branches_tokens branches_of ts (shown_branches bs) end
+branches_close at ts rest end bs so f h = let r = so (no_branch at) end (sym h) in (r.0, r.1, r.2 ∙ before_none bs, λ owed. f owed ∙ ap (fault (m.more_branches ∷ owed)) h)
+
+pub parallel_parsed : (at brace first : ℕ) (ts r1 r2 end : List Lexeme) (b : tree.Block × ℕ) (bs : tree.Branches) → Marked mark.BraceOpen ts brace r1 → IsBlock r1 first b r2 → Parsed m.more_branches branches_tokens branches_of r2 bs end → Parsed m.statement statement_tokens statement_of (marked at mark.Parallel ∷ ts) (tree.Parallel at (tree.Branch first b.0 b.1 bs)) end
+parallel_parsed at brace first ts r1 r2 end b bs p q r = (
+  parallel at p.0 first q.0 r.0,
+  ap (λ y. marked at mark.Parallel ∷ y) (ap (λ y. marked p.0 mark.BraceOpen ∷ y) (ap (λ y. marked first mark.BraceOpen ∷ y) (append_assoc (statements_tokens q.0) (branches_tokens r.0) end ∙ ap (λ y. statements_tokens q.0 ++ y) r.1) ∙ q.1) ∙ p.1),
+  ap (λ (v : tree.Block × ℕ). tree.Parallel at (tree.Branch first v.0 v.1 (branches_of r.0))) q.2 ∙ ap (λ y. tree.Parallel at (tree.Branch first b.0 b.1 y)) r.2,
+  λ owed. p.3 (m.sign mark.BraceOpen ∷ m.statements ∷ m.more_branches ∷ owed) ∙ q.3 (m.more_branches ∷ owed) ∙ r.3 owed,
+)
+
+-- `if` and `patch`
+
+pub choice_alone : (brace : ℕ) (ts rest : List Lexeme) (a : tree.Block × ℕ) → IsBlock ts brace a rest → Lacks mark.Else rest → IsChoice ts a (tree.End, a.1) rest
+choice_alone brace ts rest a p h = (
+  λ more end g. (brace, p.0, without more, ap (λ y. marked brace mark.BraceOpen ∷ (statements_tokens p.0 ++ y)) g ∙ p.1, p.2, ap (λ (v : tree.Block × ℕ). (tree.End, v.1)) p.2, refl),
+  λ owed. p.3 (m.after_choice ∷ owed) ∙ after_choice_is owed rest h,
+)
+
+pub choice_both : (brace at other : ℕ) (ts r1 r2 rest : List Lexeme) (a b : tree.Block × ℕ) → IsBlock ts brace a r1 → r1 ≡ marked at mark.Else ∷ r2 → IsBlock r2 other b rest → IsChoice ts a b rest
+choice_both brace at other ts r1 r2 rest a b p h q = (
+  λ more end g. (
+    brace,
+    p.0,
+    otherwise at other q.0 more,
+    ap (λ y. marked brace mark.BraceOpen ∷ (statements_tokens p.0 ++ y)) (ap (λ y. marked at mark.Else ∷ y) (ap (λ y. marked other mark.BraceOpen ∷ y) (append_assoc (statements_tokens q.0) (statements_tokens more) end ∙ ap (λ y. statements_tokens q.0 ++ y) g) ∙ q.1) ∙ sym h) ∙ p.1,
+    p.2,
+    q.2,
+    refl,
+  ),
+  λ owed. p.3 (m.after_choice ∷ owed) ∙ ap (fault (m.after_choice ∷ owed)) h ∙ q.3 (m.statements ∷ owed),
+)
+
+pub if_member : (at : ℕ) (ts r1 r2 rest : List Lexeme) (e : tree.Expression) (a b : tree.Block × ℕ) → ts ≡ marked at mark.If ∷ r1 → IsExpr r1 e r2 → IsChoice r2 a b rest → IsMember ts (tree.If at e a.0 a.1 b.0 b.1) rest
+if_member at ts r1 r2 rest e a b h p q = (
+  λ more end g.
+      let v = q.0 more end g in (
+        if_ at p.0 v.0 v.1 v.2,
+        ap (λ y. marked at mark.If ∷ y) (append_assoc (expr_tokens p.0) (marked v.0 mark.BraceOpen ∷ (statements_tokens v.1 ++ choice_tokens v.2)) end ∙ ap (λ y. expr_tokens p.0 ++ (marked v.0 mark.BraceOpen ∷ y)) (append_assoc (statements_tokens v.1) (choice_tokens v.2) end) ∙ ap (λ y. expr_tokens p.0 ++ y) v.3 ∙ p.1) ∙ sym h,
+        ap (λ f. (tree.Next (tree.If at f (statements_of v.1) (statements_end v.1) (second_of v.2) (second_end (statements_end v.1) v.2)) (behind_choice v.2), choice_end v.2)) p.2
+            ∙ ap (λ (w : tree.Block × ℕ). (tree.Next (tree.If at e w.0 w.1 (second_of v.2) (second_end (statements_end v.1) v.2)) (behind_choice v.2), choice_end v.2)) v.4
+            ∙ ap (λ (w : tree.Block × ℕ). (tree.Next (tree.If at e a.0 a.1 w.0 w.1) (behind_choice v.2), choice_end v.2)) v.5
+            ∙ ap (λ (w : tree.Block × ℕ). (tree.Next (tree.If at e a.0 a.1 b.0 b.1) w.0, w.1)) v.6,
+      ),
+  λ owed. ap (fault (m.statements ∷ owed)) h ∙ p.3 (m.sign mark.BraceOpen ∷ m.statements ∷ m.after_choice ∷ owed) ∙ q.1 owed,
+)
+
+pub patch_is : (at id_at : ℕ) (id : Bytes) (ts r1 r2 : List Lexeme) → ts ≡ marked at mark.Patch ∷ r1 → IsPatchId r1 id_at id r2 → (owed : List Symbol) → fault (m.statements ∷ owed) ts ≡ fault (m.sign mark.BraceOpen ∷ m.statements ∷ m.after_choice ∷ owed) r2
+patch_is at id_at id ts r1 r2 h p owed = ap (fault (m.statements ∷ owed)) h ∙ ap (fault (m.patch_id ∷ m.sign mark.BraceOpen ∷ m.statements ∷ m.after_choice ∷ owed)) p.1 ∙ patch_id_step id_at id (m.sign mark.BraceOpen ∷ m.statements ∷ m.after_choice ∷ owed) r2 p.0
+
+pub patch_member : (at id_at : ℕ) (id : Bytes) (ts r1 r2 rest : List Lexeme) (a b : tree.Block × ℕ) → ts ≡ marked at mark.Patch ∷ r1 → IsPatchId r1 id_at id r2 → IsChoice r2 a b rest → IsMember ts (tree.Patch at id_at id a.0 a.1 b.0 b.1) rest
+patch_member at id_at id ts r1 r2 rest a b h p q = (
+  λ more end g.
+      let v = q.0 more end g in (
+        patch at id_at id p.0 v.0 v.1 v.2,
+        ap (λ y. marked at mark.Patch ∷ y) (ap (λ y. worded id_at id ∷ marked v.0 mark.BraceOpen ∷ y) (append_assoc (statements_tokens v.1) (choice_tokens v.2) end) ∙ ap (λ y. worded id_at id ∷ y) v.3 ∙ sym p.1) ∙ sym h,
+        ap (λ (w : tree.Block × ℕ). (tree.Next (tree.Patch at id_at id w.0 w.1 (second_of v.2) (second_end (statements_end v.1) v.2)) (behind_choice v.2), choice_end v.2)) v.4
+            ∙ ap (λ (w : tree.Block × ℕ). (tree.Next (tree.Patch at id_at id a.0 a.1 w.0 w.1) (behind_choice v.2), choice_end v.2)) v.5
+            ∙ ap (λ (w : tree.Block × ℕ). (tree.Next (tree.Patch at id_at id a.0 a.1 b.0 b.1) w.0, w.1)) v.6,
+      ),
+  λ owed. patch_is at id_at id ts r1 r2 h p owed ∙ q.1 owed,
+)
+
+pub plain_member : (ts rest : List Lexeme) (s : tree.Statement) → Lacks mark.BraceClose ts → Lacks mark.If ts → Lacks mark.Patch ts → Parsed m.statement statement_tokens statement_of ts s rest → IsMember ts s rest
+plain_member ts rest s f g h p = (
+  λ more end e. (statement p.0 more, append_assoc (statement_tokens p.0) (statements_tokens more) end ∙ ap (λ y. statement_tokens p.0 ++ y) e ∙ p.1, ap (λ y. (tree.Next y (statements_of more), statements_end more)) p.2),
+  λ owed. statements_is owed ts f g h ∙ p.3 (m.statements ∷ owed),
 )
 
 -- lists of statements
@@ -236,11 +410,11 @@ StatementsSoFar ts ss rest = SoFar statements_tokens statements_tokens end_of (�
 pub statements_begin : (ts : List Lexeme) → StatementsSoFar ts [] ts
 statements_begin ts = λ more end h. (more, h, refl)
 
-pub statements_is : (owed : List Symbol) (ts : List Lexeme) → Lacks mark.BraceClose ts → fault (m.statements ∷ owed) ts ≡ fault (m.statement ∷ m.statements ∷ owed) ts
-statements_is owed ts h = is_then m.statement m.statements (m.statements ∷ []) refl refl owed ts (statements_same ts h)
-
-pub statements_more : (ts rest next : List Lexeme) (ss : List tree.Statement) (s : tree.Statement) → StatementsSoFar ts ss rest → Parsed m.statement statement_tokens statement_of rest s next → StatementsSoFar ts (ss ++ (s ∷ [])) next
-statements_more ts rest next ss s so p = so_next m.statement statement_tokens statement_of statements_tokens statements_tokens end_of (λ zs more. (before_block zs (statements_of more), statements_end more)) (λ zs v. zs ++ (v ∷ [])) statement (λ q more. refl) ss (λ q more. ap (λ b. (b, statements_end more)) (before_more ss (statement_of q) (statements_of more))) ts rest next s so p
+pub statements_more : (ts rest next : List Lexeme) (ss : List tree.Statement) (s : tree.Statement) → StatementsSoFar ts ss rest → IsMember rest s next → StatementsSoFar ts (ss ++ (s ∷ [])) next
+statements_more ts rest next ss s so p = λ more end g.
+    let v = p.0 more end g in
+    let r = so v.0 end v.1 in
+    (r.0, r.1, r.2 ∙ ap (λ (w : tree.Block × ℕ). (before_block ss w.0, w.1)) v.2 ∙ ap (λ b. (b, statements_end more)) (before_more ss s (statements_of more)))
 
 pub statements_close : (at : ℕ) (ts rest end : List Lexeme) (ss : List tree.Statement) → StatementsSoFar ts ss rest → ((owed : List Symbol) → fault (m.statements ∷ owed) ts ≡ fault (m.statements ∷ owed) rest) → rest ≡ marked at mark.BraceClose ∷ end → Parsed m.statements statements_tokens end_of ts (block_of ss, at) end
 statements_close at ts rest end ss so f h = let r = so (no_statement at) end (sym h) in (r.0, r.1, r.2 ∙ ap (λ b. (b, at)) (before_end ss), λ owed. f owed ∙ ap (fault (m.statements ∷ owed)) h)

@@ -4,8 +4,6 @@ use Rattle.std.proofs.lemmas.Bool.Decides.{nat_tests}
 use Rattle.std.proofs.lemmas.List.{append-nil}
 use Rattle.flow_base.specs.Syntax as tree
 use Rattle.flow_base.specs.Syntax.{Bytes}
-use Rattle.flow_base.specs.Shown.{shown_program}
-use Rattle.flow_base.specs.declared.syntax.Program.{Program}
 use Rattle.flow_base.specs.declared.token.Word.{Word}
 use Rattle.flow_base.specs.declared.token.Word.TheVariants as word
 use Rattle.flow_base.specs.declared.token.Token.{Token}
@@ -14,7 +12,7 @@ use Rattle.flow_model.specs.Grammar.{program_tokens, Reads}
 use Rattle.flow_model.specs.Limits.{brackets_after, operators_after, WithinFrom, Within}
 use Rattle.flow_model.specs.Tokens.{is_plain, Writes, nothing, itself, escape, Spells, Reads as Tokenized, past_gap}
 use Rattle.flow_model.specs.Meaning.{IsProgramOf}
-use Rattle.flow_syntax.specs.Print.{words_of, program_words, joined, IsWritable, AllWritable, IsPrintable, ArePrintable, HasTokens, IsProgramAgain, HasLeastWords}
+use Rattle.flow_syntax.specs.Print.{words_of, AreReadable, program_words, joined, IsWritable, AllWritable, IsPrintable, ArePrintable, HasTokens, IsProgramAgain, HasLeastWords}
 use Rattle.flow_syntax.proofs.Fewer.{Good, Fewer}
 use Rattle.flow_syntax.proofs.FewerParentheses.{program_fewer}
 use Rattle.flow_syntax.proofs.BareWords.{same_words}
@@ -79,12 +77,12 @@ pub program_printable : (source : Bytes) (p : tree.Program) → IsProgramOf sour
 program_printable source p h = good_printable 0 0 (program_words p) (program_good source p h)
 
 -- the printed text is a text of the program
-pub program_again : (p : Program) (source text : Bytes) → text ≡ joined (program_words (shown_program p)) → IsProgramOf source (shown_program p) → length text ≤ 65536 → IsProgramAgain text (shown_program p)
-program_again p source text is h short =
-    let ws : List Word = program_words (shown_program p) in
-    let g : Good 0 0 ws = program_good source (shown_program p) h in
-    let found : HasTokens text ws = subst (λ v. HasTokens v ws) (sym is) (program_scanned (shown_program p) (good_printable 0 0 ws g)) in
-    let read = program_read p (lexemes found.0) found.2 in
+pub program_again : (p : tree.Program) → AreReadable p.body → (source text : Bytes) → text ≡ joined (program_words p) → IsProgramOf source p → length text ≤ 65536 → IsProgramAgain text p
+program_again p can source text is h short =
+    let ws : List Word = program_words p in
+    let g : Good 0 0 ws = program_good source p h in
+    let found : HasTokens text ws = subst (λ v. HasTokens v ws) (sym is) (program_scanned p (good_printable 0 0 ws g)) in
+    let read = program_read p can (lexemes found.0) found.2 in
     let within : Within (lexemes found.0) = good_within 0 0 (lexemes found.0) (subst (Good 0 0) (sym found.2) g) in
     (read.0, (short, found.0, found.1, read.1, within), read.2)
 

@@ -3,9 +3,6 @@ use Rattle.std.proofs.Common.{◌≡◌, ◌∙◌, ℕ, ℤ, List, [], ◌∷�
 use Rattle.std.proofs.lemmas.List.{append-nil}
 use Rattle.flow_base.specs.Syntax as tree
 use Rattle.flow_base.specs.Bare.{bare_expression}
-use Rattle.flow_base.specs.Shown.{shown_expr}
-use Rattle.flow_base.specs.declared.syntax.Expr.{Expr}
-use Rattle.flow_base.specs.declared.syntax.Expr.TheVariants as code
 use Rattle.flow_base.specs.declared.token.Word.{Word}
 use Rattle.flow_base.specs.declared.token.Word.TheVariants as word
 use Rattle.flow_base.specs.declared.token.Mark.TheVariants as mark
@@ -433,37 +430,34 @@ name_read at x ts h = let t = only (word.Name x) ts h in (name t.0 x, sym t.1, r
 now_read : (at : ℕ) → Read IsPrim (word.Mark mark.Now ∷ []) (tree.Now at)
 now_read at ts h = let t = only (word.Mark mark.Now) ts h in (now t.0, sym t.1, refl)
 
-abbrev words : Expr → List Word
-words e = expression_words (shown_expr e)
-
 -- what the operator's left and right operand print as
-abbrev put : Expr → ℕ → List Word
-put e wanted = fitted (level (shown_expr e)) wanted (words e)
+abbrev put : tree.Expression → ℕ → List Word
+put e wanted = fitted (level e) wanted (expression_words e)
 
-pub operands : (e : Expr) → Operands (shown_expr e) (level (shown_expr e)) (words e)
-operands (code.Int at z) = from_prim (word.Int z ∷ []) (tree.Number at z) (int_read at z)
-operands (code.Text at t) = from_prim (word.Text t ∷ []) (tree.Literal at t) (text_read at t)
-operands (code.Var at x) = from_prim (word.Name x ∷ []) (tree.Variable at x) (name_read at x)
-operands (code.Now at) = from_prim (word.Mark mark.Now ∷ []) (tree.Now at) (now_read at)
-operands (code.Unary' at unary.Not p a) = from_neg (word.Mark mark.Not ∷ put a 2) (shown_expr (code.Unary' at unary.Not p a)) (not_read (put a 2) (shown_expr a) at (operands a).as_neg)
-operands (code.Unary' at unary.Negate p a) = from_unary (word.Mark mark.Minus ∷ put a 6) (shown_expr (code.Unary' at unary.Negate p a)) (negate_read (put a 6) (shown_expr a) at (operands a).as_unary)
-operands (code.Unary' at unary.TextOf p a) = from_prim (word.Mark mark.Text ∷ in_parentheses (words a)) (shown_expr (code.Unary' at unary.TextOf p a)) (text_of_read (words a) (shown_expr a) at (operands a).on_its_own)
-operands (code.Unary' at unary.Length p a) = from_prim (word.Mark mark.Len ∷ in_parentheses (words a)) (shown_expr (code.Unary' at unary.Length p a)) (len_of_read (words a) (shown_expr a) at (operands a).on_its_own)
-operands (code.Binary' binary.Or p a q b) = from_expr (put a 0 ++ (word.Mark mark.Or ∷ put b 1)) (shown_expr (code.Binary' binary.Or p a q b)) (expr_read (put a 0) (put b 1) (shown_expr a) (shown_expr b) (operands a).as_expr (operands b).as_conj)
-operands (code.Binary' binary.And p a q b) = from_conj (put a 1 ++ (word.Mark mark.And ∷ put b 2)) (shown_expr (code.Binary' binary.And p a q b)) (conj_read (put a 1) (put b 2) (shown_expr a) (shown_expr b) (operands a).as_conj (operands b).as_neg)
-operands (code.Binary' binary.Equal p a q b) = from_compare (put a 4 ++ (word.Mark mark.Equal ∷ put b 4)) (shown_expr (code.Binary' binary.Equal p a q b)) (compare_read (put a 4) (put b 4) (shown_expr a) (shown_expr b) equal (operands a).as_sum (operands b).as_sum)
-operands (code.Binary' binary.Differ p a q b) = from_compare (put a 4 ++ (word.Mark mark.Differ ∷ put b 4)) (shown_expr (code.Binary' binary.Differ p a q b)) (compare_read (put a 4) (put b 4) (shown_expr a) (shown_expr b) differ (operands a).as_sum (operands b).as_sum)
-operands (code.Binary' binary.Less p a q b) = from_compare (put a 4 ++ (word.Mark mark.Less ∷ put b 4)) (shown_expr (code.Binary' binary.Less p a q b)) (compare_read (put a 4) (put b 4) (shown_expr a) (shown_expr b) less (operands a).as_sum (operands b).as_sum)
-operands (code.Binary' binary.AtMost p a q b) = from_compare (put a 4 ++ (word.Mark mark.AtMost ∷ put b 4)) (shown_expr (code.Binary' binary.AtMost p a q b)) (compare_read (put a 4) (put b 4) (shown_expr a) (shown_expr b) at_most (operands a).as_sum (operands b).as_sum)
-operands (code.Binary' binary.Greater p a q b) = from_compare (put a 4 ++ (word.Mark mark.Greater ∷ put b 4)) (shown_expr (code.Binary' binary.Greater p a q b)) (compare_read (put a 4) (put b 4) (shown_expr a) (shown_expr b) greater (operands a).as_sum (operands b).as_sum)
-operands (code.Binary' binary.AtLeast p a q b) = from_compare (put a 4 ++ (word.Mark mark.AtLeast ∷ put b 4)) (shown_expr (code.Binary' binary.AtLeast p a q b)) (compare_read (put a 4) (put b 4) (shown_expr a) (shown_expr b) at_least (operands a).as_sum (operands b).as_sum)
-operands (code.Binary' binary.Add p a q b) = from_sum (put a 4 ++ (word.Mark mark.Plus ∷ put b 5)) (shown_expr (code.Binary' binary.Add p a q b)) (sum_read (put a 4) (put b 5) (shown_expr a) (shown_expr b) plus (operands a).as_sum (operands b).as_term)
-operands (code.Binary' binary.Subtract p a q b) = from_sum (put a 4 ++ (word.Mark mark.Minus ∷ put b 5)) (shown_expr (code.Binary' binary.Subtract p a q b)) (sum_read (put a 4) (put b 5) (shown_expr a) (shown_expr b) minus (operands a).as_sum (operands b).as_term)
-operands (code.Binary' binary.Join p a q b) = from_sum (put a 4 ++ (word.Mark mark.Join ∷ put b 5)) (shown_expr (code.Binary' binary.Join p a q b)) (sum_read (put a 4) (put b 5) (shown_expr a) (shown_expr b) join (operands a).as_sum (operands b).as_term)
-operands (code.Binary' binary.Multiply p a q b) = from_term (put a 5 ++ (word.Mark mark.Times ∷ put b 6)) (shown_expr (code.Binary' binary.Multiply p a q b)) (term_read (put a 5) (put b 6) (shown_expr a) (shown_expr b) times (operands a).as_term (operands b).as_unary)
-operands (code.Binary' binary.Divide p a q b) = from_term (put a 5 ++ (word.Mark mark.Over ∷ put b 6)) (shown_expr (code.Binary' binary.Divide p a q b)) (term_read (put a 5) (put b 6) (shown_expr a) (shown_expr b) over (operands a).as_term (operands b).as_unary)
-operands (code.Binary' binary.Remain p a q b) = from_term (put a 5 ++ (word.Mark mark.Percent ∷ put b 6)) (shown_expr (code.Binary' binary.Remain p a q b)) (term_read (put a 5) (put b 6) (shown_expr a) (shown_expr b) percent (operands a).as_term (operands b).as_unary)
+pub operands : (e : tree.Expression) → Operands e (level e) (expression_words e)
+operands (tree.Number at z) = from_prim (word.Int z ∷ []) (tree.Number at z) (int_read at z)
+operands (tree.Literal at t) = from_prim (word.Text t ∷ []) (tree.Literal at t) (text_read at t)
+operands (tree.Variable at x) = from_prim (word.Name x ∷ []) (tree.Variable at x) (name_read at x)
+operands (tree.Now at) = from_prim (word.Mark mark.Now ∷ []) (tree.Now at) (now_read at)
+operands (tree.Apply at unary.Not a) = from_neg (word.Mark mark.Not ∷ put a 2) (tree.Apply at unary.Not a) (not_read (put a 2) a at (operands a).as_neg)
+operands (tree.Apply at unary.Negate a) = from_unary (word.Mark mark.Minus ∷ put a 6) (tree.Apply at unary.Negate a) (negate_read (put a 6) a at (operands a).as_unary)
+operands (tree.Apply at unary.TextOf a) = from_prim (word.Mark mark.Text ∷ in_parentheses (expression_words a)) (tree.Apply at unary.TextOf a) (text_of_read (expression_words a) a at (operands a).on_its_own)
+operands (tree.Apply at unary.Length a) = from_prim (word.Mark mark.Len ∷ in_parentheses (expression_words a)) (tree.Apply at unary.Length a) (len_of_read (expression_words a) a at (operands a).on_its_own)
+operands (tree.Combine binary.Or a b) = from_expr (put a 0 ++ (word.Mark mark.Or ∷ put b 1)) (tree.Combine binary.Or a b) (expr_read (put a 0) (put b 1) a b (operands a).as_expr (operands b).as_conj)
+operands (tree.Combine binary.And a b) = from_conj (put a 1 ++ (word.Mark mark.And ∷ put b 2)) (tree.Combine binary.And a b) (conj_read (put a 1) (put b 2) a b (operands a).as_conj (operands b).as_neg)
+operands (tree.Combine binary.Equal a b) = from_compare (put a 4 ++ (word.Mark mark.Equal ∷ put b 4)) (tree.Combine binary.Equal a b) (compare_read (put a 4) (put b 4) a b equal (operands a).as_sum (operands b).as_sum)
+operands (tree.Combine binary.Differ a b) = from_compare (put a 4 ++ (word.Mark mark.Differ ∷ put b 4)) (tree.Combine binary.Differ a b) (compare_read (put a 4) (put b 4) a b differ (operands a).as_sum (operands b).as_sum)
+operands (tree.Combine binary.Less a b) = from_compare (put a 4 ++ (word.Mark mark.Less ∷ put b 4)) (tree.Combine binary.Less a b) (compare_read (put a 4) (put b 4) a b less (operands a).as_sum (operands b).as_sum)
+operands (tree.Combine binary.AtMost a b) = from_compare (put a 4 ++ (word.Mark mark.AtMost ∷ put b 4)) (tree.Combine binary.AtMost a b) (compare_read (put a 4) (put b 4) a b at_most (operands a).as_sum (operands b).as_sum)
+operands (tree.Combine binary.Greater a b) = from_compare (put a 4 ++ (word.Mark mark.Greater ∷ put b 4)) (tree.Combine binary.Greater a b) (compare_read (put a 4) (put b 4) a b greater (operands a).as_sum (operands b).as_sum)
+operands (tree.Combine binary.AtLeast a b) = from_compare (put a 4 ++ (word.Mark mark.AtLeast ∷ put b 4)) (tree.Combine binary.AtLeast a b) (compare_read (put a 4) (put b 4) a b at_least (operands a).as_sum (operands b).as_sum)
+operands (tree.Combine binary.Add a b) = from_sum (put a 4 ++ (word.Mark mark.Plus ∷ put b 5)) (tree.Combine binary.Add a b) (sum_read (put a 4) (put b 5) a b plus (operands a).as_sum (operands b).as_term)
+operands (tree.Combine binary.Subtract a b) = from_sum (put a 4 ++ (word.Mark mark.Minus ∷ put b 5)) (tree.Combine binary.Subtract a b) (sum_read (put a 4) (put b 5) a b minus (operands a).as_sum (operands b).as_term)
+operands (tree.Combine binary.Join a b) = from_sum (put a 4 ++ (word.Mark mark.Join ∷ put b 5)) (tree.Combine binary.Join a b) (sum_read (put a 4) (put b 5) a b join (operands a).as_sum (operands b).as_term)
+operands (tree.Combine binary.Multiply a b) = from_term (put a 5 ++ (word.Mark mark.Times ∷ put b 6)) (tree.Combine binary.Multiply a b) (term_read (put a 5) (put b 6) a b times (operands a).as_term (operands b).as_unary)
+operands (tree.Combine binary.Divide a b) = from_term (put a 5 ++ (word.Mark mark.Over ∷ put b 6)) (tree.Combine binary.Divide a b) (term_read (put a 5) (put b 6) a b over (operands a).as_term (operands b).as_unary)
+operands (tree.Combine binary.Remain a b) = from_term (put a 5 ++ (word.Mark mark.Percent ∷ put b 6)) (tree.Combine binary.Remain a b) (term_read (put a 5) (put b 6) a b percent (operands a).as_term (operands b).as_unary)
 
 -- tokens of what is printed of an expression are read as it, up to places
-pub expression_read : (e : Expr) → Read IsExpr (words e) (shown_expr e)
+pub expression_read : (e : tree.Expression) → Read IsExpr (expression_words e) e
 expression_read e = (operands e).on_its_own

@@ -1,5 +1,5 @@
 -- What is written of a program's words, token by token.
-use Rattle.std.proofs.Common.{◌≡◌, ℕ, pos, suc, ◌+◌, ◌<◌, ◌≤◌, ◌==◌, ◌&&◌, Bool, true, false, if◌then◌else◌, List, [], ◌∷◌, ◌++◌, length, map, drop, get_or, add-one, drop-cons, append_assoc, append-nil, sym, ap, ◌∙◌, refl, arith}
+use Rattle.std.proofs.Common.{rules, Vec, ◌≡◌, ℕ, pos, suc, ◌+◌, ◌<◌, ◌≤◌, ◌==◌, ◌&&◌, Bool, true, false, if◌then◌else◌, List, [], ◌∷◌, ◌++◌, length, map, drop, get_or, add-one, drop-cons, append_assoc, append-nil, sym, ap, ◌∙◌, refl, arith}
 use Rattle.std.proofs.lemmas.List.{drop_all, nil_from_length}
 use Rattle.std.proofs.lemmas.Bool.{and_parts}
 use Rattle.std.proofs.lemmas.Bool.Decides.{nat_tests}
@@ -10,9 +10,16 @@ use Rattle.flow_base.specs.declared.syntax.Retry.{Retry}
 use Rattle.flow_base.specs.declared.token.Mark as declared
 use Rattle.flow_base.specs.declared.token.Mark.TheVariants as mark
 use Rattle.flow_base.specs.declared.token.Word.TheVariants as word
-use Rattle.flow_base.specs.Syntax.{Expression}
+use Rattle.std.specs.declared.alloc.Global.{Global}
+use Rattle.flow_base.specs.declared.syntax.Stmt as stmt
+use Rattle.flow_base.specs.declared.syntax.Block as shown
+use Rattle.flow_base.specs.declared.syntax.Branch.{Branch}
+use Rattle.flow_base.specs.declared.syntax.Expr.{Expr}
+use Rattle.flow_base.specs.Shown.{shown_expr, shown_stmt, shown_braced, shown_branch, branches_of}
+use Rattle.flow_base.specs.Syntax as tree
+use Rattle.flow_base.specs.Syntax.{Expression, Block, End, Next, Statement, block_of}
 use Rattle.flow_base.specs.declared.token.Word.{Word}
-use Rattle.flow_syntax.specs.Print.{written, all_written, spelled_word, spaced, level, left_level, right_level, binary_mark, binary_words, fitted, expression_words, between_commas, retry_words}
+use Rattle.flow_syntax.specs.Print.{written, all_written, spelled_word, spaced, level, left_level, right_level, binary_mark, binary_words, fitted, expression_words, between_commas, retry_words, in_braces, is_end, block_words, else_words}
 
 pub spaced_append : (a b : List Word) → spaced (a ++ b) ≡ spaced a ++ spaced b
 unfolding spaced
@@ -76,6 +83,32 @@ once_means r h =
 
 pub retry_written : (once : Bool) (r : Retry) → once ≡ is_once r → retry_words r ≡ retry_or_none once r
 retry_written once r e = ap (λ b. retry_or_none b r) (sym e)
+
+-- ---- lists of statements
+
+pub none_shown : {A : Type 0} (shown : A → Statement) (xs : List A) → (length xs == 0) ≡ is_end (block_of (map shown xs))
+none_shown shown [] = refl
+none_shown shown (x ∷ xs) = let some : (length (x ∷ xs) == 0) ≡ false = grind (arith, nat_tests) in some
+
+-- a second list is left out where it is empty
+pub no_else : (b : Block) → is_end b ≡ true → else_words b ≡ []
+no_else End h = refl
+no_else (Next s b) h = absurd (cc)
+
+pub some_else : (b : Block) → is_end b ≡ false → else_words b ≡ word.Mark mark.Else ∷ in_braces (block_words b)
+some_else End h = absurd (cc)
+some_else (Next s b) h = refl
+
+-- one level of a statement with two lists or more
+
+pub shown_if : (at : ℕ) (e : Expr) (a b : shown.Block) → shown_stmt (stmt.If at e a b) ≡ tree.If at (shown_expr e) (shown_braced a).0 (shown_braced a).1 (shown_braced b).0 (shown_braced b).1
+shown_if at e a b = search (rules, stmt.the_lemmas)
+
+pub shown_patch : (at id_at : ℕ) (id : List ℕ) (a b : shown.Block) → shown_stmt (stmt.Patch at id_at id a b) ≡ tree.Patch at id_at id (shown_braced a).0 (shown_braced a).1 (shown_braced b).0 (shown_braced b).1
+shown_patch at id_at id a b = search (rules, stmt.the_lemmas)
+
+pub shown_parallel : (at : ℕ) (b : Branch) (bs : Vec Branch Global) → shown_stmt (stmt.Parallel at b bs) ≡ tree.Parallel at (branches_of (shown_branch b ∷ map shown_branch bs.items))
+shown_parallel at b bs = search (rules, stmt.the_lemmas)
 
 -- ---- texts
 

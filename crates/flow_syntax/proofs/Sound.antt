@@ -1,5 +1,5 @@
 -- What the machine still owes can be written, and then stands for a reading.
-use Rattle.std.proofs.Common.{◌≡◌, ◌∙◌, ℕ, ℤ, Bool, true, false, cond, List, [], ◌∷◌, ◌++◌, Option, Some, None, refl, ap, sym, append_assoc, get_or, eqb-true}
+use Rattle.std.proofs.Common.{◌≡◌, ◌∙◌, ℕ, ℤ, Bool, true, false, cond, List, [], ◌∷◌, ◌++◌, Option, Some, None, refl, ap, sym, append_assoc, get_or, eqb-true, IsTrue}
 use Rattle.std.proofs.lemmas.List.{append-nil}
 use Rattle.flow_base.specs.Syntax.{Bytes}
 use Rattle.flow_base.specs.declared.token.Word.{Word}
@@ -8,10 +8,10 @@ use Rattle.flow_base.specs.declared.token.Mark.{Mark}
 use Rattle.flow_base.specs.declared.token.Mark.TheVariants as mark
 use Rattle.flow_base.specs.declared.value.Kind.TheVariants as kind
 use Rattle.flow_model.specs.Lexeme.{Lexeme}
-use Rattle.flow_model.specs.Grammar.{times, over, percent, plus, minus, join, equal, differ, less, at_most, greater, at_least, ParensReading, parens, PrimReading, int, text, name, text_of, len_of, inner, UnaryReading, negate, prim, TermReading, term, TermTail, factor, SumReading, sum, SumTail, added, CompareReading, compare, CompareTail, compared, NegReading, not, plain, ConjReading, conj, ConjTail, and, ExprReading, expr, ExprTail, or, ArgumentsReading, no_argument, argument, ArgumentTail, last_argument, next_argument, TypeReading, typed, TypesReading, no_type, type_, TypeTail, last_type, next_type, ParameterReading, parameter, ParametersReading, no_parameter, parameter_, ParameterTail, last_parameter, next_parameter, DeclarationReading, activity, signal, CallTail, no_retry, retry, SideReading, value, call, wait, StatementReading, let_, assign, sleep, return_, fail, continue_, StatementsReading, no_statement, statement, BodyReading, statements, declaration, ProgramReading, workflow}
+use Rattle.flow_model.specs.Grammar.{times, over, percent, plus, minus, join, equal, differ, less, at_most, greater, at_least, ParensReading, parens, PrimReading, int, text, name, text_of, len_of, inner, UnaryReading, negate, prim, TermReading, term, TermTail, factor, SumReading, sum, SumTail, added, CompareReading, compare, CompareTail, compared, NegReading, not, plain, ConjReading, conj, ConjTail, and, ExprReading, expr, ExprTail, or, ArgumentsReading, no_argument, argument, ArgumentTail, last_argument, next_argument, TypeReading, typed, TypesReading, no_type, type_, TypeTail, last_type, next_type, ParameterReading, parameter, ParametersReading, no_parameter, parameter_, ParameterTail, last_parameter, next_parameter, DeclarationReading, activity, signal, ElseTail, no_else, else_, CallTail, no_retry, retry, WaitTail, for_ever, for_, SideReading, value, call, wait, BranchesReading, no_branch, branch, StatementReading, let_, assign, sleep, while_, parallel, return_, fail, continue_, StatementsReading, no_statement, statement, if_, patch, AfterChoice, otherwise, without, BodyReading, statements, declaration, ProgramReading, workflow}
 use Rattle.flow_model.specs.Grammar as reading
-use Rattle.flow_model.specs.Grammar.{marked, named, numbered, parens_tokens, prim_tokens, unary_tokens, term_tokens, term_tail_tokens, sum_tokens, sum_tail_tokens, compare_tokens, compare_tail_tokens, neg_tokens, conj_tokens, conj_tail_tokens, expr_tokens, expr_tail_tokens, argument_tail_tokens, arguments_tokens, type_tokens, type_tail_tokens, types_tokens, parameter_tokens, parameter_tail_tokens, parameters_tokens, declaration_tokens, call_tail_tokens, side_tokens, statement_tokens, statements_tokens, body_tokens, program_tokens}
-use Rattle.flow_syntax.specs.Machine.{Symbol, takes, then_more, prim_takes, unary_takes, term_takes, sum_takes, compare_takes, neg_takes, conj_takes, expr_takes, arguments_takes, type_takes, types_takes, parameter_takes, parameters_takes, call_tail_takes, side_takes, statement_takes, statements_takes, declaration_takes, body_takes, mark_number, is_mark}
+use Rattle.flow_model.specs.Grammar.{marked, named, numbered, worded, is_patch_id, parens_tokens, prim_tokens, unary_tokens, term_tokens, term_tail_tokens, sum_tokens, sum_tail_tokens, compare_tokens, compare_tail_tokens, neg_tokens, conj_tokens, conj_tail_tokens, expr_tokens, expr_tail_tokens, argument_tail_tokens, arguments_tokens, type_tokens, type_tail_tokens, types_tokens, parameter_tokens, parameter_tail_tokens, parameters_tokens, declaration_tokens, else_tail_tokens, call_tail_tokens, wait_tail_tokens, side_tokens, branches_tokens, statement_tokens, statements_tokens, choice_tokens, body_tokens, program_tokens}
+use Rattle.flow_syntax.specs.Machine.{Symbol, takes, then_more, prim_takes, unary_takes, term_takes, sum_takes, compare_takes, neg_takes, conj_takes, expr_takes, arguments_takes, type_takes, types_takes, parameter_takes, parameters_takes, else_tail_takes, call_tail_takes, wait_tail_takes, side_takes, statement_takes, statements_takes, after_choice_takes, declaration_takes, body_takes, mark_number, is_mark}
 use Rattle.flow_syntax.specs.Machine as m
 
 -- what may stand for a symbol
@@ -42,10 +42,15 @@ Reading m.parameter = ParameterReading
 Reading m.parameters = ParametersReading
 Reading m.more_parameters = ParameterTail
 Reading m.declaration = DeclarationReading
+Reading m.else_tail = ElseTail
 Reading m.call_tail = CallTail
+Reading m.wait_tail = WaitTail
 Reading m.side = SideReading
+Reading m.more_branches = BranchesReading
 Reading m.statement = StatementReading
+Reading m.patch_id = ℕ × (id : Bytes) × IsTrue (is_patch_id id)
 Reading m.statements = StatementsReading
+Reading m.after_choice = AfterChoice
 Reading m.body = BodyReading
 Reading m.program = ProgramReading
 
@@ -76,10 +81,15 @@ spelled m.parameter r = parameter_tokens r
 spelled m.parameters r = parameters_tokens r
 spelled m.more_parameters r = parameter_tail_tokens r
 spelled m.declaration r = declaration_tokens r
+spelled m.else_tail r = else_tail_tokens r
 spelled m.call_tail r = call_tail_tokens r
+spelled m.wait_tail r = wait_tail_tokens r
 spelled m.side r = side_tokens r
+spelled m.more_branches r = branches_tokens r
 spelled m.statement r = statement_tokens r
+spelled m.patch_id x = worded x.0 x.1 ∷ []
 spelled m.statements r = statements_tokens r
+spelled m.after_choice r = choice_tokens r
 spelled m.body r = body_tokens r
 spelled m.program r = program_tokens r
 
@@ -157,6 +167,10 @@ signs : (k n : Mark) (at : ℕ) (b : Bool) → is_mark k n ≡ b → Comes (m.si
 signs k n at true h = λ rs. (at, ap (λ j. marked at j ∷ []) (same_mark k n h))
 signs k n at false h = tt
 
+ids : (at : ℕ) (t : Bytes) (b : Bool) → is_patch_id t ≡ b → Comes m.patch_id (record { at = at; word = word.Text t }) (cond b (Some []) None)
+ids at t true h = λ rs. ((at, t, h), refl)
+ids at t false h = tt
+
 pub split : (now owed : List Symbol) (rs : Readings (now ++ owed)) → (a : Readings now) × (b : Readings owed) × (all_spelled now a ++ all_spelled owed b ≡ all_spelled (now ++ owed) rs)
 split [] owed rs = (tt, rs, refl)
 split (s ∷ now) owed (r, rs) = let e = split now owed rs in ((r, e.0), e.1, rw append_assoc (ap (λ x. spelled s r ++ x) e.2))
@@ -231,19 +245,30 @@ parameters_comes : (at : ℕ) (k : Word) → Comes m.parameters (record { at = a
 parameters_comes at (word.Mark mark.Close) = λ rs. (no_parameter at, refl)
 parameters_comes at k = comes_then m.parameter m.parameters (record { at = at; word = k }) (parameter_takes k) (m.more_parameters ∷ []) (λ p q. (parameter_ p q.0, simp append-nil)) (parameter_comes at k)
 
+else_tail_comes : (at : ℕ) (k : Word) → Comes m.else_tail (record { at = at; word = k }) (else_tail_takes k)
+else_tail_comes at (word.Mark mark.Semicolon) = λ rs. (no_else at, refl)
+else_tail_comes at (word.Mark mark.Else) = λ (brace, (ss, (end, u))). (else_ at brace ss end, refl)
+else_tail_comes at _ = tt
+
 call_tail_comes : (at : ℕ) (k : Word) → Comes m.call_tail (record { at = at; word = k }) (call_tail_takes k)
-call_tail_comes at (word.Mark mark.Semicolon) = λ rs. (no_retry at, refl)
-call_tail_comes at (word.Mark mark.Retry) = λ (n, (every, (p, (end, u)))). (retry at n.0 n.1 every p.0 p.1 end, refl)
-call_tail_comes at _ = tt
+call_tail_comes at (word.Mark mark.Retry) = λ (n, (every, (p, (more, u)))). (retry at n.0 n.1 every p.0 p.1 more, simp append-nil)
+call_tail_comes at k = comes_as m.else_tail m.call_tail (record { at = at; word = k }) (else_tail_takes k) (λ p. (no_retry p, refl)) (else_tail_comes at k)
+
+wait_tail_comes : (at : ℕ) (k : Word) → Comes m.wait_tail (record { at = at; word = k }) (wait_tail_takes k)
+wait_tail_comes at (word.Mark mark.Semicolon) = λ rs. (for_ever at, refl)
+wait_tail_comes at (word.Mark mark.For) = λ (e, (else_at, (brace, (ss, (end, u))))). (for_ at e else_at brace ss end, refl)
+wait_tail_comes at _ = tt
 
 side_comes : (at : ℕ) (k : Word) → Comes m.side (record { at = at; word = k }) (side_takes k)
 side_comes at (word.Mark mark.Call) = λ (x, (paren, (es, (more, u)))). (call at x.0 x.1 paren es more, simp append-nil)
-side_comes at (word.Mark mark.Wait) = λ (signal_at, (x, (end, u))). (wait at signal_at x.0 x.1 end, refl)
+side_comes at (word.Mark mark.Wait) = λ (signal_at, (x, (more, u))). (wait at signal_at x.0 x.1 more, simp append-nil)
 side_comes at k = comes_then m.expr m.side (record { at = at; word = k }) (expr_takes k) (m.sign mark.Semicolon ∷ []) (λ p q. (value p q.0, refl)) (expr_comes at k)
 
 statement_comes : (at : ℕ) (k : Word) → Comes m.statement (record { at = at; word = k }) (statement_takes k)
 statement_comes at (word.Mark mark.Let) = λ (x, (eq, (e, (end, u)))). (let_ at x.0 x.1 eq e end, refl)
 statement_comes at (word.Mark mark.Sleep) = λ (e, (end, u)). (sleep at e end, refl)
+statement_comes at (word.Mark mark.While) = λ (e, (brace, (ss, u))). (while_ at e brace ss, simp append-nil)
+statement_comes at (word.Mark mark.Parallel) = λ (brace, (first, (ss, (more, u)))). (parallel at brace first ss more, simp append-nil)
 statement_comes at (word.Mark mark.Return) = λ (e, (end, u)). (return_ at e end, refl)
 statement_comes at (word.Mark mark.Fail) = λ (e, (end, u)). (fail at e end, refl)
 statement_comes at (word.Mark mark.Continue) = λ (as_at, (new_at, (paren, (es, (end, u))))). (continue_ at as_at new_at paren es end, refl)
@@ -252,7 +277,13 @@ statement_comes at _ = tt
 
 statements_comes : (at : ℕ) (k : Word) → Comes m.statements (record { at = at; word = k }) (statements_takes k)
 statements_comes at (word.Mark mark.BraceClose) = λ rs. (no_statement at, refl)
+statements_comes at (word.Mark mark.If) = λ (e, (brace, (ss, (more, u)))). (if_ at e brace ss more, simp append-nil)
+statements_comes at (word.Mark mark.Patch) = λ (x, (brace, (ss, (more, u)))). (patch at x.0 x.1 x.2 brace ss more, simp append-nil)
 statements_comes at k = comes_then m.statement m.statements (record { at = at; word = k }) (statement_takes k) (m.statements ∷ []) (λ p q. (statement p q.0, simp append-nil)) (statement_comes at k)
+
+after_choice_comes : (at : ℕ) (k : Word) → Comes m.after_choice (record { at = at; word = k }) (after_choice_takes k)
+after_choice_comes at (word.Mark mark.Else) = λ (brace, (ss, (more, u))). (otherwise at brace ss more, simp append-nil)
+after_choice_comes at k = comes_as m.statements m.after_choice (record { at = at; word = k }) (statements_takes k) (λ p. (without p, refl)) (statements_comes at k)
 
 declaration_comes : (at : ℕ) (k : Word) → Comes m.declaration (record { at = at; word = k }) (declaration_takes k)
 declaration_comes at (word.Mark mark.Activity) = λ (x, (paren, (us, (arrow, (t, (end, u)))))). (activity at x.0 x.1 paren us arrow t end, refl)
@@ -303,10 +334,16 @@ comes m.parameters at k = parameters_comes at k
 comes m.more_parameters at (word.Mark mark.Close) = λ rs. (last_parameter at, refl)
 comes m.more_parameters at (word.Mark mark.Comma) = λ (p, (more, u)). (next_parameter at p more, simp append-nil)
 comes m.declaration at k = declaration_comes at k
+comes m.else_tail at k = else_tail_comes at k
 comes m.call_tail at k = call_tail_comes at k
+comes m.wait_tail at k = wait_tail_comes at k
 comes m.side at k = side_comes at k
+comes m.more_branches at (word.Mark mark.BraceClose) = λ rs. (no_branch at, refl)
+comes m.more_branches at (word.Mark mark.BraceOpen) = λ (ss, (more, u)). (branch at ss more, simp append-nil)
 comes m.statement at k = statement_comes at k
+comes m.patch_id at (word.Text t) = ids at t (is_patch_id t) refl
 comes m.statements at k = statements_comes at k
+comes m.after_choice at k = after_choice_comes at k
 comes m.body at k = body_comes at k
 comes m.program at (word.Mark mark.Workflow) = λ (x, (paren, (ps, (brace, (b, u))))). (workflow at x.0 x.1 paren ps brace b, simp append-nil)
 comes _ at _ = tt

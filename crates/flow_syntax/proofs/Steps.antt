@@ -1,11 +1,11 @@
 -- What the machine does at tokens that are not known.
-use Rattle.std.proofs.Common.{◌≡◌, ℕ, suc, true, List, [], ◌∷◌, ◌++◌, length, Option, Some, None, refl, ap, false, append_assoc}
+use Rattle.std.proofs.Common.{◌≡◌, ℕ, suc, true, List, [], ◌∷◌, ◌++◌, length, Option, Some, None, refl, ap, false, append_assoc, IsTrue}
+use Rattle.flow_base.specs.Syntax.{Bytes}
 use Rattle.flow_base.specs.declared.token.Word.{Word}
 use Rattle.flow_base.specs.declared.token.Word.TheVariants as word
-use Rattle.flow_base.specs.declared.token.Mark.{Mark}
 use Rattle.flow_base.specs.declared.token.Mark.TheVariants as mark
 use Rattle.flow_model.specs.Lexeme.{Lexeme}
-use Rattle.flow_model.specs.Grammar.{marked, TermSign, times, over, percent, SumSign, plus, minus, join, CompareSign, equal, differ, less, at_most, greater, at_least, term_mark, sum_mark, compare_mark}
+use Rattle.flow_model.specs.Grammar.{marked, worded, is_patch_id, TermSign, times, over, percent, SumSign, plus, minus, join, CompareSign, equal, differ, less, at_most, greater, at_least, term_mark, sum_mark, compare_mark}
 use Rattle.flow_syntax.specs.Machine.{Symbol, takes, then_more, may_be_nothing, step, step_by, fault, fault_by}
 use Rattle.flow_syntax.specs.Machine as m
 use Rattle.flow_syntax.specs.Parsing.{Lacks, Past}
@@ -99,18 +99,36 @@ no_parameter_close : (k : Word) → (k ≡ word.Mark mark.Close → ⊥) → tak
 no_parameter_close (word.Mark mark.Close) h = absurd (h refl)
 no_parameter_close _ h = refl
 
-not_retry : (k : Word) → (k ≡ word.Mark mark.Retry → ⊥) → takes m.call_tail k ≡ takes (m.sign mark.Semicolon) k
+not_else : (k : Word) → (k ≡ word.Mark mark.Else → ⊥) → takes m.else_tail k ≡ takes (m.sign mark.Semicolon) k
+not_else (word.Mark mark.Else) h = absurd (h refl)
+not_else _ h = refl
+
+not_retry : (k : Word) → (k ≡ word.Mark mark.Retry → ⊥) → takes m.call_tail k ≡ takes m.else_tail k
 not_retry (word.Mark mark.Retry) h = absurd (h refl)
 not_retry _ h = refl
+
+not_for : (k : Word) → (k ≡ word.Mark mark.For → ⊥) → takes m.wait_tail k ≡ takes (m.sign mark.Semicolon) k
+not_for (word.Mark mark.For) h = absurd (h refl)
+not_for _ h = refl
 
 not_call : (k : Word) → (k ≡ word.Mark mark.Call → ⊥) → (k ≡ word.Mark mark.Wait → ⊥) → takes m.side k ≡ then_more (takes m.expr k) (m.sign mark.Semicolon ∷ [])
 not_call (word.Mark mark.Call) g h = absurd (g refl)
 not_call (word.Mark mark.Wait) g h = absurd (h refl)
 not_call _ g h = refl
 
-not_closed : (k : Word) → (k ≡ word.Mark mark.BraceClose → ⊥) → takes m.statements k ≡ then_more (takes m.statement k) (m.statements ∷ [])
-not_closed (word.Mark mark.BraceClose) h = absurd (h refl)
-not_closed _ h = refl
+no_branch_opens : (k : Word) → (k ≡ word.Mark mark.BraceOpen → ⊥) → takes m.more_branches k ≡ takes (m.sign mark.BraceClose) k
+no_branch_opens (word.Mark mark.BraceOpen) h = absurd (h refl)
+no_branch_opens _ h = refl
+
+not_closed : (k : Word) → (k ≡ word.Mark mark.BraceClose → ⊥) → (k ≡ word.Mark mark.If → ⊥) → (k ≡ word.Mark mark.Patch → ⊥) → takes m.statements k ≡ then_more (takes m.statement k) (m.statements ∷ [])
+not_closed (word.Mark mark.BraceClose) f g h = absurd (f refl)
+not_closed (word.Mark mark.If) f g h = absurd (g refl)
+not_closed (word.Mark mark.Patch) f g h = absurd (h refl)
+not_closed _ f g h = refl
+
+not_otherwise : (k : Word) → (k ≡ word.Mark mark.Else → ⊥) → takes m.after_choice k ≡ takes m.statements k
+not_otherwise (word.Mark mark.Else) h = absurd (h refl)
+not_otherwise _ h = refl
 
 not_declaration : (k : Word) → (k ≡ word.Mark mark.Activity → ⊥) → (k ≡ word.Mark mark.Signal → ⊥) → takes m.body k ≡ takes m.statements k
 not_declaration (word.Mark mark.Activity) g h = absurd (g refl)
@@ -137,17 +155,33 @@ pub parameters_same : (ts : List Lexeme) → Lacks mark.Close ts → Same m.para
 parameters_same [] h = tt
 parameters_same (t ∷ ts) h = no_parameter_close t.word h
 
-pub call_tail_alike : (ts : List Lexeme) → Lacks mark.Retry ts → Alike (m.sign mark.Semicolon) m.call_tail ts
+pub else_tail_alike : (ts : List Lexeme) → Lacks mark.Else ts → Alike (m.sign mark.Semicolon) m.else_tail ts
+else_tail_alike [] h = tt
+else_tail_alike (t ∷ ts) h = not_else t.word h
+
+pub call_tail_alike : (ts : List Lexeme) → Lacks mark.Retry ts → Alike m.else_tail m.call_tail ts
 call_tail_alike [] h = tt
 call_tail_alike (t ∷ ts) h = not_retry t.word h
+
+pub wait_tail_alike : (ts : List Lexeme) → Lacks mark.For ts → Alike (m.sign mark.Semicolon) m.wait_tail ts
+wait_tail_alike [] h = tt
+wait_tail_alike (t ∷ ts) h = not_for t.word h
 
 pub side_same : (ts : List Lexeme) → Lacks mark.Call ts → Lacks mark.Wait ts → Same m.expr m.side (m.sign mark.Semicolon ∷ []) ts
 side_same [] g h = tt
 side_same (t ∷ ts) g h = not_call t.word g h
 
-pub statements_same : (ts : List Lexeme) → Lacks mark.BraceClose ts → Same m.statement m.statements (m.statements ∷ []) ts
-statements_same [] h = tt
-statements_same (t ∷ ts) h = not_closed t.word h
+pub more_branches_alike : (ts : List Lexeme) → Lacks mark.BraceOpen ts → Alike (m.sign mark.BraceClose) m.more_branches ts
+more_branches_alike [] h = tt
+more_branches_alike (t ∷ ts) h = no_branch_opens t.word h
+
+pub statements_same : (ts : List Lexeme) → Lacks mark.BraceClose ts → Lacks mark.If ts → Lacks mark.Patch ts → Same m.statement m.statements (m.statements ∷ []) ts
+statements_same [] f g h = tt
+statements_same (t ∷ ts) f g h = not_closed t.word f g h
+
+pub after_choice_alike : (ts : List Lexeme) → Lacks mark.Else ts → Alike m.statements m.after_choice ts
+after_choice_alike [] h = tt
+after_choice_alike (t ∷ ts) h = not_otherwise t.word h
 
 pub body_alike : (ts : List Lexeme) → Lacks mark.Activity ts → Lacks mark.Signal ts → Alike m.statements m.body ts
 body_alike [] g h = tt
@@ -188,3 +222,81 @@ past_and (t ∷ ts) h = not_and t.word h
 pub past_or : (ts : List Lexeme) → Lacks mark.Or ts → Past m.more_expr ts
 past_or [] h = tt
 past_or (t ∷ ts) h = not_or t.word h
+
+-- the machine behind a mark that has a list of statements
+
+pub else_step : (at : ℕ) (owed : List Symbol) (x : List Lexeme) → fault (m.else_tail ∷ owed) (marked at mark.Else ∷ x) ≡ fault (m.sign mark.BraceOpen ∷ m.statements ∷ m.sign mark.Semicolon ∷ owed) x
+else_step at owed x = refl
+
+pub retry_step : (at : ℕ) (owed : List Symbol) (x : List Lexeme) → fault (m.call_tail ∷ owed) (marked at mark.Retry ∷ x) ≡ fault (m.number ∷ m.sign mark.Every ∷ m.number ∷ m.else_tail ∷ owed) x
+retry_step at owed x = refl
+
+pub for_step : (at : ℕ) (owed : List Symbol) (x : List Lexeme) → fault (m.wait_tail ∷ owed) (marked at mark.For ∷ x) ≡ fault (m.expr ∷ m.sign mark.Else ∷ m.sign mark.BraceOpen ∷ m.statements ∷ m.sign mark.Semicolon ∷ owed) x
+for_step at owed x = refl
+
+pub while_step : (at : ℕ) (owed : List Symbol) (x : List Lexeme) → fault (m.statement ∷ owed) (marked at mark.While ∷ x) ≡ fault (m.expr ∷ m.sign mark.BraceOpen ∷ m.statements ∷ owed) x
+while_step at owed x = refl
+
+pub parallel_step : (at : ℕ) (owed : List Symbol) (x : List Lexeme) → fault (m.statement ∷ owed) (marked at mark.Parallel ∷ x) ≡ fault (m.sign mark.BraceOpen ∷ m.sign mark.BraceOpen ∷ m.statements ∷ m.more_branches ∷ owed) x
+parallel_step at owed x = refl
+
+pub branch_step : (at : ℕ) (owed : List Symbol) (x : List Lexeme) → fault (m.more_branches ∷ owed) (marked at mark.BraceOpen ∷ x) ≡ fault (m.statements ∷ m.more_branches ∷ owed) x
+branch_step at owed x = refl
+
+pub branches_end : (at : ℕ) (owed : List Symbol) (x : List Lexeme) → fault (m.more_branches ∷ owed) (marked at mark.BraceClose ∷ x) ≡ fault owed x
+branches_end at owed x = refl
+
+pub if_step : (at : ℕ) (owed : List Symbol) (x : List Lexeme) → fault (m.statements ∷ owed) (marked at mark.If ∷ x) ≡ fault (m.expr ∷ m.sign mark.BraceOpen ∷ m.statements ∷ m.after_choice ∷ owed) x
+if_step at owed x = refl
+
+pub patch_step : (at : ℕ) (owed : List Symbol) (x : List Lexeme) → fault (m.statements ∷ owed) (marked at mark.Patch ∷ x) ≡ fault (m.patch_id ∷ m.sign mark.BraceOpen ∷ m.statements ∷ m.after_choice ∷ owed) x
+patch_step at owed x = refl
+
+pub otherwise_step : (at : ℕ) (owed : List Symbol) (x : List Lexeme) → fault (m.after_choice ∷ owed) (marked at mark.Else ∷ x) ≡ fault (m.sign mark.BraceOpen ∷ m.statements ∷ m.statements ∷ owed) x
+otherwise_step at owed x = refl
+
+-- the same where the mark isn't there
+
+pub else_tail_is : (owed : List Symbol) (ts : List Lexeme) → Lacks mark.Else ts → fault (m.else_tail ∷ owed) ts ≡ fault (m.sign mark.Semicolon ∷ owed) ts
+else_tail_is owed ts h = is_alike (m.sign mark.Semicolon) m.else_tail refl refl owed ts (else_tail_alike ts h)
+
+pub call_tail_is : (owed : List Symbol) (ts : List Lexeme) → Lacks mark.Retry ts → fault (m.call_tail ∷ owed) ts ≡ fault (m.else_tail ∷ owed) ts
+call_tail_is owed ts h = is_alike m.else_tail m.call_tail refl refl owed ts (call_tail_alike ts h)
+
+pub wait_tail_is : (owed : List Symbol) (ts : List Lexeme) → Lacks mark.For ts → fault (m.wait_tail ∷ owed) ts ≡ fault (m.sign mark.Semicolon ∷ owed) ts
+wait_tail_is owed ts h = is_alike (m.sign mark.Semicolon) m.wait_tail refl refl owed ts (wait_tail_alike ts h)
+
+pub more_branches_is : (owed : List Symbol) (ts : List Lexeme) → Lacks mark.BraceOpen ts → fault (m.more_branches ∷ owed) ts ≡ fault (m.sign mark.BraceClose ∷ owed) ts
+more_branches_is owed ts h = is_alike (m.sign mark.BraceClose) m.more_branches refl refl owed ts (more_branches_alike ts h)
+
+pub statements_is : (owed : List Symbol) (ts : List Lexeme) → Lacks mark.BraceClose ts → Lacks mark.If ts → Lacks mark.Patch ts → fault (m.statements ∷ owed) ts ≡ fault (m.statement ∷ m.statements ∷ owed) ts
+statements_is owed ts f g h = is_then m.statement m.statements (m.statements ∷ []) refl refl owed ts (statements_same ts f g h)
+
+pub after_choice_is : (owed : List Symbol) (ts : List Lexeme) → Lacks mark.Else ts → fault (m.after_choice ∷ owed) ts ≡ fault (m.statements ∷ owed) ts
+after_choice_is owed ts h = is_alike m.statements m.after_choice refl refl owed ts (after_choice_alike ts h)
+
+-- the id of a patch
+
+pub patch_id_step : (at : ℕ) (id : Bytes) (owed : List Symbol) (x : List Lexeme) → IsTrue (is_patch_id id) → fault (m.patch_id ∷ owed) (worded at id ∷ x) ≡ fault owed x
+patch_id_step at id owed x h = rw h refl
+
+no_text : (k : Word) → ((id : Bytes) → k ≡ word.Text id → ⊥) → takes m.patch_id k ≡ None
+no_text (word.Text id) h = absurd (h id refl)
+no_text _ h = refl
+
+-- the tokens do not begin with a text
+abbrev pub LacksText : List Lexeme → Type 0
+LacksText [] = Unit {0}
+LacksText (t ∷ ts) = (id : Bytes) → t.word ≡ word.Text id → ⊥
+
+pub past_text : (ts : List Lexeme) → LacksText ts → Past m.patch_id ts
+past_text [] h = tt
+past_text (t ∷ ts) h = no_text t.word h
+
+pub past_long_id : (at : ℕ) (id : Bytes) (x : List Lexeme) → is_patch_id id ≡ false → Past m.patch_id (worded at id ∷ x)
+past_long_id at id x h = rw h refl
+
+-- the machine stops at tokens that the symbol does not begin with
+pub stops_past : (s : Symbol) → may_be_nothing s ≡ false → (owed : List Symbol) (ts : List Lexeme) → Past s ts → fault (s ∷ owed) ts ≡ Some (length ts)
+stops_past s h owed [] p = rw h refl
+stops_past s h owed (t ∷ ts) p = rw (p, h) refl

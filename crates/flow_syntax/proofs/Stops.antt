@@ -5,7 +5,7 @@ use Rattle.std.proofs.Math.Seq.{drop-append_seam}
 use Rattle.flow_base.specs.Syntax as tree
 use Rattle.flow_base.specs.declared.value.Kind.TheVariants as kind
 use Rattle.flow_model.specs.Lexeme.{Lexeme}
-use Rattle.flow_model.specs.Grammar.{parens, name, prim, term, no_factor, sum, no_term, compare, no_side, plain, conj, no_and, expr, no_or, no_argument, last_argument, typed, no_type, last_type, parameter, no_parameter, last_parameter, activity, no_retry, value, return_, no_statement, statements, ProgramReading, workflow, program_tokens, Reads, Begins, Stops}
+use Rattle.flow_model.specs.Grammar.{parens, name, prim, term, no_factor, sum, no_term, compare, no_side, plain, conj, no_and, expr, no_or, no_argument, last_argument, typed, no_type, last_type, parameter, no_parameter, last_parameter, activity, no_else, no_retry, for_ever, value, no_branch, return_, no_statement, without, statements, ProgramReading, workflow, program_tokens, Reads, Begins, Stops}
 use Rattle.flow_syntax.specs.Machine.{Symbol, takes, may_be_nothing, step, step_by, is_done, fault, fault_by}
 use Rattle.flow_syntax.specs.Machine as m
 use Rattle.flow_syntax.specs.Parsing.{place_of}
@@ -54,10 +54,15 @@ least m.parameter = parameter 0 [] 0 (typed 0 kind.Int)
 least m.parameters = no_parameter 0
 least m.more_parameters = last_parameter 0
 least m.declaration = activity 0 0 [] 0 (no_type 0) 0 (typed 0 kind.Int) 0
-least m.call_tail = no_retry 0
+least m.else_tail = no_else 0
+least m.call_tail = no_retry (no_else 0)
+least m.wait_tail = for_ever 0
 least m.side = value least_expr 0
+least m.more_branches = no_branch 0
 least m.statement = return_ 0 least_expr 0
+least m.patch_id = (0, 0 ∷ [], refl)
 least m.statements = no_statement 0
+least m.after_choice = without (no_statement 0)
 least m.body = statements (no_statement 0)
 least m.program = workflow 0 0 [] 0 (no_parameter 0) 0 (statements (no_statement 0))
 

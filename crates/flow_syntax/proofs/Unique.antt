@@ -1,14 +1,15 @@
 -- The tokens of a program are those of no other one.
-use Rattle.std.proofs.Common.{◌≡◌, ◌∙◌, ℕ, List, [], ◌∷◌, ◌++◌, None, refl, ap, sym, subst, append_assoc}
+use Rattle.std.proofs.Common.{◌≡◌, ◌∙◌, ℕ, List, [], ◌∷◌, ◌++◌, None, refl, ap, sym, subst, append_assoc, true, IsTrue}
+use Rattle.std.proofs.Math.Bool.{Bool-set}
+use Rattle.flow_base.specs.Syntax.{Bytes}
 use Rattle.flow_base.specs.Syntax as tree
 use Rattle.flow_base.specs.declared.token.Word.TheVariants as word
-use Rattle.flow_base.specs.declared.token.Mark.{Mark}
 use Rattle.flow_base.specs.declared.token.Mark.TheVariants as mark
 use Rattle.flow_base.specs.declared.value.Kind.{Kind}
 use Rattle.flow_base.specs.declared.value.Kind.TheVariants as kind
 use Rattle.flow_model.specs.Lexeme.{Lexeme}
-use Rattle.flow_model.specs.Grammar.{TermSign, times, over, percent, SumSign, plus, minus, join, CompareSign, equal, differ, less, at_most, greater, at_least, ParensReading, parens, PrimReading, int, text, name, now, text_of, len_of, inner, UnaryReading, negate, prim, TermReading, term, TermTail, no_factor, factor, SumReading, sum, SumTail, no_term, added, CompareReading, compare, CompareTail, no_side, compared, NegReading, not, plain, ConjReading, conj, ConjTail, no_and, and, ExprReading, expr, ExprTail, no_or, or, ArgumentsReading, no_argument, argument, ArgumentTail, last_argument, next_argument, TypeReading, typed, TypesReading, no_type, type_, TypeTail, last_type, next_type, ParameterReading, parameter, ParametersReading, no_parameter, parameter_, ParameterTail, last_parameter, next_parameter, DeclarationReading, activity, signal, CallTail, no_retry, retry, SideReading, value, call, wait, StatementReading, let_, assign, sleep, return_, fail, continue_, StatementsReading, no_statement, statement, BodyReading, statements, declaration, ProgramReading, workflow}
-use Rattle.flow_model.specs.Grammar.{marked, term_mark, sum_mark, compare_mark, kind_mark, parens_tokens, prim_tokens, unary_tokens, term_tokens, term_tail_tokens, sum_tokens, sum_tail_tokens, compare_tokens, compare_tail_tokens, neg_tokens, conj_tokens, conj_tail_tokens, expr_tokens, expr_tail_tokens, argument_tail_tokens, arguments_tokens, type_tokens, type_tail_tokens, types_tokens, parameter_tokens, parameter_tail_tokens, parameters_tokens, declaration_tokens, call_tail_tokens, side_tokens, statement_tokens, statements_tokens, body_tokens, program_tokens, program_of, Reads}
+use Rattle.flow_model.specs.Grammar.{TermSign, times, over, percent, SumSign, plus, minus, join, CompareSign, equal, differ, less, at_most, greater, at_least, ParensReading, parens, PrimReading, int, text, name, now, text_of, len_of, inner, UnaryReading, negate, prim, TermReading, term, TermTail, no_factor, factor, SumReading, sum, SumTail, no_term, added, CompareReading, compare, CompareTail, no_side, compared, NegReading, not, plain, ConjReading, conj, ConjTail, no_and, and, ExprReading, expr, ExprTail, no_or, or, ArgumentsReading, no_argument, argument, ArgumentTail, last_argument, next_argument, TypeReading, typed, TypesReading, no_type, type_, TypeTail, last_type, next_type, ParameterReading, parameter, ParametersReading, no_parameter, parameter_, ParameterTail, last_parameter, next_parameter, DeclarationReading, activity, signal, ElseTail, no_else, else_, CallTail, no_retry, retry, WaitTail, for_ever, for_, SideReading, value, call, wait, BranchesReading, no_branch, branch, StatementReading, let_, assign, sleep, while_, parallel, return_, fail, continue_, StatementsReading, no_statement, statement, if_, patch, AfterChoice, otherwise, without, BodyReading, statements, declaration, ProgramReading, workflow}
+use Rattle.flow_model.specs.Grammar.{marked, is_patch_id, term_mark, sum_mark, compare_mark, kind_mark, parens_tokens, prim_tokens, unary_tokens, term_tokens, term_tail_tokens, sum_tokens, sum_tail_tokens, compare_tokens, compare_tail_tokens, neg_tokens, conj_tokens, conj_tail_tokens, expr_tokens, expr_tail_tokens, argument_tail_tokens, arguments_tokens, type_tokens, type_tail_tokens, types_tokens, parameter_tokens, parameter_tail_tokens, parameters_tokens, declaration_tokens, else_tail_tokens, call_tail_tokens, wait_tail_tokens, side_tokens, branches_tokens, statement_tokens, statements_tokens, choice_tokens, body_tokens, program_tokens, program_of, Reads}
 use Rattle.flow_syntax.specs.Machine.{Symbol, takes}
 use Rattle.flow_syntax.specs.Machine as m
 use Rattle.flow_syntax.specs.Parsing.{Past}
@@ -115,6 +116,8 @@ statement_starts : (s : StatementReading) (x : List Lexeme) → Past m.statement
 statement_starts (let_ at name_at n eq e end) x h = cc
 statement_starts (assign at n eq s) x h = cc
 statement_starts (sleep at e end) x h = cc
+statement_starts (while_ at e brace ss) x h = cc
+statement_starts (parallel at brace first ss more) x h = cc
 statement_starts (return_ at e end) x h = cc
 statement_starts (fail at e end) x h = cc
 statement_starts (continue_ at as_at new_at paren es end) x h = cc
@@ -124,9 +127,22 @@ statements_start (no_statement to) x h = cc
 statements_start (statement (let_ at name_at n eq e end) more) x h = cc
 statements_start (statement (assign at n eq s) more) x h = cc
 statements_start (statement (sleep at e end) more) x h = cc
+statements_start (statement (while_ at e brace ss) more) x h = cc
+statements_start (statement (parallel at brace first ss others) more) x h = cc
 statements_start (statement (return_ at e end) more) x h = cc
 statements_start (statement (fail at e end) more) x h = cc
 statements_start (statement (continue_ at as_at new_at paren es end) more) x h = cc
+statements_start (if_ at e brace ss more) x h = cc
+statements_start (patch at id_at id is brace ss more) x h = cc
+
+no_statement_starts : (s : StatementReading) (after x y : List Lexeme) → Past m.statement y → (statement_tokens s ++ after) ++ x ≡ y → ⊥
+no_statement_starts s after x y h e = statement_starts s (after ++ x) (clash m.statement y (statement_tokens s ++ (after ++ x)) h (sym e ∙ append_assoc (statement_tokens s) after x))
+
+-- a patch's id is in range in one way
+same_patch : (at id_at brace : ℕ) (a b : Bytes) (h : IsTrue (is_patch_id a)) (k : IsTrue (is_patch_id b)) (ss : StatementsReading) (more : AfterChoice) → a ≡ b → patch at id_at a h brace ss more ≡ patch at id_at b k brace ss more
+same_patch at id_at brace a b h k ss more e =
+    let P : Bytes → Type 0 = λ v. (g : IsTrue (is_patch_id v)) → patch at id_at a h brace ss more ≡ patch at id_at v g brace ss more in
+    subst P e (λ g. ap (λ q. patch at id_at a q brace ss more) (Bool-set (is_patch_id a) true h g)) k
 
 mutual
   pub same_parens : (p q : ParensReading) (x y : List Lexeme) → parens_tokens p ++ x ≡ parens_tokens q ++ y → (p ≡ q) × (x ≡ y)
@@ -336,86 +352,167 @@ same_declaration (signal a b n c t e) (signal a' b' n' c' t' e') x y h =
     (cc, tail_of j.1)
 same_declaration _ _ x y h = let hk = word_of h in absurd (cc)
 
-same_call_tail : (p q : CallTail) (x y : List Lexeme) → call_tail_tokens p ++ x ≡ call_tail_tokens q ++ y → (p ≡ q) × (x ≡ y)
-same_call_tail (no_retry a) (no_retry b) x y h = let ha = at_of h in (cc, tail_of h)
-same_call_tail (retry a b n c d k e) (retry a' b' n' c' d' k' e') x y h =
-    let ha = at_of h in
-    let hb = at_of (tail_of h) in
-    let hn = word_of (tail_of h) in
-    let hc = at_of (tail_of (tail_of h)) in
-    let hd = at_of (tail_of (tail_of (tail_of h))) in
-    let hk = word_of (tail_of (tail_of (tail_of h))) in
-    let he = at_of (tail_of (tail_of (tail_of (tail_of h)))) in
-    (cc, tail_of (tail_of (tail_of (tail_of (tail_of h)))))
-same_call_tail _ _ x y h = let hk = word_of h in absurd (cc)
+mutual
+  same_else_tail : (p q : ElseTail) (x y : List Lexeme) → else_tail_tokens p ++ x ≡ else_tail_tokens q ++ y → (p ≡ q) × (x ≡ y)
+  same_else_tail (no_else a) (no_else b) x y h = let ha = at_of h in (cc, tail_of h)
+  same_else_tail (else_ a b ss c) (else_ a' b' ss' c') x y h =
+      let ha = at_of h in
+      let hb = at_of (tail_of h) in
+      let j = same_statements ss ss' (marked c mark.Semicolon ∷ x) (marked c' mark.Semicolon ∷ y) (regrouped (statements_tokens ss) (marked c mark.Semicolon ∷ []) x (statements_tokens ss') (marked c' mark.Semicolon ∷ []) y (tail_of (tail_of h))) in
+      let he = at_of j.1 in
+      (cc, tail_of j.1)
+  same_else_tail _ _ x y h = let hk = word_of h in absurd (cc)
 
-same_side : (p q : SideReading) (x y : List Lexeme) → side_tokens p ++ x ≡ side_tokens q ++ y → (p ≡ q) × (x ≡ y)
-same_side (value e c) (value f d) x y h = let i = same_before e f c d x y h in (cc, i.2)
-same_side (call a b n c es d) (call a' b' n' c' es' d') x y h =
-    let ha = at_of h in
-    let hb = at_of (tail_of h) in
-    let hn = word_of (tail_of h) in
-    let hc = at_of (tail_of (tail_of h)) in
-    let i = same_arguments es es' (call_tail_tokens d ++ x) (call_tail_tokens d' ++ y) (regrouped (arguments_tokens es) (call_tail_tokens d) x (arguments_tokens es') (call_tail_tokens d') y (tail_of (tail_of (tail_of h)))) in
-    let j = same_call_tail d d' x y i.1 in
-    (cc, j.1)
-same_side (wait a b c n d) (wait a' b' c' n' d') x y h =
-    let ha = at_of h in
-    let hb = at_of (tail_of h) in
-    let hc = at_of (tail_of (tail_of h)) in
-    let hn = word_of (tail_of (tail_of h)) in
-    let hd = at_of (tail_of (tail_of (tail_of h))) in
-    (cc, tail_of (tail_of (tail_of (tail_of h))))
-same_side (value e c) (call a b n p es d) x y h = absurd (expr_starts e ((marked c mark.Semicolon ∷ []) ++ x) (clash m.expr (side_tokens (call a b n p es d) ++ y) (expr_tokens e ++ ((marked c mark.Semicolon ∷ []) ++ x)) refl (sym h ∙ append_assoc (expr_tokens e) (marked c mark.Semicolon ∷ []) x)))
-same_side (call a b n p es d) (value e c) x y h = absurd (expr_starts e ((marked c mark.Semicolon ∷ []) ++ y) (clash m.expr (side_tokens (call a b n p es d) ++ x) (expr_tokens e ++ ((marked c mark.Semicolon ∷ []) ++ y)) refl (h ∙ append_assoc (expr_tokens e) (marked c mark.Semicolon ∷ []) y)))
-same_side (value e c) (wait a b p n d) x y h = absurd (expr_starts e ((marked c mark.Semicolon ∷ []) ++ x) (clash m.expr (side_tokens (wait a b p n d) ++ y) (expr_tokens e ++ ((marked c mark.Semicolon ∷ []) ++ x)) refl (sym h ∙ append_assoc (expr_tokens e) (marked c mark.Semicolon ∷ []) x)))
-same_side (wait a b p n d) (value e c) x y h = absurd (expr_starts e ((marked c mark.Semicolon ∷ []) ++ y) (clash m.expr (side_tokens (wait a b p n d) ++ x) (expr_tokens e ++ ((marked c mark.Semicolon ∷ []) ++ y)) refl (h ∙ append_assoc (expr_tokens e) (marked c mark.Semicolon ∷ []) y)))
-same_side _ _ x y h = let hk = word_of h in absurd (cc)
+  same_call_tail : (p q : CallTail) (x y : List Lexeme) → call_tail_tokens p ++ x ≡ call_tail_tokens q ++ y → (p ≡ q) × (x ≡ y)
+  same_call_tail (no_retry p) (no_retry q) x y h = let i = same_else_tail p q x y h in (ap no_retry i.0, i.1)
+  same_call_tail (retry a b n c d k p) (retry a' b' n' c' d' k' q) x y h =
+      let ha = at_of h in
+      let hb = at_of (tail_of h) in
+      let hn = word_of (tail_of h) in
+      let hc = at_of (tail_of (tail_of h)) in
+      let hd = at_of (tail_of (tail_of (tail_of h))) in
+      let hk = word_of (tail_of (tail_of (tail_of h))) in
+      let i = same_else_tail p q x y (tail_of (tail_of (tail_of (tail_of h)))) in
+      (cc, i.1)
+  same_call_tail (no_retry (no_else e)) (retry a b n c d k q) x y h = let hk = word_of h in absurd (cc)
+  same_call_tail (no_retry (else_ e f ss g)) (retry a b n c d k q) x y h = let hk = word_of h in absurd (cc)
+  same_call_tail (retry a b n c d k p) (no_retry (no_else e)) x y h = let hk = word_of h in absurd (cc)
+  same_call_tail (retry a b n c d k p) (no_retry (else_ e f ss g)) x y h = let hk = word_of h in absurd (cc)
 
-same_statement : (p q : StatementReading) (x y : List Lexeme) → statement_tokens p ++ x ≡ statement_tokens q ++ y → (p ≡ q) × (x ≡ y)
-same_statement (let_ a b n c e d) (let_ a' b' n' c' e' d') x y h =
-    let i = same_before e e' d d' x y (tail_of (tail_of (tail_of h))) in
-    let ha = at_of h in
-    let hb = at_of (tail_of h) in
-    let hn = word_of (tail_of h) in
-    let hc = at_of (tail_of (tail_of h)) in
-    (cc, i.2)
-same_statement (assign a n c s) (assign a' n' c' s') x y h =
-    let i = same_side s s' x y (tail_of (tail_of h)) in
-    let ha = at_of h in
-    let hn = word_of h in
-    let hc = at_of (tail_of h) in
-    (cc, i.1)
-same_statement (sleep a e c) (sleep a' e' c') x y h =
-    let i = same_before e e' c c' x y (tail_of h) in
-    let ha = at_of h in
-    (cc, i.2)
-same_statement (return_ a e c) (return_ a' e' c') x y h =
-    let i = same_before e e' c c' x y (tail_of h) in
-    let ha = at_of h in
-    (cc, i.2)
-same_statement (fail a e c) (fail a' e' c') x y h =
-    let i = same_before e e' c c' x y (tail_of h) in
-    let ha = at_of h in
-    (cc, i.2)
-same_statement (continue_ a b n p es c) (continue_ a' b' n' p' es' c') x y h =
-    let ha = at_of h in
-    let hb = at_of (tail_of h) in
-    let hn = at_of (tail_of (tail_of h)) in
-    let hp = at_of (tail_of (tail_of (tail_of h))) in
-    let i = same_arguments es es' (marked c mark.Semicolon ∷ x) (marked c' mark.Semicolon ∷ y) (regrouped (arguments_tokens es) (marked c mark.Semicolon ∷ []) x (arguments_tokens es') (marked c' mark.Semicolon ∷ []) y (tail_of (tail_of (tail_of (tail_of h))))) in
-    let hc = at_of i.1 in
-    (cc, tail_of i.1)
-same_statement _ _ x y h = let hk = word_of h in absurd (cc)
+  same_wait_tail : (p q : WaitTail) (x y : List Lexeme) → wait_tail_tokens p ++ x ≡ wait_tail_tokens q ++ y → (p ≡ q) × (x ≡ y)
+  same_wait_tail (for_ever a) (for_ever b) x y h = let ha = at_of h in (cc, tail_of h)
+  same_wait_tail (for_ a e b c ss d) (for_ a' e' b' c' ss' d') x y h =
+      let p = marked b mark.Else ∷ marked c mark.BraceOpen ∷ (statements_tokens ss ++ (marked d mark.Semicolon ∷ [])) in
+      let q = marked b' mark.Else ∷ marked c' mark.BraceOpen ∷ (statements_tokens ss' ++ (marked d' mark.Semicolon ∷ [])) in
+      let i = same_expr e e' (p ++ x) (q ++ y) ((((refl, refl), refl), refl), refl) ((((refl, refl), refl), refl), refl) (regrouped (expr_tokens e) p x (expr_tokens e') q y (tail_of h)) in
+      let ha = at_of h in
+      let hb = at_of i.1 in
+      let hc = at_of (tail_of i.1) in
+      let j = same_statements ss ss' (marked d mark.Semicolon ∷ x) (marked d' mark.Semicolon ∷ y) (regrouped (statements_tokens ss) (marked d mark.Semicolon ∷ []) x (statements_tokens ss') (marked d' mark.Semicolon ∷ []) y (tail_of (tail_of i.1))) in
+      let he = at_of j.1 in
+      (cc, tail_of j.1)
+  same_wait_tail _ _ x y h = let hk = word_of h in absurd (cc)
 
-same_statements : (p q : StatementsReading) (x y : List Lexeme) → statements_tokens p ++ x ≡ statements_tokens q ++ y → (p ≡ q) × (x ≡ y)
-same_statements (no_statement a) (no_statement b) x y h = let ha = at_of h in (cc, tail_of h)
-same_statements (statement s ms) (statement u ns) x y h =
-    let i = same_statement s u (statements_tokens ms ++ x) (statements_tokens ns ++ y) (regrouped (statement_tokens s) (statements_tokens ms) x (statement_tokens u) (statements_tokens ns) y h) in
-    let j = same_statements ms ns x y i.1 in
-    (cc, j.1)
-same_statements (no_statement a) (statement u ns) x y h = absurd (statement_starts u (statements_tokens ns ++ y) (clash m.statement (marked a mark.BraceClose ∷ x) (statement_tokens u ++ (statements_tokens ns ++ y)) refl (h ∙ append_assoc (statement_tokens u) (statements_tokens ns) y)))
-same_statements (statement s ms) (no_statement b) x y h = absurd (statement_starts s (statements_tokens ms ++ x) (clash m.statement (marked b mark.BraceClose ∷ y) (statement_tokens s ++ (statements_tokens ms ++ x)) refl (sym h ∙ append_assoc (statement_tokens s) (statements_tokens ms) x)))
+  same_side : (p q : SideReading) (x y : List Lexeme) → side_tokens p ++ x ≡ side_tokens q ++ y → (p ≡ q) × (x ≡ y)
+  same_side (value e c) (value f d) x y h = let i = same_before e f c d x y h in (cc, i.2)
+  same_side (call a b n c es d) (call a' b' n' c' es' d') x y h =
+      let ha = at_of h in
+      let hb = at_of (tail_of h) in
+      let hn = word_of (tail_of h) in
+      let hc = at_of (tail_of (tail_of h)) in
+      let i = same_arguments es es' (call_tail_tokens d ++ x) (call_tail_tokens d' ++ y) (regrouped (arguments_tokens es) (call_tail_tokens d) x (arguments_tokens es') (call_tail_tokens d') y (tail_of (tail_of (tail_of h)))) in
+      let j = same_call_tail d d' x y i.1 in
+      (cc, j.1)
+  same_side (wait a b c n d) (wait a' b' c' n' d') x y h =
+      let ha = at_of h in
+      let hb = at_of (tail_of h) in
+      let hc = at_of (tail_of (tail_of h)) in
+      let hn = word_of (tail_of (tail_of h)) in
+      let i = same_wait_tail d d' x y (tail_of (tail_of (tail_of h))) in
+      (cc, i.1)
+  same_side (value e c) (call a b n p es d) x y h = absurd (expr_starts e ((marked c mark.Semicolon ∷ []) ++ x) (clash m.expr (side_tokens (call a b n p es d) ++ y) (expr_tokens e ++ ((marked c mark.Semicolon ∷ []) ++ x)) refl (sym h ∙ append_assoc (expr_tokens e) (marked c mark.Semicolon ∷ []) x)))
+  same_side (call a b n p es d) (value e c) x y h = absurd (expr_starts e ((marked c mark.Semicolon ∷ []) ++ y) (clash m.expr (side_tokens (call a b n p es d) ++ x) (expr_tokens e ++ ((marked c mark.Semicolon ∷ []) ++ y)) refl (h ∙ append_assoc (expr_tokens e) (marked c mark.Semicolon ∷ []) y)))
+  same_side (value e c) (wait a b p n d) x y h = absurd (expr_starts e ((marked c mark.Semicolon ∷ []) ++ x) (clash m.expr (side_tokens (wait a b p n d) ++ y) (expr_tokens e ++ ((marked c mark.Semicolon ∷ []) ++ x)) refl (sym h ∙ append_assoc (expr_tokens e) (marked c mark.Semicolon ∷ []) x)))
+  same_side (wait a b p n d) (value e c) x y h = absurd (expr_starts e ((marked c mark.Semicolon ∷ []) ++ y) (clash m.expr (side_tokens (wait a b p n d) ++ x) (expr_tokens e ++ ((marked c mark.Semicolon ∷ []) ++ y)) refl (h ∙ append_assoc (expr_tokens e) (marked c mark.Semicolon ∷ []) y)))
+  same_side _ _ x y h = let hk = word_of h in absurd (cc)
+
+  same_branches : (p q : BranchesReading) (x y : List Lexeme) → branches_tokens p ++ x ≡ branches_tokens q ++ y → (p ≡ q) × (x ≡ y)
+  same_branches (no_branch a) (no_branch b) x y h = let ha = at_of h in (cc, tail_of h)
+  same_branches (branch a ss p) (branch b us q) x y h =
+      let i = same_statements ss us (branches_tokens p ++ x) (branches_tokens q ++ y) (regrouped (statements_tokens ss) (branches_tokens p) x (statements_tokens us) (branches_tokens q) y (tail_of h)) in
+      let j = same_branches p q x y i.1 in
+      let ha = at_of h in
+      (cc, j.1)
+  same_branches _ _ x y h = let hk = word_of h in absurd (cc)
+
+  same_statement : (p q : StatementReading) (x y : List Lexeme) → statement_tokens p ++ x ≡ statement_tokens q ++ y → (p ≡ q) × (x ≡ y)
+  same_statement (let_ a b n c e d) (let_ a' b' n' c' e' d') x y h =
+      let i = same_before e e' d d' x y (tail_of (tail_of (tail_of h))) in
+      let ha = at_of h in
+      let hb = at_of (tail_of h) in
+      let hn = word_of (tail_of h) in
+      let hc = at_of (tail_of (tail_of h)) in
+      (cc, i.2)
+  same_statement (assign a n c s) (assign a' n' c' s') x y h =
+      let i = same_side s s' x y (tail_of (tail_of h)) in
+      let ha = at_of h in
+      let hn = word_of h in
+      let hc = at_of (tail_of h) in
+      (cc, i.1)
+  same_statement (sleep a e c) (sleep a' e' c') x y h =
+      let i = same_before e e' c c' x y (tail_of h) in
+      let ha = at_of h in
+      (cc, i.2)
+  same_statement (while_ a e c ss) (while_ a' e' c' ss') x y h =
+      let i = same_expr e e' ((marked c mark.BraceOpen ∷ statements_tokens ss) ++ x) ((marked c' mark.BraceOpen ∷ statements_tokens ss') ++ y) ((((refl, refl), refl), refl), refl) ((((refl, refl), refl), refl), refl) (regrouped (expr_tokens e) (marked c mark.BraceOpen ∷ statements_tokens ss) x (expr_tokens e') (marked c' mark.BraceOpen ∷ statements_tokens ss') y (tail_of h)) in
+      let ha = at_of h in
+      let hc = at_of i.1 in
+      let j = same_statements ss ss' x y (tail_of i.1) in
+      (cc, j.1)
+  same_statement (parallel a b c ss p) (parallel a' b' c' ss' q) x y h =
+      let ha = at_of h in
+      let hb = at_of (tail_of h) in
+      let hc = at_of (tail_of (tail_of h)) in
+      let i = same_statements ss ss' (branches_tokens p ++ x) (branches_tokens q ++ y) (regrouped (statements_tokens ss) (branches_tokens p) x (statements_tokens ss') (branches_tokens q) y (tail_of (tail_of (tail_of h)))) in
+      let j = same_branches p q x y i.1 in
+      (cc, j.1)
+  same_statement (return_ a e c) (return_ a' e' c') x y h =
+      let i = same_before e e' c c' x y (tail_of h) in
+      let ha = at_of h in
+      (cc, i.2)
+  same_statement (fail a e c) (fail a' e' c') x y h =
+      let i = same_before e e' c c' x y (tail_of h) in
+      let ha = at_of h in
+      (cc, i.2)
+  same_statement (continue_ a b n p es c) (continue_ a' b' n' p' es' c') x y h =
+      let ha = at_of h in
+      let hb = at_of (tail_of h) in
+      let hn = at_of (tail_of (tail_of h)) in
+      let hp = at_of (tail_of (tail_of (tail_of h))) in
+      let i = same_arguments es es' (marked c mark.Semicolon ∷ x) (marked c' mark.Semicolon ∷ y) (regrouped (arguments_tokens es) (marked c mark.Semicolon ∷ []) x (arguments_tokens es') (marked c' mark.Semicolon ∷ []) y (tail_of (tail_of (tail_of (tail_of h))))) in
+      let hc = at_of i.1 in
+      (cc, tail_of i.1)
+  same_statement _ _ x y h = let hk = word_of h in absurd (cc)
+
+  same_statements : (p q : StatementsReading) (x y : List Lexeme) → statements_tokens p ++ x ≡ statements_tokens q ++ y → (p ≡ q) × (x ≡ y)
+  same_statements (no_statement a) (no_statement b) x y h = let ha = at_of h in (cc, tail_of h)
+  same_statements (statement s ms) (statement u ns) x y h =
+      let i = same_statement s u (statements_tokens ms ++ x) (statements_tokens ns ++ y) (regrouped (statement_tokens s) (statements_tokens ms) x (statement_tokens u) (statements_tokens ns) y h) in
+      let j = same_statements ms ns x y i.1 in
+      (cc, j.1)
+  same_statements (if_ a e c ss ms) (if_ a' e' c' ss' ns) x y h =
+      let p = marked c mark.BraceOpen ∷ (statements_tokens ss ++ choice_tokens ms) in
+      let q = marked c' mark.BraceOpen ∷ (statements_tokens ss' ++ choice_tokens ns) in
+      let i = same_expr e e' (p ++ x) (q ++ y) ((((refl, refl), refl), refl), refl) ((((refl, refl), refl), refl), refl) (regrouped (expr_tokens e) p x (expr_tokens e') q y (tail_of h)) in
+      let ha = at_of h in
+      let hc = at_of i.1 in
+      let j = same_statements ss ss' (choice_tokens ms ++ x) (choice_tokens ns ++ y) (regrouped (statements_tokens ss) (choice_tokens ms) x (statements_tokens ss') (choice_tokens ns) y (tail_of i.1)) in
+      let l = same_choice ms ns x y j.1 in
+      (cc, l.1)
+  same_statements (patch a b id is c ss ms) (patch a' b' id' is' c' ss' ns) x y h =
+      let ha = at_of h in
+      let hb = at_of (tail_of h) in
+      let hn = word_of (tail_of h) in
+      let hid : id ≡ id' = cc in
+      let hc = at_of (tail_of (tail_of h)) in
+      let j = same_statements ss ss' (choice_tokens ms ++ x) (choice_tokens ns ++ y) (regrouped (statements_tokens ss) (choice_tokens ms) x (statements_tokens ss') (choice_tokens ns) y (tail_of (tail_of (tail_of h)))) in
+      let l = same_choice ms ns x y j.1 in
+      let k = same_patch a b c id id' is is' ss ms hid in
+      (cc, l.1)
+  same_statements (statement s ms) q x y h = absurd (no_statement_starts s (statements_tokens ms) x (statements_tokens q ++ y) refl h)
+  same_statements p (statement u ns) x y h = absurd (no_statement_starts u (statements_tokens ns) y (statements_tokens p ++ x) refl (sym h))
+  same_statements _ _ x y h = let hk = word_of h in absurd (cc)
+
+  same_choice : (p q : AfterChoice) (x y : List Lexeme) → choice_tokens p ++ x ≡ choice_tokens q ++ y → (p ≡ q) × (x ≡ y)
+  same_choice (otherwise a b ss ms) (otherwise a' b' us ns) x y h =
+      let i = same_statements ss us (statements_tokens ms ++ x) (statements_tokens ns ++ y) (regrouped (statements_tokens ss) (statements_tokens ms) x (statements_tokens us) (statements_tokens ns) y (tail_of (tail_of h))) in
+      let j = same_statements ms ns x y i.1 in
+      let ha = at_of h in
+      let hb = at_of (tail_of h) in
+      (cc, j.1)
+  same_choice (without p) (without q) x y h = let i = same_statements p q x y h in (ap without i.0, i.1)
+  same_choice (otherwise a b ss ms) (without q) x y h = absurd (statements_start q y (clash m.statements (choice_tokens (otherwise a b ss ms) ++ x) (statements_tokens q ++ y) refl h))
+  same_choice (without p) (otherwise a b ss ms) x y h = absurd (statements_start p x (clash m.statements (choice_tokens (otherwise a b ss ms) ++ y) (statements_tokens p ++ x) refl (sym h)))
 
 declaration_ends : (d : DeclarationReading) (x : List Lexeme) → Past m.statements (declaration_tokens d ++ x)
 declaration_ends (activity a b n c us d t e) x = refl

@@ -6,6 +6,7 @@ use Rattle.flow_base.specs.declared.token.Word.TheVariants as word
 use Rattle.flow_base.specs.declared.token.Mark.{Mark}
 use Rattle.flow_base.specs.declared.token.Mark.TheVariants as mark
 use Rattle.flow_model.specs.Lexeme.{Lexeme}
+use Rattle.flow_model.specs.Grammar.{is_patch_id}
 
 -- What may be owed. The tails of expressions may also be nothing.
 pub data Symbol : Type 0 where
@@ -35,10 +36,15 @@ pub data Symbol : Type 0 where
   parameters : Symbol
   more_parameters : Symbol
   declaration : Symbol
+  else_tail : Symbol
   call_tail : Symbol
+  wait_tail : Symbol
   side : Symbol
+  more_branches : Symbol
   statement : Symbol
+  patch_id : Symbol
   statements : Symbol
+  after_choice : Symbol
   body : Symbol
   program : Symbol
 
@@ -155,19 +161,30 @@ abbrev pub parameters_takes : Word → Option (List Symbol)
 parameters_takes (word.Mark mark.Close) = Some []
 parameters_takes k = then_more (parameter_takes k) (more_parameters ∷ [])
 
+abbrev pub else_tail_takes : Word → Option (List Symbol)
+else_tail_takes (word.Mark mark.Semicolon) = Some []
+else_tail_takes (word.Mark mark.Else) = Some (sign mark.BraceOpen ∷ statements ∷ sign mark.Semicolon ∷ [])
+else_tail_takes _ = None
+
 abbrev pub call_tail_takes : Word → Option (List Symbol)
-call_tail_takes (word.Mark mark.Semicolon) = Some []
-call_tail_takes (word.Mark mark.Retry) = Some (number ∷ sign mark.Every ∷ number ∷ sign mark.Semicolon ∷ [])
-call_tail_takes _ = None
+call_tail_takes (word.Mark mark.Retry) = Some (number ∷ sign mark.Every ∷ number ∷ else_tail ∷ [])
+call_tail_takes k = else_tail_takes k
+
+abbrev pub wait_tail_takes : Word → Option (List Symbol)
+wait_tail_takes (word.Mark mark.Semicolon) = Some []
+wait_tail_takes (word.Mark mark.For) = Some (expr ∷ sign mark.Else ∷ sign mark.BraceOpen ∷ statements ∷ sign mark.Semicolon ∷ [])
+wait_tail_takes _ = None
 
 abbrev pub side_takes : Word → Option (List Symbol)
 side_takes (word.Mark mark.Call) = Some (name ∷ sign mark.Open ∷ arguments ∷ call_tail ∷ [])
-side_takes (word.Mark mark.Wait) = Some (sign mark.Signal ∷ name ∷ sign mark.Semicolon ∷ [])
+side_takes (word.Mark mark.Wait) = Some (sign mark.Signal ∷ name ∷ wait_tail ∷ [])
 side_takes k = then_more (expr_takes k) (sign mark.Semicolon ∷ [])
 
 abbrev pub statement_takes : Word → Option (List Symbol)
 statement_takes (word.Mark mark.Let) = Some (name ∷ sign mark.Assign ∷ expr ∷ sign mark.Semicolon ∷ [])
 statement_takes (word.Mark mark.Sleep) = Some (expr ∷ sign mark.Semicolon ∷ [])
+statement_takes (word.Mark mark.While) = Some (expr ∷ sign mark.BraceOpen ∷ statements ∷ [])
+statement_takes (word.Mark mark.Parallel) = Some (sign mark.BraceOpen ∷ sign mark.BraceOpen ∷ statements ∷ more_branches ∷ [])
 statement_takes (word.Mark mark.Return) = Some (expr ∷ sign mark.Semicolon ∷ [])
 statement_takes (word.Mark mark.Fail) = Some (expr ∷ sign mark.Semicolon ∷ [])
 statement_takes (word.Mark mark.Continue) = Some (sign mark.As ∷ sign mark.New ∷ sign mark.Open ∷ arguments ∷ sign mark.Semicolon ∷ [])
@@ -176,7 +193,13 @@ statement_takes _ = None
 
 abbrev pub statements_takes : Word → Option (List Symbol)
 statements_takes (word.Mark mark.BraceClose) = Some []
+statements_takes (word.Mark mark.If) = Some (expr ∷ sign mark.BraceOpen ∷ statements ∷ after_choice ∷ [])
+statements_takes (word.Mark mark.Patch) = Some (patch_id ∷ sign mark.BraceOpen ∷ statements ∷ after_choice ∷ [])
 statements_takes k = then_more (statement_takes k) (statements ∷ [])
+
+abbrev pub after_choice_takes : Word → Option (List Symbol)
+after_choice_takes (word.Mark mark.Else) = Some (sign mark.BraceOpen ∷ statements ∷ statements ∷ [])
+after_choice_takes k = statements_takes k
 
 abbrev pub declaration_takes : Word → Option (List Symbol)
 declaration_takes (word.Mark mark.Activity) = Some (name ∷ sign mark.Open ∷ types ∷ sign mark.Arrow ∷ type_ ∷ sign mark.Semicolon ∷ [])
@@ -228,10 +251,16 @@ takes parameters k = parameters_takes k
 takes more_parameters (word.Mark mark.Close) = Some []
 takes more_parameters (word.Mark mark.Comma) = Some (parameter ∷ more_parameters ∷ [])
 takes declaration k = declaration_takes k
+takes else_tail k = else_tail_takes k
 takes call_tail k = call_tail_takes k
+takes wait_tail k = wait_tail_takes k
 takes side k = side_takes k
+takes more_branches (word.Mark mark.BraceClose) = Some []
+takes more_branches (word.Mark mark.BraceOpen) = Some (statements ∷ more_branches ∷ [])
 takes statement k = statement_takes k
+takes patch_id (word.Text t) = cond (is_patch_id t) (Some []) None
 takes statements k = statements_takes k
+takes after_choice k = after_choice_takes k
 takes body k = body_takes k
 takes program (word.Mark mark.Workflow) = Some (name ∷ sign mark.Open ∷ parameters ∷ sign mark.BraceOpen ∷ body ∷ [])
 takes _ _ = None

@@ -1,7 +1,7 @@
 -- The text that a program prints as: the words of its tokens, joined by one space. An expression stands in parentheses
 -- only where the grammar needs them, and what stands for itself where it is missing is left out. This is for the whole
 -- language.
-use Rattle.std.specs.Prelude.{◌≡◌, ◌≤◌, ◌⊎◌, ℕ, nat_lt, ◌==◌, ◌&&◌, true, pos, negsuc, None, length, if◌then◌else◌, List, [], ◌∷◌, ◌++◌, map}
+use Rattle.std.specs.Prelude.{◌≡◌, ◌≤◌, ◌⊎◌, ℕ, nat_lt, ◌==◌, ◌&&◌, Bool, true, false, IsTrue, pos, negsuc, None, length, if◌then◌else◌, List, [], ◌∷◌, ◌++◌, map}
 use Rattle.std.specs.Fmt.{signed_decimal}
 use Rattle.flow_base.specs.declared.token.Word.{Word}
 use Rattle.flow_base.specs.declared.token.Word.TheVariants.{Name, Int, Text, Mark}
@@ -20,7 +20,7 @@ use Rattle.flow_base.specs.Syntax.{Bytes, Expression, Statement, Block, End, Nex
 use Rattle.flow_base.specs.declared.syntax.Retry.{Retry}
 use Rattle.flow_base.specs.Bare.{bare}
 use Rattle.flow_model.specs.Lexeme.{Lexeme, lexemes}
-use Rattle.flow_model.specs.Grammar.{Reads}
+use Rattle.flow_model.specs.Grammar.{is_patch_id, Reads}
 use Rattle.flow_model.specs.Meaning.{IsProgramOf}
 use Rattle.flow_model.specs.Tokens.{spelled, is_letters, TokensOf}
 use Rattle.flow_base.specs.declared.token.Token.{Token}
@@ -165,6 +165,10 @@ abbrev pub retry_words : Retry → List Word
 retry_words r =
     if (r.tries == 1) && (r.every == 0) then [] else Mark mark.Retry ∷ Int (pos r.tries) ∷ Mark mark.Every ∷ Int (pos r.every) ∷ []
 
+abbrev pub is_end : Block → Bool
+is_end End = true
+is_end (Next s b) = false
+
 abbrev mutual
   pub statement_words : Statement → List Word
   statement_words (tree.Let at name_at x e) = Mark mark.Let ∷ Name x ∷ Mark mark.Assign ∷ (expression_words e ++ end)
@@ -252,6 +256,40 @@ words_of ts = map (λ (t : Lexeme). t.word) ts
 -- tokens of these words, wherever they stand, are read as the program, up to places
 abbrev pub AreReadAs : List Word → Program → Type 0
 AreReadAs ws p = (ts : List Lexeme) → words_of ts ≡ ws → (q : Program) × (Reads ts q) × (bare q ≡ bare p)
+
+abbrev pub HasBranch : Branches → Type 0
+HasBranch NoBranch = ⊥
+HasBranch (Branch at b b_end bs) = Unit {0}
+
+-- What the grammar asks of lists of statements, and words alone don't tell: each `parallel` has a branch, each patch an id of
+-- 1 to 64 bytes.
+abbrev mutual
+  pub IsReadable : Statement → Type 0
+  IsReadable (tree.Let at name_at x e) = Unit {0}
+  IsReadable (tree.Assign at x e) = Unit {0}
+  IsReadable (tree.Call at x activity_at a es r o) = IsReadableElse o
+  IsReadable (tree.WaitSignal at x signal_at s) = Unit {0}
+  IsReadable (tree.WaitSignalFor at x signal_at s e b b_end) = AreReadable b
+  IsReadable (tree.Sleep at e) = Unit {0}
+  IsReadable (tree.If at e a a_end b b_end) = AreReadable a × AreReadable b
+  IsReadable (tree.While at e b b_end) = AreReadable b
+  IsReadable (tree.Parallel at bs) = HasBranch bs × AreReadableBranches bs
+  IsReadable (tree.Patch at id_at id a a_end b b_end) = IsTrue (is_patch_id id) × (AreReadable a × AreReadable b)
+  IsReadable (tree.Return at e) = Unit {0}
+  IsReadable (tree.FailWith at e) = Unit {0}
+  IsReadable (tree.Continue at es) = Unit {0}
+
+  pub AreReadable : Block → Type 0
+  AreReadable End = Unit {0}
+  AreReadable (Next s b) = IsReadable s × AreReadable b
+
+  pub IsReadableElse : Otherwise → Type 0
+  IsReadableElse NoElse = Unit {0}
+  IsReadableElse (Else b b_end) = AreReadable b
+
+  pub AreReadableBranches : Branches → Type 0
+  AreReadableBranches NoBranch = Unit {0}
+  AreReadableBranches (Branch at b b_end bs) = AreReadable b × AreReadableBranches bs
 
 -- what a text of a program has: line feeds, and bytes from 32 on
 abbrev pub IsWritable : ℕ → Type 0

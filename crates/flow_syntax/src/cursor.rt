@@ -1,16 +1,16 @@
 //! Steps over tokens.
-ghost use Rattle.std.specs.Prelude.{◌≡◌, [], ◌∷◌, ◌<◌, length, IfOk, IfErr, IfSome, MatchOption};
+ghost use Rattle.std.specs.Prelude.{◌≡◌, [], ◌∷◌, ◌<◌, length, IsTrue, false, IfOk, IfErr, IfSome, MatchOption};
 ghost use Rattle.flow_model.specs.Lexeme.{lexeme, lexemes};
-ghost use Rattle.flow_model.specs.Grammar.{marked, named, type_tokens, type_of, whole};
+ghost use Rattle.flow_model.specs.Grammar.{marked, named, type_tokens, type_of, whole, is_patch_id};
 ghost use Rattle.flow_syntax.specs.Machine as m;
-ghost use Rattle.flow_syntax.specs.Parsing.{Parsed, StopsAt, Lacks, LacksMark, IsNumber};
+ghost use Rattle.flow_syntax.specs.Parsing.{Parsed, StopsAt, Lacks, LacksMark, IsNumber, IsPatchId};
 
 use crate::fault::Stop;
 use flow_base::syntax::TypeAt;
-use flow_base::text::Key;
+use flow_base::text::{Key, Text};
 use flow_base::token::{Mark, Token, Word};
-use flow_base::value::Kind;
-use std::alloc::Global;
+use flow_base::value::{Kind, ValueFault};
+use std::alloc::{AllocError, Global};
 
 fn first_and_rest(tokens: &[Token]) -> Option<(&Token, &[Token])>
     ensures { MatchOption result (tokens.now ≡ []) (λ x. tokens.now ≡ x.0.now ∷ x.1.now) }
@@ -102,6 +102,38 @@ pub fn number(tokens: &[Token]) -> Result<(usize, u64, &[Token]), Stop>
     };
     match &first.word {
         Word::Int(number) => Ok((first.from, whole(*number), rest)),
+        _ => Err(Stop::Unexpected(tokens.len())),
+    }
+}
+
+/// The text as a patch's id, if it has 1 to 64 bytes.
+fn as_patch_id(alloc: Global, text: &Text) -> Result<Option<Key>, AllocError>
+    ensures { IfOk result (λ o. MatchOption o (is_patch_id text.now ≡ false) (λ id. (id ≡ text.now) × IsTrue (is_patch_id id))) }
+{
+    match Key::new(alloc, text.as_str()) {
+        Ok(id) => Ok(Some(id)),
+        Err(ValueFault::NoMemory) => Err(AllocError),
+        Err(ValueFault::NotAValue) => Ok(None),
+        Err(ValueFault::TooLong) => Ok(None),
+    }
+}
+
+/// A patch's id with its place, and what follows it.
+pub fn patch_id(alloc: Global, tokens: &[Token]) -> Result<(usize, Key, &[Token]), Stop>
+    ensures ok { IfOk result (λ x. IsPatchId (lexemes tokens.now) x.0 x.1 (lexemes x.2.now)) }
+    ensures shorter { IfOk result (λ x. length x.2.now < length tokens.now) }
+    ensures err { IfErr result (λ e. StopsAt m.patch_id (lexemes tokens.now) e) }
+{
+    let Some((first, rest)) = next(tokens) else {
+        return Err(Stop::Unexpected(0));
+    };
+    match &first.word {
+        Word::Text(text) => {
+            let Some(id) = as_patch_id(alloc, text)? else {
+                return Err(Stop::Unexpected(tokens.len()));
+            };
+            Ok((first.from, id, rest))
+        }
         _ => Err(Stop::Unexpected(tokens.len())),
     }
 }

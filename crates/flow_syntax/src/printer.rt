@@ -5,7 +5,7 @@ ghost use Rattle.std.specs.Fmt.{decimal, signed_decimal};
 ghost use Rattle.flow_base.specs.declared.token.Word.TheVariants as word;
 ghost use Rattle.flow_syntax.specs.Print.{all_written, spaced, kind_mark};
 
-use flow_base::text::{Key, Text};
+use flow_base::text::Key;
 use flow_base::token::Mark;
 use flow_base::value::Kind;
 use flow_tokens::spelled;
@@ -112,11 +112,11 @@ impl Printer {
     }
 
     #[tactic(auto, unfolding(crate::specs::Print::spaced))]
-    pub fn quoted(&mut self, text: &Text) -> Result<(), AllocError>
+    pub fn quoted(&mut self, text: &str) -> Result<(), AllocError>
         ensures { OnOk result (self.new ≡ self.old ++ spaced (word.Text text.now ∷ [])) }
     {
         self.token("\"")?;
-        self.written(text.as_str())?;
+        self.written(text)?;
         self.push("\"")?;
         Ok(())
     }

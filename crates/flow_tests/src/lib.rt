@@ -2,6 +2,8 @@
 #![tactic(auto)]
 
 #[cfg(test)]
+mod blocks;
+#[cfg(test)]
 mod deciding;
 #[cfg(test)]
 mod histories;
@@ -9,6 +11,8 @@ mod histories;
 mod lines;
 #[cfg(test)]
 mod runs;
+#[cfg(test)]
+mod same;
 #[cfg(test)]
 mod stops;
 #[cfg(test)]

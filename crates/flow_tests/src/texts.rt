@@ -1,93 +1,11 @@
 //! Texts: what `flow check` says of them, and that a printed program is read as the same program.
-use flow_base::syntax::{Declaration, Expr, Parameter, Program, Retry, Stmt, TypeAt};
+use crate::same::same_program;
 use flow_check::language::Language;
 use flow_cli::check::tell_verdict;
 use flow_syntax::parse::parse;
 use flow_syntax::print::print;
 use std::string::ToString;
 use std::test::Fail;
-
-/// Whether two expressions are the same up to places.
-fn same_expr(left: &Expr, right: &Expr) -> bool {
-    match (left, right) {
-        (Expr::Int(_, n), Expr::Int(_, m)) => *n == *m,
-        (Expr::Text(_, t), Expr::Text(_, u)) => t.is(u),
-        (Expr::Var(_, x), Expr::Var(_, y)) => x.is(y),
-        (Expr::Now(_), Expr::Now(_)) => true,
-        (Expr::Unary(_, f, a), Expr::Unary(_, g, b)) => *f == *g && same_expr(a, b),
-        (Expr::Binary(f, a, b), Expr::Binary(g, c, d)) => *f == *g
-            && same_expr(a, c)
-            && same_expr(b, d),
-        _ => false,
-    }
-}
-
-fn same_exprs(left: &[Expr], right: &[Expr]) -> bool {
-    left.len() == right.len() && left.iter().zip(right).all(|(a, b)| same_expr(a, b))
-}
-
-fn same_retry(left: &Retry, right: &Retry) -> bool {
-    left.tries == right.tries && left.every == right.every
-}
-
-fn same_stmt(left: &Stmt, right: &Stmt) -> bool {
-    match (left, right) {
-        (Stmt::Let(_, _, x, e), Stmt::Let(_, _, y, f)) => x.is(y) && same_expr(e, f),
-        (Stmt::Assign(_, x, e), Stmt::Assign(_, y, f)) => x.is(y) && same_expr(e, f),
-        (Stmt::Call(_, x, _, a, es, n), Stmt::Call(_, y, _, b, fs, m)) => x.is(y)
-            && a.is(b)
-            && same_exprs(es, fs)
-            && same_retry(n, m),
-        (Stmt::WaitSignal(_, x, _, a), Stmt::WaitSignal(_, y, _, b)) => x.is(y) && a.is(b),
-        (Stmt::Sleep(_, e), Stmt::Sleep(_, f)) => same_expr(e, f),
-        (Stmt::Return(_, e), Stmt::Return(_, f)) => same_expr(e, f),
-        (Stmt::FailWith(_, e), Stmt::FailWith(_, f)) => same_expr(e, f),
-        (Stmt::Continue(_, es), Stmt::Continue(_, fs)) => same_exprs(es, fs),
-        _ => false,
-    }
-}
-
-fn same_types(left: &[TypeAt], right: &[TypeAt]) -> bool {
-    left.len() == right.len() && left.iter().zip(right).all(|(a, b)| a.kind == b.kind)
-}
-
-fn same_declaration(left: &Declaration, right: &Declaration) -> bool {
-    match (left, right) {
-        (
-            Declaration::Activity(_, _, x, takes, gives),
-            Declaration::Activity(_, _, y, also_takes, also_gives),
-        ) => x.is(y) && same_types(takes, also_takes) && *gives == *also_gives,
-        (Declaration::Signal(_, _, x, kind), Declaration::Signal(_, _, y, other)) => x.is(y)
-            && *kind == *other,
-        _ => false,
-    }
-}
-
-fn same_parameter(left: &Parameter, right: &Parameter) -> bool {
-    left.name.is(&right.name) && left.kind == right.kind
-}
-
-fn same_program(left: &Program, right: &Program) -> bool {
-    left.name.is(&right.name)
-        && left.parameters.len() == right.parameters.len()
-        && left
-            .parameters
-            .iter()
-            .zip(right.parameters.iter())
-            .all(|(a, b)| same_parameter(a, b))
-        && left.declarations.len() == right.declarations.len()
-        && left
-            .declarations
-            .iter()
-            .zip(right.declarations.iter())
-            .all(|(a, b)| same_declaration(a, b))
-        && left.body.len() == right.body.len()
-        && left
-            .body
-            .iter()
-            .zip(right.body.iter())
-            .all(|(a, b)| same_stmt(a, b))
-}
 
 /// Whether the text is printed so, and what is printed is read as the same program.
 fn is_printed_as(rt: &HostRuntime, text: &str, printed: &str) -> Result<bool, Fail> {

@@ -30,11 +30,7 @@ const FAULTS: [(&str, Code, usize); 12] = [
     ("workflow x() { let a = 1 2 ! }", Code::Unexpected, 25),
     ("workflow x() { let a = sleep; }", Code::Unexpected, 23),
     ("workflow x() { sleep; }", Code::Unexpected, 20),
-    (
-        "workflow x() { a = call b() else { }; }",
-        Code::Unexpected,
-        28,
-    ),
+    ("workflow x() { a = call b() else; }", Code::Unexpected, 32),
     ("workflow x() { return 1 < 2 < 3; }", Code::Unexpected, 28),
     ("workflow x() { return 1", Code::Unexpected, 23),
     ("workflow x() { return 1; } 2", Code::Unexpected, 27),
@@ -109,6 +105,85 @@ fn stops_at_the_first_token_that_does_not_fit(rt: HostRuntime) {
     assert_eq!(rt; first_other_place(rt.alloc(), &UNFIT), None);
 }
 
+/// The same for `if` and `while`.
+const UNFIT_AT_CHOICES: [(&str, usize); 16] = [
+    ("workflow x() { if { } }", 18),
+    ("workflow x() { if 1 == 1 ; }", 25),
+    ("workflow x() { if 1 == 1 return 1; }", 25),
+    ("workflow x() { if 1 == 1 { }; }", 28),
+    ("workflow x() { if 1 == 1 { return 1 } }", 36),
+    (
+        "workflow x() { if 1 == 1 { let a = 1; activity b() -> int; } }",
+        38,
+    ),
+    ("workflow x() { if 1 == 1 { } else if 2 == 2 { } }", 34),
+    ("workflow x() { if 1 == 1 { } else { } else { } }", 38),
+    ("workflow x() { if 1 == 1 { } let a = 1; else { } }", 40),
+    ("workflow x() { else { } }", 15),
+    ("workflow x() { { } }", 15),
+    ("workflow x() { if 1 == 1 { }", 28),
+    ("workflow x() { while { } }", 21),
+    ("workflow x() { while 1 == 1 ; }", 28),
+    ("workflow x() { while 1 == 1 { } else { } }", 32),
+    ("workflow x() { while 1 == 1 { } } }", 34),
+];
+
+/// The same for what follows a call and a wait.
+const UNFIT_BEHIND_CALLS: [(&str, usize); 16] = [
+    ("workflow x() { a = call b() else call c(); }", 33),
+    ("workflow x() { a = call b() else { } }", 37),
+    (
+        "workflow x() { a = call b() else { } retry 2 every 5; }",
+        37,
+    ),
+    ("workflow x() { a = call b() else { } else { }; }", 37),
+    ("workflow x() { a = call b() { }; }", 28),
+    ("workflow x() { a = call b() retry 2 every 5 { }; }", 44),
+    (
+        "workflow x() { a = call b() retry 2 every 5 else { } a = 1; }",
+        53,
+    ),
+    ("workflow x() { a = 1 else { }; }", 21),
+    ("workflow x() { a = wait signal b else { }; }", 33),
+    ("workflow x() { a = wait signal b for ; }", 37),
+    ("workflow x() { a = wait signal b for { }; }", 37),
+    ("workflow x() { a = wait signal b for 5; }", 38),
+    ("workflow x() { a = wait signal b for 5 { }; }", 39),
+    ("workflow x() { a = wait signal b for 5 else ; }", 44),
+    ("workflow x() { a = wait signal b for 5 else { } }", 48),
+    (
+        "workflow x() { a = wait signal b for 5 else { } else { }; }",
+        48,
+    ),
+];
+
+/// The same for `patch` and `parallel`.
+const UNFIT_IN_PATCHES: [(&str, usize); 16] = [
+    ("workflow x() { patch { } }", 21),
+    ("workflow x() { patch n { } }", 21),
+    ("workflow x() { patch 1 { } }", 21),
+    ("workflow x() { patch \"\" { } }", 21),
+    ("workflow x() { patch \"a\" ; }", 25),
+    ("workflow x() { patch \"a\" \"b\" { } }", 25),
+    ("workflow x() { patch \"a\" { } else ; }", 34),
+    ("workflow x() { patch \"a\" { } else { } else { } }", 38),
+    ("workflow x() { parallel ; }", 24),
+    ("workflow x() { parallel { } }", 26),
+    ("workflow x() { parallel \"a\" { { } } }", 24),
+    ("workflow x() { parallel { return 1; } }", 26),
+    ("workflow x() { parallel { { } return 1; } }", 30),
+    ("workflow x() { parallel { { }; } }", 29),
+    ("workflow x() { parallel { { } else { } } }", 30),
+    ("workflow x() { parallel { { } } else { } }", 32),
+];
+
+#[test]
+fn stops_at_the_first_token_that_fits_in_no_block(rt: HostRuntime) {
+    assert_eq!(rt; first_other_place(rt.alloc(), &UNFIT_AT_CHOICES), None);
+    assert_eq!(rt; first_other_place(rt.alloc(), &UNFIT_BEHIND_CALLS), None);
+    assert_eq!(rt; first_other_place(rt.alloc(), &UNFIT_IN_PATCHES), None);
+}
+
 /// A program with each form that has no block of its own.
 const WITH_EACH_FORM: &str =
     "workflow x(n: int) { signal s: text; activity b(int) -> int; signal t: int; let a = now; a = call b(now - 1) retry 3 every 500; a = call b(n); s = wait signal s; sleep 1000 * n; fail \"a\"; continue as new (a + 1, n); return now; continue as new (); }";
@@ -118,8 +193,17 @@ fn reads_each_form(rt: HostRuntime) {
     assert_eq!(rt; fault(rt.alloc(), WITH_EACH_FORM), None);
 }
 
+/// A program with each form that has a block, empty and not, within others and alone.
+const WITH_EACH_BLOCK: &str =
+    "workflow x(n: int) { signal s: text; activity b(int) -> int; if n == 1 { } if n == 2 { let a = 1; } else { if n == 3 { } else { } } while n < 5 { n = n + 1; } parallel { { } { while n == 1 { } } } parallel { { return 1; } } patch \"a\" { } patch \"b\" { n = 1; } else { n = 2; } n = call b(1) else { n = 3; }; n = call b(1) retry 2 every 5 else { }; t = wait signal s for 5 else { }; t = wait signal s for n * 2 else { if n == 1 { } }; if n == 1 { } return 1; }";
+
+#[test]
+fn reads_each_block(rt: HostRuntime) {
+    assert_eq!(rt; fault(rt.alloc(), WITH_EACH_BLOCK), None);
+}
+
 /// Programs, each with what it prints as.
-const PRINTED: [(&str, &str); 10] = [
+const PRINTED: [(&str, &str); 16] = [
     ("workflow e() {}", "workflow e ( ) { }"),
     (
         "workflow a(n: int) { activity c(int, text) -> int; let r = 0; r = call c(n, \"eur\"); return r + 1; }",
@@ -156,6 +240,30 @@ const PRINTED: [(&str, &str); 10] = [
     (
         "workflow r(n: int) { continue as new(); n = call c(n) retry 9223372036854775807 every 9223372036854775807; continue as new((n), now - 1); }",
         "workflow r ( n : int ) { continue as new ( ) ; n = call c ( n ) retry 9223372036854775807 every 9223372036854775807 ; continue as new ( n , now - 1 ) ; }",
+    ),
+    (
+        "workflow i(n: int) { if n < 1 { } else { } if (n < 2) { n = 1; } if n < 3 { } else { n = 2; } return n; }",
+        "workflow i ( n : int ) { if n < 1 { } if n < 2 { n = 1 ; } if n < 3 { } else { n = 2 ; } return n ; }",
+    ),
+    (
+        "workflow w(n: int) { while n > 0 { n = n - 1; while (n == 5) { } } }",
+        "workflow w ( n : int ) { while n > 0 { n = n - 1 ; while n == 5 { } } }",
+    ),
+    (
+        "workflow c(n: int) { activity b() -> int; n = call b() else { }; n = call b() retry 2 every 5 else { n = 0; return n; }; n = call b() retry 1 every 0 else { fail \"a\"; }; }",
+        "workflow c ( n : int ) { activity b ( ) -> int ; n = call b ( ) else { } ; n = call b ( ) retry 2 every 5 else { n = 0 ; return n ; } ; n = call b ( ) else { fail \"a\" ; } ; }",
+    ),
+    (
+        "workflow s(n: int) { signal go: int; n = wait signal go for (n * 2) else { }; n = wait signal go for 5 else { n = 1; }; }",
+        "workflow s ( n : int ) { signal go : int ; n = wait signal go for n * 2 else { } ; n = wait signal go for 5 else { n = 1 ; } ; }",
+    ),
+    (
+        "workflow p() { patch \"one\" { } patch \"two\" { sleep 1; } else { } patch \"a b\" { } else { sleep 2; } }",
+        "workflow p ( ) { patch \"one\" { } patch \"two\" { sleep 1 ; } patch \"a b\" { } else { sleep 2 ; } }",
+    ),
+    (
+        "workflow b() { parallel { { } { sleep 1; parallel { { } } } { if now < 1 { } else { return 1; } } } }",
+        "workflow b ( ) { parallel { { } { sleep 1 ; parallel { { } } } { if now < 1 { } else { return 1 ; } } } }",
     ),
 ];
 
@@ -262,6 +370,53 @@ fn names_and_texts_have_limits(rt: HostRuntime) -> Result<(), Fail> {
         assert!(&rt;
             fault_of_long_word(rt.alloc(), parts, bytes)? == wanted,
             "{bytes}"
+        );
+    }
+    Ok(())
+}
+
+#[test]
+fn ids_of_patches_have_1_to_64_bytes(rt: HostRuntime) -> Result<(), Fail> {
+    let id = ["workflow e() { patch \"", "\" { } }"];
+    for (bytes, wanted) in [
+        (0, Some((Code::Unexpected, Some(21)))),
+        (1, None),
+        (64, None),
+        (65, Some((Code::Unexpected, Some(21)))),
+    ] {
+        assert!(&rt;
+            fault_of_long_word(rt.alloc(), id, bytes)? == wanted,
+            "{bytes}"
+        );
+    }
+    Ok(())
+}
+
+/// The fault of a program with so many blocks, each within the one before.
+fn fault_of_nested(
+    alloc: Global,
+    parts: [&str; 2],
+    times: usize,
+) -> Result<Option<(Code, Option<usize>)>, Fail> {
+    let before = parts[0].repeat(alloc, times)?;
+    let behind = parts[1].repeat(alloc, times)?;
+    let text = format!(in alloc; "workflow e() {{ {before}{behind}}}")?;
+    Ok(fault(alloc, text.as_str()))
+}
+
+#[test]
+fn blocks_stand_in_blocks_up_to_64_brackets(rt: HostRuntime) -> Result<(), Fail> {
+    let turns = ["while 1 == 1 { ", "} "];
+    let branches = ["parallel { { ", "} } "];
+    for (parts, times, wanted) in [
+        (turns, 63, None),
+        (turns, 64, Some((Code::TooDeep, Some(973)))),
+        (branches, 31, None),
+        (branches, 32, Some((Code::TooDeep, Some(429)))),
+    ] {
+        assert!(&rt;
+            fault_of_nested(rt.alloc(), parts, times)? == wanted,
+            "{times}"
         );
     }
     Ok(())

@@ -115,7 +115,7 @@ fn after(at: Moment, delay: i64) -> Result<Moment, Cause>
 }
 
 /// Whether a value is true as a condition: any number but 0.
-fn truth(v: &Value) -> bool
+pub fn truth(v: &Value) -> bool
     ensures { result ≡ is_true v.now }
 {
     number_of(v) != 0

@@ -1,4 +1,5 @@
-use Rattle.std.proofs.Common.{[], ◌∷◌, sym, subst, rules}
+use Rattle.std.proofs.Common.{[], ◌∷◌, refl, sym, subst, rules}
+use Rattle.flow_base.specs.declared.code.Code.TheVariants as code
 use Rattle.flow_base.specs.Syntax.{Bytes}
 use Rattle.flow_model.specs.WellFormed.{named, variables}
 use Rattle.flow_check.specs.Tables.{Declares}
@@ -9,7 +10,7 @@ pub returns : goal.returns
 returns c =
     let name = c.as_str.result.now in
     subst (λ (x : Bytes). Declares c.args.self.now c.args.found.now (named variables c.args.at x ∷ []) c.declares.new.self c.declares.new.found) c.as_str.ensures.text
-    (declares_variable c.args.self.now c.declares.new.self c.args.found.now c.declares.new.found c.args.at name c.in_ok-is_new.is_new c.declares.ensures.count c.declares.ensures.noted
+    (declares_variable c.args.self.now c.declares.new.self c.args.found.now c.declares.new.found c.args.at name c.in_ok-is_new.is_new code.DeclaredTwice c.declares.ensures.count c.declares.ensures.noted refl
     (search rules)
     (subst (λ n. Adds c.args.self.now.variables name n) (sym c.declares.ensures.variables) (adds c.args.self.now.variables c.insert.new.self name c.in_ok-is_new.ensures.updates))
-    c.declares.ensures.activities c.declares.ensures.signals)
+    c.declares.ensures.activities c.declares.ensures.signals c.declares.ensures.patches)

@@ -1,0 +1,182 @@
+//! What comes to a run, turn by turn, and what it asks: of a plain run and of a stance alike.
+use crate::numbers::{event_id, moment};
+use flow_base::event::{Cause, Cmd, Input};
+use flow_base::sequence::Sequence;
+use flow_base::text::{Key, Text};
+use flow_base::value::Value;
+use flow_check::check::check;
+use flow_check::checked::Checked;
+use flow_run::fault::RunFault;
+use flow_run::plain::{PlainRun, TurnFault, plain_turn, unbegun};
+use flow_run::stance::{Answers, Stance, turn};
+use flow_syntax::parse::parse;
+use std::alloc::Global;
+use std::test::Fail;
+
+/// What comes to a run.
+#[derive(Clone, Copy)]
+pub enum Comes {
+    /// Its start, with no arguments.
+    Start,
+    /// The signal of this name, with a number.
+    Signal(&'static str, i64),
+    /// The number that the activity of an event gave.
+    Gives(u64, i64),
+    /// That the activity of an event failed, with this text.
+    Fails(u64, &'static str),
+    /// That the timer of an event fired.
+    Fires(u64),
+}
+
+/// A command that a turn is to ask.
+#[derive(Clone, Copy)]
+pub enum Asks {
+    /// No command stands here.
+    Nothing,
+    /// The run isn't to take what comes.
+    Refuses,
+    /// The activity of this name.
+    Call(&'static str),
+    /// A timer that is due at this moment.
+    Timer(u64),
+    /// That the timer of an event is cancelled.
+    Cancel(u64),
+    /// The marker of a patch.
+    Marker(&'static str),
+    /// The end with a number.
+    Ends(i64),
+    Fails(Cause, &'static str),
+}
+
+pub const NO: Asks = Asks::Nothing;
+
+/// A turn: its moment, what comes, and the commands.
+pub type Turn = (u64, Comes, [Asks; 3]);
+
+/// Whether the commands of a turn are these.
+pub fn are(commands: &[Cmd], wanted: [Asks; 3]) -> bool {
+    match commands {
+        [] => is_nothing(wanted[0]),
+        [a] => is(a, wanted[0]) && is_nothing(wanted[1]),
+        [a, b] => is(a, wanted[0]) && is(b, wanted[1]) && is_nothing(wanted[2]),
+        [a, b, c] => is(a, wanted[0]) && is(b, wanted[1]) && is(c, wanted[2]),
+        _ => false,
+    }
+}
+
+fn is_nothing(wanted: Asks) -> bool {
+    matches!(wanted, Asks::Nothing)
+}
+
+fn is(command: &Cmd, wanted: Asks) -> bool {
+    match command {
+        Cmd::Schedule(name, _, _, _, _) => {
+            matches!(wanted, Asks::Call(words) if words == name.as_str())
+        }
+        Cmd::StartTimer(at) => matches!(wanted, Asks::Timer(due) if due == at.get()),
+        Cmd::CancelTimer(id) => matches!(wanted, Asks::Cancel(n) if n == id.get()),
+        Cmd::RecordMarker(id) => matches!(wanted, Asks::Marker(words) if words == id.as_str()),
+        Cmd::Complete(Value::Int(n)) => matches!(wanted, Asks::Ends(m) if m == *n),
+        Cmd::Fail(cause, text) => {
+            matches!(wanted, Asks::Fails(c, words) if c == *cause && words == text.as_str())
+        }
+        _ => false,
+    }
+}
+
+fn input(alloc: Global, comes: Comes) -> Result<Input, Fail> {
+    match comes {
+        Comes::Start => Ok(Input::Started(Sequence::new(alloc))),
+        Comes::Signal(name, n) => signaled(alloc, name, n),
+        Comes::Gives(id, n) => Ok(Input::ActivityCompleted(event_id(id)?, Value::Int(n))),
+        Comes::Fails(id, text) => failed(alloc, id, text),
+        Comes::Fires(id) => Ok(Input::TimerFired(event_id(id)?)),
+    }
+}
+
+// A signal with a number, of the request `q`.
+fn signaled(alloc: Global, name: &str, n: i64) -> Result<Input, Fail> {
+    let name = Key::new(alloc, name)?;
+    let request = Key::new(alloc, "q")?;
+    Ok(Input::Signaled(name, request, Value::Int(n)))
+}
+
+fn failed(alloc: Global, id: u64, text: &str) -> Result<Input, Fail> {
+    let id = event_id(id)?;
+    Ok(Input::ActivityFailed(id, Text::new(alloc, text)?))
+}
+
+/// The checked program of a text.
+pub fn program(alloc: Global, text: &str) -> Result<Checked, Fail> {
+    let program = parse(alloc, text)?;
+    Ok(check(alloc, program)?)
+}
+
+// Whether the next turn of a stance asks what is wanted.
+fn stance_goes(
+    alloc: Global,
+    program: &Checked,
+    stance: &mut Stance,
+    at: u64,
+    input: &Input,
+    wanted: [Asks; 3],
+) -> Result<bool, Fail> {
+    let at = moment(at)?;
+    if stance.events() > 1000 {
+        return Ok(false);
+    }
+    match turn(alloc, stance, program, at, input, Answers::Fresh) {
+        Ok(commands) => Ok(are(&commands, wanted)),
+        Err(RunFault::NotAwaited) => Ok(matches!(wanted[0], Asks::Refuses)),
+        Err(_) => Ok(false),
+    }
+}
+
+// Whether the next turn of a plain run does.
+fn plain_goes(
+    alloc: Global,
+    program: &Checked,
+    run: &mut PlainRun,
+    at: u64,
+    input: &Input,
+    wanted: [Asks; 3],
+) -> Result<bool, Fail> {
+    let at = moment(at)?;
+    if run.events() > 1000 {
+        return Ok(false);
+    }
+    match plain_turn(alloc, run, program.program(), at, input, Answers::Fresh) {
+        Ok(commands) => Ok(are(&commands, wanted)),
+        Err(TurnFault::NotAwaited) => Ok(matches!(wanted[0], Asks::Refuses)),
+        Err(_) => Ok(false),
+    }
+}
+
+// Whether the next turn of both does.
+fn goes(
+    alloc: Global,
+    program: &Checked,
+    run: &mut PlainRun,
+    stance: &mut Stance,
+    next: Turn,
+) -> Result<bool, Fail> {
+    let (at, comes, wanted) = next;
+    let input = input(alloc, comes)?;
+    let plain = plain_goes(alloc, program, run, at, &input, wanted)?;
+    let stance = stance_goes(alloc, program, stance, at, &input, wanted)?;
+    Ok(plain && stance)
+}
+
+/// The number, from 0, of the first of these turns in which a run of the program asks something else; how many there are
+/// where each asks what is wanted.
+pub fn first_other(alloc: Global, text: &str, turns: &[Turn]) -> Result<usize, Fail> {
+    let program = program(alloc, text)?;
+    let mut run = unbegun(alloc);
+    let mut stance = Stance::unbegun(alloc);
+    for (i, next) in turns.iter().enumerate() {
+        if !goes(alloc, &program, &mut run, &mut stance, *next)? {
+            return Ok(i);
+        }
+    }
+    Ok(turns.len())
+}
