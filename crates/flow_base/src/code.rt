@@ -70,12 +70,16 @@ pub enum Code {
     BadArguments,
     /// E62: a run of the flow is open already.
     AlreadyOpen,
+    /// E63: no run of the flow is open.
+    NoOpenRun,
     /// E64: the run is closed, or the event is no open activity of it.
     NotOpen,
     /// E65: the attempt isn't the current one.
     OldAttempt,
     /// E66: the value has the wrong type.
     WrongType,
+    /// E67: the run's text declares no such signal.
+    NoSuchSignal,
     /// E68: the history doesn't replay under the text.
     Mismatch,
     /// E69: the history is full.
@@ -138,9 +142,11 @@ impl Code {
             Code::NoText => 60,
             Code::BadArguments => 61,
             Code::AlreadyOpen => 62,
+            Code::NoOpenRun => 63,
             Code::NotOpen => 64,
             Code::OldAttempt => 65,
             Code::WrongType => 66,
+            Code::NoSuchSignal => 67,
             Code::Mismatch => 68,
             Code::HistoryFull => 69,
             Code::NoRun => 70,

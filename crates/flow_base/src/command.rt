@@ -12,6 +12,8 @@ pub enum Command {
     Register(RawText),
     /// A request id, a flow, a text, its arguments, and a moment.
     Start(Key, Key, TextNo, Sequence<Value>, Moment),
+    /// A request id, a flow, the signal's name, what it carries, and a moment.
+    Signal(Key, Key, RawText, Value, Moment),
     /// A run, the event that scheduled the activity, the attempt, what the activity gave, and a moment.
     Complete(RunId, EventId, u64, Value, Moment),
     /// A run, why it is to be closed, and a moment.
@@ -50,6 +52,8 @@ pub enum Reply {
     Recorded(RunId, EventId),
     /// The request is known: the run that it started.
     Duplicate(RunId),
+    /// The request is known: the run that took its signal, and the event that recorded it.
+    DuplicateSignal(RunId, EventId),
     Run(Description),
     History(Sequence<Event>),
     /// E60 to E70 but E69.

@@ -11,7 +11,7 @@ use Rattle.flow_base.specs.declared.command.Command.{Command}
 use Rattle.flow_base.specs.declared.command.Command.TheVariants as command
 use Rattle.flow_base.specs.Limits.{IsMoment, IsPosition, IsKey, IsText, FitsValue, FitsList}
 use Rattle.flow_base.proofs.Exact.{IsExactTable, map_some, nothing_exact, with_exact, whole_exact, text_exact, any_text_exact, value_exact, values_exact, fixed_exact, as_object_back}
-use Rattle.flow_cli.specs.Commands.{register, start, complete, terminate, describe, history, members_out, members_in, command_out, command_in, line_command, verb_in, IsCommand}
+use Rattle.flow_cli.specs.Commands.{register, start, signal, complete, terminate, describe, history, members_out, members_in, command_out, command_in, line_command, verb_in, IsCommand}
 use Rattle.flow_cli.specs.Faults.{GivesCommand, GivesLine}
 use Rattle.flow_cli.specs.declared.command.LineFault.{LineFault}
 use Rattle.flow_cli.specs.declared.command.LineFault.TheVariants as fault
@@ -25,6 +25,11 @@ start_exact : IsExactTable start (λ p. FitsList p.0 × (IsMoment p.1.0 × (Unit
 start_exact =
     with_exact _ _ _ _ _ values_exact (with_exact _ _ _ _ _ (whole_exact _ _) (with_exact _ _ _ _ _ (fixed_exact _) (with_exact _ _ _ _ _ (text_exact _ _)
     (with_exact _ _ _ _ _ (text_exact _ _) (with_exact _ _ _ _ _ (whole_exact _ _) nothing_exact)))))
+
+signal_exact : IsExactTable signal (λ p. IsMoment p.0 × (Unit {0} × (IsKey p.1.1.0 × (Unit {0} × (IsKey p.1.1.1.1.0 × (FitsValue p.1.1.1.1.1.0 × Unit {0}))))))
+signal_exact =
+    with_exact _ _ _ _ _ (whole_exact _ _) (with_exact _ _ _ _ _ (fixed_exact _) (with_exact _ _ _ _ _ (text_exact _ _) (with_exact _ _ _ _ _ any_text_exact
+    (with_exact _ _ _ _ _ (text_exact _ _) (with_exact _ _ _ _ _ value_exact nothing_exact)))))
 
 complete_exact : IsExactTable complete (λ p. IsMoment p.0 × (IsPosition p.1.0 × (Unit {0} × (IsPosition p.1.1.1.0 × (IsPosition p.1.1.1.1.0 × (FitsValue p.1.1.1.1.1.0 × Unit {0}))))))
 complete_exact =
@@ -48,6 +53,7 @@ along ms a b e h = h ∙ ap members_out e
 members_back : (v : Verb) (ms : Members) (c : Command) → members_in v ms ≡ Some c → ms ≡ members_out c
 members_back verb.Register ms c e = map_some _ (register.read ms) c e (λ p reads is. along ms _ c is (register_exact.back ms p reads))
 members_back verb.Start ms c e = map_some _ (start.read ms) c e (λ p reads is. along ms _ c is (start_exact.back ms p reads))
+members_back verb.Signal ms c e = map_some _ (signal.read ms) c e (λ p reads is. along ms _ c is (signal_exact.back ms p reads))
 members_back verb.Complete ms c e = map_some _ (complete.read ms) c e (λ p reads is. along ms _ c is (complete_exact.back ms p reads))
 members_back verb.Terminate ms c e = map_some _ (terminate.read ms) c e (λ p reads is. along ms _ c is (terminate_exact.back ms p reads))
 members_back verb.Describe ms c e = map_some _ (describe.read ms) c e (λ p reads is. along ms _ c is (describe_exact.back ms p reads))
@@ -63,6 +69,8 @@ command_there : (c : Command) → IsCommand c → command_in (command_out c) ≡
 command_there (command.Register src) f = refl
 command_there (command.Start req flow text args at) f =
     rw (start_exact.there (args, (at, (tt, (flow, (req, (text, tt)))))) (f.3, (f.4, (tt, (f.1, (f.0, (f.2, tt))))))) refl
+command_there (command.Signal req flow name v at) f =
+    rw (signal_exact.there (at, (tt, (flow, (name, (req, (v, tt)))))) (f.3, (tt, (f.1, (tt, (f.0, (f.2, tt))))))) refl
 command_there (command.Complete run event attempt v at) f =
     rw (complete_exact.there (at, (attempt, (tt, (event, (run, (v, tt)))))) (f.4, (f.2, (tt, (f.1, (f.0, (f.3, tt))))))) refl
 command_there (command.Terminate run reason at) f = rw (terminate_exact.there (at, (tt, (reason, (run, tt)))) (f.2, (tt, (f.1, (f.0, tt))))) refl

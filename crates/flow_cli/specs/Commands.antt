@@ -19,13 +19,14 @@ use Rattle.flow_cli.specs.declared.command.Verb.TheVariants as verb
 abbrev pub verb_name : Verb → List ℕ
 verb_name verb.Register = codes "register"
 verb_name verb.Start = codes "start"
+verb_name verb.Signal = codes "signal"
 verb_name verb.Complete = codes "complete"
 verb_name verb.Terminate = codes "terminate"
 verb_name verb.Describe = codes "describe"
 verb_name verb.History = codes "history"
 
 abbrev pub verbs : List Verb
-verbs = verb.Register ∷ verb.Start ∷ verb.Complete ∷ verb.Terminate ∷ verb.Describe ∷ verb.History ∷ []
+verbs = verb.Register ∷ verb.Start ∷ verb.Signal ∷ verb.Complete ∷ verb.Terminate ∷ verb.Describe ∷ verb.History ∷ []
 
 abbrev pub verb_named : List ℕ → Option Verb
 verb_named = first_named verb_name verbs
@@ -39,6 +40,11 @@ abbrev pub start : Table (List Value × (ℕ × (Unit {0} × (List ℕ × (List 
 start =
     with (codes "args") values (with (codes "at") moment (with (codes "do") (fixed (codes "start")) (with (codes "flow") key
     (with (codes "req") key (with (codes "text") position nothing)))))
+
+abbrev pub signal : Table (ℕ × (Unit {0} × (List ℕ × (List ℕ × (List ℕ × (Value × Unit {0}))))))
+signal =
+    with (codes "at") moment (with (codes "do") (fixed (codes "signal")) (with (codes "flow") key (with (codes "name") any_text
+    (with (codes "req") key (with (codes "value") value nothing)))))
 
 abbrev pub complete : Table (ℕ × (ℕ × (Unit {0} × (ℕ × (ℕ × (Value × Unit {0}))))))
 complete =
@@ -61,6 +67,7 @@ history = with (codes "do") (fixed (codes "history")) (with (codes "run") positi
 abbrev pub members_out : Command → Members
 members_out (command.Register src) = register.write (tt, (src, tt))
 members_out (command.Start req flow text args at) = start.write (args, (at, (tt, (flow, (req, (text, tt))))))
+members_out (command.Signal req flow name v at) = signal.write (at, (tt, (flow, (name, (req, (v, tt))))))
 members_out (command.Complete run event attempt v at) = complete.write (at, (attempt, (tt, (event, (run, (v, tt))))))
 members_out (command.Terminate run reason at) = terminate.write (at, (tt, (reason, (run, tt))))
 members_out (command.Describe run) = describe.write (tt, (run, tt))
@@ -70,6 +77,7 @@ members_out (command.History run) = history.write (tt, (run, tt))
 abbrev pub members_in : Verb → Members → Option Command
 members_in verb.Register ms = option_map (λ p. command.Register p.1.0) (register.read ms)
 members_in verb.Start ms = option_map (λ p. command.Start p.1.1.1.1.0 p.1.1.1.0 p.1.1.1.1.1.0 p.0 p.1.0) (start.read ms)
+members_in verb.Signal ms = option_map (λ p. command.Signal p.1.1.1.1.0 p.1.1.0 p.1.1.1.0 p.1.1.1.1.1.0 p.0) (signal.read ms)
 members_in verb.Complete ms = option_map (λ p. command.Complete p.1.1.1.1.0 p.1.1.1.0 p.1.0 p.1.1.1.1.1.0 p.0) (complete.read ms)
 members_in verb.Terminate ms = option_map (λ p. command.Terminate p.1.1.1.0 p.1.1.0 p.0) (terminate.read ms)
 members_in verb.Describe ms = option_map (λ p. command.Describe p.1.0) (describe.read ms)
@@ -95,6 +103,7 @@ line_command line = if is_utf8 line then option_and_then command_in (read line) 
 abbrev pub IsCommand : Command → Type 0
 IsCommand (command.Register src) = Unit {0}
 IsCommand (command.Start req flow text args at) = IsKey req × IsKey flow × IsPosition text × FitsList args × IsMoment at
+IsCommand (command.Signal req flow name v at) = IsKey req × IsKey flow × FitsValue v × IsMoment at
 IsCommand (command.Complete run event attempt v at) = IsPosition run × IsPosition event × IsPosition attempt × FitsValue v × IsMoment at
 IsCommand (command.Terminate run reason at) = IsPosition run × IsText reason × IsMoment at
 IsCommand (command.Describe run) = IsPosition run

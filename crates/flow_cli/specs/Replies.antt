@@ -60,6 +60,8 @@ reply_out (reply.Started run) = object (member (codes "reply") (string (codes "s
 reply_out (reply.Recorded run event) = object (
     member (codes "event") (whole_out event) (member (codes "reply") (string (codes "recorded")) (member (codes "run") (whole_out run) no_members)))
 reply_out (reply.Duplicate run) = object (member (codes "reply") (string (codes "duplicate")) (member (codes "run") (whole_out run) no_members))
+reply_out (reply.DuplicateSignal run event) = object (
+    member (codes "event") (whole_out event) (member (codes "reply") (string (codes "duplicate")) (member (codes "run") (whole_out run) no_members)))
 reply_out (reply.Run d) = run_out d
 reply_out (reply.History es) = object (member (codes "events") (events_out es) (member (codes "reply") (string (codes "history")) no_members))
 reply_out (reply.Refused c) = refused_out c
@@ -81,6 +83,7 @@ reply_text (reply.Registered text) = codes "{\"reply\":\"registered\",\"text\":"
 reply_text (reply.Started run) = codes "{\"reply\":\"started\",\"run\":" ++ (decimal run ++ codes "}")
 reply_text (reply.Recorded run event) = codes "{\"event\":" ++ (decimal event ++ (codes ",\"reply\":\"recorded\",\"run\":" ++ (decimal run ++ codes "}")))
 reply_text (reply.Duplicate run) = codes "{\"reply\":\"duplicate\",\"run\":" ++ (decimal run ++ codes "}")
+reply_text (reply.DuplicateSignal run event) = codes "{\"event\":" ++ (decimal event ++ (codes ",\"reply\":\"duplicate\",\"run\":" ++ (decimal run ++ codes "}")))
 reply_text (reply.Run d) =
     codes "{\"activities\":" ++ (compact_text (numbers_out d.activities)
     ++ (codes ",\"events\":" ++ (decimal d.events

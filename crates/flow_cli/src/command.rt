@@ -21,6 +21,7 @@ use std::alloc::Global;
 pub enum Verb {
     Register,
     Start,
+    Signal,
     Complete,
     Terminate,
     Describe,
@@ -35,6 +36,7 @@ impl Verb {
         match name {
             "register" => Some(Verb::Register),
             "start" => Some(Verb::Start),
+            "signal" => Some(Verb::Signal),
             "complete" => Some(Verb::Complete),
             "terminate" => Some(Verb::Terminate),
             "describe" => Some(Verb::Describe),
@@ -101,6 +103,19 @@ fn start_of(alloc: Global, mut fields: Fields) -> Result<Command, Refused>
     Ok(Command::Start(request, flow, text, args, at))
 }
 
+fn signal_of(alloc: Global, mut fields: Fields) -> Result<Command, Refused>
+    ensures { Gives (λ c. c) result (members_in verb.Signal (left fields)) }
+{
+    let at = fields.moment("at")?;
+    fields.fixed("do", "signal")?;
+    let flow = fields.key(alloc, "flow")?;
+    let name = fields.any_text(alloc, "name")?;
+    let request = fields.key(alloc, "req")?;
+    let value = fields.value(alloc, "value")?;
+    fields.finish()?;
+    Ok(Command::Signal(request, flow, name, value, at))
+}
+
 fn complete_of(alloc: Global, mut fields: Fields) -> Result<Command, Refused>
     ensures { Gives (λ c. c) result (members_in verb.Complete (left fields)) }
 {
@@ -157,6 +172,7 @@ fn of_json(alloc: Global, json: Json) -> Result<Command, Refused>
     match verb {
         Verb::Register => register_of(alloc, fields),
         Verb::Start => start_of(alloc, fields),
+        Verb::Signal => signal_of(alloc, fields),
         Verb::Complete => complete_of(alloc, fields),
         Verb::Terminate => terminate_of(alloc, fields),
         Verb::Describe => describe_of(fields),

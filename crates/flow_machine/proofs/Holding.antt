@@ -6,26 +6,27 @@ use Rattle.flow_base.specs.Syntax.{Bytes, Program}
 use Rattle.flow_base.specs.declared.value.Value.{Value}
 use Rattle.flow_base.specs.declared.event.Cmd.{Cmd}
 use Rattle.flow_base.specs.declared.event.Input.{Input}
-use Rattle.flow_base.specs.declared.event.Input.TheVariants.{ActivityCompleted, Terminated}
+use Rattle.flow_base.specs.declared.event.Input.TheVariants.{Signaled, ActivityCompleted, Terminated}
 use Rattle.flow_base.specs.declared.book.Task.{Task}
 use Rattle.flow_base.specs.declared.book.Timer.{Timer}
 use Rattle.flow_base.specs.declared.book.Run.{Run}
 use Rattle.flow_base.specs.declared.book.Turn.{Turn}
 use Rattle.flow_base.specs.declared.book.Change.TheVariants.{AddText, AddTurn, AddRun}
 use Rattle.flow_base.specs.declared.code.Code.{Code}
-use Rattle.flow_base.specs.declared.code.Code.TheVariants.{NoText, BadArguments, AlreadyOpen, NotOpen, NoRun}
+use Rattle.flow_base.specs.declared.code.Code.TheVariants.{NoText, BadArguments, AlreadyOpen, NoOpenRun, NotOpen, WrongType, NoSuchSignal, NoRun}
 use Rattle.flow_base.specs.declared.command.Command.{Command}
 use Rattle.flow_base.specs.declared.command.Command.TheVariants as command
 use Rattle.flow_base.specs.declared.command.TextFault.{TextFault}
 use Rattle.flow_base.specs.declared.command.Reply.{Reply}
 use Rattle.flow_base.specs.declared.command.Reply.TheVariants as reply
 use Rattle.flow_model.specs.Configuration.{is_open}
-use Rattle.flow_model.specs.Deliver.{all_fit}
+use Rattle.flow_model.specs.WellFormed.{signal_of}
+use Rattle.flow_model.specs.Deliver.{all_fit, has_kind}
 use Rattle.flow_model.specs.Turn.{Fresh}
 use Rattle.flow_model.specs.Turned.{turned, position_of}
 use Rattle.flow_model.specs.Open.{open_timers, state_of, moment_of}
-use Rattle.flow_model.specs.Book.{Book, nth, text_number, requested, open_run, changed, changed_by}
-use Rattle.flow_model.specs.Apply.{Rules, Outcome, says, none_there, must_be, must_hold, tested, if_sound, program_if, program_at, first_turn, continued, run_from, next_run, history_limit, turn_made, recorded, input_recorded, report_refusal, on_program, register, start, complete, terminated, terminate, describe, history, outcome, after_one, after}
+use Rattle.flow_model.specs.Book.{Book, nth, text_number, requested, open_run, signalled, changed, changed_by}
+use Rattle.flow_model.specs.Apply.{Rules, Outcome, says, none_there, must_be, must_hold, tested, if_sound, program_if, program_at, first_turn, continued, run_from, next_run, history_limit, turn_made, recorded, input_recorded, report_refusal, on_program, register, start, signal_recorded, signal, complete, terminated, terminate, describe, history, outcome, after_one, after}
 use Rattle.flow_model.specs.Sound.{IsProgram}
 
 -- A property of books that the changes keep which commands make.
@@ -85,14 +86,18 @@ module _ (u : Rules) (P : Book → Type 0) (k : IsKept u P) where
         | false ↦ k.turn b n full h
       ]
 
-  input_keeps : (b : Book) (r : Run) (n at : ℕ) (i : Input) → P b → Keeps P b (input_recorded u b r n at i)
-  unfolding input_recorded recorded
-  input_keeps b r n at i h =
+  recorded_keeps : (b : Book) (p : Program) (r : Run) (n at : ℕ) (i : Input) → P b → Keeps P b (recorded u.limit p r n at i)
+  unfolding recorded
+  recorded_keeps b p r n at i h =
       let now : ℕ = max at (moment_of r.history) in
-      sound_keeps P b h (program_at u.program_of b r.text) (λ p. recorded u.limit p r n at i)
-      (λ p. sound_keeps P b h (position_of p r.history) (λ q. if_sound (turned p Fresh q now i) (λ t. turn_made u.limit p r n now i t.0))
+      sound_keeps P b h (position_of p r.history) (λ q. if_sound (turned p Fresh q now i) (λ t. turn_made u.limit p r n now i t.0))
       (λ q. sound_keeps P b h (turned p Fresh q now i) (λ t. turn_made u.limit p r n now i t.0)
-      (λ t. made_keeps b p r n now i t.0 h)))
+      (λ t. made_keeps b p r n now i t.0 h))
+
+  input_keeps : (b : Book) (r : Run) (n at : ℕ) (i : Input) → P b → Keeps P b (input_recorded u b r n at i)
+  unfolding input_recorded
+  input_keeps b r n at i h =
+      sound_keeps P b h (program_at u.program_of b r.text) (λ p. recorded u.limit p r n at i) (λ p. recorded_keeps b p r n at i h)
 
   register_keeps : (b : Book) (body : Bytes) → P b → Keeps P b (register u.program_of b body)
   unfolding register
@@ -115,6 +120,20 @@ module _ (u : Rules) (P : Book → Type 0) (k : IsKept u P) where
       (λ p. hold_keeps P b h (all_fit p.parameters vs) BadArguments (alone p)
       (none_keeps P b h (open_run b flow) (λ n. reply.Refused AlreadyOpen) (begins p)
       (λ none. sound_keeps P b h (first_turn p at vs) adds (λ t. k.run b request flow text t h new))))))
+
+  signal_keeps : (b : Book) (request flow name : Bytes) (v : Value) (at : ℕ) → P b → Keeps P b (signal u b request flow name v at)
+  unfolding signal
+  signal_keeps b request flow name v at h =
+      let taken : ℕ → Run → Program → Outcome = λ n r p. recorded u.limit p r n at (Signaled name request v) in
+      let sent : ℕ → Run → Program → Outcome = λ n r. signal_recorded u.limit r n request name v at in
+      let read : ℕ → Run → Outcome = λ n r. if_sound (program_at u.program_of b r.text) (sent n r) in
+      let opened : ℕ → Outcome = λ n. if_sound (nth b.runs n) (read n) in
+      none_keeps P b h (signalled b flow request) (λ x. reply.DuplicateSignal x.0 x.1) (must_be (open_run b flow) NoOpenRun opened)
+      (λ new. must_keeps P b h (open_run b flow) NoOpenRun opened
+      (λ n. sound_keeps P b h (nth b.runs n) (read n)
+      (λ r. sound_keeps P b h (program_at u.program_of b r.text) (sent n r)
+      (λ p. must_keeps P b h (signal_of p.declarations name) NoSuchSignal (λ k. must_hold (has_kind k v) WrongType (taken n r p))
+      (λ k. hold_keeps P b h (has_kind k v) WrongType (taken n r p) (recorded_keeps b p r n at (Signaled name request v) h))))))
 
   complete_keeps : (b : Book) (n event attempt : ℕ) (v : Value) (at : ℕ) → P b → Keeps P b (complete u b n event attempt v at)
   unfolding complete
@@ -151,6 +170,7 @@ module _ (u : Rules) (P : Book → Type 0) (k : IsKept u P) where
   unfolding outcome
   one_keeps b (command.Register body) h = register_keeps b body h
   one_keeps b (command.Start request flow text vs at) h = start_keeps b request flow text vs at h
+  one_keeps b (command.Signal request flow name v at) h = signal_keeps b request flow name v at h
   one_keeps b (command.Complete run event attempt v at) h = complete_keeps b run event attempt v at h
   one_keeps b (command.Terminate run reason at) h = terminate_keeps b run reason at h
   one_keeps b (command.Describe run) h = describe_keeps b run h

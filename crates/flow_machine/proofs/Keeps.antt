@@ -8,28 +8,29 @@ use Rattle.flow_base.specs.Syntax.{Bytes, Program}
 use Rattle.flow_base.specs.declared.value.Value.{Value}
 use Rattle.flow_base.specs.declared.event.Cmd.{Cmd}
 use Rattle.flow_base.specs.declared.event.Input.{Input}
-use Rattle.flow_base.specs.declared.event.Input.TheVariants.{Started, ActivityCompleted, Terminated}
+use Rattle.flow_base.specs.declared.event.Input.TheVariants.{Started, Signaled, ActivityCompleted, Terminated}
 use Rattle.flow_base.specs.declared.book.Task.{Task}
 use Rattle.flow_base.specs.declared.book.Timer.{Timer}
 use Rattle.flow_base.specs.declared.book.Run.{Run}
 use Rattle.flow_base.specs.declared.book.Turn.{Turn}
 use Rattle.flow_base.specs.declared.book.Change.TheVariants.{AddText, AddTurn, AddRun}
 use Rattle.flow_base.specs.declared.code.Code.{Code}
-use Rattle.flow_base.specs.declared.code.Code.TheVariants.{NoText, BadArguments, AlreadyOpen, NotOpen, NoRun}
+use Rattle.flow_base.specs.declared.code.Code.TheVariants.{NoText, BadArguments, AlreadyOpen, NoOpenRun, NotOpen, WrongType, NoSuchSignal, NoRun}
 use Rattle.flow_base.specs.declared.command.Command.{Command}
 use Rattle.flow_base.specs.declared.command.Command.TheVariants as command
 use Rattle.flow_base.specs.declared.command.TextFault.{TextFault}
 use Rattle.flow_base.specs.declared.command.Reply.{Reply}
 use Rattle.flow_base.specs.declared.command.Reply.TheVariants as reply
 use Rattle.flow_model.specs.Configuration.{Configuration, first_configuration, is_open}
-use Rattle.flow_model.specs.Deliver.{all_fit}
+use Rattle.flow_model.specs.WellFormed.{signal_of}
+use Rattle.flow_model.specs.Deliver.{all_fit, has_kind}
 use Rattle.flow_model.specs.Turn as turn
 use Rattle.flow_model.specs.Turn.{Fresh, is_started}
 use Rattle.flow_model.specs.Turned.{turned, position_of}
 use Rattle.flow_model.specs.Stands.{Stands}
 use Rattle.flow_model.specs.Open.{open_timers, state_of, moment_of}
-use Rattle.flow_model.specs.Book.{Book, no_book, nth, text_number, requested, open_run, unbegun_run, with_turn, changed, changed_by}
-use Rattle.flow_model.specs.Apply.{Rules, Outcome, says, none_there, must_be, must_hold, tested, if_sound, program_if, program_at, first_turn, continued, run_from, next_run, history_limit, turn_made, recorded, input_recorded, report_refusal, on_program, register, start, complete, terminated, terminate, describe, history, outcome, after_one, after}
+use Rattle.flow_model.specs.Book.{Book, no_book, nth, text_number, requested, open_run, signalled, unbegun_run, with_turn, changed, changed_by}
+use Rattle.flow_model.specs.Apply.{Rules, Outcome, says, none_there, must_be, must_hold, tested, if_sound, program_if, program_at, first_turn, continued, run_from, next_run, history_limit, turn_made, recorded, input_recorded, report_refusal, on_program, register, start, signal_recorded, signal, complete, terminated, terminate, describe, history, outcome, after_one, after}
 use Rattle.flow_model.specs.Sound.{IsSoundRun, IsSound}
 use Rattle.flow_model.proofs.Positions.{position_computed, turned_is}
 use Rattle.flow_machine.specs.Soundness.{ReadsWellFormed, NoBookIsSound, SoundAfter}
@@ -200,6 +201,21 @@ start_keeps u b request flow text vs at w h =
     let first = first_turn_is p at vs t made in
     sound_run u b (with_turn t (unbegun_run flow (Some request) text)) h (first_run u b flow (Some request) text t p first.0 w its first.1) (none_open b flow none)))))))
 
+signal_keeps : (u : Rules) (b : Book) (request flow name : Bytes) (v : Value) (at : ℕ) → ReadsWellFormed u → IsSound u b → Keeps u b (signal u b request flow name v at)
+unfolding signal
+signal_keeps u b request flow name v at w h =
+    let taken : ℕ → Run → Program → Outcome = λ n r p. recorded u.limit p r n at (Signaled name request v) in
+    let sent : ℕ → Run → Program → Outcome = λ n r. signal_recorded u.limit r n request name v at in
+    let read : ℕ → Run → Outcome = λ n r. if_sound (program_at u.program_of b r.text) (sent n r) in
+    let opened : ℕ → Outcome = λ n. if_sound (nth b.runs n) (read n) in
+    none_there_keeps u b h (signalled b flow request) (λ x. reply.DuplicateSignal x.0 x.1) (must_be (open_run b flow) NoOpenRun opened)
+    (λ new. must_be_keeps u b h (open_run b flow) NoOpenRun opened
+    (λ n is_open. if_sound_keeps u b h (nth b.runs n) (read n)
+    (λ r e. if_sound_keeps u b h (program_at u.program_of b r.text) (sent n r)
+    (λ p text. must_be_keeps u b h (signal_of p.declarations name) NoSuchSignal (λ k. must_hold (has_kind k v) WrongType (taken n r p))
+    (λ k declared. must_hold_keeps u b h (has_kind k v) WrongType (taken n r p)
+    (λ fits. recorded_keeps u b n r p at (Signaled name request v) w h e text refl))))))
+
 complete_keeps : (u : Rules) (b : Book) (n event attempt : ℕ) (v : Value) (at : ℕ) → ReadsWellFormed u → IsSound u b → Keeps u b (complete u b n event attempt v at)
 unfolding complete
 complete_keeps u b n event attempt v at w h =
@@ -244,6 +260,7 @@ pub step_keeps : (u : Rules) (b : Book) (c : Command) → ReadsWellFormed u → 
 unfolding outcome
 step_keeps u b (command.Register body) w h = register_keeps u b body h
 step_keeps u b (command.Start request flow text vs at) w h = start_keeps u b request flow text vs at w h
+step_keeps u b (command.Signal request flow name v at) w h = signal_keeps u b request flow name v at w h
 step_keeps u b (command.Complete run event attempt v at) w h = complete_keeps u b run event attempt v at w h
 step_keeps u b (command.Terminate run reason at) w h = terminate_keeps u b run reason at w h
 step_keeps u b (command.Describe run) w h = describe_keeps u b run h

@@ -3,6 +3,7 @@ pub mod Causes
 pub mod Continuing
 pub mod Awaited
 pub mod Waiting
+pub mod Heard
 pub mod Holding
 pub mod Reading
 pub mod Unstuck

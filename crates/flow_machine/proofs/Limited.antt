@@ -17,14 +17,14 @@ use Rattle.flow_base.specs.declared.book.Turn.{Turn}
 use Rattle.flow_base.specs.declared.book.Change.{Change}
 use Rattle.flow_base.specs.declared.book.Change.TheVariants.{AddText, AddTurn, AddRun}
 use Rattle.flow_base.specs.declared.code.Code.{Code}
-use Rattle.flow_base.specs.declared.code.Code.TheVariants.{NoText, BadArguments, AlreadyOpen, NotOpen, NoRun}
+use Rattle.flow_base.specs.declared.code.Code.TheVariants.{NoText, BadArguments, AlreadyOpen, NoOpenRun, NotOpen, WrongType, NoSuchSignal, NoRun}
 use Rattle.flow_base.specs.declared.command.Command.{Command}
 use Rattle.flow_base.specs.declared.command.Command.TheVariants as command
 use Rattle.flow_base.specs.declared.command.TextFault.{TextFault}
 use Rattle.flow_base.specs.declared.command.Reply.{Reply}
 use Rattle.flow_base.specs.declared.command.Reply.TheVariants as reply
 use Rattle.flow_events.specs.Row.{IsInputWithinLimits, IsCommandWithinLimits}
-use Rattle.flow_model.specs.WellFormed.{WellFormed}
+use Rattle.flow_model.specs.WellFormed.{WellFormed, signal_of}
 use Rattle.flow_model.specs.Configuration.{Configuration, first_configuration, is_open}
 use Rattle.flow_model.specs.Deliver.{all_fit, has_kind}
 use Rattle.flow_model.specs.Turn as turn
@@ -33,8 +33,8 @@ use Rattle.flow_model.specs.Turn.{Fresh, is_started}
 use Rattle.flow_model.specs.Turned.{turned, position_of}
 use Rattle.flow_model.specs.Stands.{Stands}
 use Rattle.flow_model.specs.Open.{open_timers, state_of, moment_of}
-use Rattle.flow_model.specs.Book.{Book, nth, text_number, requested, open_run}
-use Rattle.flow_model.specs.Apply.{Rules, Outcome, says, none_there, must_be, must_hold, tested, if_sound, program_if, program_at, first_turn, continued, run_from, next_run, history_limit, turn_made, recorded, input_recorded, report_refusal, on_program, register, start, complete, terminated, terminate, describe, history, outcome}
+use Rattle.flow_model.specs.Book.{Book, nth, text_number, requested, open_run, signalled}
+use Rattle.flow_model.specs.Apply.{Rules, Outcome, says, none_there, must_be, must_hold, tested, if_sound, program_if, program_at, first_turn, continued, run_from, next_run, history_limit, turn_made, recorded, input_recorded, report_refusal, on_program, register, start, signal_recorded, signal, complete, terminated, terminate, describe, history, outcome}
 use Rattle.flow_model.specs.Sound.{IsSoundRun, IsSound}
 use Rattle.flow_model.proofs.Positions.{position_computed, turned_is}
 use Rattle.flow_model.proofs.Tries.{AskedWell, TriedRest, well_formed_tried, few_parameters}
@@ -208,6 +208,20 @@ module _ (u : Rules) (b : Book) (w : ReadsWellFormed u) (h : IsSound u b) where
       let its : program_at u.program_of b text ≡ Some p = ap (λ (o : Option Bytes). elim o [ None ↦ None | Some x ↦ program_if (u.program_of x) ]) e ∙ g in
       one (AddRun flow (Some request) text t) (first_within p at vs t (text_well_formed u b text p w its) made)))))))
 
+  signal_within : (request flow name : Bytes) (v : Value) (at : ℕ) → Within (signal u b request flow name v at)
+  unfolding signal
+  signal_within request flow name v at =
+      let taken : ℕ → Run → Program → Outcome = λ n r p. recorded u.limit p r n at (Signaled name request v) in
+      let sent : ℕ → Run → Program → Outcome = λ n r. signal_recorded u.limit r n request name v at in
+      let read : ℕ → Run → Outcome = λ n r. if_sound (program_at u.program_of b r.text) (sent n r) in
+      let opened : ℕ → Outcome = λ n. if_sound (nth b.runs n) (read n) in
+      none_there_within (signalled b flow request) (λ x. reply.DuplicateSignal x.0 x.1) (must_be (open_run b flow) NoOpenRun opened)
+      (must_be_within (open_run b flow) NoOpenRun opened
+      (λ n is_open. if_sound_within (nth b.runs n) (read n)
+      (λ r there. if_sound_within (program_at u.program_of b r.text) (sent n r)
+      (λ p text. must_be_within (signal_of p.declarations name) NoSuchSignal (λ k. must_hold (has_kind k v) WrongType (taken n r p))
+      (λ k declared. must_hold_within (has_kind k v) WrongType (taken n r p) (recorded_within n r p at (Signaled name request v) there text refl))))))
+
   complete_within : (n event attempt : ℕ) (v : Value) (at : ℕ) → Within (complete u b n event attempt v at)
   unfolding complete
   complete_within n event attempt v at =
@@ -242,6 +256,7 @@ pub changes_within : (u : Rules) (b : Book) (c : Command) → ReadsWellFormed u 
 unfolding outcome
 changes_within u b (command.Register body) w h = register_within u b w h body
 changes_within u b (command.Start request flow text vs at) w h = start_within u b w h request flow text vs at
+changes_within u b (command.Signal request flow name v at) w h = signal_within u b w h request flow name v at
 changes_within u b (command.Complete run event attempt v at) w h = complete_within u b w h run event attempt v at
 changes_within u b (command.Terminate run reason at) w h = terminate_within u b w h run reason at
 changes_within u b (command.Describe run) w h = describe_within u b w h run

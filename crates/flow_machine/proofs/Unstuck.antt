@@ -5,21 +5,25 @@ use Rattle.std.proofs.lemmas.Option.{none-some, same_Some}
 use Rattle.flow_base.specs.Syntax.{Bytes, Program}
 use Rattle.flow_base.specs.declared.value.Value.{Value}
 use Rattle.flow_base.specs.declared.code.Code.{Code}
-use Rattle.flow_base.specs.declared.event.Input.TheVariants.{ActivityCompleted}
+use Rattle.flow_base.specs.declared.event.Input.TheVariants.{Signaled, ActivityCompleted}
 use Rattle.flow_base.specs.declared.book.Task.{Task}
 use Rattle.flow_base.specs.declared.book.Run.{Run}
 use Rattle.flow_base.specs.declared.command.Command.TheVariants as command
-use Rattle.flow_model.specs.Deliver.{all_fit}
+use Rattle.flow_model.specs.WellFormed.{signal_of}
+use Rattle.flow_model.specs.Configuration.{is_open}
+use Rattle.flow_model.specs.Deliver.{all_fit, has_kind}
+use Rattle.flow_model.specs.Open.{state_of}
 use Rattle.flow_model.specs.Stands.{Stands}
-use Rattle.flow_model.specs.Book.{Book, nth, text_number, requested, open_run}
+use Rattle.flow_model.specs.Book.{Book, nth, text_number, requested, open_run, signalled}
 use Rattle.flow_model.specs.Apply.{Rules, program_if, program_at, on_task, refuse_unless, task_at, gives_kind, report_refusal}
 use Rattle.flow_model.specs.Sound.{IsSoundRun, IsSound}
 use Rattle.flow_model.proofs.Chains.{not_both}
 use Rattle.flow_model.specs.Sound.{IsProgram}
 use Rattle.flow_machine.specs.Soundness.{TextsRead, NumbersEnd, SoundDecides}
-use Rattle.flow_machine.specs.Stuck.{HasMismatch, CantDeliver, CantRecord, unless_there, where_there, where_holds, needs, IsFull, StuckRegister, StuckStart, StuckInput, StuckComplete, IsStuck}
+use Rattle.flow_machine.specs.Stuck.{HasMismatch, CantDeliver, CantRecord, unless_there, where_there, where_holds, needs, IsFull, StuckRegister, StuckStart, StuckSent, StuckSignal, StuckInput, StuckComplete, IsStuck}
 use Rattle.flow_machine.proofs.Places.{get_all, nth_place}
 use Rattle.flow_machine.proofs.Waiting.{completion_taken}
+use Rattle.flow_machine.proofs.Heard.{signal_taken, open_is_there}
 
 ---- Tests
 
@@ -31,6 +35,10 @@ module _ (Y : Type 0) where
   where_then : {A : Type 0} (o : Option A) (X : A → Type 0) → ((x : A) → o ≡ Some x → X x → Y) → where_there o X → Y
   where_then None X f h = absurd h
   where_then (Some x) X f h = f x refl h
+
+  held_then : (b : Bool) (X : Type 0) → (b ≡ true → X → Y) → where_holds b X → Y
+  held_then true X f h = f refl h
+  held_then false X f h = absurd h
 
   holds_then : (b : Bool) (X : Type 0) → (X → Y) → where_holds b X → Y
   holds_then true X f h = f h
@@ -106,10 +114,37 @@ module _ (u : Rules) (b : Book) where
       (λ unrefused. needs_then ⊥ (program_at u.program_of b r.text) (records_in r) (λ none. none-some its.program (sym none ∙ its.its_text))
       (λ p text stuck. records r p event attempt v its text unrefused stuck)))
 
+  -- an open sound run takes a signal that its program declares
+  hears : (r : Run) (p : Program) (request name : Bytes) (v : Value) → IsSoundRun u b r → program_at u.program_of b r.text ≡ Some p → is_open (state_of r.history) ≡ true → StuckSent r request name v p → ⊥
+  hears r p request name v its text opened =
+      let same : its.program ≡ p = same_Some its.program p (sym its.its_text ∙ text) in
+      let stands : Stands p r.history its.place = subst (λ (q : Program). Stands q r.history its.place) same its.stands in
+      where_then ⊥ (signal_of p.declarations name) (λ k. where_holds (has_kind k v) (CantRecord p r.history (Signaled name request v)))
+      (λ k declared. held_then ⊥ (has_kind k v) (CantRecord p r.history (Signaled name request v))
+      (λ fits. ⊎_elim (λ (m : HasMismatch p r.history). not_both p r.history its.place m.0 m.1.0 m.1.1 stands)
+      (λ (c : CantDeliver p r.history (Signaled name request v)). signal_taken p r.history c.0 request name v k c.1.0 opened declared fits c.1.1)))
+
+  pub signal_goes_on : (request flow name : Bytes) (v : Value) → IsSound u b → StuckSignal u.program_of b request flow name v → ⊥
+  unfolding StuckSignal
+  signal_goes_on request flow name v h =
+      let sent = λ (r : Run). StuckSent r request name v in
+      let read = λ (r : Run). needs (program_at u.program_of b r.text) (sent r) in
+      let opened = λ (n : ℕ). needs (nth b.runs n) read in
+      unless_then ⊥ (signalled b flow request) (where_there (open_run b flow) opened)
+      (λ new. where_then ⊥ (open_run b flow) opened
+      (λ n found. let there = open_is_there b flow n found in
+      needs_then ⊥ (nth b.runs n) read (λ none. none-some there.0 (sym none ∙ there.1.0))
+      (λ r e.
+      let its : IsSoundRun u b r = get_all (IsSoundRun u b) b.runs (n - 1) r (nth_place b.runs n r e) h.runs in
+      let is_it : there.0 ≡ r = same_Some there.0 r (sym there.1.0 ∙ e) in
+      needs_then ⊥ (program_at u.program_of b r.text) (sent r) (λ none. none-some its.program (sym none ∙ its.its_text))
+      (λ p text. hears r p request name v its text (subst (λ (q : Run). is_open (state_of q.history) ≡ true) is_it there.1.1)))))
+
 pub sound_decides : SoundDecides
 unfolding IsStuck
 sound_decides u b (command.Register body) reads h stuck = register_decides u b body stuck
 sound_decides u b (command.Start request flow text vs at) reads h stuck = start_decides u b request flow text vs reads stuck
+sound_decides u b (command.Signal request flow name v at) reads h stuck = absurd (signal_goes_on u b request flow name v h stuck)
 sound_decides u b (command.Complete run event attempt v at) reads h stuck = absurd (complete_goes_on u b run event attempt v h stuck)
 sound_decides u b (command.Terminate run reason at) reads h stuck = absurd stuck
 sound_decides u b (command.Describe run) reads h stuck = absurd stuck

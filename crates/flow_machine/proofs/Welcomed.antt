@@ -6,25 +6,26 @@ use Rattle.flow_base.specs.Syntax.{Bytes, Program}
 use Rattle.flow_base.specs.declared.value.Value.{Value}
 use Rattle.flow_base.specs.declared.event.Cmd.{Cmd}
 use Rattle.flow_base.specs.declared.event.Input.{Input}
-use Rattle.flow_base.specs.declared.event.Input.TheVariants.{Started, ActivityCompleted, Terminated}
+use Rattle.flow_base.specs.declared.event.Input.TheVariants.{Started, Signaled, ActivityCompleted, Terminated}
 use Rattle.flow_base.specs.declared.book.Task.{Task}
 use Rattle.flow_base.specs.declared.book.Timer.{Timer}
 use Rattle.flow_base.specs.declared.book.Run.{Run}
 use Rattle.flow_base.specs.declared.book.Turn.{Turn}
 use Rattle.flow_base.specs.declared.book.Change.TheVariants.{AddText, AddTurn, AddRun}
 use Rattle.flow_base.specs.declared.code.Code.{Code}
-use Rattle.flow_base.specs.declared.code.Code.TheVariants.{NoText, BadArguments, AlreadyOpen, NotOpen, NoRun}
+use Rattle.flow_base.specs.declared.code.Code.TheVariants.{NoText, BadArguments, AlreadyOpen, NoOpenRun, NotOpen, WrongType, NoSuchSignal, NoRun}
 use Rattle.flow_base.specs.declared.command.Command.TheVariants as command
 use Rattle.flow_base.specs.declared.command.TextFault.{TextFault}
 use Rattle.flow_base.specs.declared.command.Reply.{Reply}
 use Rattle.flow_base.specs.declared.command.Reply.TheVariants as reply
 use Rattle.flow_model.specs.Configuration.{is_open}
-use Rattle.flow_model.specs.Deliver.{all_fit}
+use Rattle.flow_model.specs.WellFormed.{signal_of}
+use Rattle.flow_model.specs.Deliver.{all_fit, has_kind}
 use Rattle.flow_model.specs.Turn.{Fresh}
 use Rattle.flow_model.specs.Turned.{turned, position_of}
 use Rattle.flow_model.specs.Open.{open_timers, state_of, moment_of}
-use Rattle.flow_model.specs.Book.{Book, nth, text_number, requested, open_run, with_turn, changed}
-use Rattle.flow_model.specs.Apply.{Rules, Outcome, says, none_there, must_be, must_hold, tested, if_sound, program_if, program_at, first_turn, continued, run_from, next_run, history_limit, turn_made, recorded, input_recorded, report_refusal, on_program, register, start, complete, terminated, terminate, describe, history, outcome}
+use Rattle.flow_model.specs.Book.{Book, nth, text_number, requested, open_run, signalled, with_turn, changed}
+use Rattle.flow_model.specs.Apply.{Rules, Outcome, says, none_there, must_be, must_hold, tested, if_sound, program_if, program_at, first_turn, continued, run_from, next_run, history_limit, turn_made, recorded, input_recorded, report_refusal, on_program, register, start, signal_recorded, signal, complete, terminated, terminate, describe, history, outcome}
 use Rattle.flow_machine.specs.Welcome.{AreWelcome, ChangesWelcome}
 
 -- a turn brings no text
@@ -133,6 +134,21 @@ module _ (u : Rules) (b : Book) where
       (none_there_takes (open_run b flow) (λ n. reply.Refused AlreadyOpen) (begins p)
       (λ none. if_sound_takes (first_turn p at vs) adds (λ t made. ((body, there), tt)))))))
 
+  signal_takes : (request flow name : Bytes) (v : Value) (at : ℕ) → Takes (signal u b request flow name v at)
+  unfolding signal
+  signal_takes request flow name v at =
+      let taken : ℕ → Run → Program → Outcome = λ n r p. recorded u.limit p r n at (Signaled name request v) in
+      let sent : ℕ → Run → Program → Outcome = λ n r. signal_recorded u.limit r n request name v at in
+      let read : ℕ → Run → Outcome = λ n r. if_sound (program_at u.program_of b r.text) (sent n r) in
+      let opened : ℕ → Outcome = λ n. if_sound (nth b.runs n) (read n) in
+      none_there_takes (signalled b flow request) (λ x. reply.DuplicateSignal x.0 x.1) (must_be (open_run b flow) NoOpenRun opened)
+      (λ new. must_be_takes (open_run b flow) NoOpenRun opened
+      (λ n is_open. if_sound_takes (nth b.runs n) (read n)
+      (λ r there. if_sound_takes (program_at u.program_of b r.text) (sent n r)
+      (λ p e. must_be_takes (signal_of p.declarations name) NoSuchSignal (λ k. must_hold (has_kind k v) WrongType (taken n r p))
+      (λ k declared. must_hold_takes (has_kind k v) WrongType (taken n r p)
+      (let text = text_is_there u.program_of b r.text p e in recorded_takes u.limit p r text.0 n at (Signaled name request v) there text.1))))))
+
   complete_takes : (n event attempt : ℕ) (v : Value) (at : ℕ) → Takes (complete u b n event attempt v at)
   unfolding complete
   complete_takes n event attempt v at =
@@ -166,6 +182,7 @@ pub changes_welcome : ChangesWelcome
 unfolding outcome
 changes_welcome u b (command.Register body) = register_takes u b body
 changes_welcome u b (command.Start request flow text vs at) = start_takes u b request flow text vs at
+changes_welcome u b (command.Signal request flow name v at) = signal_takes u b request flow name v at
 changes_welcome u b (command.Complete run event attempt v at) = complete_takes u b run event attempt v at
 changes_welcome u b (command.Terminate run reason at) = terminate_takes u b run reason at
 changes_welcome u b (command.Describe run) = describe_takes u b run

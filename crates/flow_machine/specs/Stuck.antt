@@ -6,16 +6,17 @@ use Rattle.flow_base.specs.declared.value.Value.{Value}
 use Rattle.flow_base.specs.declared.event.Cmd.{Cmd}
 use Rattle.flow_base.specs.declared.event.Event.{Event}
 use Rattle.flow_base.specs.declared.event.Input.{Input}
-use Rattle.flow_base.specs.declared.event.Input.TheVariants.{ActivityCompleted}
+use Rattle.flow_base.specs.declared.event.Input.TheVariants.{Signaled, ActivityCompleted}
 use Rattle.flow_base.specs.declared.event.Wrong.{Wrong}
 use Rattle.flow_base.specs.declared.book.Run.{Run}
 use Rattle.flow_base.specs.declared.command.Command.{Command}
 use Rattle.flow_base.specs.declared.command.Command.TheVariants as command
 use Rattle.flow_base.specs.declared.command.TextFault.{TextFault}
 use Rattle.flow_model.specs.Configuration.{Configuration}
-use Rattle.flow_model.specs.Deliver.{deliver, all_fit}
+use Rattle.flow_model.specs.WellFormed.{signal_of}
+use Rattle.flow_model.specs.Deliver.{deliver, all_fit, has_kind}
 use Rattle.flow_model.specs.Stands.{Stands, FirstMismatch}
-use Rattle.flow_model.specs.Book.{Book, nth, text_number, requested, open_run}
+use Rattle.flow_model.specs.Book.{Book, nth, text_number, requested, open_run, signalled}
 use Rattle.flow_model.specs.Apply.{Rules, program_if, program_at, continued, report_refusal, after_one}
 
 -- Turns.
@@ -79,6 +80,19 @@ StuckStart program_of b request flow text vs =
 unfoldable pub StuckInput : (Bytes → Result Program TextFault) → Book → Run → Input → Type 0
 StuckInput program_of b r i = needs (program_at program_of b r.text) (λ p. CantRecord p r.history i)
 
+-- a run that is to take a signal
+abbrev pub StuckSent : Run → Bytes → Bytes → Value → Program → Type 0
+StuckSent r request name v p =
+    where_there (signal_of p.declarations name) (λ k.
+    where_holds (has_kind k v) (CantRecord p r.history (Signaled name request v)))
+
+unfoldable pub StuckSignal : (Bytes → Result Program TextFault) → Book → Bytes → Bytes → Bytes → Value → Type 0
+StuckSignal program_of b request flow name v =
+    unless_there (signalled b flow request) (
+    where_there (open_run b flow) (λ run.
+    needs (nth b.runs run) (λ r.
+    needs (program_at program_of b r.text) (StuckSent r request name v))))
+
 unfoldable pub StuckComplete : (Bytes → Result Program TextFault) → Book → ℕ → ℕ → ℕ → Value → Type 0
 StuckComplete program_of b run event attempt v =
     where_there (nth b.runs run) (λ r.
@@ -89,6 +103,7 @@ StuckComplete program_of b run event attempt v =
 unfoldable pub IsStuck : (Bytes → Result Program TextFault) → Book → Command → Type 0
 IsStuck program_of b (command.Register body) = StuckRegister program_of b body
 IsStuck program_of b (command.Start request flow text vs at) = StuckStart program_of b request flow text vs
+IsStuck program_of b (command.Signal request flow name v at) = StuckSignal program_of b request flow name v
 IsStuck program_of b (command.Complete run event attempt v at) = StuckComplete program_of b run event attempt v
 IsStuck program_of b (command.Terminate run reason at) = ⊥
 IsStuck program_of b (command.Describe run) = ⊥

@@ -8,5 +8,6 @@ pub mod laws;
 pub mod programs;
 mod puts;
 mod report;
+mod sending;
 pub mod submission;
 mod turns;

@@ -45,7 +45,7 @@ abbrev pub AskedOpen : State → List Cmd → Type 0
 AskedOpen s [] = Unit {0}
 AskedOpen s (c ∷ cs) = (is_open s ≡ true) × AskedOpen (state_asked s c) cs
 
-states_push : (s : State) (cs : List Cmd) (c : Cmd) → states_asked s (cs ++ c ∷ []) ≡ state_asked (states_asked s cs) c
+pub states_push : (s : State) (cs : List Cmd) (c : Cmd) → states_asked s (cs ++ c ∷ []) ≡ state_asked (states_asked s cs) c
 states_push s [] c = refl
 states_push s (d ∷ cs) c = states_push (state_asked s d) cs c
 
@@ -53,7 +53,7 @@ open_push : (s : State) (cs : List Cmd) (c : Cmd) → AskedOpen s cs → is_open
 open_push s [] c h o = (o, tt)
 open_push s (d ∷ cs) c h o = (h.0, open_push (state_asked s d) cs c h.1 o)
 
-open_state : (s : State) → is_open s ≡ true → s ≡ state.Open
+pub open_state : (s : State) → is_open s ≡ true → s ≡ state.Open
 open_state state.Unbegun e = cc
 open_state state.Open e = refl
 open_state state.Completed e = cc

@@ -5,7 +5,7 @@ use Rattle.flow_base.specs.declared.value.Value.{Value}
 use Rattle.flow_base.specs.declared.event.Cmd.{Cmd}
 use Rattle.flow_base.specs.declared.event.Cmd.TheVariants.{Schedule, ContinueAsNew}
 use Rattle.flow_base.specs.declared.event.Input.{Input}
-use Rattle.flow_base.specs.declared.event.Input.TheVariants.{Started, ActivityCompleted, Terminated}
+use Rattle.flow_base.specs.declared.event.Input.TheVariants.{Started, Signaled, ActivityCompleted, Terminated}
 use Rattle.flow_base.specs.declared.event.What.TheVariants.{Came, Asked}
 use Rattle.flow_base.specs.declared.event.Event.{Event}
 use Rattle.flow_base.specs.declared.book.Task.{Task}
@@ -15,7 +15,7 @@ use Rattle.flow_base.specs.declared.book.Turn.{Turn}
 use Rattle.flow_base.specs.declared.book.Change.{Change}
 use Rattle.flow_base.specs.declared.book.Change.TheVariants.{AddText, AddRun, AddTurn}
 use Rattle.flow_base.specs.declared.code.Code.{Code}
-use Rattle.flow_base.specs.declared.code.Code.TheVariants.{NoText, BadArguments, AlreadyOpen, NotOpen, OldAttempt, WrongType, NoRun}
+use Rattle.flow_base.specs.declared.code.Code.TheVariants.{NoText, BadArguments, AlreadyOpen, NoOpenRun, NotOpen, OldAttempt, WrongType, NoSuchSignal, NoRun}
 use Rattle.flow_base.specs.declared.command.Command.{Command}
 use Rattle.flow_base.specs.declared.command.Command.TheVariants as command
 use Rattle.flow_base.specs.declared.command.TextFault.{TextFault}
@@ -26,7 +26,8 @@ use Rattle.flow_model.specs.Deliver.{all_fit, has_kind}
 use Rattle.flow_model.specs.Turn.{Fresh}
 use Rattle.flow_model.specs.Turned.{turned, position_of}
 use Rattle.flow_model.specs.Open.{open_timers, state_of, moment_of}
-use Rattle.flow_model.specs.Book.{Book, nth, text_number, requested, open_run, changed_by}
+use Rattle.flow_model.specs.WellFormed.{signal_of}
+use Rattle.flow_model.specs.Book.{Book, nth, text_number, requested, open_run, signalled, changed_by}
 
 -- What decides beside the book: how many events a history may have, and which program a text is, or why it is none.
 pub record Rules : Type 0 where
@@ -196,6 +197,21 @@ complete u b run event attempt v at =
     tested (report_refusal r event attempt v) (
     input_recorded u b r run at (ActivityCompleted event v)))
 
+-- a signal that the run's program may declare
+abbrev pub signal_recorded : ℕ → Run → ℕ → Bytes → Bytes → Value → ℕ → Program → Outcome
+signal_recorded limit r run request name v at p =
+    must_be (signal_of p.declarations name) NoSuchSignal (λ k.
+    must_hold (has_kind k v) WrongType (
+    recorded limit p r run at (Signaled name request v)))
+
+-- A signal is sent to the open run of a flow. The same request again answers the run that took it, whether it is open still or not.
+unfoldable pub signal : Rules → Book → Bytes → Bytes → Bytes → Value → ℕ → Outcome
+signal u b request flow name v at =
+    none_there (signalled b flow request) (λ x. reply.DuplicateSignal x.0 x.1) (
+    must_be (open_run b flow) NoOpenRun (λ run.
+    if_sound (nth b.runs run) (λ r.
+    if_sound (program_at u.program_of b r.text) (signal_recorded u.limit r run request name v at))))
+
 -- a run is closed for this reason, and its program isn't run
 abbrev pub terminated : Run → ℕ → Bytes → ℕ → Outcome
 terminated r run reason at =
@@ -229,6 +245,7 @@ history b run = must_be (nth b.runs run) NoRun (λ r. says (reply.History r.hist
 unfoldable pub outcome : Rules → Book → Command → Outcome
 outcome u b (command.Register body) = register u.program_of b body
 outcome u b (command.Start request flow text vs at) = start u.program_of b request flow text vs at
+outcome u b (command.Signal request flow name v at) = signal u b request flow name v at
 outcome u b (command.Complete run event attempt v at) = complete u b run event attempt v at
 outcome u b (command.Terminate run reason at) = terminate b run reason at
 outcome u b (command.Describe run) = describe b run

@@ -35,6 +35,7 @@ read_takes Read.text_number = 1
 read_takes Read.run_row = 1
 read_takes Read.requested = 1
 read_takes Read.open_run = 1
+read_takes Read.flow_runs = 1
 read_takes Read.run_events = 1
 read_takes Read.last_event = 1
 read_takes Read.run_tasks = 1

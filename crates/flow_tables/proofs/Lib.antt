@@ -15,3 +15,4 @@ pub mod OpenTables
 pub mod Misreading
 pub mod Texts
 pub mod Questioned
+pub mod Signalled

@@ -5,4 +5,5 @@ pub mod fault;
 pub mod history;
 pub mod lists;
 pub mod run;
+pub mod signals;
 pub mod view;
