@@ -39,6 +39,7 @@ code_number c.ExtraEvent = 53
 code_number c.InputNotAwaited = 54
 code_number c.AfterClose = 55
 code_number c.BadNumbering = 56
+code_number c.NotAWrap = 57
 code_number c.NoText = 60
 code_number c.BadArguments = 61
 code_number c.AlreadyOpen = 62

@@ -64,6 +64,8 @@ pub enum Code {
     AfterClose,
     /// E56 in a replay: the event's number or moment is wrong.
     BadNumbering,
+    /// E57: the text isn't the old one with lists wrapped in patches.
+    NotAWrap,
     /// E60: no such text.
     NoText,
     /// E61: the arguments don't fit the parameters.
@@ -139,6 +141,7 @@ impl Code {
             Code::InputNotAwaited => 54,
             Code::AfterClose => 55,
             Code::BadNumbering => 56,
+            Code::NotAWrap => 57,
             Code::NoText => 60,
             Code::BadArguments => 61,
             Code::AlreadyOpen => 62,

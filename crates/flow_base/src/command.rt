@@ -1,5 +1,5 @@
 use crate::code::Code;
-use crate::event::{Event, State};
+use crate::event::{Event, State, Wrong};
 use crate::number::{EventId, Moment, RunId, TextNo};
 use crate::sequence::Sequence;
 use crate::text::{Key, RawText, Text};
@@ -16,8 +16,14 @@ pub enum Command {
     Signal(Key, Key, RawText, Value, Moment),
     /// A run, the event that scheduled the activity, the attempt, what the activity gave, and a moment.
     Complete(RunId, EventId, u64, Value, Moment),
+    /// A run, the event that scheduled the activity, the attempt, why it failed, and a moment.
+    Fail(RunId, EventId, u64, Text, Moment),
+    /// The moment up to which timers are due.
+    Tick(Moment),
     /// A run, why it is to be closed, and a moment.
     Terminate(RunId, Text, Moment),
+    /// A run, and the text that it is to go on under.
+    Upgrade(RunId, TextNo),
     Describe(RunId),
     History(RunId),
 }
@@ -54,12 +60,20 @@ pub enum Reply {
     Duplicate(RunId),
     /// The request is known: the run that took its signal, and the event that recorded it.
     DuplicateSignal(RunId, EventId),
+    /// The attempt failed and another is made: the run, the next attempt, and when it is ready.
+    Retry(RunId, u64, Moment),
+    /// How many timers fired, and whether another one is due.
+    Fired(u64, bool),
+    /// The run goes on under this text.
+    Upgraded(RunId, TextNo),
     Run(Description),
     History(Sequence<Event>),
-    /// E60 to E70 but E69.
+    /// E60 to E70 but E68 and E69.
     Refused(Code),
     /// E10 to E29: the text breaks a rule.
     BadText(TextFault),
+    /// E68: the run's history doesn't stand under the text; the place of its first mismatch from 1, and what is wrong there.
+    Mismatch(usize, Wrong),
     /// E69: the history is full; a run, and the event that closed it.
     Full(RunId, EventId),
 }

@@ -12,7 +12,7 @@ use Rattle.flow_base.specs.declared.book.Change.{Change}
 use Rattle.flow_machine.specs.Fitting.{HasUnfit, IsUnfitWithin}
 use Rattle.flow_machine.specs.Stuck.{needs, CantRecord, StuckInput, IsStuck, IsStuckWithin}
 
-pub stuck_here : (u : Rules) (b : Book) (cs : List Command) (c : Command) (rest : List Command) → cs ≡ c ∷ rest → IsStuck u.program_of b c → IsStuckWithin u b cs
+pub stuck_here : (u : Rules) (b : Book) (cs : List Command) (c : Command) (rest : List Command) → cs ≡ c ∷ rest → IsStuck u b c → IsStuckWithin u b cs
 stuck_here u b cs c rest e h = subst (IsStuckWithin u b) (sym e) (inl h)
 
 pub unfit_here : (unfit : Book → Change → Type 0) (u : Rules) (b : Book) (cs : List Command) (c : Command) (rest : List Command) → cs ≡ c ∷ rest → HasUnfit unfit b (outcome u b c).changes → IsUnfitWithin unfit u b cs

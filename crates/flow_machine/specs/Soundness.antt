@@ -45,4 +45,4 @@ NumbersEnd b = IsFull (length b.texts) ⊎ IsFull (length b.runs)
 
 -- Over a sound book whose texts are programs a command is stuck only where the numbers end.
 abbrev pub SoundDecides : Type 0
-SoundDecides = (u : Rules) (b : Book) (c : Command) → TextsRead u b → IsSound u b → IsStuck u.program_of b c → NumbersEnd b
+SoundDecides = (u : Rules) (b : Book) (c : Command) → TextsRead u b → IsSound u b → IsStuck u b c → NumbersEnd b

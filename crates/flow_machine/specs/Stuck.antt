@@ -1,23 +1,25 @@
 -- Where a command can't be decided: what a sound book never lacks isn't there, or no number is left. Beside a refusal of the
 -- store this is all that stands behind E80.
-use Rattle.std.specs.Prelude.{◌≡◌, ◌≤◌, ◌+◌, ◌^◌, ◌⊎◌, ℕ, Bool, true, false, List, [], ◌∷◌, length, Option, Some, None, Result}
+use Rattle.std.specs.Prelude.{◌≡◌, ◌≤◌, ◌+◌, ◌^◌, ◌⊎◌, ℕ, zero, suc, Bool, true, false, List, [], ◌∷◌, length, Option, Some, None, Result, nat_lt}
 use Rattle.flow_base.specs.Syntax.{Bytes, Program}
 use Rattle.flow_base.specs.declared.value.Value.{Value}
 use Rattle.flow_base.specs.declared.event.Cmd.{Cmd}
 use Rattle.flow_base.specs.declared.event.Event.{Event}
 use Rattle.flow_base.specs.declared.event.Input.{Input}
-use Rattle.flow_base.specs.declared.event.Input.TheVariants.{Signaled, ActivityCompleted}
+use Rattle.flow_base.specs.declared.event.Input.TheVariants.{Signaled, ActivityCompleted, ActivityFailed, TimerFired}
 use Rattle.flow_base.specs.declared.event.Wrong.{Wrong}
+use Rattle.flow_base.specs.declared.book.Due.{Due}
 use Rattle.flow_base.specs.declared.book.Run.{Run}
 use Rattle.flow_base.specs.declared.command.Command.{Command}
 use Rattle.flow_base.specs.declared.command.Command.TheVariants as command
 use Rattle.flow_base.specs.declared.command.TextFault.{TextFault}
-use Rattle.flow_model.specs.Configuration.{Configuration}
+use Rattle.flow_model.specs.Configuration.{Configuration, is_open}
 use Rattle.flow_model.specs.WellFormed.{signal_of}
 use Rattle.flow_model.specs.Deliver.{deliver, all_fit, has_kind}
 use Rattle.flow_model.specs.Stands.{Stands, FirstMismatch}
-use Rattle.flow_model.specs.Book.{Book, nth, text_number, requested, open_run, signalled}
-use Rattle.flow_model.specs.Apply.{Rules, program_if, program_at, continued, report_refusal, after_one}
+use Rattle.flow_model.specs.Open.{state_of}
+use Rattle.flow_model.specs.Book.{Book, nth, text_number, requested, open_run, signalled, least_due, changed_by}
+use Rattle.flow_model.specs.Apply.{Rules, program_if, program_at, continued, report_refusal, failure_refusal, tries_of, fired, firing_limit, after_one}
 
 -- Turns.
 
@@ -51,6 +53,10 @@ where_there (Some x) stuck = stuck x
 abbrev pub where_holds : Bool → Type 0 → Type 0
 where_holds true stuck = stuck
 where_holds false stuck = ⊥
+
+abbrev pub unless_holds : Bool → Type 0 → Type 0
+unless_holds true stuck = ⊥
+unless_holds false stuck = stuck
 
 -- a sound book has it: without it nothing goes on
 abbrev pub needs : {A : Type 0} → Option A → (A → Type 0) → Type 0
@@ -99,17 +105,50 @@ StuckComplete program_of b run event attempt v =
     unless_there (report_refusal r event attempt v) (
     StuckInput program_of b r (ActivityCompleted event v)))
 
+-- an attempt that failed, of an activity with so many attempts
+abbrev pub StuckFailed : (Bytes → Result Program TextFault) → Book → Run → ℕ → ℕ → Bytes → ℕ × ℕ → Type 0
+StuckFailed program_of b r event attempt reason tries = unless_holds (nat_lt attempt tries.0) (StuckInput program_of b r (ActivityFailed event reason))
+
+unfoldable pub StuckFail : (Bytes → Result Program TextFault) → Book → ℕ → ℕ → ℕ → Bytes → Type 0
+StuckFail program_of b run event attempt reason =
+    where_there (nth b.runs run) (λ r.
+    unless_there (failure_refusal r event attempt) (
+    needs (tries_of (nth r.history event)) (StuckFailed program_of b r event attempt reason)))
+
+-- a timer that is to fire
+unfoldable pub StuckFired : (Bytes → Result Program TextFault) → Book → Due → Type 0
+StuckFired program_of b d = needs (nth b.runs d.run) (λ r. StuckInput program_of b r (TimerFired d.id))
+
+-- one of so many firings, over the book that those before it leave
+unfoldable pub StuckFirings : Rules → ℕ → ℕ → Book → Type 0
+StuckFirings u at zero b = ⊥
+StuckFirings u at (suc n) b =
+    where_there (least_due b at) (λ d. StuckFired u.program_of b d ⊎ StuckFirings u at n (changed_by b (fired u b at d).changes))
+
+unfoldable pub StuckTick : Rules → Book → ℕ → Type 0
+StuckTick u b at = StuckFirings u at firing_limit b
+
+unfoldable pub StuckUpgrade : (Bytes → Result Program TextFault) → Book → ℕ → ℕ → Type 0
+StuckUpgrade program_of b run text =
+    where_there (nth b.runs run) (λ r.
+    where_holds (is_open (state_of r.history)) (
+    where_there (nth b.texts text) (λ body.
+    needs (program_if (program_of body)) (λ p. ⊥))))
+
 -- A command can't be decided over a book.
-unfoldable pub IsStuck : (Bytes → Result Program TextFault) → Book → Command → Type 0
-IsStuck program_of b (command.Register body) = StuckRegister program_of b body
-IsStuck program_of b (command.Start request flow text vs at) = StuckStart program_of b request flow text vs
-IsStuck program_of b (command.Signal request flow name v at) = StuckSignal program_of b request flow name v
-IsStuck program_of b (command.Complete run event attempt v at) = StuckComplete program_of b run event attempt v
-IsStuck program_of b (command.Terminate run reason at) = ⊥
-IsStuck program_of b (command.Describe run) = ⊥
-IsStuck program_of b (command.History run) = ⊥
+unfoldable pub IsStuck : Rules → Book → Command → Type 0
+IsStuck u b (command.Register body) = StuckRegister u.program_of b body
+IsStuck u b (command.Start request flow text vs at) = StuckStart u.program_of b request flow text vs
+IsStuck u b (command.Signal request flow name v at) = StuckSignal u.program_of b request flow name v
+IsStuck u b (command.Complete run event attempt v at) = StuckComplete u.program_of b run event attempt v
+IsStuck u b (command.Fail run event attempt reason at) = StuckFail u.program_of b run event attempt reason
+IsStuck u b (command.Tick at) = StuckTick u b at
+IsStuck u b (command.Terminate run reason at) = ⊥
+IsStuck u b (command.Upgrade run text) = StuckUpgrade u.program_of b run text
+IsStuck u b (command.Describe run) = ⊥
+IsStuck u b (command.History run) = ⊥
 
 -- One of several can't, over the book that those before it leave.
 abbrev pub IsStuckWithin : Rules → Book → List Command → Type 0
 IsStuckWithin u b [] = ⊥
-IsStuckWithin u b (c ∷ cs) = IsStuck u.program_of b c ⊎ IsStuckWithin u (after_one u b c) cs
+IsStuckWithin u b (c ∷ cs) = IsStuck u b c ⊎ IsStuckWithin u (after_one u b c) cs

@@ -39,4 +39,4 @@ IsUnnumbered b (AddTurn n t) = ⊥
 
 -- Over a sound book whose texts are programs a command is stuck only where it would make such a change.
 abbrev pub StuckUnnumbered : Type 0
-StuckUnnumbered = (u : Rules) (b : Book) (c : Command) → TextsRead u b → IsSound u b → IsStuck u.program_of b c → HasUnfit IsUnnumbered b (outcome u b c).changes
+StuckUnnumbered = (u : Rules) (b : Book) (c : Command) → TextsRead u b → IsSound u b → IsStuck u b c → HasUnfit IsUnnumbered b (outcome u b c).changes

@@ -1,19 +1,21 @@
 -- Apply: what a command answers, and what it changes in a book. A refusal changes nothing, unless the history is full.
-use Rattle.std.specs.Prelude.{ℕ, ◌+◌, Bool, true, false, List, [], ◌∷◌, length, map, max, codes, Option, Some, None, Result, Ok, Err, nat_eq, nat_le, if◌then◌else◌}
+use Rattle.std.specs.Prelude.{ℕ, zero, suc, ◌+◌, Bool, true, false, List, [], ◌∷◌, ◌++◌, length, map, max, min, codes, Option, Some, None, Result, Ok, Err, nat_eq, nat_lt, nat_le, is_some, if◌then◌else◌}
 use Rattle.flow_base.specs.Syntax.{Bytes, Program}
 use Rattle.flow_base.specs.declared.value.Value.{Value}
 use Rattle.flow_base.specs.declared.event.Cmd.{Cmd}
 use Rattle.flow_base.specs.declared.event.Cmd.TheVariants.{Schedule, ContinueAsNew}
 use Rattle.flow_base.specs.declared.event.Input.{Input}
-use Rattle.flow_base.specs.declared.event.Input.TheVariants.{Started, Signaled, ActivityCompleted, Terminated}
+use Rattle.flow_base.specs.declared.event.Input.TheVariants.{Started, Signaled, ActivityCompleted, ActivityFailed, TimerFired, Terminated}
 use Rattle.flow_base.specs.declared.event.What.TheVariants.{Came, Asked}
 use Rattle.flow_base.specs.declared.event.Event.{Event}
+use Rattle.flow_base.specs.declared.event.Wrong.{Wrong}
 use Rattle.flow_base.specs.declared.book.Task.{Task}
 use Rattle.flow_base.specs.declared.book.Timer.{Timer}
+use Rattle.flow_base.specs.declared.book.Due.{Due}
 use Rattle.flow_base.specs.declared.book.Run.{Run}
 use Rattle.flow_base.specs.declared.book.Turn.{Turn}
 use Rattle.flow_base.specs.declared.book.Change.{Change}
-use Rattle.flow_base.specs.declared.book.Change.TheVariants.{AddText, AddRun, AddTurn}
+use Rattle.flow_base.specs.declared.book.Change.TheVariants.{AddText, AddRun, AddTurn, SetAttempt, SetText}
 use Rattle.flow_base.specs.declared.code.Code.{Code}
 use Rattle.flow_base.specs.declared.code.Code.TheVariants.{NoText, BadArguments, AlreadyOpen, NoOpenRun, NotOpen, OldAttempt, WrongType, NoSuchSignal, NoRun}
 use Rattle.flow_base.specs.declared.command.Command.{Command}
@@ -21,13 +23,15 @@ use Rattle.flow_base.specs.declared.command.Command.TheVariants as command
 use Rattle.flow_base.specs.declared.command.TextFault.{TextFault}
 use Rattle.flow_base.specs.declared.command.Reply.{Reply}
 use Rattle.flow_base.specs.declared.command.Reply.TheVariants as reply
-use Rattle.flow_model.specs.Configuration.{first_configuration, is_open}
+use Rattle.flow_model.specs.Values.{last_moment}
+use Rattle.flow_model.specs.Configuration.{Configuration, first_configuration, is_open}
 use Rattle.flow_model.specs.Deliver.{all_fit, has_kind}
 use Rattle.flow_model.specs.Turn.{Fresh}
 use Rattle.flow_model.specs.Turned.{turned, position_of}
 use Rattle.flow_model.specs.Open.{open_timers, state_of, moment_of}
 use Rattle.flow_model.specs.WellFormed.{signal_of}
-use Rattle.flow_model.specs.Book.{Book, nth, text_number, requested, open_run, signalled, changed_by}
+use Rattle.flow_model.specs.Verdict.{verdict}
+use Rattle.flow_model.specs.Book.{Book, nth, text_number, requested, open_run, signalled, least_due, changed_by}
 
 -- What decides beside the book: how many events a history may have, and which program a text is, or why it is none.
 pub record Rules : Type 0 where
@@ -166,6 +170,17 @@ report_refusal r event attempt v =
     refuse_unless (nat_eq t.attempt attempt) OldAttempt (
     refuse_unless (gives_kind (nth r.history event) v) WrongType None))
 
+-- How often the activity of an event is tried, and the pause between two attempts.
+abbrev pub tries_of : Option Event → Option (ℕ × ℕ)
+tries_of None = None
+tries_of (Some e) = elim e.what [ Came i ↦ None | Asked c ↦ elim c [ Schedule a vs tries every k ↦ Some (tries, every) | _ ↦ None ] ]
+
+-- The first refusal of a failed attempt.
+unfoldable pub failure_refusal : Run → ℕ → ℕ → Option Code
+failure_refusal r event attempt =
+    on_task (task_at r.tasks event) (λ t.
+    refuse_unless (nat_eq t.attempt attempt) OldAttempt None)
+
 -- The commands.
 
 abbrev pub on_program : Result Program TextFault → (Program → Outcome) → Outcome
@@ -197,6 +212,29 @@ complete u b run event attempt v at =
     tested (report_refusal r event attempt v) (
     input_recorded u b r run at (ActivityCompleted event v)))
 
+-- the moment of a pause's end: no moment is past the last one
+abbrev pub ready_after : ℕ → ℕ → ℕ
+ready_after at pause = min last_moment (at + pause)
+
+-- the next attempt, ready after a pause; no event is recorded
+abbrev pub retried : ℕ → ℕ → ℕ → ℕ → Outcome
+retried run event attempt ready =
+    record { reply = reply.Retry run (attempt + 1) ready; changes = SetAttempt run event (attempt + 1) ready ∷ [] }
+
+-- an attempt failed, of an activity with so many attempts and such a pause
+abbrev pub attempt_failed : Rules → Book → Run → ℕ → ℕ → ℕ → Bytes → ℕ → ℕ × ℕ → Outcome
+attempt_failed u b r run event attempt reason at tries =
+    if nat_lt attempt tries.0
+    then retried run event attempt (ready_after (max at (moment_of r.history)) tries.1)
+    else input_recorded u b r run at (ActivityFailed event reason)
+
+-- An attempt of an activity failed. The last one alone is recorded.
+unfoldable pub fail : Rules → Book → ℕ → ℕ → ℕ → Bytes → ℕ → Outcome
+fail u b run event attempt reason at =
+    must_be (nth b.runs run) NoRun (λ r.
+    tested (failure_refusal r event attempt) (
+    if_sound (tries_of (nth r.history event)) (attempt_failed u b r run event attempt reason at)))
+
 -- a signal that the run's program may declare
 abbrev pub signal_recorded : ℕ → Run → ℕ → Bytes → Bytes → Value → ℕ → Program → Outcome
 signal_recorded limit r run request name v at p =
@@ -212,6 +250,45 @@ signal u b request flow name v at =
     if_sound (nth b.runs run) (λ r.
     if_sound (program_at u.program_of b r.text) (signal_recorded u.limit r run request name v at))))
 
+-- Timers.
+
+-- a timer that is due fires
+unfoldable pub fired : Rules → Book → ℕ → Due → Outcome
+fired u b at d = if_sound (nth b.runs d.run) (λ r. input_recorded u b r d.run at (TimerFired d.id))
+
+-- What several firings change, how many there were, and the book that they leave.
+pub record Firings : Type 0 where
+  pub changes : List Change
+  pub count : ℕ
+  pub book : Book
+
+abbrev pub no_firing : Book → Firings
+no_firing b = record { changes = []; count = 0; book = b }
+
+abbrev pub on_due : Option Due → Book → (Due → Firings) → Firings
+on_due None b next = no_firing b
+on_due (Some d) b next = next d
+
+abbrev pub before_firings : List Change → Firings → Firings
+before_firings cs f = record { changes = cs ++ f.changes; count = f.count + 1; book = f.book }
+
+-- Up to so many timers fire, each time the one that is due first, over the book that those before it left.
+unfoldable pub firings : Rules → ℕ → ℕ → Book → Firings
+firings u at zero b = no_firing b
+firings u at (suc n) b =
+    on_due (least_due b at) b (λ d. before_firings (fired u b at d).changes (firings u at n (changed_by b (fired u b at d).changes)))
+
+-- the most timers that one command fires
+abbrev pub firing_limit : ℕ
+firing_limit = 32
+
+abbrev pub all_fired : ℕ → Firings → Outcome
+all_fired at f = record { reply = reply.Fired f.count (is_some (least_due f.book at)); changes = f.changes }
+
+-- Timers that are due by a moment fire.
+unfoldable pub tick : Rules → Book → ℕ → Outcome
+tick u b at = all_fired at (firings u at firing_limit b)
+
 -- a run is closed for this reason, and its program isn't run
 abbrev pub terminated : Run → ℕ → Bytes → ℕ → Outcome
 terminated r run reason at =
@@ -225,6 +302,20 @@ unfoldable pub terminate : Book → ℕ → Bytes → ℕ → Outcome
 terminate b run reason at =
     must_be (nth b.runs run) NoRun (λ r.
     must_hold (is_open (state_of r.history)) NotOpen (terminated r run reason at))
+
+-- the run goes on under a text under which its history stands
+abbrev pub if_stands : ℕ → ℕ → Result Configuration (ℕ × Wrong) → Outcome
+if_stands run text (Ok k) = record { reply = reply.Upgraded run text; changes = SetText run text ∷ [] }
+if_stands run text (Err m) = says (reply.Mismatch m.0 m.1)
+
+-- An open run goes on under another text, where its history stands under that.
+unfoldable pub upgrade : (Bytes → Result Program TextFault) → Book → ℕ → ℕ → Outcome
+upgrade program_of b run text =
+    must_be (nth b.runs run) NoRun (λ r.
+    must_hold (is_open (state_of r.history)) NotOpen (
+    must_be (nth b.texts text) NoText (λ body.
+    if_sound (program_if (program_of body)) (λ p.
+    if_stands run text (verdict p r.history)))))
 
 -- A run, told.
 unfoldable pub describe : Book → ℕ → Outcome
@@ -247,7 +338,10 @@ outcome u b (command.Register body) = register u.program_of b body
 outcome u b (command.Start request flow text vs at) = start u.program_of b request flow text vs at
 outcome u b (command.Signal request flow name v at) = signal u b request flow name v at
 outcome u b (command.Complete run event attempt v at) = complete u b run event attempt v at
+outcome u b (command.Fail run event attempt reason at) = fail u b run event attempt reason at
+outcome u b (command.Tick at) = tick u b at
 outcome u b (command.Terminate run reason at) = terminate b run reason at
+outcome u b (command.Upgrade run text) = upgrade u.program_of b run text
 outcome u b (command.Describe run) = describe b run
 outcome u b (command.History run) = history b run
 

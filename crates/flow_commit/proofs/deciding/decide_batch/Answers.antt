@@ -1,7 +1,6 @@
 use Rattle.std.proofs.Common.{◌≡◌, ◌∷◌, suc, drop, drop-cons, sym, ap, ◌∙◌}
 use Rattle.std.specs.Prelude.{◌⊎◌}
 use Rattle.std.proofs.lemmas.Result.{err_from_is_err_and}
-use Rattle.flow_check.specs.Language.{meaning_of}
 use Rattle.flow_model.specs.Apply.{outcome}
 use Rattle.flow_machine.specs.Stuck.{IsStuck, IsStuckWithin}
 use Rattle.flow_machine.specs.Fitting.{HasUnfit, IsUnfitWithin}
@@ -23,7 +22,7 @@ returns-in_err-reply-clause-cause g c = λ a follows now first.
     let cut : commands_of (drop i ts) ≡ taken.command ∷ rest = ap commands_of (drop-cons ts i taken c.loop-taken-test.true ∙ ap (λ x. x ∷ drop (suc i) ts) (sym c.taken-item.is)) in
     let sure = c.loop-taken.invariant.goes_on (c.decide.ensures.was_true now) first in
     let Refuses : Type 0 = g.V.View.refuses a new in
-    let Stuck : Type 0 = IsStuck meaning_of (book at) taken.command in
+    let Stuck : Type 0 = IsStuck rules (book at) taken.command in
     let Unfit : Type 0 = HasUnfit g.V.View.unfit (book at) (outcome rules (book at) taken.command).changes in
     let StuckWithin : Type 0 = IsStuckWithin rules (book c.args.view.now) cs in
     let UnfitWithin : Type 0 = IsUnfitWithin g.V.View.unfit rules (book c.args.view.now) cs in
