@@ -1,6 +1,7 @@
 -- The world round an engine: submissions, batches, commits, stops and reopenings, in any order.
 use Rattle.std.specs.Prelude.{◌≡◌, ◌⊎◌, ℕ, suc, ◌+◌, ◌-◌, List, [], ◌∷◌, ◌++◌, length, take, drop, slice_get, Contains, Option, Some, None, Bool, false, nat_eq, nat_le, ◌&&◌, if◌then◌else◌}
 use Rattle.std.specs.List.{AllByRecursion}
+use Rattle.flow_base.specs.Syntax.{Bytes}
 use Rattle.flow_base.specs.declared.value.Value.{Value}
 use Rattle.flow_base.specs.declared.book.Run.{Run}
 use Rattle.flow_base.specs.declared.book.Task.{Task}
@@ -77,6 +78,7 @@ first base =
 pub data Step : Type 0 where
   Submit : Command → Step
   Report : (which : ℕ) → Value → (at : ℕ) → Step  -- on an attempt that was handed out at some time
+  Failure : (which : ℕ) → Bytes → (at : ℕ) → Step  -- the same, of an attempt that failed
   Take : (count : ℕ) → Step
   Write : Step
   WriteFails : Step
@@ -100,9 +102,15 @@ submitted w Stopped c = w
 submitted w st c = record w { inbox = w.inbox ++ c ∷ [] }
 
 -- a report is submitted like any command; on what was never handed out there is none
-abbrev pub reported : World → Stage → Option Attempt → Value → ℕ → World
-reported w st None v at = w
-reported w st (Some a) v at = submitted w st (command.Complete a.run a.event a.attempt v at)
+abbrev pub reported : World → Stage → Option Attempt → (Attempt → Command) → World
+reported w st None report = w
+reported w st (Some a) report = submitted w st (report a)
+
+abbrev pub completion : Value → ℕ → Attempt → Command
+completion v at a = command.Complete a.run a.event a.attempt v at
+
+abbrev pub failure : Bytes → ℕ → Attempt → Command
+failure reason at a = command.Fail a.run a.event a.attempt reason at
 
 abbrev pub taken : World → Stage → ℕ → World
 taken w Idle k =
@@ -168,7 +176,8 @@ Opens u w st v = v ≡ w
 -- One step leads from the world w to v.
 abbrev pub Goes : Rules → World → Step → World → Type 0
 Goes u w (Submit c) v = v ≡ submitted w w.stage c
-Goes u w (Report n value at) v = v ≡ reported w w.stage (slice_get w.dispatched n) value at
+Goes u w (Report n value at) v = v ≡ reported w w.stage (slice_get w.dispatched n) (completion value at)
+Goes u w (Failure n reason at) v = v ≡ reported w w.stage (slice_get w.dispatched n) (failure reason at)
 Goes u w (Take k) v = v ≡ taken w w.stage k
 Goes u w Write v = v ≡ w
 Goes u w WriteFails v = v ≡ rolled_back w w.stage
