@@ -1,4 +1,4 @@
-use Rattle.std.proofs.Common.{◌∙◌, ◌∷◌, [], map, arith}
+use Rattle.std.proofs.Common.{◌∙◌, ◌∷◌, map, arith}
 use Rattle.std.proofs.lemmas.List.{map_push}
 use Rattle.std.proofs.lemmas.Result.{err_from_is_err_and, IfOk-weaker, IfErr-weaker}
 use Rattle.flow_base.specs.Shown.{shown_expr, shown_stmt, shown_branch, shown_braced, shown_otherwise}
