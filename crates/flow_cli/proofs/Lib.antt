@@ -1,6 +1,7 @@
 pub mod Faults
 pub mod Endings
 pub mod Rows
+pub mod Arguments
 pub mod Commands
 pub mod Replies
 pub mod Lines

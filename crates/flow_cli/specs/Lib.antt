@@ -1,6 +1,7 @@
 pub mod Faults
 pub mod Calls
 pub mod Shown
+pub mod Arguments
 pub mod Commands
 pub mod Replies
 pub mod Verdicts

@@ -10,4 +10,5 @@ pub mod ending;
 pub mod fault;
 pub mod history;
 pub mod reply;
+mod start;
 pub mod work;
