@@ -8,6 +8,6 @@ pub mod Turns
 pub mod Law
 pub mod Calls
 pub mod Words
-pub mod Same
+pub mod Heads
 pub mod Differences
 mod Rows
