@@ -10,4 +10,5 @@ pub mod Calls
 pub mod Words
 pub mod Heads
 pub mod Differences
+pub mod Walks
 mod Rows

@@ -1,3 +1,4 @@
 -- each file a subject
 pub mod Wrap
 pub mod Difference
+pub mod Behind

@@ -1,5 +1,6 @@
 //! Which changes of a text are safe for the runs that have begun under it.
 #![tactic(auto)]
 
+mod ids;
 pub mod laws;
 mod same;
