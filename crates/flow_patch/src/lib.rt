@@ -4,3 +4,4 @@
 mod ids;
 pub mod laws;
 mod same;
+mod walk;
