@@ -11,4 +11,5 @@ pub mod Words
 pub mod Heads
 pub mod Differences
 pub mod Walks
+pub mod Upgrades
 mod Rows

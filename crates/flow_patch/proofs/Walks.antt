@@ -1,12 +1,12 @@
 -- One walk over the new text finds the first difference.
 use Rattle.std.proofs.Common.{arith, ◌≡◌, ℕ, zero, suc, ◌<◌, List, [], ◌∷◌, length, drop, refl, sym, ap, ◌∙◌, Bool, true, false, Option, Some, None, Result, Ok, Err, ⊎_elim}
-use Rattle.std.specs.Prelude.{if◌then◌else◌}
-use Rattle.flow_base.specs.Syntax.{Bytes, Expression, Statement, Let, Assign, Call, WaitSignal, WaitSignalFor, Sleep, If, While, Parallel, Patch, Return, FailWith, Continue, Block, End, Next, Otherwise, NoElse, Else, Branches, NoBranch, Branch}
+use Rattle.std.specs.Prelude.{bytes_eq, if◌then◌else◌}
+use Rattle.flow_base.specs.Syntax.{Bytes, Expression, Statement, Let, Assign, Call, WaitSignal, WaitSignalFor, Sleep, If, While, Parallel, Patch, Return, FailWith, Continue, Block, End, Next, Otherwise, NoElse, Else, Branches, NoBranch, Branch, Program}
 use Rattle.flow_base.specs.declared.syntax.Retry.{Retry}
 use Rattle.flow_base.specs.declared.syntax.TypeAt.{TypeAt}
 use Rattle.std.proofs.lemmas.Bool.{true≢false}
-use Rattle.flow_patch.specs.Wrap.{joined}
-use Rattle.flow_patch.specs.Difference.{same_head, same_types, has_else, first_list, second_list, branches_in, place_of, first_place, spliced_statement, spliced, spliced_otherwise, spliced_branches, difference, difference_within, difference_else, difference_beside}
+use Rattle.flow_patch.specs.Wrap.{joined, new_in}
+use Rattle.flow_patch.specs.Difference.{same_head, same_types, has_else, first_list, second_list, branches_in, place_of, first_place, spliced_statement, spliced, spliced_otherwise, spliced_branches, difference, difference_within, difference_else, difference_beside, beginning_of, difference_of_parameters, difference_of_declarations, first_difference}
 use Rattle.flow_patch.specs.Behind.{unless_told, ended, and_behind, behind_first, behind, behind_statement, within_else, within_beside, WalkFinds}
 use Rattle.flow_patch.proofs.Normal.{cases}
 
@@ -172,3 +172,12 @@ types_left [] us i h e = absurd (omega (arith, h))
 types_left (t ∷ ts) [] zero h e = refl
 types_left (t ∷ ts) (u ∷ us) zero h e = absurd (omega (arith, e))
 types_left (t ∷ ts) us (suc i) h e = types_left ts us i (omega (arith, h)) e
+
+---- Programs
+
+-- where all before their bodies is the same
+pub first_in_bodies : (p p' : Program) → bytes_eq p.name p'.name ≡ true
+    → difference_of_parameters p.parameters p'.parameters p'.parameters_end ≡ None
+    → difference_of_declarations p.declarations p'.declarations (beginning_of p'.body p'.body_end) ≡ None
+    → first_difference p p' ≡ ended (behind (new_in p) p'.body p.body) p'.body_end
+first_in_bodies p p' n q d = rw (n, q, d) (walk_finds (new_in p) p.body p'.body p'.body_end)

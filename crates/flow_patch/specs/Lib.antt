@@ -2,3 +2,4 @@
 pub mod Wrap
 pub mod Difference
 pub mod Behind
+pub mod Upgrades

@@ -10,7 +10,7 @@ use flow_base::syntax::{Block, Branch, Stmt};
 use flow_base::text::Key;
 
 /// The place of a statement's first token.
-fn place_of(statement: &Stmt) -> usize
+pub(crate) fn place_of(statement: &Stmt) -> usize
     ensures { result ≡ place_of (shown_stmt statement.now) }
 {
     match statement {
