@@ -10,4 +10,5 @@ pub mod ending;
 pub mod fault;
 pub mod history;
 pub mod reply;
+pub mod safety;
 pub mod work;

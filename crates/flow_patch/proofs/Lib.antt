@@ -12,4 +12,5 @@ pub mod Heads
 pub mod Differences
 pub mod Walks
 pub mod Upgrades
+pub mod Wrapping
 mod Rows
