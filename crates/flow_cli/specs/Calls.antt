@@ -43,9 +43,12 @@ run = needed (codes "RUN")
 abbrev pub history : App
 history = with_rule (with_rule (new_app (codes "history")) base) run
 
+-- the program with the calls that read texts alone
+abbrev pub over_texts : App
+over_texts = with_subcommand (with_subcommand (on_top (λ s. record s { subcommand_required = true }) (new_app (codes "flow"))) check.top) safe.top
+
 abbrev pub flow : App
-flow =
-    with_subcommand (with_subcommand (with_subcommand (with_subcommand (on_top (λ s. record s { subcommand_required = true }) (new_app (codes "flow"))) check.top) drive.top) history.top) safe.top
+flow = with_subcommand (with_subcommand over_texts drive.top) history.top
 
 -- ---- a call, without where its texts lie in memory
 

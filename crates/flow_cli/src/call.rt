@@ -3,7 +3,7 @@ ghost use Rattle.std.specs.Prelude.{◌≡◌, ◌⊎◌, IfOk, IfErr, false, ma
 ghost use Rattle.clap.specs.Words.{app_of, rule_of, found_of, rows_of, first_of, subcommand_rows_of};
 ghost use Rattle.clap.specs.declared.builder.command.Command.TheViews.{out-Command as fields_of};
 ghost use Rattle.clap.specs.declared.error.kind.ErrorKind.TheVariants.{OutOfMemory};
-ghost use Rattle.flow_cli.specs.Calls.{flow, check, safe, drive, history, needed, batch, run_in, batch_in, safe_in, drive_in, history_in, named_call, IsCall};
+ghost use Rattle.flow_cli.specs.Calls.{flow, over_texts, check, safe, drive, history, needed, batch, run_in, batch_in, safe_in, drive_in, history_in, named_call, IsCall};
 ghost use Rattle.flow_cli.specs.Calls.{Call as Pure};
 ghost use Rattle.flow_cli.specs.Shown.{shown};
 
@@ -86,21 +86,27 @@ fn history_command<'a>(alloc: Global) -> Result<Command<'a>, AllocError>
     )
 }
 
-fn flow_command<'a>(alloc: Global) -> Result<Command<'a>, AllocError>
-    ensures app { IfOk result (λ c. app_of c ≡ flow) }
+/// The program with the calls that read texts alone.
+fn text_command<'a>(alloc: Global) -> Result<Command<'a>, AllocError>
+    ensures app { IfOk result (λ c. app_of c ≡ over_texts) }
 {
     let check = check_command(alloc)?;
-    let drive = drive_command(alloc)?;
-    let history = history_command(alloc)?;
     let safe = safe_command(alloc)?;
     Ok(
         Command::new(alloc, "flow")
             .subcommand_required(true)
             .subcommand(check)?
-            .subcommand(drive)?
-            .subcommand(history)?
             .subcommand(safe)?,
     )
+}
+
+fn flow_command<'a>(alloc: Global) -> Result<Command<'a>, AllocError>
+    ensures app { IfOk result (λ c. app_of c ≡ flow) }
+{
+    let drive = drive_command(alloc)?;
+    let history = history_command(alloc)?;
+    let texts = text_command(alloc)?;
+    Ok(texts.subcommand(drive)?.subcommand(history)?)
 }
 
 #[tactic(auto, using(crate::proofs::Rows::first_in_rows))]

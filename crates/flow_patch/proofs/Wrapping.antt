@@ -1,5 +1,5 @@
 -- What no first difference means for the runs of a text that keeps the rules.
-use Rattle.std.proofs.Common.{◌≡◌, ℕ, true, false, sym, ◌∙◌, Option, Some, None}
+use Rattle.std.proofs.Common.{◌≡◌, ℕ, sym, ◌∙◌, Some, None}
 use Rattle.flow_base.specs.Syntax.{Program}
 use Rattle.flow_model.specs.WellFormed.{WellFormed}
 use Rattle.flow_patch.specs.Wrap.{Wrap}

@@ -1,8 +1,8 @@
-use Rattle.std.proofs.Common.{rules, ◌≡◌, sym, subst, map, Some, None, IfErr, OnOk, ℕ, Option, true}
+use Rattle.std.proofs.Common.{rules, ◌≡◌, sym, subst, Some, None, IfErr, OnOk, ℕ, Option, true}
 use Rattle.std.specs.Prelude.{bytes_eq}
-use Rattle.flow_base.specs.Shown.{shown_block, shown_declaration, shown_program}
+use Rattle.flow_base.specs.Shown.{shown_program}
 use Rattle.flow_patch.specs.Behind.{behind, ended, unknown_in}
-use Rattle.flow_patch.specs.Difference.{beginning_of, difference_of_declarations, difference_of_parameters, first_difference}
+use Rattle.flow_patch.specs.Difference.{beginning_of, difference_of_declarations, difference_of_parameters}
 use Rattle.flow_patch.proofs.Walks.{first_in_bodies}
 use Rattle.flow_patch.proofs.compare.compare.Goals as goal
 
