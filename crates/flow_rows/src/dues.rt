@@ -1,5 +1,5 @@
 //! The timer that is due first, of rows in any order.
-ghost use Rattle.std.specs.Prelude.{◌≡◌, None};
+ghost use Rattle.std.specs.Prelude.{◌≡◌, ◌≤◌, None};
 ghost use Rattle.flow_rows.specs.Dues as rule;
 
 use crate::rows::TimerRow;
@@ -24,13 +24,13 @@ fn due_of(row: &TimerRow) -> Option<Due>
 }
 
 /// The lesser of what was found before and of a timer, where it is due by a moment.
-fn with_due(at: Moment, best: Option<Due>, found: Option<Due>) -> Option<Due>
+fn with_due(at: u64, best: Option<Due>, found: Option<Due>) -> Option<Due>
     ensures { result ≡ rule.with_due at best found }
 {
     let Some(due) = found else {
         return best;
     };
-    if due.due.get() <= at.get() {
+    if due.due.get() <= at {
         Some(lesser(best, due))
     } else {
         best
@@ -39,11 +39,14 @@ fn with_due(at: Moment, best: Option<Due>, found: Option<Due>) -> Option<Due>
 
 /// The one that is due first, of the timers that are due by a moment.
 pub fn least_due(at: Moment, rows: &[TimerRow]) -> Option<Due>
-    ensures { result ≡ rule.least_of_rows at None rows.now }
+    ensures least { result ≡ rule.least_of_rows at None rows.now }
+    // It has this by its type.
+    ensures last { at ≤ 1000000000000000 }
 {
+    let by = at.get();
     let mut least = None;
     for row in rows {
-        least = with_due(at, least, due_of(row));
+        least = with_due(by, least, due_of(row));
     }
     least
 }
