@@ -1,6 +1,7 @@
 //! What shows a book: reads, which leave it, and changes.
 #![tactic(auto)]
 
+pub mod due;
 pub mod fault;
 pub mod history;
 pub mod lists;
