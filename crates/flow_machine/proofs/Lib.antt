@@ -19,3 +19,4 @@ pub mod Limited
 pub mod Started
 pub mod Ticks
 pub mod TicksStand
+pub mod TicksDecide

@@ -10,4 +10,5 @@ mod puts;
 mod report;
 mod sending;
 pub mod submission;
+mod ticking;
 mod turns;
