@@ -26,7 +26,7 @@ use Rattle.flow_model.proofs.Tries.{well_formed_tried}
 use Rattle.flow_model.proofs.Leaves.{turn_leaves, stands_left, still_closed}
 use Rattle.flow_machine.proofs.Places.{get_set, get_push, nth_kept, nth_place}
 use Rattle.flow_machine.proofs.Tasks.{turn_attempts, turn_activities}
-use Rattle.flow_machine.proofs.Failing.{same_events, all_attempts}
+use Rattle.flow_machine.proofs.Tried.{same_events, all_attempts}
 
 ---- Texts
 

@@ -46,7 +46,7 @@ use Rattle.flow_machine.specs.Limits.{IsTurnWithinLimits, IsChangeWithinLimits}
 use Rattle.flow_machine.specs.Soundness.{ReadsWellFormed}
 use Rattle.flow_machine.proofs.Places.{get_all, nth_place}
 use Rattle.flow_machine.proofs.Changes.{text_well_formed}
-use Rattle.flow_machine.proofs.Failing.{few_tries}
+use Rattle.flow_machine.proofs.Tried.{few_tries}
 
 abbrev Within : Outcome → Type 0
 Within o = All IsChangeWithinLimits o.changes

@@ -24,7 +24,7 @@ use Rattle.flow_machine.specs.Stuck.{HasMismatch, CantDeliver, CantRecord, unles
 use Rattle.flow_machine.proofs.Places.{get_all, nth_place}
 use Rattle.flow_machine.proofs.Waiting.{completion_taken, failure_taken}
 use Rattle.flow_machine.proofs.Heard.{signal_taken, open_is_there}
-use Rattle.flow_machine.proofs.Failing.{found_task, task_tried}
+use Rattle.flow_machine.proofs.Tried.{found_task, task_tried}
 
 ---- Tests
 

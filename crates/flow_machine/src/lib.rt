@@ -4,6 +4,7 @@
 pub mod answer;
 pub mod decide;
 mod description;
+mod failing;
 pub mod laws;
 pub mod programs;
 mod puts;
@@ -11,3 +12,4 @@ mod report;
 mod sending;
 pub mod submission;
 mod turns;
+mod upgrading;
