@@ -7,9 +7,10 @@ use Rattle.flow_base.specs.declared.value.Value.{Value}
 use Rattle.flow_base.specs.declared.event.Cmd.{Cmd}
 use Rattle.flow_base.specs.declared.event.Wrong.{Wrong}
 use Rattle.flow_base.specs.declared.event.Input.{Input}
-use Rattle.flow_base.specs.declared.event.Input.TheVariants.{Signaled, ActivityCompleted, ActivityFailed, Terminated}
+use Rattle.flow_base.specs.declared.event.Input.TheVariants.{Signaled, ActivityCompleted, ActivityFailed, Terminated, TimerFired}
 use Rattle.flow_base.specs.declared.book.Task.{Task}
 use Rattle.flow_base.specs.declared.book.Timer.{Timer}
+use Rattle.flow_base.specs.declared.book.Due.{Due}
 use Rattle.flow_base.specs.declared.book.Run.{Run}
 use Rattle.flow_base.specs.declared.book.Turn.{Turn}
 use Rattle.flow_base.specs.declared.book.Change.TheVariants.{AddText, AddTurn, AddRun, SetAttempt, SetText}
@@ -28,8 +29,9 @@ use Rattle.flow_model.specs.Turned.{turned, position_of}
 use Rattle.flow_model.specs.Open.{open_timers, state_of, moment_of}
 use Rattle.flow_model.specs.Verdict.{verdict}
 use Rattle.flow_model.specs.Book.{Book, nth, text_number, requested, open_run, signalled, changed, changed_by}
-use Rattle.flow_model.specs.Apply.{Rules, Outcome, says, none_there, must_be, must_hold, tested, if_sound, program_if, program_at, first_turn, continued, run_from, next_run, history_limit, turn_made, recorded, input_recorded, report_refusal, tries_of, failure_refusal, on_program, register, start, signal_recorded, signal, complete, ready_after, retried, attempt_failed, fail, terminated, terminate, if_stands, upgrade, describe, history, outcome, after_one, after}
+use Rattle.flow_model.specs.Apply.{Rules, Outcome, says, none_there, must_be, must_hold, tested, if_sound, program_if, program_at, first_turn, continued, run_from, next_run, history_limit, turn_made, recorded, input_recorded, report_refusal, tries_of, failure_refusal, on_program, register, start, signal_recorded, signal, complete, ready_after, retried, attempt_failed, fail, terminated, terminate, if_stands, upgrade, describe, history, outcome, after_one, after, fired, tick}
 use Rattle.flow_model.specs.Sound.{IsProgram}
+use Rattle.flow_machine.proofs.Ticks.{fired_book, tick_keeps}
 
 -- A property of books that the changes keep which commands make.
 pub record IsKept (u : Rules) (P : Book → Type 0) : Type 0 where
@@ -177,6 +179,15 @@ module _ (u : Rules) (P : Book → Type 0) (k : IsKept u P) where
       (must_keeps P b h (nth b.texts text) NoText (read r)
       (λ body. sound_keeps P b h (program_if (u.program_of body)) (judged r) (λ p. stands_keeps b n text (verdict p r.history) h))))
 
+  fired_keeps : (at : ℕ) (b : Book) (d : Due) → P b → P (fired_book u at b d)
+  unfolding fired
+  fired_keeps at b d h =
+      let takes : Run → Outcome = λ r. input_recorded u b r d.run at (TimerFired d.id) in
+      sound_keeps P b h (nth b.runs d.run) takes (λ r. input_keeps b r d.run at (TimerFired d.id) h)
+
+  ticks_keep : (b : Book) (at : ℕ) → P b → Keeps P b (tick u b at)
+  ticks_keep b at h = tick_keeps u at P (fired_keeps at) b h
+
   terminate_keeps : (b : Book) (n : ℕ) (reason : Bytes) (at : ℕ) → P b → Keeps P b (terminate b n reason at)
   unfolding terminate
   terminate_keeps b n reason at h =
@@ -208,6 +219,7 @@ module _ (u : Rules) (P : Book → Type 0) (k : IsKept u P) where
   one_keeps b (command.Signal request flow name v at) h = signal_keeps b request flow name v at h
   one_keeps b (command.Complete run event attempt v at) h = complete_keeps b run event attempt v at h
   one_keeps b (command.Fail run event attempt reason at) h = fail_keeps b run event attempt reason at h
+  one_keeps b (command.Tick at) h = ticks_keep b at h
   one_keeps b (command.Terminate run reason at) h = terminate_keeps b run reason at h
   one_keeps b (command.Upgrade run text) h = upgrade_keeps b run text h
   one_keeps b (command.Describe run) h = describe_keeps b run h

@@ -10,9 +10,10 @@ use Rattle.flow_base.specs.declared.value.Value.{Value}
 use Rattle.flow_base.specs.declared.event.Cmd.{Cmd}
 use Rattle.flow_base.specs.declared.event.Wrong.{Wrong}
 use Rattle.flow_base.specs.declared.event.Input.{Input}
-use Rattle.flow_base.specs.declared.event.Input.TheVariants.{Started, Signaled, ActivityCompleted, ActivityFailed, Terminated}
+use Rattle.flow_base.specs.declared.event.Input.TheVariants.{Started, Signaled, ActivityCompleted, ActivityFailed, Terminated, TimerFired}
 use Rattle.flow_base.specs.declared.book.Task.{Task}
 use Rattle.flow_base.specs.declared.book.Timer.{Timer}
+use Rattle.flow_base.specs.declared.book.Due.{Due}
 use Rattle.flow_base.specs.declared.book.Run.{Run}
 use Rattle.flow_base.specs.declared.book.Turn.{Turn}
 use Rattle.flow_base.specs.declared.book.Change.TheVariants.{AddText, AddTurn, AddRun, SetAttempt, SetText}
@@ -33,7 +34,7 @@ use Rattle.flow_model.specs.Stands.{Stands}
 use Rattle.flow_model.specs.Verdict.{verdict}
 use Rattle.flow_model.specs.Open.{open_timers, state_of, moment_of}
 use Rattle.flow_model.specs.Book.{Book, no_book, nth, with_run, text_number, requested, open_run, signalled, unbegun_run, with_turn, with_attempt, with_text, changed, changed_by}
-use Rattle.flow_model.specs.Apply.{Rules, Outcome, says, none_there, must_be, must_hold, tested, if_sound, program_if, program_at, first_turn, continued, run_from, next_run, history_limit, turn_made, recorded, input_recorded, report_refusal, tries_of, failure_refusal, on_program, register, start, signal_recorded, signal, complete, ready_after, retried, attempt_failed, fail, terminated, terminate, if_stands, upgrade, describe, history, outcome, after_one, after}
+use Rattle.flow_model.specs.Apply.{Rules, Outcome, says, none_there, must_be, must_hold, tested, if_sound, program_if, program_at, first_turn, continued, run_from, next_run, history_limit, turn_made, recorded, input_recorded, report_refusal, tries_of, failure_refusal, on_program, register, start, signal_recorded, signal, complete, ready_after, retried, attempt_failed, fail, terminated, terminate, if_stands, upgrade, describe, history, outcome, after_one, after, fired, tick}
 use Rattle.flow_model.specs.Sound.{IsSoundRun, IsSound}
 use Rattle.flow_model.proofs.Positions.{position_computed, turned_is}
 use Rattle.flow_model.proofs.Verdicts.{verdict_of_standing}
@@ -42,6 +43,7 @@ use Rattle.flow_model.proofs.Tries.{well_formed_tried}
 use Rattle.flow_model.proofs.Leaves.{state_came, stands_left, delivered_open, terminates, continued_closed, turn_state}
 use Rattle.flow_machine.proofs.Places.{get_all, get_set_same, nth_place}
 use Rattle.flow_machine.proofs.Changes.{NoneOpen, text_well_formed, sound_text, none_open, sound_run, first_run, put_run, was, sound_turn, turn_run, sound_same, attempt_run, text_run}
+use Rattle.flow_machine.proofs.Ticks.{fired_book, tick_keeps}
 
 abbrev Keeps : Rules → Book → Outcome → Type 0
 Keeps u b o = IsSound u (changed_by b o.changes)
@@ -75,7 +77,7 @@ module _ (u : Rules) (b : Book) (h : IsSound u b) where
 
 ---- Turns
 
-first_turn_is : (p : Program) (at : ℕ) (vs : List Value) (t : Turn) → first_turn p at vs ≡ Some t → (k : Configuration) × turn.Turn p Fresh first_configuration t.at t.input t.commands k
+pub first_turn_is : (p : Program) (at : ℕ) (vs : List Value) (t : Turn) → first_turn p at vs ≡ Some t → (k : Configuration) × turn.Turn p Fresh first_configuration t.at t.input t.commands k
 first_turn_is p at vs t h =
     elim (turned p Fresh first_configuration at (Started vs)) as (λ o. turned p Fresh first_configuration at (Started vs) ≡ o → elim o [ None ↦ None | Some x ↦ Some (record { at = at; input = Started vs; commands = x.0 }) ] ≡ Some t → (k : Configuration) × turn.Turn p Fresh first_configuration t.at t.input t.commands k) [
       | None ↦ λ e v. absurd (none-some t v)
@@ -281,6 +283,16 @@ upgrade_keeps u b n text h =
     let its : program_at u.program_of b text ≡ Some p = ap (λ (o : Option Bytes). elim o [ None ↦ None | Some x ↦ program_if (u.program_of x) ]) e ∙ g in
     stands_keeps u b n text r p (verdict p r.history) h there its refl))))
 
+pub fired_keeps : (u : Rules) (at : ℕ) → ReadsWellFormed u → (b : Book) (d : Due) → IsSound u b → IsSound u (fired_book u at b d)
+unfolding fired
+fired_keeps u at w b d h =
+    let takes : Run → Outcome = λ r. input_recorded u b r d.run at (TimerFired d.id) in
+    if_sound_keeps u b h (nth b.runs d.run) takes (λ r e. input_keeps u b d.run r at (TimerFired d.id) w h e refl)
+
+-- timers that are due fire
+ticks_keep : (u : Rules) (b : Book) (at : ℕ) → ReadsWellFormed u → IsSound u b → Keeps u b (tick u b at)
+ticks_keep u b at w h = tick_keeps u at (IsSound u) (fired_keeps u at w) b h
+
 -- an open run is closed for a reason
 terminated_keeps : (u : Rules) (b : Book) (n : ℕ) (r : Run) (reason : Bytes) (at : ℕ) → ReadsWellFormed u → IsSound u b → nth b.runs n ≡ Some r → is_open (state_of r.history) ≡ true → Keeps u b (terminated r n reason at)
 terminated_keeps u b n r reason at w h there opened =
@@ -321,6 +333,7 @@ step_keeps u b (command.Start request flow text vs at) w h = start_keeps u b req
 step_keeps u b (command.Signal request flow name v at) w h = signal_keeps u b request flow name v at w h
 step_keeps u b (command.Complete run event attempt v at) w h = complete_keeps u b run event attempt v at w h
 step_keeps u b (command.Fail run event attempt reason at) w h = fail_keeps u b run event attempt reason at w h
+step_keeps u b (command.Tick at) w h = ticks_keep u b at w h
 step_keeps u b (command.Terminate run reason at) w h = terminate_keeps u b run reason at w h
 step_keeps u b (command.Upgrade run text) w h = upgrade_keeps u b run text h
 step_keeps u b (command.Describe run) w h = describe_keeps u b run h

@@ -18,3 +18,5 @@ pub mod Keeps
 pub mod Orderly
 pub mod Limited
 pub mod Started
+pub mod Ticks
+pub mod TicksStand

@@ -3,7 +3,7 @@ use Rattle.std.proofs.Common.{◌≡◌, ℕ, suc, ◌+◌, ◌-◌, ◌≤◌, 
 use Rattle.std.specs.Prelude.{◌<◌, All, nat_le, nat_lt, if◌then◌else◌}
 use Rattle.std.proofs.lemmas.Option.{none-some, same_Some}
 use Rattle.std.proofs.lemmas.Bool.{ltb-true}
-use Rattle.std.proofs.lemmas.List.Elements.{All-nil, All-cons, All-weaker}
+use Rattle.std.proofs.lemmas.List.Elements.{All-nil, All-cons, All-weaker, All-append}
 use Rattle.flow_base.specs.Syntax.{Bytes, Program}
 use Rattle.flow_base.specs.declared.syntax.Parameter.{Parameter}
 use Rattle.flow_base.specs.declared.value.Value.{Value}
@@ -14,6 +14,7 @@ use Rattle.flow_base.specs.declared.event.Input.{Input}
 use Rattle.flow_base.specs.declared.event.Input.TheVariants.{Started, Signaled, ActivityCompleted, ActivityFailed, TimerFired, Terminated}
 use Rattle.flow_base.specs.declared.book.Task.{Task}
 use Rattle.flow_base.specs.declared.book.Timer.{Timer}
+use Rattle.flow_base.specs.declared.book.Due.{Due}
 use Rattle.flow_base.specs.declared.book.Run.{Run}
 use Rattle.flow_base.specs.declared.book.Turn.{Turn}
 use Rattle.flow_base.specs.declared.book.Change.{Change}
@@ -37,7 +38,7 @@ use Rattle.flow_model.specs.Stands.{Stands}
 use Rattle.flow_model.specs.Open.{open_timers, state_of, moment_of}
 use Rattle.flow_model.specs.Verdict.{verdict}
 use Rattle.flow_model.specs.Book.{Book, nth, text_number, requested, open_run, signalled}
-use Rattle.flow_model.specs.Apply.{Rules, Outcome, says, none_there, must_be, must_hold, tested, if_sound, program_if, program_at, first_turn, continued, run_from, next_run, history_limit, turn_made, recorded, input_recorded, report_refusal, tries_of, failure_refusal, on_program, register, start, signal_recorded, signal, complete, ready_after, retried, attempt_failed, fail, terminated, terminate, if_stands, upgrade, describe, history, outcome}
+use Rattle.flow_model.specs.Apply.{Rules, Outcome, says, none_there, must_be, must_hold, tested, if_sound, program_if, program_at, first_turn, continued, run_from, next_run, history_limit, turn_made, recorded, input_recorded, report_refusal, tries_of, failure_refusal, on_program, register, start, signal_recorded, signal, complete, ready_after, retried, attempt_failed, fail, terminated, terminate, if_stands, upgrade, describe, history, outcome, fired, tick}
 use Rattle.flow_model.specs.Sound.{IsSoundRun, IsSound}
 use Rattle.flow_model.proofs.Positions.{position_computed, turned_is}
 use Rattle.flow_model.proofs.Tries.{AskedWell, TriedRest, well_formed_tried, few_parameters}
@@ -45,6 +46,8 @@ use Rattle.flow_model.proofs.Leaves.{stands_left, turn_leaves}
 use Rattle.flow_machine.specs.Limits.{IsTurnWithinLimits, IsChangeWithinLimits}
 use Rattle.flow_machine.specs.Soundness.{ReadsWellFormed}
 use Rattle.flow_machine.proofs.Places.{get_all, nth_place}
+use Rattle.flow_machine.proofs.Keeps.{fired_keeps}
+use Rattle.flow_machine.proofs.Ticks.{tick_has}
 use Rattle.flow_machine.proofs.Changes.{text_well_formed}
 use Rattle.flow_machine.proofs.Tried.{few_tries}
 
@@ -272,6 +275,12 @@ module _ (u : Rules) (b : Book) (w : ReadsWellFormed u) (h : IsSound u b) where
       (must_be_within (nth b.texts text) NoText (read r)
       (λ body e. if_sound_within (program_if (u.program_of body)) (judged r) (λ p g. stands_within n text (verdict p r.history)))))
 
+  fired_within : (at : ℕ) (d : Due) → Within (fired u b at d)
+  unfolding fired
+  fired_within at d =
+      let takes : Run → Outcome = λ r. input_recorded u b r d.run at (TimerFired d.id) in
+      if_sound_within (nth b.runs d.run) takes (λ r there. input_within d.run r at (TimerFired d.id) there refl)
+
   terminate_within : (n : ℕ) (reason : Bytes) (at : ℕ) → Within (terminate b n reason at)
   unfolding terminate
   terminate_within n reason at =
@@ -295,6 +304,12 @@ module _ (u : Rules) (b : Book) (w : ReadsWellFormed u) (h : IsSound u b) where
   unfolding history
   history_within n = must_be_within (nth b.runs n) NoRun (λ r. says (reply.History r.history)) (λ r e. nothing)
 
+-- timers that are due fire
+tick_within : (u : Rules) (b : Book) (at : ℕ) → ReadsWellFormed u → IsSound u b → Within (tick u b at)
+tick_within u b at w h =
+    tick_has u at (IsSound u) (fired_keeps u at w) (λ k cs. All IsChangeWithinLimits cs) (λ k. nothing) (λ k d sound. fired_within u k w sound at d)
+    (λ k cs ds x y. All-append IsChangeWithinLimits cs ds x y) b h
+
 pub changes_within : (u : Rules) (b : Book) (c : Command) → ReadsWellFormed u → IsSound u b → Within (outcome u b c)
 unfolding outcome
 changes_within u b (command.Register body) w h = register_within u b w h body
@@ -302,6 +317,7 @@ changes_within u b (command.Start request flow text vs at) w h = start_within u 
 changes_within u b (command.Signal request flow name v at) w h = signal_within u b w h request flow name v at
 changes_within u b (command.Complete run event attempt v at) w h = complete_within u b w h run event attempt v at
 changes_within u b (command.Fail run event attempt reason at) w h = fail_within u b w h run event attempt reason at
+changes_within u b (command.Tick at) w h = tick_within u b at w h
 changes_within u b (command.Terminate run reason at) w h = terminate_within u b w h run reason at
 changes_within u b (command.Upgrade run text) w h = upgrade_within u b w h run text
 changes_within u b (command.Describe run) w h = describe_within u b w h run

@@ -23,6 +23,7 @@ use Rattle.flow_machine.specs.Soundness.{TextsRead, NumbersEnd, SoundDecides}
 use Rattle.flow_machine.specs.Stuck.{HasMismatch, CantDeliver, CantRecord, unless_there, where_there, where_holds, unless_holds, needs, IsFull, StuckRegister, StuckStart, StuckSent, StuckSignal, StuckInput, StuckComplete, StuckFailed, StuckFail, StuckUpgrade, IsStuck}
 use Rattle.flow_machine.proofs.Places.{get_all, nth_place}
 use Rattle.flow_machine.proofs.Waiting.{completion_taken, failure_taken}
+use Rattle.flow_machine.proofs.TicksStand.{tick_goes_on}
 use Rattle.flow_machine.proofs.Heard.{signal_taken, open_is_there}
 use Rattle.flow_machine.proofs.Tried.{found_task, task_tried}
 
@@ -197,6 +198,7 @@ sound_decides u b (command.Start request flow text vs at) reads h stuck = start_
 sound_decides u b (command.Signal request flow name v at) reads h stuck = absurd (signal_goes_on u b request flow name v h stuck)
 sound_decides u b (command.Complete run event attempt v at) reads h stuck = absurd (complete_goes_on u b run event attempt v h stuck)
 sound_decides u b (command.Fail run event attempt reason at) reads h stuck = absurd (fail_goes_on u b run event attempt reason h stuck)
+sound_decides u b (command.Tick at) reads h stuck = absurd (tick_goes_on u b at h stuck)
 sound_decides u b (command.Terminate run reason at) reads h stuck = absurd stuck
 sound_decides u b (command.Upgrade run text) reads h stuck = absurd (upgrade_goes_on u b run text reads stuck)
 sound_decides u b (command.Describe run) reads h stuck = absurd stuck

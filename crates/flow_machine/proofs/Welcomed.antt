@@ -1,5 +1,5 @@
 -- What the changes of commands have, whatever the book.
-use Rattle.std.proofs.Common.{◌≡◌, ℕ, ◌+◌, List, [], ◌∷◌, length, map, max, refl, ap, ◌∙◌, Option, Some, None, Result, Ok, Err, Bool, true, false}
+use Rattle.std.proofs.Common.{◌≡◌, ℕ, ◌+◌, List, [], ◌∷◌, length, map, max, refl, ap, ◌∙◌, Option, Some, None, Result, Ok, Err, Bool, true, false, ◌++◌}
 use Rattle.std.specs.Prelude.{◌-◌, nat_le, nat_lt, slice_set, if◌then◌else◌}
 use Rattle.std.proofs.lemmas.Option.{none-some}
 use Rattle.flow_base.specs.Syntax.{Bytes, Program}
@@ -7,9 +7,11 @@ use Rattle.flow_base.specs.declared.value.Value.{Value}
 use Rattle.flow_base.specs.declared.event.Cmd.{Cmd}
 use Rattle.flow_base.specs.declared.event.Wrong.{Wrong}
 use Rattle.flow_base.specs.declared.event.Input.{Input}
-use Rattle.flow_base.specs.declared.event.Input.TheVariants.{Started, Signaled, ActivityCompleted, ActivityFailed, Terminated}
+use Rattle.flow_base.specs.declared.event.Input.TheVariants.{Started, Signaled, ActivityCompleted, ActivityFailed, Terminated, TimerFired}
 use Rattle.flow_base.specs.declared.book.Task.{Task}
 use Rattle.flow_base.specs.declared.book.Timer.{Timer}
+use Rattle.flow_base.specs.declared.book.Due.{Due}
+use Rattle.flow_base.specs.declared.book.Change.{Change}
 use Rattle.flow_base.specs.declared.book.Run.{Run}
 use Rattle.flow_base.specs.declared.book.Turn.{Turn}
 use Rattle.flow_base.specs.declared.book.Change.TheVariants.{AddText, AddTurn, AddRun, SetAttempt, SetText}
@@ -26,9 +28,10 @@ use Rattle.flow_model.specs.Turn.{Fresh}
 use Rattle.flow_model.specs.Turned.{turned, position_of}
 use Rattle.flow_model.specs.Open.{open_timers, state_of, moment_of}
 use Rattle.flow_model.specs.Verdict.{verdict}
-use Rattle.flow_model.specs.Book.{Book, nth, text_number, requested, open_run, signalled, with_turn, changed}
-use Rattle.flow_model.specs.Apply.{Rules, Outcome, says, none_there, must_be, must_hold, tested, if_sound, program_if, program_at, first_turn, continued, run_from, next_run, history_limit, turn_made, recorded, input_recorded, report_refusal, tries_of, failure_refusal, on_program, register, start, signal_recorded, signal, complete, ready_after, retried, attempt_failed, fail, terminated, terminate, if_stands, upgrade, describe, history, outcome}
+use Rattle.flow_model.specs.Book.{Book, nth, text_number, requested, open_run, signalled, with_turn, changed, changed_by}
+use Rattle.flow_model.specs.Apply.{Rules, Outcome, says, none_there, must_be, must_hold, tested, if_sound, program_if, program_at, first_turn, continued, run_from, next_run, history_limit, turn_made, recorded, input_recorded, report_refusal, tries_of, failure_refusal, on_program, register, start, signal_recorded, signal, complete, ready_after, retried, attempt_failed, fail, terminated, terminate, if_stands, upgrade, describe, history, outcome, fired, tick}
 use Rattle.flow_machine.specs.Welcome.{AreWelcome, ChangesWelcome}
+use Rattle.flow_machine.proofs.Ticks.{tick_has}
 
 -- a turn brings no text
 texts_still : (b : Book) (n : ℕ) (t : Turn) → (changed b (AddTurn n t)).texts ≡ b.texts
@@ -189,6 +192,12 @@ module _ (u : Rules) (b : Book) where
       (must_be_takes (nth b.texts text) NoText (read r)
       (λ body its. if_sound_takes (program_if (u.program_of body)) (judged r) (λ p e. stands_takes n text r body (verdict p r.history) there its))))
 
+  fired_takes : (at : ℕ) (d : Due) → Takes (fired u b at d)
+  unfolding fired
+  fired_takes at d =
+      let takes : Run → Outcome = λ r. input_recorded u b r d.run at (TimerFired d.id) in
+      if_sound_takes (nth b.runs d.run) takes (λ r there. input_takes r d.run at (TimerFired d.id) there)
+
   terminate_takes : (n : ℕ) (reason : Bytes) (at : ℕ) → Takes (terminate b n reason at)
   unfolding terminate
   terminate_takes n reason at =
@@ -211,6 +220,14 @@ module _ (u : Rules) (b : Book) where
   unfolding history
   history_takes n = must_be_takes (nth b.runs n) NoRun (λ r. says (reply.History r.history)) (λ r e. tt)
 
+joined_welcome : (u : Rules) (b : Book) (cs ds : List Change) → AreWelcome u b cs → AreWelcome u (changed_by b cs) ds → AreWelcome u b (cs ++ ds)
+joined_welcome u b [] ds h more = more
+joined_welcome u b (c ∷ cs) ds h more = (h.0, joined_welcome u (changed b c) cs ds h.1 more)
+
+-- timers that are due fire
+tick_takes : (u : Rules) (b : Book) (at : ℕ) → Takes u b (tick u b at)
+tick_takes u b at = tick_has u at (λ k. Unit {0}) (λ k d h. tt) (AreWelcome u) (λ k. tt) (λ k d h. fired_takes u k at d) (joined_welcome u) b tt
+
 pub changes_welcome : ChangesWelcome
 unfolding outcome
 changes_welcome u b (command.Register body) = register_takes u b body
@@ -218,6 +235,7 @@ changes_welcome u b (command.Start request flow text vs at) = start_takes u b re
 changes_welcome u b (command.Signal request flow name v at) = signal_takes u b request flow name v at
 changes_welcome u b (command.Complete run event attempt v at) = complete_takes u b run event attempt v at
 changes_welcome u b (command.Fail run event attempt reason at) = fail_takes u b run event attempt reason at
+changes_welcome u b (command.Tick at) = tick_takes u b at
 changes_welcome u b (command.Terminate run reason at) = terminate_takes u b run reason at
 changes_welcome u b (command.Upgrade run text) = upgrade_takes u b run text
 changes_welcome u b (command.Describe run) = describe_takes u b run
