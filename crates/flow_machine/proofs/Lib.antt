@@ -12,6 +12,7 @@ pub mod Welcomed
 pub mod Sticking
 pub mod Places
 pub mod Tasks
+pub mod Tried
 pub mod Changes
 pub mod Keeps
 pub mod Orderly

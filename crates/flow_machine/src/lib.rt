@@ -4,6 +4,7 @@
 pub mod answer;
 pub mod decide;
 mod description;
+mod failing;
 pub mod laws;
 pub mod programs;
 mod puts;
@@ -12,3 +13,4 @@ mod sending;
 pub mod submission;
 mod ticking;
 mod turns;
+mod upgrading;

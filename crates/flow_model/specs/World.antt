@@ -1,6 +1,7 @@
 -- The world round an engine: submissions, batches, commits, stops and reopenings, in any order.
 use Rattle.std.specs.Prelude.{◌≡◌, ◌⊎◌, ℕ, suc, ◌+◌, ◌-◌, List, [], ◌∷◌, ◌++◌, length, take, drop, slice_get, Contains, Option, Some, None, Bool, false, nat_eq, nat_le, ◌&&◌, if◌then◌else◌}
 use Rattle.std.specs.List.{AllByRecursion}
+use Rattle.flow_base.specs.Syntax.{Bytes}
 use Rattle.flow_base.specs.declared.value.Value.{Value}
 use Rattle.flow_base.specs.declared.book.Run.{Run}
 use Rattle.flow_base.specs.declared.book.Task.{Task}
@@ -77,6 +78,7 @@ first base =
 pub data Step : Type 0 where
   Submit : Command → Step
   Report : (which : ℕ) → Value → (at : ℕ) → Step  -- on an attempt that was handed out at some time
+  ReportFailure : (which : ℕ) → Bytes → (at : ℕ) → Step  -- the same, that it failed
   Take : (count : ℕ) → Step
   Write : Step
   WriteFails : Step
@@ -103,6 +105,10 @@ submitted w st c = record w { inbox = w.inbox ++ c ∷ [] }
 abbrev pub reported : World → Stage → Option Attempt → Value → ℕ → World
 reported w st None v at = w
 reported w st (Some a) v at = submitted w st (command.Complete a.run a.event a.attempt v at)
+
+abbrev pub reported_failure : World → Stage → Option Attempt → Bytes → ℕ → World
+reported_failure w st None reason at = w
+reported_failure w st (Some a) reason at = submitted w st (command.Fail a.run a.event a.attempt reason at)
 
 abbrev pub taken : World → Stage → ℕ → World
 taken w Idle k =
@@ -169,6 +175,7 @@ Opens u w st v = v ≡ w
 abbrev pub Goes : Rules → World → Step → World → Type 0
 Goes u w (Submit c) v = v ≡ submitted w w.stage c
 Goes u w (Report n value at) v = v ≡ reported w w.stage (slice_get w.dispatched n) value at
+Goes u w (ReportFailure n reason at) v = v ≡ reported_failure w w.stage (slice_get w.dispatched n) reason at
 Goes u w (Take k) v = v ≡ taken w w.stage k
 Goes u w Write v = v ≡ w
 Goes u w WriteFails v = v ≡ rolled_back w w.stage

@@ -1,10 +1,11 @@
 -- What a dispatch and a report do to the world, by computation: over any rules and any book.
 use Rattle.std.proofs.Common.{◌≡◌, ℕ, true, false, [], ◌∷◌, refl}
+use Rattle.flow_base.specs.Syntax.{Bytes}
 use Rattle.flow_base.specs.declared.value.Value.{Value}
 use Rattle.flow_base.specs.declared.command.Command.TheVariants as command
 use Rattle.flow_model.specs.Book.{Book}
 use Rattle.flow_model.specs.Apply.{Rules}
-use Rattle.flow_model.specs.World.{Attempt, World, is_open_task, first, Report, Dispatch, Comes}
+use Rattle.flow_model.specs.World.{Attempt, World, is_open_task, first, Report, ReportFailure, Dispatch, Comes}
 
 -- the world in which an attempt was handed out
 abbrev handed_out : Book → Attempt → World
@@ -23,6 +24,14 @@ reports : (u : Rules) (base : Book) (a : Attempt) (v : Value) (at : ℕ)
     → Comes u (handed_out base a) (Report 0 v at ∷ []) (record (handed_out base a) { inbox = command.Complete a.run a.event a.attempt v at ∷ [] })
 reports u base a v at = (record (handed_out base a) { inbox = command.Complete a.run a.event a.attempt v at ∷ [] }, (refl, refl))
 
+-- so is one that it failed
+reports_failure : (u : Rules) (base : Book) (a : Attempt) (reason : Bytes) (at : ℕ)
+    → Comes u (handed_out base a) (ReportFailure 0 reason at ∷ []) (record (handed_out base a) { inbox = command.Fail a.run a.event a.attempt reason at ∷ [] })
+reports_failure u base a reason at = (record (handed_out base a) { inbox = command.Fail a.run a.event a.attempt reason at ∷ [] }, (refl, refl))
+
 -- and nothing on one that wasn't
 reports_nothing : (u : Rules) (base : Book) (a : Attempt) (v : Value) (at : ℕ) → Comes u (handed_out base a) (Report 1 v at ∷ []) (handed_out base a)
 reports_nothing u base a v at = (handed_out base a, (refl, refl))
+
+fails_nothing : (u : Rules) (base : Book) (a : Attempt) (reason : Bytes) (at : ℕ) → Comes u (handed_out base a) (ReportFailure 1 reason at ∷ []) (handed_out base a)
+fails_nothing u base a reason at = (handed_out base a, (refl, refl))
