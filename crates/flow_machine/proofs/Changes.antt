@@ -17,8 +17,8 @@ use Rattle.flow_model.specs.Turn.{Fresh, is_started}
 use Rattle.flow_model.specs.Turned.{turn_events}
 use Rattle.flow_model.specs.Stands.{Stands}
 use Rattle.flow_model.specs.Open.{state_of}
-use Rattle.flow_model.specs.Book.{Book, nth, first_from, is_open_of, unbegun_run, with_turn, changed}
-use Rattle.flow_model.specs.Apply.{Rules, program_at, program_if}
+use Rattle.flow_model.specs.Book.{Book, nth, first_from, is_open_of, unbegun_run, with_turn, with_attempt, with_text, changed}
+use Rattle.flow_model.specs.Apply.{Rules, program_at, program_if, tries_of}
 use Rattle.flow_model.specs.Sound.{IsSoundTask, IsSoundRun, IsSound}
 use Rattle.flow_model.proofs.OneMore.{stands_on, stands_first}
 use Rattle.flow_machine.specs.Soundness.{ReadsWellFormed}
@@ -26,6 +26,7 @@ use Rattle.flow_model.proofs.Tries.{well_formed_tried}
 use Rattle.flow_model.proofs.Leaves.{turn_leaves, stands_left, still_closed}
 use Rattle.flow_machine.proofs.Places.{get_set, get_push, nth_kept, nth_place}
 use Rattle.flow_machine.proofs.Tasks.{turn_attempts, turn_activities}
+use Rattle.flow_machine.proofs.Tried.{same_events, all_attempts}
 
 ---- Texts
 
@@ -182,4 +183,57 @@ turn_run u b r t p k k2 w s e stands le made =
       stands = stands_on p r.history k t.at t.input t.commands k2 stands le made;
       activities = turn_activities r (turn_events (length r.history + 1) t.at t.input t.commands) s.activities;
       attempts = turn_attempts r t left.asked s.attempts;
+    }
+
+---- A run with the same events
+
+-- a run in the place of one of the same flow with the same history
+module _ (u : Rules) (b : Book) (n : ℕ) (r q : Run) (there : nth b.runs n ≡ Some r) (flow : q.flow ≡ r.flow) (history : q.history ≡ r.history) where
+  was_same : (j : ℕ) (z : Run) → slice_get (put_run b n q).runs j ≡ Some z → Was b j z
+  was_same j z g =
+      ⊎_elim (λ (a : slice_get b.runs j ≡ Some z). record { run = z; there = a; flow = refl; opened = λ o. o })
+      (λ (a : (slice_get b.runs j ≡ Some r) × (z ≡ q)).
+      record {
+        run = r;
+        there = a.0;
+        flow = sym flow ∙ ap (λ (x : Run). x.flow) (sym a.1);
+        opened = λ o. ap (λ h. is_open (state_of h)) (sym history) ∙ ap (λ (x : Run). is_open (state_of x.history)) (sym a.1) ∙ o;
+      }) (get_set b.runs (n - 1) j r q z (nth_place b.runs n r there) g)
+
+  pub sound_same : IsSound u b → IsSoundRun u b q → IsSound u (put_run b n q)
+  sound_same h s =
+      let new = put_run b n q in
+      let kept = λ (x : Run) (y : IsSoundRun u b x). kept_run u b new x (λ m p g. g) y in
+      record {
+        runs = All-set (IsSoundRun u new) b.runs (n - 1) q (kept q s) (All-weaker (IsSoundRun u b) (IsSoundRun u new) kept b.runs h.runs);
+        one_open = λ i j x y gi gj same oi oj.
+            let wi = was_same i x gi in
+            let wj = was_same j y gj in
+            h.one_open i j wi.run wj.run wi.there wj.there (wi.flow ∙ same ∙ sym wj.flow) (wi.opened oi) (wj.opened oj);
+      }
+
+-- a sound run with an activity at another attempt, of those that it is tried
+pub attempt_run : (u : Rules) (b : Book) (r : Run) (event attempt ready : ℕ) (x : ℕ × ℕ) → IsSoundRun u b r → tries_of (nth r.history event) ≡ Some x → 1 ≤ attempt → attempt ≤ x.0
+    → IsSoundRun u b (with_attempt event attempt ready r)
+attempt_run u b r event attempt ready x s e first last =
+    record {
+      program = s.program;
+      its_text = s.its_text;
+      place = s.place;
+      stands = s.stands;
+      activities = same_events r event attempt ready r.tasks ∙ s.activities;
+      attempts = all_attempts r event attempt ready r.tasks x s.attempts e first last;
+    }
+
+-- a sound run under another text, under which its history stands
+pub text_run : (u : Rules) (b : Book) (r : Run) (text : ℕ) (p : Program) (k : Configuration) → IsSoundRun u b r → program_at u.program_of b text ≡ Some p → Stands p r.history k
+    → IsSoundRun u b (with_text text r)
+text_run u b r text p k s e stands =
+    record {
+      program = p;
+      its_text = e;
+      place = k;
+      stands = stands;
+      activities = s.activities;
+      attempts = All-weaker (IsSoundTask r) (IsSoundTask (with_text text r)) (λ t y. record { first = y.first; event = y.event; scheduled = y.scheduled; tries = y.tries; asked = y.asked; last = y.last }) r.tasks s.attempts;
     }

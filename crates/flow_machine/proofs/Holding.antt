@@ -1,17 +1,19 @@
 -- What each change of a command keeps, commands keep: a text that is a program, a run of a new request, a run that another one
--- continues as, and a turn.
+-- continues as, a turn, another attempt, and another text of a run.
 use Rattle.std.proofs.Common.{◌≡◌, ℕ, ◌+◌, List, [], ◌∷◌, length, map, max, refl, Option, Some, None, Result, Ok, Err, Bool, true, false}
-use Rattle.std.specs.Prelude.{nat_le, if◌then◌else◌}
+use Rattle.std.specs.Prelude.{nat_le, nat_lt, if◌then◌else◌}
 use Rattle.flow_base.specs.Syntax.{Bytes, Program}
 use Rattle.flow_base.specs.declared.value.Value.{Value}
 use Rattle.flow_base.specs.declared.event.Cmd.{Cmd}
+use Rattle.flow_base.specs.declared.event.Wrong.{Wrong}
 use Rattle.flow_base.specs.declared.event.Input.{Input}
-use Rattle.flow_base.specs.declared.event.Input.TheVariants.{Signaled, ActivityCompleted, Terminated}
+use Rattle.flow_base.specs.declared.event.Input.TheVariants.{Signaled, ActivityCompleted, ActivityFailed, Terminated, TimerFired}
 use Rattle.flow_base.specs.declared.book.Task.{Task}
 use Rattle.flow_base.specs.declared.book.Timer.{Timer}
+use Rattle.flow_base.specs.declared.book.Due.{Due}
 use Rattle.flow_base.specs.declared.book.Run.{Run}
 use Rattle.flow_base.specs.declared.book.Turn.{Turn}
-use Rattle.flow_base.specs.declared.book.Change.TheVariants.{AddText, AddTurn, AddRun}
+use Rattle.flow_base.specs.declared.book.Change.TheVariants.{AddText, AddTurn, AddRun, SetAttempt, SetText}
 use Rattle.flow_base.specs.declared.code.Code.{Code}
 use Rattle.flow_base.specs.declared.code.Code.TheVariants.{NoText, BadArguments, AlreadyOpen, NoOpenRun, NotOpen, WrongType, NoSuchSignal, NoRun}
 use Rattle.flow_base.specs.declared.command.Command.{Command}
@@ -19,15 +21,17 @@ use Rattle.flow_base.specs.declared.command.Command.TheVariants as command
 use Rattle.flow_base.specs.declared.command.TextFault.{TextFault}
 use Rattle.flow_base.specs.declared.command.Reply.{Reply}
 use Rattle.flow_base.specs.declared.command.Reply.TheVariants as reply
-use Rattle.flow_model.specs.Configuration.{is_open}
+use Rattle.flow_model.specs.Configuration.{Configuration, is_open}
 use Rattle.flow_model.specs.WellFormed.{signal_of}
 use Rattle.flow_model.specs.Deliver.{all_fit, has_kind}
 use Rattle.flow_model.specs.Turn.{Fresh}
 use Rattle.flow_model.specs.Turned.{turned, position_of}
 use Rattle.flow_model.specs.Open.{open_timers, state_of, moment_of}
+use Rattle.flow_model.specs.Verdict.{verdict}
 use Rattle.flow_model.specs.Book.{Book, nth, text_number, requested, open_run, signalled, changed, changed_by}
-use Rattle.flow_model.specs.Apply.{Rules, Outcome, says, none_there, must_be, must_hold, tested, if_sound, program_if, program_at, first_turn, continued, run_from, next_run, history_limit, turn_made, recorded, input_recorded, report_refusal, on_program, register, start, signal_recorded, signal, complete, terminated, terminate, describe, history, outcome, after_one, after}
+use Rattle.flow_model.specs.Apply.{Rules, Outcome, says, none_there, must_be, must_hold, tested, if_sound, program_if, program_at, first_turn, continued, run_from, next_run, history_limit, turn_made, recorded, input_recorded, report_refusal, tries_of, failure_refusal, on_program, register, start, signal_recorded, signal, complete, ready_after, retried, attempt_failed, fail, terminated, terminate, if_stands, upgrade, describe, history, outcome, after_one, after, fired, tick}
 use Rattle.flow_model.specs.Sound.{IsProgram}
+use Rattle.flow_machine.proofs.Ticks.{fired_book, tick_keeps}
 
 -- A property of books that the changes keep which commands make.
 pub record IsKept (u : Rules) (P : Book → Type 0) : Type 0 where
@@ -35,6 +39,8 @@ pub record IsKept (u : Rules) (P : Book → Type 0) : Type 0 where
   pub run : (b : Book) (request flow : Bytes) (n : ℕ) (t : Turn) → P b → requested b request ≡ None → P (changed b (AddRun flow (Some request) n t))
   pub next : (b : Book) (flow : Bytes) (n : ℕ) (t : Turn) → P b → P (changed b (AddRun flow None n t))
   pub turn : (b : Book) (n : ℕ) (t : Turn) → P b → P (changed b (AddTurn n t))
+  pub attempt : (b : Book) (n event attempt ready : ℕ) → P b → P (changed b (SetAttempt n event attempt ready))
+  pub other : (b : Book) (n text : ℕ) → P b → P (changed b (SetText n text))
 
 abbrev Keeps : (Book → Type 0) → Book → Outcome → Type 0
 Keeps P b o = P (changed_by b o.changes)
@@ -142,6 +148,46 @@ module _ (u : Rules) (P : Book → Type 0) (k : IsKept u P) where
       must_keeps P b h (nth b.runs n) NoRun (λ r. tested (report_refusal r event attempt v) (takes r))
       (λ r. tested_keeps P b h (report_refusal r event attempt v) (takes r) (input_keeps b r n at (ActivityCompleted event v) h))
 
+  failed_keeps : (b : Book) (r : Run) (n event attempt : ℕ) (reason : Bytes) (at : ℕ) (x : ℕ × ℕ) → P b → Keeps P b (attempt_failed u b r n event attempt reason at x)
+  failed_keeps b r n event attempt reason at x h =
+      let ready : ℕ = ready_after (max at (moment_of r.history)) x.1 in
+      elim (nat_lt attempt x.0) as (λ t. Keeps P b (if t then retried n event attempt ready else input_recorded u b r n at (ActivityFailed event reason))) [
+        | true ↦ k.attempt b n event (attempt + 1) ready h
+        | false ↦ input_keeps b r n at (ActivityFailed event reason) h
+      ]
+
+  fail_keeps : (b : Book) (n event attempt : ℕ) (reason : Bytes) (at : ℕ) → P b → Keeps P b (fail u b n event attempt reason at)
+  unfolding fail
+  fail_keeps b n event attempt reason at h =
+      let fails : Run → Outcome = λ r. if_sound (tries_of (nth r.history event)) (attempt_failed u b r n event attempt reason at) in
+      must_keeps P b h (nth b.runs n) NoRun (λ r. tested (failure_refusal r event attempt) (fails r))
+      (λ r. tested_keeps P b h (failure_refusal r event attempt) (fails r)
+      (sound_keeps P b h (tries_of (nth r.history event)) (attempt_failed u b r n event attempt reason at) (λ x. failed_keeps b r n event attempt reason at x h)))
+
+  stands_keeps : (b : Book) (n text : ℕ) (o : Result Configuration (ℕ × Wrong)) → P b → Keeps P b (if_stands n text o)
+  stands_keeps b n text (Ok q) h = k.other b n text h
+  stands_keeps b n text (Err m) h = h
+
+  upgrade_keeps : (b : Book) (n text : ℕ) → P b → Keeps P b (upgrade u.program_of b n text)
+  unfolding upgrade
+  upgrade_keeps b n text h =
+      let judged : Run → Program → Outcome = λ r p. if_stands n text (verdict p r.history) in
+      let read : Run → Bytes → Outcome = λ r body. if_sound (program_if (u.program_of body)) (judged r) in
+      let goes : Run → Outcome = λ r. must_be (nth b.texts text) NoText (read r) in
+      must_keeps P b h (nth b.runs n) NoRun (λ r. must_hold (is_open (state_of r.history)) NotOpen (goes r))
+      (λ r. hold_keeps P b h (is_open (state_of r.history)) NotOpen (goes r)
+      (must_keeps P b h (nth b.texts text) NoText (read r)
+      (λ body. sound_keeps P b h (program_if (u.program_of body)) (judged r) (λ p. stands_keeps b n text (verdict p r.history) h))))
+
+  fired_keeps : (at : ℕ) (b : Book) (d : Due) → P b → P (fired_book u at b d)
+  unfolding fired
+  fired_keeps at b d h =
+      let takes : Run → Outcome = λ r. input_recorded u b r d.run at (TimerFired d.id) in
+      sound_keeps P b h (nth b.runs d.run) takes (λ r. input_keeps b r d.run at (TimerFired d.id) h)
+
+  ticks_keep : (b : Book) (at : ℕ) → P b → Keeps P b (tick u b at)
+  ticks_keep b at h = tick_keeps u at P (fired_keeps at) b h
+
   terminate_keeps : (b : Book) (n : ℕ) (reason : Bytes) (at : ℕ) → P b → Keeps P b (terminate b n reason at)
   unfolding terminate
   terminate_keeps b n reason at h =
@@ -172,7 +218,10 @@ module _ (u : Rules) (P : Book → Type 0) (k : IsKept u P) where
   one_keeps b (command.Start request flow text vs at) h = start_keeps b request flow text vs at h
   one_keeps b (command.Signal request flow name v at) h = signal_keeps b request flow name v at h
   one_keeps b (command.Complete run event attempt v at) h = complete_keeps b run event attempt v at h
+  one_keeps b (command.Fail run event attempt reason at) h = fail_keeps b run event attempt reason at h
+  one_keeps b (command.Tick at) h = ticks_keep b at h
   one_keeps b (command.Terminate run reason at) h = terminate_keeps b run reason at h
+  one_keeps b (command.Upgrade run text) h = upgrade_keeps b run text h
   one_keeps b (command.Describe run) h = describe_keeps b run h
   one_keeps b (command.History run) h = history_keeps b run h
 

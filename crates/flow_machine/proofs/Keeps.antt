@@ -1,19 +1,22 @@
 -- Each command leads from a sound book to a sound book.
-use Rattle.std.proofs.Common.{◌≡◌, ℕ, ◌+◌, ◌-◌, ◌≤◌, List, [], ◌∷◌, length, max, map, refl, sym, ap, ◌∙◌, subst, Option, Some, None, Result, Ok, Err, Bool, true, false}
-use Rattle.std.specs.Prelude.{slice_get, slice_set, nat_le, if◌then◌else◌}
+use Rattle.std.proofs.Common.{◌≡◌, ℕ, ◌+◌, ◌-◌, ◌≤◌, List, [], ◌∷◌, length, max, map, refl, sym, ap, ◌∙◌, subst, arith, Option, Some, None, Result, Ok, Err, Bool, true, false}
+use Rattle.std.specs.Prelude.{◌<◌, slice_get, slice_set, nat_le, nat_lt, if◌then◌else◌}
 use Rattle.std.proofs.Math.Nat.{le-max_right}
 use Rattle.std.proofs.lemmas.Option.{none-some, same_Some}
+use Rattle.std.proofs.lemmas.Bool.{ltb-true}
 use Rattle.std.proofs.lemmas.List.Elements.{All-nil}
 use Rattle.flow_base.specs.Syntax.{Bytes, Program}
 use Rattle.flow_base.specs.declared.value.Value.{Value}
 use Rattle.flow_base.specs.declared.event.Cmd.{Cmd}
+use Rattle.flow_base.specs.declared.event.Wrong.{Wrong}
 use Rattle.flow_base.specs.declared.event.Input.{Input}
-use Rattle.flow_base.specs.declared.event.Input.TheVariants.{Started, Signaled, ActivityCompleted, Terminated}
+use Rattle.flow_base.specs.declared.event.Input.TheVariants.{Started, Signaled, ActivityCompleted, ActivityFailed, Terminated, TimerFired}
 use Rattle.flow_base.specs.declared.book.Task.{Task}
 use Rattle.flow_base.specs.declared.book.Timer.{Timer}
+use Rattle.flow_base.specs.declared.book.Due.{Due}
 use Rattle.flow_base.specs.declared.book.Run.{Run}
 use Rattle.flow_base.specs.declared.book.Turn.{Turn}
-use Rattle.flow_base.specs.declared.book.Change.TheVariants.{AddText, AddTurn, AddRun}
+use Rattle.flow_base.specs.declared.book.Change.TheVariants.{AddText, AddTurn, AddRun, SetAttempt, SetText}
 use Rattle.flow_base.specs.declared.code.Code.{Code}
 use Rattle.flow_base.specs.declared.code.Code.TheVariants.{NoText, BadArguments, AlreadyOpen, NoOpenRun, NotOpen, WrongType, NoSuchSignal, NoRun}
 use Rattle.flow_base.specs.declared.command.Command.{Command}
@@ -28,16 +31,19 @@ use Rattle.flow_model.specs.Turn as turn
 use Rattle.flow_model.specs.Turn.{Fresh, is_started}
 use Rattle.flow_model.specs.Turned.{turned, position_of}
 use Rattle.flow_model.specs.Stands.{Stands}
+use Rattle.flow_model.specs.Verdict.{verdict}
 use Rattle.flow_model.specs.Open.{open_timers, state_of, moment_of}
-use Rattle.flow_model.specs.Book.{Book, no_book, nth, text_number, requested, open_run, signalled, unbegun_run, with_turn, changed, changed_by}
-use Rattle.flow_model.specs.Apply.{Rules, Outcome, says, none_there, must_be, must_hold, tested, if_sound, program_if, program_at, first_turn, continued, run_from, next_run, history_limit, turn_made, recorded, input_recorded, report_refusal, on_program, register, start, signal_recorded, signal, complete, terminated, terminate, describe, history, outcome, after_one, after}
+use Rattle.flow_model.specs.Book.{Book, no_book, nth, with_run, text_number, requested, open_run, signalled, unbegun_run, with_turn, with_attempt, with_text, changed, changed_by}
+use Rattle.flow_model.specs.Apply.{Rules, Outcome, says, none_there, must_be, must_hold, tested, if_sound, program_if, program_at, first_turn, continued, run_from, next_run, history_limit, turn_made, recorded, input_recorded, report_refusal, tries_of, failure_refusal, on_program, register, start, signal_recorded, signal, complete, ready_after, retried, attempt_failed, fail, terminated, terminate, if_stands, upgrade, describe, history, outcome, after_one, after, fired, tick}
 use Rattle.flow_model.specs.Sound.{IsSoundRun, IsSound}
 use Rattle.flow_model.proofs.Positions.{position_computed, turned_is}
+use Rattle.flow_model.proofs.Verdicts.{verdict_of_standing}
 use Rattle.flow_machine.specs.Soundness.{ReadsWellFormed, NoBookIsSound, SoundAfter}
 use Rattle.flow_model.proofs.Tries.{well_formed_tried}
 use Rattle.flow_model.proofs.Leaves.{state_came, stands_left, delivered_open, terminates, continued_closed, turn_state}
 use Rattle.flow_machine.proofs.Places.{get_all, get_set_same, nth_place}
-use Rattle.flow_machine.proofs.Changes.{NoneOpen, text_well_formed, sound_text, none_open, sound_run, first_run, put_run, was, sound_turn, turn_run}
+use Rattle.flow_machine.proofs.Changes.{NoneOpen, text_well_formed, sound_text, none_open, sound_run, first_run, put_run, was, sound_turn, turn_run, sound_same, attempt_run, text_run}
+use Rattle.flow_machine.proofs.Ticks.{fired_book, tick_keeps}
 
 abbrev Keeps : Rules → Book → Outcome → Type 0
 Keeps u b o = IsSound u (changed_by b o.changes)
@@ -71,7 +77,7 @@ module _ (u : Rules) (b : Book) (h : IsSound u b) where
 
 ---- Turns
 
-first_turn_is : (p : Program) (at : ℕ) (vs : List Value) (t : Turn) → first_turn p at vs ≡ Some t → (k : Configuration) × turn.Turn p Fresh first_configuration t.at t.input t.commands k
+pub first_turn_is : (p : Program) (at : ℕ) (vs : List Value) (t : Turn) → first_turn p at vs ≡ Some t → (k : Configuration) × turn.Turn p Fresh first_configuration t.at t.input t.commands k
 first_turn_is p at vs t h =
     elim (turned p Fresh first_configuration at (Started vs)) as (λ o. turned p Fresh first_configuration at (Started vs) ≡ o → elim o [ None ↦ None | Some x ↦ Some (record { at = at; input = Started vs; commands = x.0 }) ] ≡ Some t → (k : Configuration) × turn.Turn p Fresh first_configuration t.at t.input t.commands k) [
       | None ↦ λ e v. absurd (none-some t v)
@@ -223,6 +229,70 @@ complete_keeps u b n event attempt v at w h =
     must_be_keeps u b h (nth b.runs n) NoRun (λ r. tested (report_refusal r event attempt v) (takes r))
     (λ r e. tested_keeps u b h (report_refusal r event attempt v) (takes r) (input_keeps u b n r at (ActivityCompleted event v) w h e refl))
 
+-- a run is put in the place of another
+put_by : (b : Book) (n : ℕ) (r : Run) (f : Run → Run) → nth b.runs n ≡ Some r → with_run b n f ≡ put_run b n (f r)
+put_by b n r f there = ap (λ (o : Option Run). elim o [ None ↦ b | Some q ↦ put_run b n (f q) ]) there
+
+-- the next attempt is within the tries
+retried_keeps : (u : Rules) (b : Book) (n : ℕ) (r : Run) (event attempt ready : ℕ) (x : ℕ × ℕ) → IsSound u b → nth b.runs n ≡ Some r → tries_of (nth r.history event) ≡ Some x → attempt < x.0
+    → Keeps u b (retried n event attempt ready)
+retried_keeps u b n r event attempt ready x h there e less =
+    let its : IsSoundRun u b r = get_all (IsSoundRun u b) b.runs (n - 1) r (nth_place b.runs n r there) h.runs in
+    let new : Run = with_attempt event (attempt + 1) ready r in
+    subst (λ (y : Book). IsSound u y) (sym (put_by b n r (with_attempt event (attempt + 1) ready) there))
+    (sound_same u b n r new there refl refl h (attempt_run u b r event (attempt + 1) ready x its e (omega arith) (omega (arith, less))))
+
+failed_keeps : (u : Rules) (b : Book) (n : ℕ) (r : Run) (event attempt : ℕ) (reason : Bytes) (at : ℕ) (x : ℕ × ℕ) → ReadsWellFormed u → IsSound u b → nth b.runs n ≡ Some r → tries_of (nth r.history event) ≡ Some x
+    → Keeps u b (attempt_failed u b r n event attempt reason at x)
+failed_keeps u b n r event attempt reason at x w h there e =
+    let ready : ℕ = ready_after (max at (moment_of r.history)) x.1 in
+    elim (nat_lt attempt x.0) as (λ t. nat_lt attempt x.0 ≡ t → Keeps u b (if t then retried n event attempt ready else input_recorded u b r n at (ActivityFailed event reason))) [
+      | true ↦ λ less. retried_keeps u b n r event attempt ready x h there e (ltb-true attempt x.0 less)
+      | false ↦ λ last. input_keeps u b n r at (ActivityFailed event reason) w h there refl
+    ] refl
+
+fail_keeps : (u : Rules) (b : Book) (n event attempt : ℕ) (reason : Bytes) (at : ℕ) → ReadsWellFormed u → IsSound u b → Keeps u b (fail u b n event attempt reason at)
+unfolding fail
+fail_keeps u b n event attempt reason at w h =
+    let fails : Run → Outcome = λ r. if_sound (tries_of (nth r.history event)) (attempt_failed u b r n event attempt reason at) in
+    must_be_keeps u b h (nth b.runs n) NoRun (λ r. tested (failure_refusal r event attempt) (fails r))
+    (λ r there. tested_keeps u b h (failure_refusal r event attempt) (fails r)
+    (if_sound_keeps u b h (tries_of (nth r.history event)) (attempt_failed u b r n event attempt reason at)
+    (λ x e. failed_keeps u b n r event attempt reason at x w h there e)))
+
+-- a run goes on under another text
+stands_keeps : (u : Rules) (b : Book) (n text : ℕ) (r : Run) (p : Program) (o : Result Configuration (ℕ × Wrong)) → IsSound u b → nth b.runs n ≡ Some r → program_at u.program_of b text ≡ Some p → verdict p r.history ≡ o
+    → Keeps u b (if_stands n text o)
+stands_keeps u b n text r p (Ok k) h there read e =
+    let old : IsSoundRun u b r = get_all (IsSoundRun u b) b.runs (n - 1) r (nth_place b.runs n r there) h.runs in
+    subst (λ (y : Book). IsSound u y) (sym (put_by b n r (with_text text) there))
+    (sound_same u b n r (with_text text r) there refl refl h (text_run u b r text p k old read ((verdict_of_standing p r.history k).0 e)))
+stands_keeps u b n text r p (Err m) h there read e = h
+
+upgrade_keeps : (u : Rules) (b : Book) (n text : ℕ) → IsSound u b → Keeps u b (upgrade u.program_of b n text)
+unfolding upgrade
+upgrade_keeps u b n text h =
+    let judged : Run → Program → Outcome = λ r p. if_stands n text (verdict p r.history) in
+    let read : Run → Bytes → Outcome = λ r body. if_sound (program_if (u.program_of body)) (judged r) in
+    let goes : Run → Outcome = λ r. must_be (nth b.texts text) NoText (read r) in
+    must_be_keeps u b h (nth b.runs n) NoRun (λ r. must_hold (is_open (state_of r.history)) NotOpen (goes r))
+    (λ r there. must_hold_keeps u b h (is_open (state_of r.history)) NotOpen (goes r)
+    (λ opened. must_be_keeps u b h (nth b.texts text) NoText (read r)
+    (λ body e. if_sound_keeps u b h (program_if (u.program_of body)) (judged r)
+    (λ p g.
+    let its : program_at u.program_of b text ≡ Some p = ap (λ (o : Option Bytes). elim o [ None ↦ None | Some x ↦ program_if (u.program_of x) ]) e ∙ g in
+    stands_keeps u b n text r p (verdict p r.history) h there its refl))))
+
+pub fired_keeps : (u : Rules) (at : ℕ) → ReadsWellFormed u → (b : Book) (d : Due) → IsSound u b → IsSound u (fired_book u at b d)
+unfolding fired
+fired_keeps u at w b d h =
+    let takes : Run → Outcome = λ r. input_recorded u b r d.run at (TimerFired d.id) in
+    if_sound_keeps u b h (nth b.runs d.run) takes (λ r e. input_keeps u b d.run r at (TimerFired d.id) w h e refl)
+
+-- timers that are due fire
+ticks_keep : (u : Rules) (b : Book) (at : ℕ) → ReadsWellFormed u → IsSound u b → Keeps u b (tick u b at)
+ticks_keep u b at w h = tick_keeps u at (IsSound u) (fired_keeps u at w) b h
+
 -- an open run is closed for a reason
 terminated_keeps : (u : Rules) (b : Book) (n : ℕ) (r : Run) (reason : Bytes) (at : ℕ) → ReadsWellFormed u → IsSound u b → nth b.runs n ≡ Some r → is_open (state_of r.history) ≡ true → Keeps u b (terminated r n reason at)
 terminated_keeps u b n r reason at w h there opened =
@@ -262,7 +332,10 @@ step_keeps u b (command.Register body) w h = register_keeps u b body h
 step_keeps u b (command.Start request flow text vs at) w h = start_keeps u b request flow text vs at w h
 step_keeps u b (command.Signal request flow name v at) w h = signal_keeps u b request flow name v at w h
 step_keeps u b (command.Complete run event attempt v at) w h = complete_keeps u b run event attempt v at w h
+step_keeps u b (command.Fail run event attempt reason at) w h = fail_keeps u b run event attempt reason at w h
+step_keeps u b (command.Tick at) w h = ticks_keep u b at w h
 step_keeps u b (command.Terminate run reason at) w h = terminate_keeps u b run reason at w h
+step_keeps u b (command.Upgrade run text) w h = upgrade_keeps u b run text h
 step_keeps u b (command.Describe run) w h = describe_keeps u b run h
 step_keeps u b (command.History run) w h = history_keeps u b run h
 

@@ -12,8 +12,12 @@ pub mod Welcomed
 pub mod Sticking
 pub mod Places
 pub mod Tasks
+pub mod Tried
 pub mod Changes
 pub mod Keeps
 pub mod Orderly
 pub mod Limited
 pub mod Started
+pub mod Ticks
+pub mod TicksStand
+pub mod TicksDecide

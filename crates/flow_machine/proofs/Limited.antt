@@ -1,21 +1,24 @@
 -- What commands record of a sound book is such as rows take.
 use Rattle.std.proofs.Common.{◌≡◌, ℕ, suc, ◌+◌, ◌-◌, ◌≤◌, List, [], ◌∷◌, length, max, map, refl, sym, ap, ◌∙◌, subst, arith, Option, Some, None, Result, Ok, Err, Bool, true, false, ◌&&◌}
-use Rattle.std.specs.Prelude.{All, nat_le, if◌then◌else◌}
+use Rattle.std.specs.Prelude.{◌<◌, All, nat_le, nat_lt, if◌then◌else◌}
 use Rattle.std.proofs.lemmas.Option.{none-some, same_Some}
-use Rattle.std.proofs.lemmas.List.Elements.{All-nil, All-cons, All-weaker}
+use Rattle.std.proofs.lemmas.Bool.{ltb-true}
+use Rattle.std.proofs.lemmas.List.Elements.{All-nil, All-cons, All-weaker, All-append}
 use Rattle.flow_base.specs.Syntax.{Bytes, Program}
 use Rattle.flow_base.specs.declared.syntax.Parameter.{Parameter}
 use Rattle.flow_base.specs.declared.value.Value.{Value}
 use Rattle.flow_base.specs.declared.event.Cmd.{Cmd}
+use Rattle.flow_base.specs.declared.event.Wrong.{Wrong}
 use Rattle.flow_base.specs.declared.event.Cmd.TheVariants.{Schedule, StartTimer, CancelTimer, RecordMarker, Complete, Fail, ContinueAsNew}
 use Rattle.flow_base.specs.declared.event.Input.{Input}
 use Rattle.flow_base.specs.declared.event.Input.TheVariants.{Started, Signaled, ActivityCompleted, ActivityFailed, TimerFired, Terminated}
 use Rattle.flow_base.specs.declared.book.Task.{Task}
 use Rattle.flow_base.specs.declared.book.Timer.{Timer}
+use Rattle.flow_base.specs.declared.book.Due.{Due}
 use Rattle.flow_base.specs.declared.book.Run.{Run}
 use Rattle.flow_base.specs.declared.book.Turn.{Turn}
 use Rattle.flow_base.specs.declared.book.Change.{Change}
-use Rattle.flow_base.specs.declared.book.Change.TheVariants.{AddText, AddTurn, AddRun}
+use Rattle.flow_base.specs.declared.book.Change.TheVariants.{AddText, AddTurn, AddRun, SetAttempt, SetText}
 use Rattle.flow_base.specs.declared.code.Code.{Code}
 use Rattle.flow_base.specs.declared.code.Code.TheVariants.{NoText, BadArguments, AlreadyOpen, NoOpenRun, NotOpen, WrongType, NoSuchSignal, NoRun}
 use Rattle.flow_base.specs.declared.command.Command.{Command}
@@ -33,8 +36,9 @@ use Rattle.flow_model.specs.Turn.{Fresh, is_started}
 use Rattle.flow_model.specs.Turned.{turned, position_of}
 use Rattle.flow_model.specs.Stands.{Stands}
 use Rattle.flow_model.specs.Open.{open_timers, state_of, moment_of}
+use Rattle.flow_model.specs.Verdict.{verdict}
 use Rattle.flow_model.specs.Book.{Book, nth, text_number, requested, open_run, signalled}
-use Rattle.flow_model.specs.Apply.{Rules, Outcome, says, none_there, must_be, must_hold, tested, if_sound, program_if, program_at, first_turn, continued, run_from, next_run, history_limit, turn_made, recorded, input_recorded, report_refusal, on_program, register, start, signal_recorded, signal, complete, terminated, terminate, describe, history, outcome}
+use Rattle.flow_model.specs.Apply.{Rules, Outcome, says, none_there, must_be, must_hold, tested, if_sound, program_if, program_at, first_turn, continued, run_from, next_run, history_limit, turn_made, recorded, input_recorded, report_refusal, tries_of, failure_refusal, on_program, register, start, signal_recorded, signal, complete, ready_after, retried, attempt_failed, fail, terminated, terminate, if_stands, upgrade, describe, history, outcome, fired, tick}
 use Rattle.flow_model.specs.Sound.{IsSoundRun, IsSound}
 use Rattle.flow_model.proofs.Positions.{position_computed, turned_is}
 use Rattle.flow_model.proofs.Tries.{AskedWell, TriedRest, well_formed_tried, few_parameters}
@@ -42,7 +46,10 @@ use Rattle.flow_model.proofs.Leaves.{stands_left, turn_leaves}
 use Rattle.flow_machine.specs.Limits.{IsTurnWithinLimits, IsChangeWithinLimits}
 use Rattle.flow_machine.specs.Soundness.{ReadsWellFormed}
 use Rattle.flow_machine.proofs.Places.{get_all, nth_place}
+use Rattle.flow_machine.proofs.Keeps.{fired_keeps}
+use Rattle.flow_machine.proofs.Ticks.{tick_has}
 use Rattle.flow_machine.proofs.Changes.{text_well_formed}
+use Rattle.flow_machine.proofs.Tried.{few_tries}
 
 abbrev Within : Outcome → Type 0
 Within o = All IsChangeWithinLimits o.changes
@@ -229,6 +236,51 @@ module _ (u : Rules) (b : Book) (w : ReadsWellFormed u) (h : IsSound u b) where
       must_be_within (nth b.runs n) NoRun (λ r. tested (report_refusal r event attempt v) (takes r))
       (λ r there. tested_within (report_refusal r event attempt v) (takes r) (input_within n r at (ActivityCompleted event v) there refl))
 
+  -- the next attempt is one of 20 at most
+  retried_within : (n : ℕ) (r : Run) (event attempt ready : ℕ) (x : ℕ × ℕ) → nth b.runs n ≡ Some r → tries_of (nth r.history event) ≡ Some x → attempt < x.0 → Within (retried n event attempt ready)
+  retried_within n r event attempt ready x there e less =
+      let its : IsSoundRun u b r = get_all (IsSoundRun u b) b.runs (n - 1) r (nth_place b.runs n r there) h.runs in
+      let few : x.0 ≤ 20 = few_tries its.program r.history its.place event x (well_formed_tried its.program (text_well_formed u b r.text its.program w its.its_text)) its.stands e in
+      one (SetAttempt n event (attempt + 1) ready) (omega arith, omega (arith, less, few))
+
+  failed_within : (n : ℕ) (r : Run) (event attempt : ℕ) (reason : Bytes) (at : ℕ) (x : ℕ × ℕ) → nth b.runs n ≡ Some r → tries_of (nth r.history event) ≡ Some x
+      → Within (attempt_failed u b r n event attempt reason at x)
+  failed_within n r event attempt reason at x there e =
+      let ready : ℕ = ready_after (max at (moment_of r.history)) x.1 in
+      elim (nat_lt attempt x.0) as (λ t. nat_lt attempt x.0 ≡ t → Within (if t then retried n event attempt ready else input_recorded u b r n at (ActivityFailed event reason))) [
+        | true ↦ λ less. retried_within n r event attempt ready x there e (ltb-true attempt x.0 less)
+        | false ↦ λ last. input_within n r at (ActivityFailed event reason) there refl
+      ] refl
+
+  fail_within : (n event attempt : ℕ) (reason : Bytes) (at : ℕ) → Within (fail u b n event attempt reason at)
+  unfolding fail
+  fail_within n event attempt reason at =
+      let fails : Run → Outcome = λ r. if_sound (tries_of (nth r.history event)) (attempt_failed u b r n event attempt reason at) in
+      must_be_within (nth b.runs n) NoRun (λ r. tested (failure_refusal r event attempt) (fails r))
+      (λ r there. tested_within (failure_refusal r event attempt) (fails r)
+      (if_sound_within (tries_of (nth r.history event)) (attempt_failed u b r n event attempt reason at) (λ x e. failed_within n r event attempt reason at x there e)))
+
+  stands_within : (n text : ℕ) (o : Result Configuration (ℕ × Wrong)) → Within (if_stands n text o)
+  stands_within n text (Ok k) = one (SetText n text) tt
+  stands_within n text (Err m) = nothing
+
+  upgrade_within : (n text : ℕ) → Within (upgrade u.program_of b n text)
+  unfolding upgrade
+  upgrade_within n text =
+      let judged : Run → Program → Outcome = λ r p. if_stands n text (verdict p r.history) in
+      let read : Run → Bytes → Outcome = λ r body. if_sound (program_if (u.program_of body)) (judged r) in
+      let goes : Run → Outcome = λ r. must_be (nth b.texts text) NoText (read r) in
+      must_be_within (nth b.runs n) NoRun (λ r. must_hold (is_open (state_of r.history)) NotOpen (goes r))
+      (λ r there. must_hold_within (is_open (state_of r.history)) NotOpen (goes r)
+      (must_be_within (nth b.texts text) NoText (read r)
+      (λ body e. if_sound_within (program_if (u.program_of body)) (judged r) (λ p g. stands_within n text (verdict p r.history)))))
+
+  fired_within : (at : ℕ) (d : Due) → Within (fired u b at d)
+  unfolding fired
+  fired_within at d =
+      let takes : Run → Outcome = λ r. input_recorded u b r d.run at (TimerFired d.id) in
+      if_sound_within (nth b.runs d.run) takes (λ r there. input_within d.run r at (TimerFired d.id) there refl)
+
   terminate_within : (n : ℕ) (reason : Bytes) (at : ℕ) → Within (terminate b n reason at)
   unfolding terminate
   terminate_within n reason at =
@@ -252,12 +304,21 @@ module _ (u : Rules) (b : Book) (w : ReadsWellFormed u) (h : IsSound u b) where
   unfolding history
   history_within n = must_be_within (nth b.runs n) NoRun (λ r. says (reply.History r.history)) (λ r e. nothing)
 
+-- timers that are due fire
+tick_within : (u : Rules) (b : Book) (at : ℕ) → ReadsWellFormed u → IsSound u b → Within (tick u b at)
+tick_within u b at w h =
+    tick_has u at (IsSound u) (fired_keeps u at w) (λ k cs. All IsChangeWithinLimits cs) (λ k. nothing) (λ k d sound. fired_within u k w sound at d)
+    (λ k cs ds x y. All-append IsChangeWithinLimits cs ds x y) b h
+
 pub changes_within : (u : Rules) (b : Book) (c : Command) → ReadsWellFormed u → IsSound u b → Within (outcome u b c)
 unfolding outcome
 changes_within u b (command.Register body) w h = register_within u b w h body
 changes_within u b (command.Start request flow text vs at) w h = start_within u b w h request flow text vs at
 changes_within u b (command.Signal request flow name v at) w h = signal_within u b w h request flow name v at
 changes_within u b (command.Complete run event attempt v at) w h = complete_within u b w h run event attempt v at
+changes_within u b (command.Fail run event attempt reason at) w h = fail_within u b w h run event attempt reason at
+changes_within u b (command.Tick at) w h = tick_within u b at w h
 changes_within u b (command.Terminate run reason at) w h = terminate_within u b w h run reason at
+changes_within u b (command.Upgrade run text) w h = upgrade_within u b w h run text
 changes_within u b (command.Describe run) w h = describe_within u b w h run
 changes_within u b (command.History run) w h = history_within u b w h run

@@ -8,9 +8,8 @@ use Rattle.std.specs.Cmp.Lexicographic.{bytes_decides}
 use Rattle.flow_base.specs.Syntax.{Bytes}
 use Rattle.flow_base.specs.declared.book.Run.{Run}
 use Rattle.flow_base.specs.declared.book.Turn.{Turn}
-use Rattle.flow_base.specs.declared.book.Change.TheVariants.{AddTurn}
 use Rattle.flow_base.specs.declared.command.Command.{Command}
-use Rattle.flow_model.specs.Book.{Book, nth, first_from, is_from, requested, unbegun_run, with_turn, changed}
+use Rattle.flow_model.specs.Book.{Book, nth, first_from, is_from, requested, unbegun_run, with_turn, with_attempt, with_text, with_run}
 use Rattle.flow_model.specs.Apply.{Rules, after_one, after}
 use Rattle.flow_model.specs.Sound.{IsProgram, IsOrderly}
 use Rattle.flow_machine.specs.Soundness.{NoBookIsOrderly, OrderlyAfter}
@@ -58,7 +57,7 @@ requested_run u b request flow n t h none =
 next_run : (u : Rules) (b : Book) (flow : Bytes) (n : ℕ) (t : Turn) → IsOrderly u b → IsOrderly u (record b { runs = b.runs ++ with_turn t (unbegun_run flow None n) ∷ [] })
 next_run u b flow n t h = orderly_run u b (with_turn t (unbegun_run flow None n)) h (λ j r q there asked same. none-some q same)
 
----- One more turn of a run
+---- A run in the place of another of the same request
 
 -- the run that stood in its place before: of the same request
 record Was (b : Book) (j : ℕ) (z : Run) : Type 0 where
@@ -66,29 +65,29 @@ record Was (b : Book) (j : ℕ) (z : Run) : Type 0 where
   there : slice_get b.runs j ≡ Some run
   request : run.request ≡ z.request
 
-was : (b : Book) (n : ℕ) (r : Run) (t : Turn) → nth b.runs n ≡ Some r → (j : ℕ) (z : Run) → slice_get (put_run b n (with_turn t r)).runs j ≡ Some z → Was b j z
-was b n r t e j z g =
-    let q = with_turn t r in
-    ⊎_elim (λ (a : slice_get b.runs j ≡ Some z). record { run = z; there = a; request = refl })
-    (λ (a : (slice_get b.runs j ≡ Some r) × (z ≡ q)). record { run = r; there = a.0; request = ap (λ (x : Run). x.request) (sym a.1) })
-    (get_set b.runs (n - 1) j r q z (nth_place b.runs n r e) g)
+module _ (u : Rules) (b : Book) (n : ℕ) (f : Run → Run) (request : (r : Run) → (f r).request ≡ r.request) where
+  was : (r : Run) → nth b.runs n ≡ Some r → (j : ℕ) (z : Run) → slice_get (put_run b n (f r)).runs j ≡ Some z → Was b j z
+  was r e j z g =
+      ⊎_elim (λ (a : slice_get b.runs j ≡ Some z). record { run = z; there = a; request = refl })
+      (λ (a : (slice_get b.runs j ≡ Some r) × (z ≡ f r)). record { run = r; there = a.0; request = sym (request r) ∙ ap (λ (x : Run). x.request) (sym a.1) })
+      (get_set b.runs (n - 1) j r (f r) z (nth_place b.runs n r e) g)
 
-put_orderly : (u : Rules) (b : Book) (n : ℕ) (r : Run) (t : Turn) → IsOrderly u b → nth b.runs n ≡ Some r → IsOrderly u (put_run b n (with_turn t r))
-put_orderly u b n r t h e =
-    record {
-      texts = h.texts;
-      requests = λ i j x y q gi gj ri rj.
-          let wi = was b n r t e i x gi in
-          let wj = was b n r t e j y gj in
-          h.requests i j wi.run wj.run q wi.there wj.there (wi.request ∙ ri) (wj.request ∙ rj);
-    }
+  put_orderly : (r : Run) → IsOrderly u b → nth b.runs n ≡ Some r → IsOrderly u (put_run b n (f r))
+  put_orderly r h e =
+      record {
+        texts = h.texts;
+        requests = λ i j x y q gi gj ri rj.
+            let wi = was r e i x gi in
+            let wj = was r e j y gj in
+            h.requests i j wi.run wj.run q wi.there wj.there (wi.request ∙ ri) (wj.request ∙ rj);
+      }
 
-orderly_turn : (u : Rules) (b : Book) (n : ℕ) (t : Turn) → IsOrderly u b → IsOrderly u (changed b (AddTurn n t))
-orderly_turn u b n t h =
-    elim (nth b.runs n) as (λ o. nth b.runs n ≡ o → IsOrderly u (elim o [ None ↦ b | Some r ↦ record b { runs = slice_set b.runs (n - 1) (with_turn t r) } ])) [
-      | None ↦ λ e. h
-      | Some r ↦ λ e. put_orderly u b n r t h e
-    ] refl
+  orderly_put : IsOrderly u b → IsOrderly u (with_run b n f)
+  orderly_put h =
+      elim (nth b.runs n) as (λ o. nth b.runs n ≡ o → IsOrderly u (elim o [ None ↦ b | Some r ↦ record b { runs = slice_set b.runs (n - 1) (f r) } ])) [
+        | None ↦ λ e. h
+        | Some r ↦ λ e. put_orderly r h e
+      ] refl
 
 ---- Commands
 
@@ -98,7 +97,9 @@ orderly_kept u =
       text = λ b body h program. record { texts = All-push (IsProgram u) b.texts body h.texts program; requests = h.requests };
       run = requested_run u;
       next = next_run u;
-      turn = orderly_turn u;
+      turn = λ b n t h. orderly_put u b n (with_turn t) (λ r. refl) h;
+      attempt = λ b n event attempt ready h. orderly_put u b n (with_attempt event attempt ready) (λ r. refl) h;
+      other = λ b n text h. orderly_put u b n (with_text text) (λ r. refl) h;
     }
 
 pub orderly_after_one : (u : Rules) (b : Book) (c : Command) → IsOrderly u b → IsOrderly u (after_one u b c)

@@ -28,7 +28,8 @@ use Rattle.flow_machine.specs.Fitting.{HasUnfit}
 use Rattle.flow_machine.specs.Soundness.{TextsRead}
 use Rattle.flow_machine.specs.Stuck.{unless_there, where_there, where_holds, needs, IsFull, StuckRegister, StuckStart, IsStuck}
 use Rattle.flow_machine.specs.Welcome.{IsUnnumbered, StuckUnnumbered}
-use Rattle.flow_machine.proofs.Unstuck.{text_reads, signal_goes_on, complete_goes_on}
+use Rattle.flow_machine.proofs.Unstuck.{text_reads, signal_goes_on, complete_goes_on, fail_goes_on, upgrade_goes_on}
+use Rattle.flow_machine.proofs.TicksStand.{tick_goes_on}
 
 ---- A start whose arguments fit has a first turn
 
@@ -120,6 +121,9 @@ stuck_unnumbered u b (command.Register body) reads h stuck = register_ends u b b
 stuck_unnumbered u b (command.Start request flow text vs at) reads h stuck = start_ends u b request flow text vs at reads stuck
 stuck_unnumbered u b (command.Signal request flow name v at) reads h stuck = absurd (signal_goes_on u b request flow name v h stuck)
 stuck_unnumbered u b (command.Complete run event attempt v at) reads h stuck = absurd (complete_goes_on u b run event attempt v h stuck)
+stuck_unnumbered u b (command.Fail run event attempt reason at) reads h stuck = absurd (fail_goes_on u b run event attempt reason h stuck)
+stuck_unnumbered u b (command.Tick at) reads h stuck = absurd (tick_goes_on u b at h stuck)
 stuck_unnumbered u b (command.Terminate run reason at) reads h stuck = absurd stuck
+stuck_unnumbered u b (command.Upgrade run text) reads h stuck = absurd (upgrade_goes_on u b run text reads stuck)
 stuck_unnumbered u b (command.Describe run) reads h stuck = absurd stuck
 stuck_unnumbered u b (command.History run) reads h stuck = absurd stuck

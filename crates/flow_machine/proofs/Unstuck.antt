@@ -1,11 +1,11 @@
 -- Over a sound book nothing but the end of the numbers keeps a command from being decided.
 use Rattle.std.proofs.Common.{◌≡◌, ℕ, ◌-◌, List, length, refl, sym, ap, ◌∙◌, subst, Option, Some, None, Bool, true, false, inl, inr, ⊎_elim}
-use Rattle.std.specs.Prelude.{nat_eq}
+use Rattle.std.specs.Prelude.{nat_eq, nat_lt}
 use Rattle.std.proofs.lemmas.Option.{none-some, same_Some}
 use Rattle.flow_base.specs.Syntax.{Bytes, Program}
 use Rattle.flow_base.specs.declared.value.Value.{Value}
 use Rattle.flow_base.specs.declared.code.Code.{Code}
-use Rattle.flow_base.specs.declared.event.Input.TheVariants.{Signaled, ActivityCompleted}
+use Rattle.flow_base.specs.declared.event.Input.TheVariants.{Signaled, ActivityCompleted, ActivityFailed}
 use Rattle.flow_base.specs.declared.book.Task.{Task}
 use Rattle.flow_base.specs.declared.book.Run.{Run}
 use Rattle.flow_base.specs.declared.command.Command.TheVariants as command
@@ -15,15 +15,17 @@ use Rattle.flow_model.specs.Deliver.{all_fit, has_kind}
 use Rattle.flow_model.specs.Open.{state_of}
 use Rattle.flow_model.specs.Stands.{Stands}
 use Rattle.flow_model.specs.Book.{Book, nth, text_number, requested, open_run, signalled}
-use Rattle.flow_model.specs.Apply.{Rules, program_if, program_at, on_task, refuse_unless, task_at, gives_kind, report_refusal}
+use Rattle.flow_model.specs.Apply.{Rules, program_if, program_at, on_task, refuse_unless, task_at, gives_kind, report_refusal, failure_refusal, tries_of}
 use Rattle.flow_model.specs.Sound.{IsSoundRun, IsSound}
 use Rattle.flow_model.proofs.Chains.{not_both}
 use Rattle.flow_model.specs.Sound.{IsProgram}
 use Rattle.flow_machine.specs.Soundness.{TextsRead, NumbersEnd, SoundDecides}
-use Rattle.flow_machine.specs.Stuck.{HasMismatch, CantDeliver, CantRecord, unless_there, where_there, where_holds, needs, IsFull, StuckRegister, StuckStart, StuckSent, StuckSignal, StuckInput, StuckComplete, IsStuck}
+use Rattle.flow_machine.specs.Stuck.{HasMismatch, CantDeliver, CantRecord, unless_there, where_there, where_holds, unless_holds, needs, IsFull, StuckRegister, StuckStart, StuckSent, StuckSignal, StuckInput, StuckComplete, StuckFailed, StuckFail, StuckUpgrade, IsStuck}
 use Rattle.flow_machine.proofs.Places.{get_all, nth_place}
-use Rattle.flow_machine.proofs.Waiting.{completion_taken}
+use Rattle.flow_machine.proofs.Waiting.{completion_taken, failure_taken}
+use Rattle.flow_machine.proofs.TicksStand.{tick_goes_on}
 use Rattle.flow_machine.proofs.Heard.{signal_taken, open_is_there}
+use Rattle.flow_machine.proofs.Tried.{found_task, task_tried}
 
 ---- Tests
 
@@ -48,6 +50,10 @@ module _ (Y : Type 0) where
   needs_then None X f g h = absurd (f refl)
   needs_then (Some x) X f g h = g x refl h
 
+  unheld_then : (b : Bool) (X : Type 0) → (X → Y) → unless_holds b X → Y
+  unheld_then true X f h = absurd h
+  unheld_then false X f h = f h
+
 task_found : (o : Option Task) (next : Task → Option Code) → on_task o next ≡ None → (t : Task) × ((o ≡ Some t) × (next t ≡ None))
 task_found None next e = absurd (none-some _ (sym e))
 task_found (Some t) next e = (t, (refl, e))
@@ -63,6 +69,11 @@ reported r event attempt v e =
     let found = task_found (task_at r.tasks event) _ e in
     let attempted = refuses_none (nat_eq found.0.attempt attempt) _ _ found.1.1 in
     (found.0, (found.1.0, (refuses_none (gives_kind (nth r.history event) v) _ None attempted.1).0))
+
+-- a failed attempt that nothing refuses is of an open activity
+failed : (r : Run) (event attempt : ℕ) → failure_refusal r event attempt ≡ None → (t : Task) × (task_at r.tasks event ≡ Some t)
+unfolding failure_refusal
+failed r event attempt e = let found = task_found (task_at r.tasks event) _ e in (found.0, found.1.0)
 
 ---- Commands
 
@@ -114,6 +125,46 @@ module _ (u : Rules) (b : Book) where
       (λ unrefused. needs_then ⊥ (program_at u.program_of b r.text) (records_in r) (λ none. none-some its.program (sym none ∙ its.its_text))
       (λ p text stuck. records r p event attempt v its text unrefused stuck)))
 
+  -- a sound run takes that its open activity failed
+  records_failure : (r : Run) (p : Program) (event : ℕ) (reason : Bytes) (t : Task) → IsSoundRun u b r → program_at u.program_of b r.text ≡ Some p → task_at r.tasks event ≡ Some t → CantRecord p r.history (ActivityFailed event reason) → ⊥
+  records_failure r p event reason t its text there =
+      let same : its.program ≡ p = same_Some its.program p (sym its.its_text ∙ text) in
+      let stands : Stands p r.history its.place = subst (λ (q : Program). Stands q r.history its.place) same its.stands in
+      ⊎_elim (λ (m : HasMismatch p r.history). not_both p r.history its.place m.0 m.1.0 m.1.1 stands)
+      (λ (c : CantDeliver p r.history (ActivityFailed event reason)). failure_taken p r.history c.0 r.tasks event reason t c.1.0 its.activities there c.1.1)
+
+  -- nor is it here: the event of an open activity says how often it is tried
+  pub fail_goes_on : (run event attempt : ℕ) (reason : Bytes) → IsSound u b → StuckFail u.program_of b run event attempt reason → ⊥
+  unfolding StuckFail StuckInput
+  fail_goes_on run event attempt reason h =
+      let records_in = λ (r : Run) (p : Program). CantRecord p r.history (ActivityFailed event reason) in
+      let taken = λ (r : Run). needs (program_at u.program_of b r.text) (records_in r) in
+      let tried = λ (r : Run) (x : ℕ × ℕ). unless_holds (nat_lt attempt x.0) (taken r) in
+      let fails = λ (r : Run). needs (tries_of (nth r.history event)) (tried r) in
+      where_then ⊥ (nth b.runs run) (λ r. unless_there (failure_refusal r event attempt) (fails r))
+      (λ r there.
+      let its : IsSoundRun u b r = get_all (IsSoundRun u b) b.runs (run - 1) r (nth_place b.runs run r there) h.runs in
+      unless_then ⊥ (failure_refusal r event attempt) (fails r)
+      (λ unrefused.
+      let task = failed r event attempt unrefused in
+      let found = found_task r event task.0 its.attempts task.1 in
+      needs_then ⊥ (tries_of (nth r.history event)) (tried r) (λ none. task_tried r task.0 found.1 (ap (λ n. tries_of (nth r.history n)) found.0 ∙ none))
+      (λ x e. unheld_then ⊥ (nat_lt attempt x.0) (taken r)
+      (needs_then ⊥ (program_at u.program_of b r.text) (records_in r) (λ none. none-some its.program (sym none ∙ its.its_text))
+      (λ p text stuck. records_failure r p event reason task.0 its text task.1 stuck)))))
+
+  -- a text of the book is a program
+  pub upgrade_goes_on : (run text : ℕ) → TextsRead u b → StuckUpgrade u.program_of b run text → ⊥
+  unfolding StuckUpgrade
+  upgrade_goes_on run text reads =
+      let never = λ (p : Program). ⊥ in
+      let read = λ (body : Bytes). needs (program_if (u.program_of body)) never in
+      let opened = where_there (nth b.texts text) read in
+      where_then ⊥ (nth b.runs run) (λ r. where_holds (is_open (state_of r.history)) opened)
+      (λ r there. holds_then ⊥ (is_open (state_of r.history)) opened
+      (where_then ⊥ (nth b.texts text) read
+      (λ body e. needs_then ⊥ (program_if (u.program_of body)) never (text_reads reads text body e) (λ p g stuck. stuck))))
+
   -- an open sound run takes a signal that its program declares
   hears : (r : Run) (p : Program) (request name : Bytes) (v : Value) → IsSoundRun u b r → program_at u.program_of b r.text ≡ Some p → is_open (state_of r.history) ≡ true → StuckSent r request name v p → ⊥
   hears r p request name v its text opened =
@@ -146,6 +197,9 @@ sound_decides u b (command.Register body) reads h stuck = register_decides u b b
 sound_decides u b (command.Start request flow text vs at) reads h stuck = start_decides u b request flow text vs reads stuck
 sound_decides u b (command.Signal request flow name v at) reads h stuck = absurd (signal_goes_on u b request flow name v h stuck)
 sound_decides u b (command.Complete run event attempt v at) reads h stuck = absurd (complete_goes_on u b run event attempt v h stuck)
+sound_decides u b (command.Fail run event attempt reason at) reads h stuck = absurd (fail_goes_on u b run event attempt reason h stuck)
+sound_decides u b (command.Tick at) reads h stuck = absurd (tick_goes_on u b at h stuck)
 sound_decides u b (command.Terminate run reason at) reads h stuck = absurd stuck
+sound_decides u b (command.Upgrade run text) reads h stuck = absurd (upgrade_goes_on u b run text reads stuck)
 sound_decides u b (command.Describe run) reads h stuck = absurd stuck
 sound_decides u b (command.History run) reads h stuck = absurd stuck

@@ -1,32 +1,37 @@
 -- What the changes of commands have, whatever the book.
-use Rattle.std.proofs.Common.{◌≡◌, ℕ, ◌+◌, List, [], ◌∷◌, length, map, max, refl, ap, ◌∙◌, Option, Some, None, Result, Ok, Err, Bool, true, false}
-use Rattle.std.specs.Prelude.{◌-◌, nat_le, slice_set, if◌then◌else◌}
+use Rattle.std.proofs.Common.{◌≡◌, ℕ, ◌+◌, List, [], ◌∷◌, length, map, max, refl, ap, ◌∙◌, Option, Some, None, Result, Ok, Err, Bool, true, false, ◌++◌}
+use Rattle.std.specs.Prelude.{◌-◌, nat_le, nat_lt, slice_set, if◌then◌else◌}
 use Rattle.std.proofs.lemmas.Option.{none-some}
 use Rattle.flow_base.specs.Syntax.{Bytes, Program}
 use Rattle.flow_base.specs.declared.value.Value.{Value}
 use Rattle.flow_base.specs.declared.event.Cmd.{Cmd}
+use Rattle.flow_base.specs.declared.event.Wrong.{Wrong}
 use Rattle.flow_base.specs.declared.event.Input.{Input}
-use Rattle.flow_base.specs.declared.event.Input.TheVariants.{Started, Signaled, ActivityCompleted, Terminated}
+use Rattle.flow_base.specs.declared.event.Input.TheVariants.{Started, Signaled, ActivityCompleted, ActivityFailed, Terminated, TimerFired}
 use Rattle.flow_base.specs.declared.book.Task.{Task}
 use Rattle.flow_base.specs.declared.book.Timer.{Timer}
+use Rattle.flow_base.specs.declared.book.Due.{Due}
+use Rattle.flow_base.specs.declared.book.Change.{Change}
 use Rattle.flow_base.specs.declared.book.Run.{Run}
 use Rattle.flow_base.specs.declared.book.Turn.{Turn}
-use Rattle.flow_base.specs.declared.book.Change.TheVariants.{AddText, AddTurn, AddRun}
+use Rattle.flow_base.specs.declared.book.Change.TheVariants.{AddText, AddTurn, AddRun, SetAttempt, SetText}
 use Rattle.flow_base.specs.declared.code.Code.{Code}
 use Rattle.flow_base.specs.declared.code.Code.TheVariants.{NoText, BadArguments, AlreadyOpen, NoOpenRun, NotOpen, WrongType, NoSuchSignal, NoRun}
 use Rattle.flow_base.specs.declared.command.Command.TheVariants as command
 use Rattle.flow_base.specs.declared.command.TextFault.{TextFault}
 use Rattle.flow_base.specs.declared.command.Reply.{Reply}
 use Rattle.flow_base.specs.declared.command.Reply.TheVariants as reply
-use Rattle.flow_model.specs.Configuration.{is_open}
+use Rattle.flow_model.specs.Configuration.{Configuration, is_open}
 use Rattle.flow_model.specs.WellFormed.{signal_of}
 use Rattle.flow_model.specs.Deliver.{all_fit, has_kind}
 use Rattle.flow_model.specs.Turn.{Fresh}
 use Rattle.flow_model.specs.Turned.{turned, position_of}
 use Rattle.flow_model.specs.Open.{open_timers, state_of, moment_of}
-use Rattle.flow_model.specs.Book.{Book, nth, text_number, requested, open_run, signalled, with_turn, changed}
-use Rattle.flow_model.specs.Apply.{Rules, Outcome, says, none_there, must_be, must_hold, tested, if_sound, program_if, program_at, first_turn, continued, run_from, next_run, history_limit, turn_made, recorded, input_recorded, report_refusal, on_program, register, start, signal_recorded, signal, complete, terminated, terminate, describe, history, outcome}
+use Rattle.flow_model.specs.Verdict.{verdict}
+use Rattle.flow_model.specs.Book.{Book, nth, text_number, requested, open_run, signalled, with_turn, changed, changed_by}
+use Rattle.flow_model.specs.Apply.{Rules, Outcome, says, none_there, must_be, must_hold, tested, if_sound, program_if, program_at, first_turn, continued, run_from, next_run, history_limit, turn_made, recorded, input_recorded, report_refusal, tries_of, failure_refusal, on_program, register, start, signal_recorded, signal, complete, ready_after, retried, attempt_failed, fail, terminated, terminate, if_stands, upgrade, describe, history, outcome, fired, tick}
 use Rattle.flow_machine.specs.Welcome.{AreWelcome, ChangesWelcome}
+use Rattle.flow_machine.proofs.Ticks.{tick_has}
 
 -- a turn brings no text
 texts_still : (b : Book) (n : ℕ) (t : Turn) → (changed b (AddTurn n t)).texts ≡ b.texts
@@ -156,6 +161,43 @@ module _ (u : Rules) (b : Book) where
       must_be_takes (nth b.runs n) NoRun (λ r. tested (report_refusal r event attempt v) (takes r))
       (λ r there. tested_takes (report_refusal r event attempt v) (takes r) (input_takes r n at (ActivityCompleted event v) there))
 
+  failed_takes : (r : Run) (n event attempt : ℕ) (reason : Bytes) (at : ℕ) (x : ℕ × ℕ) → nth b.runs n ≡ Some r → Takes (attempt_failed u b r n event attempt reason at x)
+  failed_takes r n event attempt reason at x there =
+      let ready : ℕ = ready_after (max at (moment_of r.history)) x.1 in
+      elim (nat_lt attempt x.0) as (λ t. Takes (if t then retried n event attempt ready else input_recorded u b r n at (ActivityFailed event reason))) [
+        | true ↦ ((r, there), tt)
+        | false ↦ input_takes r n at (ActivityFailed event reason) there
+      ]
+
+  fail_takes : (n event attempt : ℕ) (reason : Bytes) (at : ℕ) → Takes (fail u b n event attempt reason at)
+  unfolding fail
+  fail_takes n event attempt reason at =
+      let fails : Run → Outcome = λ r. if_sound (tries_of (nth r.history event)) (attempt_failed u b r n event attempt reason at) in
+      must_be_takes (nth b.runs n) NoRun (λ r. tested (failure_refusal r event attempt) (fails r))
+      (λ r there. tested_takes (failure_refusal r event attempt) (fails r)
+      (if_sound_takes (tries_of (nth r.history event)) (attempt_failed u b r n event attempt reason at) (λ x e. failed_takes r n event attempt reason at x there)))
+
+  stands_takes : (n text : ℕ) (r : Run) (body : Bytes) (o : Result Configuration (ℕ × Wrong)) → nth b.runs n ≡ Some r → nth b.texts text ≡ Some body → Takes (if_stands n text o)
+  stands_takes n text r body (Ok k) there its = (((r, there), (body, its)), tt)
+  stands_takes n text r body (Err m) there its = tt
+
+  upgrade_takes : (n text : ℕ) → Takes (upgrade u.program_of b n text)
+  unfolding upgrade
+  upgrade_takes n text =
+      let judged : Run → Program → Outcome = λ r p. if_stands n text (verdict p r.history) in
+      let read : Run → Bytes → Outcome = λ r body. if_sound (program_if (u.program_of body)) (judged r) in
+      let goes : Run → Outcome = λ r. must_be (nth b.texts text) NoText (read r) in
+      must_be_takes (nth b.runs n) NoRun (λ r. must_hold (is_open (state_of r.history)) NotOpen (goes r))
+      (λ r there. must_hold_takes (is_open (state_of r.history)) NotOpen (goes r)
+      (must_be_takes (nth b.texts text) NoText (read r)
+      (λ body its. if_sound_takes (program_if (u.program_of body)) (judged r) (λ p e. stands_takes n text r body (verdict p r.history) there its))))
+
+  fired_takes : (at : ℕ) (d : Due) → Takes (fired u b at d)
+  unfolding fired
+  fired_takes at d =
+      let takes : Run → Outcome = λ r. input_recorded u b r d.run at (TimerFired d.id) in
+      if_sound_takes (nth b.runs d.run) takes (λ r there. input_takes r d.run at (TimerFired d.id) there)
+
   terminate_takes : (n : ℕ) (reason : Bytes) (at : ℕ) → Takes (terminate b n reason at)
   unfolding terminate
   terminate_takes n reason at =
@@ -178,12 +220,23 @@ module _ (u : Rules) (b : Book) where
   unfolding history
   history_takes n = must_be_takes (nth b.runs n) NoRun (λ r. says (reply.History r.history)) (λ r e. tt)
 
+joined_welcome : (u : Rules) (b : Book) (cs ds : List Change) → AreWelcome u b cs → AreWelcome u (changed_by b cs) ds → AreWelcome u b (cs ++ ds)
+joined_welcome u b [] ds h more = more
+joined_welcome u b (c ∷ cs) ds h more = (h.0, joined_welcome u (changed b c) cs ds h.1 more)
+
+-- timers that are due fire
+tick_takes : (u : Rules) (b : Book) (at : ℕ) → Takes u b (tick u b at)
+tick_takes u b at = tick_has u at (λ k. Unit {0}) (λ k d h. tt) (AreWelcome u) (λ k. tt) (λ k d h. fired_takes u k at d) (joined_welcome u) b tt
+
 pub changes_welcome : ChangesWelcome
 unfolding outcome
 changes_welcome u b (command.Register body) = register_takes u b body
 changes_welcome u b (command.Start request flow text vs at) = start_takes u b request flow text vs at
 changes_welcome u b (command.Signal request flow name v at) = signal_takes u b request flow name v at
 changes_welcome u b (command.Complete run event attempt v at) = complete_takes u b run event attempt v at
+changes_welcome u b (command.Fail run event attempt reason at) = fail_takes u b run event attempt reason at
+changes_welcome u b (command.Tick at) = tick_takes u b at
 changes_welcome u b (command.Terminate run reason at) = terminate_takes u b run reason at
+changes_welcome u b (command.Upgrade run text) = upgrade_takes u b run text
 changes_welcome u b (command.Describe run) = describe_takes u b run
 changes_welcome u b (command.History run) = history_takes u b run

@@ -4,10 +4,13 @@
 pub mod answer;
 pub mod decide;
 mod description;
+mod failing;
 pub mod laws;
 pub mod programs;
 mod puts;
 mod report;
 mod sending;
 pub mod submission;
+mod ticking;
 mod turns;
+mod upgrading;

@@ -1,5 +1,5 @@
 //! Changes that a command makes: listed, and put into a view.
-ghost use Rattle.std.specs.Prelude.{◌≡◌, ◌⊎◌, ◌∷◌, [], IfOk, OnOk};
+ghost use Rattle.std.specs.Prelude.{◌≡◌, ◌⊎◌, ◌∷◌, ◌++◌, [], IfOk, OnOk};
 ghost use Rattle.flow_machine.specs.Fitting.{HasUnfit};
 ghost use Rattle.flow_model.specs.Book.{changed_by};
 ghost use Rattle.flow_view.specs.Reading.{Caused};
@@ -16,6 +16,16 @@ pub fn one(alloc: Global, change: Change) -> Result<Vec<Change>, AllocError>
     let mut changes = Vec::new(alloc);
     changes.push(change)?;
     Ok(changes)
+}
+
+/// Changes are listed behind others.
+pub fn list_behind(changes: &mut Vec<Change>, more: Vec<Change>) -> Result<(), AllocError>
+    ensures { OnOk result (changes.new.items ≡ changes.old.items ++ more.items) }
+{
+    for change in more {
+        changes.push(change)?;
+    }
+    Ok(())
 }
 
 /// Puts changes into a view, in their order.

@@ -37,6 +37,23 @@ fn gives(events: &[Event], event: EventId, value: &Value) -> bool
     }
 }
 
+/// The first refusal of a failed attempt of an activity.
+#[tactic(auto, unfolding(flow_model::specs::Apply::failure_refusal))]
+pub fn failure_refusal(run: &Run, event: EventId, attempt: u64) -> Option<Code>
+    ensures { result ≡ apply.failure_refusal run.now event attempt }
+{
+    match task_at(run.tasks.as_slice(), event) {
+        None => Some(Code::NotOpen),
+        Some(task) => {
+            if task.attempt != attempt {
+                Some(Code::OldAttempt)
+            } else {
+                None
+            }
+        }
+    }
+}
+
 /// The first refusal of what an attempt of an activity gave.
 #[tactic(auto, unfolding(flow_model::specs::Apply::report_refusal))]
 pub fn report_refusal(run: &Run, event: EventId, attempt: u64, value: &Value) -> Option<Code>

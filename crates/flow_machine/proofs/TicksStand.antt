@@ -1,0 +1,242 @@
+-- Where each run's history stands, a tick is never stuck: what is due first is an open timer of a run, which waits on it, and
+-- what its firing leaves stands again.
+use Rattle.std.proofs.Common.{◌≡◌, ℕ, zero, suc, ◌+◌, ◌-◌, ◌≤◌, List, [], ◌∷◌, ◌++◌, length, max, All, refl, sym, ap, ◌∙◌, subst, arith, Option, Some, None, Bool, true, false, ⊎_elim}
+use Rattle.std.specs.Prelude.{slice_get, slice_set, nat_le, if◌then◌else◌}
+use Rattle.std.proofs.Math.Nat.{le-max_right}
+use Rattle.std.proofs.lemmas.Option.{none-some, same_Some}
+use Rattle.std.proofs.lemmas.List.Elements.{All-push, All-set, All-weaker}
+use Rattle.flow_base.specs.Syntax.{Program}
+use Rattle.flow_base.specs.declared.value.Value.{Value}
+use Rattle.flow_base.specs.declared.event.Cmd.{Cmd}
+use Rattle.flow_base.specs.declared.event.Event.{Event}
+use Rattle.flow_base.specs.declared.event.Input.{Input}
+use Rattle.flow_base.specs.declared.event.Input.TheVariants.{Started, TimerFired, Terminated}
+use Rattle.flow_base.specs.declared.book.Timer.{Timer}
+use Rattle.flow_base.specs.declared.book.Due.{Due}
+use Rattle.flow_base.specs.declared.book.Run.{Run}
+use Rattle.flow_base.specs.declared.book.Turn.{Turn}
+use Rattle.flow_base.specs.declared.book.Change.TheVariants.{AddTurn, AddRun}
+use Rattle.flow_base.specs.declared.command.Reply.TheVariants as reply
+use Rattle.flow_model.specs.Configuration.{Configuration, first_configuration, is_open}
+use Rattle.flow_model.specs.Turn as turn
+use Rattle.flow_model.specs.Turn.{Fresh, is_started}
+use Rattle.flow_model.specs.Turned.{turned, position_of}
+use Rattle.flow_model.specs.Stands.{Leads, Stands}
+use Rattle.flow_model.specs.Open.{open_timers, timers_left, state_of, moment_after, moment_of}
+use Rattle.flow_model.specs.Book.{Book, nth, is_before, lesser, least_of, least_from, least_due, unbegun_run, with_turn, changed, changed_by}
+use Rattle.flow_model.specs.Apply.{Rules, Outcome, if_sound, program_at, first_turn, continued, run_from, next_run, history_limit, turn_made, recorded, input_recorded, fired, firing_limit}
+use Rattle.flow_model.specs.Sound.{IsSoundRun, IsSound}
+use Rattle.flow_model.proofs.Chains.{not_both}
+use Rattle.flow_model.proofs.OneMore.{stands_on, stands_first}
+use Rattle.flow_model.proofs.Positions.{position_computed, turned_is}
+use Rattle.flow_model.proofs.Leaves.{delivered_open, terminates}
+use Rattle.flow_machine.specs.Stuck.{HasMismatch, CantDeliver, CantRecord, where_there, needs, StuckInput, StuckFired, StuckFirings, StuckTick}
+use Rattle.flow_machine.proofs.Places.{get_all, nth_at, nth_place}
+use Rattle.flow_machine.proofs.Changes.{put_run}
+use Rattle.flow_machine.proofs.Waiting.{firing_taken}
+use Rattle.flow_machine.proofs.Keeps.{first_turn_is}
+use Rattle.flow_machine.proofs.Ticks.{fired_book}
+
+---- The timer that is due first
+
+-- it is an open timer of a run
+pub record IsTimer (b : Book) (d : Due) : Type 0 where
+  pub run : Run
+  pub there : nth b.runs d.run ≡ Some run
+  pub place : ℕ
+  pub timer : Timer
+  pub opened : slice_get (open_timers run.history) place ≡ Some timer
+  pub same : timer.id ≡ d.id
+
+module _ (b : Book) (at : ℕ) where
+  abbrev IsFound : Option Due → Type 0
+  IsFound None = Unit {0}
+  IsFound (Some d) = IsTimer b d
+
+  one_of : (t : Bool) (x y : Due) → IsTimer b x → IsTimer b y → IsTimer b (if t then x else y)
+  one_of true x y h i = h
+  one_of false x y h i = i
+
+  lesser_found : (best : Option Due) (d : Due) → IsFound best → IsTimer b d → IsTimer b (lesser best d)
+  lesser_found None d h i = i
+  lesser_found (Some a) d h i = one_of (is_before a d) a d h i
+
+  if_due : (t : Bool) (best : Option Due) (d : Due) → IsFound best → IsTimer b d → IsFound (if t then Some (lesser best d) else best)
+  if_due true best d h i = lesser_found best d h i
+  if_due false best d h i = h
+
+  least_of_found : (run : ℕ) (best : Option Due) (ts : List Timer) → IsFound best
+      → ((i : ℕ) (t : Timer) → slice_get ts i ≡ Some t → IsTimer b (record { due = t.due; run = run; id = t.id })) → IsFound (least_of at run best ts)
+  least_of_found run best [] h f = h
+  least_of_found run best (t ∷ ts) h f =
+      let d : Due = record { due = t.due; run = run; id = t.id } in
+      least_of_found run (if nat_le t.due at then Some (lesser best d) else best) ts (if_due (nat_le t.due at) best d h (f 0 t refl)) (λ i x g. f (suc i) x g)
+
+  left_opened : (o : Bool) (ts : List Timer) (i : ℕ) (t : Timer) → slice_get (if o then ts else []) i ≡ Some t → slice_get ts i ≡ Some t
+  left_opened true ts i t e = e
+  left_opened false ts i t e = absurd (none-some t e)
+
+  least_from_found : (n : ℕ) (best : Option Due) (rs : List Run) → ((i : ℕ) → nth b.runs (n + i) ≡ slice_get rs i) → IsFound best → IsFound (least_from at n best rs)
+  least_from_found n best [] there h = h
+  least_from_found n best (r ∷ rs) there h =
+      let here : n + 0 ≡ n = omega arith in
+      let its : nth b.runs n ≡ Some r = subst (λ j. nth b.runs j ≡ Some r) here (there 0) in
+      least_from_found (n + 1) (least_of at n best (timers_left r.history)) rs
+      (λ i. let next : n + suc i ≡ n + 1 + i = omega arith in subst (λ j. nth b.runs j ≡ slice_get rs i) next (there (suc i)))
+      (least_of_found n best (timers_left r.history) h
+      (λ i t e. record { run = r; there = its; place = i; timer = t; opened = left_opened (is_open (state_of r.history)) (open_timers r.history) i t e; same = refl }))
+
+  pub least_due_found : (d : Due) → least_due b at ≡ Some d → IsTimer b d
+  least_due_found d e = subst IsFound e (least_from_found 1 None b.runs (λ i. nth_at b.runs (1 + i) i (omega arith)) tt)
+
+---- Runs whose histories stand
+
+pub record IsStanding (u : Rules) (b : Book) (r : Run) : Type 0 where
+  pub program : Program
+  pub its_text : program_at u.program_of b r.text ≡ Some program
+  pub place : Configuration
+  pub stands : Stands program r.history place
+
+abbrev pub Standing : Rules → Book → Type 0
+Standing u b = All (IsStanding u b) b.runs
+
+pub sound_stands : (u : Rules) (b : Book) → IsSound u b → Standing u b
+sound_stands u b h = All-weaker (IsSoundRun u b) (IsStanding u b) (λ r s. record { program = s.program; its_text = s.its_text; place = s.place; stands = s.stands }) b.runs h.runs
+
+-- a history's last moment is that of the place to which it leads
+leads_moment : (p : Program) (n : ℕ) (due : List Cmd) (k : Configuration) (h : List Event) (k' : Configuration) → Leads p n due k h k' → moment_after k.moment h ≡ k'.moment
+leads_moment p n due k [] k' l = ap (λ (q : Configuration). q.moment) l.1
+leads_moment p n [] k (d ∷ later) k' l =
+    let a = l.1.1.0 in
+    ap (λ (m : ℕ). moment_after m later) (sym (ap (λ (q : Configuration). q.moment) a.2.2.leaves)) ∙ leads_moment p (suc n) l.0 l.1.0 later k' l.1.1.1
+leads_moment p n (c ∷ due) k (d ∷ later) k' l =
+    let a = l.1.1.0 in
+    ap (λ (m : ℕ). moment_after m later) (a.1 ∙ ap (λ (q : Configuration). q.moment) (sym a.4)) ∙ leads_moment p (suc n) l.0 l.1.0 later k' l.1.1.1
+
+stands_moment : (p : Program) (h : List Event) (k : Configuration) → Stands p h k → moment_of h ≡ k.moment
+stands_moment p h k s = leads_moment p 1 [] first_configuration h k s.1
+
+module _ (u : Rules) where
+  -- texts are as they were
+  kept_run : (b : Book) (rs : List Run) (r : Run) → IsStanding u b r → IsStanding u (record b { runs = rs }) r
+  kept_run b rs r s = record { program = s.program; its_text = s.its_text; place = s.place; stands = s.stands }
+
+  standing_run : (b : Book) (q : Run) → Standing u b → IsStanding u b q → Standing u (record b { runs = b.runs ++ q ∷ [] })
+  standing_run b q h s =
+      let rs = b.runs ++ q ∷ [] in
+      let new : Book = record b { runs = rs } in
+      All-push (IsStanding u new) b.runs q (All-weaker (IsStanding u b) (IsStanding u new) (kept_run b rs) b.runs h) (kept_run b rs q s)
+
+  standing_put : (b : Book) (n : ℕ) (q : Run) → Standing u b → IsStanding u b q → Standing u (put_run b n q)
+  standing_put b n q h s =
+      let rs = slice_set b.runs (n - 1) q in
+      let new = put_run b n q in
+      All-set (IsStanding u new) b.runs (n - 1) q (kept_run b rs q s) (All-weaker (IsStanding u b) (IsStanding u new) (kept_run b rs) b.runs h)
+
+  abbrev Stays : Book → Outcome → Type 0
+  Stays b o = Standing u (changed_by b o.changes)
+
+  if_sound_stays : {A : Type 0} (b : Book) (o : Option A) (next : A → Outcome) → Standing u b → ((x : A) → o ≡ Some x → Stays b (next x)) → Stays b (if_sound o next)
+  if_sound_stays b None next h f = h
+  if_sound_stays b (Some x) next h f = f x refl
+
+  ---- A run takes an input
+
+  module _ (b : Book) (h : Standing u b) (n : ℕ) (r : Run) (there : nth b.runs n ≡ Some r) (p : Program) (text : program_at u.program_of b r.text ≡ Some p) (k : Configuration) (stands : Stands p r.history k) where
+    put : (t : Turn) → changed b (AddTurn n t) ≡ put_run b n (with_turn t r)
+    put t = ap (λ (o : Option Run). elim o [ None ↦ b | Some q ↦ put_run b n (with_turn t q) ]) there
+
+    turn_stays : (t : Turn) (k2 : Configuration) → k.moment ≤ t.at → turn.Turn p Fresh k t.at t.input t.commands k2 → Standing u (put_run b n (with_turn t r))
+    turn_stays t k2 le made =
+        standing_put b n (with_turn t r) h (record { program = p; its_text = text; place = k2; stands = stands_on p r.history k t.at t.input t.commands k2 stands le made })
+
+    run_stays : (new : Book) (at : ℕ) (vs : List Value) (o : Option Turn) → first_turn p at vs ≡ o → program_at u.program_of new r.text ≡ Some p → Standing u new → Standing u (changed_by new (run_from r o))
+    run_stays new at vs None e its s = s
+    run_stays new at vs (Some t) e its s =
+        let first = first_turn_is p at vs t e in
+        standing_run new (with_turn t (unbegun_run r.flow None r.text)) s
+        (record { program = p; its_text = its; place = first.0; stands = stands_first p t.at t.input t.commands first.0 first.1 })
+
+    next_stays : (new : Book) (at : ℕ) (o : Option (List Value)) → program_at u.program_of new r.text ≡ Some p → Standing u new → Standing u (changed_by new (next_run p r at o))
+    next_stays new at None its s = s
+    next_stays new at (Some vs) its s = run_stays new at vs (first_turn p at vs) refl its s
+
+    made_stays : (limit at : ℕ) (i : Input) (cs : List Cmd) (k2 : Configuration) → k.moment ≤ at → is_started i ≡ false → turn.Turn p Fresh k at i cs k2 → Stays b (turn_made limit p r n at i cs)
+    made_stays limit at i cs k2 le f made =
+        let t : Turn = record { at = at; input = i; commands = cs } in
+        let full : Turn = record { at = at; input = Terminated history_limit; commands = [] } in
+        let ends = terminates p k at history_limit (delivered_open p k i made.start f made.delivered) in
+        elim (nat_le (length r.history + 1 + length cs) limit) as (λ x. Stays b (
+        if x
+        then record { reply = reply.Recorded n (length r.history + 1); changes = AddTurn n t ∷ next_run p r at (continued cs) }
+        else record { reply = reply.Full n (length r.history + 1); changes = AddTurn n full ∷ [] })) [
+          | true ↦ subst (λ (x : Book). Standing u (changed_by x (next_run p r at (continued cs)))) (sym (put t))
+              (next_stays (put_run b n (with_turn t r)) at (continued cs) text (turn_stays t k2 le made))
+          | false ↦ subst (Standing u) (sym (put full)) (turn_stays full ends.0 le ends.1)
+        ]
+
+  recorded_stays : (b : Book) (n : ℕ) (r : Run) (p : Program) (at : ℕ) (i : Input) → Standing u b → nth b.runs n ≡ Some r → program_at u.program_of b r.text ≡ Some p → is_started i ≡ false
+      → Stays b (recorded u.limit p r n at i)
+  unfolding recorded
+  recorded_stays b n r p at i h there text f =
+      let its : IsStanding u b r = get_all (IsStanding u b) b.runs (n - 1) r (nth_place b.runs n r there) h in
+      let same : its.program ≡ p = same_Some its.program p (sym its.its_text ∙ text) in
+      let stands : Stands p r.history its.place = subst (λ (q : Program). Stands q r.history its.place) same its.stands in
+      let now : ℕ = max at (moment_of r.history) in
+      let later : its.place.moment ≤ now = subst (λ m. m ≤ now) (stands_moment p r.history its.place stands) (le-max_right at (moment_of r.history)) in
+      if_sound_stays b (position_of p r.history) (λ k. if_sound (turned p Fresh k now i) (λ t. turn_made u.limit p r n now i t.0)) h
+      (λ k e.
+      let at_place : its.place ≡ k = same_Some its.place k (sym (position_computed p r.history its.place stands) ∙ e) in
+      if_sound_stays b (turned p Fresh k now i) (λ t. turn_made u.limit p r n now i t.0) h
+      (λ t g.
+      made_stays b h n r there p text k (subst (λ (q : Configuration). Stands p r.history q) at_place stands) u.limit now i t.0 t.1
+      (subst (λ (q : Configuration). q.moment ≤ now) at_place later) f (turned_is p Fresh k now i t.0 t.1 g)))
+
+  fired_stays : (at : ℕ) (b : Book) (d : Due) → Standing u b → Standing u (fired_book u at b d)
+  unfolding fired input_recorded
+  fired_stays at b d h =
+      if_sound_stays b (nth b.runs d.run) (λ r. if_sound (program_at u.program_of b r.text) (λ p. recorded u.limit p r d.run at (TimerFired d.id))) h
+      (λ r there. if_sound_stays b (program_at u.program_of b r.text) (λ p. recorded u.limit p r d.run at (TimerFired d.id)) h
+      (λ p text. recorded_stays b d.run r p at (TimerFired d.id) h there text refl))
+
+  ---- It is never stuck
+
+  -- a run that stands takes the firing of its open timer
+  fires : (b : Book) (r : Run) (p : Program) (place n : ℕ) (t : Timer) → IsStanding u b r → program_at u.program_of b r.text ≡ Some p → slice_get (open_timers r.history) place ≡ Some t → t.id ≡ n
+      → CantRecord p r.history (TimerFired n) → ⊥
+  fires b r p place n t its text opened is =
+      let same : its.program ≡ p = same_Some its.program p (sym its.its_text ∙ text) in
+      let stands : Stands p r.history its.place = subst (λ (q : Program). Stands q r.history its.place) same its.stands in
+      ⊎_elim (λ (m : HasMismatch p r.history). not_both p r.history its.place m.0 m.1.0 m.1.1 stands)
+      (λ (c : CantDeliver p r.history (TimerFired n)).
+      let none = subst (λ m. CantDeliver p r.history (TimerFired m)) (sym is) c in
+      firing_taken p r.history none.0 place t none.1.0 opened none.1.1)
+
+  needs_not : {A : Type 0} (o : Option A) (X : A → Type 0) (x : A) → o ≡ Some x → (X x → ⊥) → needs o X → ⊥
+  needs_not None X x e f h = none-some x e
+  needs_not (Some y) X x e f h = f (subst X (same_Some y x e) h)
+
+  firing_goes_on : (b : Book) (d : Due) → Standing u b → IsTimer b d → StuckFired u.program_of b d → ⊥
+  unfolding StuckFired StuckInput
+  firing_goes_on b d h it =
+      let r = it.run in
+      let its : IsStanding u b r = get_all (IsStanding u b) b.runs (d.run - 1) r (nth_place b.runs d.run r it.there) h in
+      let cant = λ (q : Run) (p : Program). CantRecord p q.history (TimerFired d.id) in
+      needs_not (nth b.runs d.run) (λ q. needs (program_at u.program_of b q.text) (cant q)) r it.there
+      (needs_not (program_at u.program_of b r.text) (cant r) its.program its.its_text (fires b r its.program it.place d.id it.timer its its.its_text it.opened it.same))
+
+  where_not : {A : Type 0} (o : Option A) (X : A → Type 0) → ((x : A) → o ≡ Some x → X x → ⊥) → where_there o X → ⊥
+  where_not None X f h = h
+  where_not (Some x) X f h = f x refl h
+
+  firings_go_on : (at n : ℕ) (b : Book) → Standing u b → StuckFirings u at n b → ⊥
+  unfolding StuckFirings
+  firings_go_on at zero b h stuck = stuck
+  firings_go_on at (suc n) b h stuck =
+      where_not (least_due b at) _
+      (λ d e. ⊎_elim (λ (s : StuckFired u.program_of b d). firing_goes_on b d h (least_due_found b at d e) s)
+      (λ (s : StuckFirings u at n (fired_book u at b d)). firings_go_on at n (fired_book u at b d) (fired_stays at b d h) s)) stuck
+
+  pub tick_goes_on : (b : Book) (at : ℕ) → IsSound u b → StuckTick u b at → ⊥
+  unfolding StuckTick
+  tick_goes_on b at h stuck = firings_go_on at firing_limit b (sound_stands u b h) stuck

@@ -1,0 +1,43 @@
+//! Another text of a run: the run goes on under it where its history stands under it.
+ghost use Rattle.std.specs.Prelude.{IfOk};
+ghost use Rattle.flow_check.specs.Shown.{shown_checked};
+ghost use Rattle.flow_machine.specs.Deciding.{Gives};
+ghost use Rattle.flow_model.specs.Apply as apply;
+ghost use Rattle.flow_model.specs.Verdict.{verdict};
+ghost use Rattle.flow_view.specs.Reading.{Caused};
+
+use crate::puts::one;
+use flow_base::book::Change;
+use flow_base::command::Reply;
+use flow_base::event::Event;
+use flow_base::number::{RunId, TextNo};
+use flow_check::checked::Checked;
+use flow_match::fault::ReplayFault;
+use flow_match::replay::replay;
+use flow_view::fault::ViewFault;
+use std::alloc::Global;
+
+/// A run of this history goes on under a text, or the first mismatch is told.
+pub fn upgraded(
+    alloc: Global,
+    program: &Checked,
+    number: RunId,
+    text: TextNo,
+    events: &[Event],
+) -> Result<(Reply, Vec<Change>), ViewFault>
+    ensures gives { IfOk result (λ x. Gives x.0 x.1.items (apply.if_stands number text (verdict (shown_checked program.now) events.now))) }
+    ensures cause { Caused result ⊥ }
+{
+    match replay(alloc, program, events) {
+        Ok(stance) => {
+            // Let go here, so that no way out has it.
+            drop(stance);
+            let changes = one(alloc, Change::SetText(number, text))?;
+            Ok((Reply::Upgraded(number, text), changes))
+        }
+        Err(ReplayFault::NoMemory) => Err(ViewFault::NoMemory),
+        Err(ReplayFault::Mismatch { event, name }) => {
+            Ok((Reply::Mismatch(event, name), Vec::new(alloc)))
+        }
+    }
+}
