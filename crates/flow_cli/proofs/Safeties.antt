@@ -21,10 +21,11 @@ wrapped_same : (p p' q q' : Program) → p ≡ q → p' ≡ q' → Wrap q q' →
 wrapped_same p p' q q' e e' w = subst (λ x. Wrap x p') (sym e) (subst (λ x'. Wrap q x') (sym e') w)
 
 pub means_wrap : (m m' : Result Program TextFault) (n : ℕ) → n ≡ safety_status (safety_of m m') → (n ≡ 0) ↔ MeansWrap m m'
-means_wrap (Ok p) (Ok p') n s =
-    ((λ z. (p, (p', (refl, refl, (difference_decides p p').0 (no_difference (first_difference p p') (sym s ∙ z)))))),
-    (λ w. s ∙ ap (λ o. safety_status (of_difference o))
-    ((difference_decides p p').1 (wrapped_same p p' w.0 w.1.0 (ap (program_in p) w.1.1.0) (ap (program_in p') w.1.1.1) w.1.1.2))))
+means_wrap (Ok p) (Ok p') n s = (
+  (λ z. (p, (p', (refl, refl, (difference_decides p p').0 (no_difference (first_difference p p') (sym s ∙ z)))))),
+  (λ w. s ∙ ap (λ o. safety_status (of_difference o))
+      ((difference_decides p p').1 (wrapped_same p p' w.0 w.1.0 (ap (program_in p) w.1.1.0) (ap (program_in p') w.1.1.1) w.1.1.2))),
+)
 means_wrap (Err f) (Ok p') n s = ((λ z. absurd (omega (arith, s, z))), (λ w. absurd (true≢false (sym (ap is_ok w.1.1.0)))))
 means_wrap (Ok p) (Err f') n s = ((λ z. absurd (omega (arith, s, z))), (λ w. absurd (true≢false (sym (ap is_ok w.1.1.1)))))
 means_wrap (Err f) (Err f') n s = ((λ z. absurd (omega (arith, s, z))), (λ w. absurd (true≢false (sym (ap is_ok w.1.1.0)))))
