@@ -61,7 +61,13 @@ fn safe(rt: &HostRuntime, old: &str, new: &str) -> Result<u8, Stopped> {
     let old = text_in(rt, old)?;
     let new = text_in(rt, new)?;
     let mut writer = io::writer(rt);
-    tell_safety(rt.alloc(), &Language, &mut writer, old.as_str(), new.as_str())
+    tell_safety(
+        rt.alloc(),
+        &Language,
+        &mut writer,
+        old.as_str(),
+        new.as_str(),
+    )
 }
 
 fn over_file(rt: &HostRuntime, file: &str, work: &Work) -> Result<u8, Stopped> {

@@ -6,6 +6,7 @@ pub mod Commands
 pub mod Replies
 pub mod Lines
 pub mod Runs
+pub mod Safeties
 pub mod Answering
 pub mod Batches
 pub mod Stopping
