@@ -3,9 +3,9 @@ use Rattle.std.specs.Prelude.{◌≡◌, ◌∷◌, ◌+◌, ◌^◌, ◌≤◌,
 use Rattle.std.specs.List.{list_any}
 use Rattle.std.proofs.lemmas.Bool.{cases_Bool}
 use Rattle.std.proofs.lemmas.Bool.Decides.{Decides-int_eq}
-use Rattle.flow_tables.proofs.Names.{Book, Tells, Task, task_row, with_task, without_task, with_task_in_place, is_other_task, SetAttempt, SetText, after_change, Tables, OutboxRow, State, AllByRecursion, Bool, List, MatchResult, Option, false, filter, int_eq, pos, true, ℕ, ℤ, [], refl, Err, Ok, Result, Some, None, Changes, IsOver, IsRefused, IsStill, tables_in, AreOurs, nth, Run, Refusal, subst, ◌∙◌, sym, ap, inl, inr, true≢false, IsCutShort, Because, IsUnfit, IsStopped}
+use Rattle.flow_tables.proofs.Names.{Book, Tells, Task, task_row, with_task, without_task, is_other_task, Tables, OutboxRow, State, AllByRecursion, Bool, List, MatchResult, Option, false, filter, int_eq, pos, true, ℕ, ℤ, [], refl, Err, Ok, Result, Some, None, Changes, IsOver, IsRefused, IsStill, tables_in, AreOurs, nth, Run, Refusal, subst, ◌∙◌, sym, ap, inl, inr, true≢false, IsCutShort, Because, IsUnfit, IsStopped}
 use Rattle.sqlite.specs.Tree.{Trees}
-use Rattle.flow_rows.specs.Changes.{task_id, at_run}
+use Rattle.flow_rows.specs.Changes.{task_id, at_run, with_task_in_place}
 use Rattle.flow_rows.proofs.Behind.{run_there, no_rows_yet}
 use Rattle.flow_sql.specs.Coming.{HasRun, IsWelcomeTask}
 use Rattle.flow_sql.specs.Stored.{AreUtf8}

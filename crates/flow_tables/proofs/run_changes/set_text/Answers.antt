@@ -1,6 +1,7 @@
-use Rattle.flow_tables.proofs.Names.{SetText, state, tables_in, inl, inr}
+use Rattle.flow_tables.proofs.Names.{state, tables_in, inl, inr}
 use Rattle.flow_rows.proofs.Behind.{runs_short}
 use Rattle.flow_tables.proofs.Stopping.{by_error}
+use Rattle.flow_base.specs.declared.book.Change.TheVariants.{SetText}
 use Rattle.flow_tables.proofs.Wholes.{text_or_past, as_welcome, unwelcome}
 use Rattle.flow_tables.proofs.run_changes.set_text.Goals as goal
 
