@@ -126,7 +126,11 @@ fn add_signalled(alloc: Global, tables: &mut Memory) -> Result<(), &'static str>
 }
 
 /// The run and the event of the signal of a request in flow `f`; zeros where there is none.
-fn signalled(alloc: Global, tables: &mut Memory, request: &str) -> Result<(u64, u64), &'static str> {
+fn signalled(
+    alloc: Global,
+    tables: &mut Memory,
+    request: &str,
+) -> Result<(u64, u64), &'static str> {
     let flow = key(alloc, "f")?;
     let request = key(alloc, request)?;
     match tables.signalled(&flow, &request) {

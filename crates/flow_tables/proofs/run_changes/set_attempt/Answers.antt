@@ -5,16 +5,20 @@ use Rattle.flow_tables.proofs.run_changes.set_attempt.Goals as goal
 
 pub returns-then-not-is_there-clause-put : goal.returns-then-not-is_there-clause-put
 returns-then-not-is_there-clause-put g c b tells holds clean =
-    let found = c.in-Ok.ensures.finds holds clean in
-    (tt, no_task_set (state g.S.Store c.args.conn.now) (state g.S.Store c.find_task.new.conn) (pos c.args.run) (record { event = c.args.event; attempt = c.args.attempt; ready = c.args.ready }) found.0
-    (sym c.if-not-is_there.true ∙ found.1))
+    let found = c.in-Ok.ensures.finds holds clean in (
+      tt,
+      no_task_set (state g.S.Store c.args.conn.now) (state g.S.Store c.find_task.new.conn) (pos c.args.run) (record { event = c.args.event; attempt = c.args.attempt; ready = c.args.ready }) found.0
+          (sym c.if-not-is_there.true ∙ found.1),
+    )
 
 pub returns-in-Ok-put_again-clause-put : goal.returns-in-Ok-put_again-clause-put
 returns-in-Ok-put_again-clause-put g c b tells holds clean =
     let cm = c.put_again.ensures.clean clean in
-    let found = c.in-Ok.ensures.finds holds cm in
-    (tt, task_set (state g.S.Store c.args.conn.now) (state g.S.Store c.find_task.new.conn) (state g.S.Store c.put_again.new.conn) (pos c.args.run) (record { event = c.args.event; attempt = c.args.attempt; ready = c.args.ready })
-    (holds (c.find_task.ensures.clean cm)).now.ours found.0 (sym c.if-not-is_there.false ∙ found.1) (c.in-Ok-put_again.ensures.put (λ _. found.0.0) clean))
+    let found = c.in-Ok.ensures.finds holds cm in (
+      tt,
+      task_set (state g.S.Store c.args.conn.now) (state g.S.Store c.find_task.new.conn) (state g.S.Store c.put_again.new.conn) (pos c.args.run) (record { event = c.args.event; attempt = c.args.attempt; ready = c.args.ready })
+          (holds (c.find_task.ensures.clean cm)).now.ours found.0 (sym c.if-not-is_there.false ∙ found.1) (c.in-Ok-put_again.ensures.put (λ _. found.0.0) clean),
+    )
 
 pub returns-in-Err-put_again-clause-cause : goal.returns-in-Err-put_again-clause-cause
 returns-in-Err-put_again-clause-cause g c b tells holds clean =
