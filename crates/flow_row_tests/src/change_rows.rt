@@ -114,6 +114,14 @@ fn timers_and_tasks_have_rows(rt: HostRuntime) -> Result<(), Fail> {
 }
 
 #[test]
+fn a_later_attempt_has_its_row(rt: HostRuntime) -> Result<(), Fail> {
+    let id = number_of_event(2)?;
+    let task = change_rows::task_row(run_number(3)?, id, 4, moment(1500)?);
+    assert!(rt; task.run == 3 && task.id == 2 && task.attempt == 4 && task.ready == 1500);
+    Ok(())
+}
+
+#[test]
 fn a_text_has_its_row(rt: HostRuntime) -> Result<(), Fail> {
     let alloc = rt.alloc();
     let number = TextNo::new(2).ok_or(AllocError)?;

@@ -8,6 +8,8 @@ mod change_rows;
 #[cfg(test)]
 mod damages;
 #[cfg(test)]
+mod dues;
+#[cfg(test)]
 mod recall;
 #[cfg(test)]
 mod store;

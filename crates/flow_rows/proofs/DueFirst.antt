@@ -1,8 +1,7 @@
 -- The timer that is due first by the rows, in whatever order they lie, is the one that is due first by the book.
 use Rattle.std.proofs.Common.{◌≡◌, ℕ, zero, suc, ◌+◌, ◌≤◌, ◌<◌, ℤ, pos, negsuc, List, [], ◌∷◌, map, filter, Bool, true, false, ◌&&◌, ◌||◌, if◌then◌else◌, Option, Some, None, nat_eq, slice_get, refl, sym, ap, ◌∙◌, subst, inl, inr, true≢false, arith}
-use Rattle.std.specs.Prelude.{◌⊎◌, int_le, nat_lt, nat_le}
+use Rattle.std.specs.Prelude.{◌⊎◌, nat_lt, nat_le}
 use Rattle.std.specs.List.{AllByRecursion}
-use Rattle.std.specs.Ordering.{int_eq}
 use Rattle.std.specs.Cmp.Derive.{both_true}
 use Rattle.std.proofs.lemmas.Bool.{cases_Bool, ltb-true, leb-true, leb-false, le-leb, lt-ltb, eqb-true, eq-eqb}
 use Rattle.std.proofs.lemmas.Bool.Decides.{Decides-int_eq}
@@ -14,7 +13,7 @@ use Rattle.flow_model.specs.Book.{Book, is_before, lesser, least_of, least_from,
 use Rattle.flow_model.specs.Configuration.{is_open}
 use Rattle.flow_model.specs.Open.{open_timers, timers_left, state_of}
 use Rattle.flow_rows.specs.declared.rows.TimerRow.{TimerRow}
-use Rattle.flow_rows.specs.Rows.{Tables, rows_of, timers_of, is_timer_of, timer_row, run_at, of_run}
+use Rattle.flow_rows.specs.Rows.{Tables, rows_of, timers_of, is_timer_of, timer_row, of_run}
 use Rattle.flow_rows.specs.Told.{IsTold, Tells}
 use Rattle.flow_rows.specs.Dues.{is_timer, due_of, due_in, with_due, least_of_rows}
 use Rattle.flow_rows.proofs.BookTables.{nth_is}
@@ -40,10 +39,13 @@ before_so a b h = elim (one_of (nat_lt a.due b.due) _ h) [
   | inl less ↦ inl (ltb-true a.due b.due less)
   | inr more ↦
       let same = two_of (nat_eq a.due b.due) _ more in
-      inr (eqb-true a.due b.due same.0, elim (one_of (nat_lt a.run b.run) _ same.1) [
-        | inl less ↦ inl (ltb-true a.run b.run less)
-        | inr last ↦ let alike = two_of (nat_eq a.run b.run) _ last in inr (eqb-true a.run b.run alike.0, ltb-true a.id b.id alike.1)
-      ])
+      inr (
+        eqb-true a.due b.due same.0,
+        elim (one_of (nat_lt a.run b.run) _ same.1) [
+          | inl less ↦ inl (ltb-true a.run b.run less)
+          | inr last ↦ let alike = two_of (nat_eq a.run b.run) _ last in inr (eqb-true a.run b.run alike.0, ltb-true a.id b.id alike.1)
+        ],
+      )
 ]
 
 or_later : (v w : Bool) → w ≡ true → (v || w) ≡ true
@@ -104,14 +106,22 @@ module _ (at : ℕ) where
   ])
 
   lesser_of : (S : Due → Type 0) (m x : Due) (v : Bool) → is_before m x ≡ v → x.due ≤ at → IsLeast at S (Some m) → IsLeast at (And S x) (Some (if v then m else x))
-  lesser_of S m x true is by h = (inl h.0, h.1, λ d it by' before. elim it [
-    | inl it ↦ h.2 d it by' before
-    | inr same ↦ not_both m x (before_so m x is) (subst (λ y. Before y m) same before)
-  ])
-  lesser_of S m x false is by h = (inr refl, by, λ d it by' before. elim it [
-    | inl it ↦ still_before d x m (h.2 d it by') before (not_before m x is)
-    | inr same ↦ never_itself x (subst (λ y. Before y x) same before)
-  ])
+  lesser_of S m x true is by h = (
+    inl h.0,
+    h.1,
+    λ d it by' before. elim it [
+      | inl it ↦ h.2 d it by' before
+      | inr same ↦ not_both m x (before_so m x is) (subst (λ y. Before y m) same before)
+    ],
+  )
+  lesser_of S m x false is by h = (
+    inr refl,
+    by,
+    λ d it by' before. elim it [
+      | inl it ↦ still_before d x m (h.2 d it by') before (not_before m x is)
+      | inr same ↦ never_itself x (subst (λ y. Before y x) same before)
+    ],
+  )
 
   one_more : (S : Due → Type 0) (best : Option Due) (x : Due) → IsLeast at S best → IsLeast at (And S x) (with_due at best (Some x))
   one_more S best x h = elim (cases_Bool (nat_le x.due at)) [
@@ -120,10 +130,14 @@ module _ (at : ℕ) where
   ]
     where
       first : (best : Option Due) → x.due ≤ at → IsLeast at S best → IsLeast at (And S x) (Some (lesser best x))
-      first None by h = (inr refl, by, λ d it by' before. elim it [
-        | inl it ↦ h d it by'
-        | inr same ↦ never_itself x (subst (λ y. Before y x) same before)
-      ])
+      first None by h = (
+        inr refl,
+        by,
+        λ d it by' before. elim it [
+          | inl it ↦ h d it by'
+          | inr same ↦ never_itself x (subst (λ y. Before y x) same before)
+        ],
+      )
       first (Some m) by h = lesser_of S m x (is_before m x) refl by h
 
 ---- What is in a list

@@ -4,6 +4,8 @@
 #[cfg(test)]
 mod changes;
 #[cfg(test)]
+mod found;
+#[cfg(test)]
 mod opening;
 #[cfg(test)]
 mod reads;

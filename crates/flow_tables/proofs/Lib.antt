@@ -16,3 +16,4 @@ pub mod Misreading
 pub mod Texts
 pub mod Questioned
 pub mod Signalled
+pub mod Altering

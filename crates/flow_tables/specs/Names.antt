@@ -3,7 +3,7 @@
 pub use Rattle.flow_base.specs.Effects.{effect_of}
 pub use Rattle.flow_base.specs.Syntax.{Bytes}
 pub use Rattle.flow_base.specs.declared.book.Change.{Change}
-pub use Rattle.flow_base.specs.declared.book.Change.TheVariants.{AddRun, AddText, AddTurn}
+pub use Rattle.flow_base.specs.declared.book.Change.TheVariants.{AddRun, AddText, AddTurn, SetAttempt, SetText}
 pub use Rattle.flow_base.specs.declared.book.Run.{Run}
 pub use Rattle.flow_base.specs.declared.book.Task.{Task}
 pub use Rattle.flow_base.specs.declared.book.Turn.{Turn}
@@ -20,7 +20,7 @@ pub use Rattle.flow_model.specs.Book.{Book, nth, no_book, changed}
 pub use Rattle.flow_model.specs.Configuration.{is_open}
 pub use Rattle.flow_model.specs.Open.{state_of}
 pub use Rattle.flow_model.specs.Turned.{traces, turn_events}
-pub use Rattle.flow_rows.specs.Changes.{is_other_task, marked, marked_row, with_event, with_run, with_text, with_timer, without_tasks, without_timers, with_task, without_task, without_timer}
+pub use Rattle.flow_rows.specs.Changes.{is_other_task, marked, marked_row, with_event, with_run, with_text, with_timer, without_tasks, without_timers, with_task, without_task, without_timer, under_text, with_task_in_place}
 pub use Rattle.flow_rows.specs.Damages.{first_damage}
 pub use Rattle.flow_rows.specs.Finding.{first, is_run_at, last_number, number_of_run, number_of_text}
 pub use Rattle.flow_rows.specs.Rows.{by_run, event_row, of_run, open_number, run_row, task_row, timer_row, timers_left}

@@ -1,0 +1,67 @@
+-- What changes of a run beside its turns: the text that it goes on under, and the attempt at an activity.
+use Rattle.std.specs.Prelude.{◌≡◌, ◌∷◌, ◌+◌, ◌^◌, ◌≤◌, ◌<◌, not}
+use Rattle.std.specs.List.{list_any}
+use Rattle.std.proofs.lemmas.Bool.{cases_Bool}
+use Rattle.std.proofs.lemmas.Bool.Decides.{Decides-int_eq}
+use Rattle.flow_tables.proofs.Names.{Book, Tells, Task, task_row, with_task, without_task, is_other_task, Tables, OutboxRow, State, AllByRecursion, Bool, List, MatchResult, Option, false, filter, int_eq, pos, true, ℕ, ℤ, [], refl, Err, Ok, Result, Some, None, Changes, IsOver, IsRefused, IsStill, tables_in, AreOurs, nth, Run, Refusal, subst, ◌∙◌, sym, ap, inl, inr, true≢false, IsCutShort, Because, IsUnfit, IsStopped}
+use Rattle.sqlite.specs.Tree.{Trees}
+use Rattle.flow_rows.specs.Changes.{task_id, at_run, with_task_in_place}
+use Rattle.flow_rows.proofs.Behind.{run_there, no_rows_yet}
+use Rattle.flow_sql.specs.Coming.{HasRun, IsWelcomeTask}
+use Rattle.flow_sql.specs.Stored.{AreUtf8}
+use Rattle.flow_sql.proofs.InPlace.{HasTask, task_in_place, no_task_in_place}
+use Rattle.flow_tables.specs.Puts.{is_task_at, has_task}
+use Rattle.flow_tables.proofs.Parts.{both, refused_first, cut_later}
+use Rattle.flow_tables.proofs.Wholes.{still_then, still_cut}
+
+---- An activity goes, and comes again
+
+no_other : (id : ℤ) (rows : List OutboxRow) → AllByRecursion (λ (x : OutboxRow). int_eq x.id id ≡ false) (filter (is_other_task id) rows)
+no_other id [] = tt
+no_other id (x ∷ rows) = elim (cases_Bool (int_eq x.id id)) [
+  | inl same ↦ rw same (no_other id rows)
+  | inr other ↦ rw other (other, no_other id rows)
+]
+
+left_new : (run id : ℤ) (t : Tables) → AllByRecursion (λ (x : OutboxRow). int_eq x.id id ≡ false) ((without_task run id t).outbox run)
+left_new run id t = let here : int_eq run run ≡ true = (Decides-int_eq run run).1 refl in rw here (no_other id (t.outbox run))
+
+-- its row is new once it has gone
+pub comes_again : (run : ℤ) (task : Task) (row : OutboxRow) (t u : Tables) → row ≡ task_row run task → u ≡ without_task run (pos task.event) t → HasRun run t → IsWelcomeTask row u
+comes_again run task row t u is left has =
+    subst (λ x. IsWelcomeTask x u) (sym is) (subst (λ v. IsWelcomeTask (task_row run task) v) (sym left) (record { parent = has; fresh = left_new run (pos task.event) t }))
+
+pub put_after : {E : Type 0} (old mid new : State) (run : ℤ) (task : Task) (row : OutboxRow) (t : Tables) (r : Result Unit E) → row ≡ task_row run task → Changes old mid t
+    → MatchResult r (λ _. Changes mid new (with_task row (tables_in mid.now.trees))) (λ _. IsRefused true mid new) → MatchResult r (λ _. Changes old new (with_task (task_row run task) t)) (λ _. IsCutShort old new)
+put_after old mid new run task row t (Ok u) is first second = subst (λ x. Changes old new (with_task x t)) is (both old mid new t (with_task row) first second)
+put_after old mid new run task row t (Err e) is first second = cut_later old mid new t first (refused_first mid new second)
+
+---- An activity that is looked for
+
+-- the run of an activity is there
+pub run_of_task : (t : Tables) (b : Book) (n : ℕ) (id : ℤ) → Tells t b → true ≡ has_task (pos n) id t → HasRun (pos n) t
+run_of_task t b n id tells there = by_run (nth b.runs n) refl
+  where
+    by_run : (o : Option Run) → nth b.runs n ≡ o → HasRun (pos n) t
+    by_run (Some r) is = run_there t b n r tells is
+    by_run None is = absurd (true≢false (there ∙ ap (λ rows. list_any (is_task_at id) rows) (no_rows_yet t b n tells is).2))
+
+pub run_still : (old mid : State) (run : ℤ) → IsStill true old mid → HasRun run (tables_in old.now.trees) → HasRun run (tables_in mid.now.trees)
+run_still old mid run still has = subst (λ d. HasRun run (tables_in d.trees)) (sym still.1) has
+
+-- nothing changes where it isn't there
+pub no_task_set : (old mid : State) (run : ℤ) (task : Task) → IsStill true old mid → false ≡ has_task run (pos task.event) (tables_in old.now.trees) → Changes old mid (with_task_in_place (task_row run task) (tables_in old.now.trees))
+no_task_set old mid run task still none =
+    record {
+      over = still.0;
+      tables = ap (λ d. tables_in d.trees) still.1 ∙ sym (no_task_in_place (tables_in old.now.trees) (task_row run task) (sym none));
+      committed = still.2;
+      utf8 = λ utf8. subst (λ d. AreUtf8 (tables_in d.trees)) (sym still.1) utf8;
+    }
+
+-- and where it is there, its row is in its place
+pub task_set : (old mid new : State) (run : ℤ) (task : Task) → AreOurs old.now.trees → IsStill true old mid → true ≡ has_task run (pos task.event) (tables_in old.now.trees)
+    → Changes mid new (with_task (task_row run task) (without_task run (pos task.event) (tables_in mid.now.trees))) → Changes old new (with_task_in_place (task_row run task) (tables_in old.now.trees))
+task_set old mid new run task ours still there done =
+    let whole = still_then old mid new (λ t. with_task (task_row run task) (without_task run (pos task.event) t)) still done in
+    subst (Changes old new) (task_in_place old.now.trees ours (task_row run task) (sym there)) whole
