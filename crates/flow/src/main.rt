@@ -11,6 +11,7 @@ use flow_cli::check::tell_verdict;
 use flow_cli::drive::Stopped;
 use flow_cli::ending::ended;
 use flow_cli::fault::fault_of_error;
+use flow_cli::safety::tell_safety;
 use flow_cli::work::{Work, perform_here};
 use std::process::ExitCode;
 use std::{env, fs, io};
@@ -35,18 +36,38 @@ fn run(rt: &HostRuntime) -> Result<u8, Stopped> {
 fn answer(rt: &HostRuntime, call: &Call<'_>) -> Result<u8, Stopped> {
     match call {
         Call::Check(file) => check(rt, file),
+        Call::Safe { old, new } => safe(rt, old, new),
         Call::Over("-", work) => over_memory(rt, work),
         Call::Over(file, work) => over_file(rt, file, work),
     }
 }
 
+/// The text of a program file.
+fn text_in(rt: &HostRuntime, file: &str) -> Result<String, Stopped> {
+    match fs::read_to_string(rt, file) {
+        Ok(text) => Ok(text),
+        Err(error) => Err(Stopped::Refused(fault_of_error(error.kind(), Fault::NoFile))),
+    }
+}
+
 fn check(rt: &HostRuntime, file: &str) -> Result<u8, Stopped> {
-    let text = match fs::read_to_string(rt, file) {
-        Ok(text) => text,
-        Err(error) => return Err(Stopped::Refused(fault_of_error(error.kind(), Fault::NoFile))),
-    };
+    let text = text_in(rt, file)?;
     let mut writer = io::writer(rt);
     tell_verdict(rt.alloc(), &Language, &mut writer, text.as_str())
+}
+
+/// Both files are read before one is checked.
+fn safe(rt: &HostRuntime, old: &str, new: &str) -> Result<u8, Stopped> {
+    let old = text_in(rt, old)?;
+    let new = text_in(rt, new)?;
+    let mut writer = io::writer(rt);
+    tell_safety(
+        rt.alloc(),
+        &Language,
+        &mut writer,
+        old.as_str(),
+        new.as_str(),
+    )
 }
 
 fn over_file(rt: &HostRuntime, file: &str, work: &Work) -> Result<u8, Stopped> {

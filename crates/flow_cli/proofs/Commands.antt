@@ -9,9 +9,10 @@ use Rattle.serde_json.specs.Find.{as_object}
 use Rattle.serde_json.specs.Read.{read}
 use Rattle.flow_base.specs.declared.command.Command.{Command}
 use Rattle.flow_base.specs.declared.command.Command.TheVariants as command
-use Rattle.flow_base.specs.Limits.{IsMoment, IsPosition, IsKey, IsText, FitsValue, FitsList}
-use Rattle.flow_base.proofs.Exact.{IsExactTable, map_some, nothing_exact, with_exact, whole_exact, text_exact, any_text_exact, value_exact, values_exact, fixed_exact, as_object_back}
-use Rattle.flow_cli.specs.Commands.{register, start, signal, complete, terminate, describe, history, members_out, members_in, command_out, command_in, line_command, verb_in, IsCommand}
+use Rattle.flow_base.specs.Limits.{IsMoment, IsPosition, IsKey, IsText, FitsValue, FitValues}
+use Rattle.flow_base.proofs.Exact.{IsExactTable, map_some, nothing_exact, with_exact, whole_exact, text_exact, any_text_exact, value_exact, fixed_exact, as_object_back}
+use Rattle.flow_cli.proofs.Arguments.{arguments_exact}
+use Rattle.flow_cli.specs.Commands.{register, start, signal, complete, fail, tick, terminate, upgrade, describe, history, members_out, members_in, command_out, command_in, line_command, verb_in, IsCommand}
 use Rattle.flow_cli.specs.Faults.{GivesCommand, GivesLine}
 use Rattle.flow_cli.specs.declared.command.LineFault.{LineFault}
 use Rattle.flow_cli.specs.declared.command.LineFault.TheVariants as fault
@@ -21,9 +22,9 @@ use Rattle.flow_cli.specs.declared.command.Verb.TheVariants as verb
 register_exact : IsExactTable register (λ p. Unit {0} × (Unit {0} × Unit {0}))
 register_exact = with_exact _ _ _ _ _ (fixed_exact _) (with_exact _ _ _ _ _ any_text_exact nothing_exact)
 
-start_exact : IsExactTable start (λ p. FitsList p.0 × (IsMoment p.1.0 × (Unit {0} × (IsKey p.1.1.1.0 × (IsKey p.1.1.1.1.0 × (IsPosition p.1.1.1.1.1.0 × Unit {0}))))))
+start_exact : IsExactTable start (λ p. FitValues p.0 × (IsMoment p.1.0 × (Unit {0} × (IsKey p.1.1.1.0 × (IsKey p.1.1.1.1.0 × (IsPosition p.1.1.1.1.1.0 × Unit {0}))))))
 start_exact =
-    with_exact _ _ _ _ _ values_exact (with_exact _ _ _ _ _ (whole_exact _ _) (with_exact _ _ _ _ _ (fixed_exact _) (with_exact _ _ _ _ _ (text_exact _ _)
+    with_exact _ _ _ _ _ arguments_exact (with_exact _ _ _ _ _ (whole_exact _ _) (with_exact _ _ _ _ _ (fixed_exact _) (with_exact _ _ _ _ _ (text_exact _ _)
     (with_exact _ _ _ _ _ (text_exact _ _) (with_exact _ _ _ _ _ (whole_exact _ _) nothing_exact)))))
 
 signal_exact : IsExactTable signal (λ p. IsMoment p.0 × (Unit {0} × (IsKey p.1.1.0 × (Unit {0} × (IsKey p.1.1.1.1.0 × (FitsValue p.1.1.1.1.1.0 × Unit {0}))))))
@@ -36,10 +37,21 @@ complete_exact =
     with_exact _ _ _ _ _ (whole_exact _ _) (with_exact _ _ _ _ _ (whole_exact _ _) (with_exact _ _ _ _ _ (fixed_exact _) (with_exact _ _ _ _ _ (whole_exact _ _)
     (with_exact _ _ _ _ _ (whole_exact _ _) (with_exact _ _ _ _ _ value_exact nothing_exact)))))
 
+fail_exact : IsExactTable fail (λ p. IsMoment p.0 × (IsPosition p.1.0 × (Unit {0} × (IsPosition p.1.1.1.0 × (IsText p.1.1.1.1.0 × (IsPosition p.1.1.1.1.1.0 × Unit {0}))))))
+fail_exact =
+    with_exact _ _ _ _ _ (whole_exact _ _) (with_exact _ _ _ _ _ (whole_exact _ _) (with_exact _ _ _ _ _ (fixed_exact _) (with_exact _ _ _ _ _ (whole_exact _ _)
+    (with_exact _ _ _ _ _ (text_exact _ _) (with_exact _ _ _ _ _ (whole_exact _ _) nothing_exact)))))
+
+tick_exact : IsExactTable tick (λ p. IsMoment p.0 × (Unit {0} × Unit {0}))
+tick_exact = with_exact _ _ _ _ _ (whole_exact _ _) (with_exact _ _ _ _ _ (fixed_exact _) nothing_exact)
+
 terminate_exact : IsExactTable terminate (λ p. IsMoment p.0 × (Unit {0} × (IsText p.1.1.0 × (IsPosition p.1.1.1.0 × Unit {0}))))
 terminate_exact =
     with_exact _ _ _ _ _ (whole_exact _ _) (with_exact _ _ _ _ _ (fixed_exact _) (with_exact _ _ _ _ _ (text_exact _ _)
     (with_exact _ _ _ _ _ (whole_exact _ _) nothing_exact)))
+
+upgrade_exact : IsExactTable upgrade (λ p. Unit {0} × (IsPosition p.1.0 × (IsPosition p.1.1.0 × Unit {0})))
+upgrade_exact = with_exact _ _ _ _ _ (fixed_exact _) (with_exact _ _ _ _ _ (whole_exact _ _) (with_exact _ _ _ _ _ (whole_exact _ _) nothing_exact))
 
 describe_exact : IsExactTable describe (λ p. Unit {0} × (IsPosition p.1.0 × Unit {0}))
 describe_exact = with_exact _ _ _ _ _ (fixed_exact _) (with_exact _ _ _ _ _ (whole_exact _ _) nothing_exact)
@@ -55,7 +67,10 @@ members_back verb.Register ms c e = map_some _ (register.read ms) c e (λ p read
 members_back verb.Start ms c e = map_some _ (start.read ms) c e (λ p reads is. along ms _ c is (start_exact.back ms p reads))
 members_back verb.Signal ms c e = map_some _ (signal.read ms) c e (λ p reads is. along ms _ c is (signal_exact.back ms p reads))
 members_back verb.Complete ms c e = map_some _ (complete.read ms) c e (λ p reads is. along ms _ c is (complete_exact.back ms p reads))
+members_back verb.Fail ms c e = map_some _ (fail.read ms) c e (λ p reads is. along ms _ c is (fail_exact.back ms p reads))
+members_back verb.Tick ms c e = map_some _ (tick.read ms) c e (λ p reads is. along ms _ c is (tick_exact.back ms p reads))
 members_back verb.Terminate ms c e = map_some _ (terminate.read ms) c e (λ p reads is. along ms _ c is (terminate_exact.back ms p reads))
+members_back verb.Upgrade ms c e = map_some _ (upgrade.read ms) c e (λ p reads is. along ms _ c is (upgrade_exact.back ms p reads))
 members_back verb.Describe ms c e = map_some _ (describe.read ms) c e (λ p reads is. along ms _ c is (describe_exact.back ms p reads))
 members_back verb.History ms c e = map_some _ (history.read ms) c e (λ p reads is. along ms _ c is (history_exact.back ms p reads))
 
@@ -73,7 +88,11 @@ command_there (command.Signal req flow name v at) f =
     rw (signal_exact.there (at, (tt, (flow, (name, (req, (v, tt)))))) (f.3, (tt, (f.1, (tt, (f.0, (f.2, tt))))))) refl
 command_there (command.Complete run event attempt v at) f =
     rw (complete_exact.there (at, (attempt, (tt, (event, (run, (v, tt)))))) (f.4, (f.2, (tt, (f.1, (f.0, (f.3, tt))))))) refl
+command_there (command.Fail run event attempt reason at) f =
+    rw (fail_exact.there (at, (attempt, (tt, (event, (reason, (run, tt)))))) (f.4, (f.2, (tt, (f.1, (f.3, (f.0, tt))))))) refl
+command_there (command.Tick at) f = rw (tick_exact.there (at, (tt, tt)) (f, (tt, tt))) refl
 command_there (command.Terminate run reason at) f = rw (terminate_exact.there (at, (tt, (reason, (run, tt)))) (f.2, (tt, (f.1, (f.0, tt))))) refl
+command_there (command.Upgrade run text) f = rw (upgrade_exact.there (tt, (run, (text, tt))) (tt, (f.0, (f.1, tt)))) refl
 command_there (command.Describe run) f = rw (describe_exact.there (tt, (run, tt)) (tt, (f, tt))) refl
 command_there (command.History run) f = rw (history_exact.there (tt, (run, tt)) (tt, (f, tt))) refl
 

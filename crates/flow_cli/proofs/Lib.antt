@@ -1,10 +1,12 @@
 pub mod Faults
 pub mod Endings
 pub mod Rows
+pub mod Arguments
 pub mod Commands
 pub mod Replies
 pub mod Lines
 pub mod Runs
+pub mod Safeties
 pub mod Answering
 pub mod Batches
 pub mod Stopping

@@ -1,5 +1,5 @@
 -- The bytes of replies.
-use Rattle.std.proofs.Common.{◌≡◌, ℕ, List, [], ◌∷◌, map, false, refl}
+use Rattle.std.proofs.Common.{◌≡◌, ℕ, List, [], ◌∷◌, map, true, false, refl}
 use Rattle.serde_json.specs.Written.{has_float, items_have_float, compact_text}
 use Rattle.serde_json.specs.View.{items_of}
 use Rattle.serde_json.proofs.OnLiterals.{serde_json_on_literals}
@@ -25,10 +25,14 @@ reply_plain (reply.Started run) = refl
 reply_plain (reply.Recorded run event) = refl
 reply_plain (reply.Duplicate run) = refl
 reply_plain (reply.DuplicateSignal run event) = refl
+reply_plain (reply.Retry run attempt from) = refl
+reply_plain (reply.Fired count more) = refl
+reply_plain (reply.Upgraded run text) = refl
 reply_plain (reply.Run d) = rw (numbers_plain d.activities, numbers_plain d.timers) refl
 reply_plain (reply.History es) = rw (events_plain es) refl
 reply_plain (reply.Refused c) = refl
 reply_plain (reply.BadText f) = refl
+reply_plain (reply.Mismatch event wrong) = refl
 reply_plain (reply.Full run event) = refl
 
 pub line_plain : (l : Line) → has_float (line_out l) ≡ false
@@ -43,10 +47,15 @@ reply_bytes (reply.Started run) = refl
 reply_bytes (reply.Recorded run event) = refl
 reply_bytes (reply.Duplicate run) = refl
 reply_bytes (reply.DuplicateSignal run event) = refl
+reply_bytes (reply.Retry run attempt from) = refl
+reply_bytes (reply.Fired count true) = refl
+reply_bytes (reply.Fired count false) = refl
+reply_bytes (reply.Upgraded run text) = refl
 reply_bytes (reply.Run d) = refl
 reply_bytes (reply.History es) = refl
 reply_bytes (reply.Refused c) = refl
 reply_bytes (reply.BadText f) = refl
+reply_bytes (reply.Mismatch event wrong) = refl
 reply_bytes (reply.Full run event) = refl
 
 pub line_bytes : (l : Line) → compact_text (line_out l) ≡ line_text l

@@ -6,7 +6,7 @@ use Rattle.clap.specs.Simple.{on_top}
 use Rattle.clap.specs.ValueTests.{is_unsigned_in}
 use Rattle.std.specs.Str.Parse.{digits_value, without_leading_plus}
 
--- ---- the program: `flow check FILE`, `flow drive DB [--batch N]` and `flow history DB RUN`
+-- ---- the program: `flow check FILE`, `flow drive DB [--batch N]`, `flow history DB RUN` and `flow safe OLD NEW`
 
 -- an argument with one value, which has to be there
 abbrev pub needed : Text → Rule
@@ -17,6 +17,15 @@ file = needed (codes "FILE")
 
 abbrev pub check : App
 check = with_rule (new_app (codes "check")) file
+
+abbrev pub old_file : Rule
+old_file = needed (codes "OLD")
+
+abbrev pub new_file : Rule
+new_file = needed (codes "NEW")
+
+abbrev pub safe : App
+safe = with_rule (with_rule (new_app (codes "safe")) old_file) new_file
 
 abbrev pub base : Rule
 base = needed (codes "DB")
@@ -34,13 +43,18 @@ run = needed (codes "RUN")
 abbrev pub history : App
 history = with_rule (with_rule (new_app (codes "history")) base) run
 
+-- the program with the calls that read texts alone
+abbrev pub over_texts : App
+over_texts = with_subcommand (with_subcommand (on_top (λ s. record s { subcommand_required = true }) (new_app (codes "flow"))) check.top) safe.top
+
 abbrev pub flow : App
-flow = with_subcommand (with_subcommand (with_subcommand (on_top (λ s. record s { subcommand_required = true }) (new_app (codes "flow"))) check.top) drive.top) history.top
+flow = with_subcommand (with_subcommand over_texts drive.top) history.top
 
 -- ---- a call, without where its texts lie in memory
 
 pub data Call : Type 0 where
   Check : Text → Call
+  Safe : (old new : Text) → Call
   Drive : Text → ℕ → Call
   History : Text → ℕ → Call
 
@@ -54,6 +68,9 @@ run_in word = number_in 9223372036854775807 word
 abbrev pub batch_in : Text → Option ℕ
 batch_in word = number_in 64 word
 
+abbrev pub safe_in : List Row → Option Call
+safe_in rows = option_and_then (λ old. option_map (Safe old) (first_of (codes "NEW") rows)) (first_of (codes "OLD") rows)
+
 abbrev pub drive_in : List Row → Option Call
 drive_in rows = option_and_then (λ base. option_and_then (λ word. option_map (Drive base) (batch_in word)) (first_of (codes "batch") rows)) (first_of (codes "DB") rows)
 
@@ -64,7 +81,8 @@ abbrev pub named_call : Text → List Row → Option Call
 named_call name rows =
     if bytes_eq name (codes "check") then option_map Check (first_of (codes "FILE") rows) else
     (if bytes_eq name (codes "drive") then drive_in rows else
-    (if bytes_eq name (codes "history") then history_in rows else None))
+    (if bytes_eq name (codes "history") then history_in rows else
+    (if bytes_eq name (codes "safe") then safe_in rows else None)))
 
 -- the call that clap's matches of the words are
 abbrev pub call_in : List Text → Option Call

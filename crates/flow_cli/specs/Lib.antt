@@ -1,9 +1,11 @@
 pub mod Faults
 pub mod Calls
 pub mod Shown
+pub mod Arguments
 pub mod Commands
 pub mod Replies
 pub mod Verdicts
+pub mod Safety
 pub mod Driving
 pub mod Answering
 pub mod Stopping

@@ -1,10 +1,10 @@
 -- Lines of replies: what is written for one line that was read.
-use Rattle.std.specs.Prelude.{ℕ, List, map, ◌++◌, codes, decimal}
-use Rattle.serde_json.specs.Data.{Data, object, array, number, unsigned, string, member, no_members, item, no_items}
+use Rattle.std.specs.Prelude.{ℕ, List, map, ◌++◌, true, false, codes, decimal}
+use Rattle.serde_json.specs.Data.{Data, object, array, boolean, number, unsigned, string, member, no_members, item, no_items}
 use Rattle.json.specs.Print.{quoted}
 use Rattle.serde_json.specs.View.{items_of}
 use Rattle.serde_json.specs.Written.{compact_text}
-use Rattle.flow_base.specs.Codes.{code_text}
+use Rattle.flow_base.specs.Codes.{code_text, wrong_code}
 use Rattle.flow_base.specs.declared.code.Code.{Code}
 use Rattle.flow_base.specs.declared.command.Description.{Description}
 use Rattle.flow_base.specs.declared.command.Reply.{Reply}
@@ -62,11 +62,21 @@ reply_out (reply.Recorded run event) = object (
 reply_out (reply.Duplicate run) = object (member (codes "reply") (string (codes "duplicate")) (member (codes "run") (whole_out run) no_members))
 reply_out (reply.DuplicateSignal run event) = object (
     member (codes "event") (whole_out event) (member (codes "reply") (string (codes "duplicate")) (member (codes "run") (whole_out run) no_members)))
+reply_out (reply.Retry run attempt from) = object (
+    member (codes "attempt") (whole_out attempt) (member (codes "from") (whole_out from) (
+    member (codes "reply") (string (codes "retry")) (member (codes "run") (whole_out run) no_members))))
+reply_out (reply.Fired count more) = object (
+    member (codes "count") (whole_out count) (member (codes "more") (boolean more) (member (codes "reply") (string (codes "fired")) no_members)))
+reply_out (reply.Upgraded run text) = object (
+    member (codes "reply") (string (codes "upgraded")) (member (codes "run") (whole_out run) (member (codes "text") (whole_out text) no_members)))
 reply_out (reply.Run d) = run_out d
 reply_out (reply.History es) = object (member (codes "events") (events_out es) (member (codes "reply") (string (codes "history")) no_members))
 reply_out (reply.Refused c) = refused_out c
 reply_out (reply.BadText f) = object (
     member (codes "at") (whole_out f.at) (member (codes "code") (string (code_text f.code)) (member (codes "reply") (string (codes "refused")) no_members)))
+reply_out (reply.Mismatch event wrong) = object (
+    member (codes "code") (string (codes "E68")) (member (codes "event") (whole_out event) (
+    member (codes "name") (string (code_text (wrong_code wrong))) (member (codes "reply") (string (codes "refused")) no_members))))
 reply_out (reply.Full run event) = object (
     member (codes "code") (string (codes "E69")) (member (codes "event") (whole_out event) (
     member (codes "reply") (string (codes "refused")) (member (codes "run") (whole_out run) no_members))))
@@ -84,6 +94,11 @@ reply_text (reply.Started run) = codes "{\"reply\":\"started\",\"run\":" ++ (dec
 reply_text (reply.Recorded run event) = codes "{\"event\":" ++ (decimal event ++ (codes ",\"reply\":\"recorded\",\"run\":" ++ (decimal run ++ codes "}")))
 reply_text (reply.Duplicate run) = codes "{\"reply\":\"duplicate\",\"run\":" ++ (decimal run ++ codes "}")
 reply_text (reply.DuplicateSignal run event) = codes "{\"event\":" ++ (decimal event ++ (codes ",\"reply\":\"duplicate\",\"run\":" ++ (decimal run ++ codes "}")))
+reply_text (reply.Retry run attempt from) =
+    codes "{\"attempt\":" ++ (decimal attempt ++ (codes ",\"from\":" ++ (decimal from ++ (codes ",\"reply\":\"retry\",\"run\":" ++ (decimal run ++ codes "}")))))
+reply_text (reply.Fired count true) = codes "{\"count\":" ++ (decimal count ++ codes ",\"more\":true,\"reply\":\"fired\"}")
+reply_text (reply.Fired count false) = codes "{\"count\":" ++ (decimal count ++ codes ",\"more\":false,\"reply\":\"fired\"}")
+reply_text (reply.Upgraded run text) = codes "{\"reply\":\"upgraded\",\"run\":" ++ (decimal run ++ (codes ",\"text\":" ++ (decimal text ++ codes "}")))
 reply_text (reply.Run d) =
     codes "{\"activities\":" ++ (compact_text (numbers_out d.activities)
     ++ (codes ",\"events\":" ++ (decimal d.events
@@ -94,6 +109,8 @@ reply_text (reply.Run d) =
 reply_text (reply.History es) = codes "{\"events\":" ++ (compact_text (events_out es) ++ codes ",\"reply\":\"history\"}")
 reply_text (reply.Refused c) = codes "{\"code\":" ++ (quoted (code_text c) ++ codes ",\"reply\":\"refused\"}")
 reply_text (reply.BadText f) = codes "{\"at\":" ++ (decimal f.at ++ (codes ",\"code\":" ++ (quoted (code_text f.code) ++ codes ",\"reply\":\"refused\"}")))
+reply_text (reply.Mismatch event wrong) =
+    codes "{\"code\":\"E68\",\"event\":" ++ (decimal event ++ (codes ",\"name\":" ++ (quoted (code_text (wrong_code wrong)) ++ codes ",\"reply\":\"refused\"}")))
 reply_text (reply.Full run event) =
     codes "{\"code\":\"E69\",\"event\":" ++ (decimal event ++ (codes ",\"reply\":\"refused\",\"run\":" ++ (decimal run ++ codes "}")))
 

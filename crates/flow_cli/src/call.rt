@@ -3,7 +3,7 @@ ghost use Rattle.std.specs.Prelude.{◌≡◌, ◌⊎◌, IfOk, IfErr, false, ma
 ghost use Rattle.clap.specs.Words.{app_of, rule_of, found_of, rows_of, first_of, subcommand_rows_of};
 ghost use Rattle.clap.specs.declared.builder.command.Command.TheViews.{out-Command as fields_of};
 ghost use Rattle.clap.specs.declared.error.kind.ErrorKind.TheVariants.{OutOfMemory};
-ghost use Rattle.flow_cli.specs.Calls.{flow, check, drive, history, needed, batch, run_in, batch_in, drive_in, history_in, named_call, IsCall};
+ghost use Rattle.flow_cli.specs.Calls.{flow, over_texts, check, safe, drive, history, needed, batch, run_in, batch_in, safe_in, drive_in, history_in, named_call, IsCall};
 ghost use Rattle.flow_cli.specs.Calls.{Call as Pure};
 ghost use Rattle.flow_cli.specs.Shown.{shown};
 
@@ -21,6 +21,8 @@ use std::convert::AsStr;
 pub enum Call<'a> {
     /// Check the text in this file.
     Check(&'a str),
+    /// Tell whether the change from the text in the first file to that in the second is safe.
+    Safe { old: &'a str, new: &'a str },
     /// Do this over this store; `-` is a store in memory, which begins with no run.
     Over(&'a str, Work),
 }
@@ -38,6 +40,17 @@ fn check_command<'a>(alloc: Global) -> Result<Command<'a>, AllocError>
     ensures local { IfOk result (λ c. (fields_of c).has_globals ≡ false) }
 {
     Ok(Command::new(alloc, "check").arg(needed_arg(alloc, "FILE"))?)
+}
+
+fn safe_command<'a>(alloc: Global) -> Result<Command<'a>, AllocError>
+    ensures app { IfOk result (λ c. app_of c ≡ safe) }
+    ensures local { IfOk result (λ c. (fields_of c).has_globals ≡ false) }
+{
+    Ok(
+        Command::new(alloc, "safe")
+            .arg(needed_arg(alloc, "OLD"))?
+            .arg(needed_arg(alloc, "NEW"))?,
+    )
 }
 
 /// How many commands are applied together; one where nothing is said.
@@ -73,19 +86,27 @@ fn history_command<'a>(alloc: Global) -> Result<Command<'a>, AllocError>
     )
 }
 
-fn flow_command<'a>(alloc: Global) -> Result<Command<'a>, AllocError>
-    ensures app { IfOk result (λ c. app_of c ≡ flow) }
+/// The program with the calls that read texts alone.
+fn text_command<'a>(alloc: Global) -> Result<Command<'a>, AllocError>
+    ensures app { IfOk result (λ c. app_of c ≡ over_texts) }
 {
     let check = check_command(alloc)?;
-    let drive = drive_command(alloc)?;
-    let history = history_command(alloc)?;
+    let safe = safe_command(alloc)?;
     Ok(
         Command::new(alloc, "flow")
             .subcommand_required(true)
             .subcommand(check)?
-            .subcommand(drive)?
-            .subcommand(history)?,
+            .subcommand(safe)?,
     )
+}
+
+fn flow_command<'a>(alloc: Global) -> Result<Command<'a>, AllocError>
+    ensures app { IfOk result (λ c. app_of c ≡ flow) }
+{
+    let drive = drive_command(alloc)?;
+    let history = history_command(alloc)?;
+    let texts = text_command(alloc)?;
+    Ok(texts.subcommand(drive)?.subcommand(history)?)
 }
 
 #[tactic(auto, using(crate::proofs::Rows::first_in_rows))]
@@ -115,6 +136,14 @@ fn batch_of(word: &str) -> Option<BatchSize>
     }
 }
 
+fn safe_call<'a>(found: &ArgMatches<'a>) -> Option<Call<'a>>
+    ensures { option_map shown result ≡ safe_in (rows_of (found_of found.now)) }
+{
+    let old = text_of(found, "OLD")?;
+    let new = text_of(found, "NEW")?;
+    Some(Call::Safe { old, new })
+}
+
 fn drive_call<'a>(found: &ArgMatches<'a>) -> Option<Call<'a>>
     ensures { option_map shown result ≡ drive_in (rows_of (found_of found.now)) }
 {
@@ -141,6 +170,7 @@ fn named_call<'a>(name: &str, found: &ArgMatches<'a>) -> Option<Call<'a>>
         },
         "drive" => drive_call(found),
         "history" => history_call(found),
+        "safe" => safe_call(found),
         _ => None,
     }
 }

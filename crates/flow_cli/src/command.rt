@@ -1,14 +1,17 @@
 //! Command lines.
-ghost use Rattle.std.specs.Prelude.{◌≡◌, Some, None, Ok, Err, IfOk, IsUtf8, option_and_then};
+ghost use Rattle.std.specs.Prelude.{◌≡◌, Some, None, Ok, Err, IfOk, IsUtf8, codes, option_and_then};
 ghost use Rattle.serde_json.specs.Read.{read};
 ghost use Rattle.serde_json.specs.View.{view};
+ghost use Rattle.flow_base.specs.Codec.{field};
 ghost use Rattle.flow_base.specs.Fields.{left};
 ghost use Rattle.flow_base.specs.Gives.{Gives};
+ghost use Rattle.flow_base.specs.Leaves.{position};
 ghost use Rattle.flow_base.specs.declared.command.Command.{Command};
 ghost use Rattle.flow_cli.specs.Commands.{verb_named, verb_in, members_in, command_in, command_out, line_command, IsCommand};
 ghost use Rattle.flow_cli.specs.Faults.{GivesCommand, GivesLine, line_fault_code};
 ghost use Rattle.flow_cli.specs.declared.command.Verb.TheVariants as verb;
 
+use crate::start::start_of;
 use flow_base::code::Code;
 use flow_base::command::Command;
 use flow_base::fields::{Fields, Refused};
@@ -23,7 +26,10 @@ pub enum Verb {
     Start,
     Signal,
     Complete,
+    Fail,
+    Tick,
     Terminate,
+    Upgrade,
     Describe,
     History,
 }
@@ -38,7 +44,10 @@ impl Verb {
             "start" => Some(Verb::Start),
             "signal" => Some(Verb::Signal),
             "complete" => Some(Verb::Complete),
+            "fail" => Some(Verb::Fail),
+            "tick" => Some(Verb::Tick),
             "terminate" => Some(Verb::Terminate),
+            "upgrade" => Some(Verb::Upgrade),
             "describe" => Some(Verb::Describe),
             "history" => Some(Verb::History),
             _ => None,
@@ -90,19 +99,6 @@ fn register_of(alloc: Global, mut fields: Fields) -> Result<Command, Refused>
     Ok(Command::Register(src))
 }
 
-fn start_of(alloc: Global, mut fields: Fields) -> Result<Command, Refused>
-    ensures { Gives (λ c. c) result (members_in verb.Start (left fields)) }
-{
-    let args = fields.values(alloc, "args")?;
-    let at = fields.moment("at")?;
-    fields.fixed("do", "start")?;
-    let flow = fields.key(alloc, "flow")?;
-    let request = fields.key(alloc, "req")?;
-    let text = fields.text_number("text")?;
-    fields.finish()?;
-    Ok(Command::Start(request, flow, text, args, at))
-}
-
 fn signal_of(alloc: Global, mut fields: Fields) -> Result<Command, Refused>
     ensures { Gives (λ c. c) result (members_in verb.Signal (left fields)) }
 {
@@ -116,17 +112,45 @@ fn signal_of(alloc: Global, mut fields: Fields) -> Result<Command, Refused>
     Ok(Command::Signal(request, flow, name, value, at))
 }
 
+fn attempt_of(fields: &mut Fields) -> Result<u64, Refused>
+    ensures { Gives (λ n. (n, left fields.new)) result (field (codes "attempt") position (left fields.old)) }
+{
+    fields.whole("attempt", 1, LAST_NUMBER)
+}
+
 fn complete_of(alloc: Global, mut fields: Fields) -> Result<Command, Refused>
     ensures { Gives (λ c. c) result (members_in verb.Complete (left fields)) }
 {
     let at = fields.moment("at")?;
-    let attempt = fields.whole("attempt", 1, LAST_NUMBER)?;
+    let attempt = attempt_of(&mut fields)?;
     fields.fixed("do", "complete")?;
     let event = fields.event("event")?;
     let run = fields.run("run")?;
     let value = fields.value(alloc, "value")?;
     fields.finish()?;
     Ok(Command::Complete(run, event, attempt, value, at))
+}
+
+fn fail_of(alloc: Global, mut fields: Fields) -> Result<Command, Refused>
+    ensures { Gives (λ c. c) result (members_in verb.Fail (left fields)) }
+{
+    let at = fields.moment("at")?;
+    let attempt = attempt_of(&mut fields)?;
+    fields.fixed("do", "fail")?;
+    let event = fields.event("event")?;
+    let reason = fields.text(alloc, "reason")?;
+    let run = fields.run("run")?;
+    fields.finish()?;
+    Ok(Command::Fail(run, event, attempt, reason, at))
+}
+
+fn tick_of(mut fields: Fields) -> Result<Command, Refused>
+    ensures { Gives (λ c. c) result (members_in verb.Tick (left fields)) }
+{
+    let at = fields.moment("at")?;
+    fields.fixed("do", "tick")?;
+    fields.finish()?;
+    Ok(Command::Tick(at))
 }
 
 fn terminate_of(alloc: Global, mut fields: Fields) -> Result<Command, Refused>
@@ -138,6 +162,16 @@ fn terminate_of(alloc: Global, mut fields: Fields) -> Result<Command, Refused>
     let run = fields.run("run")?;
     fields.finish()?;
     Ok(Command::Terminate(run, reason, at))
+}
+
+fn upgrade_of(mut fields: Fields) -> Result<Command, Refused>
+    ensures { Gives (λ c. c) result (members_in verb.Upgrade (left fields)) }
+{
+    fields.fixed("do", "upgrade")?;
+    let run = fields.run("run")?;
+    let text = fields.text_number("text")?;
+    fields.finish()?;
+    Ok(Command::Upgrade(run, text))
 }
 
 fn describe_of(mut fields: Fields) -> Result<Command, Refused>
@@ -168,15 +202,17 @@ fn of_json(alloc: Global, json: Json) -> Result<Command, Refused>
     ensures { Gives (λ c. c) result (command_in (view json)) }
 {
     let verb = verb_of(&json).ok_or(Refused::Unfit)?;
-    let fields = Fields::of_json(json)?;
     match verb {
-        Verb::Register => register_of(alloc, fields),
-        Verb::Start => start_of(alloc, fields),
-        Verb::Signal => signal_of(alloc, fields),
-        Verb::Complete => complete_of(alloc, fields),
-        Verb::Terminate => terminate_of(alloc, fields),
-        Verb::Describe => describe_of(fields),
-        Verb::History => history_of(fields),
+        Verb::Register => register_of(alloc, Fields::of_json(json)?),
+        Verb::Start => start_of(alloc, json),
+        Verb::Signal => signal_of(alloc, Fields::of_json(json)?),
+        Verb::Complete => complete_of(alloc, Fields::of_json(json)?),
+        Verb::Fail => fail_of(alloc, Fields::of_json(json)?),
+        Verb::Tick => tick_of(Fields::of_json(json)?),
+        Verb::Terminate => terminate_of(alloc, Fields::of_json(json)?),
+        Verb::Upgrade => upgrade_of(Fields::of_json(json)?),
+        Verb::Describe => describe_of(Fields::of_json(json)?),
+        Verb::History => history_of(Fields::of_json(json)?),
     }
 }
 

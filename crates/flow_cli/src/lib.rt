@@ -10,4 +10,6 @@ pub mod ending;
 pub mod fault;
 pub mod history;
 pub mod reply;
+pub mod safety;
+mod start;
 pub mod work;

@@ -12,6 +12,13 @@ fn is_check(alloc: Global, words: &[&str], file: &str) -> bool {
     }
 }
 
+fn is_safe(alloc: Global, words: &[&str], first: &str, second: &str) -> bool {
+    match &call_of(alloc, words) {
+        Ok(Call::Safe { old, new }) => *old == first && *new == second,
+        _ => false,
+    }
+}
+
 fn is_drive(alloc: Global, words: &[&str], base: &str, most: u64) -> bool {
     match &call_of(alloc, words) {
         Ok(Call::Over(found, Work::Drive(size))) => *found == base && size.get() == most,
@@ -34,6 +41,7 @@ fn is_usage(alloc: Global, words: &[&str]) -> bool {
 fn calls(rt: HostRuntime) -> Result<(), Fail> {
     let a = rt.alloc();
     assert!(rt; is_check(a, &["flow", "check", "a.flow"], "a.flow"));
+    assert!(rt; is_safe(a, &["flow", "safe", "a", "b"], "a", "b"));
     assert!(rt; is_drive(a, &["flow", "drive", "-"], "-", 1));
     assert!(rt; is_drive(a, &["flow", "drive", "--", "-"], "-", 1));
     assert!(rt; is_drive(a, &["flow", "drive", "-", "--batch", "64"], "-", 64));
@@ -74,12 +82,15 @@ fn other_words_are_no_size(rt: HostRuntime) -> Result<(), Fail> {
 
 #[test]
 fn other_words_are_no_call(rt: HostRuntime) -> Result<(), Fail> {
-    let calls: [&[&str]; 12] = [
+    let calls: [&[&str]; 15] = [
         &["flow", "history", "a.db"],
         &["flow", "check", "--help"],
         &["flow", "help", "check"],
         &["flow", "drive", "-x"],
         &["flow", "check"],
+        &["flow", "safe"],
+        &["flow", "safe", "a"],
+        &["flow", "safe", "a", "b", "c"],
         &["flow", "drive"],
         &["flow", "-h"],
         &["flow", "--version"],

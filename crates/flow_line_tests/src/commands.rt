@@ -54,12 +54,56 @@ fn other_lines_are_no_command(rt: HostRuntime) -> Result<(), Fail> {
         b"{\"do\":\"describe\",\"run\":-1}",
         b"{\"do\":\"describe\",\"run\":9223372036854775808}",
         b"{\"do\":\"Describe\",\"run\":1}",
-        b"{\"at\":0,\"do\":\"tick\"}",
+        b"{\"at\":0,\"do\":\"tock\"}",
         b"{\"at\":0,\"do\":\"terminate\",\"run\":1}",
         b"{\"at\":0,\"do\":\"terminate\",\"reason\":1,\"run\":1}",
         b"{\"do\":\"register\",\"src\":\"\xff\"}",
         b"{\"args\":[],\"at\":1000000000000001,\"do\":\"start\",\"flow\":\"f\",\"req\":\"q\",\"text\":1}",
         b"{\"args\":[null],\"at\":0,\"do\":\"start\",\"flow\":\"f\",\"req\":\"q\",\"text\":1}",
+    ];
+    for line in bad {
+        assert_eq!(rt; code_of(rt.alloc(), line), 2);
+    }
+    Ok(())
+}
+
+#[test]
+fn more_commands(rt: HostRuntime) -> Result<(), Fail> {
+    let lines: [&[u8]; 7] = [
+        b"{\"at\":5,\"do\":\"signal\",\"flow\":\"f\",\"name\":\"\",\"req\":\"q\",\"value\":\"x\"}",
+        b"{\"at\":0,\"attempt\":1,\"do\":\"fail\",\"event\":2,\"reason\":\"\",\"run\":1}",
+        b"{\"do\":\"fail\",\"run\":1,\"event\":9223372036854775807,\"attempt\":20,\"at\":0,\"reason\":\"no\"}",
+        b"{\"at\":1000000000000000,\"do\":\"tick\"}",
+        b"{\"do\":\"tick\",\"at\":0}",
+        b"{\"do\":\"upgrade\",\"run\":1,\"text\":9223372036854775807}",
+        b"{\"text\":1,\"run\":1,\"do\":\"upgrade\"}",
+    ];
+    for line in lines {
+        assert_eq!(rt; code_of(rt.alloc(), line), 0);
+    }
+    Ok(())
+}
+
+#[test]
+fn more_lines_are_no_command(rt: HostRuntime) -> Result<(), Fail> {
+    let bad: [&[u8]; 17] = [
+        b"{\"at\":0,\"do\":\"signal\",\"flow\":\"f\",\"name\":\"s\",\"req\":\"q\"}",
+        b"{\"at\":0,\"do\":\"signal\",\"flow\":\"\",\"name\":\"s\",\"req\":\"q\",\"value\":1}",
+        b"{\"at\":0,\"do\":\"signal\",\"flow\":\"f\",\"name\":\"s\",\"req\":\"\",\"value\":1}",
+        b"{\"at\":0,\"do\":\"signal\",\"flow\":\"f\",\"name\":1,\"req\":\"q\",\"value\":1}",
+        b"{\"at\":0,\"do\":\"signal\",\"flow\":\"f\",\"name\":\"s\",\"req\":\"q\",\"value\":null}",
+        b"{\"at\":0,\"attempt\":1,\"do\":\"fail\",\"event\":2,\"run\":1}",
+        b"{\"at\":0,\"attempt\":0,\"do\":\"fail\",\"event\":2,\"reason\":\"\",\"run\":1}",
+        b"{\"at\":0,\"attempt\":1,\"do\":\"fail\",\"event\":2,\"reason\":1,\"run\":1}",
+        b"{\"at\":0,\"attempt\":1,\"do\":\"fail\",\"event\":2,\"reason\":\"\",\"run\":1,\"value\":1}",
+        b"{\"do\":\"tick\"}",
+        b"{\"at\":-1,\"do\":\"tick\"}",
+        b"{\"at\":1000000000000001,\"do\":\"tick\"}",
+        b"{\"at\":0,\"do\":\"tick\",\"run\":1}",
+        b"{\"do\":\"upgrade\",\"run\":1}",
+        b"{\"do\":\"upgrade\",\"run\":1,\"text\":0}",
+        b"{\"do\":\"upgrade\",\"run\":\"1\",\"text\":1}",
+        b"{\"at\":0,\"do\":\"upgrade\",\"run\":1,\"text\":1}",
     ];
     for line in bad {
         assert_eq!(rt; code_of(rt.alloc(), line), 2);
@@ -144,6 +188,58 @@ fn keys(rt: HostRuntime) -> Result<(), Fail> {
     Ok(())
 }
 
+fn is_signal(command: &Command) -> bool {
+    match command {
+        Command::Signal(request, flow, name, value, at) => {
+            request.as_str() == "q"
+                && flow.as_str() == "f"
+                && name.as_str() == "s"
+                && value.is(&Value::Int(5))
+                && at.get() == 1500
+        }
+        _ => false,
+    }
+}
+
+fn is_failure(command: &Command) -> bool {
+    match command {
+        Command::Fail(run, event, attempt, reason, at) => {
+            run.get() == 1
+                && event.get() == 2
+                && *attempt == 4
+                && reason.as_str() == "no"
+                && at.get() == 2000
+        }
+        _ => false,
+    }
+}
+
+fn is_upgrade(command: &Command) -> bool {
+    match command {
+        Command::Upgrade(run, text) => run.get() == 1 && text.get() == 2,
+        _ => false,
+    }
+}
+
+#[test]
+fn keys_of_more_commands(rt: HostRuntime) -> Result<(), Fail> {
+    let signal = command_of(
+        rt.alloc(),
+        b"{\"at\":1500,\"do\":\"signal\",\"flow\":\"f\",\"name\":\"s\",\"req\":\"q\",\"value\":5}",
+    );
+    assert!(rt; matches!(&signal, Ok(command) if is_signal(command)));
+    let failure = command_of(
+        rt.alloc(),
+        b"{\"at\":2000,\"attempt\":4,\"do\":\"fail\",\"event\":2,\"reason\":\"no\",\"run\":1}",
+    );
+    assert!(rt; matches!(&failure, Ok(command) if is_failure(command)));
+    let tick = command_of(rt.alloc(), b"{\"at\":1100,\"do\":\"tick\"}");
+    assert!(rt; matches!(&tick, Ok(Command::Tick(at)) if at.get() == 1100));
+    let upgrade = command_of(rt.alloc(), b"{\"do\":\"upgrade\",\"run\":1,\"text\":2}");
+    assert!(rt; matches!(&upgrade, Ok(command) if is_upgrade(command)));
+    Ok(())
+}
+
 /// A start with so many arguments.
 fn start_with(alloc: Global, count: u64) -> Result<String, Fail> {
     let mut line = String::from_str(alloc, "{\"args\":[0")?;
@@ -166,6 +262,14 @@ fn report_of_bytes(alloc: Global, count: usize) -> Result<String, Fail> {
     report_of(alloc, value.as_str())
 }
 
+/// How many arguments a start has.
+fn arguments_in(alloc: Global, line: &[u8]) -> usize {
+    match command_of(alloc, line) {
+        Ok(Command::Start(_, _, _, args, _)) => args.len(),
+        _ => 0,
+    }
+}
+
 #[test]
 fn numbers_have_limits(rt: HostRuntime) -> Result<(), Fail> {
     for (value, code) in [
@@ -180,6 +284,13 @@ fn numbers_have_limits(rt: HostRuntime) -> Result<(), Fail> {
     Ok(())
 }
 
+fn failure_of_bytes(alloc: Global, count: usize) -> Result<String, Fail> {
+    let reason = "x".repeat(alloc, count)?;
+    Ok(format!(in alloc;
+        "{{\"at\":0,\"attempt\":1,\"do\":\"fail\",\"event\":2,\"reason\":\"{reason}\",\"run\":1}}"
+    )?)
+}
+
 fn end_of_bytes(alloc: Global, count: usize) -> Result<String, Fail> {
     let reason = "x".repeat(alloc, count)?;
     Ok(format!(in alloc; "{{\"at\":0,\"do\":\"terminate\",\"reason\":\"{reason}\",\"run\":1}}")?)
@@ -192,15 +303,17 @@ fn texts_have_limits(rt: HostRuntime) -> Result<(), Fail> {
         assert_eq!(rt; code_of(rt.alloc(), line.as_bytes()), code);
         let line = end_of_bytes(rt.alloc(), count)?;
         assert_eq!(rt; code_of(rt.alloc(), line.as_bytes()), code);
+        let line = failure_of_bytes(rt.alloc(), count)?;
+        assert_eq!(rt; code_of(rt.alloc(), line.as_bytes()), code);
     }
     Ok(())
 }
 
 #[test]
-fn arguments_have_limits(rt: HostRuntime) -> Result<(), Fail> {
-    for (count, code) in [(256, 0), (257, 2)] {
+fn arguments_have_no_limit(rt: HostRuntime) -> Result<(), Fail> {
+    for count in [1, 256, 257, 1000] {
         let line = start_with(rt.alloc(), count)?;
-        assert_eq!(rt; code_of(rt.alloc(), line.as_bytes()), code);
+        assert_eq!(rt; arguments_in(rt.alloc(), line.as_bytes()), count as usize);
     }
     Ok(())
 }

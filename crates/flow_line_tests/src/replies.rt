@@ -1,8 +1,8 @@
 //! Lines of replies.
 use flow_base::code::Code;
 use flow_base::command::{Description, Reply, TextFault};
-use flow_base::event::State;
-use flow_base::number::{EventId, RunId, TextNo};
+use flow_base::event::{State, Wrong};
+use flow_base::number::{EventId, Moment, RunId, TextNo};
 use flow_base::sequence::Sequence;
 use flow_base::text::Key;
 use flow_cli::reply::{Line, reply_line};
@@ -59,6 +59,77 @@ fn an_event_is_recorded_or_is_one_too_many(rt: HostRuntime) -> Result<(), Fail> 
             rt.alloc(),
             Reply::Full(run, event),
             "{\"code\":\"E69\",\"event\":2047,\"reply\":\"refused\",\"run\":1}"
+        )
+    );
+    Ok(())
+}
+
+#[test]
+fn timers_have_fired(rt: HostRuntime) -> Result<(), Fail> {
+    let a = rt.alloc();
+    assert!(rt;
+        is_reply(
+            a,
+            Reply::Fired(0, false),
+            "{\"count\":0,\"more\":false,\"reply\":\"fired\"}"
+        )
+    );
+    assert!(rt;
+        is_reply(
+            a,
+            Reply::Fired(32, true),
+            "{\"count\":32,\"more\":true,\"reply\":\"fired\"}"
+        )
+    );
+    Ok(())
+}
+
+#[test]
+fn a_run_goes_on(rt: HostRuntime) -> Result<(), Fail> {
+    let run = RunId::new(1).ok_or("a run")?;
+    let event = EventId::new(3).ok_or("an event")?;
+    let text = TextNo::new(2).ok_or("a text")?;
+    let from = Moment::new(2500).ok_or("a moment")?;
+    let a = rt.alloc();
+    assert!(rt;
+        is_reply(
+            a,
+            Reply::Retry(run, 2, from),
+            "{\"attempt\":2,\"from\":2500,\"reply\":\"retry\",\"run\":1}"
+        )
+    );
+    assert!(rt;
+        is_reply(
+            a,
+            Reply::Upgraded(run, text),
+            "{\"reply\":\"upgraded\",\"run\":1,\"text\":2}"
+        )
+    );
+    assert!(rt;
+        is_reply(
+            a,
+            Reply::DuplicateSignal(run, event),
+            "{\"event\":3,\"reply\":\"duplicate\",\"run\":1}"
+        )
+    );
+    Ok(())
+}
+
+#[test]
+fn a_mismatch_has_its_name(rt: HostRuntime) -> Result<(), Fail> {
+    let a = rt.alloc();
+    assert!(rt;
+        is_reply(
+            a,
+            Reply::Mismatch(2, Wrong::OtherContent),
+            "{\"code\":\"E68\",\"event\":2,\"name\":\"E51\",\"reply\":\"refused\"}"
+        )
+    );
+    assert!(rt;
+        is_reply(
+            a,
+            Reply::Mismatch(3, Wrong::NotAwaited),
+            "{\"code\":\"E68\",\"event\":3,\"name\":\"E54\",\"reply\":\"refused\"}"
         )
     );
     Ok(())

@@ -1,6 +1,7 @@
 pub mod FirstFault
 pub mod WellFormedRows
 mod BookRows
+mod CommandRows
 pub mod Awaits
 pub mod Weight
 pub mod Chains

@@ -1,12 +1,11 @@
 -- The world on short ways, by computation: over any rules, any book and any commands.
 use Rattle.std.proofs.Common.{◌≡◌, zero, suc, [], ◌∷◌, refl, sym, arith, inl, inr}
 use Rattle.std.specs.Prelude.{◌≢◌, Contains}
-use Rattle.flow_base.specs.Syntax.{Bytes}
 use Rattle.flow_base.specs.declared.value.Value.{Value}
 use Rattle.flow_base.specs.declared.command.Command.{Command}
 use Rattle.flow_model.specs.Book.{Book}
 use Rattle.flow_model.specs.Apply.{Rules, outcome, after_one}
-use Rattle.flow_model.specs.World.{Attempt, Idle, Writing, Committing, Halted, World, first, Submit, Report, ReportFailure, Take, Write, WriteFails, CommitBegins, CommitDone, CommitFails, RefusedRollback, Publish, Dispatch, Crash, Reopen, submitted, taken, rolled_back, commit_begun, commit_done, commit_failed, not_rolled_back, published_in, stopped, opened, Comes}
+use Rattle.flow_model.specs.World.{Attempt, Idle, Writing, Committing, Halted, World, first, Submit, Report, Failure, Take, Write, WriteFails, CommitBegins, CommitDone, CommitFails, RefusedRollback, Publish, Dispatch, Crash, Reopen, submitted, taken, rolled_back, commit_begun, commit_done, commit_failed, not_rolled_back, published_in, stopped, opened, Comes}
 
 -- a command that is committed and published has its reply at place 1
 committed : Rules → Book → Command → World
@@ -147,9 +146,9 @@ refused_halts u base c =
     (w1, (refl, (w2, (refl, (w, (refl, (w, (refl, (w, (refl, (w, (refl, (w, (refl, (w, (refl, (w, (refl, (w, (refl, (w, (refl, refl))))))))))))))))))))))
 
 -- after a stop nothing happens but a stop or an opening
-not_after_crash : (u : Rules) (base : Book) (c : Command) (v : Value) (reason : Bytes) (a : Attempt)
+not_after_crash : (u : Rules) (base : Book) (c : Command) (v : Value) (a : Attempt)
     → (let w = stopped (submitted (first base) Idle c) base in
-    Comes u w (Submit c ∷ Report 0 v 1 ∷ ReportFailure 0 reason 1 ∷ Take 1 ∷ Write ∷ WriteFails ∷ RefusedRollback ∷ CommitBegins ∷ CommitDone ∷ CommitFails ∷ Publish ∷ Dispatch a ∷ []) w)
-not_after_crash u base c v reason a =
+    Comes u w (Submit c ∷ Report 0 v 1 ∷ Failure 0 [] 1 ∷ Take 1 ∷ Write ∷ WriteFails ∷ RefusedRollback ∷ CommitBegins ∷ CommitDone ∷ CommitFails ∷ Publish ∷ Dispatch a ∷ []) w)
+not_after_crash u base c v a =
     let w = stopped (submitted (first base) Idle c) base in
     (w, (refl, (w, (refl, (w, (refl, (w, (refl, (w, (refl, (w, (refl, (w, (refl, (w, (refl, (w, (refl, (w, (refl, (w, (refl, (w, (refl, refl))))))))))))))))))))))))

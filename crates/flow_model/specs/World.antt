@@ -78,7 +78,7 @@ first base =
 pub data Step : Type 0 where
   Submit : Command → Step
   Report : (which : ℕ) → Value → (at : ℕ) → Step  -- on an attempt that was handed out at some time
-  ReportFailure : (which : ℕ) → Bytes → (at : ℕ) → Step  -- the same, that it failed
+  Failure : (which : ℕ) → Bytes → (at : ℕ) → Step  -- the same, of an attempt that failed
   Take : (count : ℕ) → Step
   Write : Step
   WriteFails : Step
@@ -102,13 +102,15 @@ submitted w Stopped c = w
 submitted w st c = record w { inbox = w.inbox ++ c ∷ [] }
 
 -- a report is submitted like any command; on what was never handed out there is none
-abbrev pub reported : World → Stage → Option Attempt → Value → ℕ → World
-reported w st None v at = w
-reported w st (Some a) v at = submitted w st (command.Complete a.run a.event a.attempt v at)
+abbrev pub reported : World → Stage → Option Attempt → (Attempt → Command) → World
+reported w st None report = w
+reported w st (Some a) report = submitted w st (report a)
 
-abbrev pub reported_failure : World → Stage → Option Attempt → Bytes → ℕ → World
-reported_failure w st None reason at = w
-reported_failure w st (Some a) reason at = submitted w st (command.Fail a.run a.event a.attempt reason at)
+abbrev pub completion : Value → ℕ → Attempt → Command
+completion v at a = command.Complete a.run a.event a.attempt v at
+
+abbrev pub failure : Bytes → ℕ → Attempt → Command
+failure reason at a = command.Fail a.run a.event a.attempt reason at
 
 abbrev pub taken : World → Stage → ℕ → World
 taken w Idle k =
@@ -174,8 +176,8 @@ Opens u w st v = v ≡ w
 -- One step leads from the world w to v.
 abbrev pub Goes : Rules → World → Step → World → Type 0
 Goes u w (Submit c) v = v ≡ submitted w w.stage c
-Goes u w (Report n value at) v = v ≡ reported w w.stage (slice_get w.dispatched n) value at
-Goes u w (ReportFailure n reason at) v = v ≡ reported_failure w w.stage (slice_get w.dispatched n) reason at
+Goes u w (Report n value at) v = v ≡ reported w w.stage (slice_get w.dispatched n) (completion value at)
+Goes u w (Failure n reason at) v = v ≡ reported w w.stage (slice_get w.dispatched n) (failure reason at)
 Goes u w (Take k) v = v ≡ taken w w.stage k
 Goes u w Write v = v ≡ w
 Goes u w WriteFails v = v ≡ rolled_back w w.stage

@@ -11,7 +11,7 @@ use Rattle.flow_patch.specs.Difference.{same_head, has_else, same_flag, else_lis
 use Rattle.flow_patch.proofs.Normal.{cases}
 use Rattle.flow_patch.proofs.Turns.{none_some}
 use Rattle.flow_patch.proofs.Words.{wrap_is_computed}
-use Rattle.flow_patch.proofs.Same.{bytes_same, bytes_self, head_by, bare_first, bare_second, bare_beside, statements_alike, parameters_alike, parameter_self, declared_alike, declared_by}
+use Rattle.flow_patch.proofs.Heads.{bytes_same, bytes_self, head_by, bare_first, bare_second, bare_beside, statements_alike, parameters_alike, parameter_self, declared_alike, declared_by}
 
 -- no place in either
 places : (o p : Option ℕ) → first_place o p ≡ None → (o ≡ None) × (p ≡ None)

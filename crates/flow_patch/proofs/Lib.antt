@@ -8,6 +8,9 @@ pub mod Turns
 pub mod Law
 pub mod Calls
 pub mod Words
-pub mod Same
+pub mod Heads
 pub mod Differences
+pub mod Walks
+pub mod Upgrades
+pub mod Wrapping
 mod Rows

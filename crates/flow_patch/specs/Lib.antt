@@ -1,3 +1,5 @@
 -- each file a subject
 pub mod Wrap
 pub mod Difference
+pub mod Behind
+pub mod Upgrades

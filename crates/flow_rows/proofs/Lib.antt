@@ -22,3 +22,4 @@ pub mod Laws
 pub mod Stood
 pub mod WholeBooks
 pub mod Behind
+pub mod DueFirst

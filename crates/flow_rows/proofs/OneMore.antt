@@ -78,7 +78,7 @@ both_alike true false there back = sym (there refl)
 both_alike false true there back = back refl
 both_alike false false there back = refl
 
-same_test : (a b : ℕ) → int_eq (pos a) (pos b) ≡ nat_eq a b
+pub same_test : (a b : ℕ) → int_eq (pos a) (pos b) ≡ nat_eq a b
 same_test a b =
     both_alike (int_eq (pos a) (pos b)) (nat_eq a b) (λ is. eq-eqb a b (ap whole ((Decides-int_eq (pos a) (pos b)).0 is)))
     (λ is. (Decides-int_eq (pos a) (pos b)).1 (ap pos (eqb-true a b is)))
@@ -133,7 +133,7 @@ pub record Replaces (b b' : Book) (n : ℕ) (r r' : Run) : Type 0 where
   pub kept : run_row n r ≡ run_row n r' → run_rows 1 b.runs ≡ run_rows 1 b'.runs
   pub marked : (mark : ℤ) → marked_row (pos n) mark (run_row n r) ≡ run_row n r' → map (marked_row (pos n) mark) (run_rows 1 b.runs) ≡ run_rows 1 b'.runs
 
-changed_rows : {A : Type 0} (b b' : Book) (n : ℕ) (r r' : Run) → Replaces b b' n r r' → (g : ℤ → Run → List A) (f : List A → List A) → f (g (pos n) r) ≡ g (pos n) r'
+pub changed_rows : {A : Type 0} (b b' : Book) (n : ℕ) (r r' : Run) → Replaces b b' n r r' → (g : ℤ → Run → List A) (f : List A → List A) → f (g (pos n) r) ≡ g (pos n) r'
     → (z : ℤ) → at_run (pos n) f (λ y. of_run (run_at b y) (g y)) z ≡ of_run (run_at b' z) (g z)
 changed_rows b b' n r r' h g f is z = by_case (int_eq z (pos n)) refl
   where
@@ -144,7 +144,7 @@ changed_rows b b' n r r' h g f is z = by_case (int_eq z (pos n)) refl
     by_case true same = rw same (subst (λ y. f (of_run (run_at b y) (g y)) ≡ of_run (run_at b' y) (g y)) (sym ((Decides-int_eq z (pos n)).0 same)) at_number)
     by_case false other = rw other (ap (λ o. of_run o (g z)) (h.others z other))
 
-kept_rows : {A : Type 0} (b b' : Book) (n : ℕ) (r r' : Run) → Replaces b b' n r r' → (g : ℤ → Run → List A) → g (pos n) r ≡ g (pos n) r'
+pub kept_rows : {A : Type 0} (b b' : Book) (n : ℕ) (r r' : Run) → Replaces b b' n r r' → (g : ℤ → Run → List A) → g (pos n) r ≡ g (pos n) r'
     → (z : ℤ) → of_run (run_at b z) (g z) ≡ of_run (run_at b' z) (g z)
 kept_rows b b' n r r' h g is z = by_case (int_eq z (pos n)) refl
   where

@@ -10,3 +10,4 @@ pub mod Typed
 pub mod Told
 pub mod Recalling
 pub mod Whole
+pub mod Dues

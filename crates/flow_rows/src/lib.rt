@@ -4,6 +4,7 @@
 pub mod book;
 pub mod change_rows;
 pub mod damage;
+pub mod dues;
 mod events;
 mod outbox;
 pub mod recall;

@@ -32,5 +32,11 @@ pub fn change_is_typed(change: &Change)
             turn_is_typed(turn);
         }
         Change::AddTurn(_, turn) => turn_is_typed(turn),
+        Change::SetAttempt(_, _, _, ready) => {
+            let _ready = ready.get();
+        }
+        Change::SetText(_, text) => {
+            let _text = text.get();
+        }
     }
 }

@@ -6,6 +6,8 @@ mod blocks;
 #[cfg(test)]
 mod branches;
 #[cfg(test)]
+mod changed_texts;
+#[cfg(test)]
 mod numbers;
 #[cfg(test)]
 mod patches;
@@ -13,6 +15,8 @@ mod patches;
 mod plain_turns;
 #[cfg(test)]
 mod replays;
+#[cfg(test)]
+mod rows;
 #[cfg(test)]
 mod tape;
 #[cfg(test)]

@@ -18,8 +18,12 @@ use std::test::Fail;
 pub enum Comes {
     /// Its start, with no arguments.
     Start,
+    /// Its start, with a number.
+    StartWith(i64),
     /// The signal of this name, with a number.
     Signal(&'static str, i64),
+    /// The signal of this name, with a text.
+    Words(&'static str, &'static str),
     /// The number that the activity of an event gave.
     Gives(u64, i64),
     /// That the activity of an event failed, with this text.
@@ -37,6 +41,8 @@ pub enum Asks {
     Refuses,
     /// The activity of this name.
     Call(&'static str),
+    /// The activity of this name, with a number.
+    CallWith(&'static str, i64),
     /// A timer that is due at this moment.
     Timer(u64),
     /// That the timer of an event is cancelled.
@@ -45,7 +51,11 @@ pub enum Asks {
     Marker(&'static str),
     /// The end with a number.
     Ends(i64),
+    /// The end with a text.
+    Says(&'static str),
     Fails(Cause, &'static str),
+    /// The end as a new run, with a number.
+    Continues(i64),
 }
 
 pub const NO: Asks = Asks::Nothing;
@@ -70,35 +80,66 @@ fn is_nothing(wanted: Asks) -> bool {
 
 fn is(command: &Cmd, wanted: Asks) -> bool {
     match command {
-        Cmd::Schedule(name, _, _, _, _) => {
-            matches!(wanted, Asks::Call(words) if words == name.as_str())
-        }
+        Cmd::Schedule(name, values, _, _, _) => is_call(name, values.as_slice(), wanted),
         Cmd::StartTimer(at) => matches!(wanted, Asks::Timer(due) if due == at.get()),
         Cmd::CancelTimer(id) => matches!(wanted, Asks::Cancel(n) if n == id.get()),
         Cmd::RecordMarker(id) => matches!(wanted, Asks::Marker(words) if words == id.as_str()),
-        Cmd::Complete(Value::Int(n)) => matches!(wanted, Asks::Ends(m) if m == *n),
+        Cmd::Complete(value) => is_end(value, wanted),
         Cmd::Fail(cause, text) => {
             matches!(wanted, Asks::Fails(c, words) if c == *cause && words == text.as_str())
         }
+        Cmd::ContinueAsNew(values) => {
+            matches!(wanted, Asks::Continues(n) if is_number(values.as_slice(), n))
+        }
+    }
+}
+
+fn is_call(name: &Key, values: &[Value], wanted: Asks) -> bool {
+    match wanted {
+        Asks::Call(words) => words == name.as_str(),
+        Asks::CallWith(words, n) => words == name.as_str() && is_number(values, n),
         _ => false,
     }
+}
+
+fn is_end(value: &Value, wanted: Asks) -> bool {
+    match value {
+        Value::Int(n) => matches!(wanted, Asks::Ends(m) if m == *n),
+        Value::Text(text) => matches!(wanted, Asks::Says(words) if words == text.as_str()),
+    }
+}
+
+// Whether these values are one number.
+fn is_number(values: &[Value], wanted: i64) -> bool {
+    matches!(values, [Value::Int(n)] if *n == wanted)
 }
 
 fn input(alloc: Global, comes: Comes) -> Result<Input, Fail> {
     match comes {
         Comes::Start => Ok(Input::Started(Sequence::new(alloc))),
-        Comes::Signal(name, n) => signaled(alloc, name, n),
+        Comes::StartWith(n) => Ok(Input::Started(one(alloc, n)?)),
+        Comes::Signal(name, n) => signaled(alloc, name, Value::Int(n)),
+        Comes::Words(name, words) => said(alloc, name, words),
         Comes::Gives(id, n) => Ok(Input::ActivityCompleted(event_id(id)?, Value::Int(n))),
         Comes::Fails(id, text) => failed(alloc, id, text),
         Comes::Fires(id) => Ok(Input::TimerFired(event_id(id)?)),
     }
 }
 
-// A signal with a number, of the request `q`.
-fn signaled(alloc: Global, name: &str, n: i64) -> Result<Input, Fail> {
+// A number alone.
+fn one(alloc: Global, n: i64) -> Result<Sequence<Value>, Fail> {
+    Ok(Sequence::from_vec(vec![in alloc; Value::Int(n)]?))
+}
+
+// A signal with a value, of the request `q`.
+fn signaled(alloc: Global, name: &str, value: Value) -> Result<Input, Fail> {
     let name = Key::new(alloc, name)?;
     let request = Key::new(alloc, "q")?;
-    Ok(Input::Signaled(name, request, Value::Int(n)))
+    Ok(Input::Signaled(name, request, value))
+}
+
+fn said(alloc: Global, name: &str, words: &str) -> Result<Input, Fail> {
+    signaled(alloc, name, Value::Text(Text::new(alloc, words)?))
 }
 
 fn failed(alloc: Global, id: u64, text: &str) -> Result<Input, Fail> {

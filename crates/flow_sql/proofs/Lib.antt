@@ -27,3 +27,4 @@ pub mod Leaving
 pub mod Marking
 pub mod Welcome
 pub mod Numbers
+pub mod InPlace

@@ -52,6 +52,7 @@ write_takes Write.delete_timers = 1
 write_takes Write.delete_task = 2
 write_takes Write.delete_tasks = 1
 write_takes Write.mark_run = 2
+write_takes Write.set_text = 2
 
 abbrev pub IsOurRead : List ℕ → Row → Type 0
 IsOurRead sql params = (r : Read) × (read_sql r ≡ sql) × (read_takes r ≡ length params)

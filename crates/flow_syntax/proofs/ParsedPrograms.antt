@@ -15,7 +15,7 @@ use Rattle.flow_base.specs.declared.syntax.Parameter.{Parameter}
 use Rattle.flow_base.specs.declared.syntax.TypeAt.{TypeAt}
 use Rattle.flow_model.specs.Lexeme.{Lexeme}
 use Rattle.flow_model.specs.Grammar.{TypeReading, typed, no_type, type_, last_type, next_type, parameter, ParametersReading, no_parameter, parameter_, last_parameter, next_parameter, activity, signal, no_else, else_, no_retry, retry, for_ever, for_, value, call, wait, no_branch, branch, let_, assign, sleep, while_, parallel, return_, fail, continue_, no_statement, statement, if_, patch, otherwise, without, BodyReading, statements, declaration, workflow}
-use Rattle.flow_model.specs.Grammar.{marked, named, numbered, worded, whole, expr_tokens, arguments_tokens, type_tokens, type_tail_tokens, types_tokens, parameter_tokens, parameter_tail_tokens, parameters_tokens, declaration_tokens, else_tail_tokens, call_tail_tokens, wait_tail_tokens, side_tokens, branches_tokens, statement_tokens, statements_tokens, choice_tokens, body_tokens, arguments_of, type_of, kind_of, type_tail_of, types_of, parameter_of, parameter_tail_of, parameter_tail_end, parameters_end, declaration_of, otherwise_of, retry_of, failing_of, wait_of, side_of, branches_of, statement_of, statements_of, statements_end, second_of, second_end, behind_choice, choice_end, body_statements, declarations_of, program_of, Reads}
+use Rattle.flow_model.specs.Grammar.{marked, named, numbered, worded, whole, expr_tokens, arguments_tokens, type_tokens, type_tail_tokens, types_tokens, parameter_tokens, parameter_tail_tokens, parameters_tokens, declaration_tokens, else_tail_tokens, call_tail_tokens, wait_tail_tokens, side_tokens, branches_tokens, statement_tokens, statements_tokens, choice_tokens, body_tokens, arguments_of, type_of, kind_of, type_tail_of, types_of, parameter_of, parameter_tail_of, parameter_tail_end, declaration_of, otherwise_of, retry_of, failing_of, wait_of, side_of, branches_of, statement_of, statements_of, statements_end, second_of, second_end, behind_choice, choice_end, body_statements, declarations_of, program_of, Reads}
 use Rattle.flow_syntax.specs.declared.fault.Stop.{Stop}
 use Rattle.flow_syntax.specs.declared.fault.Stop.TheVariants.{NoMemory, Unexpected}
 use Rattle.flow_syntax.specs.Machine.{Symbol, takes, then_more, fault, fault_by, step}

@@ -7,7 +7,6 @@ use Rattle.flow_base.specs.Shown.{Braced, stmt_step, block_step, branch_step, sh
 use Rattle.flow_base.specs.declared.syntax.Retry.{Retry}
 use Rattle.flow_base.specs.declared.syntax.Expr.{Expr}
 use Rattle.flow_base.specs.declared.syntax.Block.{Block}
-use Rattle.flow_base.specs.declared.syntax.Stmt.{Stmt}
 use Rattle.flow_base.specs.declared.syntax.Stmt.TheVariants as stmt
 use Rattle.flow_base.specs.declared.syntax.Stmt.TheOpen.{Stmt-F}
 use Rattle.flow_base.specs.declared.syntax.Stmt.TheOpen as layer

@@ -12,7 +12,7 @@ use Rattle.flow_base.specs.Syntax.{Bytes}
 use Rattle.flow_syntax.specs.declared.fault.Stop.{Stop}
 use Rattle.flow_syntax.specs.declared.fault.Stop.TheVariants.{NoMemory, Unexpected}
 use Rattle.flow_model.specs.Lexeme.{Lexeme}
-use Rattle.flow_model.specs.Grammar.{marked, named, numbered, worded, whole, is_patch_id, declaration_tokens, declaration_of, TermSign, SumSign, CompareSign, term_mark, term_operator, sum_mark, sum_operator, compare_mark, compare_operator, ParametersReading, parameters_of, parameters_end, ElseTail, else_tail_tokens, otherwise_of, CallTail, call_tail_tokens, retry_of, failing_of, side_tokens, side_of, StatementsReading, statements_tokens, statements_of, statements_end, AfterChoice, choice_tokens, second_of, second_end, behind_choice, choice_end, BodyReading, declarations_of, body_statements}
+use Rattle.flow_model.specs.Grammar.{marked, named, numbered, worded, whole, is_patch_id, declaration_tokens, declaration_of, TermSign, SumSign, CompareSign, term_mark, term_operator, sum_mark, sum_operator, compare_mark, compare_operator, ParametersReading, parameters_of, parameters_end, else_tail_tokens, otherwise_of, CallTail, call_tail_tokens, retry_of, failing_of, side_tokens, side_of, StatementsReading, statements_tokens, statements_of, statements_end, AfterChoice, choice_tokens, second_of, second_end, behind_choice, choice_end, BodyReading, declarations_of, body_statements}
 use Rattle.flow_syntax.specs.Machine as m
 use Rattle.flow_syntax.specs.Machine.{Symbol, takes, fault}
 

@@ -154,12 +154,12 @@ fn braced(list: Vec<Stmt>, end: usize) -> Block
 fn in_parallel(at: usize, first_at: usize, body: Block, others: Vec<Branch>) -> Stmt
     ensures { shown_stmt result ≡ tree.Parallel at (tree.Branch first_at (shown_braced body).0 (shown_braced body).1 (branches_of (map shown_branch others.items))) }
 {
-    let first = branch(first_at, body);
+    let first = one_branch(first_at, body);
     Stmt::Parallel(at, first, others)
 }
 
 /// A branch whose first brace stands at this place.
-fn branch(at: usize, body: Block) -> Branch
+fn one_branch(at: usize, body: Block) -> Branch
     ensures { shown_branch result ≡ (at, shown_braced body) }
 {
     Branch { at, body }
@@ -307,7 +307,7 @@ fn branches(alloc: Global, tokens: &[Token]) -> Result<(Vec<Branch>, &[Token]), 
             return Ok((list, end));
         }
         let (at, body, next) = block(alloc, rest)?;
-        list.push(branch(at, body))?;
+        list.push(one_branch(at, body))?;
         rest = next;
     }
 }

@@ -4,6 +4,8 @@
 #[cfg(test)]
 mod blocks;
 #[cfg(test)]
+mod changes;
+#[cfg(test)]
 mod deciding;
 #[cfg(test)]
 mod histories;

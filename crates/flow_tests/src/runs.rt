@@ -166,7 +166,7 @@ fn a_bad_line_is_one_reply_and_disturbs_nothing(rt: HostRuntime) -> Result<(), F
         REGISTER_A,
         "\n",
         "{}\n",
-        "{\"do\":\"tick\",\"at\":5}\n",
+        "{\"do\":\"tick\"}\n",
         START_A,
     ];
     let bad = "{\"code\":\"E02\",\"reply\":\"refused\"}\n";

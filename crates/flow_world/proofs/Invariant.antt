@@ -4,15 +4,12 @@ use Rattle.std.specs.Prelude.{◌⊎◌, slice_get, nat_le, ◌&&◌, Contains, 
 use Rattle.std.specs.List.{AllByRecursion}
 use Rattle.std.proofs.lemmas.List.{take-append-drop, length-take, append-nil, length-append}
 use Rattle.std.proofs.lemmas.List.Elements.{Contains-append_cases, Contains-append_left}
-use Rattle.flow_base.specs.Syntax.{Bytes}
-use Rattle.flow_base.specs.declared.value.Value.{Value}
 use Rattle.flow_base.specs.declared.command.Command.{Command}
-use Rattle.flow_base.specs.declared.command.Command.TheVariants as command
 use Rattle.flow_base.specs.declared.command.Reply.{Reply}
 use Rattle.flow_model.specs.Book.{Book, nth}
 use Rattle.flow_model.specs.Apply.{Rules, after, replies}
 use Rattle.flow_model.specs.Sound.{IsSound}
-use Rattle.flow_model.specs.World.{Attempt, is_open_task, Receipt, Stage, Idle, Writing, Committing, Halted, Stopped, World, first, Step, Submit, Report, ReportFailure, Take, Write, WriteFails, CommitBegins, CommitDone, CommitFails, RefusedRollback, Publish, Dispatch, Crash, Reopen, submitted, reported, reported_failure, batch_limit, taken, rolled_back, not_rolled_back, commit_begun, commit_done, commit_failed, receipts_from, published_in, dispatched_in, stopped, opened, Opens, Goes, Comes, IsIn, HoldsAcknowledged, IsSafe, TakesOver, WorldIsSafe, WorldOpensWell}
+use Rattle.flow_model.specs.World.{Attempt, is_open_task, Receipt, Stage, Idle, Writing, Committing, Halted, Stopped, World, first, Step, Submit, Report, Failure, Take, Write, WriteFails, CommitBegins, CommitDone, CommitFails, RefusedRollback, Publish, Dispatch, Crash, Reopen, submitted, reported, completion, failure, batch_limit, taken, rolled_back, not_rolled_back, commit_begun, commit_done, commit_failed, receipts_from, published_in, dispatched_in, stopped, opened, Opens, Goes, Comes, IsIn, HoldsAcknowledged, IsSafe, TakesOver, WorldIsSafe, WorldOpensWell}
 use Rattle.flow_model.proofs.Logs.{replies_cut, length-replies, nth_next}
 use Rattle.flow_machine.specs.Soundness.{ReadsWellFormed}
 use Rattle.flow_machine.proofs.Keeps.{after_keeps}
@@ -136,13 +133,9 @@ submits u base w Writing c i = record { based = i.based; there = i.there; left =
 submits u base w Committing c i = record { based = i.based; there = i.there; left = i.left; order = i.order; told = i.told; alone = i.alone }
 submits u base w Halted c i = record { based = i.based; there = i.there; left = i.left; order = i.order; told = i.told; alone = i.alone }
 
-reports : (u : Rules) (base : Book) (w : World) (st : Stage) (o : Option Attempt) (v : Value) (at : ℕ) → Invariant u base w → Invariant u base (reported w st o v at)
-reports u base w st None v at i = i
-reports u base w st (Some a) v at i = submits u base w st (command.Complete a.run a.event a.attempt v at) i
-
-failures : (u : Rules) (base : Book) (w : World) (st : Stage) (o : Option Attempt) (reason : Bytes) (at : ℕ) → Invariant u base w → Invariant u base (reported_failure w st o reason at)
-failures u base w st None reason at i = i
-failures u base w st (Some a) reason at i = submits u base w st (command.Fail a.run a.event a.attempt reason at) i
+reports : (u : Rules) (base : Book) (w : World) (st : Stage) (o : Option Attempt) (report : Attempt → Command) → Invariant u base w → Invariant u base (reported w st o report)
+reports u base w st None report i = i
+reports u base w st (Some a) report i = submits u base w st (report a) i
 
 either : (u : Rules) (base : Book) (b : Bool) (new old : World) → Invariant u base new → Invariant u base old → Invariant u base (if b then new else old)
 either u base true new old i j = i
@@ -296,8 +289,8 @@ reopens u base w v Stopped e i o =
 -- wherever a step leads
 step_on : (u : Rules) (base : Book) (w : World) (s : Step) (v : World) → Invariant u base w → Goes u w s v → Invariant u base v
 step_on u base w (Submit c) v i g = subst (Invariant u base) (sym g) (submits u base w w.stage c i)
-step_on u base w (Report n value at) v i g = subst (Invariant u base) (sym g) (reports u base w w.stage (slice_get w.dispatched n) value at i)
-step_on u base w (ReportFailure n reason at) v i g = subst (Invariant u base) (sym g) (failures u base w w.stage (slice_get w.dispatched n) reason at i)
+step_on u base w (Report n value at) v i g = subst (Invariant u base) (sym g) (reports u base w w.stage (slice_get w.dispatched n) (completion value at) i)
+step_on u base w (Failure n reason at) v i g = subst (Invariant u base) (sym g) (reports u base w w.stage (slice_get w.dispatched n) (failure reason at) i)
 step_on u base w (Take k) v i g = subst (Invariant u base) (sym g) (takes u base w w.stage k refl i)
 step_on u base w Write v i g = subst (Invariant u base) (sym g) i
 step_on u base w WriteFails v i g = subst (Invariant u base) (sym g) (rolls_back u base w w.stage refl i)

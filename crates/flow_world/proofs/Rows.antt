@@ -5,7 +5,7 @@ use Rattle.flow_base.specs.declared.value.Value.{Value}
 use Rattle.flow_base.specs.declared.command.Command.TheVariants as command
 use Rattle.flow_model.specs.Book.{Book}
 use Rattle.flow_model.specs.Apply.{Rules}
-use Rattle.flow_model.specs.World.{Attempt, World, is_open_task, first, Report, ReportFailure, Dispatch, Comes}
+use Rattle.flow_model.specs.World.{Attempt, World, is_open_task, first, Report, Failure, Dispatch, Comes}
 
 -- the world in which an attempt was handed out
 abbrev handed_out : Book → Attempt → World
@@ -24,14 +24,14 @@ reports : (u : Rules) (base : Book) (a : Attempt) (v : Value) (at : ℕ)
     → Comes u (handed_out base a) (Report 0 v at ∷ []) (record (handed_out base a) { inbox = command.Complete a.run a.event a.attempt v at ∷ [] })
 reports u base a v at = (record (handed_out base a) { inbox = command.Complete a.run a.event a.attempt v at ∷ [] }, (refl, refl))
 
--- so is one that it failed
-reports_failure : (u : Rules) (base : Book) (a : Attempt) (reason : Bytes) (at : ℕ)
-    → Comes u (handed_out base a) (ReportFailure 0 reason at ∷ []) (record (handed_out base a) { inbox = command.Fail a.run a.event a.attempt reason at ∷ [] })
-reports_failure u base a reason at = (record (handed_out base a) { inbox = command.Fail a.run a.event a.attempt reason at ∷ [] }, (refl, refl))
-
 -- and nothing on one that wasn't
 reports_nothing : (u : Rules) (base : Book) (a : Attempt) (v : Value) (at : ℕ) → Comes u (handed_out base a) (Report 1 v at ∷ []) (handed_out base a)
 reports_nothing u base a v at = (handed_out base a, (refl, refl))
 
-fails_nothing : (u : Rules) (base : Book) (a : Attempt) (reason : Bytes) (at : ℕ) → Comes u (handed_out base a) (ReportFailure 1 reason at ∷ []) (handed_out base a)
-fails_nothing u base a reason at = (handed_out base a, (refl, refl))
+-- an attempt that failed is told in the same way
+tells_failure : (u : Rules) (base : Book) (a : Attempt) (reason : Bytes) (at : ℕ)
+    → Comes u (handed_out base a) (Failure 0 reason at ∷ []) (record (handed_out base a) { inbox = command.Fail a.run a.event a.attempt reason at ∷ [] })
+tells_failure u base a reason at = (record (handed_out base a) { inbox = command.Fail a.run a.event a.attempt reason at ∷ [] }, (refl, refl))
+
+tells_nothing : (u : Rules) (base : Book) (a : Attempt) (reason : Bytes) (at : ℕ) → Comes u (handed_out base a) (Failure 1 reason at ∷ []) (handed_out base a)
+tells_nothing u base a reason at = (handed_out base a, (refl, refl))

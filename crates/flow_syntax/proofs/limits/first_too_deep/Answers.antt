@@ -1,4 +1,4 @@
-use Rattle.std.proofs.Common.{length, map, arith}
+use Rattle.std.proofs.Common.{length, arith}
 use Rattle.flow_model.specs.Lexeme.{lexeme, lexemes}
 use Rattle.std.proofs.Common.{◌≤◌}
 use Rattle.std.proofs.lemmas.List.{length-map}

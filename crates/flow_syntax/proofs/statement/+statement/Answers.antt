@@ -1,4 +1,4 @@
-use Rattle.std.proofs.Common.{◌∙◌, ◌∷◌, [], map, arith}
+use Rattle.std.proofs.Common.{◌∙◌, ◌∷◌, map, arith}
 use Rattle.std.proofs.lemmas.List.{map_push}
 use Rattle.std.proofs.lemmas.Result.{err_from_is_err_and, IfOk-weaker, IfErr-weaker}
 use Rattle.flow_base.specs.Shown.{shown_expr, shown_stmt, shown_branch, shown_braced, shown_otherwise}
@@ -25,7 +25,7 @@ pub branches-loop-end-preserved : goal.branches-loop-end-preserved
 branches-loop-end-preserved t c =
     record {
       shorter = omega (arith, c.in_ok-at.ensures.shorter, c.loop-end.invariant.shorter);
-      whole = rw (c.in_ok-push.ensures.items, map_push shown_branch c.loop-end.list.items c.branch-push.result, c.branch-push.ensures) (branches_more (lexemes c.args.tokens.now) (lexemes c.loop-end.rest.now) (lexemes c.in_ok-at.next.now) (map shown_branch c.loop-end.list.items) c.in_ok-at.at (shown_braced c.in_ok-at.body) c.loop-end.invariant.whole c.in_ok-at.ensures.ok);
+      whole = rw (c.in_ok-push.ensures.items, map_push shown_branch c.loop-end.list.items c.one_branch.result, c.one_branch.ensures) (branches_more (lexemes c.args.tokens.now) (lexemes c.loop-end.rest.now) (lexemes c.in_ok-at.next.now) (map shown_branch c.loop-end.list.items) c.in_ok-at.at (shown_braced c.in_ok-at.body) c.loop-end.invariant.whole c.in_ok-at.ensures.ok);
       machine = λ owed. c.loop-end.invariant.machine owed ∙ branches_is owed (lexemes c.loop-end.rest.now) c.in_default.ensures.found ∙ c.in_ok-at.ensures.ok.3 (m.more_branches ∷ owed);
     }
 

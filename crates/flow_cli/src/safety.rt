@@ -1,0 +1,136 @@
+//! What `flow safe` says of two texts.
+ghost use Rattle.std.specs.Prelude.{◌≡◌, ◌↔◌, ◌++◌, ◌∷◌, [], IfOk, IfErr, string_bytes};
+ghost use Rattle.std.specs.Io.KnownBytes.{Appends};
+ghost use Rattle.flow_check.specs.Shown.{shown_checked};
+ghost use Rattle.flow_cli.specs.Answering.{WritesPart};
+ghost use Rattle.flow_cli.specs.Driving.{stopped_status};
+ghost use Rattle.flow_cli.specs.Safety.{of_difference, place_text, safety_of, safety_status, safety_text, MeansWrap};
+ghost use Rattle.flow_patch.specs.Difference.{first_difference};
+ghost use Rattle.flow_cli.specs.Stopping.{StopsWriting};
+
+use crate::drive::{Stopped, write_text};
+use flow_base::command::TextFault;
+use flow_base::fault::Fault;
+use flow_base::text::RawText;
+use flow_check::checked::Checked;
+use flow_check::texts::Texts;
+use flow_patch::change::safe_change;
+use flow_patch::fault::Unsafe;
+use std::alloc::{AllocError, Global};
+use std::io::Write;
+
+/// Whether the runs of an old text may go on under a new one.
+#[derive(Clone, Copy, Debug, PartialEq, Eq)]
+pub enum Safety {
+    /// They may: the new text wraps the old one.
+    Safe,
+    /// The new text differs from those that wrap the old one.
+    Differs(Unsafe),
+    /// The old text is no program.
+    OldBroken(TextFault),
+    /// The new text is no program.
+    NewBroken(TextFault),
+    BothBroken(TextFault, TextFault),
+}
+
+impl Safety {
+    /// What is written, without its end: `safe`, or as `E57 at 51`, and `old: E11 at 12`, `new: E10 at 25` for the texts that
+    /// are no programs, a line each.
+    pub fn lines(self, alloc: Global) -> Result<String, AllocError>
+        ensures { IfOk result (λ line. string_bytes line ≡ safety_text self) }
+    {
+        match self {
+            Safety::Safe => String::from_str(alloc, "safe"),
+            Safety::Differs(Unsafe { at, code }) => format!(in alloc; "{code} at {at}"),
+            Safety::OldBroken(fault) => fault_line(alloc, "old", fault),
+            Safety::NewBroken(fault) => fault_line(alloc, "new", fault),
+            Safety::BothBroken(old, new) => {
+                let old = fault_line(alloc, "old", old)?;
+                let new = fault_line(alloc, "new", new)?;
+                format!(in alloc; "{old}\n{new}")
+            }
+        }
+    }
+
+    /// The status that the program ends with.
+    pub fn status(self) -> u8
+        ensures { result ≡ safety_status self }
+    {
+        match self {
+            Safety::Safe => 0,
+            Safety::Differs(_)
+            | Safety::OldBroken(_)
+            | Safety::NewBroken(_)
+            | Safety::BothBroken(_, _) => 1,
+        }
+    }
+}
+
+/// Which text is no program, and where.
+fn fault_line(alloc: Global, which: &str, fault: TextFault) -> Result<String, AllocError>
+    ensures { IfOk result (λ line. string_bytes line ≡ which.now ++ (58 ∷ 32 ∷ place_text fault)) }
+{
+    let TextFault { code, at } = fault;
+    format!(in alloc; "{which}: {code} at {at}")
+}
+
+/// Whether the change from one program to another is safe.
+fn compare(old: &Checked, new: &Checked) -> Safety
+    ensures { result ≡ of_difference (first_difference (shown_checked old.now) (shown_checked new.now)) }
+{
+    match safe_change(old, new) {
+        Ok(()) => Safety::Safe,
+        Err(difference) => Safety::Differs(difference),
+    }
+}
+
+/// Reads two texts by what reads texts, and tells whether the change from the first to the second is safe.
+pub fn compare_texts<T: Texts>(
+    alloc: Global,
+    texts: &T,
+    old: &str,
+    new: &str,
+) -> Result<Safety, Fault>
+    ensures safety { IfOk result (λ s. s ≡ safety_of (T.meaning old.now) (T.meaning new.now)) }
+    ensures memory { IfErr result (λ e. e ≡ Fault.NoMemory) }
+{
+    let old = RawText::new(alloc, old)?;
+    let new = RawText::new(alloc, new)?;
+    let old = texts.read(alloc, &old)?;
+    let new = texts.read(alloc, &new)?;
+    match (old, new) {
+        (Ok(old), Ok(new)) => Ok(compare(&old, &new)),
+        (Err(fault), Ok(_)) => Ok(Safety::OldBroken(fault)),
+        (Ok(_), Err(fault)) => Ok(Safety::NewBroken(fault)),
+        (Err(old), Err(new)) => Ok(Safety::BothBroken(old, new)),
+    }
+}
+
+/// Tells of two texts whether the change from the first to the second is safe, and gives the status.
+///
+/// # Failure
+/// Each has the status 3: E01, and where the output can't be written.
+#[tactic(auto, using(crate::proofs::Endings::same_kept))]
+pub fn tell_safety<T: Texts, W: Write>(
+    alloc: Global,
+    texts: &T,
+    writer: &mut W,
+    old: &str,
+    new: &str,
+) -> Result<u8, Stopped>
+    ensures told { IfOk result (λ n. Appends (W.contents writer.old) (W.contents writer.new) (safety_text (safety_of (T.meaning old.now) (T.meaning new.now)) ++ 10 ∷ [])) }
+    ensures status { IfOk result (λ n. n ≡ safety_status (safety_of (T.meaning old.now) (T.meaning new.now))) }
+    // The status is 0 exactly where both are programs and the new one wraps the old one.
+    ensures safe { IfOk result (λ n. (n ≡ 0) ↔ MeansWrap (T.meaning old.now) (T.meaning new.now)) }
+    ensures stopped { IfErr result (λ e. WritesPart e (W.contents writer.old) (W.contents writer.new) (safety_text (safety_of (T.meaning old.now) (T.meaning new.now)) ++ 10 ∷ [])) }
+    ensures early { IfErr result (λ e. stopped_status e ≡ 3) }
+    // Memory ran out, or the output failed.
+    ensures cause { IfErr result (λ e. StopsWriting e) }
+{
+    let safety = compare_texts(alloc, texts, old, new)?;
+    let lines = safety.lines(alloc)?;
+    match write_text(writer, lines) {
+        Ok(()) => Ok(safety.status()),
+        Err(stopped) => Err(stopped),
+    }
+}
