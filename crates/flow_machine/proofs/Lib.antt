@@ -13,6 +13,7 @@ pub mod Sticking
 pub mod Places
 pub mod Tasks
 pub mod Tried
+pub mod Judged
 pub mod Changes
 pub mod Keeps
 pub mod Orderly

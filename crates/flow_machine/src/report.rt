@@ -45,10 +45,10 @@ pub fn failure_refusal(run: &Run, event: EventId, attempt: u64) -> Option<Code>
     match task_at(run.tasks.as_slice(), event) {
         None => Some(Code::NotOpen),
         Some(task) => {
-            if task.attempt != attempt {
-                Some(Code::OldAttempt)
-            } else {
+            if task.attempt == attempt {
                 None
+            } else {
+                Some(Code::OldAttempt)
             }
         }
     }

@@ -30,6 +30,8 @@ enum Told {
     Refused(Code),
     BadText(Code, usize),
     Full(u64, u64),
+    /// What no test here asks for.
+    Other,
 }
 
 fn in_short(reply: &Reply) -> Told {
@@ -43,6 +45,7 @@ fn in_short(reply: &Reply) -> Told {
         Reply::Refused(code) => Told::Refused(*code),
         Reply::BadText(fault) => Told::BadText(fault.code, fault.at),
         Reply::Full(run, event) => Told::Full(run.get(), event.get()),
+        _ => Told::Other,
     }
 }
 

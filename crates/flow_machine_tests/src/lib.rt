@@ -4,4 +4,12 @@
 #[cfg(test)]
 mod decisions;
 #[cfg(test)]
+mod failures;
+#[cfg(test)]
 mod lists;
+#[cfg(test)]
+mod signals;
+#[cfg(test)]
+mod upgrades;
+#[cfg(test)]
+mod words;
