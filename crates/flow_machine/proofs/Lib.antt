@@ -22,3 +22,4 @@ pub mod Started
 pub mod Ticks
 pub mod TicksStand
 pub mod TicksDecide
+pub mod OneTick
