@@ -22,7 +22,7 @@ use Rattle.flow_model.specs.Rest.{Rest, Done, rest_of, is_done}
 use Rattle.flow_model.specs.Configuration.{Configuration, first_configuration, none_decided, is_open}
 use Rattle.flow_model.specs.Step.{Move, Stays, Goes, Asks, Ends, move}
 use Rattle.flow_model.specs.Deliver.{Progress, deliver, begun, bound, all_fit, completed, with_rest, start_from, has_kind, signal_fits, target_of, replaced, when_completed, when_failed, when_fired}
-use Rattle.flow_model.specs.Turn.{Answers, Recorded, Frame, Turn, frame, setting, next, go_on, steps, ended, after_move, left_by}
+use Rattle.flow_model.specs.Turn.{Answers, Recorded, Frame, Turn, frame, setting, next, go_on, steps, ended, after_move}
 use Rattle.flow_model.specs.Stands.{Stands, Leads}
 use Rattle.flow_model.specs.Open.{state_after, state_after_one, state_of}
 use Rattle.flow_model.specs.Book.{Book, nth, first_from, is_open_of, open_run}

@@ -1,5 +1,5 @@
 -- What each firing keeps and has, a tick keeps and has.
-use Rattle.std.proofs.Common.{◌≡◌, ℕ, zero, suc, List, [], ◌∷◌, ◌++◌, refl, sym, ◌∙◌, subst, Some, None}
+use Rattle.std.proofs.Common.{◌≡◌, ℕ, zero, suc, List, [], ◌∷◌, ◌++◌, refl, sym, subst, Some, None}
 use Rattle.flow_base.specs.declared.book.Due.{Due}
 use Rattle.flow_base.specs.declared.book.Change.{Change}
 use Rattle.flow_model.specs.Book.{Book, least_due, changed, changed_by}

@@ -6,7 +6,7 @@ use Rattle.flow_base.specs.declared.book.Due.{Due}
 use Rattle.flow_base.specs.declared.book.Change.{Change}
 use Rattle.flow_base.specs.declared.command.Reply.TheVariants.{Fired}
 use Rattle.flow_model.specs.Book.{Book, least_due, changed, changed_by}
-use Rattle.flow_model.specs.Apply.{Rules, Outcome, Firings, fired, on_due, before_firings, firings, firing_limit, tick}
+use Rattle.flow_model.specs.Apply.{Rules, Outcome, Firings, fired, on_due, firings, firing_limit, tick}
 use Rattle.flow_machine.specs.Deciding.{Decides}
 use Rattle.flow_machine.specs.Fitting.{HasUnfit}
 use Rattle.flow_machine.specs.Stuck.{where_there, StuckFired, StuckFirings}

@@ -20,7 +20,7 @@ use Rattle.flow_model.specs.Sound.{IsSoundRun, IsSound}
 use Rattle.flow_model.proofs.Chains.{not_both}
 use Rattle.flow_model.specs.Sound.{IsProgram}
 use Rattle.flow_machine.specs.Soundness.{TextsRead, NumbersEnd, SoundDecides}
-use Rattle.flow_machine.specs.Stuck.{HasMismatch, CantDeliver, CantRecord, unless_there, where_there, where_holds, unless_holds, needs, IsFull, StuckRegister, StuckStart, StuckSent, StuckSignal, StuckInput, StuckComplete, StuckFailed, StuckFail, StuckUpgrade, IsStuck}
+use Rattle.flow_machine.specs.Stuck.{HasMismatch, CantDeliver, CantRecord, unless_there, where_there, where_holds, unless_holds, needs, IsFull, StuckRegister, StuckStart, StuckSent, StuckSignal, StuckInput, StuckComplete, StuckFail, StuckUpgrade, IsStuck}
 use Rattle.flow_machine.proofs.Places.{get_all, nth_place}
 use Rattle.flow_machine.proofs.Waiting.{completion_taken, failure_taken}
 use Rattle.flow_machine.proofs.TicksStand.{tick_goes_on}

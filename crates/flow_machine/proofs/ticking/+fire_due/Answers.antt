@@ -1,4 +1,4 @@
-use Rattle.std.proofs.Common.{rules, ◌≡◌, suc, ◌-◌, arith, Some, None}
+use Rattle.std.proofs.Common.{rules, ◌≡◌, suc, ◌-◌, arith, None}
 use Rattle.std.specs.Prelude.{◌⊎◌}
 use Rattle.std.proofs.lemmas.Result.{err_from_is_err_and}
 use Rattle.flow_model.specs.Apply.{Rules, rules_of, fired, firings}
