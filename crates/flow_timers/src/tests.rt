@@ -19,12 +19,17 @@ fn moment(at: u64) -> Result<Moment, Fail> {
     Ok(Moment::new(at).ok_or("no moment")?)
 }
 
+fn moment_of(command: &Command) -> u64 {
+    match command {
+        Command::Tick(at) => at.get(),
+        _ => 0,
+    }
+}
+
 // The moment of the tick, if one is due.
 fn ticked(due: Option<Moment>, clock: &Still) -> Option<u64> {
-    match tick_due(due, clock.now()) {
-        Some(Command::Tick(at)) => Some(at.get()),
-        _ => None,
-    }
+    let command = tick_due(due, clock.now())?;
+    Some(moment_of(&command))
 }
 
 #[test]
