@@ -10,6 +10,8 @@ mod lists;
 #[cfg(test)]
 mod signals;
 #[cfg(test)]
+mod ticks;
+#[cfg(test)]
 mod upgrades;
 #[cfg(test)]
 mod words;

@@ -1,0 +1,32 @@
+//! When timers are to fire: a clock, and the command that fires what is due.
+#![tactic(auto)]
+
+#[cfg(test)]
+mod tests;
+
+ghost use Rattle.std.specs.Prelude.{◌≡◌};
+ghost use Rattle.flow_timers.specs.Due.{due_tick};
+
+use flow_base::command::Command;
+use flow_base::number::Moment;
+
+/// What tells the moment.
+pub trait Clock {
+    fn now(&self) -> Moment;
+}
+
+/// The command that fires what is due: a tick at this moment exactly where a timer is due and not later than now.
+pub fn tick_due(due: Option<Moment>, now: Moment) -> Option<Command>
+    ensures { result ≡ due_tick due now }
+{
+    match due {
+        Some(moment) => {
+            if moment.get() <= now.get() {
+                Some(Command::Tick(now))
+            } else {
+                None
+            }
+        }
+        None => None,
+    }
+}
