@@ -12,7 +12,7 @@ use Rattle.flow_base.specs.declared.event.Input.TheVariants.{Started, Signaled, 
 use Rattle.flow_base.specs.declared.event.What.TheVariants.{Came}
 use Rattle.flow_base.specs.declared.book.Turn.{Turn}
 use Rattle.flow_base.specs.declared.book.Change.{Change}
-use Rattle.flow_base.specs.declared.book.Change.TheVariants.{AddText, AddRun, AddTurn}
+use Rattle.flow_base.specs.declared.book.Change.TheVariants.{AddText, AddRun, AddTurn, SetAttempt, SetText}
 use Rattle.flow_base.specs.declared.command.Command.{Command}
 use Rattle.flow_model.specs.Turn.{is_started}
 use Rattle.flow_model.specs.Book.{Book, nth, first_from, is_text, changed}
@@ -30,9 +30,9 @@ use Rattle.flow_machine.proofs.Places.{nth_place}
 use Rattle.flow_machine.proofs.Unnumbered.{stuck_unnumbered}
 use Rattle.flow_machine.proofs.Welcomed.{changes_welcome}
 use Rattle.flow_tables.specs.Names.{StartsNone}
-use Rattle.flow_tables.specs.Puts.{IsTurnWithin, IsUnfit, PassesLast}
+use Rattle.flow_tables.specs.Puts.{IsTurnWithin, IsUnfit}
 use Rattle.flow_commit.specs.Keeping.{rules, IsWell}
-use Rattle.flow_commit.specs.Committing.{NumbersRunOut, OnlyNumbersRunOut}
+use Rattle.flow_commit.specs.Committing.{RunsOut, NumbersRunOut, OnlyNumbersRunOut}
 
 ---- One change
 
@@ -63,31 +63,44 @@ starts_none (ActivityFailed n t) e = tt
 starts_none (TimerFired n) e = tt
 starts_none (Terminated t) e = tt
 
+not_so_many : (n : ℕ) → n ≤ 20 → 2 ^ 63 ≤ n → ⊥
+not_so_many n few many = omega (arith, few, many)
+
 -- a change of a command over a sound book is one that the tables take
-only_past : (b : Book) (c : Change) → IsWelcome rules b c → IsChangeWithinLimits c → IsUnfit b c → PassesLast b c
-only_past b c w l (inr (inl past)) = past
+only_past : (b : Book) (c : Change) → IsWelcome rules b c → IsChangeWithinLimits c → IsUnfit b c → RunsOut b c
 only_past b (AddText body) w l (inl unfit) = absurd (unfit tt)
+only_past b (AddText body) w l (inr (inl past)) = past
 only_past b (AddText body) w l (inr (inr (inl there))) = absurd (text_absent body 1 b.texts w.0 there)
 only_past b (AddText body) w l (inr (inr (inr long))) = absurd (not_too_long (length body) (reads_short body w.1.0 w.1.1) long)
 only_past b (AddRun flow request text t) w l (inl unfit) = absurd (unfit (turn_within t l))
+only_past b (AddRun flow request text t) w l (inr (inl past)) = past
 only_past b (AddRun flow request text t) w l (inr (inr none)) = absurd (text_within b.texts text w.0 w.1 none)
 only_past b (AddTurn n t) w l (inl unfit) = absurd (unfit (turn_within t l.0, λ r there some. starts_none t.input l.1))
+only_past b (AddTurn n t) w l (inr (inl past)) = past
 only_past b (AddTurn n t) w l (inr (inr none)) = absurd none
+only_past b (SetAttempt n event attempt ready) w l (inl unfit) = absurd (unfit tt)
+only_past b (SetAttempt n event attempt ready) w l (inr (inl past)) = not_so_many attempt l.1 past
+only_past b (SetAttempt n event attempt ready) w l (inr (inr none)) = absurd none
+only_past b (SetText n text) w l (inl unfit) = absurd (unfit tt)
+only_past b (SetText n text) w l (inr (inl none)) = absurd none
+only_past b (SetText n text) w l (inr (inr none)) = absurd (text_within b.texts text w.1.0 w.1.1 none)
 
 -- what has no number has one past the last
-unnumbered_past : (b : Book) (c : Change) → IsUnnumbered b c → PassesLast b c
+unnumbered_past : (b : Book) (c : Change) → IsUnnumbered b c → RunsOut b c
 unnumbered_past b (AddText body) full = full
 unnumbered_past b (AddRun flow request text t) full = inl full
 unnumbered_past b (AddTurn n t) none = absurd none
+unnumbered_past b (SetAttempt n event attempt ready) none = absurd none
+unnumbered_past b (SetText n text) none = absurd none
 
 ---- Several changes
 
-all_past : (b : Book) (cs : List Change) → AreWelcome rules b cs → All IsChangeWithinLimits cs → HasUnfit IsUnfit b cs → HasUnfit PassesLast b cs
+all_past : (b : Book) (cs : List Change) → AreWelcome rules b cs → All IsChangeWithinLimits cs → HasUnfit IsUnfit b cs → HasUnfit RunsOut b cs
 all_past b [] w l unfit = unfit
 all_past b (c ∷ cs) w l (inl unfit) = inl (only_past b c w.0 (All-head IsChangeWithinLimits c cs l) unfit)
 all_past b (c ∷ cs) w l (inr later) = inr (all_past (changed b c) cs w.1 (All-tail IsChangeWithinLimits c cs l) later)
 
-all_unnumbered : (b : Book) (cs : List Change) → HasUnfit IsUnnumbered b cs → HasUnfit PassesLast b cs
+all_unnumbered : (b : Book) (cs : List Change) → HasUnfit IsUnnumbered b cs → HasUnfit RunsOut b cs
 all_unnumbered b [] none = none
 all_unnumbered b (c ∷ cs) (inl here) = inl (unnumbered_past b c here)
 all_unnumbered b (c ∷ cs) (inr later) = inr (all_unnumbered (changed b c) cs later)

@@ -8,6 +8,8 @@ use Rattle.flow_machine.specs.declared.submission.Taken.{Taken}
 use Rattle.flow_machine.specs.Stuck.{IsStuckWithin}
 use Rattle.flow_machine.specs.Fitting.{IsUnfitWithin}
 use Rattle.flow_tables.specs.Puts.{IsUnfit, PassesLast}
+use Rattle.flow_base.specs.declared.book.Change.{Change}
+use Rattle.flow_base.specs.declared.book.Change.TheVariants.{SetAttempt}
 use Rattle.flow_view.specs.declared.fault.ViewFault.{ViewFault}
 use Rattle.flow_view.specs.declared.fault.ViewFault.TheVariants as fault
 use Rattle.flow_tables.specs.Faults.{HasFailed, IsCutOff}
@@ -37,9 +39,14 @@ HasReplies count (end.Unknown f) = Unit {0}
 abbrev pub CantBeApplied : Book → List Command → Type 0
 CantBeApplied b cs = IsStuckWithin rules b cs ⊎ IsUnfitWithin IsUnfit rules b cs
 
--- One of them would need a number past the last one: of a text, of a run or of an event.
+-- The change needs a number past the last one, of a text, of a run or of an event. Attempts end long before.
+abbrev pub RunsOut : Book → Change → Type 0
+RunsOut b (SetAttempt n event attempt ready) = ⊥
+RunsOut b c = PassesLast b c
+
+-- One of them would need such a number.
 abbrev pub NumbersRunOut : Book → List Command → Type 0
-NumbersRunOut b cs = IsUnfitWithin PassesLast rules b cs
+NumbersRunOut b cs = IsUnfitWithin RunsOut rules b cs
 
 -- Over a book such as commands make nothing else keeps commands from being applied.
 abbrev pub OnlyNumbersRunOut : Type 0

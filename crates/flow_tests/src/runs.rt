@@ -162,13 +162,7 @@ fn a_report_before_the_last_event_gets_that_moment(rt: HostRuntime) -> Result<()
 
 #[test]
 fn a_bad_line_is_one_reply_and_disturbs_nothing(rt: HostRuntime) -> Result<(), Fail> {
-    let lines = [
-        REGISTER_A,
-        "\n",
-        "{}\n",
-        "{\"do\":\"tick\"}\n",
-        START_A,
-    ];
+    let lines = [REGISTER_A, "\n", "{}\n", "{\"do\":\"tick\"}\n", START_A];
     let bad = "{\"code\":\"E02\",\"reply\":\"refused\"}\n";
     let replies = [REGISTERED, bad, bad, bad, STARTED];
     assert!(rt; replies_to(&rt, &lines, &replies, 1)?);

@@ -6,5 +6,4 @@ pub mod fault;
 pub mod history;
 pub mod lists;
 pub mod run;
-pub mod signals;
 pub mod view;

@@ -1,5 +1,5 @@
 use Rattle.std.proofs.Common.{◌≡◌, drop}
-use Rattle.flow_view.specs.Signals.{first_signal}
+use Rattle.flow_tables.specs.Signals.{first_signal}
 use Rattle.flow_tables.proofs.signals.first_signal.Given as goal
 
 abbrev pub invariant-loop-number : goal.invariant-loop-number
