@@ -1,0 +1,14 @@
+use Rattle.std.proofs.Common.{◌≡◌, map, option_and_then, true, [], sym, ap, ◌∙◌, subst, refl}
+use Rattle.clap.specs.Words.{app_of, is_simple, is_simple_and_free, fault_of, subcommand_of, subcommand_rows_of}
+use Rattle.flow_cli.specs.Calls.{flow, named_call}
+use Rattle.flow_cli.proofs.call.call_of.Goals as goal
+
+pub returns-in-Some-clause-found : goal.returns-in-Some-clause-found
+returns-in-Some-clause-found g c =
+    let words = map g.S.AsStr.text c.args.words.now in
+    let found = c.in-Ok-try_get_matches_from.found in
+    let app : app_of c.in-Ok.command ≡ flow = c.in-Ok.ensures.app in
+    let taken : fault_of flow words ≡ [] = subst (λ a. is_simple_and_free a ≡ true → fault_of a words ≡ []) app c.in-Ok-try_get_matches_from.ensures.kinds refl in
+    let rows : subcommand_rows_of found ≡ subcommand_of flow words =
+    subst (λ a. is_simple a ≡ true → subcommand_rows_of found ≡ subcommand_of a words) app (λ simple. (c.in-Ok-try_get_matches_from.ensures.matches simple).1) refl in
+    record { taken = taken; says = ap (option_and_then (λ p. named_call p.0 p.1)) (sym rows) ∙ sym c.matched_call.ensures ∙ rw c.in-Some.is refl }
