@@ -72,8 +72,9 @@ fn the_first_fault_is_named(rt: HostRuntime) -> Result<(), Fail> {
     assert!(rt; is_checked_as(&rt, "workflow x() { let a = 1 ! 2; }", "E10 at 25", 1)?);
     assert!(rt; is_checked_as(&rt, "workflow x() { y = 1; }", "E20 at 15", 1)?);
     assert!(rt; is_checked_as(&rt, "workflow e() {}", "ok", 0)?);
-    // `while` is reserved, and its statement doesn't exist yet
-    assert!(rt; is_checked_as(&rt, "workflow x() { while 1 { } }", "E11 at 15", 1)?);
+    assert!(rt; is_checked_as(&rt, "workflow x() { while 1 { } }", "ok", 0)?);
+    // a loop without a condition
+    assert!(rt; is_checked_as(&rt, "workflow x() { while { } }", "E11 at 21", 1)?);
     Ok(())
 }
 
