@@ -26,7 +26,7 @@ abbrev mutual
   bare_statement (Sleep at e) = Sleep 0 (bare_expression e)
   bare_statement (If at e a a_end b b_end) = If 0 (bare_expression e) (bare_block a) 0 (bare_block b) 0
   bare_statement (While at e b end) = While 0 (bare_expression e) (bare_block b) 0
-  bare_statement (Parallel at bs) = Parallel 0 (bare_branches bs)
+  bare_statement (Parallel at bs end) = Parallel 0 (bare_branches bs) 0
   bare_statement (Patch at id_at id a a_end b b_end) = Patch 0 0 id (bare_block a) 0 (bare_block b) 0
   bare_statement (Return at e) = Return 0 (bare_expression e)
   bare_statement (FailWith at e) = FailWith 0 (bare_expression e)

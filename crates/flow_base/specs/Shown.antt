@@ -44,14 +44,14 @@ stmt_step (layer.WaitSignalFor at x signal_at n e late) = tree.WaitSignalFor at 
 stmt_step (layer.Sleep at e) = tree.Sleep at (shown_expr e)
 stmt_step (layer.If at e a b) = tree.If at (shown_expr e) a.0 a.1 b.0 b.1
 stmt_step (layer.While at e b) = tree.While at (shown_expr e) b.0 b.1
-stmt_step (layer.Parallel at b bs) = tree.Parallel at (branches_of (b ∷ bs.items))
+stmt_step (layer.Parallel at b bs end) = tree.Parallel at (branches_of (b ∷ bs.items)) end
 stmt_step (layer.Patch at id_at id a b) = tree.Patch at id_at id a.0 a.1 b.0 b.1
 stmt_step (layer.Return at e) = tree.Return at (shown_expr e)
 stmt_step (layer.FailWith at e) = tree.FailWith at (shown_expr e)
 stmt_step (layer.Continue at es) = tree.Continue at (map shown_expr es.items)
 
 abbrev pub block_step : Block-F tree.Statement Braced (ℕ × Braced) → Braced
-block_step b = (block_of b.list.items, b.end)
+block_step b = (block_of b.list.value.items, b.end)
 
 abbrev pub branch_step : Branch-F tree.Statement Braced (ℕ × Braced) → ℕ × Braced
 branch_step b = (b.at, b.body)
@@ -84,6 +84,6 @@ shown_program p =
       parameters = p.parameters.items;
       parameters_end = p.parameters_end;
       declarations = map shown_declaration p.declarations.items;
-      body = shown_block p.body.items;
+      body = shown_block p.body.value.items;
       body_end = p.body_end;
     }

@@ -33,7 +33,8 @@ mutual
     -- each list with the place of its closing brace; that of a missing second list is the first one's
     If : (at : ℕ) → Expression → (first : Block) (first_end : ℕ) (second : Block) (second_end : ℕ) → Statement
     While : (at : ℕ) → Expression → (body : Block) (body_end : ℕ) → Statement
-    Parallel : (at : ℕ) → Branches → Statement
+    -- with the place of the brace that closes the block of branches
+    Parallel : (at : ℕ) → Branches → (end : ℕ) → Statement
     Patch : (at id_at : ℕ) (id : Bytes) (first : Block) (first_end : ℕ) (second : Block) (second_end : ℕ) → Statement
     Return : (at : ℕ) → Expression → Statement
     FailWith : (at : ℕ) → Expression → Statement

@@ -70,7 +70,7 @@ module _ (a : Bytes → Bool) (s : Setting) (fresh : (id : Bytes) → s.answer i
   begin_again t (Sleep at e) h = refl
   begin_again t (If at e x x_end y y_end) h = refl
   begin_again t (While at e b end) h = refl
-  begin_again t (Parallel at bs) h = refl
+  begin_again t (Parallel at bs end) h = refl
   begin_again t (Patch at id_at id x x_end y y_end) h = patched_again t id x y (t.decided id) h
   begin_again t (Return at e) h = refl
   begin_again t (FailWith at e) h = refl

@@ -66,15 +66,15 @@ abbrev paid : Bytes → Statement
 paid t = Call 0 (codes "r") 0 (codes "p") (text t ∷ []) once NoElse
 
 -- let r = 0; r = call p("eur"); return r;
-abbrev D0 : Program
-D0 = program [] takes_text (Let 0 0 (codes "r") (number 0) ∷ paid (codes "eur") ∷ Return 0 (var (codes "r")) ∷ [])
+abbrev euros : Program
+euros = program [] takes_text (Let 0 0 (codes "r") (number 0) ∷ paid (codes "eur") ∷ Return 0 (var (codes "r")) ∷ [])
 
-abbrev D1 : Program
-D1 = program [] takes_text (Let 0 0 (codes "r") (number 0) ∷ paid (codes "usd") ∷ Return 0 (var (codes "r")) ∷ [])
+abbrev dollars : Program
+dollars = program [] takes_text (Let 0 0 (codes "r") (number 0) ∷ paid (codes "usd") ∷ Return 0 (var (codes "r")) ∷ [])
 
 -- let r = 0; patch "v2" { r = call p("usd"); } else { r = call p("eur"); } return r;
-abbrev D2 : Program
-D2 = program [] takes_text (
+abbrev patched : Program
+patched = program [] takes_text (
     Let 0 0 (codes "r") (number 0)
     ∷ Patch 0 0 (codes "v2") (block_of (paid (codes "usd") ∷ [])) 0 (block_of (paid (codes "eur") ∷ [])) 0
     ∷ Return 0 (var (codes "r")) ∷ [])
@@ -97,9 +97,9 @@ library t =
     if bytes_eq t (codes "b") then Ok B else (
     if bytes_eq t (codes "t") then Ok T else (
     if bytes_eq t (codes "m") then Ok M else (
-    if bytes_eq t (codes "d0") then Ok D0 else (
-    if bytes_eq t (codes "d1") then Ok D1 else (
-    if bytes_eq t (codes "d2") then Ok D2 else (
+    if bytes_eq t (codes "euros") then Ok euros else (
+    if bytes_eq t (codes "dollars") then Ok dollars else (
+    if bytes_eq t (codes "patched") then Ok patched else (
     if bytes_eq t (codes "w") then Ok W else (
     if bytes_eq t (codes "r") then Ok R else Err (record { code = Unexpected; at = 0 }))))))))
 
@@ -198,7 +198,7 @@ continues = refl
 ---- Upgrades
 
 abbrev begun : List Command
-begun = command.Register (codes "d0") ∷ command.Register (codes "d2") ∷ command.Register (codes "d1") ∷ command.Start (codes "q") (codes "f") 1 [] 0 ∷ []
+begun = command.Register (codes "euros") ∷ command.Register (codes "patched") ∷ command.Register (codes "dollars") ∷ command.Start (codes "q") (codes "f") 1 [] 0 ∷ []
 
 -- A text that wraps the old one takes over; a new run of it records the marker.
 upgrades : replies rules no_book (

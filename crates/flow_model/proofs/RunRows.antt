@@ -84,7 +84,7 @@ asks_f n = Schedule (codes "f") (Int (pos n) ∷ []) 1 0 kind.Int
 -- { activity f(int) -> int; let x = 0; let y = 0; parallel { { x = call f(1); } { y = call f(2); y = call f(3); } } return x + y; }
 abbrev C : Program
 C = program [] (f ∷ []) (let_be (codes "x") (number 0) ∷ let_be (codes "y") (number 0)
-    ∷ Parallel 0 (Branch 0 (block_of (call_f 1 (codes "x") ∷ [])) 0 (Branch 0 (block_of (call_f 2 (codes "y") ∷ call_f 3 (codes "y") ∷ [])) 0 NoBranch))
+    ∷ Parallel 0 (Branch 0 (block_of (call_f 1 (codes "x") ∷ [])) 0 (Branch 0 (block_of (call_f 2 (codes "y") ∷ call_f 3 (codes "y") ∷ [])) 0 NoBranch)) 0
     ∷ Return 0 (Combine Add (variable (codes "x")) (variable (codes "y"))) ∷ [])
 
 branches_side_by_side : fresh_run C first_configuration ((0, Started []) ∷ (0, ActivityCompleted 3 (Int (pos 20))) ∷ (0, ActivityCompleted 2 (Int (pos 10))) ∷ (0, ActivityCompleted 5 (Int (pos 30))) ∷ [])

@@ -41,7 +41,7 @@ abbrev mutual
   Tried (Sleep at e) = Unit {0}
   Tried (If at e a a_end b b_end) = TriedBlock a × TriedBlock b
   Tried (While at e b end) = TriedBlock b
-  Tried (Parallel at bs) = TriedBranches bs
+  Tried (Parallel at bs end) = TriedBranches bs
   Tried (Patch at id_at id a a_end b b_end) = TriedBlock a × TriedBlock b
   Tried (Return at e) = Unit {0}
   Tried (FailWith at e) = Unit {0}
@@ -103,7 +103,7 @@ behind_small s (WaitSignalFor at x signal_at n e b end) k = k
 behind_small s (Sleep at e) k = k
 behind_small s (If at e a a_end b b_end) k = k
 behind_small s (While at e b end) k = k
-behind_small s (Parallel at bs) k = k
+behind_small s (Parallel at bs end) k = k
 behind_small s (Patch at id_at id a a_end b b_end) k = k
 behind_small s (Return at e) k = k
 behind_small s (FailWith at e) k = k
@@ -192,7 +192,7 @@ mutual
   tried s (While at e b end) k h =
       let wanted = rule.faults_of_wanted s.types Int e in
       tried_block s b k (nil_right wanted (faults_of_block s b) h)
-  tried s (Parallel at bs) k h =
+  tried s (Parallel at bs end) k h =
       let inside : Scope = record s { in_parallel = true } in
       let many = rule.fault_at_first code.TooManyBranches (drop rule.branch_limit (rule.branch_places bs)) in
       tried_branches inside bs k (nil_right many (faults_of_branches inside bs) h)
@@ -366,7 +366,7 @@ begins_well s t (WaitSignalFor at x signal_at n e b end) h =
     on_signal_well (oldest n t.buffer) (λ v. Goes Done (take_signal t x n v)) (on_value (due t.variables s.at e) (λ d. waiting s (asks d))) (λ v. tt)
     (on_value_well (due t.variables s.at e) (λ d. waiting s (asks d))
     (λ d. if_well (nat_lt s.waits wait_limit) (asks d) (raise WaitLimit) (h, tt) tt))
-begins_well s t (Parallel at bs) h = branches_tried bs h
+begins_well s t (Parallel at bs end) h = branches_tried bs h
 begins_well s t (Patch at id_at id a a_end b b_end) h = patched_well s t id a b (t.decided id) h.0 h.1
 begins_well s t (Return at e) h = on_value_well (value t.variables s.at e) (λ v. Ends (Complete v)) (λ v. tt)
 begins_well s t (FailWith at e) h =

@@ -34,7 +34,7 @@ mutual
   le m n (Sleep at e) h = omega arith
   le m n (If at e a a_end b b_end) h = omega (arith, le_block m n a h, le_block m n b h)
   le m n (While at e b end) h = loop_le m n (weight_block m b) (weight_block n b) h (le_block m n b h)
-  le m n (Parallel at bs) h = omega (arith, le_branches m n bs h)
+  le m n (Parallel at bs end) h = omega (arith, le_branches m n bs h)
   le m n (Patch at id_at id a a_end b b_end) h = omega (arith, le_block m n a h, le_block m n b h)
   le m n (Return at e) h = omega arith
   le m n (FailWith at e) h = omega arith
@@ -145,7 +145,7 @@ falls_begin s t (WaitSignalFor at x signal_at n e b end) = falls_on_signal _ _ (
 falls_begin s t (Sleep at e) = falls_on_value _ _ (due t.variables s.at e) _ (λ d. falls_waiting _ _ s _ (omega arith, omega arith))
 falls_begin s t (If at e a a_end b b_end) = falls_on_value _ _ (value t.variables s.at e) _ (λ v. (omega arith, omega (arith, falls_picked (left t) (is_true v) a b)))
 falls_begin s t (While at e b end) = falls_if _ _ (nat_lt t.tests test_limit) _ _ (λ h. falls_on_value _ _ (value t.variables s.at e) _ (λ v. falls_loop t at end e b (is_true v) (test_is _ _ h))) refl
-falls_begin s t (Parallel at bs) = (omega arith, omega (arith, weight_branches_of (left t) bs))
+falls_begin s t (Parallel at bs end) = (omega arith, omega (arith, weight_branches_of (left t) bs))
 falls_begin s t (Patch at id_at id a a_end b b_end) = falls_patched s t at id_at a_end b_end id a b (t.decided id)
 falls_begin s t (Return at e) = falls_on_value _ _ (value t.variables s.at e) _ (λ v. refl)
 falls_begin s t (FailWith at e) = falls_on_value _ _ (value t.variables s.at e) _ (λ v. refl)

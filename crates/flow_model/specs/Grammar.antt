@@ -538,6 +538,11 @@ abbrev mutual
   choice_end (otherwise at brace ss more) = statements_end more
   choice_end (without more) = statements_end more
 
+-- the place of the brace that closes a block of branches
+abbrev pub branches_end : BranchesReading → ℕ
+branches_end (no_branch to) = to
+branches_end (branch at ss more) = branches_end more
+
 -- the place of the brace that closes the second list; that of the first where there is none
 abbrev pub second_end : ℕ → AfterChoice → ℕ
 second_end first_end (otherwise at brace ss more) = statements_end ss
@@ -573,7 +578,7 @@ abbrev mutual
   statement_of (assign at x eq s) = side_of at x s
   statement_of (sleep at e end) = tree.Sleep at (expr_of e)
   statement_of (while_ at e brace ss) = tree.While at (expr_of e) (statements_of ss) (statements_end ss)
-  statement_of (parallel at brace first ss more) = tree.Parallel at (tree.Branch first (statements_of ss) (statements_end ss) (branches_of more))
+  statement_of (parallel at brace first ss more) = tree.Parallel at (tree.Branch first (statements_of ss) (statements_end ss) (branches_of more)) (branches_end more)
   statement_of (return_ at e end) = tree.Return at (expr_of e)
   statement_of (fail at e end) = tree.FailWith at (expr_of e)
   statement_of (continue_ at as_at new_at paren es end) = tree.Continue at (arguments_of es)

@@ -118,7 +118,7 @@ begin s t (WaitSignal at x signal_at n) =
 begin s t (WaitSignalFor at x signal_at n e b end) =
     on_signal (oldest n t.buffer) (λ v. Goes Done (take_signal t x n v))
     (on_value (due t.variables s.at e) (λ d. waiting s (Asks (OnSignalFor x n s.event b) t (StartTimer d))))
-begin s t (Parallel at bs) = Goes (branches_of bs) t
+begin s t (Parallel at bs end) = Goes (branches_of bs) t
 begin s t (Patch at id_at id a a_end b b_end) = patched s t id a b (t.decided id)
 begin s t (Return at e) = on_value (value t.variables s.at e) (λ v. Ends (Complete v))
 begin s t (FailWith at e) = on_value (value t.variables s.at e) (λ v. Ends (Fail UserFail (text_of v)))

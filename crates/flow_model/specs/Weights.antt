@@ -19,7 +19,7 @@ abbrev mutual
   weight n (Sleep at e) = 2
   weight n (If at e a a_end b b_end) = weight_block n a + weight_block n b + 1
   weight n (While at e b end) = n * (weight_block n b + 1) + 1
-  weight n (Parallel at bs) = weight_branches n bs + 1
+  weight n (Parallel at bs end) = weight_branches n bs + 1
   weight n (Patch at id_at id a a_end b b_end) = weight_block n a + weight_block n b + 1
   weight n (Return at e) = 1
   weight n (FailWith at e) = 1

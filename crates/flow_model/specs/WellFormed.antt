@@ -69,7 +69,7 @@ abbrev mutual
   names_of_statement (WaitSignalFor at x signal_at s e b end) = names_of_block b
   names_of_statement (If at e a a_end b b_end) = names_of_block a ++ names_of_block b
   names_of_statement (While at e b end) = names_of_block b
-  names_of_statement (Parallel at bs) = names_of_branches bs
+  names_of_statement (Parallel at bs end) = names_of_branches bs
   names_of_statement (Patch at id_at id a a_end b b_end) = named patches id_at id ∷ (names_of_block a ++ names_of_block b)
   names_of_statement _ = []
 
@@ -336,7 +336,7 @@ abbrev mutual
   faults_of_statement s (Sleep at e) = faults_of_wanted s.types Int e
   faults_of_statement s (If at e a a_end b b_end) = faults_of_wanted s.types Int e ++ faults_of_block s a ++ faults_of_block s b
   faults_of_statement s (While at e b end) = faults_of_wanted s.types Int e ++ faults_of_block s b
-  faults_of_statement s (Parallel at bs) =
+  faults_of_statement s (Parallel at bs end) =
       fault_at_first code.TooManyBranches (drop branch_limit (branch_places bs)) ++ faults_of_branches (record s { in_parallel = true }) bs
   faults_of_statement s (Patch at id_at id a a_end b b_end) = faults_of_block s a ++ faults_of_block s b
   faults_of_statement s (Return at e) = faults_of_expression s.types e ++ ends_in_parallel s at
