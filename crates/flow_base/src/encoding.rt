@@ -2,7 +2,7 @@
 ghost use Rattle.std.specs.Prelude.{◌≡◌, IfOk};
 ghost use Rattle.serde_json.specs.View.{view, items_view};
 ghost use Rattle.serde_json.specs.Data.{array};
-ghost use Rattle.flow_base.specs.Leaves.{value_in, value_out, values_in, list_in, list_out};
+ghost use Rattle.flow_base.specs.Leaves.{value_in, value_out, values_in, any_values_in, list_in, list_out};
 ghost use Rattle.flow_base.specs.Gives.{Gives, GivesValue};
 
 use crate::fields::Refused;
@@ -68,6 +68,17 @@ pub(crate) fn values_of_json(alloc: Global, json: &Json) -> Result<Sequence<Valu
                 Err(Refused::Unfit)
             }
         }
+        _ => Err(Refused::Unfit),
+    }
+}
+
+/// The values that stand for this: a JSON array of values, however many.
+#[tactic(auto, using(crate::proofs::Lists::any_values_read))]
+pub(crate) fn any_values_of_json(alloc: Global, json: &Json) -> Result<Sequence<Value>, Refused>
+    ensures { Gives (λ vs. vs) result (any_values_in (view json.now)) }
+{
+    match json {
+        Json::Array(items) => Ok(Sequence::from_vec(list_of_json(alloc, items)?)),
         _ => Err(Refused::Unfit),
     }
 }

@@ -3,11 +3,11 @@ ghost use Rattle.std.specs.Prelude.{◌≡◌, ◌≤◌, Some, option_map, IfOk
 ghost use Rattle.serde_json.specs.Find.{as_object};
 ghost use Rattle.serde_json.specs.View.{view};
 ghost use Rattle.flow_base.specs.Codec.{front, field, none_left};
-ghost use Rattle.flow_base.specs.Leaves.{whole, value, values, moment, position, key as a_key, long_text, any_text, kind, cause, fixed};
+ghost use Rattle.flow_base.specs.Leaves.{whole, value, values, any_values, moment, position, key as a_key, long_text, any_text, kind, cause, fixed};
 ghost use Rattle.flow_base.specs.Gives.{Gives};
 ghost use Rattle.flow_base.specs.Fields.{left};
 
-use crate::encoding::values_of_json;
+use crate::encoding::{any_values_of_json, values_of_json};
 use crate::event::Cause;
 use crate::number::{EventId, LAST_MOMENT, LAST_NUMBER, Moment, RunId, TextNo};
 use crate::sequence::Sequence;
@@ -177,6 +177,14 @@ impl Fields {
     {
         let json = self.next(key).ok_or(Refused::Unfit)?;
         values_of_json(alloc, &json)
+    }
+
+    /// A list of values, however many.
+    pub fn any_values(&mut self, alloc: Global, key: &str) -> Result<Sequence<Value>, Refused>
+        ensures { Gives (λ n. (n, left self.new)) result (field key.now any_values (left self.old)) }
+    {
+        let json = self.next(key).ok_or(Refused::Unfit)?;
+        any_values_of_json(alloc, &json)
     }
 
     /// The name of a type.

@@ -343,7 +343,7 @@ module _ (p : Program) (G : Types) (vars : Variables) (types : Types) (par : Boo
   can_begin (Sleep at e) h = known_wanted vars types (shows G vars types holds sees) Int e h
   can_begin (If at e a a_end b b_end) h = (if_known e a b h).0
   can_begin (While at e b end) h = known_wanted vars types (shows G vars types holds sees) Int e (none_in_both (faults_of_wanted types Int e) (faults_of_block (scope p types par) b) h).0
-  can_begin (Parallel at bs) h = tt
+  can_begin (Parallel at bs end) h = tt
   can_begin (Patch at id_at id a a_end b b_end) h = tt
   can_begin (Return at e) h =
       let k = known vars types (shows G vars types holds sees) e (none_in_both (faults_of_expression types e) (ends_in_parallel (scope p types par) at) h).0 in
@@ -381,7 +381,7 @@ behind_is p types par (WaitSignalFor at x signal_at s e b end) = refl
 behind_is p types par (Sleep at e) = refl
 behind_is p types par (If at e a a_end b b_end) = refl
 behind_is p types par (While at e b end) = refl
-behind_is p types par (Parallel at bs) = refl
+behind_is p types par (Parallel at bs end) = refl
 behind_is p types par (Patch at id_at id a a_end b b_end) = refl
 behind_is p types par (Return at e) = refl
 behind_is p types par (FailWith at e) = refl
@@ -484,7 +484,7 @@ module _ (p : Program) (G : Types) (s : Setting) (t : Store) (active : s.activit
         (on_value (value_of t.variables s.at e) (λ v. Goes (if is_true v then Then (rest_of b) (Next (While at e b end) End) else Done) (tested t))) (raise TurnBudget)
         (fits_on_value p G t.variables types (value_of t.variables s.at e) (λ v. Goes (if is_true v then Then (rest_of b) (Next (While at e b end) End) else Done) (tested t))
         (λ v i. (store, more_same t.variables, sees, loop_fits at e b end (is_true v) h a))) tt
-    begin_fits (Parallel at bs) h a =
+    begin_fits (Parallel at bs end) h a =
         let parts = none_in_both (fault_at_first code.TooManyBranches (drop branch_limit (branch_places bs))) (faults_of_branches (scope p types true) bs) h in
         same_store (branches_of bs) (branches_fit p G t.variables types bs sees parts.1 a)
     begin_fits (Patch at id_at id x x_end y y_end) h a =

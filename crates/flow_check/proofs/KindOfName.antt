@@ -28,7 +28,7 @@ abbrev mutual
   typings_of_statement types (WaitSignalFor at x signal_at s e b end) = typings_of_block types b
   typings_of_statement types (If at e a a_end b b_end) = typings_of_block types a ++ typings_of_block types b
   typings_of_statement types (While at e b end) = typings_of_block types b
-  typings_of_statement types (Parallel at bs) = typings_of_branches types bs
+  typings_of_statement types (Parallel at bs end) = typings_of_branches types bs
   typings_of_statement types (Patch at id_at id a a_end b b_end) = typings_of_block types a ++ typings_of_block types b
   typings_of_statement types _ = []
 
@@ -97,7 +97,7 @@ mutual
   named_statement types (Sleep at e) = refl
   named_statement types (If at e a a_end b b_end) = both_named (typings_of_block types a) (typings_of_block types b) (names_of_block a) (names_of_block b) (named_block types a) (named_block types b)
   named_statement types (While at e b end) = named_block types b
-  named_statement types (Parallel at bs) = named_branches types bs
+  named_statement types (Parallel at bs end) = named_branches types bs
   named_statement types (Patch at id_at id a a_end b b_end) = both_named (typings_of_block types a) (typings_of_block types b) (names_of_block a) (names_of_block b) (named_block types a) (named_block types b)
   named_statement types (Return at e) = refl
   named_statement types (FailWith at e) = refl

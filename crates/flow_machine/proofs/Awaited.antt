@@ -218,7 +218,7 @@ module _ {A : Type 0} (w : Sort A) where
       on_signal_moves s.event Done (oldest n t.buffer) (λ v. Goes Done (take_signal t x n v)) (on_value (due t.variables s.at e) (λ d. waiting s (asks d))) (λ v m. refl)
       (on_value_moves s.event Done (due t.variables s.at e) (λ d. waiting s (asks d))
       (λ d. if_moves s.event Done (nat_lt s.waits wait_limit) (asks d) (raise WaitLimit) (added w.timer s.event (OnSignalFor x n s.event b) (λ m. refl)) refl))
-  begins_moves s t (Parallel at bs) = λ n. branches_wait bs n
+  begins_moves s t (Parallel at bs end) = λ n. branches_wait bs n
   begins_moves s t (Patch at id_at id a a_end b b_end) = patched_moves s.event s t id a b (t.decided id)
   begins_moves s t (Return at e) = on_value_moves s.event Done (value t.variables s.at e) (λ v. Ends (Complete v)) (λ v. refl)
   begins_moves s t (FailWith at e) = on_value_moves s.event Done (value t.variables s.at e) (λ v. Ends (Fail UserFail (text_of v))) (λ v. refl)

@@ -51,7 +51,7 @@ behind_keeps s (WaitSignalFor at x signal_at n e b end) = refl
 behind_keeps s (Sleep at e) = refl
 behind_keeps s (If at e a a_end b b_end) = refl
 behind_keeps s (While at e b end) = refl
-behind_keeps s (Parallel at bs) = refl
+behind_keeps s (Parallel at bs end) = refl
 behind_keeps s (Patch at id_at id a a_end b b_end) = refl
 behind_keeps s (Return at e) = refl
 behind_keeps s (FailWith at e) = refl
@@ -87,7 +87,7 @@ mutual
         own_block g ds s e b (λ i y. h i (or_right (block_has i a) (block_has i b) y)) (clean_right (wanted ++ faults_of_block s a) (faults_of_block s b) c),
       )
   own_statement g ds s e (While at d b end) h c = own_block g ds s e b h (clean_right (faults_of_wanted s.types Int d) (faults_of_block s b) c)
-  own_statement g ds s e (Parallel at bs) h c =
+  own_statement g ds s e (Parallel at bs end) h c =
       own_branches g ds (record s { in_parallel = true }) e bs h
       (clean_right (fault_at_first code.TooManyBranches (drop branch_limit (branch_places bs))) (faults_of_branches (record s { in_parallel = true }) bs) c)
   own_statement g ds s e (Patch at id_at id a a_end b b_end) h c = (

@@ -44,7 +44,7 @@ mutual
       ap (λ w. Next (If 0 (bare_expression e) w 0 (bare_block (spliced f b)) 0) (bare_block k)) (bare_spliced f a)
       ∙ ap (λ w. Next (If 0 (bare_expression e) (plain f a) 0 w 0) (bare_block k)) (bare_spliced f b)
   bare_placed f (While at e b end) k = ap (λ w. Next (While 0 (bare_expression e) w 0) (bare_block k)) (bare_spliced f b)
-  bare_placed f (Parallel at bs) k = ap (λ w. Next (Parallel 0 w) (bare_block k)) (bare_sides f bs)
+  bare_placed f (Parallel at bs end) k = ap (λ w. Next (Parallel 0 w 0) (bare_block k)) (bare_sides f bs)
   bare_placed f (Patch at id_at id a a_end b b_end) k =
       ⊎_elim (λ (e : f id ≡ true). rw e (bare_joined (spliced f b) k ∙ ap (λ w. joined w (bare_block k)) (bare_spliced f b)))
       (λ (e : f id ≡ false).
@@ -101,7 +101,7 @@ mutual
       let p = places (difference a a' a_end') (difference b b' b_end') n in
       statements_alike (If at e a a_end b b_end) (If at' d a' a_end' b' b_end') h (alike a a' a_end' p.0) (alike b b' b_end' p.1) refl
   alike_statements (While at e b end) (While at' d b' end') h n = statements_alike (While at e b end) (While at' d b' end') h (alike b b' end' n) refl refl
-  alike_statements (Parallel at bs) (Parallel at' cs) h n = statements_alike (Parallel at bs) (Parallel at' cs) h refl refl (alike_beside bs cs at' n)
+  alike_statements (Parallel at bs end) (Parallel at' cs end') h n = statements_alike (Parallel at bs end) (Parallel at' cs end') h refl refl (alike_beside bs cs at' n)
   alike_statements (Patch at id_at i a a_end b b_end) (Patch at' id_at' j a' a_end' b' b_end') h n =
       let p = places (difference a a' a_end') (difference b b' b_end') n in
       statements_alike (Patch at id_at i a a_end b b_end) (Patch at' id_at' j a' a_end' b' b_end') h (alike a a' a_end' p.0) (alike b b' b_end' p.1) refl
@@ -163,7 +163,7 @@ mutual
   nowhere_within s (WaitSignalFor at x signal_at n e b end) f g h = nowhere (first_list s) b end f
   nowhere_within s (If at e a a_end b b_end) f g h = no_place (difference (first_list s) a a_end) (difference (second_list s) b b_end) (nowhere (first_list s) a a_end f) (nowhere (second_list s) b b_end g)
   nowhere_within s (While at e b end) f g h = nowhere (first_list s) b end f
-  nowhere_within s (Parallel at bs) f g h = nowhere_beside (branches_in s) bs at h
+  nowhere_within s (Parallel at bs end) f g h = nowhere_beside (branches_in s) bs at h
   nowhere_within s (Patch at id_at i a a_end b b_end) f g h = no_place (difference (first_list s) a a_end) (difference (second_list s) b b_end) (nowhere (first_list s) a a_end f) (nowhere (second_list s) b b_end g)
   nowhere_within s s' f g h = refl
 

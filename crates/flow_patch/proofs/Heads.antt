@@ -178,7 +178,7 @@ head_self (WaitSignalFor at x signal_at n e b end) =
 head_self (Sleep at e) = expression_self e
 head_self (If at e a a_end b b_end) = expression_self e
 head_self (While at e b end) = expression_self e
-head_self (Parallel at bs) = refl
+head_self (Parallel at bs end) = refl
 head_self (Patch at id_at id a a_end b b_end) = bytes_self id
 head_self (Return at e) = expression_self e
 head_self (FailWith at e) = expression_self e
@@ -192,7 +192,7 @@ bare_head (Call at x activity_at a es r o) (Call at' y activity_at' b ds q u) =
     ∙ ap (λ h. bytes_eq x y && (bytes_eq a b && (same_expressions es ds && (same_retry r q && same_flag h (has_else (bare_otherwise u)))))) (bare_else o)
     ∙ ap (λ h. bytes_eq x y && (bytes_eq a b && (same_expressions es ds && (same_retry r q && same_flag (has_else o) h)))) (bare_else u)
 bare_head (WaitSignal at x signal_at n) (WaitSignal at' y signal_at' m) = refl
-bare_head (Parallel at bs) (Parallel at' cs) = refl
+bare_head (Parallel at bs end) (Parallel at' cs end') = refl
 bare_head (Patch at id_at i l l_end k k_end) (Patch at' id_at' j l' l_end' k' k_end') = refl
 bare_head (WaitSignalFor at x signal_at n e b end) (WaitSignalFor at' y signal_at' m d c end') = ap (λ h. bytes_eq x y && (bytes_eq n m && h)) (bare_same e d)
 bare_head (Sleep at e) (Sleep at' d) = bare_same e d
@@ -220,7 +220,7 @@ bare_second (If at e a a_end b b_end) = refl
 bare_second s = refl
 
 pub bare_beside : (s : Statement) → branches_in (bare_statement s) ≡ bare_branches (branches_in s)
-bare_beside (Parallel at bs) = refl
+bare_beside (Parallel at bs end) = refl
 bare_beside s = refl
 
 -- a call's `else`, by whether it is there and its list
@@ -263,7 +263,7 @@ statements_alike (If at e l l_end k k_end) (If at' d l' l_end' k' k_end') h a b 
     ∙ ap (λ z. If 0 (bare_expression d) (bare_block l') 0 z 0) b
 statements_alike (While at e l end) (While at' d l' end') h a b c =
     ap (λ z. While 0 z (bare_block l) 0) (expressions_alike e d h) ∙ ap (λ z. While 0 (bare_expression d) z 0) a
-statements_alike (Parallel at bs) (Parallel at' cs) h a b c = ap (Parallel 0) c
+statements_alike (Parallel at bs end) (Parallel at' cs end') h a b c = ap (Parallel 0) c
 statements_alike (Patch at id_at i l l_end k k_end) (Patch at' id_at' j l' l_end' k' k_end') h a b c =
     ap (λ z. Patch 0 0 z (bare_block l) 0 (bare_block k) 0) (bytes_same i j h) ∙ ap (λ z. Patch 0 0 j z 0 (bare_block k) 0) a
     ∙ ap (λ z. Patch 0 0 j (bare_block l') 0 z 0) b

@@ -43,7 +43,7 @@ mutual
   placed_none (If at e a a_end b b_end) k =
       ap (λ w. Next (If 0 (bare_expression e) w 0 (plain none b) 0) k) (plain_none a) ∙ ap (λ w. Next (If 0 (bare_expression e) (bare_block a) 0 w 0) k) (plain_none b)
   placed_none (While at e b end) k = ap (λ w. Next (While 0 (bare_expression e) w 0) k) (plain_none b)
-  placed_none (Parallel at bs) k = ap (λ w. Next (Parallel 0 w) k) (branches_none bs)
+  placed_none (Parallel at bs end) k = ap (λ w. Next (Parallel 0 w 0) k) (branches_none bs)
   placed_none (Patch at id_at id a a_end b b_end) k =
       ap (λ w. Next (Patch 0 0 id w 0 (plain none b) 0) k) (plain_none a) ∙ ap (λ w. Next (Patch 0 0 id (bare_block a) 0 w 0) k) (plain_none b)
   placed_none (Return at e) k = refl

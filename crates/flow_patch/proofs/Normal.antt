@@ -314,8 +314,8 @@ begins g K P s t q (While at e b end) =
     plainly g K P s t (While at e b end) (While 0 (bare_expression e) (changed g b) 0) (λ k. refl)
     (rw (bare_value t.variables s.at e) (if_alike (NormTo g) SameStore (nat_lt t.tests test_limit) _ _ _ _
     (value_alike (NormTo g) SameStore (value t.variables s.at e) _ _ (λ v. (turns_alike g (is_true v) at e b end, refl))) refl))
-begins g K P s t q (Parallel at bs) =
-    plainly g K P s t (Parallel at bs) (Parallel 0 (changed_branches g bs)) (λ k. refl) ((branches_alike g bs, refl))
+begins g K P s t q (Parallel at bs end) =
+    plainly g K P s t (Parallel at bs end) (Parallel 0 (changed_branches g bs) 0) (λ k. refl) ((branches_alike g bs, refl))
 begins g K P s t q (Patch at id_at id a a_end b b_end) = q at id_at id a a_end b b_end
 begins g K P s t q (Return at e) =
     plainly g K P s t (Return at e) (Return 0 (bare_expression e)) (λ k. refl)

@@ -132,7 +132,7 @@ begin_twin f s more t d n (If at e a a_end b b_end) o = value_twin f s.activitie
 begin_twin f s more t d n (While at e b end) o =
     if_twin f s.activities (nat_lt t.tests test_limit) _ _ _ _
     (value_twin f s.activities (value t.variables s.at e) _ _ (λ v. (refl, own_turns f s.activities (is_true v) at e b end o, (d, (refl, n))))) (refl, tt)
-begin_twin f s more t d n (Parallel at bs) o = (refl, own_branches f s.activities bs o, (d, (refl, n)))
+begin_twin f s more t d n (Parallel at bs end) o = (refl, own_branches f s.activities bs o, (d, (refl, n)))
 begin_twin f s more t d n (Patch at id_at id a a_end b b_end) o =
     rw ((n id).0 o.0) (patch_twin f s more t d n id a b o.0 o.1 o.2 (t.decided id))
 begin_twin f s more t d n (Return at e) o = value_twin f s.activities (value t.variables s.at e) _ _ (λ v. (refl, tt))

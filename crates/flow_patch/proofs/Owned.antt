@@ -17,7 +17,7 @@ abbrev mutual
   Own f acts (Sleep at e) = Unit {0}
   Own f acts (If at e a a_end b b_end) = OwnBlock f acts a × OwnBlock f acts b
   Own f acts (While at e b end) = OwnBlock f acts b
-  Own f acts (Parallel at bs) = OwnBranches f acts bs
+  Own f acts (Parallel at bs end) = OwnBranches f acts bs
   Own f acts (Patch at id_at id a a_end b b_end) = (f id ≡ false) × OwnBlock f acts a × OwnBlock f acts b
   Own f acts (Return at e) = Unit {0}
   Own f acts (FailWith at e) = Unit {0}

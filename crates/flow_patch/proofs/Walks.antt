@@ -77,8 +77,8 @@ head_while : (s : Statement) (at : ℕ) (e : Expression) (b c : Block) (end : �
 head_while (While at' e' b' end') at e b c end = refl
 head_while s at e b c end = refl
 
-head_parallel : (s : Statement) (at : ℕ) (bs cs : Branches) → same_head s (Parallel at bs) ≡ same_head s (Parallel at cs)
-head_parallel (Parallel at' bs') at bs cs = refl
+head_parallel : (s : Statement) (at : ℕ) (bs cs : Branches) → same_head s (Parallel at bs end) ≡ same_head s (Parallel at cs)
+head_parallel (Parallel at' bs' end') at bs cs = refl
 head_parallel s at bs cs = refl
 
 head_patch : (s : Statement) (at id_at : ℕ) (id : Bytes) (a b c d : Block) (m n : ℕ) → same_head s (Patch at id_at id a m b n) ≡ same_head s (Patch at id_at id c m d n)
@@ -126,8 +126,8 @@ mutual
   walked_statement f (While at e c c_end) b k end =
       kept (While at e c c_end) (While at e (spliced f c) c_end) b k end (λ s. ended (behind f c (first_list s)) c_end) refl
       (λ s. head_while s at e (spliced f c) c c_end) (λ s. walked_whole f c (first_list s) c_end)
-  walked_statement f (Parallel at bs) b k end =
-      kept (Parallel at bs) (Parallel at (spliced_branches f bs)) b k end (λ s. within_beside f bs (branches_in s) at) refl
+  walked_statement f (Parallel at bs end) b k end =
+      kept (Parallel at bs end) (Parallel at (spliced_branches f bs)) b k end (λ s. within_beside f bs (branches_in s) at) refl
       (λ s. head_parallel s at (spliced_branches f bs) bs) (λ s. walked_beside f bs (branches_in s) at)
   walked_statement f (Patch at id_at id c c_end d d_end) b k end =
       ⊎_elim (λ (e : f id ≡ true). rw e (walked f d b k end))

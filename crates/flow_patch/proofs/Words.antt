@@ -28,7 +28,7 @@ mutual
       w.1.1.0 ∙ ap (λ c. Next (While 0 (bare_expression e) c 0) w.1.0) (wraps_plain f w.0 c' w.1.1.1)
       ∙ ap (Next (While 0 (bare_expression e) (plain f c') 0)) (h w.1.0 w.1.1.2)
   from_plain f b (Parallel at bs') b' h w =
-      w.1.1.0 ∙ ap (λ c. Next (Parallel 0 c) w.1.0) (branches_plain f w.0 bs' w.1.1.1)
+      w.1.1.0 ∙ ap (λ c. Next (Parallel 0 c 0) w.1.0) (branches_plain f w.0 bs' w.1.1.1)
       ∙ ap (Next (Parallel 0 (changed_branches (without_new f) bs'))) (h w.1.0 w.1.1.2)
   from_plain f b (Patch at id_at id c' c_end d' d_end) b' h (inl w) =
       rw (w.0) (w.1.1.1.0 ∙ ap (λ d. joined d w.1.1.0) (wraps_plain f w.1.0 d' w.1.1.1.1) ∙ ap (joined (plain f d')) (h w.1.1.0 w.1.1.1.2))
@@ -64,7 +64,7 @@ mutual
   plain_from f (WaitSignalFor at x signal_at n e c end) b' w = (plain f c, (plain f b', (refl, plain_wraps f c, w)))
   plain_from f (If at e c c_end d d_end) b' w = (plain f c, (plain f d, (plain f b', (refl, plain_wraps f c, plain_wraps f d, w))))
   plain_from f (While at e c end) b' w = (plain f c, (plain f b', (refl, plain_wraps f c, w)))
-  plain_from f (Parallel at bs) b' w = (changed_branches (without_new f) bs, (plain f b', (refl, plain_sides f bs, w)))
+  plain_from f (Parallel at bs end) b' w = (changed_branches (without_new f) bs, (plain f b', (refl, plain_sides f bs, w)))
   plain_from f (Patch at id_at id c c_end d d_end) b' w =
       ⊎_elim (λ (e : f id ≡ true). inl (e, (plain f d, (plain f b', (rw e, plain_wraps f d, w)))))
       (λ (e : f id ≡ false). inr (e, (plain f c, (plain f d, (plain f b', (rw e, plain_wraps f c, plain_wraps f d, w)))))) (cases (f id))

@@ -52,7 +52,7 @@ abbrev mutual
   within f (WaitSignalFor at x signal_at n e c end) s = ended (behind f c (first_list s)) end
   within f (If at e c c_end d d_end) s = first_place (ended (behind f c (first_list s)) c_end) (ended (behind f d (second_list s)) d_end)
   within f (While at e c end) s = ended (behind f c (first_list s)) end
-  within f (Parallel at bs) s = within_beside f bs (branches_in s) at
+  within f (Parallel at bs end) s = within_beside f bs (branches_in s) at
   within f (Patch at id_at id c c_end d d_end) s = first_place (ended (behind f c (first_list s)) c_end) (ended (behind f d (second_list s)) d_end)
   within f s' s = None
 

@@ -76,7 +76,7 @@ same_head (WaitSignalFor at x signal_at n e b end) (WaitSignalFor at' y signal_a
 same_head (Sleep at e) (Sleep at' d) = same_expression e d
 same_head (If at e a a_end b b_end) (If at' d a' a_end' b' b_end') = same_expression e d
 same_head (While at e b end) (While at' d b' end') = same_expression e d
-same_head (Parallel at bs) (Parallel at' cs) = true
+same_head (Parallel at bs end) (Parallel at' cs end') = true
 same_head (Patch at id_at id a a_end b b_end) (Patch at' id_at' i a' a_end' b' b_end') = bytes_eq id i
 same_head (Return at e) (Return at' d) = same_expression e d
 same_head (FailWith at e) (FailWith at' d) = same_expression e d
@@ -102,7 +102,7 @@ second_list (Patch at id_at id a a_end b b_end) = b
 second_list s = End
 
 abbrev pub branches_in : Statement → Branches
-branches_in (Parallel at bs) = bs
+branches_in (Parallel at bs end) = bs
 branches_in s = NoBranch
 
 ---- Places
@@ -117,7 +117,7 @@ place_of (WaitSignalFor at x signal_at n e b end) = at
 place_of (Sleep at e) = at
 place_of (If at e a a_end b b_end) = at
 place_of (While at e b end) = at
-place_of (Parallel at bs) = at
+place_of (Parallel at bs end) = at
 place_of (Patch at id_at id a a_end b b_end) = at
 place_of (Return at e) = at
 place_of (FailWith at e) = at
@@ -146,7 +146,7 @@ abbrev mutual
   spliced_statement f (Sleep at e) k = Next (Sleep at e) k
   spliced_statement f (If at e a a_end b b_end) k = Next (If at e (spliced f a) a_end (spliced f b) b_end) k
   spliced_statement f (While at e b end) k = Next (While at e (spliced f b) end) k
-  spliced_statement f (Parallel at bs) k = Next (Parallel at (spliced_branches f bs)) k
+  spliced_statement f (Parallel at bs end) k = Next (Parallel at (spliced_branches f bs)) k
   spliced_statement f (Patch at id_at id a a_end b b_end) k =
       if f id then joined (spliced f b) k else Next (Patch at id_at id (spliced f a) a_end (spliced f b) b_end) k
   spliced_statement f (Return at e) k = Next (Return at e) k
@@ -180,7 +180,7 @@ abbrev mutual
   difference_within s (WaitSignalFor at x signal_at n e b end) = difference (first_list s) b end
   difference_within s (If at e a a_end b b_end) = first_place (difference (first_list s) a a_end) (difference (second_list s) b b_end)
   difference_within s (While at e b end) = difference (first_list s) b end
-  difference_within s (Parallel at bs) = difference_beside (branches_in s) bs at
+  difference_within s (Parallel at bs end) = difference_beside (branches_in s) bs at
   difference_within s (Patch at id_at id a a_end b b_end) = first_place (difference (first_list s) a a_end) (difference (second_list s) b b_end)
   difference_within s s' = None
 
