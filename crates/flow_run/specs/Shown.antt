@@ -1,5 +1,5 @@
 -- What the plain run shows of itself: its configuration, and what its parts mean in the definitions.
-use Rattle.std.specs.Prelude.{◌≡◌, ℕ, List, [], ◌∷◌, ◌++◌, map, drop, Option, Some, None, Bool}
+use Rattle.std.specs.Prelude.{◌≡◌, ℕ, List, [], ◌∷◌, ◌++◌, map, take, drop, Option, Some, None, Bool}
 use Rattle.flow_base.specs.Syntax.{Bytes, Statement, Block, End, Next, activities_of, block_of}
 use Rattle.flow_base.specs.Shown.{shown_stmt, shown_braced, shown_otherwise, shown_declaration}
 use Rattle.flow_base.specs.declared.syntax.Stmt.{Stmt}
@@ -46,7 +46,7 @@ shown_rest (OnTimer n) = tree.OnTimer n
 shown_rest (OnSignal x s) = tree.OnSignal x s
 shown_rest (OnSignalFor x s n b) = tree.OnSignalFor x s n (shown_braced b).0
 shown_rest (Raised c t) = tree.Raised c t
-shown_rest (Then' p r b i) = tree.Then (shown_rest r) (left_from b.items i)
+shown_rest (Then' p r b i to) = tree.Then (shown_rest r) (left_from (take to b.value.items) i)
 shown_rest (Beside' p a q b) = tree.Beside (shown_rest a) (shown_rest b)
 
 -- The configuration that a plain run stands for.

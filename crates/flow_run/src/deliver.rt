@@ -8,11 +8,11 @@ ghost use Rattle.flow_run.specs.Shown.{shown_rest, shown_started, shown_rest_of,
 
 use crate::decided::Decided;
 use crate::plain::PlainRun;
-use crate::rest::{Rest, entered};
+use crate::rest::{Rest, begun, entered};
 use crate::step::Store;
 use flow_base::event::{Cause, Cmd, Input, State};
 use flow_base::number::EventId;
-use flow_base::syntax::{Block, Declaration, Parameter, Program, copy_stmts};
+use flow_base::syntax::{Block, Declaration, Parameter, Program};
 use flow_base::text::{Key, Text};
 use flow_base::value::{Kind, Value};
 use flow_model::kinds::{all_fit, has_kind};
@@ -80,8 +80,7 @@ fn begin(alloc: Global, program: &Program, values: &[Value]) -> Result<Option<Tu
     if !all_fit(&program.parameters, values) {
         return Ok(None);
     }
-    let body = copy_stmts(alloc, &program.body)?;
-    let rest = Rest::Then(Box::new(alloc, Rest::Done)?, body, 0);
+    let rest = begun(alloc, &program.body)?;
     let variables = bind(alloc, &program.parameters, values)?;
     let buffer = NamedValues::new(alloc);
     Ok(Some(start_from(
@@ -251,9 +250,9 @@ fn resume(alloc: Global, rest: &Rest, n: EventId) -> Result<Option<Resumed>, All
                 Ok(None)
             }
         }
-        Rest::Then(r, b, i) => match resume(alloc, r, n)? {
+        Rest::Then(r, b, i, to) => match resume(alloc, r, n)? {
             Some(Resumed { rest, into, kind }) => {
-                let rest = Rest::Then(Box::new(alloc, rest)?, copy_stmts(alloc, b)?, *i);
+                let rest = Rest::Then(Box::new(alloc, rest)?, b.clone()?, *i, *to);
                 Ok(Some(Resumed { rest, into, kind }))
             }
             None => Ok(None),
@@ -289,8 +288,8 @@ fn failed(alloc: Global, rest: &Rest, n: EventId, text: &Text) -> Result<Option<
                 Ok(None)
             }
         }
-        Rest::Then(r, b, i) => match failed(alloc, r, n, text)? {
-            Some(r) => Ok(Some(Rest::Then(Box::new(alloc, r)?, copy_stmts(alloc, b)?, *i))),
+        Rest::Then(r, b, i, to) => match failed(alloc, r, n, text)? {
+            Some(r) => Ok(Some(Rest::Then(Box::new(alloc, r)?, b.clone()?, *i, *to))),
             None => Ok(None),
         },
         Rest::Beside(a, b) => match failed(alloc, a, n, text)? {
@@ -339,8 +338,8 @@ fn fired(alloc: Global, rest: &Rest, n: EventId) -> Result<Option<Rest>, AllocEr
                 Ok(None)
             }
         }
-        Rest::Then(r, b, i) => match fired(alloc, r, n)? {
-            Some(r) => Ok(Some(Rest::Then(Box::new(alloc, r)?, copy_stmts(alloc, b)?, *i))),
+        Rest::Then(r, b, i, to) => match fired(alloc, r, n)? {
+            Some(r) => Ok(Some(Rest::Then(Box::new(alloc, r)?, b.clone()?, *i, *to))),
             None => Ok(None),
         },
         Rest::Beside(a, b) => match fired(alloc, a, n)? {

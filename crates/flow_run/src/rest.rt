@@ -1,15 +1,17 @@
-ghost use Rattle.std.specs.Prelude.{◌≡◌, ◌++◌, IfOk, OnOk, is_some};
-ghost use Rattle.flow_base.specs.Shown.{shown_braced, shown_otherwise};
+ghost use Rattle.std.specs.Prelude.{◌≡◌, ◌++◌, IfOk, OnOk, is_some, map};
+ghost use Rattle.flow_base.specs.Syntax.{block_of};
+ghost use Rattle.flow_base.specs.Shown.{shown_stmt, shown_braced, shown_otherwise};
 ghost use Rattle.flow_run.specs.Shown.{shown_rest, waits_of};
 ghost use Rattle.flow_model.specs.Rest.{rest_of};
 ghost use Rattle.flow_model.specs.Deliver.{target_of, awaited_kind, replaced, when_fired};
 
 use flow_base::event::Cause;
 use flow_base::number::EventId;
-use flow_base::syntax::{Block, Stmt, copy_stmts};
+use flow_base::syntax::{Block, Stmt};
 use flow_base::text::{Key, Text};
 use flow_base::value::Kind;
 use std::alloc::{AllocError, Global};
+use std::sync::Arc;
 
 /// What is left of a program.
 #[derive(Debug, Drop)]
@@ -26,8 +28,9 @@ pub(crate) enum Rest {
     OnSignalFor(Key, Key, EventId, Block),
     /// An activity failed: the run is to fail, with this text.
     Raised(Cause, Text),
-    /// What goes on, and then the statements of a list from this number on.
-    Then(Box<Rest>, Vec<Stmt>, usize),
+    /// What goes on, and then the statements of a list from the first number up to the second. The list is the program's
+    /// own: rests share it.
+    Then(Box<Rest>, Arc<Vec<Stmt>>, usize, usize),
     /// Two branches side by side.
     Beside(Box<Rest>, Box<Rest>),
 }
@@ -53,19 +56,19 @@ impl Rest {
             Rest::Done => Ok(Rest::Done),
             Rest::OnActivity(n, x, k, o) => {
                 let x = x.copy(alloc)?;
-                Ok(Rest::OnActivity(*n, x, *k, copy_otherwise(alloc, o)?))
+                Ok(Rest::OnActivity(*n, x, *k, share_otherwise(o)?))
             }
             Rest::OnTimer(n) => Ok(Rest::OnTimer(*n)),
             Rest::OnSignal(x, s) => Ok(Rest::OnSignal(x.copy(alloc)?, s.copy(alloc)?)),
             Rest::OnSignalFor(x, s, n, late) => {
                 let x = x.copy(alloc)?;
                 let s = s.copy(alloc)?;
-                Ok(Rest::OnSignalFor(x, s, *n, late.copy(alloc)?))
+                Ok(Rest::OnSignalFor(x, s, *n, late.share()?))
             }
             Rest::Raised(c, t) => Ok(Rest::Raised(*c, t.copy(alloc)?)),
-            Rest::Then(r, b, i) => {
+            Rest::Then(r, b, i, to) => {
                 let r = Box::new(alloc, r.copy(alloc)?)?;
-                Ok(Rest::Then(r, copy_stmts(alloc, b)?, *i))
+                Ok(Rest::Then(r, b.clone()?, *i, *to))
             }
             Rest::Beside(a, b) => {
                 let a = Box::new(alloc, a.copy(alloc)?)?;
@@ -99,7 +102,7 @@ impl Rest {
                 Ok(())
             }
             Rest::Raised(_, _) => Ok(()),
-            Rest::Then(r, _, _) => r.add_waits(alloc, list),
+            Rest::Then(r, _, _, _) => r.add_waits(alloc, list),
             Rest::Beside(a, b) => {
                 a.add_waits(alloc, list)?;
                 b.add_waits(alloc, list)
@@ -113,7 +116,7 @@ impl Rest {
     {
         match self {
             Rest::OnActivity(n, _, k, _) => { if *n == event.get() { Some(*k) } else { None } }
-            Rest::Then(r, _, _) => r.awaited(event),
+            Rest::Then(r, _, _, _) => r.awaited(event),
             Rest::Beside(a, b) => match a.awaited(event) {
                 Some(k) => Some(k),
                 None => b.awaited(event),
@@ -129,7 +132,7 @@ impl Rest {
         match self {
             Rest::OnTimer(n) => *n == event.get(),
             Rest::OnSignalFor(_, _, n, _) => n.get() == event.get(),
-            Rest::Then(r, _, _) => r.awaits_timer(event),
+            Rest::Then(r, _, _, _) => r.awaits_timer(event),
             Rest::Beside(a, b) => a.awaits_timer(event) || b.awaits_timer(event),
             _ => false,
         }
@@ -140,19 +143,24 @@ impl Rest {
 pub(crate) fn entered(alloc: Global, block: &Block) -> Result<Rest, AllocError>
     ensures { IfOk result (λ r. shown_rest r ≡ rest_of (shown_braced block.now).0) }
 {
-    let list = copy_stmts(alloc, &block.list)?;
-    Ok(Rest::Then(Box::new(alloc, Rest::Done)?, list, 0))
+    begun(alloc, &block.list)
+}
+
+/// All statements of a list.
+pub(crate) fn begun(alloc: Global, list: &Arc<Vec<Stmt>>) -> Result<Rest, AllocError>
+    ensures { IfOk result (λ r. shown_rest r ≡ rest_of (block_of (map shown_stmt list.now.value.items))) }
+{
+    let all = list.clone()?;
+    let to = list.len();
+    Ok(Rest::Then(Box::new(alloc, Rest::Done)?, all, 0, to))
 }
 
 /// The same list, if there is one.
-pub(crate) fn copy_otherwise(
-    alloc: Global,
-    otherwise: &Option<Block>,
-) -> Result<Option<Block>, AllocError>
+pub(crate) fn share_otherwise(otherwise: &Option<Block>) -> Result<Option<Block>, AllocError>
     ensures { IfOk result (λ o. shown_otherwise o ≡ shown_otherwise otherwise.now) }
 {
     match otherwise {
         None => Ok(None),
-        Some(b) => Ok(Some(b.copy(alloc)?)),
+        Some(b) => Ok(Some(b.share()?)),
     }
 }

@@ -1,4 +1,4 @@
-ghost use Rattle.std.specs.Prelude.{◌≡◌, ◌<◌, ◌+◌, IfOk, MatchOption, map, min, length, OnOk, [], false, nat_lt, if◌then◌else◌};
+ghost use Rattle.std.specs.Prelude.{◌≡◌, ◌<◌, ◌+◌, IfOk, MatchOption, map, take, min, length, OnOk, [], false, nat_lt, if◌then◌else◌};
 ghost use Rattle.flow_base.specs.Syntax.{Statement, End, Next, Let as ALet, Call as ACall, WaitSignal as AWaitSignal, WaitSignalFor as AWaitSignalFor, Sleep as ASleep, Return as AReturn, FailWith as AFailWith, Continue as AContinue, activities_of};
 ghost use Rattle.flow_base.specs.Shown.{shown_stmt, shown_braced, shown_otherwise, shown_declaration, shown_expr};
 ghost use Rattle.flow_model.specs.Values.{text_of};
@@ -9,7 +9,7 @@ ghost use Rattle.flow_run.specs.Shown.{shown_rest, shown_store, shown_move, show
 use crate::blocks::{pick, repeat, side_by_side, since_patch};
 use crate::decided::Decided;
 use crate::plain::Answers;
-use crate::rest::{Rest, copy_otherwise};
+use crate::rest::{Rest, share_otherwise};
 use flow_base::event::{Cause, Cmd};
 use flow_base::number::{EventId, Moment};
 use flow_base::sequence::Sequence;
@@ -20,6 +20,7 @@ use flow_values::evaluate::{due, eval, eval_all};
 use flow_values::fault::Fault;
 use flow_values::named::NamedValues;
 use std::alloc::Global;
+use std::sync::Arc;
 
 /// What the steps of a turn change beside the rest.
 #[derive(Drop)]
@@ -75,12 +76,12 @@ pub fn step(alloc: Global, s: &Setting, t: &mut Store, rest: Rest) -> Result<Mov
         Rest::OnSignal(x, name) => hear(alloc, t, x, name),
         Rest::OnSignalFor(x, name, n, late) => hear_in_time(alloc, t, x, name, n, late),
         Rest::Raised(c, text) => Ok(Moved::Ends(Cmd::Fail(c, text))),
-        Rest::Then(r, b, i) => {
+        Rest::Then(r, b, i, to) => {
             if is_done(&r) {
-                first_of(alloc, s, t, Box::into_inner(r), b, i)
+                first_of(alloc, s, t, Box::into_inner(r), b, i, to)
             } else {
                 let m = step(alloc, s, t, Box::into_inner(r))?;
-                let n = before(alloc, m, b, i)?;
+                let n = before(alloc, m, b, i, to)?;
                 Ok(n)
             }
         }
@@ -103,10 +104,17 @@ pub fn is_done(rest: &Rest) -> bool
 {
     match rest {
         Rest::Done => true,
-        Rest::Then(r, b, i) => is_done(r) && is_end(b, *i),
+        Rest::Then(r, b, i, to) => is_done(r) && is_end(within(b, *to), *i),
         Rest::Beside(a, b) => is_done(a) && is_done(b),
         _ => false,
     }
+}
+
+// The statements of a list up to a number.
+fn within(list: &[Stmt], to: usize) -> &[Stmt]
+    ensures { result.now ≡ take to list.now }
+{
+    &list[..to.min(list.len())]
 }
 
 fn is_end(stmts: &[Stmt], i: usize) -> bool
@@ -137,7 +145,7 @@ pub fn open_waits(rest: &Rest) -> u32
         Rest::OnTimer(_) => 1,
         Rest::OnSignal(_, _) => 1,
         Rest::OnSignalFor(_, _, _, _) => 1,
-        Rest::Then(r, _, _) => open_waits(r),
+        Rest::Then(r, _, _, _) => open_waits(r),
         Rest::Beside(a, b) => (open_waits(a) + open_waits(b)).min(32),
         _ => 0,
     }
@@ -149,45 +157,46 @@ fn first_of(
     s: &Setting,
     t: &mut Store,
     r: Rest,
-    b: Vec<Stmt>,
+    b: Arc<Vec<Stmt>>,
     i: usize,
+    to: usize,
 ) -> Result<Moved, Fault>
-    ensures step { IfOk result (λ m. shown_move t.new m ≡ model.first_of (shown_setting s.now) (shown_store t.old) (left_from b.items i)) }
-    ensures kept { IfOk result (λ m. KeepsRest t.old (tree.Then (shown_rest r) (left_from b.items i)) t.new m) }
+    ensures step { IfOk result (λ m. shown_move t.new m ≡ model.first_of (shown_setting s.now) (shown_store t.old) (left_from (take to b.value.items) i)) }
+    ensures kept { IfOk result (λ m. KeepsRest t.old (tree.Then (shown_rest r) (left_from (take to b.value.items) i)) t.new m) }
 {
-    match first(&b, i) {
-        None => Ok(Moved::Stays(Rest::Then(Box::new(alloc, r)?, b, i))),
+    match first(within(&b, to), i) {
+        None => Ok(Moved::Stays(Rest::Then(Box::new(alloc, r)?, b, i, to))),
         Some(stmt) => match begin(alloc, s, t, stmt)? {
             Begun::Moves(m) => {
-                let n = followed(alloc, m, b, i + 1)?;
+                let n = followed(alloc, m, b, i + 1, to)?;
                 Ok(n)
             }
             Begun::Repeats(r) => {
-                let q = repeated(alloc, r, b, i)?;
+                let q = repeated(alloc, r, b, i, to)?;
                 Ok(Moved::Goes(q))
             }
         },
     }
 }
 
-// What goes on, then the statement at a place of a list again, and those after it. Where it is the last, the list serves
-// as it is: so a loop's list is copied once for each time that it begins.
-fn repeated(alloc: Global, r: Rest, b: Vec<Stmt>, i: usize) -> Result<Rest, Fault>
-    ensures { IfOk result (λ q. (st : Statement) → left_from b.items i ≡ Next st (left_from b.items (i + 1)) → shown_rest q ≡ model.followed_by (left_from b.items (i + 1)) (tree.Then (shown_rest r) (Next st End))) }
+// What goes on, then the statement at a place of a list again, and those after it. Where it is the last, what is left
+// of the list serves as it is.
+fn repeated(
+    alloc: Global,
+    r: Rest,
+    b: Arc<Vec<Stmt>>,
+    i: usize,
+    to: usize,
+) -> Result<Rest, Fault>
+    requires { i < length (take to b.value.items) }
+    ensures { IfOk result (λ q. (st : Statement) → left_from (take to b.value.items) i ≡ Next st (left_from (take to b.value.items) (i + 1)) → shown_rest q ≡ model.followed_by (left_from (take to b.value.items) (i + 1)) (tree.Then (shown_rest r) (Next st End))) }
 {
     let r = Box::new(alloc, r)?;
-    match first(&b, i) {
-        None => Ok(Rest::Then(r, b, i)),
-        Some(stmt) => {
-            if is_end(&b, i + 1) {
-                return Ok(Rest::Then(r, b, i));
-            }
-            let mut again = Vec::new(alloc);
-            again.push(stmt.copy(alloc)?)?;
-            let r = Rest::Then(r, again, 0);
-            Ok(Rest::Then(Box::new(alloc, r)?, b, i + 1))
-        }
+    if is_end(within(&b, to), i + 1) {
+        return Ok(Rest::Then(r, b, i, to));
     }
+    let again = Rest::Then(r, b.clone()?, i, i + 1);
+    Ok(Rest::Then(Box::new(alloc, again)?, b, i + 1, to))
 }
 
 // A statement begins.
@@ -208,7 +217,7 @@ fn begin(alloc: Global, s: &Setting, t: &mut Store, stmt: &Stmt) -> Result<Begun
         Stmt::Sleep(_, e) => Ok(Begun::Moves(sleep(alloc, s, t, e)?)),
         Stmt::If(_, e, a, b) => Ok(Begun::Moves(pick(alloc, s, t, e, a, b)?)),
         Stmt::While(at, e, b) => repeat(alloc, s, t, *at, e, b),
-        Stmt::Parallel(_, a, bs) => Ok(Begun::Moves(Moved::Goes(side_by_side(alloc, a, bs)?))),
+        Stmt::Parallel(_, a, bs, _) => Ok(Begun::Moves(Moved::Goes(side_by_side(alloc, a, bs)?))),
         Stmt::Patch(_, _, id, a, b) => Ok(Begun::Moves(since_patch(alloc, s, t, id, a, b)?)),
         Stmt::Return(_, e) => Ok(Begun::Moves(finish(alloc, s, t, e)?)),
         Stmt::FailWith(_, e) => Ok(Begun::Moves(give_up(alloc, s, t, e)?)),
@@ -254,7 +263,7 @@ fn call(
                     kind,
                 );
                 let into = into.copy(alloc)?;
-                let otherwise = copy_otherwise(alloc, otherwise)?;
+                let otherwise = share_otherwise(otherwise)?;
                 let rest = Rest::OnActivity(s.event.get(), into, kind, otherwise);
                 Ok(Moved::Asks(rest, asked))
             } else {
@@ -318,7 +327,7 @@ fn wait_for(
             if may_wait(s) {
                 let into = into.copy(alloc)?;
                 let signal = signal.copy(alloc)?;
-                let rest = Rest::OnSignalFor(into, signal, s.event, late.copy(alloc)?);
+                let rest = Rest::OnSignalFor(into, signal, s.event, late.share()?);
                 Ok(Moved::Asks(rest, Cmd::StartTimer(at)))
             } else {
                 Ok(Moved::Ends(raise(alloc, Cause::WaitLimit)))
@@ -462,28 +471,28 @@ fn set(alloc: Global, t: &mut Store, name: &Key, v: Value) -> Result<(), Fault>
 }
 
 // What a step does, with the statements after it.
-fn before(alloc: Global, m: Moved, b: Vec<Stmt>, i: usize) -> Result<Moved, Fault>
-    ensures step { IfOk result (λ n. (t : Store) → shown_move t n ≡ model.around (λ r. tree.Then r (left_from b.items i)) (shown_move t m)) }
-    ensures kept { IfOk result (λ n. (old new : Store) (r : tree.Rest) → KeepsRest old r new m → KeepsRest old (tree.Then r (left_from b.items i)) new n) }
+fn before(alloc: Global, m: Moved, b: Arc<Vec<Stmt>>, i: usize, to: usize) -> Result<Moved, Fault>
+    ensures step { IfOk result (λ n. (t : Store) → shown_move t n ≡ model.around (λ r. tree.Then r (left_from (take to b.value.items) i)) (shown_move t m)) }
+    ensures kept { IfOk result (λ n. (old new : Store) (r : tree.Rest) → KeepsRest old r new m → KeepsRest old (tree.Then r (left_from (take to b.value.items) i)) new n) }
     ensures begun { IfOk result (λ n. (old new : Store) (r : tree.Rest) → Begins old new m → KeepsRest old r new n) }
 {
     match m {
-        Moved::Stays(r) => Ok(Moved::Stays(Rest::Then(Box::new(alloc, r)?, b, i))),
-        Moved::Goes(r) => Ok(Moved::Goes(Rest::Then(Box::new(alloc, r)?, b, i))),
-        Moved::Asks(r, c) => Ok(Moved::Asks(Rest::Then(Box::new(alloc, r)?, b, i), c)),
+        Moved::Stays(r) => Ok(Moved::Stays(Rest::Then(Box::new(alloc, r)?, b, i, to))),
+        Moved::Goes(r) => Ok(Moved::Goes(Rest::Then(Box::new(alloc, r)?, b, i, to))),
+        Moved::Asks(r, c) => Ok(Moved::Asks(Rest::Then(Box::new(alloc, r)?, b, i, to), c)),
         Moved::Ends(c) => Ok(Moved::Ends(c)),
     }
 }
 
 // What the step of a statement does, with the statements after it: an empty list isn't kept.
-fn followed(alloc: Global, m: Moved, b: Vec<Stmt>, i: usize) -> Result<Moved, Fault>
-    ensures step { IfOk result (λ n. (t : Store) → shown_move t n ≡ model.around (model.followed_by (left_from b.items i)) (shown_move t m)) }
+fn followed(alloc: Global, m: Moved, b: Arc<Vec<Stmt>>, i: usize, to: usize) -> Result<Moved, Fault>
+    ensures step { IfOk result (λ n. (t : Store) → shown_move t n ≡ model.around (model.followed_by (left_from (take to b.value.items) i)) (shown_move t m)) }
     ensures begun { IfOk result (λ n. (old new : Store) (r : tree.Rest) → Begins old new m → KeepsRest old r new n) }
 {
-    if is_end(&b, i) {
+    if is_end(within(&b, to), i) {
         Ok(m)
     } else {
-        let n = before(alloc, m, b, i)?;
+        let n = before(alloc, m, b, i, to)?;
         Ok(n)
     }
 }
