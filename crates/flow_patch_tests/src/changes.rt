@@ -112,7 +112,11 @@ const HEADS: [(&str, &str, usize); 15] = [
     (PARAMETERS, "workflow x(a: int, c: text) { return 1; }", 19),
     (PARAMETERS, "workflow x(a: int, b: int) { return 1; }", 19),
     (PARAMETERS, "workflow x(a: int) { return 1; }", 17),
-    (PARAMETERS, "workflow x(a: int, b: text, c: int) { return 1; }", 28),
+    (
+        PARAMETERS,
+        "workflow x(a: int, b: text, c: int) { return 1; }",
+        28,
+    ),
     // Declarations.
     (
         DECLARED,
@@ -155,7 +159,11 @@ const HEADS: [(&str, &str, usize); 15] = [
         15,
     ),
     // One is missing: told at the first statement, or at the brace.
-    (DECLARED, "workflow q() { activity f(int) -> int; return 1; }", 39),
+    (
+        DECLARED,
+        "workflow q() { activity f(int) -> int; return 1; }",
+        39,
+    ),
     ("workflow q() { signal s: text; }", "workflow q() { }", 15),
 ];
 
