@@ -101,7 +101,7 @@ mutual
       let p = places (difference a a' a_end') (difference b b' b_end') n in
       statements_alike (If at e a a_end b b_end) (If at' d a' a_end' b' b_end') h (alike a a' a_end' p.0) (alike b b' b_end' p.1) refl
   alike_statements (While at e b end) (While at' d b' end') h n = statements_alike (While at e b end) (While at' d b' end') h (alike b b' end' n) refl refl
-  alike_statements (Parallel at bs end) (Parallel at' cs end') h n = statements_alike (Parallel at bs end) (Parallel at' cs end') h refl refl (alike_beside bs cs at' n)
+  alike_statements (Parallel at bs end) (Parallel at' cs end') h n = statements_alike (Parallel at bs end) (Parallel at' cs end') h refl refl (alike_beside bs cs end' n)
   alike_statements (Patch at id_at i a a_end b b_end) (Patch at' id_at' j a' a_end' b' b_end') h n =
       let p = places (difference a a' a_end') (difference b b' b_end') n in
       statements_alike (Patch at id_at i a a_end b b_end) (Patch at' id_at' j a' a_end' b' b_end') h (alike a a' a_end' p.0) (alike b b' b_end' p.1) refl
@@ -116,13 +116,13 @@ mutual
   alike_else (Else b end) NoElse h n = absurd (true≢false (sym h))
   alike_else (Else b end) (Else c end') h n = alike b c end' n
 
-  alike_beside : (bs cs : Branches) (before : ℕ) → difference_beside bs cs before ≡ None → bare_branches bs ≡ bare_branches cs
-  alike_beside NoBranch NoBranch before n = refl
-  alike_beside NoBranch (Branch at c end cs) before n = absurd (none_some at (sym n))
-  alike_beside (Branch at b end bs) NoBranch before n = absurd (none_some before (sym n))
-  alike_beside (Branch at b end bs) (Branch at' c end' cs) before n =
-      let p = places (difference b c end') (difference_beside bs cs end') n in
-      ap (λ x. Branch 0 x 0 (bare_branches bs)) (alike b c end' p.0) ∙ ap (Branch 0 (bare_block c) 0) (alike_beside bs cs end' p.1)
+  alike_beside : (bs cs : Branches) (block_end : ℕ) → difference_beside bs cs block_end ≡ None → bare_branches bs ≡ bare_branches cs
+  alike_beside NoBranch NoBranch block_end n = refl
+  alike_beside NoBranch (Branch at c end cs) block_end n = absurd (none_some at (sym n))
+  alike_beside (Branch at b end bs) NoBranch block_end n = absurd (none_some block_end (sym n))
+  alike_beside (Branch at b end bs) (Branch at' c end' cs) block_end n =
+      let p = places (difference b c end') (difference_beside bs cs block_end) n in
+      ap (λ x. Branch 0 x 0 (bare_branches bs)) (alike b c end' p.0) ∙ ap (Branch 0 (bare_block c) 0) (alike_beside bs cs block_end p.1)
 
 ---- The same without places: no difference
 
@@ -163,7 +163,7 @@ mutual
   nowhere_within s (WaitSignalFor at x signal_at n e b end) f g h = nowhere (first_list s) b end f
   nowhere_within s (If at e a a_end b b_end) f g h = no_place (difference (first_list s) a a_end) (difference (second_list s) b b_end) (nowhere (first_list s) a a_end f) (nowhere (second_list s) b b_end g)
   nowhere_within s (While at e b end) f g h = nowhere (first_list s) b end f
-  nowhere_within s (Parallel at bs end) f g h = nowhere_beside (branches_in s) bs at h
+  nowhere_within s (Parallel at bs end) f g h = nowhere_beside (branches_in s) bs end h
   nowhere_within s (Patch at id_at i a a_end b b_end) f g h = no_place (difference (first_list s) a a_end) (difference (second_list s) b b_end) (nowhere (first_list s) a a_end f) (nowhere (second_list s) b b_end g)
   nowhere_within s s' f g h = refl
 
@@ -171,12 +171,12 @@ mutual
   nowhere_else b NoElse e = refl
   nowhere_else b (Else c end) e = nowhere b c end e
 
-  nowhere_beside : (bs cs : Branches) (before : ℕ) → bare_branches bs ≡ bare_branches cs → difference_beside bs cs before ≡ None
-  nowhere_beside NoBranch NoBranch before e = refl
-  nowhere_beside NoBranch (Branch at c end cs) before e = absurd (true≢false (ap no_branch e))
-  nowhere_beside (Branch at b end bs) NoBranch before e = absurd (true≢false (sym (ap no_branch e)))
-  nowhere_beside (Branch at b end bs) (Branch at' c end' cs) before e =
-      no_place (difference b c end') (difference_beside bs cs end') (nowhere b c end' (ap branch_in e)) (nowhere_beside bs cs end' (ap others_in e))
+  nowhere_beside : (bs cs : Branches) (block_end : ℕ) → bare_branches bs ≡ bare_branches cs → difference_beside bs cs block_end ≡ None
+  nowhere_beside NoBranch NoBranch block_end e = refl
+  nowhere_beside NoBranch (Branch at c end cs) block_end e = absurd (true≢false (ap no_branch e))
+  nowhere_beside (Branch at b end bs) NoBranch block_end e = absurd (true≢false (sym (ap no_branch e)))
+  nowhere_beside (Branch at b end bs) (Branch at' c end' cs) block_end e =
+      no_place (difference b c end') (difference_beside bs cs block_end) (nowhere b c end' (ap branch_in e)) (nowhere_beside bs cs block_end (ap others_in e))
 
 ---- Programs
 

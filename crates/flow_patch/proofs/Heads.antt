@@ -263,7 +263,7 @@ statements_alike (If at e l l_end k k_end) (If at' d l' l_end' k' k_end') h a b 
     ∙ ap (λ z. If 0 (bare_expression d) (bare_block l') 0 z 0) b
 statements_alike (While at e l end) (While at' d l' end') h a b c =
     ap (λ z. While 0 z (bare_block l) 0) (expressions_alike e d h) ∙ ap (λ z. While 0 (bare_expression d) z 0) a
-statements_alike (Parallel at bs end) (Parallel at' cs end') h a b c = ap (Parallel 0) c
+statements_alike (Parallel at bs end) (Parallel at' cs end') h a b c = ap (λ z. Parallel 0 z 0) c
 statements_alike (Patch at id_at i l l_end k k_end) (Patch at' id_at' j l' l_end' k' k_end') h a b c =
     ap (λ z. Patch 0 0 z (bare_block l) 0 (bare_block k) 0) (bytes_same i j h) ∙ ap (λ z. Patch 0 0 j z 0 (bare_block k) 0) a
     ∙ ap (λ z. Patch 0 0 j (bare_block l') 0 z 0) b

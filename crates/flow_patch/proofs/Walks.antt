@@ -77,9 +77,9 @@ head_while : (s : Statement) (at : ℕ) (e : Expression) (b c : Block) (end : �
 head_while (While at' e' b' end') at e b c end = refl
 head_while s at e b c end = refl
 
-head_parallel : (s : Statement) (at : ℕ) (bs cs : Branches) → same_head s (Parallel at bs end) ≡ same_head s (Parallel at cs)
-head_parallel (Parallel at' bs' end') at bs cs = refl
-head_parallel s at bs cs = refl
+head_parallel : (s : Statement) (at : ℕ) (bs cs : Branches) (end : ℕ) → same_head s (Parallel at bs end) ≡ same_head s (Parallel at cs end)
+head_parallel (Parallel at' bs' end') at bs cs end = refl
+head_parallel s at bs cs end = refl
 
 head_patch : (s : Statement) (at id_at : ℕ) (id : Bytes) (a b c d : Block) (m n : ℕ) → same_head s (Patch at id_at id a m b n) ≡ same_head s (Patch at id_at id c m d n)
 head_patch (Patch at' id_at' id' a' m' b' n') at id_at id a b c d m n = refl
@@ -126,9 +126,9 @@ mutual
   walked_statement f (While at e c c_end) b k end =
       kept (While at e c c_end) (While at e (spliced f c) c_end) b k end (λ s. ended (behind f c (first_list s)) c_end) refl
       (λ s. head_while s at e (spliced f c) c c_end) (λ s. walked_whole f c (first_list s) c_end)
-  walked_statement f (Parallel at bs end) b k end =
-      kept (Parallel at bs end) (Parallel at (spliced_branches f bs)) b k end (λ s. within_beside f bs (branches_in s) at) refl
-      (λ s. head_parallel s at (spliced_branches f bs) bs) (λ s. walked_beside f bs (branches_in s) at)
+  walked_statement f (Parallel at bs block_end) b k end =
+      kept (Parallel at bs block_end) (Parallel at (spliced_branches f bs) block_end) b k end (λ s. within_beside f bs (branches_in s) block_end) refl
+      (λ s. head_parallel s at (spliced_branches f bs) bs block_end) (λ s. walked_beside f bs (branches_in s) block_end)
   walked_statement f (Patch at id_at id c c_end d d_end) b k end =
       ⊎_elim (λ (e : f id ≡ true). rw e (walked f d b k end))
       (λ (e : f id ≡ false). rw e (
@@ -145,13 +145,13 @@ mutual
   walked_else f NoElse b = refl
   walked_else f (Else c end) b = walked_whole f c b end
 
-  walked_beside : (f : Bytes → Bool) (bs' bs : Branches) (before : ℕ) → difference_beside bs (spliced_branches f bs') before ≡ within_beside f bs' bs before
-  walked_beside f NoBranch NoBranch before = refl
-  walked_beside f NoBranch (Branch at b end bs) before = refl
-  walked_beside f (Branch at' b' end' bs') NoBranch before = refl
-  walked_beside f (Branch at' b' end' bs') (Branch at b end bs) before =
-      ap (λ o. first_place o (difference_beside bs (spliced_branches f bs') end')) (walked_whole f b' b end')
-      ∙ ap (first_place (ended (behind f b' b) end')) (walked_beside f bs' bs end')
+  walked_beside : (f : Bytes → Bool) (bs' bs : Branches) (block_end : ℕ) → difference_beside bs (spliced_branches f bs') block_end ≡ within_beside f bs' bs block_end
+  walked_beside f NoBranch NoBranch block_end = refl
+  walked_beside f NoBranch (Branch at b end bs) block_end = refl
+  walked_beside f (Branch at' b' end' bs') NoBranch block_end = refl
+  walked_beside f (Branch at' b' end' bs') (Branch at b end bs) block_end =
+      ap (λ o. first_place o (difference_beside bs (spliced_branches f bs') block_end)) (walked_whole f b' b end')
+      ∙ ap (first_place (ended (behind f b' b) end')) (walked_beside f bs' bs block_end)
 
   walked_whole : (f : Bytes → Bool) (b' b : Block) (end : ℕ) → difference b (spliced f b') end ≡ ended (behind f b' b) end
   walked_whole f End b end = go_on_end (Ok b) end

@@ -27,9 +27,9 @@ mutual
   from_plain f b (While at e c' end) b' h w =
       w.1.1.0 ∙ ap (λ c. Next (While 0 (bare_expression e) c 0) w.1.0) (wraps_plain f w.0 c' w.1.1.1)
       ∙ ap (Next (While 0 (bare_expression e) (plain f c') 0)) (h w.1.0 w.1.1.2)
-  from_plain f b (Parallel at bs') b' h w =
+  from_plain f b (Parallel at bs' end) b' h w =
       w.1.1.0 ∙ ap (λ c. Next (Parallel 0 c 0) w.1.0) (branches_plain f w.0 bs' w.1.1.1)
-      ∙ ap (Next (Parallel 0 (changed_branches (without_new f) bs'))) (h w.1.0 w.1.1.2)
+      ∙ ap (Next (Parallel 0 (changed_branches (without_new f) bs') 0)) (h w.1.0 w.1.1.2)
   from_plain f b (Patch at id_at id c' c_end d' d_end) b' h (inl w) =
       rw (w.0) (w.1.1.1.0 ∙ ap (λ d. joined d w.1.1.0) (wraps_plain f w.1.0 d' w.1.1.1.1) ∙ ap (joined (plain f d')) (h w.1.1.0 w.1.1.1.2))
   from_plain f b (Patch at id_at id c' c_end d' d_end) b' h (inr w) =

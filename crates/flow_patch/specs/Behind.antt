@@ -52,7 +52,7 @@ abbrev mutual
   within f (WaitSignalFor at x signal_at n e c end) s = ended (behind f c (first_list s)) end
   within f (If at e c c_end d d_end) s = first_place (ended (behind f c (first_list s)) c_end) (ended (behind f d (second_list s)) d_end)
   within f (While at e c end) s = ended (behind f c (first_list s)) end
-  within f (Parallel at bs end) s = within_beside f bs (branches_in s) at
+  within f (Parallel at bs end) s = within_beside f bs (branches_in s) end
   within f (Patch at id_at id c c_end d d_end) s = first_place (ended (behind f c (first_list s)) c_end) (ended (behind f d (second_list s)) d_end)
   within f s' s = None
 
@@ -60,13 +60,13 @@ abbrev mutual
   within_else f NoElse b = None
   within_else f (Else c end) b = ended (behind f c b) end
 
-  -- of branches that follow one which ends at a place
-  pub within_beside : (Bytes → Bool) → Branches → Branches → (before : ℕ) → Option ℕ
-  within_beside f NoBranch NoBranch before = None
-  within_beside f NoBranch (Branch at b end bs) before = Some before
-  within_beside f (Branch at' b' end' bs') NoBranch before = Some at'
-  within_beside f (Branch at' b' end' bs') (Branch at b end bs) before =
-      first_place (ended (behind f b' b) end') (within_beside f bs' bs end')
+  -- of branches whose block ends at a brace
+  pub within_beside : (Bytes → Bool) → Branches → Branches → (block_end : ℕ) → Option ℕ
+  within_beside f NoBranch NoBranch block_end = None
+  within_beside f NoBranch (Branch at b end bs) block_end = Some block_end
+  within_beside f (Branch at' b' end' bs') NoBranch block_end = Some at'
+  within_beside f (Branch at' b' end' bs') (Branch at b end bs) block_end =
+      first_place (ended (behind f b' b) end') (within_beside f bs' bs block_end)
 
 -- behind what one statement stands for
 abbrev pub behind_statement : (Bytes → Bool) → Statement → Block → Result Block ℕ

@@ -146,7 +146,7 @@ abbrev mutual
   spliced_statement f (Sleep at e) k = Next (Sleep at e) k
   spliced_statement f (If at e a a_end b b_end) k = Next (If at e (spliced f a) a_end (spliced f b) b_end) k
   spliced_statement f (While at e b end) k = Next (While at e (spliced f b) end) k
-  spliced_statement f (Parallel at bs end) k = Next (Parallel at (spliced_branches f bs)) k
+  spliced_statement f (Parallel at bs end) k = Next (Parallel at (spliced_branches f bs) end) k
   spliced_statement f (Patch at id_at id a a_end b b_end) k =
       if f id then joined (spliced f b) k else Next (Patch at id_at id (spliced f a) a_end (spliced f b) b_end) k
   spliced_statement f (Return at e) k = Next (Return at e) k
@@ -180,7 +180,7 @@ abbrev mutual
   difference_within s (WaitSignalFor at x signal_at n e b end) = difference (first_list s) b end
   difference_within s (If at e a a_end b b_end) = first_place (difference (first_list s) a a_end) (difference (second_list s) b b_end)
   difference_within s (While at e b end) = difference (first_list s) b end
-  difference_within s (Parallel at bs end) = difference_beside (branches_in s) bs at
+  difference_within s (Parallel at bs end) = difference_beside (branches_in s) bs end
   difference_within s (Patch at id_at id a a_end b b_end) = first_place (difference (first_list s) a a_end) (difference (second_list s) b b_end)
   difference_within s s' = None
 
@@ -188,13 +188,13 @@ abbrev mutual
   difference_else b NoElse = None
   difference_else b (Else b' end) = difference b b' end
 
-  -- of branches that follow one which ends at a place: where the new text has fewer, it is told there
-  pub difference_beside : Branches → Branches → (before : ℕ) → Option ℕ
-  difference_beside NoBranch NoBranch before = None
-  difference_beside (Branch at b end bs) NoBranch before = Some before
-  difference_beside NoBranch (Branch at' b' end' bs') before = Some at'
-  difference_beside (Branch at b end bs) (Branch at' b' end' bs') before =
-      first_place (difference b b' end') (difference_beside bs bs' end')
+  -- of branches whose block ends at a brace: where the new text has fewer, it is told there
+  pub difference_beside : Branches → Branches → (block_end : ℕ) → Option ℕ
+  difference_beside NoBranch NoBranch block_end = None
+  difference_beside (Branch at b end bs) NoBranch block_end = Some block_end
+  difference_beside NoBranch (Branch at' b' end' bs') block_end = Some at'
+  difference_beside (Branch at b end bs) (Branch at' b' end' bs') block_end =
+      first_place (difference b b' end') (difference_beside bs bs' block_end)
 
 ---- Programs
 

@@ -61,7 +61,7 @@ abbrev mutual
   From f b (If at e c' c_end d' d_end) R =
       (c : Block) × ((d : Block) × ((k : Block) × ((b ≡ Next (If at e c c_end d d_end) k) × Wraps f c c' × Wraps f d d' × R k)))
   From f b (While at e c' end) R = (c : Block) × ((k : Block) × ((b ≡ Next (While at e c end) k) × Wraps f c c' × R k))
-  From f b (Parallel at bs') R = (bs : Branches) × ((k : Block) × ((b ≡ Next (Parallel at bs end) k) × SameBranches f bs bs' × R k))
+  From f b (Parallel at bs' end) R = (bs : Branches) × ((k : Block) × ((b ≡ Next (Parallel at bs end) k) × SameBranches f bs bs' × R k))
   -- a patch with a new id stands for its second list
   From f b (Patch at id_at id c' c_end d' d_end) R =
       ((f id ≡ true) × ((d : Block) × ((k : Block) × ((b ≡ joined d k) × Wraps f d d' × R k))))
@@ -115,7 +115,7 @@ abbrev mutual
   placed t (Sleep at e) k = Next (Sleep 0 (bare_expression e)) k
   placed t (If at e a a_end b b_end) k = Next (If 0 (bare_expression e) (changed t a) 0 (changed t b) 0) k
   placed t (While at e b end) k = Next (While 0 (bare_expression e) (changed t b) 0) k
-  placed t (Parallel at bs end) k = Next (Parallel 0 (changed_branches t bs)) k
+  placed t (Parallel at bs end) k = Next (Parallel 0 (changed_branches t bs) 0) k
   placed t (Patch at id_at id a a_end b b_end) k = t id (changed t a) (changed t b) k
   placed t (Return at e) k = Next (Return 0 (bare_expression e)) k
   placed t (FailWith at e) k = Next (FailWith 0 (bare_expression e)) k

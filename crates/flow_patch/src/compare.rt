@@ -16,10 +16,10 @@ pub(crate) fn compare(old: &Program, new: &Program) -> Result<(), usize>
     if !old.name.is(&new.name) {
         return Err(new.at);
     }
-    let behind = beginning(&new.body, new.body_end);
+    let behind = beginning(new.body.as_slice(), new.body_end);
     compare_parameters(&old.parameters, &new.parameters, new.parameters_end)?;
     compare_declarations(&old.declarations, &new.declarations, behind)?;
-    compare_bodies(&old.body, &new.body, new.body_end)
+    compare_bodies(old.body.as_slice(), new.body.as_slice(), new.body_end)
 }
 
 /// The new text may not lack a parameter, nor have one more.

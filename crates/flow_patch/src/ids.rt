@@ -25,17 +25,19 @@ fn is_patch_within(statement: &Stmt, id: &Key) -> bool
     ensures { result ≡ has_id id.now (shown_stmt statement.now) }
 {
     match statement {
-        Stmt::Call(_, _, _, _, _, _, Some(otherwise)) => has_patch(&otherwise.list, id),
-        Stmt::WaitSignalFor(_, _, _, _, _, late) => has_patch(&late.list, id),
+        Stmt::Call(_, _, _, _, _, _, Some(otherwise)) => has_patch(otherwise.list.as_slice(), id),
+        Stmt::WaitSignalFor(_, _, _, _, _, late) => has_patch(late.list.as_slice(), id),
         Stmt::If(_, _, then, otherwise) => {
-            has_patch(&then.list, id) || has_patch(&otherwise.list, id)
+            has_patch(then.list.as_slice(), id) || has_patch(otherwise.list.as_slice(), id)
         }
-        Stmt::While(_, _, body) => has_patch(&body.list, id),
-        Stmt::Parallel(_, first, others) => {
-            has_patch(&first.body.list, id) || have_patch(others, id)
+        Stmt::While(_, _, body) => has_patch(body.list.as_slice(), id),
+        Stmt::Parallel(_, first, others, _) => {
+            has_patch(first.body.list.as_slice(), id) || have_patch(others, id)
         }
         Stmt::Patch(_, _, patch, since, before) => {
-            patch.is(id) || has_patch(&since.list, id) || has_patch(&before.list, id)
+            patch.is(id)
+                || has_patch(since.list.as_slice(), id)
+                || has_patch(before.list.as_slice(), id)
         }
         _ => false,
     }
@@ -47,7 +49,7 @@ fn have_patch(branches: &[Branch], id: &Key) -> bool
     ensures { result ≡ branches_have id.now (branches_of (map shown_branch branches.now)) }
 {
     for branch in branches {
-        if has_patch(&branch.body.list, id) {
+        if has_patch(branch.body.list.as_slice(), id) {
             return true;
         }
     }

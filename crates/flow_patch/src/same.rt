@@ -119,7 +119,7 @@ pub(crate) fn same_head(left: &Stmt, right: &Stmt) -> bool
         (Stmt::Sleep(_, e), Stmt::Sleep(_, d)) => same_expr(e, d),
         (Stmt::If(_, e, _, _), Stmt::If(_, d, _, _)) => same_expr(e, d),
         (Stmt::While(_, e, _), Stmt::While(_, d, _)) => same_expr(e, d),
-        (Stmt::Parallel(_, _, _), Stmt::Parallel(_, _, _)) => true,
+        (Stmt::Parallel(_, _, _, _), Stmt::Parallel(_, _, _, _)) => true,
         (Stmt::Patch(_, _, i, _, _), Stmt::Patch(_, _, j, _, _)) => i.is(j),
         (Stmt::Return(_, e), Stmt::Return(_, d)) => same_expr(e, d),
         (Stmt::FailWith(_, e), Stmt::FailWith(_, d)) => same_expr(e, d),

@@ -22,7 +22,7 @@ pub(crate) fn place_of(statement: &Stmt) -> usize
         Stmt::Sleep(at, _) => *at,
         Stmt::If(at, _, _, _) => *at,
         Stmt::While(at, _, _) => *at,
-        Stmt::Parallel(at, _, _) => *at,
+        Stmt::Parallel(at, _, _, _) => *at,
         Stmt::Patch(at, _, _, _, _) => *at,
         Stmt::Return(at, _) => *at,
         Stmt::FailWith(at, _) => *at,
@@ -35,11 +35,11 @@ fn first_list(statement: &Stmt) -> &[Stmt]
     ensures { shown_block result.now ≡ first_list (shown_stmt statement.now) }
 {
     match statement {
-        Stmt::Call(_, _, _, _, _, _, Some(otherwise)) => &otherwise.list,
-        Stmt::WaitSignalFor(_, _, _, _, _, late) => &late.list,
-        Stmt::If(_, _, then, _) => &then.list,
-        Stmt::While(_, _, body) => &body.list,
-        Stmt::Patch(_, _, _, since, _) => &since.list,
+        Stmt::Call(_, _, _, _, _, _, Some(otherwise)) => otherwise.list.as_slice(),
+        Stmt::WaitSignalFor(_, _, _, _, _, late) => late.list.as_slice(),
+        Stmt::If(_, _, then, _) => then.list.as_slice(),
+        Stmt::While(_, _, body) => body.list.as_slice(),
+        Stmt::Patch(_, _, _, since, _) => since.list.as_slice(),
         _ => &[],
     }
 }
@@ -49,8 +49,8 @@ fn second_list(statement: &Stmt) -> &[Stmt]
     ensures { shown_block result.now ≡ second_list (shown_stmt statement.now) }
 {
     match statement {
-        Stmt::If(_, _, _, otherwise) => &otherwise.list,
-        Stmt::Patch(_, _, _, _, before) => &before.list,
+        Stmt::If(_, _, _, otherwise) => otherwise.list.as_slice(),
+        Stmt::Patch(_, _, _, _, before) => before.list.as_slice(),
         _ => &[],
     }
 }
@@ -79,7 +79,7 @@ fn behind_statement<'a>(new: &Stmt, old: &'a [Stmt], text: &[Stmt]) -> Result<&'
 {
     if let Stmt::Patch(_, _, id, _, before) = new {
         if !has_patch(text, id) {
-            return behind(&before.list, old, text);
+            return behind(before.list.as_slice(), old, text);
         }
     }
     match old.split_first() {
@@ -107,10 +107,10 @@ fn compare_within(new: &Stmt, old: &Stmt, text: &[Stmt]) -> Result<(), usize>
             compare_lists(otherwise, second_list(old), text)
         }
         Stmt::While(_, _, body) => compare_lists(body, first_list(old), text),
-        Stmt::Parallel(_, first, others) => match old {
-            Stmt::Parallel(_, other, more) => {
-                compare_lists(&first.body, &other.body.list, text)?;
-                compare_branches(others, more, first.body.end, text)
+        Stmt::Parallel(_, first, others, end) => match old {
+            Stmt::Parallel(_, other, more, _) => {
+                compare_lists(&first.body, other.body.list.as_slice(), text)?;
+                compare_branches(others, more, *end, text)
             }
             _ => Err(first.at),
         },
@@ -128,33 +128,26 @@ fn compare_lists(new: &Block, old: &[Stmt], text: &[Stmt]) -> Result<(), usize>
     ensures same { OnOk result (ended (behind (unknown_in (shown_block text.now)) (shown_braced new.now).0 (shown_block old.now)) (shown_braced new.now).1 ≡ None) }
     ensures place { IfErr result (λ at. ended (behind (unknown_in (shown_block text.now)) (shown_braced new.now).0 (shown_block old.now)) (shown_braced new.now).1 ≡ Some at) }
 {
-    let rest = behind(&new.list, old, text)?;
+    let rest = behind(new.list.as_slice(), old, text)?;
     match rest.split_first() {
         None => Ok(()),
         Some(_) => Err(new.end),
     }
 }
 
-/// Compares branches that follow one which ends at a place: where the new text has fewer, it is told there.
+/// Compares branches whose block ends at a brace: where the new text has fewer, it is told there.
 #[cycle(walks)]
-fn compare_branches(
-    new: &[Branch],
-    old: &[Branch],
-    before: usize,
-    text: &[Stmt],
-) -> Result<(), usize>
-    ensures same { OnOk result (within_beside (unknown_in (shown_block text.now)) (branches_of (map shown_branch new.now)) (branches_of (map shown_branch old.now)) before ≡ None) }
-    ensures place { IfErr result (λ at. within_beside (unknown_in (shown_block text.now)) (branches_of (map shown_branch new.now)) (branches_of (map shown_branch old.now)) before ≡ Some at) }
+fn compare_branches(new: &[Branch], old: &[Branch], end: usize, text: &[Stmt]) -> Result<(), usize>
+    ensures same { OnOk result (within_beside (unknown_in (shown_block text.now)) (branches_of (map shown_branch new.now)) (branches_of (map shown_branch old.now)) end ≡ None) }
+    ensures place { IfErr result (λ at. within_beside (unknown_in (shown_block text.now)) (branches_of (map shown_branch new.now)) (branches_of (map shown_branch old.now)) end ≡ Some at) }
 {
     let mut rest = old;
-    let mut end = before;
     for branch in new {
         let Some((other, more)) = rest.split_first() else {
             return Err(branch.at);
         };
-        compare_lists(&branch.body, &other.body.list, text)?;
+        compare_lists(&branch.body, other.body.list.as_slice(), text)?;
         rest = more;
-        end = branch.body.end;
     }
     match rest.split_first() {
         None => Ok(()),

@@ -34,61 +34,61 @@ fn told_of(alloc: Global, old: &str, new: &str) -> Result<Option<(Code, usize)>,
     told(alloc, old.as_str(), new.as_str())
 }
 
-const D0: &str =
+const EUROS: &str =
     "workflow d() { activity p(text) -> int; let r = 0; r = call p(\"eur\"); return r; }";
 
-const D2: &str =
+const PATCHED: &str =
     "workflow d() { activity p(text) -> int; let r = 0; patch \"v2\" { r = call p(\"usd\"); } else { r = call p(\"eur\"); } return r; }";
 
-const M: &str = "workflow m(n: int) { sleep 10; continue as new(n + 1); }";
+const RENEWED: &str = "workflow m(n: int) { sleep 10; continue as new(n + 1); }";
 
-const M2: &str =
+const RENEWED_PATCHED: &str =
     "workflow m(n: int) { patch \"p\" { sleep 20; } else { sleep 10; } continue as new(n + 1); }";
 
-const D1: &str =
+const DOLLARS: &str =
     "workflow d() { activity p(text) -> int; let r = 0; r = call p(\"usd\"); return r; }";
 
 #[test]
 fn rows(rt: HostRuntime) -> Result<(), Fail> {
     let a = rt.alloc();
-    assert!(rt; told(a, D0, D2)? == None);
-    assert!(rt; told(a, D0, D1)? == Some((Code::NotAWrap, 51)));
-    assert!(rt; told(a, M, M2)? == None);
-    assert!(rt; told(a, D2, D0)? == Some((Code::NotAWrap, 51)));
+    assert!(rt; told(a, EUROS, PATCHED)? == None);
+    assert!(rt; told(a, EUROS, DOLLARS)? == Some((Code::NotAWrap, 51)));
+    assert!(rt; told(a, RENEWED, RENEWED_PATCHED)? == None);
+    assert!(rt; told(a, PATCHED, EUROS)? == Some((Code::NotAWrap, 51)));
     Ok(())
 }
 
 /// Changes that are safe.
 const SAFE: [(&str, &str); 7] = [
     // The same text, and with other places.
-    (D2, D2),
+    (PATCHED, PATCHED),
     (
-        D0,
+        EUROS,
         "workflow d()  { activity p(text)->int; # places\n let r=0; r=call p(\"eur\"); return r; }",
     ),
     // The end of the body in a patch.
     (
-        D0,
+        EUROS,
         "workflow d() { activity p(text) -> int; let r = 0; r = call p(\"eur\"); patch \"a\" { return 1; } else { return r; } }",
     ),
     // Within another wrap, which may hold more in its first list.
     (
-        D0,
+        EUROS,
         "workflow d() { activity p(text) -> int; let r = 0; patch \"a\" { patch \"b\" { sleep 1; } r = call p(\"usd\"); } else { patch \"c\" { sleep 2; } else { r = call p(\"eur\"); return r; } } }",
     ),
     // An empty list, in a text that has a patch.
     (
-        D2,
+        PATCHED,
         "workflow d() { activity p(text) -> int; let r = 0; patch \"v3\" { sleep 1; } patch \"v2\" { r = call p(\"usd\"); } else { r = call p(\"eur\"); } return r; }",
     ),
     // The list within an old patch.
     (
-        D2,
+        PATCHED,
         "workflow d() { activity p(text) -> int; let r = 0; patch \"v2\" { patch \"a\" { sleep 1; } else { r = call p(\"usd\"); } } else { r = call p(\"eur\"); patch \"b\" { } } return r; }",
     ),
     // More is declared.
     (
-        D0,
+        EUROS,
         "workflow d() { activity p(text) -> int; signal s: text; activity q() -> int; let r = 0; r = call p(\"eur\"); return r; }",
     ),
 ];
@@ -101,61 +101,69 @@ fn wraps_are_safe(rt: HostRuntime) -> Result<(), Fail> {
     Ok(())
 }
 
-const P: &str = "workflow x(a: int, b: text) { return 1; }";
+const PARAMETERS: &str = "workflow x(a: int, b: text) { return 1; }";
 
-const Q: &str = "workflow q() { activity f(int) -> int; signal s: text; return 1; }";
+const DECLARED: &str = "workflow q() { activity f(int) -> int; signal s: text; return 1; }";
 
 /// Changes before the body, each with the place where the new text first differs.
 const HEADS: [(&str, &str, usize); 15] = [
     // A name, and parameters.
-    (P, "workflow y(a: int, b: text) { return 1; }", 9),
-    (P, "workflow x(a: int, c: text) { return 1; }", 19),
-    (P, "workflow x(a: int, b: int) { return 1; }", 19),
-    (P, "workflow x(a: int) { return 1; }", 17),
-    (P, "workflow x(a: int, b: text, c: int) { return 1; }", 28),
+    (PARAMETERS, "workflow y(a: int, b: text) { return 1; }", 9),
+    (PARAMETERS, "workflow x(a: int, c: text) { return 1; }", 19),
+    (PARAMETERS, "workflow x(a: int, b: int) { return 1; }", 19),
+    (PARAMETERS, "workflow x(a: int) { return 1; }", 17),
+    (
+        PARAMETERS,
+        "workflow x(a: int, b: text, c: int) { return 1; }",
+        28,
+    ),
     // Declarations.
     (
-        Q,
+        DECLARED,
         "workflow q() { activity g(int) -> int; signal s: text; return 1; }",
         15,
     ),
     (
-        Q,
+        DECLARED,
         "workflow q() { activity f(text) -> int; signal s: text; return 1; }",
         15,
     ),
     (
-        Q,
+        DECLARED,
         "workflow q() { activity f() -> int; signal s: text; return 1; }",
         15,
     ),
     (
-        Q,
+        DECLARED,
         "workflow q() { activity f(int, int) -> int; signal s: text; return 1; }",
         15,
     ),
     (
-        Q,
+        DECLARED,
         "workflow q() { activity f(int) -> text; signal s: text; return 1; }",
         15,
     ),
     (
-        Q,
+        DECLARED,
         "workflow q() { activity f(int) -> int; signal s: int; return 1; }",
         39,
     ),
     (
-        Q,
+        DECLARED,
         "workflow q() { activity f(int) -> int; signal t: text; return 1; }",
         39,
     ),
     (
-        Q,
+        DECLARED,
         "workflow q() { signal s: text; activity f(int) -> int; return 1; }",
         15,
     ),
     // One is missing: told at the first statement, or at the brace.
-    (Q, "workflow q() { activity f(int) -> int; return 1; }", 39),
+    (
+        DECLARED,
+        "workflow q() { activity f(int) -> int; return 1; }",
+        39,
+    ),
     ("workflow q() { signal s: text; }", "workflow q() { }", 15),
 ];
 
@@ -215,7 +223,7 @@ fn other_statements_are_told(rt: HostRuntime) -> Result<(), Fail> {
 }
 
 /// Lists within statements that differ, or end too early or too late.
-const WITHIN: [(&str, &str, usize); 14] = [
+const WITHIN: [(&str, &str, usize); 16] = [
     (
         "n = call f(1) else { n = 1; };",
         "n = call f(1) else { n = 2; };",
@@ -257,15 +265,27 @@ const WITHIN: [(&str, &str, usize); 14] = [
         "parallel { { n = 1; } { } }",
         24,
     ),
+    // A branch is gone: told at the brace that closes the block of the new text.
     (
         "parallel { { n = 1; } { n = 2; } }",
         "parallel { { n = 1; } }",
-        20,
+        22,
     ),
+    (
+        "parallel { { n = 1; } { n = 2; } { n = 3; } }",
+        "parallel { { n = 1; } { n = 2; }   }",
+        35,
+    ),
+    // A branch is new: told where it begins.
     (
         "parallel { { n = 1; } }",
         "parallel { { n = 1; } { n = 2; } }",
         22,
+    ),
+    (
+        "parallel { { n = 1; } { n = 2; } }",
+        "parallel { { n = 1; } { n = 2; }  { n = 3; } }",
+        34,
     ),
     (
         "patch \"a\" { n = 1; } else { n = 2; }",

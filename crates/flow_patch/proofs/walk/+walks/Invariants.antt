@@ -11,5 +11,5 @@ invariant-behind-loop-statement l =
 
 abbrev pub invariant-compare_branches-loop-branch : goal.invariant-compare_branches-loop-branch
 invariant-compare_branches-loop-branch l =
-    within_beside (unknown_in (shown_block l.text)) (branches_of (map shown_branch l.new)) (branches_of (map shown_branch l.old)) l.before
+    within_beside (unknown_in (shown_block l.text)) (branches_of (map shown_branch l.new)) (branches_of (map shown_branch l.old)) l.end
     ≡ within_beside (unknown_in (shown_block l.text)) (branches_of (map shown_branch (drop l.branch-index l.new))) (branches_of (map shown_branch l.rest)) l.end
