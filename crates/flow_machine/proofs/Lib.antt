@@ -4,6 +4,7 @@ pub mod Continuing
 pub mod Awaited
 pub mod Waiting
 pub mod Heard
+pub mod MadeChanges
 pub mod Holding
 pub mod Reading
 pub mod Unstuck
