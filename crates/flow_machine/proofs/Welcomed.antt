@@ -1,15 +1,14 @@
 -- What the changes of commands have, whatever the book.
-use Rattle.std.proofs.Common.{◌≡◌, ℕ, List, [], ◌∷◌, ◌++◌, refl, ap, ◌∙◌, Option, Some, None, Result}
+use Rattle.std.proofs.Common.{◌≡◌, ℕ, List, [], ◌∷◌, ◌++◌, refl, ap, ◌∙◌, Some, None, Result}
 use Rattle.std.specs.Prelude.{◌-◌, slice_set}
 use Rattle.std.proofs.lemmas.Option.{none-some}
 use Rattle.flow_base.specs.Syntax.{Bytes, Program}
-use Rattle.flow_base.specs.declared.book.Due.{Due}
 use Rattle.flow_base.specs.declared.book.Change.{Change}
 use Rattle.flow_base.specs.declared.book.Turn.{Turn}
 use Rattle.flow_base.specs.declared.book.Change.TheVariants.{AddTurn}
 use Rattle.flow_base.specs.declared.command.TextFault.{TextFault}
 use Rattle.flow_model.specs.Book.{Book, nth, with_turn, changed, changed_by}
-use Rattle.flow_model.specs.Apply.{Rules, program_if, program_at, fired, tick}
+use Rattle.flow_model.specs.Apply.{Rules, program_if, program_at, tick}
 use Rattle.flow_machine.specs.Welcome.{AreWelcome, ChangesWelcome}
 use Rattle.flow_machine.proofs.MadeChanges.{Covers, now_of, fired_has, changes_have}
 use Rattle.flow_machine.proofs.Ticks.{tick_has}
