@@ -6,44 +6,32 @@ use Rattle.std.proofs.lemmas.Option.{none-some, same_Some}
 use Rattle.std.proofs.lemmas.List.Elements.{All-nil}
 use Rattle.flow_base.specs.Syntax.{Bytes, Program}
 use Rattle.flow_base.specs.declared.value.Value.{Value}
-use Rattle.flow_base.specs.declared.event.Cmd.{Cmd}
-use Rattle.flow_base.specs.declared.event.Input.{Input}
-use Rattle.flow_base.specs.declared.event.Input.TheVariants.{Started, Terminated}
+use Rattle.flow_base.specs.declared.event.Input.TheVariants.{Terminated}
 use Rattle.flow_base.specs.declared.book.Due.{Due}
 use Rattle.flow_base.specs.declared.book.Run.{Run}
 use Rattle.flow_base.specs.declared.book.Turn.{Turn}
 use Rattle.flow_base.specs.declared.book.Change.{Change}
 use Rattle.flow_base.specs.declared.book.Change.TheVariants.{AddTurn, AddRun, SetAttempt, SetText}
 use Rattle.flow_base.specs.declared.command.Command.{Command}
-use Rattle.flow_model.specs.Configuration.{Configuration, first_configuration, is_open}
+use Rattle.flow_model.specs.Configuration.{Configuration, is_open}
 use Rattle.flow_model.specs.Turn as turn
 use Rattle.flow_model.specs.Turn.{Fresh, is_started}
-use Rattle.flow_model.specs.Turned.{turned}
 use Rattle.flow_model.specs.Stands.{Stands}
 use Rattle.flow_model.specs.Verdict.{verdict}
 use Rattle.flow_model.specs.Open.{state_of, moment_of}
 use Rattle.flow_model.specs.Book.{Book, no_book, nth, with_run, unbegun_run, with_turn, with_attempt, with_text, changed, changed_by}
 use Rattle.flow_model.specs.Apply.{Rules, program_at, first_turn, continued, history_limit, tries_of, after_one, after}
 use Rattle.flow_model.specs.Sound.{IsSoundRun, IsSound}
-use Rattle.flow_model.proofs.Positions.{position_computed, turned_is}
+use Rattle.flow_model.proofs.Positions.{turned_is}
 use Rattle.flow_model.proofs.Verdicts.{verdict_of_standing}
 use Rattle.flow_machine.specs.Soundness.{ReadsWellFormed, NoBookIsSound, SoundAfter}
 use Rattle.flow_model.proofs.Tries.{well_formed_tried}
 use Rattle.flow_model.proofs.Leaves.{state_came, stands_left, delivered_open, terminates, continued_closed, turn_state}
-use Rattle.flow_machine.proofs.MadeChanges.{Covers, IsTaken, now_of, fired_has, changes_have}
+use Rattle.flow_machine.proofs.MadeChanges.{CoversTurns, Covers, now_of, fired_has, changes_have}
 use Rattle.flow_machine.proofs.Places.{get_all, get_set_same, nth_place}
 use Rattle.flow_machine.proofs.Changes.{NoneOpen, text_well_formed, sound_text, none_open, sound_run, first_run, put_run, was, sound_turn, turn_run, sound_same, attempt_run, text_run}
+use Rattle.flow_machine.proofs.Standing.{first_turn_is, sound_stands, taken_stands, turn_put}
 use Rattle.flow_machine.proofs.Ticks.{fired_book, tick_keeps}
-
-pub first_turn_is : (p : Program) (at : ℕ) (vs : List Value) (t : Turn) → first_turn p at vs ≡ Some t → (k : Configuration) × turn.Turn p Fresh first_configuration t.at t.input t.commands k
-first_turn_is p at vs t h =
-    elim (turned p Fresh first_configuration at (Started vs)) as (λ o. turned p Fresh first_configuration at (Started vs) ≡ o → elim o [ None ↦ None | Some x ↦ Some (record { at = at; input = Started vs; commands = x.0 }) ] ≡ Some t → (k : Configuration) × turn.Turn p Fresh first_configuration t.at t.input t.commands k) [
-      | None ↦ λ e v. absurd (none-some t v)
-      | Some x ↦ λ e v.
-          let made : Turn = record { at = at; input = Started vs; commands = x.0 } in
-          subst (λ (q : Turn). (k : Configuration) × turn.Turn p Fresh first_configuration q.at q.input q.commands k) (same_Some made t v)
-          (x.1, turned_is p Fresh first_configuration at (Started vs) x.0 x.1 e)
-    ] refl h
 
 -- the other runs of a flow are closed, and so is this one after the turn
 closed_flow : (u : Rules) (b : Book) (n : ℕ) (r : Run) (t : Turn) → IsSound u b → nth b.runs n ≡ Some r → is_started t.input ≡ false
@@ -65,9 +53,6 @@ module _ (u : Rules) (w : ReadsWellFormed u) (b : Book) (h : IsSound u b) (n : �
   its : IsSoundRun u b r
   its = get_all (IsSoundRun u b) b.runs (n - 1) r (nth_place b.runs n r there) h.runs
 
-  put : (t : Turn) → changed b (AddTurn n t) ≡ put_run b n (with_turn t r)
-  put t = ap (λ (o : Option Run). elim o [ None ↦ b | Some q ↦ put_run b n (with_turn t q) ]) there
-
   turn_keeps : (t : Turn) (k2 : Configuration) → k.moment ≤ t.at → is_started t.input ≡ false → turn.Turn p Fresh k t.at t.input t.commands k2 → IsSound u (put_run b n (with_turn t r))
   turn_keeps t k2 le f made = sound_turn u b n r t h there f (turn_run u b r t p k k2 w its text stands le made)
 
@@ -82,7 +67,7 @@ module _ (u : Rules) (w : ReadsWellFormed u) (b : Book) (h : IsSound u b) (n : �
       ap is_open (turn_state r.history (length r.history + 1) t.at t.input t.commands) ∙ continued_closed (state_came (state_of r.history) t.input) t.commands vs e
       in
       let begun = first_turn_is p t.at vs first g in
-      subst (λ (x : Book). IsSound u (changed_by x (AddRun r.flow None r.text first ∷ []))) (sym (put t))
+      subst (λ (x : Book). IsSound u (changed_by x (AddRun r.flow None r.text first ∷ []))) (sym (turn_put b n r t there))
       (sound_run u new (with_turn first (unbegun_run r.flow None r.text)) (turn_keeps t k2 le f made) (first_run u new r.flow None r.text first p begun.0 w text begun.1)
       (closed_flow u b n r t h there f was_open closed))
 
@@ -91,19 +76,7 @@ module _ (u : Rules) (w : ReadsWellFormed u) (b : Book) (h : IsSound u b) (n : �
   closed_keeps at reason le going =
       let made = terminates p k at reason going in
       let t : Turn = record { at = at; input = Terminated reason; commands = [] } in
-      subst (λ (x : Book). IsSound u x) (sym (put t)) (turn_keeps t made.0 le refl made.1)
-
--- where a run that takes an input stands
-pub taken_stands : (u : Rules) (b : Book) (n : ℕ) (r : Run) (p : Program) (k : Configuration) (at : ℕ) (i : Input) (t : List Cmd × Configuration) → ReadsWellFormed u → IsSound u b → IsTaken u b n r p k at i t
-    → Stands p r.history k × (k.moment ≤ now_of r at)
-taken_stands u b n r p k at i t w h taken =
-    let its : IsSoundRun u b r = get_all (IsSoundRun u b) b.runs (n - 1) r (nth_place b.runs n r taken.there) h.runs in
-    let same : its.program ≡ p = same_Some its.program p (sym its.its_text ∙ taken.reads) in
-    let stands : Stands p r.history its.place = subst (λ (q : Program). Stands q r.history its.place) same its.stands in
-    let at_place : its.place ≡ k = same_Some its.place k (sym (position_computed p r.history its.place stands) ∙ taken.place) in
-    let here : Stands p r.history k = subst (λ (q : Configuration). Stands p r.history q) at_place stands in
-    let left = stands_left p r.history k (well_formed_tried p (text_well_formed u b r.text p w taken.reads)) here in
-    (here, subst (λ m. m ≤ now_of r at) left.moment (le-max_right at (moment_of r.history)))
+      subst (λ (x : Book). IsSound u x) (sym (turn_put b n r t there)) (turn_keeps t made.0 le refl made.1)
 
 -- a run is put in the place of another
 put_by : (b : Book) (n : ℕ) (r : Run) (f : Run → Run) → nth b.runs n ≡ Some r → with_run b n f ≡ put_run b n (f r)
@@ -136,28 +109,33 @@ module _ (u : Rules) (w : ReadsWellFormed u) (b : Book) (h : IsSound u b) where
       let later : its.place.moment ≤ now_of r at = subst (λ m. m ≤ now_of r at) left.moment (le-max_right at (moment_of r.history)) in
       closed_keeps u w b h n r there its.program its.its_text its.place its.stands (now_of r at) reason later (ap is_open (sym left.leaves) ∙ opened)
 
-  covered : Covers u b Keeps
-  covered =
+  turns_covered : CoversTurns u b Keeps
+  turns_covered =
       record {
         nothing = h;
-        text = λ body p reads new. sound_text u b body h;
-        run = λ request flow text body vs at p t new none there reads made.
-            let first = first_turn_is p at vs t made in
-            sound_run u b (with_turn t (unbegun_run flow (Some request) text)) h (first_run u b flow (Some request) text t p first.0 w reads first.1) (none_open b flow none);
         turn = λ n r p k at i t taken.
-            let stands = taken_stands u b n r p k at i t w h taken in
+            let stands = taken_stands u b n r p k at i t (sound_stands u b h) taken in
             let made : Turn = record { at = now_of r at; input = i; commands = t.0 } in
-            subst (λ (x : Book). IsSound u x) (sym (put u w b h n r taken.there p taken.reads k stands.0 made))
+            subst (λ (x : Book). IsSound u x) (sym (turn_put b n r made taken.there))
             (turn_keeps u w b h n r taken.there p taken.reads k stands.0 made t.1 stands.1 taken.no_start (turned_is p Fresh k (now_of r at) i t.0 t.1 taken.turn));
         next = λ n r p k at i t taken vs first ends begins.
-            let stands = taken_stands u b n r p k at i t w h taken in
+            let stands = taken_stands u b n r p k at i t (sound_stands u b h) taken in
             let made = turned_is p Fresh k (now_of r at) i t.0 t.1 taken.turn in
             next_keeps u w b h n r taken.there p taken.reads k stands.0 (record { at = now_of r at; input = i; commands = t.0 }) t.1 stands.1 taken.no_start made
             (delivered_open p k i made.start taken.no_start made.delivered) vs first ends begins;
         full = λ n r p k at i t taken.
-            let stands = taken_stands u b n r p k at i t w h taken in
+            let stands = taken_stands u b n r p k at i t (sound_stands u b h) taken in
             let made = turned_is p Fresh k (now_of r at) i t.0 t.1 taken.turn in
             closed_keeps u w b h n r taken.there p taken.reads k stands.0 (now_of r at) history_limit stands.1 (delivered_open p k i made.start taken.no_start made.delivered);
+      }
+
+  covered : Covers u b Keeps
+  covered =
+      record {
+        text = λ body p reads new. sound_text u b body h;
+        run = λ request flow text body vs at p t new none there reads made.
+            let first = first_turn_is p at vs t made in
+            sound_run u b (with_turn t (unbegun_run flow (Some request) text)) h (first_run u b flow (Some request) text t p first.0 w reads first.1) (none_open b flow none);
         closed = close_keeps;
         attempt = attempt_keeps;
         other = λ n text r body p k there its reads stands. text_keeps n text r p k there reads stands;
@@ -166,10 +144,10 @@ module _ (u : Rules) (w : ReadsWellFormed u) (b : Book) (h : IsSound u b) where
 ---- Commands
 
 pub fired_keeps : (u : Rules) (at : ℕ) → ReadsWellFormed u → (b : Book) (d : Due) → IsSound u b → IsSound u (fired_book u at b d)
-fired_keeps u at w b d h = fired_has u b (λ cs. IsSound u (changed_by b cs)) (covered u w b h) at d
+fired_keeps u at w b d h = fired_has u b (λ cs. IsSound u (changed_by b cs)) (turns_covered u w b h) at d
 
 pub step_keeps : (u : Rules) (b : Book) (c : Command) → ReadsWellFormed u → IsSound u b → IsSound u (after_one u b c)
-step_keeps u b c w h = changes_have u b (λ cs. IsSound u (changed_by b cs)) (covered u w b h) (λ at. tick_keeps u at (IsSound u) (fired_keeps u at w) b h) c
+step_keeps u b c w h = changes_have u b (λ cs. IsSound u (changed_by b cs)) (turns_covered u w b h) (covered u w b h) (λ at. tick_keeps u at (IsSound u) (fired_keeps u at w) b h) c
 
 pub after_keeps : SoundAfter
 after_keeps u b [] w h = h

@@ -14,8 +14,8 @@ pub mod Sticking
 pub mod Places
 pub mod Tasks
 pub mod Tried
-pub mod Judged
 pub mod Changes
+pub mod Standing
 pub mod Keeps
 pub mod Orderly
 pub mod Limited

@@ -1,7 +1,7 @@
 -- What commands record of a sound book is such as rows take.
 use Rattle.std.proofs.Common.{◌≡◌, ℕ, suc, ◌+◌, ◌-◌, ◌≤◌, List, [], ◌∷◌, length, refl, ap, subst, arith, Option, Some, None, Bool, true, false, ◌&&◌}
 use Rattle.std.specs.Prelude.{◌<◌, All, if◌then◌else◌}
-use Rattle.std.proofs.lemmas.Option.{none-some, same_Some}
+use Rattle.std.proofs.lemmas.Option.{none-some}
 use Rattle.std.proofs.lemmas.List.Elements.{All-nil, All-cons, All-weaker, All-append}
 use Rattle.flow_base.specs.Syntax.{Bytes, Program}
 use Rattle.flow_base.specs.declared.syntax.Parameter.{Parameter}
@@ -22,7 +22,6 @@ use Rattle.flow_model.specs.Deliver.{all_fit, has_kind}
 use Rattle.flow_model.specs.Turn as turn
 use Rattle.flow_model.specs.Deliver.{Progress}
 use Rattle.flow_model.specs.Turn.{Fresh, is_started}
-use Rattle.flow_model.specs.Turned.{turned}
 use Rattle.flow_model.specs.Book.{Book, nth}
 use Rattle.flow_model.specs.Apply.{Rules, first_turn, history_limit, tries_of, outcome, tick}
 use Rattle.flow_model.specs.Sound.{IsSoundRun, IsSound}
@@ -31,9 +30,10 @@ use Rattle.flow_model.proofs.Tries.{AskedWell, TriedRest, well_formed_tried, few
 use Rattle.flow_model.proofs.Leaves.{stands_left, turn_leaves}
 use Rattle.flow_machine.specs.Limits.{IsTurnWithinLimits, IsChangeWithinLimits}
 use Rattle.flow_machine.specs.Soundness.{ReadsWellFormed}
-use Rattle.flow_machine.proofs.MadeChanges.{Covers, IsTaken, now_of, fired_has, changes_have}
+use Rattle.flow_machine.proofs.MadeChanges.{CoversTurns, Covers, IsTaken, now_of, fired_has, changes_have}
 use Rattle.flow_machine.proofs.Places.{get_all, nth_place}
-use Rattle.flow_machine.proofs.Keeps.{taken_stands, fired_keeps}
+use Rattle.flow_machine.proofs.Standing.{first_made, sound_stands, taken_stands}
+use Rattle.flow_machine.proofs.Keeps.{fired_keeps}
 use Rattle.flow_machine.proofs.Ticks.{tick_has}
 use Rattle.flow_machine.proofs.Changes.{text_well_formed}
 use Rattle.flow_machine.proofs.Tried.{few_tries}
@@ -94,13 +94,9 @@ started_within p at vs cs k w made =
 
 first_within : (p : Program) (at : ℕ) (vs : List Value) (t : Turn) → WellFormed p → first_turn p at vs ≡ Some t → IsTurnWithinLimits t
 first_within p at vs t w h =
-    elim (turned p Fresh first_configuration at (Started vs)) as (λ o. turned p Fresh first_configuration at (Started vs) ≡ o → elim o [ None ↦ None | Some x ↦ Some (record { at = at; input = Started vs; commands = x.0 }) ] ≡ Some t → IsTurnWithinLimits t) [
-      | None ↦ λ e v. absurd (none-some t v)
-      | Some x ↦ λ e v.
-          let made : Turn = record { at = at; input = Started vs; commands = x.0 } in
-          let is = turned_is p Fresh first_configuration at (Started vs) x.0 x.1 e in
-          subst IsTurnWithinLimits (same_Some made t v) (turn_within p first_configuration at (Started vs) x.0 x.1 w tt (started_within p at vs x.0 x.1 w is) is)
-    ] refl h
+    let made = first_made p at vs t h in
+    let is = turned_is p Fresh first_configuration at (Started vs) made.0.0 made.0.1 made.1.0 in
+    subst IsTurnWithinLimits made.1.1 (turn_within p first_configuration at (Started vs) made.0.0 made.0.1 w tt (started_within p at vs made.0.0 made.0.1 w is) is)
 
 module _ (u : Rules) (b : Book) (w : ReadsWellFormed u) (h : IsSound u b) where
   -- a run takes an input
@@ -108,7 +104,7 @@ module _ (u : Rules) (b : Book) (w : ReadsWellFormed u) (h : IsSound u b) where
       → IsChangeWithinLimits (AddTurn n (record { at = now_of r at; input = i; commands = t.0 }))
   taken_within n r p k at i t taken =
       let well : WellFormed p = text_well_formed u b r.text p w taken.reads in
-      let left = stands_left p r.history k (well_formed_tried p well) (taken_stands u b n r p k at i t w h taken).0 in
+      let left = stands_left p r.history k (well_formed_tried p well) (taken_stands u b n r p k at i t (sound_stands u b h) taken).0 in
       (turn_within p k (now_of r at) i t.0 t.1 well left.tried (came_within i taken.no_start) (turned_is p Fresh k (now_of r at) i t.0 t.1 taken.turn), taken.no_start)
 
   -- it is closed for a reason
@@ -123,17 +119,22 @@ module _ (u : Rules) (b : Book) (w : ReadsWellFormed u) (h : IsSound u b) where
       let few : x.0 ≤ 20 = few_tries its.program r.history its.place event x (well_formed_tried its.program (text_well_formed u b r.text its.program w its.its_text)) its.stands e in
       one (SetAttempt n event (attempt + 1) ready) (omega arith, omega (arith, less, few))
 
-  covered : Covers u b (All IsChangeWithinLimits)
-  covered =
+  turns_covered : CoversTurns u b (All IsChangeWithinLimits)
+  turns_covered =
       record {
         nothing = nothing;
-        text = λ body p reads new. one (AddText body) tt;
-        run = λ request flow text body vs at p t new none there reads made. one (AddRun flow (Some request) text t) (first_within p at vs t (text_well_formed u b text p w reads) made);
         turn = λ n r p k at i t taken. one (AddTurn n (record { at = now_of r at; input = i; commands = t.0 })) (taken_within n r p k at i t taken);
         next = λ n r p k at i t taken vs first ends begins.
             All-cons IsChangeWithinLimits (AddTurn n (record { at = now_of r at; input = i; commands = t.0 })) (AddRun r.flow None r.text first ∷ []) (taken_within n r p k at i t taken)
             (one (AddRun r.flow None r.text first) (first_within p (now_of r at) vs first (text_well_formed u b r.text p w taken.reads) begins));
         full = λ n r p k at i t taken. closed_within n (now_of r at) history_limit;
+      }
+
+  covered : Covers u b (All IsChangeWithinLimits)
+  covered =
+      record {
+        text = λ body p reads new. one (AddText body) tt;
+        run = λ request flow text body vs at p t new none there reads made. one (AddRun flow (Some request) text t) (first_within p at vs t (text_well_formed u b text p w reads) made);
         closed = λ n r reason at there opened. closed_within n (now_of r at) reason;
         attempt = attempt_within;
         other = λ n text r body p k there its reads stands. one (SetText n text) tt;
@@ -143,7 +144,7 @@ module _ (u : Rules) (b : Book) (w : ReadsWellFormed u) (h : IsSound u b) where
 tick_within : (u : Rules) (b : Book) (at : ℕ) → ReadsWellFormed u → IsSound u b → All IsChangeWithinLimits (tick u b at).changes
 tick_within u b at w h =
     tick_has u at (IsSound u) (fired_keeps u at w) (λ k cs. All IsChangeWithinLimits cs) (λ k. nothing)
-    (λ k d sound. fired_has u k (All IsChangeWithinLimits) (covered u k w sound) at d) (λ k cs ds x y. All-append IsChangeWithinLimits cs ds x y) b h
+    (λ k d sound. fired_has u k (All IsChangeWithinLimits) (turns_covered u k w sound) at d) (λ k cs ds x y. All-append IsChangeWithinLimits cs ds x y) b h
 
 pub changes_within : (u : Rules) (b : Book) (c : Command) → ReadsWellFormed u → IsSound u b → All IsChangeWithinLimits (outcome u b c).changes
-changes_within u b c w h = changes_have u b (All IsChangeWithinLimits) (covered u b w h) (λ at. tick_within u b at w h) c
+changes_within u b c w h = changes_have u b (All IsChangeWithinLimits) (turns_covered u b w h) (covered u b w h) (λ at. tick_within u b at w h) c

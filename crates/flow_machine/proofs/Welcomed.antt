@@ -10,7 +10,7 @@ use Rattle.flow_base.specs.declared.command.TextFault.{TextFault}
 use Rattle.flow_model.specs.Book.{Book, nth, with_turn, changed, changed_by}
 use Rattle.flow_model.specs.Apply.{Rules, program_if, program_at, tick}
 use Rattle.flow_machine.specs.Welcome.{AreWelcome, ChangesWelcome}
-use Rattle.flow_machine.proofs.MadeChanges.{Covers, now_of, fired_has, changes_have}
+use Rattle.flow_machine.proofs.MadeChanges.{CoversTurns, Covers, now_of, fired_has, changes_have}
 use Rattle.flow_machine.proofs.Ticks.{tick_has}
 
 -- a turn brings no text
@@ -29,18 +29,23 @@ text_is_there f b n p h =
       | Some body ↦ λ e v. (body, e)
     ] refl h
 
-covered : (u : Rules) (b : Book) → Covers u b (AreWelcome u b)
-covered u b =
+turns_covered : (u : Rules) (b : Book) → CoversTurns u b (AreWelcome u b)
+turns_covered u b =
     record {
       nothing = tt;
-      text = λ body p reads new. ((new, (p, reads)), tt);
-      run = λ request flow text body vs at p t new none there reads made. ((body, there), tt);
       turn = λ n r p k at i t taken. ((r, taken.there), tt);
       next = λ n r p k at i t taken vs first ends made.
           let text = text_is_there u.program_of b r.text p taken.reads in
           let still = texts_still b n (record { at = now_of r at; input = i; commands = t.0 }) in
           ((r, taken.there), ((text.0, ap (λ (xs : List Bytes). nth xs r.text) still ∙ text.1), tt));
       full = λ n r p k at i t taken. ((r, taken.there), tt);
+    }
+
+covered : (u : Rules) (b : Book) → Covers u b (AreWelcome u b)
+covered u b =
+    record {
+      text = λ body p reads new. ((new, (p, reads)), tt);
+      run = λ request flow text body vs at p t new none there reads made. ((body, there), tt);
       closed = λ n r reason at there opened. ((r, there), tt);
       attempt = λ n r event attempt ready x there tries less. ((r, there), tt);
       other = λ n text r body p k there its reads stands. (((r, there), (body, its)), tt);
@@ -52,7 +57,7 @@ joined_welcome u b (c ∷ cs) ds h more = (h.0, joined_welcome u (changed b c) c
 
 -- timers that are due fire
 tick_takes : (u : Rules) (b : Book) (at : ℕ) → AreWelcome u b (tick u b at).changes
-tick_takes u b at = tick_has u at (λ k. Unit {0}) (λ k d h. tt) (AreWelcome u) (λ k. tt) (λ k d h. fired_has u k (AreWelcome u k) (covered u k) at d) (joined_welcome u) b tt
+tick_takes u b at = tick_has u at (λ k. Unit {0}) (λ k d h. tt) (AreWelcome u) (λ k. tt) (λ k d h. fired_has u k (AreWelcome u k) (turns_covered u k) at d) (joined_welcome u) b tt
 
 pub changes_welcome : ChangesWelcome
-changes_welcome u b c = changes_have u b (AreWelcome u b) (covered u b) (tick_takes u b) c
+changes_welcome u b c = changes_have u b (AreWelcome u b) (turns_covered u b) (covered u b) (tick_takes u b) c
