@@ -11,7 +11,7 @@ use Rattle.flow_base.specs.declared.command.Command.{Command}
 use Rattle.flow_base.specs.declared.command.Command.TheVariants as command
 use Rattle.flow_base.specs.Limits.{IsMoment, IsPosition, IsKey, IsText, FitsValue, FitValues}
 use Rattle.flow_base.proofs.Exact.{IsExactTable, map_some, nothing_exact, with_exact, whole_exact, text_exact, any_text_exact, value_exact, fixed_exact, as_object_back}
-use Rattle.flow_cli.proofs.Arguments.{arguments_exact}
+use Rattle.flow_cli.proofs.Arguments.{any_values_exact}
 use Rattle.flow_cli.specs.Commands.{register, start, signal, complete, fail, tick, terminate, upgrade, describe, history, members_out, members_in, command_out, command_in, line_command, verb_in, IsCommand}
 use Rattle.flow_cli.specs.Faults.{GivesCommand, GivesLine}
 use Rattle.flow_cli.specs.declared.command.LineFault.{LineFault}
@@ -24,7 +24,7 @@ register_exact = with_exact _ _ _ _ _ (fixed_exact _) (with_exact _ _ _ _ _ any_
 
 start_exact : IsExactTable start (λ p. FitValues p.0 × (IsMoment p.1.0 × (Unit {0} × (IsKey p.1.1.1.0 × (IsKey p.1.1.1.1.0 × (IsPosition p.1.1.1.1.1.0 × Unit {0}))))))
 start_exact =
-    with_exact _ _ _ _ _ arguments_exact (with_exact _ _ _ _ _ (whole_exact _ _) (with_exact _ _ _ _ _ (fixed_exact _) (with_exact _ _ _ _ _ (text_exact _ _)
+    with_exact _ _ _ _ _ any_values_exact (with_exact _ _ _ _ _ (whole_exact _ _) (with_exact _ _ _ _ _ (fixed_exact _) (with_exact _ _ _ _ _ (text_exact _ _)
     (with_exact _ _ _ _ _ (text_exact _ _) (with_exact _ _ _ _ _ (whole_exact _ _) nothing_exact)))))
 
 signal_exact : IsExactTable signal (λ p. IsMoment p.0 × (Unit {0} × (IsKey p.1.1.0 × (Unit {0} × (IsKey p.1.1.1.1.0 × (FitsValue p.1.1.1.1.1.0 × Unit {0}))))))

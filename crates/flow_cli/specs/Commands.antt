@@ -5,13 +5,12 @@ use Rattle.serde_json.specs.Data.{Data, object, Members}
 use Rattle.serde_json.specs.Find.{as_object, as_str, get}
 use Rattle.serde_json.specs.Read.{read}
 use Rattle.flow_base.specs.Codec.{Table, with, nothing}
-use Rattle.flow_base.specs.Leaves.{moment, position, key, long_text, value, any_text, fixed}
+use Rattle.flow_base.specs.Leaves.{moment, position, key, long_text, value, any_values, any_text, fixed}
 use Rattle.flow_base.specs.Limits.{IsMoment, IsPosition, IsKey, IsText, FitsValue, FitValues}
 use Rattle.flow_base.specs.Names.{first_named}
 use Rattle.flow_base.specs.declared.value.Value.{Value}
 use Rattle.flow_base.specs.declared.command.Command.{Command}
 use Rattle.flow_base.specs.declared.command.Command.TheVariants as command
-use Rattle.flow_cli.specs.Arguments.{arguments}
 use Rattle.flow_cli.specs.declared.command.Verb.{Verb}
 use Rattle.flow_cli.specs.declared.command.Verb.TheVariants as verb
 
@@ -42,7 +41,7 @@ register = with (codes "do") (fixed (codes "register")) (with (codes "src") any_
 
 abbrev pub start : Table (List Value × (ℕ × (Unit {0} × (List ℕ × (List ℕ × (ℕ × Unit {0}))))))
 start =
-    with (codes "args") arguments (with (codes "at") moment (with (codes "do") (fixed (codes "start")) (with (codes "flow") key
+    with (codes "args") any_values (with (codes "at") moment (with (codes "do") (fixed (codes "start")) (with (codes "flow") key
     (with (codes "req") key (with (codes "text") position nothing)))))
 
 abbrev pub signal : Table (ℕ × (Unit {0} × (List ℕ × (List ℕ × (List ℕ × (Value × Unit {0}))))))

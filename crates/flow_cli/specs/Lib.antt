@@ -1,7 +1,6 @@
 pub mod Faults
 pub mod Calls
 pub mod Shown
-pub mod Arguments
 pub mod Commands
 pub mod Replies
 pub mod Verdicts

@@ -11,7 +11,6 @@ ghost use Rattle.flow_cli.specs.Commands.{verb_named, verb_in, members_in, comma
 ghost use Rattle.flow_cli.specs.Faults.{GivesCommand, GivesLine, line_fault_code};
 ghost use Rattle.flow_cli.specs.declared.command.Verb.TheVariants as verb;
 
-use crate::start::start_of;
 use flow_base::code::Code;
 use flow_base::command::Command;
 use flow_base::fields::{Fields, Refused};
@@ -97,6 +96,19 @@ fn register_of(alloc: Global, mut fields: Fields) -> Result<Command, Refused>
     let src = fields.any_text(alloc, "src")?;
     fields.finish()?;
     Ok(Command::Register(src))
+}
+
+fn start_of(alloc: Global, mut fields: Fields) -> Result<Command, Refused>
+    ensures { Gives (λ c. c) result (members_in verb.Start (left fields)) }
+{
+    let args = fields.any_values(alloc, "args")?;
+    let at = fields.moment("at")?;
+    fields.fixed("do", "start")?;
+    let flow = fields.key(alloc, "flow")?;
+    let request = fields.key(alloc, "req")?;
+    let text = fields.text_number("text")?;
+    fields.finish()?;
+    Ok(Command::Start(request, flow, text, args, at))
 }
 
 fn signal_of(alloc: Global, mut fields: Fields) -> Result<Command, Refused>
@@ -204,7 +216,7 @@ fn of_json(alloc: Global, json: Json) -> Result<Command, Refused>
     let verb = verb_of(&json).ok_or(Refused::Unfit)?;
     match verb {
         Verb::Register => register_of(alloc, Fields::of_json(json)?),
-        Verb::Start => start_of(alloc, json),
+        Verb::Start => start_of(alloc, Fields::of_json(json)?),
         Verb::Signal => signal_of(alloc, Fields::of_json(json)?),
         Verb::Complete => complete_of(alloc, Fields::of_json(json)?),
         Verb::Fail => fail_of(alloc, Fields::of_json(json)?),

@@ -11,5 +11,4 @@ pub mod fault;
 pub mod history;
 pub mod reply;
 pub mod safety;
-mod start;
 pub mod work;

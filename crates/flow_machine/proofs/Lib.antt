@@ -4,6 +4,7 @@ pub mod Continuing
 pub mod Awaited
 pub mod Waiting
 pub mod Heard
+pub mod MadeChanges
 pub mod Holding
 pub mod Reading
 pub mod Unstuck
@@ -13,8 +14,8 @@ pub mod Sticking
 pub mod Places
 pub mod Tasks
 pub mod Tried
-pub mod Judged
 pub mod Changes
+pub mod Standing
 pub mod Keeps
 pub mod Orderly
 pub mod Limited

@@ -1,40 +1,35 @@
 -- Where each run's history stands, a tick is never stuck: what is due first is an open timer of a run, which waits on it, and
 -- what its firing leaves stands again.
-use Rattle.std.proofs.Common.{◌≡◌, ℕ, zero, suc, ◌+◌, ◌-◌, ◌≤◌, List, [], ◌∷◌, ◌++◌, length, max, All, refl, sym, ap, ◌∙◌, subst, arith, Option, Some, None, Bool, true, false, ⊎_elim}
+use Rattle.std.proofs.Common.{◌≡◌, ℕ, zero, suc, ◌+◌, ◌-◌, ◌≤◌, List, [], ◌∷◌, ◌++◌, refl, sym, ◌∙◌, subst, arith, Option, Some, None, Bool, true, false, ⊎_elim}
 use Rattle.std.specs.Prelude.{slice_get, slice_set, nat_le, if◌then◌else◌}
-use Rattle.std.proofs.Math.Nat.{le-max_right}
 use Rattle.std.proofs.lemmas.Option.{none-some, same_Some}
 use Rattle.std.proofs.lemmas.List.Elements.{All-push, All-set, All-weaker}
 use Rattle.flow_base.specs.Syntax.{Program}
 use Rattle.flow_base.specs.declared.value.Value.{Value}
-use Rattle.flow_base.specs.declared.event.Cmd.{Cmd}
-use Rattle.flow_base.specs.declared.event.Event.{Event}
-use Rattle.flow_base.specs.declared.event.Input.{Input}
 use Rattle.flow_base.specs.declared.event.Input.TheVariants.{TimerFired, Terminated}
 use Rattle.flow_base.specs.declared.book.Timer.{Timer}
 use Rattle.flow_base.specs.declared.book.Due.{Due}
 use Rattle.flow_base.specs.declared.book.Run.{Run}
 use Rattle.flow_base.specs.declared.book.Turn.{Turn}
-use Rattle.flow_base.specs.declared.book.Change.TheVariants.{AddTurn}
-use Rattle.flow_base.specs.declared.command.Reply.TheVariants as reply
-use Rattle.flow_model.specs.Configuration.{Configuration, first_configuration, is_open}
+use Rattle.flow_base.specs.declared.book.Change.TheVariants.{AddTurn, AddRun}
+use Rattle.flow_model.specs.Configuration.{Configuration, is_open}
 use Rattle.flow_model.specs.Turn as turn
-use Rattle.flow_model.specs.Turn.{Fresh, is_started}
-use Rattle.flow_model.specs.Turned.{turned, position_of}
-use Rattle.flow_model.specs.Stands.{Leads, Stands}
-use Rattle.flow_model.specs.Open.{open_timers, timers_left, state_of, moment_after, moment_of}
-use Rattle.flow_model.specs.Book.{Book, nth, is_before, lesser, least_of, least_from, least_due, unbegun_run, with_turn, changed, changed_by}
-use Rattle.flow_model.specs.Apply.{Rules, Outcome, if_sound, program_at, first_turn, continued, run_from, next_run, history_limit, turn_made, recorded, input_recorded, fired, firing_limit}
-use Rattle.flow_model.specs.Sound.{IsSoundRun, IsSound}
+use Rattle.flow_model.specs.Turn.{Fresh}
+use Rattle.flow_model.specs.Stands.{Stands}
+use Rattle.flow_model.specs.Open.{open_timers, timers_left, state_of}
+use Rattle.flow_model.specs.Book.{Book, nth, is_before, lesser, least_of, least_from, least_due, unbegun_run, with_turn, changed_by}
+use Rattle.flow_model.specs.Apply.{Rules, program_at, first_turn, history_limit, firing_limit}
+use Rattle.flow_model.specs.Sound.{IsSound}
 use Rattle.flow_model.proofs.Chains.{not_both}
 use Rattle.flow_model.proofs.OneMore.{stands_on, stands_first}
-use Rattle.flow_model.proofs.Positions.{position_computed, turned_is}
+use Rattle.flow_model.proofs.Positions.{turned_is}
 use Rattle.flow_model.proofs.Leaves.{delivered_open, terminates}
 use Rattle.flow_machine.specs.Stuck.{HasMismatch, CantDeliver, CantRecord, where_there, needs, StuckInput, StuckFired, StuckFirings, StuckTick}
 use Rattle.flow_machine.proofs.Places.{get_all, nth_at, nth_place}
 use Rattle.flow_machine.proofs.Changes.{put_run}
 use Rattle.flow_machine.proofs.Waiting.{firing_taken}
-use Rattle.flow_machine.proofs.Keeps.{first_turn_is}
+use Rattle.flow_machine.proofs.MadeChanges.{CoversTurns, now_of, fired_has}
+use Rattle.flow_machine.proofs.Standing.{IsStanding, Standing, first_turn_is, sound_stands, taken_stands, turn_put}
 use Rattle.flow_machine.proofs.Ticks.{fired_book}
 
 ---- The timer that is due first
@@ -89,32 +84,7 @@ module _ (b : Book) (at : ℕ) where
   pub least_due_found : (d : Due) → least_due b at ≡ Some d → IsTimer b d
   least_due_found d e = subst IsFound e (least_from_found 1 None b.runs (λ i. nth_at b.runs (1 + i) i (omega arith)) tt)
 
----- Runs whose histories stand
-
-pub record IsStanding (u : Rules) (b : Book) (r : Run) : Type 0 where
-  pub program : Program
-  pub its_text : program_at u.program_of b r.text ≡ Some program
-  pub place : Configuration
-  pub stands : Stands program r.history place
-
-abbrev pub Standing : Rules → Book → Type 0
-Standing u b = All (IsStanding u b) b.runs
-
-pub sound_stands : (u : Rules) (b : Book) → IsSound u b → Standing u b
-sound_stands u b h = All-weaker (IsSoundRun u b) (IsStanding u b) (λ r s. record { program = s.program; its_text = s.its_text; place = s.place; stands = s.stands }) b.runs h.runs
-
--- a history's last moment is that of the place to which it leads
-leads_moment : (p : Program) (n : ℕ) (due : List Cmd) (k : Configuration) (h : List Event) (k' : Configuration) → Leads p n due k h k' → moment_after k.moment h ≡ k'.moment
-leads_moment p n due k [] k' l = ap (λ (q : Configuration). q.moment) l.1
-leads_moment p n [] k (d ∷ later) k' l =
-    let a = l.1.1.0 in
-    ap (λ (m : ℕ). moment_after m later) (sym (ap (λ (q : Configuration). q.moment) a.2.2.leaves)) ∙ leads_moment p (suc n) l.0 l.1.0 later k' l.1.1.1
-leads_moment p n (c ∷ due) k (d ∷ later) k' l =
-    let a = l.1.1.0 in
-    ap (λ (m : ℕ). moment_after m later) (a.1 ∙ ap (λ (q : Configuration). q.moment) (sym a.4)) ∙ leads_moment p (suc n) l.0 l.1.0 later k' l.1.1.1
-
-stands_moment : (p : Program) (h : List Event) (k : Configuration) → Stands p h k → moment_of h ≡ k.moment
-stands_moment p h k s = leads_moment p 1 [] first_configuration h k s.1
+---- What stands stays so
 
 module _ (u : Rules) where
   -- texts are as they were
@@ -133,71 +103,46 @@ module _ (u : Rules) where
       let new = put_run b n q in
       All-set (IsStanding u new) b.runs (n - 1) q (kept_run b rs q s) (All-weaker (IsStanding u b) (IsStanding u new) (kept_run b rs) b.runs h)
 
-  abbrev Stays : Book → Outcome → Type 0
-  Stays b o = Standing u (changed_by b o.changes)
-
-  if_sound_stays : {A : Type 0} (b : Book) (o : Option A) (next : A → Outcome) → Standing u b → ((x : A) → o ≡ Some x → Stays b (next x)) → Stays b (if_sound o next)
-  if_sound_stays b None next h f = h
-  if_sound_stays b (Some x) next h f = f x refl
-
   ---- A run takes an input
 
   module _ (b : Book) (h : Standing u b) (n : ℕ) (r : Run) (there : nth b.runs n ≡ Some r) (p : Program) (text : program_at u.program_of b r.text ≡ Some p) (k : Configuration) (stands : Stands p r.history k) where
-    put : (t : Turn) → changed b (AddTurn n t) ≡ put_run b n (with_turn t r)
-    put t = ap (λ (o : Option Run). elim o [ None ↦ b | Some q ↦ put_run b n (with_turn t q) ]) there
-
     turn_stays : (t : Turn) (k2 : Configuration) → k.moment ≤ t.at → turn.Turn p Fresh k t.at t.input t.commands k2 → Standing u (put_run b n (with_turn t r))
     turn_stays t k2 le made =
         standing_put b n (with_turn t r) h (record { program = p; its_text = text; place = k2; stands = stands_on p r.history k t.at t.input t.commands k2 stands le made })
 
-    run_stays : (new : Book) (at : ℕ) (vs : List Value) (o : Option Turn) → first_turn p at vs ≡ o → program_at u.program_of new r.text ≡ Some p → Standing u new → Standing u (changed_by new (run_from r o))
-    run_stays new at vs None e its s = s
-    run_stays new at vs (Some t) e its s =
-        let first = first_turn_is p at vs t e in
-        standing_run new (with_turn t (unbegun_run r.flow None r.text)) s
-        (record { program = p; its_text = its; place = first.0; stands = stands_first p t.at t.input t.commands first.0 first.1 })
+    -- it goes on as a new run
+    next_stays : (t first : Turn) (k2 : Configuration) (vs : List Value) → k.moment ≤ t.at → turn.Turn p Fresh k t.at t.input t.commands k2 → first_turn p t.at vs ≡ Some first
+        → Standing u (changed_by b (AddTurn n t ∷ AddRun r.flow None r.text first ∷ []))
+    next_stays t first k2 vs le made e =
+        let begun = first_turn_is p t.at vs first e in
+        subst (λ (x : Book). Standing u (changed_by x (AddRun r.flow None r.text first ∷ []))) (sym (turn_put b n r t there))
+        (standing_run (put_run b n (with_turn t r)) (with_turn first (unbegun_run r.flow None r.text)) (turn_stays t k2 le made)
+        (record { program = p; its_text = text; place = begun.0; stands = stands_first p first.at first.input first.commands begun.0 begun.1 }))
 
-    next_stays : (new : Book) (at : ℕ) (o : Option (List Value)) → program_at u.program_of new r.text ≡ Some p → Standing u new → Standing u (changed_by new (next_run p r at o))
-    next_stays new at None its s = s
-    next_stays new at (Some vs) its s = run_stays new at vs (first_turn p at vs) refl its s
-
-    made_stays : (limit at : ℕ) (i : Input) (cs : List Cmd) (k2 : Configuration) → k.moment ≤ at → is_started i ≡ false → turn.Turn p Fresh k at i cs k2 → Stays b (turn_made limit p r n at i cs)
-    made_stays limit at i cs k2 le f made =
-        let t : Turn = record { at = at; input = i; commands = cs } in
-        let full : Turn = record { at = at; input = Terminated history_limit; commands = [] } in
-        let ends = terminates p k at history_limit (delivered_open p k i made.start f made.delivered) in
-        elim (nat_le (length r.history + 1 + length cs) limit) as (λ x. Stays b (
-        if x
-        then record { reply = reply.Recorded n (length r.history + 1); changes = AddTurn n t ∷ next_run p r at (continued cs) }
-        else record { reply = reply.Full n (length r.history + 1); changes = AddTurn n full ∷ [] })) [
-          | true ↦ subst (λ (x : Book). Standing u (changed_by x (next_run p r at (continued cs)))) (sym (put t))
-              (next_stays (put_run b n (with_turn t r)) at (continued cs) text (turn_stays t k2 le made))
-          | false ↦ subst (Standing u) (sym (put full)) (turn_stays full ends.0 le ends.1)
-        ]
-
-  recorded_stays : (b : Book) (n : ℕ) (r : Run) (p : Program) (at : ℕ) (i : Input) → Standing u b → nth b.runs n ≡ Some r → program_at u.program_of b r.text ≡ Some p → is_started i ≡ false
-      → Stays b (recorded u.limit p r n at i)
-  unfolding recorded
-  recorded_stays b n r p at i h there text f =
-      let its : IsStanding u b r = get_all (IsStanding u b) b.runs (n - 1) r (nth_place b.runs n r there) h in
-      let same : its.program ≡ p = same_Some its.program p (sym its.its_text ∙ text) in
-      let stands : Stands p r.history its.place = subst (λ (q : Program). Stands q r.history its.place) same its.stands in
-      let now : ℕ = max at (moment_of r.history) in
-      let later : its.place.moment ≤ now = subst (λ m. m ≤ now) (stands_moment p r.history its.place stands) (le-max_right at (moment_of r.history)) in
-      if_sound_stays b (position_of p r.history) (λ k. if_sound (turned p Fresh k now i) (λ t. turn_made u.limit p r n now i t.0)) h
-      (λ k e.
-      let at_place : its.place ≡ k = same_Some its.place k (sym (position_computed p r.history its.place stands) ∙ e) in
-      if_sound_stays b (turned p Fresh k now i) (λ t. turn_made u.limit p r n now i t.0) h
-      (λ t g.
-      made_stays b h n r there p text k (subst (λ (q : Configuration). Stands p r.history q) at_place stands) u.limit now i t.0 t.1
-      (subst (λ (q : Configuration). q.moment ≤ now) at_place later) f (turned_is p Fresh k now i t.0 t.1 g)))
+  turns_covered : (b : Book) → Standing u b → CoversTurns u b (λ cs. Standing u (changed_by b cs))
+  turns_covered b h =
+      record {
+        nothing = h;
+        turn = λ n r p k at i t taken.
+            let stands = taken_stands u b n r p k at i t h taken in
+            let made : Turn = record { at = now_of r at; input = i; commands = t.0 } in
+            subst (Standing u) (sym (turn_put b n r made taken.there))
+            (turn_stays b h n r taken.there p taken.reads k stands.0 made t.1 stands.1 (turned_is p Fresh k (now_of r at) i t.0 t.1 taken.turn));
+        next = λ n r p k at i t taken vs first ends begins.
+            let stands = taken_stands u b n r p k at i t h taken in
+            next_stays b h n r taken.there p taken.reads k stands.0 (record { at = now_of r at; input = i; commands = t.0 }) first t.1 vs stands.1
+            (turned_is p Fresh k (now_of r at) i t.0 t.1 taken.turn) begins;
+        full = λ n r p k at i t taken.
+            let stands = taken_stands u b n r p k at i t h taken in
+            let made = turned_is p Fresh k (now_of r at) i t.0 t.1 taken.turn in
+            let ends = terminates p k (now_of r at) history_limit (delivered_open p k i made.start taken.no_start made.delivered) in
+            let closes : Turn = record { at = now_of r at; input = Terminated history_limit; commands = [] } in
+            subst (Standing u) (sym (turn_put b n r closes taken.there))
+            (turn_stays b h n r taken.there p taken.reads k stands.0 closes ends.0 stands.1 ends.1);
+      }
 
   fired_stays : (at : ℕ) (b : Book) (d : Due) → Standing u b → Standing u (fired_book u at b d)
-  unfolding fired input_recorded
-  fired_stays at b d h =
-      if_sound_stays b (nth b.runs d.run) (λ r. if_sound (program_at u.program_of b r.text) (λ p. recorded u.limit p r d.run at (TimerFired d.id))) h
-      (λ r there. if_sound_stays b (program_at u.program_of b r.text) (λ p. recorded u.limit p r d.run at (TimerFired d.id)) h
-      (λ p text. recorded_stays b d.run r p at (TimerFired d.id) h there text refl))
+  fired_stays at b d h = fired_has u b (λ cs. Standing u (changed_by b cs)) (turns_covered b h) at d
 
   ---- It is never stuck
 
