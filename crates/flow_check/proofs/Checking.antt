@@ -101,13 +101,13 @@ module _ (p : Bool) (s : Scope) (x : Statement) (o : Option TextFault) where
       let condition = faults_of_wanted (types_of s) Int e in
       stays_checked (While at e b end) s1 o2 is refl (notes_then p s s s1 o o1 o2 condition (λ (m : rule.Scope). faults_of_block m b) (noted s o o1 condition one) two)
 
-  pub parallel_checked : (at b_at : ℕ) (b : Block) (b_end : ℕ) (bs : Branches) (s1 s2 : Scope) (o1 o2 o3 : Option TextFault) → x ≡ Parallel at (Branch b_at b b_end bs)
+  pub parallel_checked : (at b_at : ℕ) (b : Block) (b_end : ℕ) (bs : Branches) (end : ℕ) (s1 s2 : Scope) (o1 o2 o3 : Option TextFault) → x ≡ Parallel at (Branch b_at b b_end bs) end
       → o1 ≡ earliest o (fault_at_first code.TooManyBranches (drop 7 (branch_places bs))) → Notes s o1 (faults_of_block (shown_scope true s) b) s1 o2
       → Notes s1 o2 (faults_of_branches (shown_scope true s1) bs) s2 o3 → Checks p s o (Next x End) s2 o3
-  parallel_checked at b_at b b_end bs s1 s2 o1 o2 o3 is one two three =
+  parallel_checked at b_at b b_end bs end s1 s2 o1 o2 o3 is one two three =
       let beyond = fault_at_first code.TooManyBranches (drop 7 (branch_places bs)) in
       let m = shown_scope true s in
-      stays_checked (Parallel at (Branch b_at b b_end bs)) s2 o3 is refl
+      stays_checked (Parallel at (Branch b_at b b_end bs) end) s2 o3 is refl
       (subst (λ (fs : List TextFault). Notes s o fs s2 o3) (append_assoc beyond (faults_of_block m b) (faults_of_branches m bs))
       (notes_then true s s1 s2 o o2 o3 (beyond ++ faults_of_block m b) (λ (k : rule.Scope). faults_of_branches k bs)
       (notes_then true s s s1 o o1 o2 beyond (λ (k : rule.Scope). faults_of_block k b) (noted s o o1 beyond one) two) three))
@@ -135,7 +135,7 @@ module _ (p : Bool) (s : Scope) (x : Statement) (o : Option TextFault) where
 
 -- the names of a program, in three parts
 pub names_checked : {U E : Type 0} (r : Result U E) (p : program.Program) (n n1 n2 n3 : Names) (o o1 o2 o3 : Option TextFault) (ps : List Parameter) (ds : List Declaration) (ss : List Stmt)
-    → ps ≡ p.parameters.items → ds ≡ p.declarations.items → ss ≡ p.body.items → Lists n []
+    → ps ≡ p.parameters.items → ds ≡ p.declarations.items → ss ≡ p.body.value.items → Lists n []
     → Declares n o (map name_of_parameter ps) n1 o1 → Declares n1 o1 (map name_of_declared (map shown_declaration ds)) n2 o2 → OnOk r (Declares n2 o2 (names_of_block (shown_block ss)) n3 o3)
     → OnOk r (o3 ≡ earliest o (faults_of_names [] (names_of (shown_program p))))
 names_checked r p n n1 n2 n3 o o1 o2 o3 ps ds ss ips ids iss l first second third =
@@ -160,7 +160,7 @@ known_first s s1 s2 p untyped none unheard takes types same alike too kept activ
     (signals ∙ ap (λ (f : Bytes → Option Kind). first_then f (signal_of ds)) (alike ∙ unheard)) (parameters ∙ too ∙ takes) refl
 
 pub first_found : (p : program.Program) (s s' : Scope) (o o1 o2 o3 r : Option TextFault) → o ≡ None → o1 ≡ earliest o (faults_of_names [] (names_of (shown_program p)))
-    → o2 ≡ earliest o1 (faults_of_declarations (map shown_declaration p.declarations.items)) → shown_scope false s ≡ scope_of (shown_program p) → Checks false s o2 (shown_block p.body.items) s' o3 → r ≡ o3
+    → o2 ≡ earliest o1 (faults_of_declarations (map shown_declaration p.declarations.items)) → shown_scope false s ≡ scope_of (shown_program p) → Checks false s o2 (shown_block p.body.value.items) s' o3 → r ≡ o3
     → r ≡ first_fault (shown_program p)
 first_found p s s' o o1 o2 o3 r none one two known checks is =
     let q = shown_program p in

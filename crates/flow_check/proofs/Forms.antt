@@ -36,8 +36,8 @@ shown_if at e a b = search (rules, the_lemmas)
 pub shown_while : (at : ℕ) (e : Expr) (b : Block) → shown_stmt (While at e b) ≡ tree.While at (shown_expr e) (shown_braced b).0 (shown_braced b).1
 shown_while at e b = search (rules, the_lemmas)
 
-pub shown_parallel : (at : ℕ) (b : Branch) (bs : Vec Branch Global) → shown_stmt (Parallel at b bs) ≡ tree.Parallel at (branches_of (shown_branch b ∷ map shown_branch bs.items))
-shown_parallel at b bs = search (rules, the_lemmas)
+pub shown_parallel : (at : ℕ) (b : Branch) (bs : Vec Branch Global) (end : ℕ) → shown_stmt (Parallel at b bs end) ≡ tree.Parallel at (branches_of (shown_branch b ∷ map shown_branch bs.items)) end
+shown_parallel at b bs end = search (rules, the_lemmas)
 
 pub shown_patch : (at id_at : ℕ) (id : Bytes) (a b : Block) → shown_stmt (Patch at id_at id a b) ≡ tree.Patch at id_at id (shown_braced a).0 (shown_braced a).1 (shown_braced b).0 (shown_braced b).1
 shown_patch at id_at id a b = search (rules, the_lemmas)
@@ -51,7 +51,7 @@ shown_fail at e = search (rules, the_lemmas)
 pub shown_continue : (at : ℕ) (es : Vec Expr Global) → shown_stmt (Continue at es) ≡ tree.Continue at (map shown_expr es.items)
 shown_continue at es = search (rules, the_lemmas)
 
-pub shown_list : (b : Block) → (shown_braced b).0 ≡ shown_block b.list.items
+pub shown_list : (b : Block) → (shown_braced b).0 ≡ shown_block b.list.value.items
 shown_list b = search (rules, the_lemmas)
 
 pub shown_place : (b : Branch) → (shown_branch b).0 ≡ b.at

@@ -41,6 +41,6 @@ fn first_fault(alloc: Global, program: &Program) -> Result<Option<TextFault>, Al
     let mut scope = Scope::none(alloc, &program.parameters);
     scope.add_parameters(&program.parameters)?;
     scope.add_declarations(&program.declarations)?;
-    check_statements(&mut scope, &program.body, false, &mut found)?;
+    check_statements(&mut scope, program.body.as_slice(), false, &mut found)?;
     Ok(found.get())
 }

@@ -111,7 +111,7 @@ pub fn check_names(
     let mut names = Names::none(alloc);
     parameter_names(&mut names, &program.parameters, found)?;
     declaration_names(&mut names, &program.declarations, found)?;
-    statement_names(&mut names, &program.body, found)
+    statement_names(&mut names, program.body.as_slice(), found)
 }
 
 fn parameter_names<'a>(
@@ -187,7 +187,7 @@ fn statement_name<'a>(
             block_names(names, otherwise, found)
         }
         Stmt::While(_, _, body) => block_names(names, body, found),
-        Stmt::Parallel(_, first, others) => {
+        Stmt::Parallel(_, first, others, _) => {
             block_names(names, &first.body, found)?;
             branch_names(names, others, found)
         }
@@ -210,7 +210,7 @@ fn block_names<'a>(
 ) -> Result<(), AllocError>
     ensures { OnOk result (Declares names.old found.old (names_of_block (shown_braced block.now).0) names.new found.new) }
 {
-    statement_names(names, &block.list, found)
+    statement_names(names, block.list.as_slice(), found)
 }
 
 #[cycle(names)]

@@ -82,7 +82,7 @@ fn check_statement<'a>(
             check_wanted(scope, Kind::Int, condition, found);
             check_inner(scope, body, in_parallel, found)?;
         }
-        Stmt::Parallel(_, first, others) => {
+        Stmt::Parallel(_, first, others, _) => {
             check_branch_count(others, found);
             check_inner(scope, &first.body, true, found)?;
             check_branches(scope, others, found)?;
@@ -119,7 +119,7 @@ fn check_inner<'a>(
     ensures { OnOk result (Notes scope.old found.old (faults_of_block (shown_scope in_parallel scope.old) (shown_braced block.now).0) scope.new found.new) }
 {
     let visible = scope.visible();
-    check_statements(scope, &block.list, in_parallel, found)?;
+    check_statements(scope, block.list.as_slice(), in_parallel, found)?;
     scope.forget_beyond(visible);
     Ok(())
 }

@@ -54,7 +54,7 @@ mutual
       ap (λ v. word.Mark mark.If ∷ v)
       (then_same e (in_braces (block_words (bare_block a)) ++ else_words (bare_block b)) (in_braces (block_words a) ++ else_words b) (ap (λ v. in_braces v ++ else_words (bare_block b)) (block_same a) ∙ ap (λ v. in_braces (block_words a) ++ v) (else_same b)))
   statement_same (While at e b b_end) = ap (λ v. word.Mark mark.While ∷ v) (then_same e (in_braces (block_words (bare_block b))) (in_braces (block_words b)) (ap in_braces (block_same b)))
-  statement_same (Parallel at bs end) = ap (λ v. word.Mark mark.Parallel ∷ in_braces v) (branches_same bs)
+  statement_same (Parallel at bs _) = ap (λ v. word.Mark mark.Parallel ∷ in_braces v) (branches_same bs)
   statement_same (Patch at id_at id a a_end b b_end) =
       ap (λ v. word.Mark mark.Patch ∷ word.Text id ∷ (in_braces v ++ else_words (bare_block b))) (block_same a) ∙ ap (λ v. word.Mark mark.Patch ∷ word.Text id ∷ (in_braces (block_words a) ++ v)) (else_same b)
   statement_same (Return at e) = ap (λ v. word.Mark mark.Return ∷ v) (then_same e end end refl)

@@ -15,12 +15,12 @@ use Rattle.flow_base.specs.declared.syntax.Parameter.{Parameter}
 use Rattle.flow_base.specs.declared.syntax.TypeAt.{TypeAt}
 use Rattle.flow_model.specs.Lexeme.{Lexeme}
 use Rattle.flow_model.specs.Grammar.{TypeReading, typed, no_type, type_, last_type, next_type, parameter, ParametersReading, no_parameter, parameter_, last_parameter, next_parameter, activity, signal, no_else, else_, no_retry, retry, for_ever, for_, value, call, wait, no_branch, branch, let_, assign, sleep, while_, parallel, return_, fail, continue_, no_statement, statement, if_, patch, otherwise, without, BodyReading, statements, declaration, workflow}
-use Rattle.flow_model.specs.Grammar.{marked, named, numbered, worded, whole, expr_tokens, arguments_tokens, type_tokens, type_tail_tokens, types_tokens, parameter_tokens, parameter_tail_tokens, parameters_tokens, declaration_tokens, else_tail_tokens, call_tail_tokens, wait_tail_tokens, side_tokens, branches_tokens, statement_tokens, statements_tokens, choice_tokens, body_tokens, arguments_of, type_of, kind_of, type_tail_of, types_of, parameter_of, parameter_tail_of, parameter_tail_end, declaration_of, otherwise_of, retry_of, failing_of, wait_of, side_of, branches_of, statement_of, statements_of, statements_end, second_of, second_end, behind_choice, choice_end, body_statements, declarations_of, program_of, Reads}
+use Rattle.flow_model.specs.Grammar.{marked, named, numbered, worded, whole, expr_tokens, arguments_tokens, type_tokens, type_tail_tokens, types_tokens, parameter_tokens, parameter_tail_tokens, parameters_tokens, declaration_tokens, else_tail_tokens, call_tail_tokens, wait_tail_tokens, side_tokens, branches_tokens, statement_tokens, statements_tokens, choice_tokens, body_tokens, arguments_of, type_of, kind_of, type_tail_of, types_of, parameter_of, parameter_tail_of, parameter_tail_end, declaration_of, otherwise_of, retry_of, failing_of, wait_of, side_of, branches_of, branches_end, statement_of, statements_of, statements_end, second_of, second_end, behind_choice, choice_end, body_statements, declarations_of, program_of, Reads}
 use Rattle.flow_syntax.specs.declared.fault.Stop.{Stop}
 use Rattle.flow_syntax.specs.declared.fault.Stop.TheVariants.{NoMemory, Unexpected}
 use Rattle.flow_syntax.specs.Machine.{Symbol, takes, then_more, fault, fault_by, step}
 use Rattle.flow_syntax.specs.Machine as m
-use Rattle.flow_syntax.specs.Parsing.{Parsed, SoFar, StopsAt, StopsProgram, IsNoMark, LacksMark, Lacks, IsNumber, IsPatchId, in_braces, IsBlock, IsTried, IsCalled, IsTarget, IsChoice, IsMember, both_of, end_of, whole_body_of}
+use Rattle.flow_syntax.specs.Parsing.{Parsed, SoFar, StopsAt, StopsProgram, IsNoMark, LacksMark, Lacks, IsNumber, IsPatchId, in_braces, IsBlock, IsTried, IsCalled, IsTarget, IsChoice, IsMember, both_of, end_of, shut_of, whole_body_of}
 use Rattle.flow_syntax.proofs.Steps.{Same, Alike, is_then, is_alike, types_same, parameters_same, side_same, body_alike, else_tail_is, call_tail_is, wait_tail_is, statements_is, after_choice_is, patch_id_step}
 use Rattle.flow_syntax.proofs.Parsed.{so_begins, so_more, so_next}
 use Rattle.flow_syntax.proofs.ParsedExpressions.{Marked, IsExpr, first_is}
@@ -299,7 +299,7 @@ before_none [] = refl
 before_none (y ∷ ys) = ap (tree.Branch y.0 y.1.0 y.1.1) (before_none ys)
 
 abbrev pub BranchesSoFar : List Lexeme → List (ℕ × Braced) → List Lexeme → Type 0
-BranchesSoFar ts bs rest = SoFar branches_tokens branches_tokens branches_of (λ more. before_branches bs (branches_of more)) ts rest
+BranchesSoFar ts bs rest = SoFar branches_tokens branches_tokens shut_of (λ more. (before_branches bs (branches_of more), branches_end more)) ts rest
 
 pub branches_begin : (ts : List Lexeme) → BranchesSoFar ts [] ts
 branches_begin ts = λ more end h. (more, h, refl)
@@ -318,16 +318,16 @@ branches_is owed ts h = is_then (m.sign mark.BraceOpen) m.more_branches (m.state
 pub branches_more : (ts rest next : List Lexeme) (bs : List (ℕ × Braced)) (at : ℕ) (b : tree.Block × ℕ) → BranchesSoFar ts bs rest → IsBlock rest at b next → BranchesSoFar ts (bs ++ ((at, b) ∷ [])) next
 branches_more ts rest next bs at b so p = λ more end g.
     let r = so (branch at p.0 more) end (ap (λ v. marked at mark.BraceOpen ∷ v) (append_assoc (statements_tokens p.0) (branches_tokens more) end ∙ ap (λ v. statements_tokens p.0 ++ v) g) ∙ p.1) in
-    (r.0, r.1, r.2 ∙ ap (λ (v : tree.Block × ℕ). before_branches bs (tree.Branch at v.0 v.1 (branches_of more))) p.2 ∙ before_another bs (at, b) (branches_of more))
+    (r.0, r.1, r.2 ∙ ap (λ (v : tree.Block × ℕ). (before_branches bs (tree.Branch at v.0 v.1 (branches_of more)), branches_end more)) p.2 ∙ ap (λ v. (v, branches_end more)) (before_another bs (at, b) (branches_of more)))
 
-pub branches_close : (at : ℕ) (ts rest end : List Lexeme) (bs : List (ℕ × Braced)) → BranchesSoFar ts bs rest → ((owed : List Symbol) → fault (m.more_branches ∷ owed) ts ≡ fault (m.more_branches ∷ owed) rest) → rest ≡ marked at mark.BraceClose ∷ end → Parsed m.more_branches branches_tokens branches_of ts (shown_branches bs) end
-branches_close at ts rest end bs so f h = let r = so (no_branch at) end (sym h) in (r.0, r.1, r.2 ∙ before_none bs, λ owed. f owed ∙ ap (fault (m.more_branches ∷ owed)) h)
+pub branches_close : (at : ℕ) (ts rest end : List Lexeme) (bs : List (ℕ × Braced)) → BranchesSoFar ts bs rest → ((owed : List Symbol) → fault (m.more_branches ∷ owed) ts ≡ fault (m.more_branches ∷ owed) rest) → rest ≡ marked at mark.BraceClose ∷ end → Parsed m.more_branches branches_tokens shut_of ts (shown_branches bs, at) end
+branches_close at ts rest end bs so f h = let r = so (no_branch at) end (sym h) in (r.0, r.1, r.2 ∙ ap (λ v. (v, at)) (before_none bs), λ owed. f owed ∙ ap (fault (m.more_branches ∷ owed)) h)
 
-pub parallel_parsed : (at brace first : ℕ) (ts r1 r2 end : List Lexeme) (b : tree.Block × ℕ) (bs : tree.Branches) → Marked mark.BraceOpen ts brace r1 → IsBlock r1 first b r2 → Parsed m.more_branches branches_tokens branches_of r2 bs end → Parsed m.statement statement_tokens statement_of (marked at mark.Parallel ∷ ts) (tree.Parallel at (tree.Branch first b.0 b.1 bs)) end
-parallel_parsed at brace first ts r1 r2 end b bs p q r = (
+pub parallel_parsed : (at brace first shut_at : ℕ) (ts r1 r2 end : List Lexeme) (b : tree.Block × ℕ) (bs : tree.Branches) → Marked mark.BraceOpen ts brace r1 → IsBlock r1 first b r2 → Parsed m.more_branches branches_tokens shut_of r2 (bs, shut_at) end → Parsed m.statement statement_tokens statement_of (marked at mark.Parallel ∷ ts) (tree.Parallel at (tree.Branch first b.0 b.1 bs) shut_at) end
+parallel_parsed at brace first shut_at ts r1 r2 end b bs p q r = (
   parallel at p.0 first q.0 r.0,
   ap (λ y. marked at mark.Parallel ∷ y) (ap (λ y. marked p.0 mark.BraceOpen ∷ y) (ap (λ y. marked first mark.BraceOpen ∷ y) (append_assoc (statements_tokens q.0) (branches_tokens r.0) end ∙ ap (λ y. statements_tokens q.0 ++ y) r.1) ∙ q.1) ∙ p.1),
-  ap (λ (v : tree.Block × ℕ). tree.Parallel at (tree.Branch first v.0 v.1 (branches_of r.0))) q.2 ∙ ap (λ y. tree.Parallel at (tree.Branch first b.0 b.1 y)) r.2,
+  ap (λ (v : tree.Block × ℕ). tree.Parallel at (tree.Branch first v.0 v.1 (branches_of r.0)) (branches_end r.0)) q.2 ∙ ap (λ (v : tree.Branches × ℕ). tree.Parallel at (tree.Branch first b.0 b.1 v.0) v.1) r.2,
   λ owed. p.3 (m.sign mark.BraceOpen ∷ m.statements ∷ m.more_branches ∷ owed) ∙ q.3 (m.more_branches ∷ owed) ∙ r.3 owed,
 )
 

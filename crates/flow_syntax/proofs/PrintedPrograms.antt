@@ -399,15 +399,15 @@ branches_read at b b_end bs read behind ts h =
     let l = branch_read b bs read behind ts h in
     (branch l.0 l.1 l.2, l.3, branches_bare (statements_of l.1) b (branches_of l.2) bs l.4 l.5)
 
-parallel_read : (at from : ℕ) (b : Block) (b_end : ℕ) (bs : Branches) → Reader b → BranchesReader bs → StatementReader (tree.Parallel at (Branch from b b_end bs))
-parallel_read at from b b_end bs read behind ts h =
+parallel_read : (at from : ℕ) (b : Block) (b_end : ℕ) (bs : Branches) (bs_end : ℕ) → Reader b → BranchesReader bs → StatementReader (tree.Parallel at (Branch from b b_end bs) bs_end)
+parallel_read at from b b_end bs bs_end read behind ts h =
     let inside : List Word = (in_braces (block_words b) ++ branches_words bs) ++ close in
     let o = first (word.Mark mark.Parallel) (word.Mark mark.BraceOpen ∷ inside) ts h in
     let g = first (word.Mark mark.BraceOpen) inside o.1 o.3 in
     let l = branch_read b bs read behind g.1 g.3 in (
       parallel o.0 g.0 l.0 l.1 l.2,
       ap (λ v. marked o.0 mark.Parallel ∷ marked g.0 mark.BraceOpen ∷ v) l.3 ∙ ap (λ v. marked o.0 mark.Parallel ∷ v) (sym g.2) ∙ sym o.2,
-      ap (λ v. tree.Parallel 0 v) (branches_bare (statements_of l.1) b (branches_of l.2) bs l.4 l.5),
+      ap (λ v. tree.Parallel 0 v 0) (branches_bare (statements_of l.1) b (branches_of l.2) bs l.4 l.5),
     )
 
 ---- Choices, with what follows them
@@ -505,9 +505,9 @@ mutual
   statement_reader (tree.Sleep at e) b can behind = alone (tree.Sleep at e) b (sleep_read at e) behind
   statement_reader (tree.If at e a a_end c c_end) b can behind = if_read at e a a_end c c_end b (block_reader a can.0) (block_reader c can.1) behind
   statement_reader (tree.While at e a a_end) b can behind = alone (tree.While at e a a_end) b (while_read at e a a_end (block_reader a can)) behind
-  statement_reader (tree.Parallel at NoBranch) b can behind = absurd can.0
-  statement_reader (tree.Parallel at (Branch from a a_end bs)) b can behind =
-      alone (tree.Parallel at (Branch from a a_end bs)) b (parallel_read at from a a_end bs (block_reader a can.1.0) (branches_reader bs can.1.1)) behind
+  statement_reader (tree.Parallel at NoBranch bs_end) b can behind = absurd can.0
+  statement_reader (tree.Parallel at (Branch from a a_end bs) bs_end) b can behind =
+      alone (tree.Parallel at (Branch from a a_end bs) bs_end) b (parallel_read at from a a_end bs bs_end (block_reader a can.1.0) (branches_reader bs can.1.1)) behind
   statement_reader (tree.Patch at id_at id a a_end c c_end) b can behind = patch_read at id_at id a a_end c c_end b can.0 (block_reader a can.1.0) (block_reader c can.1.1) behind
   statement_reader (tree.Return at e) b can behind = alone (tree.Return at e) b (return_read at e) behind
   statement_reader (tree.FailWith at e) b can behind = alone (tree.FailWith at e) b (fail_read at e) behind

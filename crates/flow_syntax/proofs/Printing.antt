@@ -107,8 +107,8 @@ shown_if at e a b = search (rules, stmt.the_lemmas)
 pub shown_patch : (at id_at : ℕ) (id : List ℕ) (a b : shown.Block) → shown_stmt (stmt.Patch at id_at id a b) ≡ tree.Patch at id_at id (shown_braced a).0 (shown_braced a).1 (shown_braced b).0 (shown_braced b).1
 shown_patch at id_at id a b = search (rules, stmt.the_lemmas)
 
-pub shown_parallel : (at : ℕ) (b : Branch) (bs : Vec Branch Global) → shown_stmt (stmt.Parallel at b bs) ≡ tree.Parallel at (branches_of (shown_branch b ∷ map shown_branch bs.items))
-shown_parallel at b bs = search (rules, stmt.the_lemmas)
+pub shown_parallel : (at : ℕ) (b : Branch) (bs : Vec Branch Global) (bs_end : ℕ) → shown_stmt (stmt.Parallel at b bs bs_end) ≡ tree.Parallel at (branches_of (shown_branch b ∷ map shown_branch bs.items)) bs_end
+shown_parallel at b bs bs_end = search (rules, stmt.the_lemmas)
 
 -- ---- texts
 

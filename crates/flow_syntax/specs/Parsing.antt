@@ -12,7 +12,7 @@ use Rattle.flow_base.specs.Syntax.{Bytes}
 use Rattle.flow_syntax.specs.declared.fault.Stop.{Stop}
 use Rattle.flow_syntax.specs.declared.fault.Stop.TheVariants.{NoMemory, Unexpected}
 use Rattle.flow_model.specs.Lexeme.{Lexeme}
-use Rattle.flow_model.specs.Grammar.{marked, named, numbered, worded, whole, is_patch_id, declaration_tokens, declaration_of, TermSign, SumSign, CompareSign, term_mark, term_operator, sum_mark, sum_operator, compare_mark, compare_operator, ParametersReading, parameters_of, parameters_end, else_tail_tokens, otherwise_of, CallTail, call_tail_tokens, retry_of, failing_of, side_tokens, side_of, StatementsReading, statements_tokens, statements_of, statements_end, AfterChoice, choice_tokens, second_of, second_end, behind_choice, choice_end, BodyReading, declarations_of, body_statements}
+use Rattle.flow_model.specs.Grammar.{marked, named, numbered, worded, whole, is_patch_id, declaration_tokens, declaration_of, TermSign, SumSign, CompareSign, term_mark, term_operator, sum_mark, sum_operator, compare_mark, compare_operator, ParametersReading, parameters_of, parameters_end, else_tail_tokens, otherwise_of, CallTail, call_tail_tokens, retry_of, failing_of, side_tokens, side_of, StatementsReading, statements_tokens, statements_of, statements_end, AfterChoice, choice_tokens, second_of, second_end, behind_choice, choice_end, BranchesReading, branches_of, branches_end, BodyReading, declarations_of, body_statements}
 use Rattle.flow_syntax.specs.Machine as m
 use Rattle.flow_syntax.specs.Machine.{Symbol, takes, fault}
 
@@ -85,12 +85,15 @@ StopsProgram ts (Unexpected left) = fault (m.program ∷ []) ts ≡ Some left
 abbrev pub Declares : List Lexeme → tree.Declared → List Lexeme → Type 0
 Declares ts d rest = Parsed m.declaration declaration_tokens declaration_of ts d rest × ((owed : List Symbol) → fault (m.body ∷ owed) ts ≡ fault (m.declaration ∷ m.body ∷ owed) ts)
 
--- parameters with the place of their `)`, statements and a body with that of their brace
+-- parameters with the place of their `)`, statements, branches and a body with that of their brace
 abbrev pub both_of : ParametersReading → List Parameter × ℕ
 both_of r = (parameters_of r, parameters_end r)
 
 abbrev pub end_of : StatementsReading → tree.Block × ℕ
 end_of r = (statements_of r, statements_end r)
+
+abbrev pub shut_of : BranchesReading → tree.Branches × ℕ
+shut_of r = (branches_of r, branches_end r)
 
 abbrev pub whole_body_of : BodyReading → List tree.Declared × (tree.Block × ℕ)
 whole_body_of r = (declarations_of r, end_of (body_statements r))

@@ -181,7 +181,7 @@ abbrev mutual
   statement_words (tree.Sleep at e) = Mark mark.Sleep ∷ (expression_words e ++ end)
   statement_words (tree.If at e a a_end b b_end) = Mark mark.If ∷ (expression_words e ++ (in_braces (block_words a) ++ else_words b))
   statement_words (tree.While at e b b_end) = Mark mark.While ∷ (expression_words e ++ in_braces (block_words b))
-  statement_words (tree.Parallel at bs end) = Mark mark.Parallel ∷ in_braces (branches_words bs)
+  statement_words (tree.Parallel at bs _) = Mark mark.Parallel ∷ in_braces (branches_words bs)
   statement_words (tree.Patch at id_at id a a_end b b_end) = Mark mark.Patch ∷ Text id ∷ (in_braces (block_words a) ++ else_words b)
   statement_words (tree.Return at e) = Mark mark.Return ∷ (expression_words e ++ end)
   statement_words (tree.FailWith at e) = Mark mark.Fail ∷ (expression_words e ++ end)
@@ -273,7 +273,7 @@ abbrev mutual
   IsReadable (tree.Sleep at e) = Unit {0}
   IsReadable (tree.If at e a a_end b b_end) = AreReadable a × AreReadable b
   IsReadable (tree.While at e b b_end) = AreReadable b
-  IsReadable (tree.Parallel at bs end) = HasBranch bs × AreReadableBranches bs
+  IsReadable (tree.Parallel at bs _) = HasBranch bs × AreReadableBranches bs
   IsReadable (tree.Patch at id_at id a a_end b b_end) = IsTrue (is_patch_id id) × (AreReadable a × AreReadable b)
   IsReadable (tree.Return at e) = Unit {0}
   IsReadable (tree.FailWith at e) = Unit {0}

@@ -83,7 +83,7 @@ fn behind_keyword(out: &mut Printer, program: &Program) -> Result<(), AllocError
     print_list(out, &program.parameters)?;
     out.mark(Mark::BraceOpen)?;
     declarations(out, &program.declarations)?;
-    statements(out, &program.body)?;
+    statements(out, program.body.as_slice())?;
     out.mark(Mark::BraceClose)?;
     Ok(())
 }
@@ -105,7 +105,7 @@ pub fn print(alloc: Global, program: &Program) -> Result<String, AllocError>
     // No tokens that are read as the program, up to places, are fewer: there is no needless pair of parentheses.
     ensures least { OnOk result (HasLeastWords (shown_program program.now)) }
 {
-    readable::statements(&program.body);
+    readable::statements(program.body.as_slice());
     let mut out = Printer::new(alloc, "workflow")?;
     behind_keyword(&mut out, program)?;
     Ok(out.finish())

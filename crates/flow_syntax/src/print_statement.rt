@@ -133,7 +133,7 @@ fn else_block(out: &mut Printer, list: &Block) -> Result<(), AllocError>
 fn is_empty(list: &Block) -> bool
     ensures { result ≡ is_end (shown_braced list.now).0 }
 {
-    has_none(&list.list)
+    has_none(list.list.as_slice())
 }
 
 fn has_none(list: &[Stmt]) -> bool
@@ -254,7 +254,7 @@ fn statement(out: &mut Printer, stmt: &Stmt) -> Result<(), AllocError>
             Ok(())
         }
         Stmt::While(_, condition, body) => while_statement(out, body, condition),
-        Stmt::Parallel(_, first, others) => {
+        Stmt::Parallel(_, first, others, _) => {
             parallel_head(out)?;
             branch(out, first)?;
             branches(out, others)?;
@@ -288,7 +288,7 @@ pub fn statements(out: &mut Printer, list: &[Stmt]) -> Result<(), AllocError>
 fn inside(out: &mut Printer, list: &Block) -> Result<(), AllocError>
     ensures { OnOk result (out.new ≡ out.old ++ spaced (block_words (shown_braced list.now).0)) }
 {
-    statements(out, &list.list)
+    statements(out, list.list.as_slice())
 }
 
 #[cycle(statement)]

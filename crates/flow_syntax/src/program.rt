@@ -12,6 +12,7 @@ use crate::statement::statements;
 use flow_base::syntax::{Declaration, Parameter, Program, Stmt, TypeAt};
 use flow_base::token::{Mark, Token};
 use std::alloc::Global;
+use std::sync::Arc;
 
 fn parameter(alloc: Global, tokens: &[Token]) -> Result<(Parameter, &[Token]), Stop>
     ensures ok { IfOk result (λ x. Parsed m.parameter parameter_tokens parameter_of (lexemes tokens.now) x.0 (lexemes x.1.now)) }
@@ -117,8 +118,8 @@ fn declaration(alloc: Global, tokens: &[Token]) -> Result<Option<(Declaration, &
 fn body(
     alloc: Global,
     tokens: &[Token],
-) -> Result<(Vec<Declaration>, Vec<Stmt>, usize, &[Token]), Stop>
-    ensures ok { IfOk result (λ x. Parsed m.body body_tokens whole_body_of (lexemes tokens.now) (map shown_declaration x.0.items, (shown_block x.1.items, x.2)) (lexemes x.3.now)) }
+) -> Result<(Vec<Declaration>, Arc<Vec<Stmt>>, usize, &[Token]), Stop>
+    ensures ok { IfOk result (λ x. Parsed m.body body_tokens whole_body_of (lexemes tokens.now) (map shown_declaration x.0.items, (shown_block x.1.value.items, x.2)) (lexemes x.3.now)) }
     ensures shorter { IfOk result (λ x. length x.3.now < length tokens.now) }
     ensures err { IfErr result (λ e. StopsAt m.body (lexemes tokens.now) e) }
 {

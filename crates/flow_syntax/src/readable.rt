@@ -28,7 +28,7 @@ fn statement(stmt: &Stmt)
             block(second);
         }
         Stmt::While(_, _, body) => block(body),
-        Stmt::Parallel(_, first, others) => {
+        Stmt::Parallel(_, first, others, _) => {
             block(&first.body);
             branches(others);
         }
@@ -44,7 +44,7 @@ fn statement(stmt: &Stmt)
 fn block(block: &Block)
     ensures { AreReadable (shown_braced block.now).0 }
 {
-    statements(&block.list);
+    statements(block.list.as_slice());
 }
 
 #[cycle(readable)]

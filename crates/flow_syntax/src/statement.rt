@@ -3,10 +3,9 @@ ghost use Rattle.std.specs.Prelude.{◌≡◌, ℕ, [], ◌∷◌, ◌<◌, ◌�
 ghost use Rattle.flow_base.specs.Shown.{shown_expr, shown_stmt, shown_block, shown_braced, shown_branch, branches_of, shown_otherwise};
 ghost use Rattle.flow_base.specs.Syntax as tree;
 ghost use Rattle.flow_model.specs.Lexeme.{lexemes};
-ghost use Rattle.flow_model.specs.Grammar as read;
 ghost use Rattle.flow_model.specs.Grammar.{marked, else_tail_tokens, otherwise_of, wait_tail_tokens, wait_of, side_tokens, side_of, branches_tokens, statement_tokens, statement_of, statements_tokens};
 ghost use Rattle.flow_syntax.specs.Machine as m;
-ghost use Rattle.flow_syntax.specs.Parsing.{Parsed, StopsAt, StopsOwing, Lacks, LacksMark, IsTried, IsCalled, IsTarget, IsBlock, IsChoice, IsMember, in_braces, end_of};
+ghost use Rattle.flow_syntax.specs.Parsing.{Parsed, StopsAt, StopsOwing, Lacks, LacksMark, IsTried, IsCalled, IsTarget, IsBlock, IsChoice, IsMember, in_braces, end_of, shut_of};
 
 use crate::cursor::{eat, expect, mark, name, number, patch_id};
 use crate::expression::{arguments, expr};
@@ -14,7 +13,8 @@ use crate::fault::Stop;
 use flow_base::syntax::{Block, Branch, Expr, Retry, Stmt};
 use flow_base::text::Key;
 use flow_base::token::{Mark, Token};
-use std::alloc::Global;
+use std::alloc::{AllocError, Global};
+use std::sync::Arc;
 
 /// A `let`, behind its keyword, which stands at this place.
 fn let_statement(alloc: Global, at: usize, tokens: &[Token]) -> Result<(Stmt, &[Token]), Stop>
@@ -133,29 +133,29 @@ fn target(alloc: Global, tokens: &[Token]) -> Result<(usize, Key, &[Token]), Sto
 }
 
 /// The second list of `if` and `patch` where none stands: an empty one, which ends where the first does.
-fn no_second(alloc: Global, first: &Block) -> Block
-    ensures { shown_braced result ≡ (tree.End, (shown_braced first.now).1) }
+fn no_second(alloc: Global, first: &Block) -> Result<Block, AllocError>
+    ensures { IfOk result (λ b. shown_braced b ≡ (tree.End, (shown_braced first.now).1)) }
 {
-    let list = Vec::new(alloc);
-    Block {
+    let list = Arc::new(alloc, Vec::new(alloc))?;
+    Ok(Block {
         list,
         end: first.end,
-    }
+    })
 }
 
 /// Statements between braces.
-fn braced(list: Vec<Stmt>, end: usize) -> Block
-    ensures { shown_braced result ≡ (shown_block list.items, end) }
+fn braced(list: Arc<Vec<Stmt>>, end: usize) -> Block
+    ensures { shown_braced result ≡ (shown_block list.value.items, end) }
 {
     Block { list, end }
 }
 
-/// Branches of which this is the first.
-fn in_parallel(at: usize, first_at: usize, body: Block, others: Vec<Branch>) -> Stmt
-    ensures { shown_stmt result ≡ tree.Parallel at (tree.Branch first_at (shown_braced body).0 (shown_braced body).1 (branches_of (map shown_branch others.items))) }
+/// Branches of which this is the first, up to the brace at this end.
+fn in_parallel(at: usize, first_at: usize, body: Block, others: Vec<Branch>, end: usize) -> Stmt
+    ensures { shown_stmt result ≡ tree.Parallel at (tree.Branch first_at (shown_braced body).0 (shown_braced body).1 (branches_of (map shown_branch others.items))) end }
 {
     let first = one_branch(first_at, body);
-    Stmt::Parallel(at, first, others)
+    Stmt::Parallel(at, first, others, end)
 }
 
 /// A branch whose first brace stands at this place.
@@ -293,18 +293,18 @@ fn while_statement(alloc: Global, at: usize, tokens: &[Token]) -> Result<(Stmt, 
     Ok((Stmt::While(at, condition, body), end))
 }
 
-/// The branches behind the first one, and what follows the brace that closes them.
+/// The branches behind the first one, the place of the brace that closes them, and what follows it.
 #[cycle(statement)]
-fn branches(alloc: Global, tokens: &[Token]) -> Result<(Vec<Branch>, &[Token]), Stop>
-    ensures ok { IfOk result (λ x. Parsed m.more_branches branches_tokens read.branches_of (lexemes tokens.now) (branches_of (map shown_branch x.0.items)) (lexemes x.1.now)) }
-    ensures shorter { IfOk result (λ x. length x.1.now < length tokens.now) }
+fn branches(alloc: Global, tokens: &[Token]) -> Result<(Vec<Branch>, usize, &[Token]), Stop>
+    ensures ok { IfOk result (λ x. Parsed m.more_branches branches_tokens shut_of (lexemes tokens.now) (branches_of (map shown_branch x.0.items), x.1) (lexemes x.2.now)) }
+    ensures shorter { IfOk result (λ x. length x.2.now < length tokens.now) }
     ensures err { IfErr result (λ e. StopsAt m.more_branches (lexemes tokens.now) e) }
 {
     let mut list = Vec::new(alloc);
     let mut rest = tokens;
     loop {
-        if let Some((_, end)) = eat(rest, Mark::BraceClose) {
-            return Ok((list, end));
+        if let Some((shut_at, end)) = eat(rest, Mark::BraceClose) {
+            return Ok((list, shut_at, end));
         }
         let (at, body, next) = block(alloc, rest)?;
         list.push(one_branch(at, body))?;
@@ -321,8 +321,8 @@ fn parallel_statement(alloc: Global, at: usize, tokens: &[Token]) -> Result<(Stm
 {
     let (_, inside) = expect(tokens, Mark::BraceOpen)?;
     let (first_at, body, after) = block(alloc, inside)?;
-    let (others, end) = branches(alloc, after)?;
-    Ok((in_parallel(at, first_at, body, others), end))
+    let (others, shut_at, end) = branches(alloc, after)?;
+    Ok((in_parallel(at, first_at, body, others, shut_at), end))
 }
 
 /// A statement but `if` and `patch`.
@@ -357,7 +357,7 @@ fn choice(alloc: Global, tokens: &[Token]) -> Result<(Block, Block, &[Token]), S
 {
     let (_, first, after) = block(alloc, tokens)?;
     let Some((_, after_else)) = eat(after, Mark::Else) else {
-        let none = no_second(alloc, &first);
+        let none = no_second(alloc, &first)?;
         return Ok((first, none, after));
     };
     let (_, second, end) = block(alloc, after_else)?;
@@ -387,8 +387,11 @@ fn member(alloc: Global, tokens: &[Token]) -> Result<(Stmt, &[Token]), Stop>
 
 /// Statements up to the brace that closes their list, its place, and what follows it.
 #[cycle(statement)]
-pub fn statements(alloc: Global, tokens: &[Token]) -> Result<(Vec<Stmt>, usize, &[Token]), Stop>
-    ensures ok { IfOk result (λ x. Parsed m.statements statements_tokens end_of (lexemes tokens.now) (shown_block x.0.items, x.1) (lexemes x.2.now)) }
+pub fn statements(
+    alloc: Global,
+    tokens: &[Token],
+) -> Result<(Arc<Vec<Stmt>>, usize, &[Token]), Stop>
+    ensures ok { IfOk result (λ x. Parsed m.statements statements_tokens end_of (lexemes tokens.now) (shown_block x.0.value.items, x.1) (lexemes x.2.now)) }
     ensures shorter { IfOk result (λ x. length x.2.now < length tokens.now) }
     ensures err { IfErr result (λ e. StopsAt m.statements (lexemes tokens.now) e) }
 {
@@ -396,7 +399,7 @@ pub fn statements(alloc: Global, tokens: &[Token]) -> Result<(Vec<Stmt>, usize, 
     let mut rest = tokens;
     loop {
         if let Some((at, end)) = eat(rest, Mark::BraceClose) {
-            return Ok((list, at, end));
+            return Ok((Arc::new(alloc, list)?, at, end));
         }
         let (stmt, next) = member(alloc, rest)?;
         list.push(stmt)?;

@@ -10,4 +10,4 @@ returns c =
     c.in_ok-add_declarations.ensures.types (rw c.deref-4.ensures.value at c.in_ok-add_declarations.ensures.activities)
     (rw c.deref-4.ensures.value at c.in_ok-add_declarations.ensures.signals) c.in_ok-add_declarations.ensures.parameters in
     first_found p c.add_declarations.new.self c.check_statements.new.scope c.none-found.result c.check_names.new.found c.check_types.new.found c.check_statements.new.found c.get.result
-    c.none-found.ensures c.in_ok-check_names.ensures (rw c.deref.ensures.value at c.check_types.ensures) known (rw c.deref-5.ensures.value at c.in_ok-check_statements.ensures) c.get.ensures
+    c.none-found.ensures c.in_ok-check_names.ensures (rw c.deref.ensures.value at c.check_types.ensures) known (rw (c.as_slice.ensures.value, c.deref-5.ensures) at c.in_ok-check_statements.ensures) c.get.ensures

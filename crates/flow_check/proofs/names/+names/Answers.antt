@@ -50,7 +50,7 @@ statement_name-returns-in_ok-block_names-in-Parallel t c =
     let a = names_of_block (shown_branch first).1.0 in
     let b = names_of_branches (branches_of (map shown_branch others)) in
     on_ok_weaker c.branch_names.result
-    (λ h. subst (λ (s : Statement). Declares c.args.names.now c.args.found.now (names_of_statement s) n o) (sym (ap shown_stmt c.in-Parallel.is ∙ shown_parallel c.in-Parallel.field-0 first c.in-Parallel.others))
+    (λ h. subst (λ (s : Statement). Declares c.args.names.now c.args.found.now (names_of_statement s) n o) (sym (ap shown_stmt c.in-Parallel.is ∙ shown_parallel c.in-Parallel.field-0 first c.in-Parallel.others c.in-Parallel.field-3))
     (declares_then c.args.names.now c.block_names-in-Parallel.new.names n c.args.found.now c.block_names-in-Parallel.new.found o a b
     (subst (λ (d : Braced). Declares c.args.names.now c.args.found.now (names_of_block d.0) c.block_names-in-Parallel.new.names c.block_names-in-Parallel.new.found) (sym (shown_body first)) c.in_ok-block_names-in-Parallel.ensures)
     h)) (rw c.deref.ensures.value at c.branch_names.ensures)

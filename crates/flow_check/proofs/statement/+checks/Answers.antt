@@ -26,7 +26,7 @@ pub check_inner-returns : goal.check_inner-returns
 check_inner-returns t c =
     let s = c.args.scope.now in
     inner_checked c.args.in_parallel s c.check_statements.new.scope c.forget_beyond.new.self c.args.found.now c.check_statements.new.found (shown_braced c.args.block.now).0 c.visible-visible.result c.visible-visible.ensures
-    (subst (λ (b : Block). Checks c.args.in_parallel s c.args.found.now b c.check_statements.new.scope c.check_statements.new.found) (sym (shown_list c.args.block.now)) (rw c.deref.ensures.value at c.in_ok-check_statements.ensures))
+    (subst (λ (b : Block). Checks c.args.in_parallel s c.args.found.now b c.check_statements.new.scope c.check_statements.new.found) (sym (shown_list c.args.block.now)) (rw (c.as_slice.ensures.value, c.deref.ensures) at c.in_ok-check_statements.ensures))
     c.forget_beyond.ensures.variables c.forget_beyond.ensures.activities c.forget_beyond.ensures.signals c.forget_beyond.ensures.parameters
 
 pub check_statement-returns-in-Assign : goal.check_statement-returns-in-Assign
@@ -81,9 +81,9 @@ check_statement-returns-in_ok-check_branches-in-Parallel t c =
     let s = c.args.scope.now in
     let b = shown_branch i.first in
     let o = c.check_branch_count.new.found in
-    parallel_checked c.args.in_parallel s (shown_stmt c.args.statement.now) c.args.found.now i.field-0 b.0 b.1.0 b.1.1 (branches_of (map shown_branch i.others.items))
+    parallel_checked c.args.in_parallel s (shown_stmt c.args.statement.now) c.args.found.now i.field-0 b.0 b.1.0 b.1.1 (branches_of (map shown_branch i.others.items)) i.field-3
     c.check_inner-in-Parallel.new.scope c.check_branches.new.scope o c.check_inner-in-Parallel.new.found c.check_branches.new.found
-    (ap shown_stmt i.is ∙ shown_parallel i.field-0 i.first i.others) c.check_branch_count.ensures
+    (ap shown_stmt i.is ∙ shown_parallel i.field-0 i.first i.others i.field-3) c.check_branch_count.ensures
     (subst (λ (d : Braced). Notes s o (faults_of_block (shown_scope true s) d.0) c.check_inner-in-Parallel.new.scope c.check_inner-in-Parallel.new.found) (sym (shown_body i.first)) c.in_ok-check_inner-in-Parallel.ensures)
     (rw c.deref-in-Parallel.ensures.value at c.in_ok-check_branches-in-Parallel.ensures)
 

@@ -18,7 +18,7 @@ returns-clause-tokens c = λ h.
     subst (λ (t : List ℕ). HasTokens t (program_words (shown_program c.args.program.now))) (sym (returns-clause-words c)) (program_scanned (shown_program c.args.program.now) h)
 
 pub returns-clause-read : goal.returns-clause-read
-returns-clause-read c = program_read (shown_program c.args.program.now) (rw c.deref.ensures.value at c.statements.ensures)
+returns-clause-read c = program_read (shown_program c.args.program.now) (rw c.deref.ensures at (rw c.as_slice.ensures.value at c.statements.ensures))
 
 pub returns-clause-again : goal.returns-clause-again
 returns-clause-again c = λ h.
@@ -31,7 +31,7 @@ returns-clause-printable c = λ source h. program_printable source (shown_progra
 
 pub returns-clause-parsed : goal.returns-clause-parsed
 returns-clause-parsed c = λ source h short.
-    program_again (shown_program c.args.program.now) (rw c.deref.ensures.value at c.statements.ensures) source (string_bytes c.finish.result) (returns-clause-words c) h short
+    program_again (shown_program c.args.program.now) (rw c.deref.ensures at (rw c.as_slice.ensures.value at c.statements.ensures)) source (string_bytes c.finish.result) (returns-clause-words c) h short
 
 pub returns-clause-least : goal.returns-clause-least
 returns-clause-least c = program_least (shown_program c.args.program.now)

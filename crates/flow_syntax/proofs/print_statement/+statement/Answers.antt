@@ -66,7 +66,7 @@ pub statement-returns-in_ok-mark-in-Parallel : goal.statement-returns-in_ok-mark
 statement-returns-in_ok-mark-in-Parallel t c =
     let others = rw c.deref-in-Parallel.ensures.value at c.in_ok-branches-in-Parallel.ensures in
     let inside = words_then _ _ _ _ _ (words_then _ _ _ _ _ c.in_ok-branch-in-Parallel.ensures others) c.in_ok-mark-in-Parallel.ensures in
-    rw c.in-Parallel.is (rw (shown_parallel c.in-Parallel.field-0 c.in-Parallel.first c.in-Parallel.others) (words_then _ _ _ _ _ c.in_ok-parallel_head-in-Parallel.ensures inside))
+    rw c.in-Parallel.is (rw (shown_parallel c.in-Parallel.field-0 c.in-Parallel.first c.in-Parallel.others c.in-Parallel.field-3) (words_then _ _ _ _ _ c.in_ok-parallel_head-in-Parallel.ensures inside))
 
 pub statement-returns-in_ok-second-in-Patch : goal.statement-returns-in_ok-second-in-Patch
 statement-returns-in_ok-second-in-Patch t c =

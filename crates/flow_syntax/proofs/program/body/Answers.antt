@@ -27,4 +27,4 @@ returns-in_err-list-clause-err c =
 pub returns-clause-ok : goal.returns-clause-ok
 returns-clause-ok c =
     let none = rw c.in_default.is at c.in_ok-found.ensures.ok in
-    body_ends (lexemes c.args.tokens.now) (lexemes c.loop-declarations.rest.now) (lexemes c.in_ok-list.end.now) (map shown_declaration c.loop-declarations.declarations.items) (shown_block c.in_ok-list.list.items) c.in_ok-list.at c.loop-declarations.invariant.whole c.loop-declarations.invariant.machine none.0 none.1 c.in_ok-list.ensures.ok
+    body_ends (lexemes c.args.tokens.now) (lexemes c.loop-declarations.rest.now) (lexemes c.in_ok-list.end.now) (map shown_declaration c.loop-declarations.declarations.items) (shown_block c.in_ok-list.list.value.items) c.in_ok-list.at c.loop-declarations.invariant.whole c.loop-declarations.invariant.machine none.0 none.1 c.in_ok-list.ensures.ok

@@ -12,7 +12,7 @@ returns-in_err-after_keyword-clause-err c =
     rw (p.1, p.2) (program_stops (lexemes c.args.tokens.now) c.in_err-after_keyword.field-0.0 c.in_err-after_keyword.ensures.err)
 
 pub returns-in-None-clause-ok : goal.returns-in-None-clause-ok
-returns-in-None-clause-ok c = program_parsed c.in_ok-after_keyword.field-0-0 c.in_ok-at.at c.in_ok-after_open.field-0-0 c.in_ok-inside.field-0-0 c.in_ok-parameters.parameters_end c.in_ok-declarations.body_end c.in_ok-at.name (lexemes c.args.tokens.now) (lexemes c.in_ok-after_keyword.after_keyword.now) (lexemes c.in_ok-at.after_name.now) (lexemes c.in_ok-after_open.after_open.now) (lexemes c.in_ok-parameters.after_close.now) (lexemes c.in_ok-inside.inside.now) (lexemes c.in_ok-declarations.end.now) c.in_ok-parameters.parameters.items (map shown_declaration c.in_ok-declarations.declarations.items) (shown_block c.in_ok-declarations.body.items) c.in_ok-after_keyword.ensures.ok c.in_ok-at.ensures.ok c.in_ok-after_open.ensures.ok c.in_ok-parameters.ensures.ok c.in_ok-inside.ensures.ok c.in_ok-declarations.ensures.ok c.in-None.ensures.found
+returns-in-None-clause-ok c = program_parsed c.in_ok-after_keyword.field-0-0 c.in_ok-at.at c.in_ok-after_open.field-0-0 c.in_ok-inside.field-0-0 c.in_ok-parameters.parameters_end c.in_ok-declarations.body_end c.in_ok-at.name (lexemes c.args.tokens.now) (lexemes c.in_ok-after_keyword.after_keyword.now) (lexemes c.in_ok-at.after_name.now) (lexemes c.in_ok-after_open.after_open.now) (lexemes c.in_ok-parameters.after_close.now) (lexemes c.in_ok-inside.inside.now) (lexemes c.in_ok-declarations.end.now) c.in_ok-parameters.parameters.items (map shown_declaration c.in_ok-declarations.declarations.items) (shown_block c.in_ok-declarations.body.value.items) c.in_ok-after_keyword.ensures.ok c.in_ok-at.ensures.ok c.in_ok-after_open.ensures.ok c.in_ok-parameters.ensures.ok c.in_ok-inside.ensures.ok c.in_ok-declarations.ensures.ok c.in-None.ensures.found
 
 pub returns-in-Some-clause-err : goal.returns-in-Some-clause-err
-returns-in-Some-clause-err c = program_goes c.in_ok-after_keyword.field-0-0 c.in_ok-at.at c.in_ok-after_open.field-0-0 c.in_ok-inside.field-0-0 c.in_ok-parameters.parameters_end c.in_ok-declarations.body_end c.in_ok-at.name (lexemes c.args.tokens.now) (lexemes c.in_ok-after_keyword.after_keyword.now) (lexemes c.in_ok-at.after_name.now) (lexemes c.in_ok-after_open.after_open.now) (lexemes c.in_ok-parameters.after_close.now) (lexemes c.in_ok-inside.inside.now) (lexemes c.in_ok-declarations.end.now) c.in_ok-parameters.parameters.items (map shown_declaration c.in_ok-declarations.declarations.items) (shown_block c.in_ok-declarations.body.items) c.in_ok-after_keyword.ensures.ok c.in_ok-at.ensures.ok c.in_ok-after_open.ensures.ok c.in_ok-parameters.ensures.ok c.in_ok-inside.ensures.ok c.in_ok-declarations.ensures.ok ∙ left_over (lexemes c.in_ok-declarations.end.now) _ _ (length c.in_ok-declarations.end.now) c.in-Some.ensures.found (length-map c.in_ok-declarations.end.now lexeme)
+returns-in-Some-clause-err c = program_goes c.in_ok-after_keyword.field-0-0 c.in_ok-at.at c.in_ok-after_open.field-0-0 c.in_ok-inside.field-0-0 c.in_ok-parameters.parameters_end c.in_ok-declarations.body_end c.in_ok-at.name (lexemes c.args.tokens.now) (lexemes c.in_ok-after_keyword.after_keyword.now) (lexemes c.in_ok-at.after_name.now) (lexemes c.in_ok-after_open.after_open.now) (lexemes c.in_ok-parameters.after_close.now) (lexemes c.in_ok-inside.inside.now) (lexemes c.in_ok-declarations.end.now) c.in_ok-parameters.parameters.items (map shown_declaration c.in_ok-declarations.declarations.items) (shown_block c.in_ok-declarations.body.value.items) c.in_ok-after_keyword.ensures.ok c.in_ok-at.ensures.ok c.in_ok-after_open.ensures.ok c.in_ok-parameters.ensures.ok c.in_ok-inside.ensures.ok c.in_ok-declarations.ensures.ok ∙ left_over (lexemes c.in_ok-declarations.end.now) _ _ (length c.in_ok-declarations.end.now) c.in-Some.ensures.found (length-map c.in_ok-declarations.end.now lexeme)

@@ -14,19 +14,19 @@ use Rattle.flow_syntax.proofs.ParsedShown.{shown_assign, shown_call, shown_wait,
 use Rattle.flow_syntax.proofs.statement.+statement.Goals as goal
 
 pub branches-returns-in-Some-clause-ok : goal.branches-returns-in-Some-clause-ok
-branches-returns-in-Some-clause-ok t c = branches_close c.in-Some.field-0-0 (lexemes c.args.tokens.now) (lexemes c.loop-end.rest.now) (lexemes c.in-Some.end.now) (map shown_branch c.loop-end.list.items) c.loop-end.invariant.whole c.loop-end.invariant.machine c.in-Some.ensures.found
+branches-returns-in-Some-clause-ok t c = branches_close c.in-Some.shut_at (lexemes c.args.tokens.now) (lexemes c.loop-shut_at.rest.now) (lexemes c.in-Some.end.now) (map shown_branch c.loop-shut_at.list.items) c.loop-shut_at.invariant.whole c.loop-shut_at.invariant.machine c.in-Some.ensures.found
 
 pub branches-returns-in_err-at-clause-err : goal.branches-returns-in_err-at-clause-err
 branches-returns-in_err-at-clause-err t c =
     let p = err_from_is_err_and c.from_residual.result c.from_residual.ensures.1 in
-    rw (p.1, p.2) (stops_from m.more_branches in_braces (lexemes c.args.tokens.now) (lexemes c.loop-end.rest.now) (λ owed. m.more_branches ∷ owed) (λ owed. c.loop-end.invariant.machine owed ∙ branches_is owed (lexemes c.loop-end.rest.now) c.in_default.ensures.found) c.in_err-at.field-0.0 c.in_err-at.ensures.err)
+    rw (p.1, p.2) (stops_from m.more_branches in_braces (lexemes c.args.tokens.now) (lexemes c.loop-shut_at.rest.now) (λ owed. m.more_branches ∷ owed) (λ owed. c.loop-shut_at.invariant.machine owed ∙ branches_is owed (lexemes c.loop-shut_at.rest.now) c.in_default.ensures.found) c.in_err-at.field-0.0 c.in_err-at.ensures.err)
 
-pub branches-loop-end-preserved : goal.branches-loop-end-preserved
-branches-loop-end-preserved t c =
+pub branches-loop-shut_at-preserved : goal.branches-loop-shut_at-preserved
+branches-loop-shut_at-preserved t c =
     record {
-      shorter = omega (arith, c.in_ok-at.ensures.shorter, c.loop-end.invariant.shorter);
-      whole = rw (c.in_ok-push.ensures.items, map_push shown_branch c.loop-end.list.items c.one_branch.result, c.one_branch.ensures) (branches_more (lexemes c.args.tokens.now) (lexemes c.loop-end.rest.now) (lexemes c.in_ok-at.next.now) (map shown_branch c.loop-end.list.items) c.in_ok-at.at (shown_braced c.in_ok-at.body) c.loop-end.invariant.whole c.in_ok-at.ensures.ok);
-      machine = λ owed. c.loop-end.invariant.machine owed ∙ branches_is owed (lexemes c.loop-end.rest.now) c.in_default.ensures.found ∙ c.in_ok-at.ensures.ok.3 (m.more_branches ∷ owed);
+      shorter = omega (arith, c.in_ok-at.ensures.shorter, c.loop-shut_at.invariant.shorter);
+      whole = rw (c.in_ok-push.ensures.items, map_push shown_branch c.loop-shut_at.list.items c.one_branch.result, c.one_branch.ensures) (branches_more (lexemes c.args.tokens.now) (lexemes c.loop-shut_at.rest.now) (lexemes c.in_ok-at.next.now) (map shown_branch c.loop-shut_at.list.items) c.in_ok-at.at (shown_braced c.in_ok-at.body) c.loop-shut_at.invariant.whole c.in_ok-at.ensures.ok);
+      machine = λ owed. c.loop-shut_at.invariant.machine owed ∙ branches_is owed (lexemes c.loop-shut_at.rest.now) c.in_default.ensures.found ∙ c.in_ok-at.ensures.ok.3 (m.more_branches ∷ owed);
     }
 
 pub call_statement-returns-in_err-failing-clause-err : goal.call_statement-returns-in_err-failing-clause-err
@@ -38,7 +38,7 @@ pub call_statement-returns-clause-ok : goal.call_statement-returns-clause-ok
 call_statement-returns-clause-ok t c = λ call_at. rw (shown_call c.args.at c.args.into c.in_ok-activity_at.activity_at c.in_ok-activity_at.activity c.in_ok-activity_at.list c.in_ok-activity_at.retry c.in_ok-failing.failing) (call_parsed c.args.at c.in_ok-activity_at.activity_at c.args.into c.in_ok-activity_at.activity (marked call_at mark.Call ∷ lexemes c.args.tokens.now) (lexemes c.in_ok-activity_at.after.now) (lexemes c.in_ok-failing.end.now) (map shown_expr c.in_ok-activity_at.list.items) c.in_ok-activity_at.retry (shown_otherwise c.in_ok-failing.failing) (c.in_ok-activity_at.ensures.ok c.args.at c.args.into call_at) c.in_ok-failing.ensures.ok)
 
 pub choice-returns-in_default-clause-ok : goal.choice-returns-in_default-clause-ok
-choice-returns-in_default-clause-ok t c = rw c.no_second-none.ensures (choice_alone c.in_ok-first.field-0-0 (lexemes c.args.tokens.now) (lexemes c.in_ok-first.after.now) (shown_braced c.in_ok-first.first) c.in_ok-first.ensures.ok c.in_default.ensures.found)
+choice-returns-in_default-clause-ok t c = rw c.in_ok-none.ensures (choice_alone c.in_ok-first.field-0-0 (lexemes c.args.tokens.now) (lexemes c.in_ok-first.after.now) (shown_braced c.in_ok-first.first) c.in_ok-first.ensures.ok c.in_default.ensures.found)
 
 pub choice-returns-clause-ok : goal.choice-returns-clause-ok
 choice-returns-clause-ok t c = choice_both c.in_ok-first.field-0-0 c.in-Some.field-0-0 c.in_ok-second.field-0-0 (lexemes c.args.tokens.now) (lexemes c.in_ok-first.after.now) (lexemes c.in-Some.after_else.now) (lexemes c.in_ok-second.end.now) (shown_braced c.in_ok-first.first) (shown_braced c.in_ok-second.second) c.in_ok-first.ensures.ok c.in-Some.ensures.found c.in_ok-second.ensures.ok
@@ -67,7 +67,7 @@ pub member-returns-clause-err : goal.member-returns-clause-err
 member-returns-clause-err t c = IfErr-weaker c.statement.result _ _ (λ e h. stops_in m.statements m.statement (lexemes c.args.tokens.now) (lexemes c.args.tokens.now) (λ owed. m.statements ∷ owed) (λ owed. statements_is owed (lexemes c.args.tokens.now) c.requires c.in_default.ensures.found c.in_default-eat.ensures.found) e h) c.statement.ensures.err
 
 pub parallel_statement-returns-clause-ok : goal.parallel_statement-returns-clause-ok
-parallel_statement-returns-clause-ok t c = rw c.in_parallel.ensures (parallel_parsed c.args.at c.in_ok-inside.field-0-0 c.in_ok-first_at.first_at (lexemes c.args.tokens.now) (lexemes c.in_ok-inside.inside.now) (lexemes c.in_ok-first_at.after.now) (lexemes c.in_ok-others.end.now) (shown_braced c.in_ok-first_at.body) _ c.in_ok-inside.ensures.ok c.in_ok-first_at.ensures.ok c.in_ok-others.ensures.ok)
+parallel_statement-returns-clause-ok t c = rw c.in_parallel.ensures (parallel_parsed c.args.at c.in_ok-inside.field-0-0 c.in_ok-first_at.first_at c.in_ok-others.shut_at (lexemes c.args.tokens.now) (lexemes c.in_ok-inside.inside.now) (lexemes c.in_ok-first_at.after.now) (lexemes c.in_ok-others.end.now) (shown_braced c.in_ok-first_at.body) _ c.in_ok-inside.ensures.ok c.in_ok-first_at.ensures.ok c.in_ok-others.ensures.ok)
 
 pub right_side-returns-in-Some-clause-ok : goal.right_side-returns-in-Some-clause-ok
 right_side-returns-in-Some-clause-ok t c = IfOk-weaker c.call_statement.result _ _ (λ x h. rw c.in-Some.ensures.found (h c.in-Some.field-0-0)) c.call_statement.ensures.ok
@@ -92,11 +92,11 @@ pub statement-returns-in_default-clause-ok : goal.statement-returns-in_default-c
 statement-returns-in_default-clause-ok t c = IfOk-weaker c.right_side.result _ _ (λ x h. assign_parsed c.in_ok-name_at.name_at c.in_ok-name_at.into (lexemes c.args.tokens.now) (lexemes c.in_ok-name_at.right.now) (lexemes x.1.now) (shown_stmt x.0) c.in_ok-name_at.ensures.ok h) c.right_side.ensures.ok
 
 pub statements-returns-in-Some-clause-ok : goal.statements-returns-in-Some-clause-ok
-statements-returns-in-Some-clause-ok t c = statements_close c.in-Some.at (lexemes c.args.tokens.now) (lexemes c.loop-at.rest.now) (lexemes c.in-Some.end.now) (map shown_stmt c.loop-at.list.items) c.loop-at.invariant.whole c.loop-at.invariant.machine c.in-Some.ensures.found
+statements-returns-in-Some-clause-ok t c = rw c.in_ok-new.ensures.ok (statements_close c.in-Some.at (lexemes c.args.tokens.now) (lexemes c.loop-at.rest.now) (lexemes c.in-Some.end.now) (map shown_stmt c.loop-at.list.items) c.loop-at.invariant.whole c.loop-at.invariant.machine c.in-Some.ensures.found)
 
 pub statements-returns-in_err-stmt-clause-err : goal.statements-returns-in_err-stmt-clause-err
 statements-returns-in_err-stmt-clause-err t c =
-    let p = err_from_is_err_and c.from_residual.result c.from_residual.ensures.1 in
+    let p = err_from_is_err_and c.from_residual-in_err-stmt.result c.from_residual-in_err-stmt.ensures.1 in
     rw (p.1, p.2) (stops_in m.statements m.statements (lexemes c.args.tokens.now) (lexemes c.loop-at.rest.now) (λ owed. owed) c.loop-at.invariant.machine c.in_err-stmt.field-0.0 c.in_err-stmt.ensures.err)
 
 pub statements-loop-at-preserved : goal.statements-loop-at-preserved

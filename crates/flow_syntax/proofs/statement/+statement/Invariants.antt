@@ -56,13 +56,13 @@ invariant-statements-loop-at l =
 abbrev pub decreases-statements-loop-at : goal.decreases-statements-loop-at
 decreases-statements-loop-at l = length l.rest
 
-abbrev pub invariant-branches-loop-end : goal.invariant-branches-loop-end
-invariant-branches-loop-end l =
+abbrev pub invariant-branches-loop-shut_at : goal.invariant-branches-loop-shut_at
+invariant-branches-loop-shut_at l =
     record {
       shorter : length l.rest ≤ length l.tokens;
       whole : BranchesSoFar (lexemes l.tokens) (map shown_branch l.list.items) (lexemes l.rest);
       machine : (owed : List Symbol) → fault (m.more_branches ∷ owed) (lexemes l.tokens) ≡ fault (m.more_branches ∷ owed) (lexemes l.rest);
     }
 
-abbrev pub decreases-branches-loop-end : goal.decreases-branches-loop-end
-decreases-branches-loop-end l = length l.rest
+abbrev pub decreases-branches-loop-shut_at : goal.decreases-branches-loop-shut_at
+decreases-branches-loop-shut_at l = length l.rest
