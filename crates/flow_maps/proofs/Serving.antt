@@ -118,9 +118,9 @@ appended s (e ∷ h) es = appended (state_after_one s e) h es
 pub turn_key : (t : Turn) (r : Run) → open_key (with_turn t r) ≡ key_if (is_open_behind (is_open (state_of r.history)) t) r.flow
 turn_key t r =
     ap (λ v. key_if v r.flow) (
-      ap is_open (appended state.Unbegun r.history (turn_events (length r.history + 1) t.at t.input t.commands))
-      ∙ traced (state_by (state_of r.history) (effect_of_input t.input)) (length r.history + 1 + 1) t.at t.commands
-      ∙ ap (λ o. is_open_after o t.commands) (opened (state_of r.history) (effect_of_input t.input))
+    ap is_open (appended state.Unbegun r.history (turn_events (length r.history + 1) t.at t.input t.commands))
+    ∙ traced (state_by (state_of r.history) (effect_of_input t.input)) (length r.history + 1 + 1) t.at t.commands
+    ∙ ap (λ o. is_open_after o t.commands) (opened (state_of r.history) (effect_of_input t.input))
     )
 
 pub run_is : (b : Book) (n : ℕ) (f : Run → Run) (r : Run) → nth b.runs n ≡ Some r → record b { runs = slice_set b.runs (n - 1) (f r) } ≡ with_run b n f

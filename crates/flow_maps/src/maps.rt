@@ -60,7 +60,12 @@ fn put_turn(flows: &mut Index, seen: &Option<Seen>, run: RunId, turn: &Turn)
     match seen {
         Some(read) => {
             if is_of(read, run) {
-                put_row(flows, &read.flow, read.is_open, is_open_behind(read.is_open, turn));
+                put_row(
+                    flows,
+                    &read.flow,
+                    read.is_open,
+                    is_open_behind(read.is_open, turn),
+                );
             } else {
                 flows.forget();
             }

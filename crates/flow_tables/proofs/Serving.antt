@@ -1,6 +1,6 @@
 -- What the tables keep true of the keys that are known, call by call.
 use Rattle.std.specs.Prelude.{◌≡◌, ◌≢◌, ◌+◌, ◌<◌, ◌++◌, ◌∷◌}
-use Rattle.flow_tables.proofs.Names.{Change, Book, Run, RunRow, Tells, AllByRecursion, Bytes, Database, HasCleanDisk, State, Bool, List, MatchResult, Option, false, map, true, ℕ, HasBegun, HasCommitted, HasEnded, Holds, IsRefused, IsStill, Refusal, ViewFault, Err, IfOk, None, Ok, OnOk, Some, [], length, refl, Result, changed, is_open, state_of, open_number, mark_of, subst, ◌∙◌, sym, ap, true≢false, book_of, IsOwn, told_answer, IsSure, ReadsBook, IsNoted, run_row, tables_in}
+use Rattle.flow_tables.proofs.Names.{int_eq, pos, Change, Book, Run, RunRow, AllByRecursion, Bytes, Database, HasCleanDisk, State, Bool, List, MatchResult, Option, false, map, true, ℕ, HasBegun, HasCommitted, HasEnded, IsRefused, IsStill, Refusal, ViewFault, Err, IfOk, None, Ok, OnOk, Some, [], length, refl, Result, changed, is_open, state_of, open_number, subst, ◌∙◌, sym, ap, true≢false, book_of, IsOwn, told_answer, IsSure, ReadsBook, IsNoted}
 use Rattle.std.proofs.Common.{take, get_or}
 use Rattle.std.proofs.lemmas.List.{map_more}
 use Rattle.flow_maps.specs.declared.maps.Maps.{Maps}
@@ -20,9 +20,9 @@ named_back None h = refl
 named_back (Some []) h = absurd (h refl)
 named_back (Some (c ∷ cs)) h = refl
 
-marked_back : (v : Bool) (flow : Bytes) (r : RunRow) → r.isopen ≡ open_number v → key_if (mark_of r) flow ≡ key_if v flow
-marked_back true flow r is = rw is refl
-marked_back false flow r is = rw is refl
+marked_back : (v : Bool) → int_eq (open_number v) (pos 1) ≡ v
+marked_back true = refl
+marked_back false = refl
 
 requests_back : (n : ℕ) (rs : List Run) → AllByRecursion IsTold rs → map row_request (run_rows n rs) ≡ map request_key rs
 requests_back n [] all = refl
@@ -30,7 +30,7 @@ requests_back n (r ∷ rs) all = ap (λ k. k ∷ map row_request (run_rows (n + 
 
 opens_back : (n : ℕ) (rs : List Run) → map row_open (run_rows n rs) ≡ map open_key rs
 opens_back n [] = refl
-opens_back n (r ∷ rs) = ap (λ k. k ∷ map row_open (run_rows (n + 1) rs)) (marked_back (is_open (state_of r.history)) r.flow (run_row n r) refl) ∙ ap (λ ks. open_key r ∷ ks) (opens_back (n + 1) rs)
+opens_back n (r ∷ rs) = ap (λ v. key_if v r.flow ∷ map row_open (run_rows (n + 1) rs)) (marked_back (is_open (state_of r.history))) ∙ ap (λ ks. open_key r ∷ ks) (opens_back (n + 1) rs)
 
 pub rows_serve : (m : Maps) (rows : List RunRow) (b : Book) → rows ≡ run_rows 1 b.runs → AllByRecursion IsTold b.runs → AreKeys m (map row_request rows) (map row_open rows) → Serves m b
 rows_serve m rows b same told are = record {

@@ -1,4 +1,4 @@
-use Rattle.std.proofs.Common.{refl, map, sym, subst}
+use Rattle.std.proofs.Common.{refl, sym, subst}
 use Rattle.flow_model.specs.Book.{with_turn, with_attempt, with_text}
 use Rattle.flow_maps.specs.Keys.{Lists}
 use Rattle.flow_maps.specs.Serving.{request_key}
