@@ -114,9 +114,7 @@ fn closed(alloc: Global, tables: &mut Memory, reads: bool) -> Result<(u64, u64),
     found(alloc, tables, "f", "q")
 }
 
-fn of_a_rollback(
-    alloc: Global,
-) -> Result<((u64, u64), (u64, u64), (u64, u64)), &'static str> {
+fn of_a_rollback(alloc: Global) -> Result<((u64, u64), (u64, u64), (u64, u64)), &'static str> {
     let mut tables = opened(alloc)?;
     kept_and_gone(alloc, &mut tables)
 }
