@@ -13,9 +13,9 @@ use sqlite::{Connection, MemStore};
 use std::alloc::Global;
 use std::test::Fail;
 
-type Memory = Tables<MemStore>;
+pub(crate) type Memory = Tables<MemStore>;
 
-fn opened(alloc: Global) -> Result<Memory, &'static str> {
+pub(crate) fn opened(alloc: Global) -> Result<Memory, &'static str> {
     let Ok(conn) = Connection::open_in_memory(alloc) else {
         return Err("no memory");
     };
@@ -32,7 +32,7 @@ fn body(alloc: Global) -> Result<RawText, &'static str> {
     }
 }
 
-fn put_text(alloc: Global, tables: &mut Memory) -> Result<bool, &'static str> {
+pub(crate) fn put_text(alloc: Global, tables: &mut Memory) -> Result<bool, &'static str> {
     let change = Change::AddText(body(alloc)?);
     Ok(tables.put(&change).is_ok())
 }
@@ -48,7 +48,7 @@ fn has_text(alloc: Global, tables: &mut Memory) -> Result<bool, &'static str> {
 }
 
 /// The turn in which a run starts.
-fn started(alloc: Global) -> Result<Turn, &'static str> {
+pub(crate) fn started(alloc: Global) -> Result<Turn, &'static str> {
     Ok(Turn {
         at: Moment::new(5).ok_or("no moment")?,
         input: Input::Started(Sequence::new(alloc)),

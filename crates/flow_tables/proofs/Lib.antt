@@ -17,3 +17,4 @@ pub mod Texts
 pub mod Questioned
 pub mod Signalled
 pub mod Altering
+pub mod Serving

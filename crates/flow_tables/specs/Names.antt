@@ -23,7 +23,7 @@ pub use Rattle.flow_model.specs.Turned.{traces, turn_events}
 pub use Rattle.flow_rows.specs.Changes.{is_other_task, marked, marked_row, with_event, with_run, with_text, with_timer, without_tasks, without_timers, with_task, without_task, without_timer, under_text, with_task_in_place}
 pub use Rattle.flow_rows.specs.Damages.{first_damage}
 pub use Rattle.flow_rows.specs.Finding.{first, is_run_at, last_number, number_of_run, number_of_text}
-pub use Rattle.flow_rows.specs.Rows.{by_run, event_row, of_run, open_number, run_row, task_row, timer_row, timers_left}
+pub use Rattle.flow_rows.specs.Rows.{by_run, event_row, of_run, open_number, run_row, run_rows, task_row, timer_row, timers_left}
 pub use Rattle.flow_rows.specs.Told.{FitsTables, IsReadable, IsReadableTurn, StartsNone, Tells, after_change, after_effect, after_turn, book_in, new_run}
 pub use Rattle.flow_rows.specs.Whole.{shown_book}
 pub use Rattle.flow_rows.specs.declared.rows.StoreRows.{StoreRows}
@@ -43,4 +43,4 @@ pub use Rattle.sqlite.specs.Reading.{IsReadError}
 pub use Rattle.sqlite.specs.State.{CommitsBy, Shown, QueriesRow, FailsToQuery}
 pub use Rattle.sqlite.specs.declared.error.Error.TheVariants.{QueryReturnedNoRows, SqliteFailure}
 pub use Rattle.sqlite.specs.declared.error.ErrorCode.TheVariants.{OutOfMemory}
-pub use Rattle.std.specs.Prelude.{Err, IfOk, None, Ok, OnOk, Some, length, option_map, reverse, slice_get, ℤ, ◌≡◌, [], ◌∷◌, refl, ◌⊎◌, Result, ◌+◌, ◌≢◌, ◌≤◌, ◌^◌, if◌then◌else◌, ◌<◌, suc, eqb, negsuc, IsSome, drop, ⊤, zero, ◌↔◌, ◌++◌, ◌<ℤ◌}
+pub use Rattle.std.specs.Prelude.{Err, IfOk, IfSome, None, Ok, OnOk, Some, length, option_map, reverse, slice_get, ℤ, ◌≡◌, [], ◌∷◌, refl, ◌⊎◌, Result, ◌+◌, ◌≢◌, ◌≤◌, ◌^◌, if◌then◌else◌, ◌<◌, suc, eqb, negsuc, IsSome, drop, ⊤, zero, ◌↔◌, ◌++◌, ◌<ℤ◌}

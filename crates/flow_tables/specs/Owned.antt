@@ -1,12 +1,15 @@
 -- Tables as a value of the code: the book that they hold, and what becomes of it.
 use Rattle.std.specs.Prelude.{◌≡◌, ◌⊎◌, ◌<ℤ◌}
-use Rattle.flow_tables.specs.Names.{Run, Book, nth, no_book, last_number, run_row, Tells, book_in, no_schema, RunRow, Held, state, HasCleanDisk, State, Ghosts, IfErr, IsTrue, MatchResult, Option, false, pos, true, ℕ, HasTables, Holds, IsOver, IsRefused, IsStill, AreOurs, tables_in, Refusal, Known, ViewFault, Err, None, Ok, Some, option_map, ℤ, refl, Result}
+use Rattle.flow_tables.specs.Names.{Bytes, Bool, Run, Book, nth, no_book, last_number, run_row, Tells, book_in, no_schema, RunRow, Held, state, HasCleanDisk, State, Ghosts, IfErr, IsTrue, MatchResult, Option, false, pos, true, ℕ, HasTables, Holds, IsOver, IsRefused, IsStill, AreOurs, tables_in, Refusal, Known, ViewFault, Err, None, Ok, Some, option_map, ℤ, refl, Result}
 use Rattle.std.specs.Coded.{Coded, code_by, coded×, coded_option}
 use Rattle.sqlite.specs.Tree.{Trees}
 use Rattle.sqlite.specs.Held.{held_code}
 use Rattle.flow_view.specs.declared.fault.ViewFault.TheVariants as fault
 use Rattle.flow_tables.specs.contracts.fault.Refusal as refusal_row
+use Rattle.flow_maps.specs.declared.maps.Maps.{Maps}
+use Rattle.flow_maps.specs.Serving.{Serves, Sees, named, key_if}
 use Rattle.flow_tables.specs.Known.{IsKnown}
+use Rattle.flow_tables.specs.Puts.{mark_of}
 use Rattle.flow_sql.specs.Stored.{AreUtf8}
 use Rattle.flow_tables.specs.Faults.{IsHindering, Since}
 
@@ -83,6 +86,20 @@ is_sure g t = IsSure (IsOurs (state g t.opened)) (state g t.held) t.refused
 -- What is known of the rows is true, where the transaction shows a book.
 abbrev pub IsAware : State → Option Refusal → Known → Type 0
 IsAware s refused known = refused ≡ None → s.in_transaction ≡ true → IsKnown known (tables_in s.now.trees)
+
+-- the request of a run, by its row
+abbrev pub row_request : RunRow → Option Bytes
+row_request r = named r.req
+
+-- and its flow, where it is marked as open
+abbrev pub row_open : RunRow → Option Bytes
+row_open r = key_if (mark_of r) r.flow
+
+-- What is known by keys is of the book that was kept, where nothing was put since; and of the one that the transaction shows,
+-- with the run that was read last.
+pub record IsServing (m : Maps) (is_kept : Bool) (s : State) (refused : Option Refusal) : Type 0 where
+  pub last : is_kept ≡ true → IsTrue s.is_open → Serves m (book_of s.committed.trees)
+  pub shown : refused ≡ None → s.in_transaction ≡ true → Serves m (book_of s.now.trees) × Sees m (book_of s.now.trees)
 
 -- the store stopped what was done since the first
 abbrev pub Refuses : {S : Type 0} → Ghosts S → Stored S → Stored S → Type 0

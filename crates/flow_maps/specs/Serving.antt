@@ -1,0 +1,45 @@
+-- What is known of a book by the keys of its runs.
+use Rattle.std.specs.Prelude.{◌≡◌, Bool, map, List, [], ◌∷◌, Option, Some, None, if◌then◌else◌}
+use Rattle.flow_base.specs.Syntax.{Bytes}
+use Rattle.flow_base.specs.declared.book.Run.{Run}
+use Rattle.flow_model.specs.Book.{Book, nth}
+use Rattle.flow_model.specs.Configuration.{is_open}
+use Rattle.flow_model.specs.Open.{state_of}
+use Rattle.flow_maps.specs.declared.maps.Maps.{Maps}
+use Rattle.flow_maps.specs.declared.maps.Seen.{Seen}
+use Rattle.flow_maps.specs.Keys.{Lists}
+
+-- a run is found by its request, if it has one
+abbrev pub request_key : Run → Option Bytes
+request_key r = r.request
+
+-- a name where it counts
+abbrev pub key_if : Bool → Bytes → Option Bytes
+key_if b flow = if b then Some flow else None
+
+-- and by its flow, as long as it is open
+abbrev pub open_key : Run → Option Bytes
+open_key r = key_if (is_open (state_of r.history)) r.flow
+
+-- The empty text stands for no request.
+abbrev pub named : Bytes → Option Bytes
+named [] = None
+named (c ∷ cs) = Some (c ∷ cs)
+
+-- What is known is of these requests and these flows.
+pub record AreKeys (m : Maps) (ks fs : List (Option Bytes)) : Type 0 where
+  pub requests : Lists m.requests ks
+  pub flows : Lists m.flows fs
+
+-- What is known by keys is of this book.
+pub record Serves (m : Maps) (b : Book) : Type 0 where
+  pub requests : Lists m.requests (map request_key b.runs)
+  pub flows : Lists m.flows (map open_key b.runs)
+
+-- and so is what is known of the run that was read last
+abbrev pub IsSeen : Option Seen → Book → Type 0
+IsSeen None b = Unit {0}
+IsSeen (Some s) b = (r : Run) × (nth b.runs s.run ≡ Some r) × (r.flow ≡ s.flow) × (is_open (state_of r.history) ≡ s.is_open)
+
+abbrev pub Sees : Maps → Book → Type 0
+Sees m b = IsSeen m.seen b

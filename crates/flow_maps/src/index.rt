@@ -1,0 +1,154 @@
+ghost use Rattle.std.specs.Prelude.{◌≡◌, ◌-◌, ◌++◌, ◌∷◌, [], List, Option, Some, None, true, IfSome, slice_set};
+ghost use Rattle.flow_base.specs.Syntax.{Bytes};
+ghost use Rattle.flow_model.specs.Book.{nth};
+ghost use Rattle.flow_maps.specs.Keys.{Numbered, Lists, key_found};
+
+use flow_base::number::{LAST_NUMBER, RunId};
+use flow_base::text::Key;
+use std::alloc::Global;
+use std::collections::BTreeMap;
+
+/// The numbers of so many runs by their keys.
+#[derive(Drop)]
+pub struct Numbers {
+    count: u64,
+    map: BTreeMap<String, RunId>,
+}
+
+impl Numbers {
+    fn new(alloc: Global) -> Numbers
+        ensures { Numbered result [] }
+    {
+        Numbers {
+            count: 0,
+            map: BTreeMap::new(alloc),
+        }
+    }
+
+    /// One more run, without a key.
+    fn add_none(&mut self) -> bool
+        ensures { result ≡ true → (ks : List (Option Bytes)) → Numbered self.old ks → Numbered self.new (ks ++ None ∷ []) }
+    {
+        if self.count >= LAST_NUMBER {
+            return false;
+        }
+        self.count += 1;
+        true
+    }
+
+    /// One more run, with this key, which none has yet.
+    fn add(&mut self, alloc: Global, key: &str) -> bool
+        ensures { result ≡ true → (ks : List (Option Bytes)) → Numbered self.old ks → Numbered self.new (ks ++ Some key.now ∷ []) }
+    {
+        if self.map.contains_key(key) {
+            return false;
+        }
+        if self.count >= LAST_NUMBER {
+            return false;
+        }
+        let Some(number) = RunId::new(self.count + 1) else {
+            return false;
+        };
+        let Ok(key) = String::from_str(alloc, key) else {
+            return false;
+        };
+        let Ok(_) = self.map.insert(key, number) else {
+            return false;
+        };
+        self.count += 1;
+        true
+    }
+
+    /// A run has its key no more.
+    fn remove(&mut self, key: &str)
+        ensures { (ks : List (Option Bytes)) → (n : _) → nth ks n ≡ Some (Some key.now) → Numbered self.old ks → Numbered self.new (slice_set ks (n - 1) None) }
+    {
+        self.map.remove(key);
+    }
+
+    fn find(&self, key: &Key) -> Option<RunId>
+        ensures { (ks : List (Option Bytes)) → Numbered self.now ks → result ≡ key_found key.now ks }
+    {
+        self.map.get(key.as_str()).copied()
+    }
+}
+
+/// What is known of the numbers of runs by their keys: all, or nothing.
+#[derive(Drop)]
+pub struct Index {
+    alloc: Global,
+    numbers: Option<Numbers>,
+}
+
+impl Index {
+    /// No run yet.
+    pub fn new(alloc: Global) -> Index
+        ensures { Lists result [] }
+    {
+        Index {
+            alloc,
+            numbers: Some(Numbers::new(alloc)),
+        }
+    }
+
+    /// Nothing is known.
+    pub fn unknown(alloc: Global) -> Index
+        ensures { (ks : List (Option Bytes)) → Lists result ks }
+    {
+        Index {
+            alloc,
+            numbers: None,
+        }
+    }
+
+    pub fn forget(&mut self)
+        ensures { (ks : List (Option Bytes)) → Lists self.new ks }
+    {
+        self.numbers = None;
+    }
+
+    /// One more run, without a key.
+    pub fn add_none(&mut self)
+        ensures { (ks : List (Option Bytes)) → Lists self.old ks → Lists self.new (ks ++ None ∷ []) }
+    {
+        let known = match &mut self.numbers {
+            Some(numbers) => numbers.add_none(),
+            None => false,
+        };
+        if !known {
+            self.forget();
+        }
+    }
+
+    /// One more run, with this key. Where one has it, or there is no memory, nothing is known any more.
+    pub fn add(&mut self, key: &str)
+        ensures { (ks : List (Option Bytes)) → Lists self.old ks → Lists self.new (ks ++ Some key.now ∷ []) }
+    {
+        let known = match &mut self.numbers {
+            Some(numbers) => numbers.add(self.alloc, key),
+            None => false,
+        };
+        if !known {
+            self.forget();
+        }
+    }
+
+    /// A run has its key no more.
+    pub fn remove(&mut self, key: &str)
+        ensures { (ks : List (Option Bytes)) → (n : _) → nth ks n ≡ Some (Some key.now) → Lists self.old ks → Lists self.new (slice_set ks (n - 1) None) }
+    {
+        if let Some(numbers) = &mut self.numbers {
+            numbers.remove(key);
+        }
+    }
+
+    /// The run with a key, if it is known.
+    pub fn find(&self, key: &Key) -> Option<Option<RunId>>
+        ensures { IfSome result (λ o. (ks : List (Option Bytes)) → Lists self.now ks → o ≡ key_found key.now ks) }
+    {
+        match &self.numbers {
+            Some(numbers) => Some(numbers.find(key)),
+            None => None,
+        }
+    }
+}

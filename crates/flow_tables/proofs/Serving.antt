@@ -1,0 +1,121 @@
+-- What the tables keep true of the keys that are known, call by call.
+use Rattle.std.specs.Prelude.{◌≡◌, ◌≢◌, ◌+◌, ◌<◌, ◌++◌, ◌∷◌}
+use Rattle.flow_tables.proofs.Names.{int_eq, pos, Change, Book, Run, RunRow, AllByRecursion, Bytes, Database, HasCleanDisk, State, Bool, List, MatchResult, Option, false, map, true, ℕ, HasBegun, HasCommitted, HasEnded, IsRefused, IsStill, Refusal, ViewFault, Err, IfOk, None, Ok, OnOk, Some, [], length, refl, Result, changed, is_open, state_of, open_number, subst, ◌∙◌, sym, ap, true≢false, book_of, IsOwn, told_answer, IsSure, ReadsBook, IsNoted}
+use Rattle.std.proofs.Common.{take, get_or}
+use Rattle.std.proofs.lemmas.List.{map_more}
+use Rattle.flow_maps.specs.declared.maps.Maps.{Maps}
+use Rattle.flow_maps.specs.Keys.{Lists}
+use Rattle.flow_maps.specs.Serving.{Serves, Sees, AreKeys, named, key_if, request_key, open_key}
+use Rattle.flow_rows.specs.Rows.{run_rows, request_text}
+use Rattle.flow_rows.specs.Told.{IsTold}
+use Rattle.flow_view.specs.Reading.{Reads}
+use Rattle.flow_tables.specs.Faults.{noted_fault}
+use Rattle.flow_tables.specs.Owned.{IsServing, row_request, row_open}
+use Rattle.flow_tables.proofs.Owning.{read_leaves, holds}
+
+---- The keys that rows tell
+
+named_back : (o : Option Bytes) → o ≢ Some [] → named (request_text o) ≡ o
+named_back None h = refl
+named_back (Some []) h = absurd (h refl)
+named_back (Some (c ∷ cs)) h = refl
+
+marked_back : (v : Bool) → int_eq (open_number v) (pos 1) ≡ v
+marked_back true = refl
+marked_back false = refl
+
+requests_back : (n : ℕ) (rs : List Run) → AllByRecursion IsTold rs → map row_request (run_rows n rs) ≡ map request_key rs
+requests_back n [] all = refl
+requests_back n (r ∷ rs) all = ap (λ k. k ∷ map row_request (run_rows (n + 1) rs)) (named_back r.request all.0.request) ∙ ap (λ ks. r.request ∷ ks) (requests_back (n + 1) rs all.1)
+
+opens_back : (n : ℕ) (rs : List Run) → map row_open (run_rows n rs) ≡ map open_key rs
+opens_back n [] = refl
+opens_back n (r ∷ rs) = ap (λ v. key_if v r.flow ∷ map row_open (run_rows (n + 1) rs)) (marked_back (is_open (state_of r.history))) ∙ ap (λ ks. open_key r ∷ ks) (opens_back (n + 1) rs)
+
+pub rows_serve : (m : Maps) (rows : List RunRow) (b : Book) → rows ≡ run_rows 1 b.runs → AllByRecursion IsTold b.runs → AreKeys m (map row_request rows) (map row_open rows) → Serves m b
+rows_serve m rows b same told are = record {
+  requests = subst (λ ks. Lists m.requests ks) (ap (map row_request) same ∙ requests_back 1 b.runs told) are.requests;
+  flows = subst (λ ks. Lists m.flows ks) (ap (map row_open) same ∙ opens_back 1 b.runs) are.flows;
+}
+
+pub keys_on : {A B : Type 0} (f : A → B) (xs : List A) (i : ℕ) (x : A) (k : B) → x ≡ get_or xs i x → i < length xs → k ≡ f x → map f (take i xs) ++ k ∷ [] ≡ map f (take (i + 1) xs)
+keys_on f xs i x k is more same = ap (λ y. map f (take i xs) ++ y ∷ []) (same ∙ ap f is) ∙ sym (map_more f xs i x more)
+
+---- The calls
+
+-- nothing is known
+pub any_serving : (m : Maps) (k : Bool) (s : State) (r : Option Refusal) → ((b : Book) → Serves m b) → ((b : Book) → Sees m b) → IsServing m k s r
+any_serving m k s r serves sees = record { last = λ is up. serves (book_of s.committed.trees); shown = λ none inside. (serves (book_of s.now.trees), sees (book_of s.now.trees)) }
+
+-- the keys were read
+pub learnt_serving : (m : Maps) (s : State) (r : Option Refusal) → (r ≡ None → s.in_transaction ≡ true → Serves m (book_of s.now.trees)) → ((b : Book) → Sees m b) → IsServing m false s r
+learnt_serving m s r serves sees = record { last = λ is up. absurd (true≢false (sym is)); shown = λ none inside. (serves none inside, sees (book_of s.now.trees)) }
+
+module _ (old new : State) where
+  -- a transaction begins
+  pub begun_serving : (r : Option Refusal) (m m' : Maps) (k : Bool) → IsOwn old r → HasBegun old new → ((b : Book) → (k ≡ true → Serves m b) → Serves m' b) → ((b : Book) → Sees m' b) → IsServing m k old r → IsServing m' true new None
+  begun_serving r m m' k own h serves sees was = record {
+    last = λ is up. subst (λ (d : Database). Serves m' (book_of d.trees)) (sym h.1.committed_is) kept;
+    shown = λ none inside. (subst (λ (d : Database). Serves m' (book_of d.trees)) (sym (h.1.now_is ∙ own.rest h.0 h.1.was_open)) kept, sees (book_of new.now.trees));
+  }
+    where
+      kept : Serves m' (book_of old.committed.trees)
+      kept = serves (book_of old.committed.trees) (λ is. was.last is h.1.was_open)
+
+  -- it is committed
+  pub committed_serving : (r s : Option Refusal) (m : Maps) (k : Bool) → old.in_transaction ≡ true → r ≡ None → HasCommitted old new → IsServing m k old r → IsServing m true new s
+  committed_serving r s m k inside none h was = record {
+    last = λ is up. subst (λ (d : Database). Serves m (book_of d.trees)) (sym h.1.committed_is) (was.shown none inside).0;
+    shown = λ _ mode. absurd (true≢false (sym mode ∙ h.1.mode));
+  }
+
+  -- it has ended otherwise
+  pub ended_serving : (r s : Option Refusal) (m : Maps) (k : Bool) → HasEnded old new → IsServing m k old r → IsServing m k new s
+  ended_serving r s m k h was = record {
+    last = λ is up. subst (λ (d : Database). Serves m (book_of d.trees)) (sym (h.back up).1) (was.last is (h.was_open up));
+    shown = λ _ mode. absurd (true≢false (sym mode ∙ h.mode));
+  }
+
+  module _ (ours : Type 0) (ro rn : Option Refusal) where
+    -- something was read
+    pub read_serving : (owned : ours → HasCleanDisk old → IsOwn old ro) (none : ro ≡ None) (inside : old.in_transaction ≡ true) (clean : HasCleanDisk new → HasCleanDisk old) {A : Type 0} (result : Result A ViewFault) (value : Book → A)
+        (reads : HasCleanDisk new → ReadsBook old new result value) (noted : IsNoted noted_fault result ro rn) (m : Maps) (k : Bool) → (ours → HasCleanDisk old → IsServing m k old ro) → ours → HasCleanDisk new → IsServing m k new rn
+    read_serving owned none inside clean {A} result value reads noted m k serving fit now =
+        let was = serving fit (clean now) in
+        let left = read_leaves old new ours ro rn owned none inside clean result value reads noted fit now in
+        record {
+          last = λ is up. subst (λ (d : Database). Serves m (book_of d.trees)) (sym (left.same up)) (was.last is (left.was_open up));
+          shown = go result (reads now (book_of old.now.trees) ((owned fit (clean now)).whole inside none).1.tells (holds old new ours ro rn owned none inside clean fit)) noted;
+        }
+      where
+        go : (r : Result A ViewFault) → MatchResult r (λ v. IsStill true old new × (v ≡ value (book_of old.now.trees))) (λ _. IsRefused true old new) → IsNoted noted_fault r ro rn
+            → rn ≡ None → new.in_transaction ≡ true → Serves m (book_of new.now.trees) × Sees m (book_of new.now.trees)
+        go (Ok v) h n = λ _ _. subst (λ (d : Database). Serves m (book_of d.trees) × Sees m (book_of d.trees)) (sym h.0.1) ((serving fit (clean now)).shown none inside)
+        go (Err f) h n = λ same _. absurd (let clash = sym n ∙ same in cc)
+
+    -- the book was changed
+    pub put_serving : ro ≡ None → old.in_transaction ≡ true → (HasCleanDisk new → HasCleanDisk old) → (m m' : Maps) (c : Change) (k : Bool) → (ours → HasCleanDisk old → IsServing m k old ro)
+        → ((b : Book) → Sees m b → Serves m b → Serves m' (changed b c)) → ((b : Book) → Sees m' b) → (result : Result Unit Refusal) → IsNoted (λ x. x) result ro rn
+        → OnOk (told_answer result) (IsSure ours new rn → book_of new.now.trees ≡ changed (book_of old.now.trees) c) → ours → HasCleanDisk new → IsServing m' false new rn
+    put_serving none inside clean m m' c k serving serves sees result noted told fit now = record {
+      last = λ is up. absurd (true≢false (sym is));
+      shown = go result noted told;
+    }
+      where
+        go : (r : Result Unit Refusal) → IsNoted (λ x. x) r ro rn → OnOk (told_answer r) (IsSure ours new rn → book_of new.now.trees ≡ changed (book_of old.now.trees) c)
+            → rn ≡ None → new.in_transaction ≡ true → Serves m' (book_of new.now.trees) × Sees m' (book_of new.now.trees)
+        go (Ok u) n h = λ same mode.
+            let was = (serving fit (clean now)).shown none inside in
+            (subst (λ b. Serves m' b) (sym (h (record { fit = fit; clean = now; mode = mode; none = same }))) (serves (book_of old.now.trees) was.1 was.0), sees (book_of new.now.trees))
+        go (Err f) n h = λ same _. absurd (let clash = sym n ∙ same in cc)
+
+---- An answer behind another read
+
+-- the other one left the book as it was
+pub read_behind : {A E : Type 0} (r : Result A E) (middle last : Type 0) (b b' b'' : Book) (value : Book → A) → (middle → b' ≡ b) → (last → middle) → IfOk r (λ v. Reads last b' b'' v (value b')) → IfOk r (λ v. Reads last b b'' v (value b))
+read_behind (Ok v) middle last b b' b'' value one was two = λ sure. let first = one (was sure) in let then = two sure in (then.0 ∙ first, then.1 ∙ ap value first)
+read_behind (Err f) middle last b b' b'' value one was two = tt
+
+pub goes_behind : {A E : Type 0} (r : Result A E) (X Y Y' Z : Type 0) → (X → Y → Y') → OnOk r (X → Y' → Z) → OnOk r (X → Y → Z)
+goes_behind (Ok v) X Y Y' Z one two = λ x y. two x (one x y)
+goes_behind (Err f) X Y Y' Z one two = tt
