@@ -82,7 +82,7 @@ fn begin(alloc: Global, program: &Program, values: &[Value]) -> Result<Option<Tu
     }
     let rest = begun(alloc, &program.body)?;
     let variables = bind(alloc, &program.parameters, values)?;
-    let buffer = NamedValues::new(alloc);
+    let buffer = NamedValues::new();
     Ok(Some(start_from(
         alloc,
         rest,
@@ -107,9 +107,9 @@ fn complete(
             if !has_kind(kind, v) {
                 return Ok(None);
             }
-            let mut variables = run.variables.copy(alloc)?;
+            let mut variables = run.variables.share()?;
             variables.set(alloc, &into, v.copy(alloc)?)?;
-            let buffer = run.buffer.copy(alloc)?;
+            let buffer = run.buffer.share()?;
             let decided = run.decided.copy(alloc)?;
             Ok(Some(start_from(alloc, rest, variables, buffer, decided, State::Open)))
         }
@@ -128,8 +128,8 @@ fn fail(
 {
     match failed(alloc, &run.rest, n, text)? {
         Some(rest) => {
-            let variables = run.variables.copy(alloc)?;
-            let buffer = run.buffer.copy(alloc)?;
+            let variables = run.variables.share()?;
+            let buffer = run.buffer.share()?;
             let decided = run.decided.copy(alloc)?;
             Ok(Some(start_from(alloc, rest, variables, buffer, decided, State::Open)))
         }
@@ -152,8 +152,8 @@ fn signal(
         return Ok(None);
     }
     let rest = run.rest.copy(alloc)?;
-    let variables = run.variables.copy(alloc)?;
-    let mut buffer = run.buffer.copy(alloc)?;
+    let variables = run.variables.share()?;
+    let mut buffer = run.buffer.share()?;
     buffer.push(alloc, name, v.copy(alloc)?)?;
     let decided = run.decided.copy(alloc)?;
     Ok(Some(start_from(alloc, rest, variables, buffer, decided, State::Open)))
@@ -165,8 +165,8 @@ fn fire(alloc: Global, run: &PlainRun, n: EventId) -> Result<Option<Turning>, Al
 {
     match fired(alloc, &run.rest, n)? {
         Some(rest) => {
-            let variables = run.variables.copy(alloc)?;
-            let buffer = run.buffer.copy(alloc)?;
+            let variables = run.variables.share()?;
+            let buffer = run.buffer.share()?;
             let decided = run.decided.copy(alloc)?;
             Ok(Some(start_from(alloc, rest, variables, buffer, decided, State::Open)))
         }
@@ -177,8 +177,8 @@ fn fire(alloc: Global, run: &PlainRun, n: EventId) -> Result<Option<Turning>, Al
 fn terminate(alloc: Global, run: &PlainRun) -> Result<Option<Turning>, AllocError>
     ensures { IfOk result (λ o. shown_started o ≡ Some (started_with tree.Done (look_up run.now.variables) run.now.buffer (look_up run.now.decided) State.Terminated)) }
 {
-    let variables = run.variables.copy(alloc)?;
-    let buffer = run.buffer.copy(alloc)?;
+    let variables = run.variables.share()?;
+    let buffer = run.buffer.share()?;
     let decided = run.decided.copy(alloc)?;
     Ok(Some(start_from(
         alloc,
@@ -222,9 +222,9 @@ fn bind(
     ensures { IfOk result (λ vars. look_up vars ≡ model.bound parameters.now values.now) }
 {
     match parameters {
-        [] => Ok(NamedValues::new(alloc)),
+        [] => Ok(NamedValues::new()),
         [p, ps @ ..] => match values {
-            [] => Ok(NamedValues::new(alloc)),
+            [] => Ok(NamedValues::new()),
             [v, vs @ ..] => {
                 let mut variables = bind(alloc, ps, vs)?;
                 variables.set(alloc, &p.name, v.copy(alloc)?)?;

@@ -20,7 +20,7 @@ use flow_values::named::NamedValues;
 use std::alloc::{AllocError, Global};
 
 /// A run between two turns, as plain lists and trees: what the definitions of a run say of it can be computed from it
-/// step by step. It is exact and slow.
+/// step by step. It shares the program's lists of statements.
 #[derive(Debug, Drop)]
 pub struct PlainRun {
     pub(crate) rest: Rest,
@@ -82,8 +82,8 @@ pub fn unbegun(alloc: Global) -> PlainRun
 {
     PlainRun {
         rest: Rest::Done,
-        variables: NamedValues::new(alloc),
-        buffer: NamedValues::new(alloc),
+        variables: NamedValues::new(),
+        buffer: NamedValues::new(),
         decided: Decided::new(alloc),
         events: 0,
         moment: Moment::new(0).unwrap(),
@@ -96,8 +96,8 @@ impl PlainRun {
         ensures { IfOk result (λ r. plain_configuration r ≡ plain_configuration self.now) }
     {
         let rest = self.rest.copy(alloc)?;
-        let variables = self.variables.copy(alloc)?;
-        let buffer = self.buffer.copy(alloc)?;
+        let variables = self.variables.share()?;
+        let buffer = self.buffer.share()?;
         let decided = self.decided.copy(alloc)?;
         Ok(PlainRun {
             rest,

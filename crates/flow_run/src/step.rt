@@ -181,13 +181,7 @@ fn first_of(
 
 // What goes on, then the statement at a place of a list again, and those after it. Where it is the last, what is left
 // of the list serves as it is.
-fn repeated(
-    alloc: Global,
-    r: Rest,
-    b: Arc<Vec<Stmt>>,
-    i: usize,
-    to: usize,
-) -> Result<Rest, Fault>
+fn repeated(alloc: Global, r: Rest, b: Arc<Vec<Stmt>>, i: usize, to: usize) -> Result<Rest, Fault>
     requires { i < length (take to b.value.items) }
     ensures { IfOk result (λ q. (st : Statement) → left_from (take to b.value.items) i ≡ Next st (left_from (take to b.value.items) (i + 1)) → shown_rest q ≡ model.followed_by (left_from (take to b.value.items) (i + 1)) (tree.Then (shown_rest r) (Next st End))) }
 {
@@ -375,7 +369,7 @@ fn take(alloc: Global, t: &mut Store, into: &Key, signal: &Key) -> Result<bool, 
     ensures in_time { IfOk result (λ is. (c : Cmd) (m : model.Move) → (if is then model.Asks tree.Done (shown_store t.new) c else m) ≡ model.on_signal (model.oldest signal.now t.old.buffer) (λ v. model.Asks tree.Done (model.take_signal (shown_store t.old) into.now signal.now v) c) m) }
     ensures kept { IfOk result (λ is. is ≡ false → t.new ≡ t.old) }
 {
-    match t.buffer.take(signal) {
+    match t.buffer.take(alloc, signal)? {
         Some(v) => {
             set(alloc, t, into, v)?;
             Ok(true)

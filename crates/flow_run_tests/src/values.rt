@@ -22,7 +22,7 @@ fn value(alloc: Global, text: &str) -> Result<Result<Value, Cause>, Fail> {
     let at = moment(10)?;
     let program = parse(alloc, text)?;
     let expr = returned(&program)?;
-    Ok(eval(alloc, &NamedValues::new(alloc), at, expr)?)
+    Ok(eval(alloc, &NamedValues::new(), at, expr)?)
 }
 
 #[test]
@@ -39,7 +39,7 @@ fn expressions_have_values_and_faults(rt: HostRuntime) -> Result<(), Fail> {
 // When a delay is over that begins at moment 10.
 fn over(alloc: Global, delay: i64) -> Result<Result<u64, Cause>, Fail> {
     let at = moment(10)?;
-    match due(alloc, &NamedValues::new(alloc), at, &Expr::Int(0, delay))? {
+    match due(alloc, &NamedValues::new(), at, &Expr::Int(0, delay))? {
         Ok(moment) => Ok(Ok(moment.get())),
         Err(cause) => Ok(Err(cause)),
     }
