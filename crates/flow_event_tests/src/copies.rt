@@ -1,11 +1,12 @@
-//! Tests of copies: each equals what it copies.
+//! Tests of copies: each equals what it copies, and a shared list is the list.
 use flow_base::event::{Cmd, Event, Input, What, copy_events, copy_values};
 use flow_base::number::{EventId, Moment};
 use flow_base::sequence::Sequence;
-use flow_base::syntax::{Binary, Expr, Stmt};
+use flow_base::syntax::{Binary, Block, Expr, Stmt};
 use flow_base::text::{Key, Text};
 use flow_base::value::{Kind, Value};
 use std::alloc::Global;
+use std::sync::Arc;
 use std::test::Fail;
 
 /// 7 and "eur".
@@ -72,18 +73,27 @@ fn sum(alloc: Global) -> Result<Expr, Fail> {
     Ok(Expr::Binary(Binary::Add, one, name))
 }
 
-/// Whether it gives a variable the sum of two expressions.
-fn is_let_of_sum(statement: &Stmt) -> bool {
-    matches!(
-        statement,
-        Stmt::Let(0, 4, _, Expr::Binary(Binary::Add, _, _))
-    )
+/// `let x = 1 + n;` in braces.
+fn braced(alloc: Global) -> Result<Block, Fail> {
+    let name = Key::new(alloc, "x")?;
+    let mut list = Vec::new(alloc);
+    list.push(Stmt::Let(0, 4, name, sum(alloc)?))?;
+    Ok(Block {
+        list: Arc::new(alloc, list)?,
+        end: 15,
+    })
+}
+
+/// Whether one statement gives a variable the sum of two expressions.
+fn is_let_of_sum(list: &[Stmt]) -> bool {
+    matches!(list, [Stmt::Let(0, 4, _, Expr::Binary(Binary::Add, _, _))])
 }
 
 #[test]
-fn trees_are_copied(rt: HostRuntime) -> Result<(), Fail> {
-    let name = Key::new(rt.alloc(), "x")?;
-    let statement = Stmt::Let(0, 4, name, sum(rt.alloc())?);
-    assert!(rt; is_let_of_sum(&statement.copy(rt.alloc())?));
+fn a_list_is_shared(rt: HostRuntime) -> Result<(), Fail> {
+    let block = braced(rt.alloc())?;
+    let shared = block.share()?;
+    drop(block);
+    assert!(rt; is_let_of_sum(shared.list.as_slice()) && shared.end == 15);
     Ok(())
 }

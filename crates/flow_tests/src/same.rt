@@ -28,7 +28,7 @@ fn same_retry(left: &Retry, right: &Retry) -> bool {
 
 #[cycle(same)]
 fn same_block(left: &Block, right: &Block) -> bool {
-    same_stmts(&left.list, &right.list)
+    same_stmts(left.list.as_slice(), right.list.as_slice())
 }
 
 #[cycle(same)]
@@ -91,7 +91,7 @@ fn same_stmt(left: &Stmt, right: &Stmt) -> bool {
             && same_block(a, c)
             && same_block(b, d),
         (Stmt::While(_, e, a), Stmt::While(_, f, b)) => same_expr(e, f) && same_block(a, b),
-        (Stmt::Parallel(_, a, bs), Stmt::Parallel(_, c, ds)) => same_branch(a, c)
+        (Stmt::Parallel(_, a, bs, _), Stmt::Parallel(_, c, ds, _)) => same_branch(a, c)
             && same_branches(bs, ds),
         (Stmt::Patch(_, _, x, a, b), Stmt::Patch(_, _, y, c, d)) => x.is(y)
             && same_block(a, c)
@@ -138,5 +138,5 @@ pub fn same_program(left: &Program, right: &Program) -> bool {
             .iter()
             .zip(right.declarations.iter())
             .all(|(a, b)| same_declaration(a, b))
-        && same_stmts(&left.body, &right.body)
+        && same_stmts(left.body.as_slice(), right.body.as_slice())
 }
