@@ -27,7 +27,7 @@ use Rattle.flow_model.specs.Configuration.{Configuration, is_open}
 use Rattle.flow_model.specs.WellFormed.{signal_of}
 use Rattle.flow_model.specs.Deliver.{all_fit, has_kind}
 use Rattle.flow_model.specs.Turn.{Fresh, is_started}
-use Rattle.flow_model.specs.Turned.{turned, position_of}
+use Rattle.flow_model.specs.Turned.{turned, position_by_inputs}
 use Rattle.flow_model.specs.Open.{open_timers, state_of, moment_of}
 use Rattle.flow_model.specs.Verdict.{verdict}
 use Rattle.flow_model.specs.Book.{Book, nth, text_number, requested, open_run, signalled}
@@ -41,7 +41,7 @@ now_of r at = max at (moment_of r.history)
 pub record IsTaken (u : Rules) (b : Book) (n : ℕ) (r : Run) (p : Program) (k : Configuration) (at : ℕ) (i : Input) (t : List Cmd × Configuration) : Type 0 where
   pub there : nth b.runs n ≡ Some r
   pub reads : program_at u.program_of b r.text ≡ Some p
-  pub place : position_of p r.history ≡ Some k
+  pub place : position_by_inputs p r.history ≡ Some k
   pub turn : turned p Fresh k (now_of r at) i ≡ Some t
   pub no_start : is_started i ≡ false
 
@@ -136,7 +136,7 @@ module _ (u : Rules) (b : Book) (Q : List Change → Type 0) (c : CoversTurns u 
   unfolding recorded
   recorded_has n r p at i there reads no_start =
       let now : ℕ = now_of r at in
-      if_sound_has (position_of p r.history) (λ k. if_sound (turned p Fresh k now i) (λ t. turn_made u.limit p r n now i t.0))
+      if_sound_has (position_by_inputs p r.history) (λ k. if_sound (turned p Fresh k now i) (λ t. turn_made u.limit p r n now i t.0))
       (λ k place. if_sound_has (turned p Fresh k now i) (λ t. turn_made u.limit p r n now i t.0)
       (λ t turn. made_has n r p k at i t (record { there = there; reads = reads; place = place; turn = turn; no_start = no_start })))
 

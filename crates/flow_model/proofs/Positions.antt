@@ -11,7 +11,7 @@ use Rattle.flow_model.specs.Deliver.{deliver, Progress}
 use Rattle.flow_model.specs.Turn.{Answers, Recorded, Turn, frame, Frame, steps, next, go_on, left_by}
 use Rattle.flow_model.specs.Stands.{Leads, Stands}
 use Rattle.flow_model.specs.Weights.{weight_of}
-use Rattle.flow_model.specs.Turned.{turned, ends_at, goes_from, and_then, position_from, position_of}
+use Rattle.flow_model.specs.Turned.{turned, ends_at, goes_from, and_then, position_from, position_by_inputs}
 use Rattle.flow_model.proofs.Weight.{next_lighter}
 
 -- what some number of steps reaches, as many as what is left weighs reach
@@ -48,7 +48,7 @@ leads_computed p n (c ∷ due) k (e ∷ later) k' l =
     ∙ ap (λ (q : Configuration). position_from p q later) (sym a.4)
     ∙ rest
 
-pub position_computed : (p : Program) (h : List Event) (k : Configuration) → Stands p h k → position_of p h ≡ Some k
+pub position_computed : (p : Program) (h : List Event) (k : Configuration) → Stands p h k → position_by_inputs p h ≡ Some k
 position_computed p h k s = leads_computed p 1 [] first_configuration h k s.1
 
 -- and the other way: a turn that is computed is one

@@ -27,7 +27,7 @@ use Rattle.flow_model.specs.Values.{last_moment}
 use Rattle.flow_model.specs.Configuration.{Configuration, first_configuration, is_open}
 use Rattle.flow_model.specs.Deliver.{all_fit, has_kind}
 use Rattle.flow_model.specs.Turn.{Fresh}
-use Rattle.flow_model.specs.Turned.{turned, position_of}
+use Rattle.flow_model.specs.Turned.{turned, position_by_inputs}
 use Rattle.flow_model.specs.Open.{open_timers, state_of, moment_of}
 use Rattle.flow_model.specs.WellFormed.{signal_of}
 use Rattle.flow_model.specs.Verdict.{verdict}
@@ -138,7 +138,7 @@ turn_made limit p r run at i cs =
 -- A run takes an input: its fresh turn, at the greater of this moment and that of its last event.
 unfoldable pub recorded : ℕ → Program → Run → ℕ → ℕ → Input → Outcome
 recorded limit p r run at i =
-    if_sound (position_of p r.history) (λ k.
+    if_sound (position_by_inputs p r.history) (λ k.
     if_sound (turned p Fresh k (max at (moment_of r.history)) i) (λ t.
     turn_made limit p r run (max at (moment_of r.history)) i t.0))
 
