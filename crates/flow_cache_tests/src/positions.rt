@@ -1,4 +1,6 @@
 //! Which positions are found among 1, 3 and 4,096.
+ghost use Rattle.std.specs.Prelude.{◌≤◌};
+
 use flow_base::number::{Moment, RunId, TextNo};
 use flow_base::value::Value;
 use flow_cache::positions::Positions;
@@ -32,13 +34,14 @@ fn number_of(stance: &Stance, program: &Checked) -> Option<i64> {
 }
 
 /// Positions, and the program of them all.
+#[derive(Drop)]
 struct Kept {
     alloc: Global,
     program: Checked,
     positions: Positions,
 }
 
-fn kept(alloc: Global, capacity: usize) -> Option<Kept>
+fn with_room(alloc: Global, capacity: usize) -> Option<Kept>
     requires first { 1 ≤ capacity }
     requires last { capacity ≤ 4096 }
 {
@@ -92,7 +95,7 @@ fn four_among(alloc: Global, capacity: usize) -> (Option<i64>, [Option<i64>; 4],
     requires first { 1 ≤ capacity }
     requires last { capacity ≤ 4096 }
 {
-    let Some(mut kept) = kept(alloc, capacity) else {
+    let Some(mut kept) = with_room(alloc, capacity) else {
         return (None, [None; 4], 0);
     };
     let used = keep_four(&mut kept);
@@ -140,7 +143,7 @@ fn asked_otherwise(kept: &mut Kept) -> Option<[Option<i64>; 5]> {
 }
 
 fn otherwise(alloc: Global) -> (Option<[Option<i64>; 5]>, usize) {
-    let Some(mut kept) = kept(alloc, 3) else {
+    let Some(mut kept) = with_room(alloc, 3) else {
         return (None, 0);
     };
     let found = asked_otherwise(&mut kept);
@@ -168,7 +171,7 @@ fn keep_many(kept: &mut Kept) -> u64 {
 
 // How many are kept, and what is found of the last one that had to make room, the first one behind it, and the last one.
 fn many(alloc: Global) -> (u64, usize, [Option<i64>; 3]) {
-    let Some(mut kept) = kept(alloc, 4096) else {
+    let Some(mut kept) = with_room(alloc, 4096) else {
         return (0, 0, [None; 3]);
     };
     let count = keep_many(&mut kept);

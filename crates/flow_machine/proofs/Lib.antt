@@ -24,3 +24,4 @@ pub mod Ticks
 pub mod TicksStand
 pub mod TicksDecide
 pub mod OneTick
+pub mod GoingOn

@@ -8,6 +8,7 @@ mod failing;
 pub mod laws;
 pub mod programs;
 mod puts;
+pub mod reached;
 mod report;
 mod sending;
 pub mod submission;
