@@ -1,0 +1,35 @@
+-- What the ends of the channel of tasks know.
+use Rattle.std.specs.Prelude.{ℕ, ◌≡◌, List}
+use Rattle.crossbeam_channel.specs.Claims.{view}
+use Rattle.crossbeam_channel.specs.Ends.{sends_on, receives_on}
+use Rattle.flow_pool.specs.declared.task.Task.{Task}
+use Rattle.flow_pool.specs.declared.hand.Back.{Back}
+use Rattle.flow_pool.specs.declared.ends.TaskSender.{TaskSender}
+use Rattle.flow_pool.specs.declared.ends.TaskReceiver.{TaskReceiver}
+use Rattle.flow_pool.specs.declared.ends.Door.{Door}
+
+-- all that was put
+abbrev pub put_by : TaskSender → List Task
+put_by s = (view s.pass).put
+
+-- how many workers were made
+abbrev pub made_by : TaskSender → ℕ
+made_by s = (view s.pass).made
+
+-- what the workers that came back had taken
+abbrev pub back_at : TaskSender → List Back
+back_at s = (view s.pass).back
+
+-- a worker's number, and all that it has taken
+abbrev pub number_of : TaskReceiver → ℕ
+number_of r = (view r.pass).worker
+
+abbrev pub taken_by : TaskReceiver → List Task
+taken_by r = (view r.pass).got
+
+-- they are ends of one channel
+abbrev pub AreOne : TaskSender → TaskReceiver → Type 0
+AreOne s r = receives_on r.end ≡ sends_on s.end
+
+abbrev pub IsOpenTo : TaskSender → Door → Type 0
+IsOpenTo s d = receives_on d.end ≡ sends_on s.end

@@ -1,0 +1,106 @@
+//! The activities that the program `flow` has.
+ghost use Rattle.std.specs.Prelude.{◌≡◌, IfOk};
+ghost use Rattle.flow_pool.specs.Attempts.{echoed, added, flaked};
+
+use crate::activity::{Activity, Attempt};
+use crate::task::Task;
+use flow_base::value::Value;
+use std::alloc::{AllocError, Global};
+
+/// Gives its first argument.
+#[derive(Clone, Copy, Debug, Drop)]
+pub struct Echo;
+
+impl Activity for Echo {
+    ghost use Rattle.std.specs.Prelude.{◌≡◌, codes};
+    ghost use Rattle.flow_pool.specs.Attempts.{echoed};
+
+    ghost named = { λ _. codes "echo" };
+
+    ghost gives = { λ _ t a. a ≡ echoed t.args };
+
+    fn name(&self) -> &str {
+        "echo"
+    }
+
+    fn run(&mut self, alloc: Global, task: &Task) -> Result<Attempt, AllocError> {
+        first_of(alloc, task.args.as_slice())
+    }
+}
+
+/// Gives the sum of two ints.
+#[derive(Clone, Copy, Debug, Drop)]
+pub struct Add;
+
+impl Activity for Add {
+    ghost use Rattle.std.specs.Prelude.{◌≡◌, codes};
+    ghost use Rattle.flow_pool.specs.Attempts.{added};
+
+    ghost named = { λ _. codes "add" };
+
+    ghost gives = { λ _ t a. a ≡ added t.args };
+
+    fn name(&self) -> &str {
+        "add"
+    }
+
+    fn run(&mut self, alloc: Global, task: &Task) -> Result<Attempt, AllocError> {
+        sum_of(alloc, task.args.as_slice())
+    }
+}
+
+/// Fails twice, and then gives its first argument.
+#[derive(Clone, Copy, Debug, Drop)]
+pub struct Flaky;
+
+impl Activity for Flaky {
+    ghost use Rattle.std.specs.Prelude.{◌≡◌, codes};
+    ghost use Rattle.flow_pool.specs.Attempts.{flaked};
+
+    ghost named = { λ _. codes "flaky" };
+
+    ghost gives = { λ _ t a. a ≡ flaked t.attempt t.args };
+
+    fn name(&self) -> &str {
+        "flaky"
+    }
+
+    fn run(&mut self, alloc: Global, task: &Task) -> Result<Attempt, AllocError> {
+        from_third(alloc, task.attempt, task.args.as_slice())
+    }
+}
+
+fn first_of(alloc: Global, args: &[Value]) -> Result<Attempt, AllocError>
+    ensures { IfOk result (λ a. a ≡ echoed args.now) }
+{
+    match args {
+        [first, ..] => Ok(Attempt::Done(first.copy(alloc)?)),
+        [] => Attempt::failed(alloc, "bad arguments"),
+    }
+}
+
+fn sum_of(alloc: Global, args: &[Value]) -> Result<Attempt, AllocError>
+    ensures { IfOk result (λ a. a ≡ added args.now) }
+{
+    match args {
+        [Value::Int(a), Value::Int(b)] => match a.checked_add(*b) {
+            Some(n) => Ok(Attempt::Done(Value::Int(n))),
+            None => Attempt::failed(alloc, "arith"),
+        },
+        _ => Attempt::failed(alloc, "bad arguments"),
+    }
+}
+
+fn from_third(alloc: Global, attempt: u64, args: &[Value]) -> Result<Attempt, AllocError>
+    ensures { IfOk result (λ a. a ≡ flaked attempt args.now) }
+{
+    match args {
+        [first, ..] => {
+            if attempt < 3 {
+                return Attempt::failed(alloc, "flaky");
+            }
+            Ok(Attempt::Done(first.copy(alloc)?))
+        }
+        [] => Attempt::failed(alloc, "bad arguments"),
+    }
+}

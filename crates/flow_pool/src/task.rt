@@ -1,0 +1,17 @@
+use flow_base::number::{EventId, RunId};
+use flow_base::sequence::Sequence;
+use flow_base::text::Key;
+use flow_base::value::Value;
+
+/// One attempt of an activity that is to be made outside.
+#[derive(Debug, Drop)]
+pub struct Task {
+    pub run: RunId,
+    /// The event that scheduled the activity.
+    pub event: EventId,
+    /// Which attempt it is, from 1.
+    pub attempt: u64,
+    /// The activity's name.
+    pub activity: Key,
+    pub args: Sequence<Value>,
+}

@@ -1,0 +1,24 @@
+ghost use Rattle.std.specs.Prelude.{◌≡◌};
+ghost use Rattle.flow_settings.specs.Allowed.{fault_number};
+
+/// Why a text gives no settings.
+#[derive(Clone, Copy, Debug, PartialEq, Eq, thiserror::Error)]
+pub enum SettingsFault {
+    #[error("E01 out of memory")]
+    NoMemory,
+    /// The text is no TOML table, a key isn't known, or a value is no whole number in its range.
+    #[error("E96 bad settings")]
+    BadSettings,
+}
+
+impl SettingsFault {
+    /// The number of the refusal: 1 or 96.
+    pub fn number(self) -> u8
+        ensures { result ≡ fault_number self }
+    {
+        match self {
+            SettingsFault::NoMemory => 1,
+            SettingsFault::BadSettings => 96,
+        }
+    }
+}
