@@ -17,7 +17,11 @@ use std::sync::Arc;
 ///
 /// # Failure
 /// E80 where it is none.
-pub fn stored<P: Programs>(alloc: Global, programs: &mut P, body: &RawText) -> Result<Arc<Checked>, ViewFault>
+pub fn stored<P: Programs>(
+    alloc: Global,
+    programs: &mut P,
+    body: &RawText,
+) -> Result<Arc<Checked>, ViewFault>
     ensures program { IfOk result (λ p. P.meaning body.now ≡ Ok (shown_checked p.value)) }
     ensures cause { Caused result (program_if (P.meaning body.now) ≡ None) }
 {

@@ -1,5 +1,5 @@
 -- What is kept of the texts that were read: the list of them, the one that was asked for last first.
-use Rattle.std.specs.Prelude.{◌≡◌, ◌<◌, ℕ, ◌+◌, ◌-◌, Bool, true, false, cond, nat_lt, bytes_eq, List, [], ◌∷◌, length, remove, Option, Some, slice_get}
+use Rattle.std.specs.Prelude.{◌≡◌, ◌⊎◌, ◌<◌, ℕ, ◌+◌, ◌-◌, Bool, true, false, cond, nat_lt, bytes_eq, List, [], ◌∷◌, length, remove, Some, slice_get}
 use Rattle.flow_base.specs.Syntax.{Bytes}
 
 -- what a text counts for
@@ -30,3 +30,7 @@ pub record IsPlace (text : Bytes) (ts : List Bytes) (i : ℕ) : Type 0 where
   pub within : i < length ts
   pub at : slice_get ts i ≡ Some text
   pub others : remove ts i ≡ without text ts
+
+-- A text that wasn't kept comes first, before those that fit beside it; or all is as it was, where it isn't kept.
+abbrev pub IsKeptAnew : Bytes → ℕ → List Bytes → List Bytes → Type 0
+IsKeptAnew text limit before behind = (behind ≡ text ∷ fitting (limit - weight text) before) ⊎ (behind ≡ before)

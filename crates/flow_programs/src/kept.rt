@@ -1,7 +1,7 @@
 //! Programs that were read, kept by their texts.
 ghost use Rattle.std.specs.Prelude.{◌≡◌, ◌+◌, ◌-◌, ◌≤◌, ◌<◌, ◌∷◌, [], length, take, remove, slice_get, vec_len, vec_capacity, IfOk, IfErr, IfSome, OnOk, OnErr, MatchOption, MatchResult, Ok, Err, Some, None, true, false};
 ghost use Rattle.flow_check.specs.Shown.{shown_checked};
-ghost use Rattle.flow_programs.specs.Keeping.{IsPlace, fitting, is_kept, weight, without};
+ghost use Rattle.flow_programs.specs.Keeping.{IsKeptAnew, IsPlace, fitting, is_kept, weight, without};
 
 use crate::known::{Known, weight_of};
 use crate::programs::Programs;
@@ -40,7 +40,7 @@ impl<T: Texts> Model for Kept<T> {
 fn place<T: Texts>(programs: &[Known<T>], text: &RawText) -> Option<usize>
     ensures none { result ≡ None → is_kept text.now programs.now ≡ false }
     ensures some { IfSome result (λ i. IsPlace text.now programs.now i) }
-    {
+{
     for i in 0..programs.len() {
         if programs[i].is_of(text) {
             return Some(i);
@@ -97,6 +97,7 @@ impl<T: Texts> Kept<T> {
     /// The program of a text, if it is kept. It is then the one that was asked for last.
     fn take(&mut self, text: &RawText) -> Result<Option<Arc<Checked>>, AllocError>
         ensures program { IfOk result (λ o. MatchOption o (is_kept text.now self.old ≡ false) (λ c. T.meaning text.now ≡ Ok (shown_checked c.value))) }
+        ensures there { IfOk result (λ o. IfSome o (λ _. is_kept text.now self.old ≡ true)) }
         ensures first { IfOk result (λ o. IfSome o (λ _. self.new ≡ text.now ∷ without text.now self.old)) }
         ensures none { IfOk result (λ o. o ≡ None → self.new ≡ self.old) }
         ensures refused { OnErr result (self.new ≡ self.old) }
@@ -137,16 +138,23 @@ impl<T: Texts> Kept<T> {
         put_first(&mut self.programs, known);
         Ok(())
     }
-}
 
-impl<T: Texts> Programs for Kept<T> {
-    ghost meaning = { T.meaning };
-
-    fn program(
+    /// The program of a text, or its first fault: what is kept isn't read again.
+    ///
+    /// # Failure
+    /// E01; then all is as it was. Where there is memory for the program and none to keep it, it is answered, and nothing else is
+    /// forgotten.
+    pub fn read(
         &mut self,
         alloc: Global,
         text: &RawText,
-    ) -> Result<Result<Arc<Checked>, TextFault>, AllocError> {
+    ) -> Result<Result<Arc<Checked>, TextFault>, AllocError>
+        ensures means { IfOk result (λ r. MatchResult r (λ c. T.meaning text.now ≡ Ok (shown_checked c.value)) (λ fault. T.meaning text.now ≡ Err fault)) }
+        // What was kept comes first, and nothing is forgotten for it.
+        ensures kept { is_kept text.now self.old ≡ true → OnOk result (self.new ≡ text.now ∷ without text.now self.old) }
+        ensures anew { is_kept text.now self.old ≡ false → OnOk result (IsKeptAnew text.now LIMIT self.old self.new) }
+        ensures refused { OnErr result (self.new ≡ self.old) }
+    {
         if let Some(program) = self.take(text)? {
             return Ok(Ok(program));
         }
@@ -159,5 +167,17 @@ impl<T: Texts> Programs for Kept<T> {
             }
             Err(fault) => Ok(Err(fault)),
         }
+    }
+}
+
+impl<T: Texts> Programs for Kept<T> {
+    ghost meaning = { T.meaning };
+
+    fn program(
+        &mut self,
+        alloc: Global,
+        text: &RawText,
+    ) -> Result<Result<Arc<Checked>, TextFault>, AllocError> {
+        self.read(alloc, text)
     }
 }

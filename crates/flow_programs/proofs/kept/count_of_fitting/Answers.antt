@@ -1,4 +1,4 @@
-use Rattle.std.proofs.Common.{◌≡◌, ◌++◌, ◌+◌, ◌-◌, ap, ◌∙◌, take, drop, arith}
+use Rattle.std.proofs.Common.{◌++◌, ◌+◌, ◌-◌, ap, ◌∙◌, take, drop, arith}
 use Rattle.flow_programs.specs.Keeping.{fitting}
 use Rattle.flow_programs.proofs.Listing.{fits_no_more, fits_on, all_fit}
 use Rattle.flow_programs.proofs.kept.count_of_fitting.Goals as goal

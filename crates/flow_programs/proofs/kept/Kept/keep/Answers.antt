@@ -1,4 +1,4 @@
-use Rattle.std.proofs.Common.{◌≡◌, ◌≤◌, ◌∷◌, ◌-◌, ℕ, List, take, sym, ap, subst, ◌∙◌, arith}
+use Rattle.std.proofs.Common.{◌≡◌, ◌≤◌, ◌∷◌, ◌-◌, List, take, sym, ap, subst, ◌∙◌, arith}
 use Rattle.flow_base.specs.Syntax.{Bytes}
 use Rattle.flow_programs.specs.Keeping.{total, fitting, weight}
 use Rattle.flow_programs.proofs.Listing.{kept_within}
