@@ -7,20 +7,25 @@ ghost use Rattle.flow_view.specs.Reading.{Caused, Reads};
 use flow_base::number::TextNo;
 use flow_base::text::RawText;
 use flow_check::checked::Checked;
-use flow_check::texts::Texts;
+use flow_programs::programs::Programs;
 use flow_view::fault::ViewFault;
 use flow_view::view::View;
 use std::alloc::Global;
+use std::sync::Arc;
 
 /// The program of a stored text.
 ///
 /// # Failure
 /// E80 where it is none.
-pub fn stored<T: Texts>(alloc: Global, texts: &T, body: &RawText) -> Result<Checked, ViewFault>
-    ensures program { IfOk result (λ p. T.meaning body.now ≡ Ok (shown_checked p)) }
-    ensures cause { Caused result (program_if (T.meaning body.now) ≡ None) }
+pub fn stored<P: Programs>(
+    alloc: Global,
+    programs: &mut P,
+    body: &RawText,
+) -> Result<Arc<Checked>, ViewFault>
+    ensures program { IfOk result (λ p. P.meaning body.now ≡ Ok (shown_checked p.value)) }
+    ensures cause { Caused result (program_if (P.meaning body.now) ≡ None) }
 {
-    match texts.read(alloc, body)? {
+    match programs.program(alloc, body)? {
         Ok(program) => Ok(program),
         Err(_) => Err(ViewFault::StoreRefused),
     }
@@ -30,21 +35,21 @@ pub fn stored<T: Texts>(alloc: Global, texts: &T, body: &RawText) -> Result<Chec
 ///
 /// # Failure
 /// E80 where the text isn't there, or is no program.
-pub(crate) fn program_of<V: View, T: Texts>(
+pub(crate) fn program_of<V: View, P: Programs>(
     alloc: Global,
-    texts: &T,
+    programs: &mut P,
     view: &mut V,
     text: TextNo,
-) -> Result<Checked, ViewFault>
-    ensures reads { IfOk result (λ p. Reads (V.is_sure view.new) (V.book view.old) (V.book view.new) (Some (shown_checked p)) (program_at T.meaning (V.book view.old) text)) }
-    ensures cause { (a : V) → V.follows a view.old → V.is_true view.new → V.is_sure view.old → Caused result (V.refuses a view.new ⊎ program_at T.meaning (V.book view.old) text ≡ None) }
+) -> Result<Arc<Checked>, ViewFault>
+    ensures reads { IfOk result (λ p. Reads (V.is_sure view.new) (V.book view.old) (V.book view.new) (Some (shown_checked p.value)) (program_at P.meaning (V.book view.old) text)) }
+    ensures cause { (a : V) → V.follows a view.old → V.is_true view.new → V.is_sure view.old → Caused result (V.refuses a view.new ⊎ program_at P.meaning (V.book view.old) text ≡ None) }
     ensures goes_on { OnOk result (V.is_true view.new → V.is_sure view.old → V.is_sure view.new) }
     ensures sure { V.is_sure view.new → V.is_sure view.old }
     ensures was_true { V.is_true view.new → V.is_true view.old }
     ensures follows { (a : V) → V.follows a view.old → V.follows a view.new }
 {
     match view.text(text)? {
-        Some(body) => stored(alloc, texts, &body),
+        Some(body) => stored(alloc, programs, &body),
         None => Err(ViewFault::StoreRefused),
     }
 }

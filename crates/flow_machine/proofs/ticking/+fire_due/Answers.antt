@@ -11,13 +11,13 @@ use Rattle.flow_machine.proofs.ticking.+fire_due.Goals as goal
 
 pub returns-then-left-eq0-clause-fires : goal.returns-then-left-eq0-clause-fires
 returns-then-left-eq0-clause-fires g t c = λ sure.
-    none_left (rules_of g.T.Texts.meaning) c.args.at c.args.left (g.V.View.book c.args.view.now) c.args.changes.now.items c.if-left-eq0.true
+    none_left (rules_of g.P.Programs.meaning) c.args.at c.args.left (g.V.View.book c.args.view.now) c.args.changes.now.items c.if-left-eq0.true
 
 pub returns-in_default-clause-fires : goal.returns-in_default-clause-fires
 returns-in_default-clause-fires g t c = λ sure.
     let some : c.args.left ≡ suc (c.args.left - 1) = omega (arith, c.if-left-eq0.false) in
     let none : c.in_ok-due.field-0 ≡ None = search rules in
-    none_fires (rules_of g.T.Texts.meaning) c.args.at c.args.left (c.args.left - 1) (g.V.View.book c.args.view.now) some (g.V.View.book c.least_due.new.self) c.in_ok-due.field-0 c.args.changes.now.items
+    none_fires (rules_of g.P.Programs.meaning) c.args.at c.args.left (c.args.left - 1) (g.V.View.book c.args.view.now) some (g.V.View.book c.least_due.new.self) c.in_ok-due.field-0 c.args.changes.now.items
     (c.in_ok-due.ensures.reads sure) none
 
 pub returns-clause-fires : goal.returns-clause-fires
@@ -25,13 +25,13 @@ returns-clause-fires g t c = λ sure.
     let book = g.V.View.book in
     let some : c.args.left ≡ suc (c.args.left - 1) = omega (arith, c.if-left-eq0.false) in
     let after_one = c.fire_due.ensures.sure sure in
-    one_fires (rules_of g.T.Texts.meaning) c.args.at c.args.left (c.args.left - 1) (book c.args.view.now) some (book c.least_due.new.self) c.in_ok-due.field-0 c.in-Some.due
+    one_fires (rules_of g.P.Programs.meaning) c.args.at c.args.left (c.args.left - 1) (book c.args.view.now) some (book c.least_due.new.self) c.in_ok-due.field-0 c.in-Some.due
     (c.in_ok-due.ensures.reads (c.fire.ensures.sure after_one)) c.in-Some.is (book c.fire.new.view) (book c.fire_due.new.view) c.args.changes.now.items c.fire.new.changes.items
     c.fire_due.new.changes.items c.in_ok-more.more (c.in_ok-fire.ensures.adds after_one) (c.in_ok-more.ensures.fires sure)
 
 pub returns-in_err-fire-clause-cause : goal.returns-in_err-fire-clause-cause
 returns-in_err-fire-clause-cause g t c = λ a follows now first.
-    let u : Rules = rules_of g.T.Texts.meaning in
+    let u : Rules = rules_of g.P.Programs.meaning in
     let book = g.V.View.book in
     let old = book c.args.view.now in
     let here = book c.least_due.new.self in
@@ -41,7 +41,7 @@ returns-in_err-fire-clause-cause g t c = λ a follows now first.
     let sure = c.in_ok-due.ensures.goes_on (c.fire.ensures.was_true now) first in
     let seen = c.in_ok-due.ensures.reads sure in
     let Refuses : Type 0 = g.V.View.refuses a c.fire.new.view in
-    let Stuck : Type 0 = StuckFired g.T.Texts.meaning here c.in-Some.due in
+    let Stuck : Type 0 = StuckFired g.P.Programs.meaning here c.in-Some.due in
     let Unfit : Type 0 = HasUnfit g.V.View.unfit here (fired u here at c.in-Some.due).changes in
     let StuckWithin : Type 0 = StuckFirings u at left old in
     let UnfitWithin : Type 0 = HasUnfit g.V.View.unfit old (firings u at left old).changes in
@@ -53,7 +53,7 @@ returns-in_err-fire-clause-cause g t c = λ a follows now first.
 
 pub returns-in_err-more-clause-cause : goal.returns-in_err-more-clause-cause
 returns-in_err-more-clause-cause g t c = λ a follows now first.
-    let u : Rules = rules_of g.T.Texts.meaning in
+    let u : Rules = rules_of g.P.Programs.meaning in
     let book = g.V.View.book in
     let old = book c.args.view.now in
     let here = book c.least_due.new.self in

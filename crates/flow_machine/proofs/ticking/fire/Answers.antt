@@ -12,5 +12,5 @@ returns-clause-adds g c = λ sure.
     let made = c.in_ok-made.ensures.makes (c.put_all.ensures.sure sure) in
     let is = c.in_ok-put_all.ensures.put sure in
     let put : book c.put_all.new.view ≡ changed_by (book c.fired.new.view) list = search (rules, is) in
-    adds old (book c.fired.new.view) (book c.put_all.new.view) c.args.changes.now.items c.list_behind.new.changes.items list (fired (rules_of g.T.Texts.meaning) old c.args.at c.args.due) made
+    adds old (book c.fired.new.view) (book c.put_all.new.view) c.args.changes.now.items c.list_behind.new.changes.items list (fired (rules_of g.P.Programs.meaning) old c.args.at c.args.due) made
     c.in_ok-list_behind.ensures put

@@ -7,6 +7,6 @@ pub returns-clause-decides : goal.returns-clause-decides
 returns-clause-decides g c = λ sure.
     let book = g.V.View.book in
     let fired = c.in_ok-count.ensures.fires (c.least_due.ensures.sure sure) in
-    let is = ticked (rules_of g.T.Texts.meaning) c.args.at (book c.args.view.now) (book c.fire_due.new.view) (book c.least_due.new.self) c.in_ok-due.due c.new-changes.result.items
+    let is = ticked (rules_of g.P.Programs.meaning) c.args.at (book c.args.view.now) (book c.fire_due.new.view) (book c.least_due.new.self) c.in_ok-due.due c.new-changes.result.items
     c.fire_due.new.changes.items c.in_ok-count.count c.new-changes.ensures.items fired (c.in_ok-due.ensures.reads sure) in
     search (rules, is)
