@@ -43,5 +43,6 @@ abbrev pub Stands : List Receipt → Receipt → Type 0
 Stands history r = (1 ≤ r.place) × (slice_get history (r.place - 1) ≡ Some r)
 
 -- it is one of those that were answered by a code
-abbrev pub IsTold : List Refused → Refused → Type 0
-IsTold refused r = (k : ℕ) × (slice_get refused k ≡ Some r)
+pub record IsTold (refused : List Refused) (r : Refused) : Type 0 where
+  pub at : ℕ
+  pub is : slice_get refused at ≡ Some r

@@ -218,7 +218,7 @@ impl<S: Alter, B: Room> Seats<S, B> {
     }
 
     /// What was lent goes back.
-    fn back(&self, keeper: &mut Pass<S, B>) -> Pass<S, B>
+    pub(crate) fn back(&self, keeper: &mut Pass<S, B>) -> Pass<S, B>
         ensures { (keeper.new ≡ keeps_left keeper.old) × (result ≡ handed_back keeper.old) }
     {
         let seat = self.table.shared.split_seat::<Back>(&mut keeper.seat);

@@ -129,6 +129,7 @@ impl<S: Alter, B: Room> State<S, B> {
         ensures enrolled { IfSome result (λ m. (m.0 ≡ self.old.known.members) × (self.new ≡ enrolled self.old)) }
         ensures seat { IfSome result (λ m. m.1 ≡ seeing false self.new.known) }
         ensures share { IfSome result (λ m. (m.2.parts ≡ 1) × (m.2.amount ≡ 0)) }
+        ensures parts { B.parts ≡ 2 ^ 62 }
         ensures none { IfNone result ((self.new ≡ self.old) × (2 ^ 62 ≤ self.old.known.members)) }
     {
         let id = self.known.members;
@@ -235,10 +236,12 @@ impl<S: Alter, B: Room> State<S, B> {
         ensures legal { IsHistory S.Store result.was }
     {
         let old = self.places;
+        // That the stamp is over the last one's tables the publisher has shown of what its seat knows.
+        let seen = seats.tell(&mut self.keeper, me, old, old, &self.known);
         self.places += receipts.len() as u64;
         self.known.publish(&receipts, &stamp);
         stamp.spend();
-        let me = seats.tell(&mut self.keeper, me, old, self.places, &self.known);
+        let me = seats.tell(&mut self.keeper, seen, old, self.places, &self.known);
         self.held = 0;
         if self.answered.append(&mut receipts).is_err() {
             unreachable!();

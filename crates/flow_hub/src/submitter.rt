@@ -1,5 +1,5 @@
 //! The calls of a thread that submits.
-ghost use Rattle.std.specs.Prelude.{◌≡◌, ◌≢◌, ◌+◌, ◌≤◌, false, length, IfOk, IfErr, IfSome, IfNone, OnOk};
+ghost use Rattle.std.specs.Prelude.{◌≡◌, ◌≢◌, ◌+◌, ◌^◌, ◌≤◌, false, length, IfOk, IfErr, IfSome, IfNone, OnOk};
 ghost use Rattle.flow_hub.specs.Asks.{IsOwn, IsGone, IsTold, Stands};
 ghost use Rattle.flow_hub.specs.Knowing.{IsBefore, IsHistory};
 ghost use Rattle.flow_hub.specs.Submitting.{IsTicket, IsDenied, IsReceipt, IsNotDone, IsSettled};
@@ -79,6 +79,7 @@ impl<S: Alter, B: Room> Submitter<S, B> {
     ) -> Submitter<S, B>
         requires seat { (seat.keeps ≡ false) × (seat.pubs ≡ false) }
         requires share { share.parts ≡ 1 }
+        requires parts { B.parts ≡ 2 ^ 62 }
         ensures { result ≡ record { id = id; was = seat.was; parts = 1; amount = share.amount } }
     {
         Submitter {

@@ -1,0 +1,4 @@
+pub mod Growing
+pub mod Moves
+pub mod Lists
+pub mod Sound
