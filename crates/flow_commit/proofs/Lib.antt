@@ -1,3 +1,4 @@
 pub mod Following
 pub mod Ends
+pub mod Lawful
 pub mod RunningOut

@@ -1,29 +1,37 @@
 -- What a keeper keeps, and what becomes of a batch.
-use Rattle.std.specs.Prelude.{◌≡◌, ◌+◌, ℕ, Bool, true, false, List, [], ◌∷◌, length, map, refl}
+use Rattle.std.specs.Prelude.{◌≡◌, ◌+◌, ℕ, zero, suc, Bool, true, false, List, [], ◌∷◌, length, map, refl}
 use Rattle.std.specs.Coded.{Coded, code_by, coded×, coded_ℕ, coded_bool, coded_list}
 use Rattle.sqlite_trees.specs.declared.store.Store.{Ghosts}
 use Rattle.flow_base.specs.declared.command.Command.{Command}
 use Rattle.flow_base.specs.declared.command.Reply.{Reply}
 use Rattle.flow_check.specs.Language.{meaning_of}
 use Rattle.flow_model.specs.Book.{Book}
-use Rattle.flow_model.specs.Apply.{Rules, rules_of, outcome, after, after_one}
+use Rattle.flow_model.specs.Apply.{Rules, rules_of, outcome, after, after_one, replies}
 use Rattle.flow_model.specs.Sound.{IsSound, IsOrderly}
 use Rattle.flow_machine.specs.declared.submission.Taken.{Taken}
 use Rattle.flow_machine.specs.declared.submission.Receipt.{Receipt}
 use Rattle.flow_machine.specs.contracts.submission.Taken as taken_row
+use Rattle.flow_machine.specs.contracts.submission.Receipt as receipt_row
 use Rattle.flow_tables.specs.Owned as tables
 use Rattle.flow_tables.specs.Owned.{Stored, stored_code, state_of, Keeps, LeavesEither}
 
--- The value of a keeper: its tables, how many commands it has kept since they were opened, and whether it has halted.
+-- The value of a keeper: its tables, how many commands it has kept since they were opened, and whether it has halted; for
+-- contracts alone also the tables as they were when it was made, and the receipts of all commands that it has kept since.
 pub record Keeping (S : Type 0) : Type 0 where
   pub stored : Stored S
   pub kept : ℕ
   pub halted : Bool
+  pub base : Stored S
+  pub log : List Receipt
+
+abbrev pub log_code : Coded (List Receipt)
+log_code = coded_list receipt_row.the_row.coded
 
 abbrev pub keeping_code : {S : Type 0} → Coded S → Coded (Keeping S)
 keeping_code {S} store =
-    code_by (Stored S × (ℕ × Bool)) (coded× (stored_code store) (coded× coded_ℕ coded_bool)) (λ k. (k.stored, (k.kept, k.halted)))
-    (λ p. record { stored = p.0; kept = p.1.0; halted = p.1.1 }) (λ _. refl)
+    code_by (Stored S × (ℕ × (Bool × (Stored S × List Receipt)))) (coded× (stored_code store) (coded× coded_ℕ (coded× coded_bool (coded× (stored_code store) log_code))))
+    (λ k. (k.stored, (k.kept, (k.halted, (k.base, k.log)))))
+    (λ p. record { stored = p.0; kept = p.1.0; halted = p.1.1.0; base = p.1.1.1.0; log = p.1.1.1.1 }) (λ _. refl)
 
 -- the rules of the product
 abbrev pub rules : Rules
@@ -49,6 +57,49 @@ kept_book g k = tables.kept_book g k.stored
 -- The keeper keeps this book, and each stop at this moment leaves it.
 abbrev pub KeepsBook : {S : Type 0} → Ghosts S → Keeping S → Book → Type 0
 KeepsBook g k b = Keeps (state_of g k.stored) b
+
+---- What it has kept since it was made
+
+abbrev pub logged_command : Receipt → Command
+logged_command r = r.command
+
+-- the commands of these receipts
+abbrev pub logged : List Receipt → List Command
+logged rs = map logged_command rs
+
+abbrev pub replied : Receipt → Reply
+replied r = r.reply
+
+abbrev pub replied_in : List Receipt → List Reply
+replied_in rs = map replied rs
+
+abbrev pub place_of : Receipt → ℕ
+place_of r = r.place
+
+-- n numbers from first on
+abbrev pub count_from : ℕ → ℕ → List ℕ
+count_from first zero = []
+count_from first (suc n) = first ∷ count_from (suc first) n
+
+-- the replies are those of apply, each at its place among the commands that were applied to a book
+abbrev pub AreReplies : Book → List Receipt → Type 0
+AreReplies b rs = replied_in rs ≡ replies rules b (logged rs)
+
+-- As far as the disk has told no lie it had told none when the keeper was made, and whichever book the tables kept then, all
+-- replies since are those of apply over it.
+abbrev pub IsLegal : {S : Type 0} → Ghosts S → Keeping S → Type 0
+IsLegal g k = IsFit g k → tables.IsFit g k.base × ((b : Book) → Keeps (state_of g k.base) b → AreReplies b k.log)
+
+-- And while the keeper goes on the tables keep the book after all these commands.
+abbrev pub IsAfter : {S : Type 0} → Ghosts S → Keeping S → Type 0
+IsAfter g k = IsFit g k → k.halted ≡ false → (b : Book) → Keeps (state_of g k.base) b → KeepsBook g k (after rules b (logged k.log))
+
+-- What a keeper keeps true of what it has kept: one history, whose places count from 1.
+pub record IsLawful {S : Type 0} (g : Ghosts S) (k : Keeping S) : Type 0 where
+  pub legal : IsLegal g k
+  pub stands : IsAfter g k
+  pub counts : k.kept ≡ length k.log
+  pub places : map place_of k.log ≡ count_from 1 k.kept
 
 ---- A batch
 

@@ -60,8 +60,8 @@ impl Batch {
         &self.taken
     }
 
-    /// The submissions, in their order.
-    pub(crate) fn into_taken(self) -> Vec<Taken>
+    /// The submissions, in their order, as whoever answers a batch that isn't kept needs them.
+    pub fn into_taken(self) -> Vec<Taken>
         ensures same { result.items ≡ self }
         // So they may be a batch again.
         ensures some { 1 ≤ length self }
