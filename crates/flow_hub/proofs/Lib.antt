@@ -2,3 +2,4 @@ pub mod Growing
 pub mod Moves
 pub mod Lists
 pub mod Sound
+pub mod Serving

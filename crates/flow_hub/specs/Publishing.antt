@@ -15,6 +15,12 @@ pub record Together {S : Type 0} (keeper : Keeping S) (k : Known S) : Type 0 whe
   pub over : IsOver k.last (keeper ∷ [])
   pub none : k.held ≡ []
 
+-- These are taken, and in all else keeper and publisher stand together.
+pub record InHand {S : Type 0} (keeper : Keeping S) (k : Known S) (xs : List Taken) : Type 0 where
+  pub log : keeper.log ≡ k.history
+  pub over : IsOver k.last (keeper ∷ [])
+  pub taken : k.held ≡ xs
+
 -- These are taken: the next that were submitted and not taken before, with none left out.
 pub record HasTaken {S : Type 0} (old new : Known S) (xs : List Taken) : Type 0 where
   pub held : new.held ≡ old.held ++ xs

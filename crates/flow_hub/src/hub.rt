@@ -35,10 +35,7 @@ impl<S: Alter, B: Room> Hub<S, B> {
     ///
     /// # Failure
     /// E01.
-    pub fn new(
-        alloc: Global,
-        opened: Opened<S>,
-    ) -> Result<(Publisher<S, B>, Hub<S, B>), AllocError>
+    pub fn new(alloc: Global, opened: Opened<S>) -> Result<(Publisher<S, B>, Hub<S, B>), AllocError>
         requires room { IsRoomOf opened B.table B.name B.parts }
         ensures { IfOk result (λ r. r.0 ≡ nothing) }
     {

@@ -110,8 +110,10 @@ impl<S: Alter> Known<S> {
     pub(crate) fn publish(&mut self, receipts: &Vec<Receipt>, stamp: &Stamp<S>)
         ensures { self.new ≡ with_published self.old stamp.now.keeper receipts.now.items }
     {
-        self.history =
-            Listed::of::<(Listed<Receipt>, &Vec<Receipt>), Behind>(&(self.history.again(), receipts));
+        self.history = Listed::of::<(Listed<Receipt>, &Vec<Receipt>), Behind>(&(
+            self.history.again(),
+            receipts,
+        ));
         self.last = Listed::of::<Stamp<S>, Named>(stamp);
         self.held = Listed::of::<(), Empty>(&());
     }
@@ -120,8 +122,11 @@ impl<S: Alter> Known<S> {
     pub(crate) fn refuse(&mut self, all: &Vec<Taken>, code: Code)
         ensures { self.new ≡ with_refused self.old all.now.items code }
     {
-        self.refused =
-            Listed::of::<(Listed<Refused>, &Vec<Taken>, Code), Answered>(&(self.refused.again(), all, code));
+        self.refused = Listed::of::<(Listed<Refused>, &Vec<Taken>, Code), Answered>(&(
+            self.refused.again(),
+            all,
+            code,
+        ));
         self.held = Listed::of::<(), Empty>(&());
     }
 }

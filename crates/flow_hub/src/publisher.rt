@@ -104,7 +104,10 @@ impl<S: Alter, B: Room> Publisher<S, B> {
     {
         let shared = &*self.shared;
         let me = mem::replace(&mut self.seat, shared.seats.enter());
-        self.seat = shared.state.lock(rt).publish(&shared.seats, me, receipts, stamp);
+        self.seat = shared
+            .state
+            .lock(rt)
+            .publish(&shared.seats, me, receipts, stamp);
         shared.answered.notify_all();
     }
 

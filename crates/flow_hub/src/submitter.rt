@@ -106,11 +106,7 @@ impl<S: Alter, B: Room> Submitter<S, B> {
     /// # Failure
     /// E91 where the hub is closed; else E90 where 1,024 submissions have an answer that wasn't fetched, or none yet, or 2^62
     /// tickets were given. The command comes back.
-    pub fn submit<R: Wait>(
-        &mut self,
-        rt: &R,
-        command: Command,
-    ) -> Result<Ticket, (Command, Denied)>
+    pub fn submit<R: Wait>(&mut self, rt: &R, command: Command) -> Result<Ticket, (Command, Denied)>
         ensures ticket { IfOk result (λ t. IsTicket self.old self.new command t) }
         ensures denied { IfErr result (λ e. (e.0 ≡ command) × IsDenied self.new.was e.1 × (self.new.amount ≡ self.old.amount)) }
         ensures open_until_then { OnOk result (self.old.was.closed ≡ false) }
