@@ -8,6 +8,7 @@ use flow_base::text::{Key, RawText, Text};
 use flow_base::value::Value;
 use flow_check::language::Language;
 use flow_machine::decide::{decide, decide_all};
+use flow_programs::kept::Kept;
 use flow_view::lists::Lists;
 use std::alloc::Global;
 use std::test::Fail;
@@ -86,7 +87,7 @@ fn history(number: u64) -> Result<Command, Fail> {
 
 // A command is decided, and its changes are in the book: what it was answered, and how many changes it made.
 fn put(alloc: Global, book: &mut Lists, command: &Command) -> Result<(Told, usize), Fail> {
-    let (reply, changes) = decide(alloc, &Language, book, command)?;
+    let (reply, changes) = decide(alloc, &mut Kept::new(alloc, Language), book, command)?;
     Ok((in_short(&reply), changes.len()))
 }
 
@@ -175,7 +176,7 @@ fn a_report_is_recorded(rt: HostRuntime) -> Result<(), Fail> {
 fn ask(alloc: Global, book: &mut Lists, command: Command) -> Result<Vec<Reply>, Fail> {
     let mut commands = Vec::new(alloc);
     commands.push(command)?;
-    Ok(decide_all(alloc, &Language, book, &commands)?)
+    Ok(decide_all(alloc, &mut Kept::new(alloc, Language), book, &commands)?)
 }
 
 fn is_open_run(run: &Description) -> bool {
@@ -329,7 +330,7 @@ fn are_path(replies: &[Reply]) -> bool {
 // Whether a text, a start, a report and a question are answered in turn.
 fn is_path_told(alloc: Global, book: &mut Lists) -> Result<bool, Fail> {
     let commands = path(alloc)?;
-    let replies = decide_all(alloc, &Language, book, &commands)?;
+    let replies = decide_all(alloc, &mut Kept::new(alloc, Language), book, &commands)?;
     Ok(are_path(&replies))
 }
 

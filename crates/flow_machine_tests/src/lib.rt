@@ -6,6 +6,8 @@ mod decisions;
 #[cfg(test)]
 mod failures;
 #[cfg(test)]
+mod keeping;
+#[cfg(test)]
 mod lists;
 #[cfg(test)]
 mod signals;

@@ -5,6 +5,7 @@ use flow_base::number::{Moment, RunId};
 use flow_base::text::Text;
 use flow_check::language::Language;
 use flow_machine::decide::decide;
+use flow_programs::kept::Kept;
 use flow_view::lists::Lists;
 use std::alloc::Global;
 use std::test::Fail;
@@ -23,14 +24,14 @@ fn in_short(reply: &Reply, changes: usize) -> Option<Told> {
 
 fn tick(alloc: Global, book: &mut Lists, at: u64) -> Option<Told> {
     let command = Command::Tick(Moment::new(at)?);
-    let (reply, changes) = decide(alloc, &Language, book, &command).ok()?;
+    let (reply, changes) = decide(alloc, &mut Kept::new(alloc, Language), book, &command).ok()?;
     in_short(&reply, changes.len())
 }
 
 fn end(alloc: Global, book: &mut Lists, at: u64) -> Option<usize> {
     let reason = Text::new(alloc, "why").ok()?;
     let command = Command::Terminate(RunId::new(1)?, reason, Moment::new(at)?);
-    let (_, changes) = decide(alloc, &Language, book, &command).ok()?;
+    let (_, changes) = decide(alloc, &mut Kept::new(alloc, Language), book, &command).ok()?;
     Some(changes.len())
 }
 

@@ -9,6 +9,7 @@ use flow_commit::batch::Batch;
 use flow_commit::keeper::Keeper;
 use flow_commit::outcome::Outcome;
 use flow_machine::decide::decide;
+use flow_programs::kept::Kept;
 use flow_recover::positions::Position;
 use flow_recover::recover::recover;
 use flow_recover::reopen::reopen;
@@ -126,7 +127,7 @@ fn keep_call<S: Alter>(alloc: Global, conn: Connection<S>, call: Call) -> (bool,
 fn decided<S: Alter>(alloc: Global, tables: &mut Tables<S>, call: Call) -> bool {
     match command(alloc, call) {
         Some(command) => {
-            tables.begin().is_ok() && decide(alloc, &Language, tables, &command).is_ok()
+            tables.begin().is_ok() && decide(alloc, &mut Kept::new(alloc, Language), tables, &command).is_ok()
         }
         None => false,
     }

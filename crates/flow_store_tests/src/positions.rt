@@ -11,6 +11,7 @@ use flow_base::text::{Key, RawText};
 use flow_base::value::Value;
 use flow_check::language::Language;
 use flow_machine::decide::decide;
+use flow_programs::kept::Kept;
 use flow_recover::positions::{Position, positions};
 use flow_rows::book::WholeBook;
 use flow_view::lists::Lists;
@@ -21,7 +22,7 @@ use std::test::Fail;
 
 fn is_decided(alloc: Global, book: &mut Lists, command: Option<Command>) -> bool {
     match command {
-        Some(command) => decide(alloc, &Language, book, &command).is_ok(),
+        Some(command) => decide(alloc, &mut Kept::new(alloc, Language), book, &command).is_ok(),
         None => false,
     }
 }
@@ -69,12 +70,12 @@ fn whole(alloc: Global, book: &mut Lists) -> Option<WholeBook> {
 
 fn answer(alloc: Global, book: &mut Lists) -> Option<Result<Vec<Position>, Fault>> {
     let whole = whole(alloc, book)?;
-    Some(positions(alloc, &Language, &whole))
+    Some(positions(alloc, &mut Kept::new(alloc, Language), &whole))
 }
 
 fn found(alloc: Global, book: &mut Lists) -> Result<Vec<Position>, Fail> {
     let whole = whole(alloc, book).ok_or("no book")?;
-    Ok(positions(alloc, &Language, &whole)?)
+    Ok(positions(alloc, &mut Kept::new(alloc, Language), &whole)?)
 }
 
 // The first turn of a run, with no command behind the start.

@@ -2,23 +2,23 @@
 ghost use Rattle.flow_model.specs.Apply.{rules_of};
 
 use flow_base::command::Command;
-use flow_check::texts::Texts;
 use flow_machine::answer::{Answer, Answering, Stop, Together};
 use flow_machine::decide::{decide, decide_all};
+use flow_programs::programs::Programs;
 use flow_view::view::View;
 use std::alloc::Global;
 
 /// Decides commands over a view that nobody rolls back, as the plain lists: where one can't be decided nobody knows which of its
 /// changes the view holds.
 #[derive(Drop)]
-pub struct Deciding<'a, V, T> {
+pub struct Deciding<V, P> {
     pub alloc: Global,
-    pub texts: &'a T,
+    pub programs: P,
     pub view: V,
 }
 
-impl<'a, V: View + Drop, T: Texts> Answering for Deciding<'a, V, T> {
-    ghost rules = { rules_of T.meaning };
+impl<V: View + Drop, P: Programs + Drop> Answering for Deciding<V, P> {
+    ghost rules = { rules_of P.meaning };
 
     ghost book = { λ s. V.book s.view };
 
@@ -32,14 +32,19 @@ impl<'a, V: View + Drop, T: Texts> Answering for Deciding<'a, V, T> {
     ghost stops = { λ s b cs stop. Unit {0} };
 
     fn answer(&mut self, command: Command) -> Result<Answer, Stop> {
-        match decide(self.alloc, self.texts, &mut self.view, &command) {
+        match decide(self.alloc, &mut self.programs, &mut self.view, &command) {
             Ok((reply, _)) => Ok(Answer::Replied(reply)),
             Err(_) => Err(Stop::Unknown),
         }
     }
 
     fn answer_together(&mut self, commands: Vec<Command>) -> Result<Together, Stop> {
-        match decide_all(self.alloc, self.texts, &mut self.view, commands.as_slice()) {
+        match decide_all(
+            self.alloc,
+            &mut self.programs,
+            &mut self.view,
+            commands.as_slice(),
+        ) {
             Ok(replies) => Ok(Together::Replied(replies)),
             Err(_) => Err(Stop::Unknown),
         }

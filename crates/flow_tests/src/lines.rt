@@ -6,16 +6,17 @@ use flow_check::language::Language;
 use flow_cli::batch::BatchSize;
 use flow_cli::drive::{Stopped, drive_lines, end_status};
 use flow_cli::work::{Work, perform};
+use flow_programs::kept::Kept;
 use flow_view::lists::Lists;
 use std::alloc::Global;
 use std::io;
 use std::io::{ErrorKind, Write};
 use std::test::Fail;
 
-pub(crate) fn over_lists<'a>(alloc: Global) -> Deciding<'a, Lists, Language> {
+pub(crate) fn over_lists(alloc: Global) -> Deciding<Lists, Kept<Language>> {
     Deciding {
         alloc,
-        texts: &Language,
+        programs: Kept::new(alloc, Language),
         view: Lists::new(alloc),
     }
 }
