@@ -1,0 +1,5 @@
+pub mod Growing
+pub mod Moves
+pub mod Lists
+pub mod Sound
+pub mod Serving

@@ -1,0 +1,56 @@
+-- A keeper and a publisher that stand together go on so, whatever becomes of a batch.
+use Rattle.std.proofs.Common.{◌≡◌, ◌+◌, List, [], ◌∷◌, ◌++◌, length, map, refl, sym, ap, ◌∙◌, subst, arith}
+use Rattle.flow_base.specs.declared.code.Code.{Code}
+use Rattle.flow_machine.specs.declared.submission.Receipt.{Receipt}
+use Rattle.flow_machine.specs.declared.submission.Taken.{Taken}
+use Rattle.flow_commit.specs.Keeping.{Keeping}
+use Rattle.flow_commit.specs.Committing.{taken_of, IsStampOf}
+use Rattle.flow_commit.specs.Stamps.{Stamped}
+use Rattle.flow_hub.specs.declared.known.Known.{Known}
+use Rattle.flow_hub.specs.Knowing.{IsOver}
+use Rattle.flow_hub.specs.Publishing.{Together, InHand, HasTaken, Answers, HasPublished, HasRefused}
+
+module _ {S : Type 0} where
+  -- a later keeper over the same tables is over what the earlier one was over
+  over_by : (ks : List (Keeping S)) (old new : Keeping S) → new.base ≡ old.base → IsOver ks (old ∷ []) → IsOver ks (new ∷ [])
+  over_by [] old new e o = tt
+  over_by (k ∷ ks) old new e o = e ∙ o
+
+  pub takes_in_hand : (keeper : Keeping S) (old new : Known S) (xs : List Taken) → Together keeper old → HasTaken old new xs → InHand keeper new xs
+  takes_in_hand keeper old new xs t h = record {
+    log = t.log ∙ sym h.history;
+    over = subst (λ ks. IsOver ks (keeper ∷ [])) (sym h.last) t.over;
+    taken = h.held ∙ ap (λ l. l ++ xs) t.none;
+  }
+
+  -- where nothing was taken they still stand together
+  pub still_together : (keeper : Keeping S) (old new : Known S) (xs : List Taken) → xs ≡ [] → Together keeper old → HasTaken old new xs → Together keeper new
+  still_together keeper old new xs none t h =
+      let i = takes_in_hand keeper old new xs t h in
+      record { log = i.log; over = i.over; none = i.taken ∙ none }
+
+  pub receipts_answer : (old new : Keeping S) (k : Known S) (stamp : Stamped S) (xs : List Taken) (rs : List Receipt) → InHand old k xs → new.base ≡ old.base
+      → map taken_of rs ≡ xs → new.log ≡ old.log ++ rs → IsStampOf new rs stamp → Answers k stamp rs
+  receipts_answer old new k stamp xs rs h base asked log is = record {
+    asked = asked ∙ sym h.taken;
+    own = ap (λ (s : Stamped S). s.own) is;
+    log = ap (λ (s : Stamped S). s.keeper.log) is ∙ (log ∙ ap (λ l. l ++ rs) h.log);
+    over = subst (λ (s : Stamped S). IsOver k.last (s.keeper ∷ [])) (sym is) (over_by k.last old new base h.over);
+  }
+
+  pub published_together : (new : Keeping S) (was k : Known S) (stamp : Stamped S) (rs : List Receipt) → IsStampOf new rs stamp → HasPublished was k stamp rs → Together new k
+  published_together new was k stamp rs is h =
+      let keeper : stamp.keeper ≡ new = ap (λ (s : Stamped S). s.keeper) is in
+      record {
+        log = sym (h.log ∙ ap (λ (n : Keeping S). n.log) keeper);
+        over = subst (λ ks. IsOver ks (new ∷ [])) (sym (h.last ∙ ap (λ n. n ∷ []) keeper)) refl;
+        none = h.held;
+      }
+
+  pub refused_together : (old new : Keeping S) (was k : Known S) (xs : List Taken) (code : Code) → InHand old was xs → new.log ≡ old.log → new.base ≡ old.base
+      → HasRefused was k xs code → Together new k
+  refused_together old new was k xs code h log base r = record {
+    log = log ∙ (h.log ∙ sym r.history);
+    over = subst (λ ks. IsOver ks (new ∷ [])) (sym r.last) (over_by was.last old new base h.over);
+    none = r.held;
+  }

@@ -1,0 +1,28 @@
+use Rattle.std.proofs.Common.{rules, inr, refl}
+use Rattle.flow_hub.proofs.Growing.{closes_on, closes_part, grows_by, part_by}
+use Rattle.flow_hub.proofs.Sound.{closes}
+use Rattle.flow_hub.proofs.state.State.close.Goals as goal
+
+pub invariant_of-self : goal.invariant_of-self
+invariant_of-self g c = (
+  closes g.S.Store _ c.self.invariant.0,
+  search rules,
+  search rules,
+  search rules,
+  search rules,
+  search rules,
+  search rules,
+  search rules,
+  search rules,
+  search rules,
+  search rules,
+  search rules,
+  search rules,
+  search rules,
+)
+
+pub tell-requires-clause-may : goal.tell-requires-clause-may
+tell-requires-clause-may g c = inr (part_by c.self.inside.keeper.all c.self.inside.known _ _ c.self.invariant.13 refl (closes_part c.self.inside.known))
+
+pub tell-requires-clause-grows : goal.tell-requires-clause-grows
+tell-requires-clause-grows g c = grows_by c.self.inside.keeper.all c.self.inside.known _ _ c.self.invariant.13 refl (closes_on c.self.inside.known)

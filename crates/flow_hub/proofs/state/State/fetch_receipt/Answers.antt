@@ -1,0 +1,29 @@
+use Rattle.std.proofs.Common.{rules, inr, refl, arith}
+use Rattle.flow_hub.proofs.Growing.{fetches_on, fetches_part, grows_by, part_by}
+use Rattle.flow_hub.proofs.Sound.{fetches}
+use Rattle.flow_hub.proofs.state.State.fetch_receipt.Goals as goal
+
+pub invariant_of-self : goal.invariant_of-self
+invariant_of-self g c = (
+  fetches g.S.Store _ c.remove-receipt.new.self.items c.in-Some.k c.remove-receipt.ensures.by_index.2
+      (omega (arith, c.remove-receipt.ensures.len, c.remove-receipt.new.self.ok.0, c.self.inside.answered.ok.0)) c.self.invariant.0,
+  search rules,
+  search rules,
+  search rules,
+  search rules,
+  search rules,
+  search rules,
+  search rules,
+  search rules,
+  search rules,
+  search rules,
+  search rules,
+  search rules,
+  search rules,
+)
+
+pub tell-me-requires-clause-may : goal.tell-me-requires-clause-may
+tell-me-requires-clause-may g c = inr (part_by c.self.inside.keeper.all c.self.inside.known _ _ c.self.invariant.13 refl (fetches_part c.self.inside.known))
+
+pub tell-me-requires-clause-grows : goal.tell-me-requires-clause-grows
+tell-me-requires-clause-grows g c = grows_by c.self.inside.keeper.all c.self.inside.known _ _ c.self.invariant.13 refl (fetches_on c.self.inside.known)

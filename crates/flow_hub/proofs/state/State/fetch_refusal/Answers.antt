@@ -1,0 +1,29 @@
+use Rattle.std.proofs.Common.{rules, inr, refl, arith}
+use Rattle.flow_hub.proofs.Growing.{fetches_on, fetches_part, grows_by, part_by}
+use Rattle.flow_hub.proofs.Sound.{lets_go}
+use Rattle.flow_hub.proofs.state.State.fetch_refusal.Goals as goal
+
+pub invariant_of-self : goal.invariant_of-self
+invariant_of-self g c = (
+  lets_go g.S.Store _ c.remove-refused.new.self.items c.in-Some.k c.remove-refused.ensures.by_index.2
+      (omega (arith, c.remove-refused.ensures.len, c.remove-refused.new.self.ok.0, c.self.inside.refused.ok.0)) c.self.invariant.0,
+  search rules,
+  search rules,
+  search rules,
+  search rules,
+  search rules,
+  search rules,
+  search rules,
+  search rules,
+  search rules,
+  search rules,
+  search rules,
+  search rules,
+  search rules,
+)
+
+pub tell-me-requires-clause-may : goal.tell-me-requires-clause-may
+tell-me-requires-clause-may g c = inr (part_by c.self.inside.keeper.all c.self.inside.known _ _ c.self.invariant.13 refl (fetches_part c.self.inside.known))
+
+pub tell-me-requires-clause-grows : goal.tell-me-requires-clause-grows
+tell-me-requires-clause-grows g c = grows_by c.self.inside.keeper.all c.self.inside.known _ _ c.self.invariant.13 refl (fetches_on c.self.inside.known)

@@ -1,0 +1,60 @@
+use Rattle.std.proofs.Common.{rules, ◌≡◌, ◌+◌, ◌++◌, length, refl, ap, sym, ◌∙◌, arith, length-append, subst, vec_len}
+use Rattle.flow_commit.specs.Committing.{taken_of}
+use Rattle.flow_hub.specs.Knowing.{IsSamePart, with_published}
+use Rattle.flow_hub.specs.Publishing.{Answers}
+use Rattle.flow_hub.proofs.Growing.{before_self, part_by, publishes_on, grows_by}
+use Rattle.flow_hub.proofs.Lists.{length-mapped}
+use Rattle.flow_hub.proofs.Moves.{all_of, was_of}
+use Rattle.flow_hub.proofs.Sound.{publishes, published_history, has_published, published_by, history_by, same_answers}
+use Rattle.flow_hub.proofs.state.State.publish.Goals as goal
+
+pub invariant_of-self : goal.invariant_of-self
+invariant_of-self g c =
+    let rs = c.args.receipts.items in
+    let i = c.self.inside in
+    let same : IsSamePart c.args.me.was i.known = search rules in
+    let asked : Answers i.known c.args.stamp rs = same_answers g.S.Store c.args.me.was i.known c.args.stamp rs same c.requires.answers in
+    let answered : c.append.new.self.items ≡ i.answered.items ++ rs = search rules in
+    let count : c.len.result ≡ length rs = search rules in
+    let len : vec_len c.append.new.self ≡ vec_len i.answered + length rs = search rules in
+    let held : length i.known.held ≡ length rs = sym (ap length asked.asked) ∙ length-mapped taken_of rs in
+    let longer : length (i.known.history ++ rs) ≡ length i.known.history + length rs = length-append i.known.history rs in (
+      rw (c.publish.ensures, answered) (publishes g.S.Store _ c.args.stamp rs c.self.invariant.0 asked c.spend.ensures.lawful),
+      search rules,
+      rw c.publish.ensures (omega (arith, c.self.invariant.2, count, longer)),
+      search rules,
+      search rules,
+      search rules,
+      search rules,
+      omega (arith, len, held, c.self.invariant.1, c.self.invariant.7),
+      search rules,
+      search rules,
+      search rules,
+      search rules,
+      search rules,
+      search rules,
+    )
+
+pub tell-me-requires-clause-grows : goal.tell-me-requires-clause-grows
+tell-me-requires-clause-grows g c =
+    let i = c.self.inside in
+    let same : IsSamePart c.args.me.was i.known = search rules in
+    let asked : Answers i.known c.args.stamp c.args.receipts.items = same_answers g.S.Store c.args.me.was i.known c.args.stamp c.args.receipts.items same c.requires.answers in
+    grows_by c.tell-seen.new.keeper.all i.known _ c.publish.new.self (all_of c.tell-seen.new.keeper i.known c.tell-seen.ensures.keeper) c.publish.ensures (publishes_on i.known _ _ asked.over)
+
+pub returns-clause-legal : goal.returns-clause-legal
+returns-clause-legal g c =
+    let i = c.self.inside in
+    let rs = c.args.receipts.items in
+    let same : IsSamePart c.args.me.was i.known = search rules in
+    let asked : Answers i.known c.args.stamp rs = same_answers g.S.Store c.args.me.was i.known c.args.stamp rs same c.requires.answers in
+    let was = was_of c.tell-me.result _ c.publish.new.self c.tell-me.ensures.told ∙ c.publish.ensures in
+    history_by g.S.Store c.tell-me.result.was _ was (published_history g.S.Store _ c.args.stamp rs c.self.invariant.0 asked c.spend.ensures.lawful)
+
+pub returns-clause-seen : goal.returns-clause-seen
+returns-clause-seen g c =
+    let i = c.self.inside in
+    let rs = c.args.receipts.items in
+    let same : IsSamePart c.args.me.was i.known = search rules in
+    let was = was_of c.tell-me.result _ c.publish.new.self c.tell-me.ensures.told ∙ c.publish.ensures in
+    published_by c.args.me.was c.tell-me.result.was _ c.args.stamp rs was (has_published g.S.Store i.known c.args.me.was c.args.stamp rs same c.requires.answers)

@@ -1,0 +1,81 @@
+-- What lies under the lock, as plain data.
+use Rattle.std.specs.Prelude.{ℕ, Bool, ◌+◌, ◌≤◌, ◌<◌, ◌^◌, ◌⊎◌, ◌≡◌, true, false, List, [], ◌∷◌, ◌++◌, length, map, All, refl}
+use Rattle.std.specs.Coded.{Coded, code_by, coded×, coded_ℕ}
+use Rattle.sqlite_trees.specs.declared.store.Store.{Ghosts}
+use Rattle.flow_base.specs.declared.code.Code.{Code}
+use Rattle.flow_base.specs.declared.command.Command.{Command}
+use Rattle.flow_machine.specs.declared.submission.Receipt.{Receipt}
+use Rattle.flow_machine.specs.declared.submission.Taken.{Taken}
+use Rattle.flow_commit.specs.Keeping.{Keeping, log_code, batch_code, count_from}
+use Rattle.flow_hub.specs.declared.known.Known.{Known}
+use Rattle.flow_hub.specs.declared.refused.Refused.{Refused}
+use Rattle.flow_hub.specs.Asks.{tickets_in, IsAsked, IsOwn, IsGone, IsTold, Stands}
+use Rattle.flow_hub.specs.Knowing.{IsHistory, answered_in, known_code, refusals_code, refused_by, with_ask, with_taken, with_published, with_refused, with_fetched, with_member, with_closed}
+
+-- What is known of the hub, and the three lists that its calls work on: what waits, and the answers that were not fetched.
+pub record Hall (S : Type 0) : Type 0 where
+  pub known : Known S
+  pub waiting : List Taken
+  pub answered : List Receipt
+  pub refused : List Refused
+  pub given : ℕ  -- how many tickets were given
+  pub shares : ℕ  -- the sum of the submitters' shares
+
+abbrev pub hall_code : {S : Type 0} → Coded S → Coded (Hall S)
+hall_code {S} store =
+    code_by (Known S × (List Taken × (List Receipt × (List Refused × (ℕ × ℕ)))))
+    (coded× (known_code store) (coded× batch_code (coded× log_code (coded× refusals_code (coded× coded_ℕ coded_ℕ)))))
+    (λ h. (h.known, (h.waiting, (h.answered, (h.refused, (h.given, h.shares))))))
+    (λ p. record { known = p.0; waiting = p.1.0; answered = p.1.1.0; refused = p.1.1.1.0; given = p.1.1.1.1.0; shares = p.1.1.1.1.1 })
+    (λ _. refl)
+
+-- submissions whose answer was not fetched
+abbrev pub unfetched : {S : Type 0} → Hall S → ℕ
+unfetched h = length h.waiting + length h.known.held + length h.answered + length h.refused
+
+-- What holds whenever the lock is free.
+pub record IsSound {S : Type 0} (g : Ghosts S) (h : Hall S) : Type 0 where
+  pub legal : IsHistory g h.known  -- one history
+  pub order : tickets_in (h.known.held ++ h.waiting) ≡ count_from (answered_in h.known) (length h.known.held + length h.waiting)
+  pub counts : h.given ≡ answered_in h.known + (length h.known.held + length h.waiting)  -- each ticket is answered, taken or waits
+  pub shared : h.shares ≡ h.given
+  pub asked : length h.known.asked ≡ h.given
+  pub fetched : h.given ≡ h.known.fetched + unfetched h
+  pub taken : All (IsAsked h.known.asked) h.known.held
+  pub pending : All (IsAsked h.known.asked) h.waiting
+  pub own : All (IsOwn h.known.asked) h.answered
+  pub gone : All (IsGone h.known.asked) h.refused
+  pub stand : All (Stands h.known.history) h.answered
+  pub told : All (IsTold h.known.refused) h.refused
+
+abbrev pub new_ask : {S : Type 0} → Hall S → Command → Taken
+new_ask h c = record { ticket = h.given; command = c }
+
+-- a command joins those that wait
+abbrev pub submitted : {S : Type 0} → Hall S → Command → Hall S
+submitted h c = record h { known = with_ask h.known (new_ask h c); waiting = h.waiting ++ new_ask h c ∷ []; given = h.given + 1; shares = h.shares + 1 }
+
+-- these are taken, and the rest waits on
+abbrev pub took : {S : Type 0} → Hall S → List Taken → List Taken → Hall S
+took h xs rest = record h { known = with_taken h.known xs; waiting = rest }
+
+-- the receipts answer all that was taken
+abbrev pub published : {S : Type 0} → Hall S → Keeping S → List Receipt → Hall S
+published h keeper rs = record h { known = with_published h.known keeper rs; answered = h.answered ++ rs }
+
+-- all that was taken is answered by a code
+abbrev pub refused_all : {S : Type 0} → Hall S → Code → Hall S
+refused_all h code = record h { known = with_refused h.known h.known.held code; refused = h.refused ++ map (refused_by code) h.known.held }
+
+-- one answer fewer, which was fetched
+abbrev pub fetched_receipt : {S : Type 0} → Hall S → List Receipt → Hall S
+fetched_receipt h rs = record h { known = with_fetched h.known; answered = rs }
+
+abbrev pub fetched_refusal : {S : Type 0} → Hall S → List Refused → Hall S
+fetched_refusal h rs = record h { known = with_fetched h.known; refused = rs }
+
+abbrev pub enrolled : {S : Type 0} → Hall S → Hall S
+enrolled h = record h { known = with_member h.known }
+
+abbrev pub closed : {S : Type 0} → Hall S → Hall S
+closed h = record h { known = with_closed h.known }

@@ -1,0 +1,96 @@
+-- What threads know of a hub, how it changes, and how it grows.
+use Rattle.std.specs.Prelude.{ℕ, ◌≡◌, ◌≤◌, ◌+◌, Bool, true, false, List, [], ◌∷◌, ◌++◌, length, map, refl}
+use Rattle.std.specs.Coded.{Coded, code_by, coded×, coded_ℕ, coded_bool, coded_list}
+use mathlib.Core.List.{IsPrefix}
+use Rattle.sqlite_trees.specs.declared.store.Store.{Ghosts}
+use Rattle.flow_base.specs.declared.code.Code.{Code}
+use Rattle.flow_machine.specs.declared.submission.Receipt.{Receipt}
+use Rattle.flow_machine.specs.declared.submission.Taken.{Taken}
+use Rattle.flow_commit.specs.Keeping.{Keeping, IsLegal, keeping_code, log_code, batch_code}
+use Rattle.flow_hub.specs.declared.known.Known.{Known}
+use Rattle.flow_hub.specs.declared.refused.Refused.{Refused}
+use Rattle.flow_hub.specs.contracts.refused.Refused as refused_row
+use Rattle.flow_hub.specs.Asks.{Rises, tickets_of}
+
+abbrev pub refusals_code : Coded (List Refused)
+refusals_code = coded_list refused_row.the_row.coded
+
+abbrev pub known_code : {S : Type 0} → Coded S → Coded (Known S)
+known_code {S} store =
+    code_by (List Taken × (List Receipt × (List Refused × (List (Keeping S) × (List Taken × (ℕ × (ℕ × Bool)))))))
+    (coded× batch_code (coded× log_code (coded× refusals_code (coded× (coded_list (keeping_code store)) (coded× batch_code (coded× coded_ℕ (coded× coded_ℕ coded_bool)))))))
+    (λ k. (k.asked, (k.history, (k.refused, (k.last, (k.held, (k.fetched, (k.members, k.closed))))))))
+    (λ p. record { asked = p.0; history = p.1.0; refused = p.1.1.0; last = p.1.1.1.0; held = p.1.1.1.1.0; fetched = p.1.1.1.1.1.0; members = p.1.1.1.1.1.1.0; closed = p.1.1.1.1.1.1.1 })
+    (λ _. refl)
+
+abbrev pub nothing : {S : Type 0} → Known S
+nothing {S} = record { asked = []; history = []; refused = []; last = []; held = []; fetched = 0; members = 0; closed = false }
+
+-- how many submissions are answered, by a receipt or by a code
+abbrev pub answered_in : {S : Type 0} → Known S → ℕ
+answered_in k = length k.history + length k.refused
+
+---- How it changes
+
+abbrev pub refused_by : Code → Taken → Refused
+refused_by code t = record { asked = t; code = code }
+
+abbrev pub with_ask : {S : Type 0} → Known S → Taken → Known S
+with_ask k t = record k { asked = k.asked ++ t ∷ [] }
+
+abbrev pub with_taken : {S : Type 0} → Known S → List Taken → Known S
+with_taken k xs = record k { held = k.held ++ xs }
+
+abbrev pub with_published : {S : Type 0} → Known S → Keeping S → List Receipt → Known S
+with_published k keeper rs = record k { history = k.history ++ rs; last = keeper ∷ []; held = [] }
+
+abbrev pub with_refused : {S : Type 0} → Known S → List Taken → Code → Known S
+with_refused k xs code = record k { refused = k.refused ++ map (refused_by code) xs; held = [] }
+
+abbrev pub with_fetched : {S : Type 0} → Known S → Known S
+with_fetched k = record k { fetched = k.fetched + 1 }
+
+abbrev pub with_member : {S : Type 0} → Known S → Known S
+with_member k = record k { members = k.members + 1 }
+
+abbrev pub with_closed : {S : Type 0} → Known S → Known S
+with_closed k = record k { closed = true }
+
+---- How it grows
+
+-- The later stamp's keeper was made over the tables of the earlier one's.
+abbrev pub IsOver : {S : Type 0} → List (Keeping S) → List (Keeping S) → Type 0
+IsOver [] ls = Unit {0}
+IsOver (k ∷ ks) [] = ⊥
+IsOver (k ∷ ks) (l ∷ ls) = l.base ≡ k.base
+
+-- What was submitted, the history and what was answered by a code only grow; all stamps have one base; answers that were fetched
+-- and submitters are counted on; and what is closed stays so.
+pub record IsBefore {S : Type 0} (k l : Known S) : Type 0 where
+  pub asked : IsPrefix k.asked l.asked
+  pub history : IsPrefix k.history l.history
+  pub refused : IsPrefix k.refused l.refused
+  pub over : IsOver k.last l.last
+  pub fetched : k.fetched ≤ l.fetched
+  pub members : k.members ≤ l.members
+  pub closed : k.closed ≡ true → l.closed ≡ true
+
+-- What the publisher alone changes is the same: the history, the last stamp, what was answered by a code, and what is taken.
+pub record IsSamePart {S : Type 0} (k l : Known S) : Type 0 where
+  pub history : k.history ≡ l.history
+  pub refused : k.refused ≡ l.refused
+  pub last : k.last ≡ l.last
+  pub held : k.held ≡ l.held
+
+---- One history
+
+-- The history is all that the keeper has kept that the last stamp names, and its replies are those of apply over whichever book
+-- was kept at opening, as far as the disk had told no lie by then. Before the first stamp it is empty.
+abbrev pub IsKept : {S : Type 0} → Ghosts S → List (Keeping S) → List Receipt → Type 0
+IsKept g [] history = history ≡ []
+IsKept g (k ∷ ks) history = (history ≡ k.log) × IsLegal g k
+
+-- and its tickets rise
+pub record IsHistory {S : Type 0} (g : Ghosts S) (k : Known S) : Type 0 where
+  pub kept : IsKept g k.last k.history
+  pub rising : Rises 0 (tickets_of k.history) (answered_in k)

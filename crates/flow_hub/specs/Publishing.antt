@@ -1,0 +1,59 @@
+-- What the publisher does.
+use Rattle.std.specs.Prelude.{ℕ, ◌≡◌, ◌+◌, true, List, [], ◌∷◌, ◌++◌, length, map, All}
+use Rattle.flow_base.specs.declared.code.Code.{Code}
+use Rattle.flow_machine.specs.declared.submission.Receipt.{Receipt}
+use Rattle.flow_machine.specs.declared.submission.Taken.{Taken}
+use Rattle.flow_commit.specs.Keeping.{Keeping, count_from}
+use Rattle.flow_commit.specs.Stamps.{Stamped}
+use Rattle.flow_hub.specs.declared.known.Known.{Known}
+use Rattle.flow_hub.specs.Asks.{IsAsked, tickets_in, takens_of}
+use Rattle.flow_hub.specs.Knowing.{IsOver, answered_in, refused_by}
+
+-- What the keeper has kept is what the publisher has published, over the same tables, and nothing is taken.
+pub record Together {S : Type 0} (keeper : Keeping S) (k : Known S) : Type 0 where
+  pub log : keeper.log ≡ k.history
+  pub over : IsOver k.last (keeper ∷ [])
+  pub none : k.held ≡ []
+
+-- These are taken, and in all else keeper and publisher stand together.
+pub record InHand {S : Type 0} (keeper : Keeping S) (k : Known S) (xs : List Taken) : Type 0 where
+  pub log : keeper.log ≡ k.history
+  pub over : IsOver k.last (keeper ∷ [])
+  pub taken : k.held ≡ xs
+
+-- These are taken: the next that were submitted and not taken before, with none left out.
+pub record HasTaken {S : Type 0} (old new : Known S) (xs : List Taken) : Type 0 where
+  pub held : new.held ≡ old.held ++ xs
+  pub history : new.history ≡ old.history
+  pub refused : new.refused ≡ old.refused
+  pub last : new.last ≡ old.last
+  pub asked : All (IsAsked new.asked) xs
+  pub order : tickets_in xs ≡ count_from (answered_in old + length old.held) (length xs)
+
+-- Nothing more is taken in, and all that was submitted is answered or taken.
+pub record IsDone {S : Type 0} (k : Known S) : Type 0 where
+  pub closed : k.closed ≡ true
+  pub empty : length k.asked ≡ answered_in k + length k.held
+
+-- The receipts are those of the stamp, and answer what was taken, whole and in order; and with them all that the stamp's keeper
+-- has kept is published, and nothing twice.
+pub record Answers {S : Type 0} (k : Known S) (stamp : Stamped S) (rs : List Receipt) : Type 0 where
+  pub asked : takens_of rs ≡ k.held
+  pub own : stamp.own ≡ rs
+  pub log : stamp.keeper.log ≡ k.history ++ rs
+  pub over : IsOver k.last (stamp.keeper ∷ [])
+
+-- The history has these receipts more, and is all that the stamp's keeper has kept.
+pub record HasPublished {S : Type 0} (old new : Known S) (stamp : Stamped S) (rs : List Receipt) : Type 0 where
+  pub history : new.history ≡ old.history ++ rs
+  pub log : new.history ≡ stamp.keeper.log
+  pub last : new.last ≡ stamp.keeper ∷ []
+  pub held : new.held ≡ []
+  pub refused : new.refused ≡ old.refused
+
+-- These are answered by a code.
+pub record HasRefused {S : Type 0} (old new : Known S) (xs : List Taken) (code : Code) : Type 0 where
+  pub refused : new.refused ≡ old.refused ++ map (refused_by code) xs
+  pub held : new.held ≡ []
+  pub history : new.history ≡ old.history
+  pub last : new.last ≡ old.last

@@ -1,0 +1,21 @@
+-- The numbers of what a hub refuses.
+use Rattle.std.specs.Prelude.{ℕ}
+use Rattle.flow_base.specs.Codes.{code_number}
+use Rattle.flow_hub.specs.declared.denied.Denied.{Denied}
+use Rattle.flow_hub.specs.declared.denied.Denied.TheVariants as denied
+use Rattle.flow_hub.specs.declared.denied.Unseated.{Unseated}
+use Rattle.flow_hub.specs.declared.denied.Unseated.TheVariants as unseated
+use Rattle.flow_hub.specs.declared.ticket.Why.{Why}
+use Rattle.flow_hub.specs.declared.ticket.Why.TheVariants as why
+
+abbrev pub denied_number : Denied → ℕ
+denied_number denied.InboxFull = 90
+denied_number denied.HubClosed = 91
+
+abbrev pub unseated_number : Unseated → ℕ
+unseated_number unseated.NoMemory = 1
+unseated_number unseated.InboxFull = 90
+
+abbrev pub why_number : Why → ℕ
+why_number why.NotMine = 92
+why_number (why.Refused code) = code_number code

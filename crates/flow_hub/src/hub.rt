@@ -1,0 +1,78 @@
+//! The hub: what its threads share.
+ghost use Rattle.std.specs.Prelude.{◌≡◌, ◌+◌, IfOk};
+ghost use Rattle.flow_hub.specs.Knowing.{nothing};
+ghost use Rattle.flow_hub.specs.Seating.{IsRoomOf};
+
+use crate::denied::Unseated;
+use crate::publisher::Publisher;
+use crate::seats::{Opened, Room, Seats};
+use crate::state::State;
+use crate::submitter::Submitter;
+use sqlite::Alter;
+use std::alloc::{AllocError, Global};
+use std::sync::{Arc, Condvar, Mutex, Wait};
+
+/// What the threads of a hub share.
+#[derive(Drop)]
+pub(crate) struct Shared<S: Alter, B: Room> {
+    pub(crate) seats: Seats<S, B>,
+    pub(crate) state: Mutex<State<S, B>>,
+    /// Told when something waits, and at closing.
+    pub(crate) asked: Condvar,
+    /// Told when something was answered.
+    pub(crate) answered: Condvar,
+}
+
+/// Takes commands from submitters on many threads, for one publisher, who answers them.
+#[derive(Drop)]
+pub struct Hub<S: Alter, B: Room> {
+    shared: Arc<Shared<S, B>>,
+}
+
+impl<S: Alter, B: Room> Hub<S, B> {
+    /// A hub to which nothing was submitted, and its one publisher. It asks for the room of 1,024 submissions, so that neither
+    /// submitting nor waiting nor taking nor answering takes memory.
+    ///
+    /// # Failure
+    /// E01.
+    pub fn new(alloc: Global, opened: Opened<S>) -> Result<(Publisher<S, B>, Hub<S, B>), AllocError>
+        requires room { IsRoomOf opened B.table B.name B.parts }
+        ensures { IfOk result (λ r. r.0 ≡ nothing) }
+    {
+        let (seats, state, seat) = State::new(alloc, opened.named::<B>())?;
+        let shared = Shared {
+            seats,
+            state: Mutex::new(state),
+            asked: Condvar::new(),
+            answered: Condvar::new(),
+        };
+        let shared = Arc::new(alloc, shared)?;
+        let publisher = Publisher::over(Arc::try_clone(&shared)?, seat);
+        Ok((publisher, Hub { shared }))
+    }
+
+    /// One more submitter. Its number is given under the lock, so that no other submitter of the hub has it.
+    ///
+    /// # Failure
+    /// E01; E90 where 2^62 submitters were given.
+    pub fn submitter<R: Wait>(&self, rt: &R) -> Result<Submitter<S, B>, Unseated>
+        ensures id { IfOk result (λ m. m.was.members ≡ m.id + 1) }
+        ensures share { IfOk result (λ m. (m.parts ≡ 1) × (m.amount ≡ 0)) }
+    {
+        let Ok(shared) = Arc::try_clone(&self.shared) else {
+            return Err(Unseated::NoMemory);
+        };
+        let Some((id, seat, share)) = self.shared.state.lock(rt).enroll(&self.shared.seats) else {
+            return Err(Unseated::InboxFull);
+        };
+        Ok(Submitter::over(shared, id, seat, share))
+    }
+
+    /// Nothing more is taken in, what waits is still taken, and who waits is woken.
+    pub fn close<R: Wait>(&self, rt: &R) {
+        let me = self.shared.seats.enter();
+        self.shared.state.lock(rt).close(&self.shared.seats, me);
+        self.shared.asked.notify_all();
+        self.shared.answered.notify_all();
+    }
+}

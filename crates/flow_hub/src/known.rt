@@ -1,0 +1,132 @@
+//! What threads know of a hub.
+ghost use Rattle.std.specs.Prelude.{◌≡◌, [], ◌∷◌, ◌++◌, map};
+ghost use Rattle.flow_hub.specs.Knowing.{nothing, with_ask, with_taken, with_published, with_refused, with_fetched, with_member, with_closed};
+
+use crate::refused::Refused;
+use flow_base::code::Code;
+use flow_commit::keeper::Keeper;
+use flow_commit::stamp::Stamp;
+use flow_machine::submission::{Receipt, Taken};
+use sqlite::Alter;
+use unseen::{Listed, Makes};
+
+/// What threads know of a hub. Its lists are data for contracts alone.
+#[derive(Drop)]
+pub struct Known<S: Alter> {
+    /// All that was submitted: each submission stands at its ticket.
+    pub asked: Listed<Taken>,
+    /// The one history: all receipts that were published, in their order.
+    pub history: Listed<Receipt>,
+    /// All submissions that were answered by a code, in their order.
+    pub refused: Listed<Refused>,
+    /// The keeper as the last published stamp names it. Before the first one there is none.
+    pub last: Listed<Keeper<S>>,
+    /// What is taken, and not answered yet.
+    pub held: Listed<Taken>,
+    /// How many answers their submitters have fetched.
+    pub fetched: u64,
+    /// How many submitters the hub has given.
+    pub members: u64,
+    /// Whether nothing more is taken in.
+    pub closed: bool,
+}
+
+struct Empty;
+
+impl<E> Makes<(), E> for Empty {
+    ghost use Rattle.std.specs.Prelude.{[]};
+
+    ghost list = { λ _. [] };
+}
+
+/// A list, and one more at its end.
+struct OneMore;
+
+impl<E> Makes<(Listed<E>, &E), E> for OneMore {
+    ghost use Rattle.std.specs.Prelude.{[], ◌∷◌, ◌++◌};
+
+    ghost list = { λ p. p.0 ++ p.1.now ∷ [] };
+}
+
+/// A list, and behind it these.
+struct Behind;
+
+impl<E> Makes<(Listed<E>, &Vec<E>), E> for Behind {
+    ghost use Rattle.std.specs.Prelude.{◌++◌};
+
+    ghost list = { λ p. p.0 ++ p.1.now.items };
+}
+
+/// A list, and behind it these with a code.
+struct Answered;
+
+impl Makes<(Listed<Refused>, &Vec<Taken>, Code), Refused> for Answered {
+    ghost use Rattle.std.specs.Prelude.{◌++◌, map};
+    ghost use Rattle.flow_hub.specs.Knowing.{refused_by};
+
+    ghost list = { λ p. p.0 ++ map (refused_by p.2) p.1.now.items };
+}
+
+/// The keeper that a stamp names.
+struct Named;
+
+impl<S: Alter> Makes<Stamp<S>, Keeper<S>> for Named {
+    ghost use Rattle.std.specs.Prelude.{[], ◌∷◌};
+
+    ghost list = { λ s. s.keeper ∷ [] };
+}
+
+impl<S: Alter> Known<S> {
+    pub(crate) fn new() -> Known<S>
+        ensures { result ≡ nothing }
+    {
+        Known {
+            asked: Listed::of::<(), Empty>(&()),
+            history: Listed::of::<(), Empty>(&()),
+            refused: Listed::of::<(), Empty>(&()),
+            last: Listed::of::<(), Empty>(&()),
+            held: Listed::of::<(), Empty>(&()),
+            fetched: 0,
+            members: 0,
+            closed: false,
+        }
+    }
+
+    /// A command was submitted.
+    pub(crate) fn ask(&mut self, taken: &Taken)
+        ensures { self.new ≡ with_ask self.old taken.now }
+    {
+        self.asked = Listed::of::<(Listed<Taken>, &Taken), OneMore>(&(self.asked.again(), taken));
+    }
+
+    /// These were taken.
+    pub(crate) fn take(&mut self, taken: &Vec<Taken>)
+        ensures { self.new ≡ with_taken self.old taken.now.items }
+    {
+        self.held = Listed::of::<(Listed<Taken>, &Vec<Taken>), Behind>(&(self.held.again(), taken));
+    }
+
+    /// What was taken is answered by the receipts of a stamp.
+    pub(crate) fn publish(&mut self, receipts: &Vec<Receipt>, stamp: &Stamp<S>)
+        ensures { self.new ≡ with_published self.old stamp.now.keeper receipts.now.items }
+    {
+        self.history = Listed::of::<(Listed<Receipt>, &Vec<Receipt>), Behind>(&(
+            self.history.again(),
+            receipts,
+        ));
+        self.last = Listed::of::<Stamp<S>, Named>(stamp);
+        self.held = Listed::of::<(), Empty>(&());
+    }
+
+    /// What was taken is answered by a code.
+    pub(crate) fn refuse(&mut self, all: &Vec<Taken>, code: Code)
+        ensures { self.new ≡ with_refused self.old all.now.items code }
+    {
+        self.refused = Listed::of::<(Listed<Refused>, &Vec<Taken>, Code), Answered>(&(
+            self.refused.again(),
+            all,
+            code,
+        ));
+        self.held = Listed::of::<(), Empty>(&());
+    }
+}

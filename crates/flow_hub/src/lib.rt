@@ -1,0 +1,14 @@
+//! Submitters on many threads, and one publisher of receipts.
+#![tactic(auto)]
+
+pub mod denied;
+pub mod hub;
+pub mod known;
+pub mod publisher;
+mod queues;
+pub mod refused;
+pub mod seats;
+pub mod settled;
+mod state;
+pub mod submitter;
+pub mod ticket;

@@ -1,0 +1,138 @@
+//! The calls of the thread that answers.
+ghost use Rattle.std.specs.Prelude.{◌≡◌, ◌<◌, ◌≤◌, true, false, [], length};
+ghost use Rattle.std.specs.Vec.{vec_capacity};
+ghost use Rattle.flow_hub.specs.Knowing.{IsBefore, IsHistory, IsSamePart};
+ghost use Rattle.flow_hub.specs.Publishing.{Answers, HasTaken, HasPublished, HasRefused, IsDone};
+
+use crate::hub::Shared;
+use crate::seats::{Pass, Room};
+use flow_base::code::Code;
+use flow_commit::stamp::Stamp;
+use flow_machine::submission::{Receipt, Taken};
+use sqlite::Alter;
+use std::marker::Model;
+use std::mem;
+use std::sync::{Arc, Wait};
+
+/// Takes what was submitted to a hub, and answers it. A hub has one. To a contract it is what it knows of the hub: of what it
+/// alone changes, all.
+#[derive(Drop)]
+pub struct Publisher<S: Alter, B: Room> {
+    shared: Arc<Shared<S, B>>,
+    seat: Pass<S, B>,
+}
+
+impl<S: Alter, B: Room> Model for Publisher<S, B> {
+    ghost use Rattle.std.specs.Prelude.{◌≡◌, true, false};
+    ghost use Rattle.flow_hub.specs.declared.known.Known.{Known};
+    ghost use Rattle.flow_hub.specs.Knowing.{known_code};
+
+    ghost Value = { Known S };
+
+    ghost coded = { known_code S.code };
+
+    ghost view = { λ p. p.seat.was };
+
+    ghost invariant = { λ p. (p.seat.keeps ≡ false) × (p.seat.pubs ≡ true) };
+}
+
+/// Waits until something is there to be taken, or nothing will come.
+fn taken<S: Alter, B: Room, R: Wait>(
+    rt: &R,
+    shared: &Shared<S, B>,
+    seat: Pass<S, B>,
+    into: &mut Vec<Taken>,
+    most: usize,
+) -> (Pass<S, B>, bool)
+    requires seat { (seat.keeps ≡ false) × (seat.pubs ≡ true) }
+    requires most { 1 ≤ most }
+    requires room { (into.old.items ≡ []) × (most ≤ vec_capacity into.old) }
+    ensures seen { HasTaken seat.was result.0.was into.new.items }
+    ensures count { (length into.new.items ≤ most) × (vec_capacity into.new ≡ vec_capacity into.old) }
+    ensures some { result.1 ≡ true → 0 < length into.new.items }
+    ensures none { result.1 ≡ false → (into.new.items ≡ []) × IsDone result.0.was }
+    ensures seat { (result.0.keeps ≡ false) × (result.0.pubs ≡ true) }
+    ensures grows { IsBefore seat.was result.0.was }
+{
+    let mut me = seat;
+    let mut state = shared.state.lock(rt);
+    for _ in rt.forever() {
+        me = state.take(&shared.seats, me, into, most);
+        if !into.is_empty() {
+            return (me, true);
+        }
+        if state.is_closed() {
+            return (me, false);
+        }
+        state = shared.asked.wait(rt, state);
+    }
+    unreachable!()
+}
+
+impl<S: Alter, B: Room> Publisher<S, B> {
+    pub(crate) fn over(shared: Arc<Shared<S, B>>, seat: Pass<S, B>) -> Publisher<S, B>
+        requires { (seat.keeps ≡ false) × (seat.pubs ≡ true) }
+        ensures { result ≡ seat.was }
+    {
+        Publisher { shared, seat }
+    }
+
+    /// Waits until something waits, and moves 1 to `most` of it into an empty list with that room, in the order of submission.
+    /// False: the hub is closed, and nothing waits.
+    pub fn take<R: Wait>(&mut self, rt: &R, into: &mut Vec<Taken>, most: usize) -> bool
+        requires most { (1 ≤ most) × (most ≤ 64) }
+        requires room { (into.old.items ≡ []) × (most ≤ vec_capacity into.old) }
+        ensures taken { HasTaken self.old self.new into.new.items }
+        ensures count { (length into.new.items ≤ most) × (vec_capacity into.new ≡ vec_capacity into.old) }
+        ensures some { result ≡ true → 0 < length into.new.items }
+        ensures none { result ≡ false → (into.new.items ≡ []) × IsDone self.new }
+        ensures grows { IsBefore self.old self.new }
+    {
+        let shared = &*self.shared;
+        let me = mem::replace(&mut self.seat, shared.seats.enter());
+        let (me, some) = taken(rt, shared, me, into, most);
+        self.seat = me;
+        some
+    }
+
+    /// Answers all that was taken, by the receipts of a stamp.
+    pub fn publish<R: Wait>(&mut self, rt: &R, receipts: Vec<Receipt>, stamp: Stamp<S>)
+        requires answers { Answers self.old stamp receipts.items }
+        ensures published { HasPublished self.old self.new stamp receipts.items }
+        ensures legal { IsHistory S.Store self.new }
+        ensures grows { IsBefore self.old self.new }
+    {
+        let shared = &*self.shared;
+        let me = mem::replace(&mut self.seat, shared.seats.enter());
+        self.seat = shared
+            .state
+            .lock(rt)
+            .publish(&shared.seats, me, receipts, stamp);
+        shared.answered.notify_all();
+    }
+
+    /// Answers all that was taken by a code.
+    pub fn refuse<R: Wait>(&mut self, rt: &R, all: Vec<Taken>, code: Code)
+        requires all { all.items ≡ self.old.held }
+        ensures refused { HasRefused self.old self.new all.items code }
+        ensures grows { IsBefore self.old self.new }
+    {
+        let shared = &*self.shared;
+        let me = mem::replace(&mut self.seat, shared.seats.enter());
+        self.seat = shared.state.lock(rt).refuse(&shared.seats, me, all, code);
+        shared.answered.notify_all();
+    }
+
+    /// Nothing more is taken in, and what waits is still taken.
+    pub fn close<R: Wait>(&mut self, rt: &R)
+        ensures closed { self.new.closed ≡ true }
+        ensures part { IsSamePart self.old self.new }
+        ensures grows { IsBefore self.old self.new }
+    {
+        let shared = &*self.shared;
+        let me = mem::replace(&mut self.seat, shared.seats.enter());
+        self.seat = shared.state.lock(rt).close(&shared.seats, me);
+        shared.asked.notify_all();
+        shared.answered.notify_all();
+    }
+}

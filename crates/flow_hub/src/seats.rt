@@ -1,0 +1,267 @@
+//! The table of the published word, and its seats.
+ghost use Rattle.std.specs.Prelude.{◌≡◌, ◌^◌, ◌⊎◌, true, false, length, IfOk};
+ghost use Rattle.flow_hub.specs.Knowing.{IsBefore, IsSamePart};
+ghost use Rattle.flow_hub.specs.Seating.{IsRoomOf, opener, nobody, lent, adding, keeps_left, handed_back, keeping, seeing, Knows};
+
+use crate::known::Known;
+use atomic_table::{Join, Play, Seat, Split, Table, TableRule};
+use sqlite::Alter;
+use std::alloc::{AllocError, Global};
+use std::marker::{Brand, Model, PhantomData};
+use std::sync::ledger::{Blank, Book, Ledger, Share};
+
+/// How many parts the ledger of a hub has, one for each submitter that it gives.
+pub(crate) const PARTS: u64 = 1 << 62;
+
+/// What a seat knows. No value of it is made.
+pub struct Sight<S: Alter> {
+    /// It is the one under the lock: it knows all, and may add what is submitted.
+    pub keeps: bool,
+    /// With the one under the lock, it may add to the history.
+    pub pubs: bool,
+    pub all: Known<S>,
+    /// What was seen last.
+    pub was: Known<S>,
+}
+
+/// Names one hub: its table, and the ledger of its tickets. A program picks it once, with `Brand`.
+pub trait Room: Ledger {
+    ghost use Rattle.atomic_table.specs.Seated.{TableId};
+
+    ghost table: { TableId };
+}
+
+impl Room for Brand {
+    ghost use Rattle.flow_hub.specs.Seating.{no_table};
+
+    ghost table = { no_table };
+}
+
+/// The rule of the table.
+pub struct Law;
+
+impl<S: Alter> TableRule<Known<S>, Sight<S>, ()> for Law {
+    ghost use Rattle.flow_hub.specs.Seating.{Kept, opener};
+
+    ghost holds = { λ _. Kept };
+
+    ghost first = { λ _. opener };
+}
+
+struct Store;
+
+impl<S: Alter> Play<Known<S>, Sight<S>> for Store {
+    ghost use Rattle.flow_hub.specs.Seating.{Adds};
+
+    ghost then = { Adds };
+}
+
+struct Look;
+
+impl<S: Alter> Play<Known<S>, Sight<S>> for Look {
+    ghost use Rattle.flow_hub.specs.Seating.{Looks};
+
+    ghost then = { Looks };
+}
+
+struct Enter;
+
+impl<S: Alter> Play<Known<S>, Sight<S>> for Enter {
+    ghost use Rattle.std.specs.Prelude.{◌≡◌};
+    ghost use Rattle.flow_hub.specs.Seating.{nobody};
+
+    ghost then = { λ s v n w. w.0 ≡ nobody };
+}
+
+struct Lend;
+
+impl<S: Alter> Join<Sight<S>> for Lend {
+    ghost use Rattle.flow_hub.specs.Seating.{lent, nobody};
+
+    ghost both = { lent };
+
+    ghost spent = { nobody };
+}
+
+struct Back;
+
+impl<S: Alter> Split<Sight<S>> for Back {
+    ghost use Rattle.flow_hub.specs.Seating.{keeps_left, handed_back};
+
+    ghost left = { keeps_left };
+
+    ghost right = { handed_back };
+}
+
+/// What a hub is made of before it has a name. `Hub::new` takes it under the one that its caller has picked.
+pub struct Opened<S: Alter> {
+    table: Table<Known<S>, Sight<S>, (), Law, Global>,
+    seat: Seat<Known<S>, Sight<S>>,
+    blank: Blank,
+}
+
+impl<S: Alter> Model for Opened<S> {
+    ghost use Rattle.std.specs.Prelude.{◌≡◌, ◌^◌, []};
+    ghost use Rattle.flow_hub.specs.Seating.{Naming, naming_code, opener};
+
+    ghost Value = { Naming };
+
+    ghost coded = { naming_code };
+
+    ghost view = { λ o. record { table = o.table.shared.table_id; name = o.blank.name; parts = o.blank.parts } };
+
+    ghost invariant = { λ o. (o.table.shared.table_id.words ≡ 1) × (o.table.shared.table_id.slots ≡ 0) × (o.seat.table_id ≡ o.table.shared.table_id) × (o.seat.me ≡ (opener, [])) × (o.blank.parts ≡ 2 ^ 62) };
+}
+
+/// The word that publishes the history's length.
+#[derive(Drop)]
+pub(crate) struct Seats<S: Alter, B: Room> {
+    table: Table<Known<S>, Sight<S>, (), Law, Global>,
+    of: PhantomData<B>,
+    ghost named: { table.shared.table_id ≡ B.table },
+    ghost one_word: { table.shared.table_id.words ≡ 1 },
+    ghost no_slot: { table.shared.table_id.slots ≡ 0 },
+}
+
+/// A seat at the table. To a contract it is what it knows.
+#[derive(Drop)]
+pub(crate) struct Pass<S: Alter, B: Room> {
+    seat: Seat<Known<S>, Sight<S>>,
+    of: PhantomData<B>,
+}
+
+impl<S: Alter, B: Room> Model for Pass<S, B> {
+    ghost use Rattle.std.specs.Prelude.{◌≡◌, []};
+    ghost use Rattle.flow_hub.specs.declared.seats.Sight.{Sight};
+    ghost use Rattle.flow_hub.specs.Seating.{sight_code};
+
+    ghost Value = { Sight S };
+
+    ghost coded = { sight_code S.code };
+
+    ghost view = { λ p. p.seat.me.0 };
+
+    ghost invariant = { λ p. (p.seat.table_id ≡ B.table) × (p.seat.me.1 ≡ []) };
+}
+
+/// What a hub is made of under its name.
+pub(crate) struct Named<S: Alter, B: Room> {
+    pub seats: Seats<S, B>,
+    pub seat: Pass<S, B>,
+    pub tickets: Book<B>,
+    pub share: Share<B>,
+}
+
+impl<S: Alter> Opened<S> {
+    /// A table and a ledger of their own.
+    pub fn new(alloc: Global) -> Result<Opened<S>, AllocError> {
+        let (table, seat) = Table::of_words(alloc, &[0], &())?;
+        Ok(Opened {
+            table,
+            seat,
+            blank: Blank::new(PARTS),
+        })
+    }
+
+    /// Under a name, with the one seat that keeps and publishes.
+    pub(crate) fn named<B: Room>(self) -> Named<S, B>
+        requires room { IsRoomOf self B.table B.name B.parts }
+        ensures seat { result.seat ≡ opener }
+        ensures tickets { result.tickets.total ≡ 0 }
+        ensures share { (result.share.parts ≡ 2 ^ 62) × (result.share.amount ≡ 0) }
+        ensures parts { B.parts ≡ 2 ^ 62 }
+    {
+        let Opened { table, seat, blank } = self;
+        let (tickets, share) = blank.open::<B>();
+        Named {
+            seats: Seats {
+                table,
+                of: PhantomData,
+            },
+            seat: Pass {
+                seat,
+                of: PhantomData,
+            },
+            tickets,
+            share,
+        }
+    }
+}
+
+impl<S: Alter, B: Room> Seats<S, B> {
+    /// A seat that has seen nothing.
+    pub(crate) fn enter(&self) -> Pass<S, B>
+        ensures { result ≡ nobody }
+    {
+        let (_, seat) = self.table.shared.load_new_seat::<Enter>(0);
+        Pass {
+            seat,
+            of: PhantomData,
+        }
+    }
+
+    /// The length of the history. What is then seen begins with what was seen.
+    pub(crate) fn look(&self, me: &mut Pass<S, B>) -> u64
+        ensures length { result ≡ length me.new.was.history }
+        ensures grows { IsBefore me.old.was me.new.was }
+        ensures same { (me.new.keeps ≡ me.old.keeps) × (me.new.pubs ≡ me.old.pubs) }
+    {
+        self.table.shared.load::<Look>(&mut me.seat, 0)
+    }
+
+    /// The seat under the lock is lent what another saw.
+    fn lend(&self, keeper: &mut Pass<S, B>, other: Pass<S, B>)
+        ensures { keeper.new ≡ lent keeper.old other }
+    {
+        let Pass { seat, of: _ } = other;
+        self.table.shared.join_seat::<Lend>(&mut keeper.seat, seat);
+    }
+
+    /// What was lent goes back.
+    pub(crate) fn back(&self, keeper: &mut Pass<S, B>) -> Pass<S, B>
+        ensures { (keeper.new ≡ keeps_left keeper.old) × (result ≡ handed_back keeper.old) }
+    {
+        let seat = self.table.shared.split_seat::<Back>(&mut keeper.seat);
+        Pass {
+            seat,
+            of: PhantomData,
+        }
+    }
+
+    /// The seat under the lock adds to what is known, and publishes the history's length.
+    fn store(&self, keeper: &mut Pass<S, B>, old: u64, new: u64, all: &Known<S>)
+        requires keeps { keeper.old.keeps ≡ true }
+        requires may { (keeper.old.pubs ≡ true) ⊎ IsSamePart all.now keeper.old.all }
+        requires grows { IsBefore keeper.old.all all.now }
+        requires lengths { (length keeper.old.all.history ≡ old) × (length all.now.history ≡ new) }
+        ensures added { keeper.new ≡ adding keeper.old all.now }
+        ensures knows { Knows keeper.old }
+    {
+        self.table
+            .shared
+            .compare_exchange_with::<Store>(&mut keeper.seat, 0, old, new, all);
+    }
+
+    /// Under the lock: what is known becomes `all`, the word the length of its history, and the seat that asks is told of it.
+    pub(crate) fn tell(
+        &self,
+        keeper: &mut Pass<S, B>,
+        me: Pass<S, B>,
+        old: u64,
+        new: u64,
+        all: &Known<S>,
+    ) -> Pass<S, B>
+        requires keeps { keeper.old.keeps ≡ true }
+        requires may { (me.pubs ≡ true) ⊎ IsSamePart all.now keeper.old.all }
+        requires grows { IsBefore keeper.old.all all.now }
+        requires lengths { (length keeper.old.all.history ≡ old) × (length all.now.history ≡ new) }
+        ensures keeper { keeper.new ≡ keeping all.now }
+        ensures told { result ≡ seeing me.pubs all.now }
+        ensures before { IsBefore me.was keeper.old.all }
+        ensures same { me.pubs ≡ true → IsSamePart me.was keeper.old.all }
+    {
+        self.lend(keeper, me);
+        self.store(keeper, old, new, all);
+        self.back(keeper)
+    }
+}

@@ -1,0 +1,399 @@
+//! What lies under the lock.
+ghost use Rattle.std.specs.Prelude.{◌≡◌, ◌≢◌, ◌+◌, ◌<◌, ◌≤◌, ◌^◌, [], ◌∷◌, ◌++◌, ℕ, length, true, false, Some, IfOk, IfErr, IfSome, IfNone, MatchOption, OnOk, slice_get, remove};
+ghost use Rattle.std.specs.Vec.{vec_capacity};
+ghost use Rattle.flow_hub.specs.Asks.{Stands, IsOwn, IsGone, IsTold};
+ghost use Rattle.flow_hub.specs.Knowing.{IsBefore, IsHistory, IsSamePart, answered_in, nothing};
+ghost use Rattle.flow_hub.specs.Seating.{opener, seeing};
+ghost use Rattle.flow_hub.specs.Halls.{submitted, took, published, refused_all, fetched_receipt, fetched_refusal, enrolled, closed, new_ask, unfetched};
+ghost use Rattle.flow_hub.specs.Publishing.{Answers, HasTaken, HasPublished, HasRefused, IsDone};
+ghost use Rattle.flow_hub.specs.Submitting.{IsOpen, IsDenied, IsSettled};
+
+use crate::denied::Denied;
+use crate::known::Known;
+use crate::queues::{move_front, refuse_all, refused_at, ticket_at};
+use crate::refused::Refused;
+use crate::seats::{Named, PARTS, Pass, Room, Seats};
+use crate::settled::Settled;
+use flow_base::code::Code;
+use flow_base::command::Command;
+use flow_commit::stamp::Stamp;
+use flow_machine::submission::{Receipt, Taken};
+use sqlite::Alter;
+use std::alloc::{AllocError, Global};
+use std::collections::VecDeque;
+use std::marker::Model;
+use std::sync::ledger::{Book, Share};
+
+/// The most submissions whose answer wasn't fetched.
+const MOST: usize = 1024;
+
+/// How many tickets a hub gives.
+const TICKETS: u64 = 1 << 62;
+
+/// What lies under the lock: submissions by what became of them, each list with its room, and what is known of them.
+#[derive(Drop)]
+pub(crate) struct State<S: Alter, B: Room> {
+    waiting: VecDeque<Taken>,
+    /// Receipts that weren't fetched.
+    answered: Vec<Receipt>,
+    /// Refusals that weren't fetched.
+    refused: Vec<Refused>,
+    /// How many are taken.
+    held: usize,
+    /// How many tickets were given.
+    given: u64,
+    /// The length of the history.
+    places: u64,
+    /// How many were answered by a code.
+    codes: u64,
+    tickets: Book<B>,
+    /// The ledger's parts of the submitters that were not given yet.
+    spare: Share<B>,
+    known: Known<S>,
+    /// The seat that keeps.
+    keeper: Pass<S, B>,
+}
+
+impl<S: Alter, B: Room> Model for State<S, B> {
+    ghost use Rattle.std.specs.Prelude.{◌≡◌, ◌≤◌, ◌+◌, ◌^◌, length, true};
+    ghost use Rattle.std.specs.Vec.{vec_capacity, vec_len};
+    ghost use Rattle.std.specs.VecDeque.{deque_capacity, deque_len};
+    ghost use Rattle.flow_hub.specs.Halls.{Hall, IsSound, hall_code};
+
+    ghost Value = { Hall S };
+
+    ghost coded = { hall_code S.code };
+
+    ghost view = { λ s. record { known = s.known; waiting = s.waiting.items; answered = s.answered.items; refused = s.refused.items; given = s.given; shares = s.tickets.total } };
+
+    ghost invariant = { λ s. IsSound S.Store (record { known = s.known; waiting = s.waiting.items; answered = s.answered.items; refused = s.refused.items; given = s.given; shares = s.tickets.total })
+        × (s.held ≡ length s.known.held) × (s.places ≡ length s.known.history) × (s.codes ≡ length s.known.refused)
+        × (1024 ≤ deque_capacity s.waiting) × (1024 ≤ vec_capacity s.answered) × (1024 ≤ vec_capacity s.refused)
+        × (deque_len s.waiting + s.held + vec_len s.answered + vec_len s.refused ≤ 1024) × (s.given ≤ 2 ^ 62)
+        × (s.spare.amount ≡ 0) × (s.spare.parts + s.known.members ≡ 2 ^ 62) × (B.parts ≡ 2 ^ 62)
+        × (s.keeper.keeps ≡ true) × (s.keeper.all ≡ s.known) };
+}
+
+impl<S: Alter, B: Room> State<S, B> {
+    /// A hub to which nothing was submitted, and its publisher's seat. All room is asked for here.
+    pub(crate) fn new(
+        alloc: Global,
+        named: Named<S, B>,
+    ) -> Result<(Seats<S, B>, State<S, B>, Pass<S, B>), AllocError>
+        requires seat { named.seat ≡ opener }
+        requires tickets { named.tickets.total ≡ 0 }
+        requires share { (named.share.parts ≡ 2 ^ 62) × (named.share.amount ≡ 0) }
+        requires parts { B.parts ≡ 2 ^ 62 }
+        ensures seat { IfOk result (λ r. r.2 ≡ seeing true nothing) }
+        ensures empty { IfOk result (λ r. r.1 ≡ record { known = nothing; waiting = []; answered = []; refused = []; given = 0; shares = 0 }) }
+    {
+        let Named {
+            seats,
+            seat,
+            tickets,
+            share,
+        } = named;
+        let mut keeper = seat;
+        let waiting = VecDeque::with_capacity(alloc, MOST)?;
+        let answered = Vec::with_capacity(alloc, MOST)?;
+        let refused = Vec::with_capacity(alloc, MOST)?;
+        let publisher = seats.back(&mut keeper);
+        let state = State {
+            waiting,
+            answered,
+            refused,
+            held: 0,
+            given: 0,
+            places: 0,
+            codes: 0,
+            tickets,
+            spare: share,
+            known: Known::new(),
+            keeper,
+        };
+        Ok((seats, state, publisher))
+    }
+
+    /// The seat sees what lies here, and nothing changes.
+    fn see(&mut self, seats: &Seats<S, B>, me: Pass<S, B>) -> Pass<S, B>
+        ensures same { self.new ≡ self.old }
+        ensures seat { result ≡ seeing me.pubs self.new.known }
+        ensures before { IsBefore me.was result.was }
+        ensures part { me.pubs ≡ true → IsSamePart me.was result.was }
+    {
+        seats.tell(&mut self.keeper, me, self.places, self.places, &self.known)
+    }
+
+    /// One more submitter: its number, its seat and its part of the ledger. None where as many were given as there are parts.
+    pub(crate) fn enroll(&mut self, seats: &Seats<S, B>) -> Option<(u64, Pass<S, B>, Share<B>)>
+        ensures enrolled { IfSome result (λ m. (m.0 ≡ self.old.known.members) × (self.new ≡ enrolled self.old)) }
+        ensures seat { IfSome result (λ m. m.1 ≡ seeing false self.new.known) }
+        ensures share { IfSome result (λ m. (m.2.parts ≡ 1) × (m.2.amount ≡ 0)) }
+        ensures parts { B.parts ≡ 2 ^ 62 }
+        ensures none { IfNone result ((self.new ≡ self.old) × (2 ^ 62 ≤ self.old.known.members)) }
+    {
+        let id = self.known.members;
+        if id >= PARTS {
+            return None;
+        }
+        self.known.members += 1;
+        let share = self.spare.split_off(1, 0);
+        let seat = seats.tell(
+            &mut self.keeper,
+            seats.enter(),
+            self.places,
+            self.places,
+            &self.known,
+        );
+        Some((id, seat, share))
+    }
+
+    /// Why no command is taken in.
+    fn denied(&self) -> Option<Denied>
+        ensures some { IfSome result (λ d. IsDenied self.now.known d) }
+        ensures none { IfNone result (IsOpen self.now.known × (unfetched self.now < 1024)) }
+    {
+        if self.known.closed {
+            return Some(Denied::HubClosed);
+        }
+        let unfetched = self.waiting.len() + self.held + self.answered.len() + self.refused.len();
+        if unfetched >= MOST || self.given >= TICKETS {
+            return Some(Denied::InboxFull);
+        }
+        None
+    }
+
+    /// The ticket, or the command back.
+    pub(crate) fn submit(
+        &mut self,
+        seats: &Seats<S, B>,
+        me: Pass<S, B>,
+        mine: &mut Share<B>,
+        command: Command,
+    ) -> (Pass<S, B>, Result<u64, (Command, Denied)>)
+        requires share { 0 < mine.old.parts }
+        requires seat { (me.keeps ≡ false) × (me.pubs ≡ false) }
+        ensures ok { IfOk result.1 (λ t. (t ≡ self.old.given) × (self.new ≡ submitted self.old command) × (mine.new.amount ≡ mine.old.amount + 1)) }
+        ensures room { OnOk result.1 (IsOpen self.old.known) }
+        ensures err { IfErr result.1 (λ e. (e.0 ≡ command) × (self.new ≡ self.old) × (mine.new.amount ≡ mine.old.amount) × IsDenied self.old.known e.1) }
+        ensures parts { mine.new.parts ≡ mine.old.parts }
+        ensures seat { result.0 ≡ seeing false self.new.known }
+        ensures before { IsBefore me.was self.old.known }
+        ensures grows { IsBefore me.was result.0.was }
+        ensures ticket { IfOk result.1 (λ t. (length me.was.asked ≤ t) × (length result.0.was.asked ≡ t + 1) × (slice_get result.0.was.asked t ≡ Some (new_ask self.old command))) }
+    {
+        if let Some(denied) = self.denied() {
+            return (self.see(seats, me), Err((command, denied)));
+        }
+        let ticket = self.given;
+        let taken = Taken { ticket, command };
+        self.known.ask(&taken);
+        let me = seats.tell(&mut self.keeper, me, self.places, self.places, &self.known);
+        self.waiting.push_back_reserved(taken);
+        self.tickets.add(mine, 1);
+        self.given += 1;
+        (me, Ok(ticket))
+    }
+
+    /// The first that wait, as many as there are, and `most` at most.
+    pub(crate) fn take(
+        &mut self,
+        seats: &Seats<S, B>,
+        me: Pass<S, B>,
+        into: &mut Vec<Taken>,
+        most: usize,
+    ) -> Pass<S, B>
+        requires seat { (me.keeps ≡ false) × (me.pubs ≡ true) }
+        requires most { 1 ≤ most }
+        requires room { (into.old.items ≡ []) × (most ≤ vec_capacity into.old) }
+        ensures taken { (self.old.waiting ≡ into.new.items ++ self.new.waiting) × (self.new ≡ took self.old into.new.items self.new.waiting) }
+        ensures count { (length into.new.items ≤ most) × (vec_capacity into.new ≡ vec_capacity into.old) }
+        ensures seat { result ≡ seeing true self.new.known }
+        ensures seen { HasTaken me.was result.was into.new.items }
+        ensures grows { IsBefore me.was result.was }
+        ensures none { into.new.items ≡ [] → self.new.known.closed ≡ true → IsDone result.was }
+    {
+        move_front(&mut self.waiting, into, most);
+        self.held += into.len();
+        self.known.take(into);
+        seats.tell(&mut self.keeper, me, self.places, self.places, &self.known)
+    }
+
+    /// Answers all that was taken. What the publisher must show it shows of its own seat.
+    pub(crate) fn publish(
+        &mut self,
+        seats: &Seats<S, B>,
+        me: Pass<S, B>,
+        mut receipts: Vec<Receipt>,
+        stamp: Stamp<S>,
+    ) -> Pass<S, B>
+        requires seat { (me.keeps ≡ false) × (me.pubs ≡ true) }
+        requires answers { Answers me.was stamp receipts.items }
+        ensures published { self.new ≡ published self.old stamp.keeper receipts.items }
+        ensures seat { result ≡ seeing true self.new.known }
+        ensures seen { HasPublished me.was result.was stamp receipts.items }
+        ensures grows { IsBefore me.was result.was }
+        ensures legal { IsHistory S.Store result.was }
+    {
+        let old = self.places;
+        // That the stamp is over the last one's tables the publisher has shown of what its seat knows.
+        let seen = seats.tell(&mut self.keeper, me, old, old, &self.known);
+        self.places += receipts.len() as u64;
+        self.known.publish(&receipts, &stamp);
+        stamp.spend();
+        let me = seats.tell(&mut self.keeper, seen, old, self.places, &self.known);
+        self.held = 0;
+        if self.answered.append(&mut receipts).is_err() {
+            unreachable!();
+        }
+        me
+    }
+
+    /// Answers all that was taken by a code.
+    pub(crate) fn refuse(
+        &mut self,
+        seats: &Seats<S, B>,
+        me: Pass<S, B>,
+        all: Vec<Taken>,
+        code: Code,
+    ) -> Pass<S, B>
+        requires seat { (me.keeps ≡ false) × (me.pubs ≡ true) }
+        requires all { all.items ≡ me.was.held }
+        ensures refused { self.new ≡ refused_all self.old code }
+        ensures seat { result ≡ seeing true self.new.known }
+        ensures seen { HasRefused me.was result.was all.items code }
+        ensures grows { IsBefore me.was result.was }
+    {
+        self.codes += all.len() as u64;
+        self.known.refuse(&all, code);
+        let me = seats.tell(&mut self.keeper, me, self.places, self.places, &self.known);
+        self.held = 0;
+        refuse_all(&mut self.refused, all, code);
+        me
+    }
+
+    /// The receipt for a ticket, if it came.
+    fn fetch_receipt(
+        &mut self,
+        seats: &Seats<S, B>,
+        me: Pass<S, B>,
+        ticket: u64,
+    ) -> (Pass<S, B>, Option<Receipt>)
+        requires seat { (me.keeps ≡ false) × (me.pubs ≡ false) }
+        ensures own { IfSome result.1 (λ r. (r.ticket ≡ ticket) × IsOwn result.0.was.asked r × Stands result.0.was.history r) }
+        ensures legal { IfSome result.1 (λ r. IsHistory S.Store result.0.was) }
+        ensures fetched { MatchOption result.1 (self.new ≡ self.old) (λ r. (k : ℕ) × (slice_get self.old.answered k ≡ Some r) × (self.new ≡ fetched_receipt self.old (remove self.old.answered k))) }
+        ensures seat { (result.0.keeps ≡ false) × (result.0.pubs ≡ false) }
+        ensures grows { IsBefore me.was result.0.was }
+    {
+        let Some(k) = ticket_at(self.answered.as_slice(), ticket) else {
+            return (me, None);
+        };
+        let receipt = self.answered.remove(k);
+        self.known.fetched += 1;
+        let me = seats.tell(&mut self.keeper, me, self.places, self.places, &self.known);
+        (me, Some(receipt))
+    }
+
+    /// The refusal of a ticket, if it came.
+    fn fetch_refusal(
+        &mut self,
+        seats: &Seats<S, B>,
+        me: Pass<S, B>,
+        ticket: u64,
+    ) -> (Pass<S, B>, Option<Refused>)
+        requires seat { (me.keeps ≡ false) × (me.pubs ≡ false) }
+        ensures own { IfSome result.1 (λ r. (r.asked.ticket ≡ ticket) × IsGone result.0.was.asked r × IsTold result.0.was.refused r) }
+        ensures fetched { MatchOption result.1 (self.new ≡ self.old) (λ r. (k : ℕ) × (slice_get self.old.refused k ≡ Some r) × (self.new ≡ fetched_refusal self.old (remove self.old.refused k))) }
+        ensures seat { (result.0.keeps ≡ false) × (result.0.pubs ≡ false) }
+        ensures grows { IsBefore me.was result.0.was }
+    {
+        let Some(k) = refused_at(self.refused.as_slice(), ticket) else {
+            return (me, None);
+        };
+        let refused = self.refused.remove(k);
+        self.known.fetched += 1;
+        let me = seats.tell(&mut self.keeper, me, self.places, self.places, &self.known);
+        (me, Some(refused))
+    }
+
+    /// What a ticket was answered by, if it was. Its place is free then.
+    #[tactic(auto, using(crate::proofs::Growing::before_trans))]
+    pub(crate) fn answer(
+        &mut self,
+        seats: &Seats<S, B>,
+        me: Pass<S, B>,
+        ticket: u64,
+    ) -> (Pass<S, B>, Option<Result<Receipt, Refused>>)
+        requires seat { (me.keeps ≡ false) × (me.pubs ≡ false) }
+        ensures receipt { IfSome result.1 (λ a. IfOk a (λ r. (r.ticket ≡ ticket) × IsOwn result.0.was.asked r × Stands result.0.was.history r)) }
+        ensures legal { IfSome result.1 (λ a. IfOk a (λ r. IsHistory S.Store result.0.was)) }
+        ensures refused { IfSome result.1 (λ a. IfErr a (λ r. (r.asked.ticket ≡ ticket) × IsGone result.0.was.asked r × IsTold result.0.was.refused r)) }
+        ensures seat { (result.0.keeps ≡ false) × (result.0.pubs ≡ false) }
+        ensures grows { IsBefore me.was result.0.was }
+    {
+        let (me, receipt) = self.fetch_receipt(seats, me, ticket);
+        if let Some(receipt) = receipt {
+            return (me, Some(Ok(receipt)));
+        }
+        let (me, refused) = self.fetch_refusal(seats, me, ticket);
+        match refused {
+            Some(refused) => (me, Some(Err(refused))),
+            None => (me, None),
+        }
+    }
+
+    /// What became of the tickets, where this share has so many parts and there are no more.
+    pub(crate) fn settle(
+        &mut self,
+        seats: &Seats<S, B>,
+        me: Pass<S, B>,
+        all: &mut Share<B>,
+        parts: u64,
+    ) -> (Pass<S, B>, Option<Settled>)
+        requires parts { all.old.parts ≡ parts }
+        ensures same { self.new ≡ self.old }
+        ensures share { (all.new.parts ≡ all.old.parts) × (all.new.amount ≡ all.old.amount) }
+        ensures settled { IfSome result.1 (λ s. (s.given ≡ all.new.amount) × IsSettled self.new.known s) }
+        ensures waiting { IfSome result.1 (λ s. s.waiting ≡ length self.new.waiting) }
+        ensures none { IfNone result.1 (self.old.known.members ≢ parts) }
+        ensures seat { result.0 ≡ seeing me.pubs self.new.known }
+        ensures grows { IsBefore me.was result.0.was }
+    {
+        let me = self.see(seats, me);
+        if parts != self.known.members {
+            return (me, None);
+        }
+        let rest = PARTS - parts;
+        self.tickets.audit(all);
+        self.spare.give(all, rest, 0);
+        self.tickets.audit(all);
+        all.give(&mut self.spare, rest, 0);
+        let settled = Settled {
+            given: self.given,
+            by_receipt: self.places,
+            by_code: self.codes,
+            taken: self.held as u64,
+            waiting: self.waiting.len() as u64,
+        };
+        (me, Some(settled))
+    }
+
+    /// What waits is still taken, and nothing more is taken in.
+    pub(crate) fn close(&mut self, seats: &Seats<S, B>, me: Pass<S, B>) -> Pass<S, B>
+        ensures closed { self.new ≡ closed self.old }
+        ensures seat { result ≡ seeing me.pubs self.new.known }
+        ensures grows { IsBefore me.was result.was }
+        ensures part { me.pubs ≡ true → IsSamePart me.was result.was }
+    {
+        self.known.closed = true;
+        seats.tell(&mut self.keeper, me, self.places, self.places, &self.known)
+    }
+
+    /// Whether nothing more is taken in.
+    pub(crate) fn is_closed(&self) -> bool
+        ensures { result ≡ self.now.known.closed }
+    {
+        self.known.closed
+    }
+}

@@ -1,0 +1,198 @@
+//! The calls of a thread that submits.
+ghost use Rattle.std.specs.Prelude.{◌≡◌, ◌≢◌, ◌+◌, ◌^◌, ◌≤◌, false, length, IfOk, IfErr, IfSome, IfNone, OnOk};
+ghost use Rattle.flow_hub.specs.Asks.{IsOwn, IsGone, IsTold, Stands};
+ghost use Rattle.flow_hub.specs.Knowing.{IsBefore, IsHistory};
+ghost use Rattle.flow_hub.specs.Submitting.{IsTicket, IsDenied, IsReceipt, IsNotDone, IsSettled};
+
+use crate::denied::Denied;
+use crate::hub::Shared;
+use crate::refused::Refused;
+use crate::seats::{Pass, Room};
+use crate::settled::Settled;
+use crate::ticket::{NotDone, Ticket, Why};
+use flow_base::command::Command;
+use flow_machine::submission::Receipt;
+use sqlite::Alter;
+use std::marker::Model;
+use std::mem;
+use std::sync::ledger::Share;
+use std::sync::{Arc, Wait};
+
+/// Submits commands to a hub, and waits for their receipts. To a contract it is its number, what it has seen of the hub, and its
+/// share of the tickets.
+#[derive(Drop)]
+pub struct Submitter<S: Alter, B: Room> {
+    shared: Arc<Shared<S, B>>,
+    id: u64,
+    seat: Pass<S, B>,
+    share: Share<B>,
+    /// How many submitters' parts of the ledger its share has.
+    parts: u64,
+}
+
+impl<S: Alter, B: Room> Model for Submitter<S, B> {
+    ghost use Rattle.std.specs.Prelude.{◌≡◌, ◌<◌, ◌≤◌, false, ◌^◌};
+    ghost use Rattle.flow_hub.specs.Submitting.{Member, member_code};
+
+    ghost Value = { Member S };
+
+    ghost coded = { member_code S.code };
+
+    ghost view = { λ m. record { id = m.id; was = m.seat.was; parts = m.parts; amount = m.share.amount } };
+
+    ghost invariant = { λ m. (m.seat.keeps ≡ false) × (m.seat.pubs ≡ false) × (m.share.parts ≡ m.parts) × (0 < m.parts) × (B.parts ≡ 2 ^ 62) };
+}
+
+/// Waits until a ticket has its answer.
+fn awaited<S: Alter, B: Room, R: Wait>(
+    rt: &R,
+    shared: &Shared<S, B>,
+    seat: Pass<S, B>,
+    ticket: u64,
+) -> (Pass<S, B>, Result<Receipt, Refused>)
+    requires seat { (seat.keeps ≡ false) × (seat.pubs ≡ false) }
+    ensures receipt { IfOk result.1 (λ r. (r.ticket ≡ ticket) × IsOwn result.0.was.asked r × Stands result.0.was.history r) }
+    ensures legal { IfOk result.1 (λ r. IsHistory S.Store result.0.was) }
+    ensures refused { IfErr result.1 (λ r. (r.asked.ticket ≡ ticket) × IsGone result.0.was.asked r × IsTold result.0.was.refused r) }
+    ensures seat { (result.0.keeps ≡ false) × (result.0.pubs ≡ false) }
+    ensures grows { IsBefore seat.was result.0.was }
+{
+    let mut me = seat;
+    let mut state = shared.state.lock(rt);
+    for _ in rt.forever() {
+        let (seen, answer) = state.answer(&shared.seats, me, ticket);
+        me = seen;
+        if let Some(answer) = answer {
+            return (me, answer);
+        }
+        state = shared.answered.wait(rt, state);
+    }
+    unreachable!()
+}
+
+impl<S: Alter, B: Room> Submitter<S, B> {
+    pub(crate) fn over(
+        shared: Arc<Shared<S, B>>,
+        id: u64,
+        seat: Pass<S, B>,
+        share: Share<B>,
+    ) -> Submitter<S, B>
+        requires seat { (seat.keeps ≡ false) × (seat.pubs ≡ false) }
+        requires share { share.parts ≡ 1 }
+        requires parts { B.parts ≡ 2 ^ 62 }
+        ensures { result ≡ record { id = id; was = seat.was; parts = 1; amount = share.amount } }
+    {
+        Submitter {
+            shared,
+            id,
+            seat,
+            share,
+            parts: 1,
+        }
+    }
+
+    /// The length of the history. It takes no lock, waits for nobody, and never falls.
+    pub fn published(&mut self) -> u64
+        ensures length { result ≡ length self.new.was.history }
+        ensures never_falls { length self.old.was.history ≤ result }
+        ensures grows { IsBefore self.old.was self.new.was }
+        ensures same { (self.new.id ≡ self.old.id) × (self.new.parts ≡ self.old.parts) × (self.new.amount ≡ self.old.amount) }
+    {
+        self.shared.seats.look(&mut self.seat)
+    }
+
+    /// Submits a command.
+    ///
+    /// # Failure
+    /// E91 where the hub is closed; else E90 where 1,024 submissions have an answer that wasn't fetched, or none yet, or 2^62
+    /// tickets were given. The command comes back.
+    pub fn submit<R: Wait>(&mut self, rt: &R, command: Command) -> Result<Ticket, (Command, Denied)>
+        ensures ticket { IfOk result (λ t. IsTicket self.old self.new command t) }
+        ensures denied { IfErr result (λ e. (e.0 ≡ command) × IsDenied self.new.was e.1 × (self.new.amount ≡ self.old.amount)) }
+        ensures open_until_then { OnOk result (self.old.was.closed ≡ false) }
+        ensures grows { IsBefore self.old.was self.new.was }
+        ensures same { (self.new.id ≡ self.old.id) × (self.new.parts ≡ self.old.parts) }
+    {
+        let shared = &*self.shared;
+        let me = mem::replace(&mut self.seat, shared.seats.enter());
+        let (me, answer) = shared
+            .state
+            .lock(rt)
+            .submit(&shared.seats, me, &mut self.share, command);
+        self.seat = me;
+        let number = answer?;
+        shared.asked.notify_one();
+        Ok(Ticket {
+            number,
+            owner: self.id,
+        })
+    }
+
+    /// Waits for the receipt of a ticket. It stands at its place in the one history, whose replies are those of apply, as far as
+    /// the disk had told no lie by the last stamp that was published.
+    ///
+    /// # Failure
+    /// E92 where the ticket is another submitter's; else the code that its command was answered by.
+    pub fn wait<R: Wait>(&mut self, rt: &R, ticket: Ticket) -> Result<Receipt, NotDone>
+        ensures receipt { IfOk result (λ r. IsReceipt S.Store self.new ticket r) }
+        ensures not_done { IfErr result (λ n. IsNotDone self.new ticket n) }
+        ensures grows { IsBefore self.old.was self.new.was }
+        ensures same { (self.new.id ≡ self.old.id) × (self.new.parts ≡ self.old.parts) × (self.new.amount ≡ self.old.amount) }
+    {
+        if ticket.owner != self.id {
+            return Err(NotDone {
+                ticket,
+                code: Why::NotMine,
+                command: None,
+            });
+        }
+        let shared = &*self.shared;
+        let me = mem::replace(&mut self.seat, shared.seats.enter());
+        let (me, answer) = awaited(rt, shared, me, ticket.number);
+        self.seat = me;
+        match answer {
+            Ok(receipt) => Ok(receipt),
+            Err(refused) => {
+                let Refused { asked, code } = refused;
+                Err(NotDone {
+                    ticket,
+                    code: Why::Refused(code),
+                    command: Some(asked.command),
+                })
+            }
+        }
+    }
+
+    /// Takes over the share of another submitter, which is no more.
+    pub fn gather(&mut self, other: Submitter<S, B>)
+        ensures share { (self.new.parts ≡ self.old.parts + other.parts) × (self.new.amount ≡ self.old.amount + other.amount) }
+        ensures same { (self.new.id ≡ self.old.id) × (self.new.was ≡ self.old.was) }
+    {
+        let Submitter {
+            shared: _,
+            id: _,
+            seat: _,
+            share,
+            parts,
+        } = other;
+        self.share.merge(share);
+        self.parts += parts;
+    }
+
+    /// Where it has gathered all others of its hub: the tickets given, which are the sum of all shares, by what became of them.
+    pub fn settle<R: Wait>(&mut self, rt: &R) -> Option<Settled>
+        ensures settled { IfSome result (λ s. (s.given ≡ self.new.amount) × IsSettled self.new.was s) }
+        ensures none { IfNone result (self.new.was.members ≢ self.new.parts) }
+        ensures grows { IsBefore self.old.was self.new.was }
+        ensures same { (self.new.id ≡ self.old.id) × (self.new.parts ≡ self.old.parts) × (self.new.amount ≡ self.old.amount) }
+    {
+        let shared = &*self.shared;
+        let me = mem::replace(&mut self.seat, shared.seats.enter());
+        let (me, settled) = shared
+            .state
+            .lock(rt)
+            .settle(&shared.seats, me, &mut self.share, self.parts);
+        self.seat = me;
+        settled
+    }
+}
