@@ -38,7 +38,7 @@ fn add_receipts(list: &mut Vec<Told>, receipts: &[Receipt]) -> bool {
 }
 
 /// The same of what became of a batch. One that isn't kept is told once, whatever it has.
-fn add_outcome(list: &mut Vec<Told>, outcome: Outcome, is_halted: bool) -> bool {
+fn add_outcome<S: Alter>(list: &mut Vec<Told>, outcome: Outcome<S>, is_halted: bool) -> bool {
     match outcome {
         Outcome::Kept(receipts, stamp) => {
             stamp.discard();

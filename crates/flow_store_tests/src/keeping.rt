@@ -10,7 +10,7 @@ use sqlite_disk::{Fuse, Memory};
 use std::alloc::Global;
 use std::test::Fail;
 
-fn told(outcome: Outcome, is_halted: bool) -> Told {
+fn told<S: Alter>(outcome: Outcome<S>, is_halted: bool) -> Told {
     match outcome {
         Outcome::Kept(receipts, stamp) => {
             stamp.discard();

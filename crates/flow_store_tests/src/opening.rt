@@ -80,7 +80,7 @@ fn closed<S: Alter>(keeper: Keeper<S>) -> Connection<S> {
     keeper.into_tables().into_connection()
 }
 
-fn is_kept(outcome: Outcome) -> bool {
+fn is_kept<S: Alter>(outcome: Outcome<S>) -> bool {
     match outcome {
         Outcome::Kept(_, stamp) => {
             stamp.discard();
