@@ -98,7 +98,9 @@ fn padded(alloc: Global, name: &str, size: usize) -> Option<RawText> {
     let mut text = String::from_str(alloc, "workflow a(").ok()?;
     text.push_str(name).ok()?;
     text.push_str(": int) { return 1; }").ok()?;
-    let room = " ".repeat(alloc, size.saturating_sub(text.as_str().len())).ok()?;
+    let room = " "
+        .repeat(alloc, size.saturating_sub(text.as_str().len()))
+        .ok()?;
     text.push_str(room.as_str()).ok()?;
     RawText::new(alloc, text.as_str()).ok()
 }
@@ -114,7 +116,12 @@ fn is_read<'a>(
     Some(programs.read(alloc, &text).ok()?.is_ok())
 }
 
-fn are_read<'a>(alloc: Global, programs: &mut Kept<Counted<'a>>, names: &[&str], size: usize) -> bool {
+fn are_read<'a>(
+    alloc: Global,
+    programs: &mut Kept<Counted<'a>>,
+    names: &[&str],
+    size: usize,
+) -> bool {
     for name in names {
         if is_read(alloc, programs, name, size) != Some(true) {
             return false;

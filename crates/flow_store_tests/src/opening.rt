@@ -127,7 +127,8 @@ fn keep_call<S: Alter>(alloc: Global, conn: Connection<S>, call: Call) -> (bool,
 fn decided<S: Alter>(alloc: Global, tables: &mut Tables<S>, call: Call) -> bool {
     match command(alloc, call) {
         Some(command) => {
-            tables.begin().is_ok() && decide(alloc, &mut Kept::new(alloc, Language), tables, &command).is_ok()
+            tables.begin().is_ok()
+                && decide(alloc, &mut Kept::new(alloc, Language), tables, &command).is_ok()
         }
         None => false,
     }
