@@ -24,7 +24,7 @@ pub fn keeper(alloc: Global) -> Option<Keeper<MemStore>>
 {
     let conn = Connection::open_in_memory(alloc).ok()?;
     match Tables::open(alloc, conn) {
-        Ok(tables) => Some(Keeper::over(alloc, tables)),
+        Ok((tables, _book)) => Some(Keeper::over(alloc, tables)),
         Err((_fault, _conn)) => None,
     }
 }
@@ -99,6 +99,11 @@ pub fn call<S: Alter, B: Room, R: Wait>(
     ensures own { IfSome result (λ r. r.command ≡ command) }
     ensures stands { IfSome result (λ r. Stands submitter.new.was.history r × IsHistory S.Store submitter.new.was) }
 {
-    let ticket = submitter.submit(rt, command).ok()?;
-    submitter.wait(rt, ticket).ok()
+    let Ok(ticket) = submitter.submit(rt, command) else {
+        return None;
+    };
+    match submitter.wait(rt, ticket) {
+        Ok(receipt) => Some(receipt),
+        Err(_instead) => None,
+    }
 }

@@ -91,7 +91,9 @@ fn run_of<S: Alter>(alloc: Global, keeper: &mut Keeper<S>, number: u64) -> Optio
             stamp.discard();
             Some(only_run(receipts.as_slice()))
         }
-        _ => None,
+        Outcome::NotApplied(_batch, _fault) => None,
+        Outcome::Unknown(_batch, _fault) => None,
+        Outcome::Halted(_batch) => None,
     }
 }
 
@@ -106,7 +108,9 @@ fn registered<S: Alter>(alloc: Global, keeper: &mut Keeper<S>) -> Option<()> {
             stamp.discard();
             Some(())
         }
-        _ => None,
+        Outcome::NotApplied(_batch, _fault) => None,
+        Outcome::Unknown(_batch, _fault) => None,
+        Outcome::Halted(_batch) => None,
     }
 }
 
@@ -137,7 +141,7 @@ fn are_counted(list: &[Seen]) -> bool {
 
 /// What two threads got, and what became of all tickets.
 #[derive(Drop)]
-struct Raced {
+struct Race {
     first: Option<Vec<Seen>>,
     second: Option<Vec<Seen>>,
     settled: Option<Settled>,
@@ -150,7 +154,7 @@ fn raced<B: Room + Send + Sync, R: Threads + Wait + Sync>(
     hub: &Hub<MemStore, B>,
     mut a: Submitter<MemStore, B>,
     mut b: Submitter<MemStore, B>,
-) -> Raced {
+) -> Race {
     let text = match register(alloc) {
         Some(command) => call(rt, &mut a, command).is_some(),
         None => false,
@@ -169,7 +173,7 @@ fn raced<B: Room + Send + Sync, R: Threads + Wait + Sync>(
     a.gather(b);
     let settled = a.settle(rt);
     hub.close(rt);
-    Raced {
+    Race {
         first,
         second,
         settled: if text { settled } else { None },
@@ -182,7 +186,7 @@ fn served<B: Room + Send + Sync, R: Threads + Wait + Sync>(
     alloc: Global,
     opened: Opened<MemStore>,
     keeper: Keeper<MemStore>,
-) -> Option<(Raced, u64)>
+) -> Option<(Race, u64)>
     requires room { IsRoomOf opened B.table B.name B.parts }
     requires keeper { keeper.log ≡ [] }
 {
@@ -206,7 +210,7 @@ fn served<B: Room + Send + Sync, R: Threads + Wait + Sync>(
 }
 
 /// Both lists in order of places, and how many of them a keeper alone answers so.
-fn compared(alloc: Global, raced: &Raced) -> Option<(bool, u64)> {
+fn compared(alloc: Global, raced: &Race) -> Option<(bool, u64)> {
     let first = raced.first.as_ref()?;
     let second = raced.second.as_ref()?;
     let list = in_order(alloc, first.as_slice(), second.as_slice())?;

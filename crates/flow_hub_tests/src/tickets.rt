@@ -117,8 +117,8 @@ fn full<B: Room, R: Wait>(
 ) -> Option<((u8, u64), (u8, u64), (u64, u8, u64), (u8, u64))>
     requires { IsRoomOf opened B.table B.name B.parts }
 {
-    let mut keeper = keeper(alloc)?;
     let (mut publisher, hub) = Hub::<MemStore, B>::new(alloc, opened).ok()?;
+    let mut keeper = keeper(alloc)?;
     let mut submitter = hub.submitter(rt).ok()?;
     overfilled(rt, alloc, &mut publisher, &mut keeper, &mut submitter)
 }
@@ -170,8 +170,8 @@ fn lent<B: Room, R: Wait>(
 ) -> Option<((u64, u8, u64), (u64, u8, u64))>
     requires { IsRoomOf opened B.table B.name B.parts }
 {
-    let mut keeper = keeper(alloc)?;
     let (mut publisher, hub) = Hub::<MemStore, B>::new(alloc, opened).ok()?;
+    let mut keeper = keeper(alloc)?;
     let mut owner = hub.submitter(rt).ok()?;
     let mut other = hub.submitter(rt).ok()?;
     lent_ticket(
