@@ -84,8 +84,8 @@ is_wrong_type _ = false
 abbrev pub Follows : Task → Heard → List Telling → Bool → Type 0
 Follows t e more over =
     MatchBool (is_wrong_type e)
-      ((at : ℕ) × (f : Heard) × Tells (report_of t (failed_with (codes "wrong type")) at) more f × (over ≡ is_err f))
-      ((more ≡ []) × (over ≡ is_err e))
+    ((at : ℕ) × (f : Heard) × Tells (report_of t (failed_with (codes "wrong type")) at) more f × (over ≡ is_err f))
+    ((more ≡ []) × (over ≡ is_err e))
 
 -- all that is told of a task, by what may come of it
 abbrev pub Reported : (Task → Attempt → Type 0) → Task → List Telling → Bool → Type 0

@@ -30,7 +30,7 @@ impl Attempt {
 
 /// What runs outside of the engine. A worker calls it for each attempt; one attempt may be run more than once, since a
 /// process may end before its report is kept.
-pub trait Activity: Drop {
+pub trait Activity {
     ghost use Rattle.std.specs.Prelude.{◌≡◌, List, ℕ, IfOk};
     ghost use Rattle.flow_pool.specs.declared.task.Task.{Task};
     ghost use Rattle.flow_pool.specs.declared.activity.Attempt.{Attempt};

@@ -8,7 +8,6 @@ pub mod channel;
 pub mod dispatcher;
 pub mod ends;
 pub mod hand;
-pub mod owned;
 pub mod report;
 pub mod task;
 pub mod worker;

@@ -44,7 +44,10 @@ impl Unheard {
     pub fn is_final(self) -> bool
         ensures { result ≡ is_final self }
     {
-        matches!(self, Unheard::Unknown | Unheard::Halted | Unheard::HubClosed)
+        matches!(
+            self,
+            Unheard::Unknown | Unheard::Halted | Unheard::HubClosed
+        )
     }
 }
 

@@ -83,7 +83,7 @@ fn work<R: Wait, A: Activity, S: Reports, C: Clock>(
 /// the moment that the clock tells then. A task whose activity isn't there fails with `no such activity`, and after E66 the
 /// failure `wrong type` is reported. A report is made again after E01, E80 and E90. It ends where the channel is empty and its
 /// sender is gone, and after E84, E85 and E91; both ends come back.
-pub fn worker<R: Wait, A: Activity, S: Reports, C: Clock>(
+pub fn worker<R: Wait, A: Activity + Drop, S: Reports, C: Clock>(
     rt: &R,
     alloc: Global,
     activities: Vec<A>,
