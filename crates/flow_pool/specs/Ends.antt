@@ -33,3 +33,10 @@ AreOne s r = receives_on r.end ≡ sends_on s.end
 
 abbrev pub IsOpenTo : TaskSender → Door → Type 0
 IsOpenTo s d = receives_on d.end ≡ sends_on s.end
+
+-- they are ends of the same channel
+abbrev pub IsSameEnd : TaskReceiver → TaskReceiver → Type 0
+IsSameEnd r s = receives_on s.end ≡ receives_on r.end
+
+abbrev pub IsSameFeed : TaskSender → TaskSender → Type 0
+IsSameFeed r s = sends_on s.end ≡ sends_on r.end

@@ -1,3 +1,4 @@
 pub mod Attempts
 pub mod Ends
 pub mod Orders
+pub mod Reports

@@ -2,7 +2,7 @@
 //! beginning of what was put, and each of it was taken by one worker.
 ghost use Rattle.std.specs.Prelude.{◌≡◌, [], ◌∷◌, ◌++◌, ◌+◌, ◌<◌, IfOk, IfErr, OnOk, OnErr, MatchOption};
 ghost use Rattle.flow_pool.specs.Orders.{back_of, Delivers};
-ghost use Rattle.flow_pool.specs.Ends.{put_by, made_by, back_at, number_of, taken_by, AreOne, IsOpenTo};
+ghost use Rattle.flow_pool.specs.Ends.{put_by, made_by, back_at, number_of, taken_by, AreOne, IsOpenTo, IsSameEnd, IsSameFeed};
 
 use crate::ends::{Door, TaskReceiver, TaskSender, receiver, sender};
 use crate::hand::{Learnt, Makes, Puts, Returns, Takes};
@@ -27,7 +27,7 @@ impl TaskSender {
         ensures made { IfOk result (λ r. AreOne self.new r × (number_of r ≡ made_by self.old) × (taken_by r ≡ [])) }
         ensures counted { OnOk result (made_by self.new ≡ made_by self.old + 1) }
         ensures err { OnErr result (made_by self.new ≡ made_by self.old) }
-        ensures same { IsOpenTo self.new door.now × (put_by self.new ≡ put_by self.old) × (back_at self.new ≡ back_at self.old) }
+        ensures same { IsSameFeed self.old self.new × (put_by self.new ≡ put_by self.old) × (back_at self.new ≡ back_at self.old) }
     {
         let end = door.end.try_clone()?;
         let pass = self.end.another::<Makes>(&mut self.pass);
@@ -38,7 +38,7 @@ impl TaskSender {
     pub fn put<R: Wait>(&mut self, rt: &R, task: Task) -> Result<(), Task>
         ensures put { OnOk result (put_by self.new ≡ put_by self.old ++ task ∷ []) }
         ensures back { IfErr result (λ t. (t ≡ task) × (put_by self.new ≡ put_by self.old)) }
-        ensures same { (made_by self.new ≡ made_by self.old) × (back_at self.new ≡ back_at self.old) }
+        ensures same { IsSameFeed self.old self.new × (made_by self.new ≡ made_by self.old) × (back_at self.new ≡ back_at self.old) }
     {
         match self.end.send_as::<Puts, R>(rt, &mut self.pass, task) {
             Ok(()) => Ok(()),
@@ -51,7 +51,7 @@ impl TaskSender {
     pub fn take_back(&mut self, worker: TaskReceiver)
         requires { AreOne self.old worker }
         ensures back { back_at self.new ≡ back_at self.old ++ back_of (number_of worker) (taken_by worker) ∷ [] }
-        ensures same { (put_by self.new ≡ put_by self.old) × (made_by self.new ≡ made_by self.old) }
+        ensures same { IsSameFeed self.old self.new × (put_by self.new ≡ put_by self.old) × (made_by self.new ≡ made_by self.old) }
     {
         let TaskReceiver { end: _end, pass } = worker;
         self.end.absorb::<Returns>(&mut self.pass, pass);
@@ -61,7 +61,7 @@ impl TaskSender {
     /// taken by one worker, and those of a worker that came back are all that it took.
     pub fn settle(&mut self)
         ensures delivers { Delivers (put_by self.new) (made_by self.new) (back_at self.new) }
-        ensures same { (put_by self.new ≡ put_by self.old) × (made_by self.new ≡ made_by self.old) × (back_at self.new ≡ back_at self.old) }
+        ensures same { IsSameFeed self.old self.new × (put_by self.new ≡ put_by self.old) × (made_by self.new ≡ made_by self.old) × (back_at self.new ≡ back_at self.old) }
     {
         self.end.learn_as::<Learnt>(&mut self.pass);
     }
@@ -71,7 +71,7 @@ impl TaskReceiver {
     /// Takes the next task. None where the channel was empty at a moment of the call, as after its sender is gone.
     pub fn take<R: Wait>(&mut self, rt: &R) -> Option<Task>
         ensures taken { MatchOption result (taken_by self.new ≡ taken_by self.old) (λ x. taken_by self.new ≡ taken_by self.old ++ x ∷ []) }
-        ensures same { number_of self.new ≡ number_of self.old }
+        ensures same { IsSameEnd self.old self.new × (number_of self.new ≡ number_of self.old) }
     {
         self.end.recv_as::<Takes, R>(rt, &mut self.pass).ok()
     }

@@ -2,8 +2,12 @@
 #![tactic(auto)]
 
 pub mod activity;
+mod attempts;
 pub mod builtin;
 pub mod channel;
+pub mod dispatcher;
 pub mod ends;
 pub mod hand;
+pub mod report;
 pub mod task;
+pub mod worker;

@@ -1,0 +1,46 @@
+-- What a worker has told, one report more.
+use Rattle.std.proofs.Common.{◌≡◌, ℕ, zero, suc, List, [], ◌∷◌, ◌++◌, Bool, true, false, Option, Some, None, Ok, Err, set, get_or, drop, length, ◌<◌, inl, inr, refl, sym, ap, ◌∙◌, subst, arith, append_assoc, append-nil, bytes_eq}
+use Rattle.std.proofs.lemmas.Option.{same_Some, none-some}
+use Rattle.std.specs.List.{AllByRecursion, slice_get}
+use Rattle.flow_base.specs.declared.command.Command.{Command}
+use Rattle.flow_pool.specs.declared.activity.Attempt.{Attempt}
+use Rattle.flow_pool.specs.declared.task.Task.{Task}
+use Rattle.flow_pool.specs.declared.report.Unheard.{Unheard}
+use Rattle.flow_pool.specs.Reports.{Heard, Telling, first_named, MayGive, MayCome, IsUnheard, Reported, GoesOn, Stops, Works, is_final}
+
+-- one more that wasn't heard
+pub unheard_next : (c : Command) (before : List Telling) (x : Telling) → AllByRecursion (IsUnheard c) before → IsUnheard c x → AllByRecursion (IsUnheard c) (before ++ x ∷ [])
+unheard_next c [] x all one = (one, tt)
+unheard_next c (b ∷ bs) x all one = (all.0, unheard_next c bs x all.1 one)
+
+-- one more task, at which somebody heard
+pub goes_on : (may : Task → Attempt → Type 0) (ts : List Task) (log : List Telling) (t : Task) (one : List Telling) → GoesOn may ts log → Reported may t one false → GoesOn may (ts ++ t ∷ []) (log ++ one)
+goes_on may [] log t one went told = (one, [], ap (λ l. l ++ one) went ∙ sym (append-nil one), told, refl)
+goes_on may (s ∷ ts) log t one went told =
+    (went.0, went.1 ++ one, ap (λ l. l ++ one) went.2 ∙ append_assoc went.0 went.1 one, went.3, goes_on may ts went.1 t one went.4 told)
+
+-- what may come by one set of activities may come by another
+pub reported_by : (may more : Task → Attempt → Type 0) (t : Task) (log : List Telling) (over : Bool) → ((s : Task) (a : Attempt) → may s a → more s a) → Reported may t log over → Reported more t log over
+reported_by may more t log over weaker (a, came, at, first, e, rest, is, tells, follows) = (a, weaker t a came, at, first, e, rest, is, tells, follows)
+
+-- an activity that has run gives no more than before
+pub may_set : {X : Type 0} (named : X → List ℕ) (gives : X → Task → Attempt → Type 0) (xs : List X) (i : ℕ) (x y : X) → i < length xs → get_or xs i x ≡ x → named y ≡ named x
+    → ((t : Task) (a : Attempt) → gives y t a → gives x t a)
+    → (t : Task) (a : Attempt) → MayCome named gives (set xs i y) t a → MayCome named gives xs t a
+may_set named gives [] i x y less at same keeps t a came = absurd (omega arith)
+may_set named gives (z ∷ zs) zero x y less at same keeps t a came = go (bytes_eq (named z) t.activity) refl
+  where
+    go : (b : Bool) → bytes_eq (named z) t.activity ≡ b → MayCome named gives (z ∷ zs) t a
+    go true is = rw is (subst (λ w. gives w t a) (sym at) (keeps t a (rw (same, sym (ap named at), is) at came)))
+    go false is = rw is (rw (same, sym (ap named at), is) at came)
+may_set named gives (z ∷ zs) (suc i) x y less at same keeps t a came = go (may_set named gives zs i x y (omega arith) at same keeps t a) (bytes_eq (named z) t.activity) refl
+  where
+    go : (MayCome named gives (set zs i y) t a → MayCome named gives zs t a) → (b : Bool) → bytes_eq (named z) t.activity ≡ b → MayCome named gives (z ∷ zs) t a
+    go rest true is = rw is (rw is at came)
+    go rest false is = rw is (rest (rw is at came))
+
+-- the first that has a name
+pub found_at : {X : Type 0} (named : X → List ℕ) (name : List ℕ) (xs : List X) (i : ℕ) (x : X) → slice_get xs i ≡ Some x → bytes_eq (named x) name ≡ true → first_named named name (drop i xs) ≡ slice_get xs i
+found_at named name [] i x at same = absurd (none-some x at)
+found_at named name (z ∷ zs) zero x at same = let here : bytes_eq (named z) name ≡ true = ap (λ w. bytes_eq (named w) name) (same_Some z x at) ∙ same in rw here refl
+found_at named name (z ∷ zs) (suc i) x at same = found_at named name zs i x at same

@@ -1,0 +1,13 @@
+use Rattle.std.proofs.Common.{◌≡◌, ◌++◌, List}
+use Rattle.flow_pool.specs.Ends.{taken_by, number_of, IsSameEnd}
+use Rattle.flow_pool.specs.Reports.{Telling, MayCome, GoesOn}
+use Rattle.flow_pool.specs.declared.task.Task.{Task}
+use Rattle.flow_pool.specs.declared.activity.Attempt.{Attempt}
+use Rattle.flow_pool.proofs.worker.worker.Given as goal
+
+abbrev pub invariant-tasks : goal.invariant-tasks
+invariant-tasks g l =
+    (goal.iterator-tasks g).can_next l.iterator' × (goal.iterator-tasks g).is_finite l.iterator'
+    × ((t : Task) (a : Attempt) → MayCome g.A.Activity.named g.A.Activity.gives l.activities.items t a → MayCome g.A.Activity.named g.A.Activity.gives l.initial.activities.items t a)
+    × IsSameEnd l.initial.receiver l.receiver × (number_of l.receiver ≡ number_of l.initial.receiver)
+    × ((ts : List Task) × (log : List Telling) × (taken_by l.receiver ≡ taken_by l.initial.receiver ++ ts) × (g.S.Reports.told l.reports ≡ g.S.Reports.told l.initial.reports ++ log) × GoesOn (MayCome g.A.Activity.named g.A.Activity.gives l.initial.activities.items) ts log)

@@ -1,0 +1,73 @@
+//! How an attempt is made.
+ghost use Rattle.std.specs.Prelude.{◌≡◌, ◌<◌, ◌≤◌, None, length, IfOk, IfSome, IfNone, slice_get};
+ghost use Rattle.flow_pool.specs.Attempts.{failed_with};
+ghost use Rattle.flow_pool.specs.Reports.{first_named, MayCome};
+ghost use Rattle.flow_pool.specs.declared.task.Task.{Task};
+ghost use Rattle.flow_pool.specs.declared.activity.Attempt.{Attempt};
+
+use crate::activity::{Activity, Attempt};
+use crate::task::Task;
+use std::alloc::{AllocError, Global};
+use std::sync::Wait;
+use std::thread;
+
+// Where the first activity of this name stands.
+fn place_of<A: Activity>(activities: &[A], name: &str) -> Option<usize>
+    ensures none { IfNone result (first_named A.named name.now activities.now ≡ None) }
+    ensures some { IfSome result (λ i. (i < length activities.now) × (first_named A.named name.now activities.now ≡ slice_get activities.now i)) }
+{
+    'places: for i in 0..activities.len() {
+        if activities[i].name() == name {
+            return Some(i);
+        }
+    }
+    None
+}
+
+// Makes an attempt by the first activity of its name. It fails where there is none.
+fn attempted<A: Activity>(
+    alloc: Global,
+    activities: &mut Vec<A>,
+    task: &Task,
+) -> Result<Attempt, AllocError>
+    ensures comes { IfOk result (λ a. MayCome A.named A.gives activities.old.items task.now a) }
+    ensures keeps { (t : Task) (a : Attempt) → MayCome A.named A.gives activities.new.items t a → MayCome A.named A.gives activities.old.items t a }
+{
+    match place_of(activities.as_slice(), task.activity.as_str()) {
+        Some(i) => activities[i].run(alloc, task),
+        None => Attempt::failed(alloc, "no such activity"),
+    }
+}
+
+/// Makes an attempt, again and again while memory is missing.
+pub(crate) fn attempt<R: Wait, A: Activity>(
+    rt: &R,
+    alloc: Global,
+    activities: &mut Vec<A>,
+    task: &Task,
+) -> Attempt
+    ensures comes { MayCome A.named A.gives activities.old.items task.now result }
+    ensures keeps { (t : Task) (a : Attempt) → MayCome A.named A.gives activities.new.items t a → MayCome A.named A.gives activities.old.items t a }
+{
+    'tries: for _ in rt.forever() {
+        if let Ok(attempt) = attempted(alloc, activities, task) {
+            return attempt;
+        }
+        thread::yield_now();
+    }
+    unreachable!()
+}
+
+/// A failure for a reason, as soon as there's memory for it.
+pub(crate) fn failure<R: Wait>(rt: &R, alloc: Global, reason: &str) -> Attempt
+    requires { length reason.now ≤ 4096 }
+    ensures { result ≡ failed_with reason.now }
+{
+    'tries: for _ in rt.forever() {
+        if let Ok(attempt) = Attempt::failed(alloc, reason) {
+            return attempt;
+        }
+        thread::yield_now();
+    }
+    unreachable!()
+}

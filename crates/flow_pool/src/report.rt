@@ -1,0 +1,76 @@
+//! What a worker reports, and to whom.
+ghost use Rattle.std.specs.Prelude.{◌≡◌};
+ghost use Rattle.flow_pool.specs.Reports.{report_of, unheard_number, is_final};
+
+use crate::activity::Attempt;
+use crate::task::Task;
+use flow_base::command::{Command, Reply};
+use flow_base::number::Moment;
+use std::sync::Wait;
+
+/// Why a report wasn't answered by a reply.
+#[derive(Clone, Copy, Debug, PartialEq, Eq, thiserror::Error)]
+pub enum Unheard {
+    #[error("E01 out of memory")]
+    NoMemory,
+    #[error("E80 the store refused")]
+    StoreRefused,
+    #[error("E84 not known whether it was kept")]
+    Unknown,
+    #[error("E85 halted")]
+    Halted,
+    #[error("E90 inbox full")]
+    InboxFull,
+    #[error("E91 hub closed")]
+    HubClosed,
+}
+
+impl Unheard {
+    /// The number of the refusal.
+    pub fn number(self) -> u8
+        ensures { result ≡ unheard_number self }
+    {
+        match self {
+            Unheard::NoMemory => 1,
+            Unheard::StoreRefused => 80,
+            Unheard::Unknown => 84,
+            Unheard::Halted => 85,
+            Unheard::InboxFull => 90,
+            Unheard::HubClosed => 91,
+        }
+    }
+
+    /// Whether nothing that is reported from now on is kept: E84, E85 and E91. After the others the report is made again.
+    pub fn is_final(self) -> bool
+        ensures { result ≡ is_final self }
+    {
+        matches!(
+            self,
+            Unheard::Unknown | Unheard::Halted | Unheard::HubClosed
+        )
+    }
+}
+
+/// Takes reports, as a submitter of the hub does.
+pub trait Reports {
+    ghost use Rattle.std.specs.Prelude.{◌≡◌, [], ◌∷◌, ◌++◌, List, IfErr};
+    ghost use Rattle.flow_pool.specs.Reports.{Telling, came_of};
+
+    /// All that was reported, and what came of it, for contracts alone.
+    ghost told: { Self → List Telling };
+
+    /// Submits a command and waits for its reply. Where there is none, the command comes back.
+    fn tell<R: Wait>(&mut self, rt: &R, command: Command) -> Result<Reply, (Command, Unheard)>
+        ensures told { told self.new ≡ told self.old ++ (command, came_of result) ∷ [] }
+        ensures back { IfErr result (λ e. e.0 ≡ command) };
+}
+
+/// The report of an attempt.
+pub fn report(task: &Task, attempt: Attempt, at: Moment) -> Command
+    ensures { result ≡ report_of task.now attempt at }
+{
+    match attempt {
+        Attempt::Done(value) => Command::Complete(task.run, task.event, task.attempt, value, at),
+        Attempt::Failed(reason) => Command::Fail(task.run, task.event, task.attempt, reason, at),
+    }
+}

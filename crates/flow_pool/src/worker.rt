@@ -1,0 +1,109 @@
+//! A worker: takes tasks, makes an attempt of each, and reports it.
+ghost use Rattle.std.specs.Prelude.{◌≡◌, ◌++◌, List, is_err};
+ghost use Rattle.flow_pool.specs.declared.task.Task.{Task};
+ghost use Rattle.flow_pool.specs.declared.activity.Attempt.{Attempt};
+ghost use Rattle.flow_pool.specs.Ends.{number_of, taken_by, IsSameEnd};
+ghost use Rattle.flow_pool.specs.Reports.{Telling, Tells, Follows, Reported, Works, MayCome, is_wrong_type};
+
+use crate::activity::{Activity, Attempt};
+use crate::attempts::{attempt, failure};
+use crate::ends::TaskReceiver;
+use crate::report::{Reports, Unheard, report};
+use crate::task::Task;
+use flow_base::code::Code;
+use flow_base::command::{Command, Reply};
+use flow_timers::Clock;
+use std::alloc::Global;
+use std::sync::Wait;
+use std::thread;
+
+// Tells a report until there's a reply, or nobody to tell.
+fn tell<R: Wait, S: Reports>(rt: &R, reports: &mut S, command: Command) -> Result<Reply, Unheard>
+    ensures { (log : List Telling) × (S.told reports.new ≡ S.told reports.old ++ log) × Tells command log result }
+{
+    let mut command = command;
+    'tries: for _ in rt.forever() {
+        match reports.tell(rt, command) {
+            Ok(reply) => return Ok(reply),
+            Err((back, unheard)) => {
+                if unheard.is_final() {
+                    return Err(unheard);
+                }
+                command = back;
+            }
+        }
+        thread::yield_now();
+    }
+    unreachable!()
+}
+
+// Whether the report has to be followed by a failure.
+fn has_wrong_type(heard: &Result<Reply, Unheard>) -> bool
+    ensures { result ≡ is_wrong_type heard.now }
+{
+    matches!(heard, Ok(Reply::Refused(Code::WrongType)))
+}
+
+// Tells the failure that follows E66. Whether nobody is left to tell.
+fn follow<R: Wait, S: Reports, C: Clock>(
+    rt: &R,
+    alloc: Global,
+    task: &Task,
+    heard: Result<Reply, Unheard>,
+    reports: &mut S,
+    clock: &C,
+) -> bool
+    ensures { (more : List Telling) × (S.told reports.new ≡ S.told reports.old ++ more) × Follows task.now heard more result }
+{
+    if !has_wrong_type(&heard) {
+        return heard.is_err();
+    }
+    let failed = failure(rt, alloc, "wrong type");
+    tell(rt, reports, report(task, failed, clock.now())).is_err()
+}
+
+// Makes an attempt of a task and reports it. Whether nobody is left to tell.
+fn work<R: Wait, A: Activity, S: Reports, C: Clock>(
+    rt: &R,
+    alloc: Global,
+    activities: &mut Vec<A>,
+    task: &Task,
+    reports: &mut S,
+    clock: &C,
+) -> bool
+    ensures reported { (log : List Telling) × (S.told reports.new ≡ S.told reports.old ++ log) × Reported (MayCome A.named A.gives activities.old.items) task.now log result }
+    ensures keeps { (t : Task) (a : Attempt) → MayCome A.named A.gives activities.new.items t a → MayCome A.named A.gives activities.old.items t a }
+{
+    let attempt = attempt(rt, alloc, activities, task);
+    let heard = tell(rt, reports, report(task, attempt, clock.now()));
+    follow(rt, alloc, task, heard, reports, clock)
+}
+
+/// Takes tasks, makes an attempt of each by the first activity of its name, and reports it: what it gave or why it failed, at
+/// the moment that the clock tells then. A task whose activity isn't there fails with `no such activity`, and after E66 the
+/// failure `wrong type` is reported. A report is made again after E01, E80 and E90. It ends where the channel is empty and its
+/// sender is gone, and after E84, E85 and E91; both ends come back.
+pub fn worker<R: Wait, A: Activity + Drop, S: Reports, C: Clock>(
+    rt: &R,
+    alloc: Global,
+    activities: Vec<A>,
+    receiver: TaskReceiver,
+    reports: S,
+    clock: &C,
+) -> (TaskReceiver, S)
+    ensures works { (ts : List Task) × (log : List Telling) × (taken_by result.0 ≡ taken_by receiver ++ ts) × (S.told result.1 ≡ S.told reports ++ log) × Works (MayCome A.named A.gives activities.items) ts log }
+    ensures same { IsSameEnd receiver result.0 × (number_of result.0 ≡ number_of receiver) }
+{
+    let mut activities = activities;
+    let mut receiver = receiver;
+    let mut reports = reports;
+    'tasks: for _ in rt.forever() {
+        let Some(task) = receiver.take(rt) else {
+            return (receiver, reports);
+        };
+        if work(rt, alloc, &mut activities, &task, &mut reports, clock) {
+            return (receiver, reports);
+        }
+    }
+    unreachable!()
+}
