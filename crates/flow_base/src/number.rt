@@ -39,6 +39,7 @@ impl RunId {
         }
     }
 
+    /// Its number, from 1 to [`LAST_NUMBER`].
     pub fn get(self) -> u64
         ensures value { result ≡ self }
         ensures first { 1 ≤ result }
@@ -79,6 +80,7 @@ impl TextNo {
         }
     }
 
+    /// Its number, from 1 to [`LAST_NUMBER`].
     pub fn get(self) -> u64
         ensures value { result ≡ self }
         ensures first { 1 ≤ result }
@@ -119,6 +121,7 @@ impl EventId {
         }
     }
 
+    /// Its number, from 1 to [`LAST_NUMBER`].
     pub fn get(self) -> u64
         ensures value { result ≡ self }
         ensures first { 1 ≤ result }
@@ -159,6 +162,7 @@ impl Moment {
         }
     }
 
+    /// Its milliseconds, from 0 to 10^15.
     pub fn get(self) -> u64
         ensures value { result ≡ self }
         ensures last { result ≤ LAST_MOMENT }

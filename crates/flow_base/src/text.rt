@@ -61,6 +61,7 @@ impl Text {
         Ok(Text { text })
     }
 
+    /// Its characters, at most 4,096 bytes of UTF-8.
     pub fn as_str(&self) -> &str
         ensures text { result.now ≡ self.now }
         ensures short { length result.now ≤ TEXT_LIMIT }
@@ -68,6 +69,7 @@ impl Text {
         self.text.as_str()
     }
 
+    /// An equal text, or E01.
     pub fn copy(&self, alloc: Global) -> Result<Text, AllocError>
         ensures { IfOk result (λ t. t ≡ self.now) }
     {
@@ -140,6 +142,7 @@ impl Key {
         Ok(Key { text })
     }
 
+    /// Its characters, 1 to 64 bytes of UTF-8.
     pub fn as_str(&self) -> &str
         ensures text { result.now ≡ self.now }
         ensures some { 1 ≤ length result.now }
@@ -148,6 +151,7 @@ impl Key {
         self.text.as_str()
     }
 
+    /// An equal key, or E01.
     pub fn copy(&self, alloc: Global) -> Result<Key, AllocError>
         ensures { IfOk result (λ k. k ≡ self.now) }
     {
@@ -179,6 +183,7 @@ impl Model for RawText {
 }
 
 impl RawText {
+    /// The text of these characters, of any length, or E01.
     pub fn new(alloc: Global, text: &str) -> Result<RawText, AllocError>
         ensures { IfOk result (λ t. t ≡ text.now) }
     {
@@ -186,12 +191,14 @@ impl RawText {
         Ok(RawText { text })
     }
 
+    /// Its characters.
     pub fn as_str(&self) -> &str
         ensures { result.now ≡ self.now }
     {
         self.text.as_str()
     }
 
+    /// An equal text, or E01.
     pub fn copy(&self, alloc: Global) -> Result<RawText, AllocError>
         ensures { IfOk result (λ t. t ≡ self.now) }
     {

@@ -20,6 +20,7 @@ pub enum Value {
 }
 
 impl Value {
+    /// An equal value, or E01.
     pub fn copy(&self, alloc: Global) -> Result<Value, AllocError>
         ensures { IfOk result (λ v. v ≡ self.now) }
     {
@@ -40,6 +41,7 @@ impl Value {
         }
     }
 
+    /// Its type: `int` or `text`.
     pub fn kind(&self) -> Kind
         ensures { result ≡ kind_of_value self.now }
     {

@@ -22,6 +22,7 @@ impl Checked {
         Checked { program }
     }
 
+    /// The program that was checked.
     pub fn program(&self) -> &Program
         ensures same { shown_program result.now ≡ shown_checked self.now }
         ensures well_formed { WellFormed (shown_checked self.now) }

@@ -53,6 +53,7 @@ impl<'a> Scope<'a> {
         }
     }
 
+    /// The parameters become variables, each of its type.
     pub fn add_parameters(&mut self, parameters: &'a [Parameter]) -> Result<(), AllocError>
         ensures types { OnOk result (types_of self.new ≡ types_of_parameters (types_of self.old) parameters.now) }
         ensures activities { OnOk result (activities_of self.new ≡ activities_of self.old) }
@@ -65,6 +66,7 @@ impl<'a> Scope<'a> {
         Ok(())
     }
 
+    /// The activities and signals become known; of two of one name the first stays.
     pub fn add_declarations(&mut self, declarations: &'a [Declaration]) -> Result<(), AllocError>
         ensures types { OnOk result (types_of self.new ≡ types_of self.old) }
         ensures activities { OnOk result (activities_of self.new ≡ first_then (activities_of self.old) (activity_of (map shown_declaration declarations.now))) }

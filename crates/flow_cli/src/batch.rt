@@ -44,6 +44,7 @@ impl BatchSize {
         }
     }
 
+    /// How many commands a batch has, 1 to 64.
     pub fn get(self) -> u64
         ensures value { result ≡ self }
         ensures first { 1 ≤ result }

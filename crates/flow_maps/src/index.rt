@@ -101,6 +101,7 @@ impl Index {
         }
     }
 
+    /// From now on nothing is known.
     pub fn forget(&mut self)
         ensures { (ks : List (Option Bytes)) → Lists self.new ks }
     {

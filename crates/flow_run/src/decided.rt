@@ -21,6 +21,7 @@ impl Model for Decided {
 }
 
 impl Decided {
+    /// No patch has an answer yet.
     pub fn new(alloc: Global) -> Decided
         ensures empty { result ≡ [] }
         ensures none { look_up result ≡ none_decided }
@@ -52,6 +53,7 @@ impl Decided {
         Ok(())
     }
 
+    /// Equal answers, or E01.
     pub fn copy(&self, alloc: Global) -> Result<Decided, AllocError>
         ensures { IfOk result (λ v. v ≡ self.now) }
     {

@@ -92,6 +92,7 @@ pub fn unbegun(alloc: Global) -> PlainRun
 }
 
 impl PlainRun {
+    /// An equal position, over the same lists and values, or E01.
     pub fn copy(&self, alloc: Global) -> Result<PlainRun, AllocError>
         ensures { IfOk result (λ r. plain_configuration r ≡ plain_configuration self.now) }
     {
@@ -124,6 +125,7 @@ impl PlainRun {
         self.moment
     }
 
+    /// Whether the run has begun, is open, or how it was closed.
     pub fn state(&self) -> State
         ensures { result ≡ (plain_configuration self.now).state }
     {

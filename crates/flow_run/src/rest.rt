@@ -49,6 +49,7 @@ pub enum OpenWait {
 }
 
 impl Rest {
+    /// An equal rest, over the same lists of statements, or E01.
     pub fn copy(&self, alloc: Global) -> Result<Rest, AllocError>
         ensures { IfOk result (λ r. shown_rest r ≡ shown_rest self.now) }
     {

@@ -89,6 +89,7 @@ impl Stance {
         self.run.moment()
     }
 
+    /// Whether the run has begun, is open, or how it was closed.
     pub fn state(&self) -> State
         ensures { (p : Tree) → (config_of p self.now).state ≡ result }
     {

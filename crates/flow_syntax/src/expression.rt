@@ -217,6 +217,7 @@ fn conjunction(alloc: Global, tokens: &[Token]) -> Result<(Expr, &[Token]), Stop
     Ok((left, rest))
 }
 
+/// Reads the expression that the tokens begin with, and gives the tokens behind it.
 #[cycle(expression)]
 pub fn expr(alloc: Global, tokens: &[Token]) -> Result<(Expr, &[Token]), Stop>
     ensures ok { IfOk result (λ x. Parsed m.expr expr_tokens expr_of (lexemes tokens.now) (shown_expr x.0) (lexemes x.1.now)) }

@@ -70,6 +70,7 @@ pub fn right_level(operator: Binary) -> u8
     }
 }
 
+/// The mark that an operator is written with.
 pub fn binary_mark(operator: Binary) -> Mark
     ensures { result ≡ binary_mark operator }
 {

@@ -38,6 +38,7 @@ fn print_between_commas<T: Item>(out: &mut Printer, items: &[T]) -> Result<(), A
     Ok(())
 }
 
+/// Prints a list in parentheses, with commas between its items.
 pub fn print_list<T: Item>(out: &mut Printer, items: &[T]) -> Result<(), AllocError>
     ensures { OnOk result (out.new ≡ out.old ++ spaced (listed (map T.item_words items.now))) }
 {

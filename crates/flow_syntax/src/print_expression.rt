@@ -10,6 +10,7 @@ use flow_base::syntax::{Expr, Unary};
 use flow_base::token::Mark;
 use std::alloc::AllocError;
 
+/// Prints an expression, with parentheses only where the grammar needs them.
 #[cycle(expression)]
 pub fn expr(out: &mut Printer, expr: &Expr) -> Result<(), AllocError>
     ensures { OnOk result (out.new ≡ out.old ++ spaced (expression_words (shown_expr expr.now))) }
@@ -88,6 +89,7 @@ impl Item for Expr {
     }
 }
 
+/// Prints a list of arguments in its parentheses.
 pub fn arguments(out: &mut Printer, list: &[Expr]) -> Result<(), AllocError>
     ensures { OnOk result (out.new ≡ out.old ++ spaced (arguments_words (map shown_expr list.now))) }
 {

@@ -273,6 +273,7 @@ fn statement(out: &mut Printer, stmt: &Stmt) -> Result<(), AllocError>
     }
 }
 
+/// Prints statements, one behind the other.
 #[cycle(statement)]
 pub fn statements(out: &mut Printer, list: &[Stmt]) -> Result<(), AllocError>
     ensures { OnOk result (out.new ≡ out.old ++ spaced (block_words (shown_block list.now))) }

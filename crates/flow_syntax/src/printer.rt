@@ -36,6 +36,7 @@ impl Printer {
         Ok(Printer { text })
     }
 
+    /// The text that was printed.
     pub fn finish(self) -> String
         ensures { string_bytes result ≡ self }
     {
@@ -57,6 +58,7 @@ impl Printer {
         Ok(())
     }
 
+    /// A mark or a keyword, behind a space.
     #[tactic(auto, unfolding(crate::specs::Print::spaced))]
     pub fn mark(&mut self, mark: Mark) -> Result<(), AllocError>
         ensures { OnOk result (self.new ≡ self.old ++ spaced (word.Mark mark ∷ [])) }
@@ -64,6 +66,7 @@ impl Printer {
         self.token(spelled(mark))
     }
 
+    /// The name of a type, behind a space.
     pub fn kind(&mut self, kind: Kind) -> Result<(), AllocError>
         ensures { OnOk result (self.new ≡ self.old ++ spaced (word.Mark (kind_mark kind) ∷ [])) }
     {
@@ -73,6 +76,7 @@ impl Printer {
         }
     }
 
+    /// A name, behind a space.
     #[tactic(auto, unfolding(crate::specs::Print::spaced))]
     pub fn name(&mut self, name: &Key) -> Result<(), AllocError>
         ensures { OnOk result (self.new ≡ self.old ++ spaced (word.Name name.now ∷ [])) }
@@ -80,6 +84,7 @@ impl Printer {
         self.token(name.as_str())
     }
 
+    /// A number in decimal form, behind a space.
     #[tactic(auto, unfolding(crate::specs::Print::spaced))]
     pub fn number(&mut self, number: i64) -> Result<(), AllocError>
         ensures { OnOk result (self.new ≡ self.old ++ spaced (word.Int number ∷ [])) }
@@ -111,6 +116,7 @@ impl Printer {
         write!(self.text, "{number}")
     }
 
+    /// A text in quotes, with its escapes, behind a space.
     #[tactic(auto, unfolding(crate::specs::Print::spaced))]
     pub fn quoted(&mut self, text: &str) -> Result<(), AllocError>
         ensures { OnOk result (self.new ≡ self.old ++ spaced (word.Text text.now ∷ [])) }

@@ -19,6 +19,7 @@ pub enum Class {
 }
 
 impl Class {
+    /// Whether a byte is of this class.
     pub fn has(self, byte: u8) -> bool
         ensures { result ≡ has self byte }
     {
@@ -39,6 +40,7 @@ pub fn is_letter(byte: u8) -> bool
     (byte >= b'A' && byte <= b'Z') || (byte >= b'a' && byte <= b'z') || byte == b'_'
 }
 
+/// Whether it is a decimal digit.
 pub fn is_digit(byte: u8) -> bool
     ensures { result ≡ is_digit byte }
 {

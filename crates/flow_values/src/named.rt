@@ -29,12 +29,14 @@ impl Model for NamedValues {
 }
 
 impl NamedValues {
+    /// No entries.
     pub fn new() -> NamedValues
         ensures { result ≡ [] }
     {
         NamedValues { list: None }
     }
 
+    /// The entries, in their order.
     pub fn entries(&self) -> &[(Key, Value)]
         ensures { result.now ≡ self.now }
     {
