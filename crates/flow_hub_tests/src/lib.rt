@@ -4,7 +4,7 @@
 #[cfg(test)]
 mod commands;
 #[cfg(test)]
-mod serving;
+mod refusing;
 #[cfg(test)]
 mod threads;
 #[cfg(test)]
