@@ -11,13 +11,13 @@ use Rattle.flow_engine.proofs.serve.commit_taken.Goals as goal
 pub publish-requires : goal.publish-requires
 publish-requires g c =
     let noted = c.in-Kept.ensures.noted in
-    receipts_answer c.args.engine.now c.commit.new.self c.args.publisher.now c.in-Kept.stamp c.args.batch c.in-Kept.receipts.items c.requires c.commit.ensures.base noted.3 noted.4 noted.5
+    receipts_answer c.args.engine.now c.commit.new.self c.args.publisher.now c.in-Kept.stamp c.args.batch c.in-Kept.receipts.items c.requires.hand c.commit.ensures.base noted.3 noted.4 noted.5
 
 pub returns-in-NotApplied-clause-together : goal.returns-in-NotApplied-clause-together
 returns-in-NotApplied-clause-together g c =
     let noted = c.in-NotApplied.ensures.noted in
     let same = c.into_taken.ensures.same ∙ noted.3 in
-    let hand = subst (λ (ts : List Taken). InHand c.args.engine.now c.args.publisher.now ts) (sym same) c.requires in
+    let hand = subst (λ (ts : List Taken). InHand c.args.engine.now c.args.publisher.now ts) (sym same) c.requires.hand in
     refused_together c.args.engine.now c.commit.new.self c.args.publisher.now c.refuse.new.self c.into_taken.result.items c.code.result hand noted.2 c.commit.ensures.base c.refuse.ensures.refused
 
 pub returns-in-NotApplied-clause-given_up : goal.returns-in-NotApplied-clause-given_up
@@ -29,6 +29,6 @@ returns-in-NotApplied-clause-given_up g c =
 pub returns-in-Unknown-clause-together : goal.returns-in-Unknown-clause-together
 returns-in-Unknown-clause-together g c =
     let noted = c.in-Unknown.ensures.noted in
-    let same = c.into_taken.ensures.same ∙ noted.3 in
-    let hand = subst (λ (ts : List Taken). InHand c.args.engine.now c.args.publisher.now ts) (sym same) c.requires in
-    refused_together c.args.engine.now c.commit.new.self c.args.publisher.now c.refuse.new.self c.into_taken.result.items _ hand noted.2 c.commit.ensures.base c.refuse.ensures.refused
+    let same = c.into_taken-in-Unknown.ensures.same ∙ noted.3 in
+    let hand = subst (λ (ts : List Taken). InHand c.args.engine.now c.args.publisher.now ts) (sym same) c.requires.hand in
+    refused_together c.args.engine.now c.commit.new.self c.args.publisher.now c.refuse-in-Unknown.new.self c.into_taken-in-Unknown.result.items _ hand noted.2 c.commit.ensures.base c.refuse-in-Unknown.ensures.refused
