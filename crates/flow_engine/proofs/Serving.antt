@@ -17,7 +17,7 @@ use Rattle.flow_hub.specs.declared.refused.Refused.{Refused}
 use Rattle.flow_hub.specs.Knowing.{IsOver, IsSamePart, refused_by}
 use Rattle.flow_hub.specs.Publishing.{Together, HasTaken}
 use Rattle.flow_engine.specs.Answering.{Follows}
-use Rattle.flow_engine.specs.Serving.{IsGivenUp, GivesUp, TurnsAway, EndsInDoubt, EndsHalted, EndsUnserved, StopsFor, EndsFor}
+use Rattle.flow_engine.specs.Serving.{IsGivenUp, GivesUp, TurnsAway, EndsInDoubt, EndsHalted, EndsUnserved, StopsAt, StopsFor, EndsFor}
 
 ---- What was answered by a code
 
@@ -42,7 +42,7 @@ gives_then a b c p q = record {
   codes = All-append IsGivenUp p.more q.more p.codes q.codes;
 }
 
-halted_all : List Taken → List Refused
+abbrev halted_all : List Taken → List Refused
 halted_all ts = map (refused_by code.Halted) ts
 
 pub turns_none : (old new : List Refused) → new ≡ old → TurnsAway old new []

@@ -11,7 +11,7 @@ use Rattle.flow_engine.proofs.serve.commit_taken.Goals as goal
 pub publish-requires : goal.publish-requires
 publish-requires g c =
     let noted = c.in-Kept.ensures.noted in
-    receipts_answer c.args.engine.now c.commit.new.self c.args.publisher.now c.in-Kept.stamp c.args.batch c.in-Kept.receipts.items c.requires.hand c.commit.ensures.base noted.3 noted.4 noted.5
+    record { answers = receipts_answer c.args.engine.now c.commit.new.self c.args.publisher.now c.in-Kept.stamp c.args.batch c.in-Kept.receipts.items c.requires.hand c.commit.ensures.base noted.3 noted.4 noted.5 }
 
 pub returns-in-NotApplied-clause-together : goal.returns-in-NotApplied-clause-together
 returns-in-NotApplied-clause-together g c =

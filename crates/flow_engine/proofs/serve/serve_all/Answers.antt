@@ -1,33 +1,34 @@
-use Rattle.std.proofs.Common.{rules, ◌≡◌, ◌≤◌, ◌<◌, false, true, List, length, refl, sym, ap, ◌∙◌, subst, arith, true≢false}
+use Rattle.std.proofs.Common.{rules, ◌≡◌, ◌≤◌, true, List, length, sym, ◌∙◌, subst, true≢false}
+use Rattle.std.proofs.lemmas.Result.{err_from_is_err_and}
 use Rattle.flow_machine.specs.declared.submission.Taken.{Taken}
-use Rattle.flow_hub.specs.Publishing.{InHand}
-use Rattle.flow_hub.proofs.Growing.{before_self, before_trans}
-use Rattle.flow_hub.proofs.Serving.{takes_in_hand, still_together}
-use Rattle.flow_engine.specs.Serving.{GivesUp}
-use Rattle.flow_engine.proofs.Serving.{follows_self, follows_then, gives_none, gives_then, stops_behind}
+use Rattle.flow_hub.proofs.Growing.{before_trans}
+use Rattle.flow_engine.specs.Serving.{GivesUp, StopsAt}
+use Rattle.flow_engine.proofs.Serving.{follows_then, gives_then, stops_behind}
 use Rattle.flow_engine.proofs.serve.serve_all.Goals as goal
 
-pub loop-init : goal.loop-init
-loop-init g c =
-    record {
-      together = c.requires.together;
-      halted = refl;
-      still = λ h. (refl, refl);
-      gives = gives_none c.args.publisher.now.refused c.args.publisher.now.refused refl;
-      base = refl;
-      follows = follows_self g.S.Store c.args.engine.now;
-      grows = before_self c.args.publisher.now;
-      empty = c.requires.room.0;
-      room = c.requires.room.1;
-      next = search rules;
-      ends = search rules;
-    }
+-- the batch that stops the engine is behind those that didn't
+pub returns-in_err-commit_taken-clause-stops : goal.returns-in_err-commit_taken-clause-stops
+returns-in_err-commit_taken-clause-stops g c =
+    let i = c.loop.invariant in
+    let mid = c.loop.engine in
+    let new = c.commit_taken.new.engine in
+    let was = c.args.publisher.now.refused in
+    let then = c.take.new.self.refused in
+    let now = c.commit_taken.new.publisher.refused in
+    let hand = c.take.new.into.items in
+    let fault = c.in_err-commit_taken.field-0.0 in
+    let same = c.take.ensures.taken.refused in
+    let some : (1 ≤ length hand) × (length hand ≤ 64) = search rules in
+    let stop = subst (λ (ts : List Taken). StopsAt mid new then now ts fault) c.of.ensures c.in_err-commit_taken.ensures.stops in
+    let still : mid.halted ≡ true → (mid ≡ c.args.engine.now) × (then ≡ was) = λ h. let back = i.still h in (back.0, same ∙ back.1) in
+    let p = err_from_is_err_and c.from_residual.result c.from_residual.ensures.1 in
+    rw (p.1, p.2) (stops_behind c.args.engine.now mid new was then now hand fault i.halted still (subst (GivesUp was) (sym same) i.gives) some stop)
 
-pub commit_taken-requires : goal.commit_taken-requires
-commit_taken-requires g c =
+pub returns-in_err-commit_taken-clause-grows : goal.returns-in_err-commit_taken-clause-grows
+returns-in_err-commit_taken-clause-grows g c =
     let mid = c.take.new.self in
-    let hand = takes_in_hand c.loop.engine c.loop.publisher mid c.take.new.into.items c.loop.invariant.together c.take.ensures.taken in
-    subst (λ (ts : List Taken). InHand c.loop.engine mid ts) (sym c.of.ensures) hand
+    let now = c.commit_taken.new.publisher in
+    before_trans c.args.publisher.now mid now (before_trans c.args.publisher.now c.loop.publisher mid c.loop.invariant.grows c.take.ensures.grows) c.commit_taken.ensures.grows
 
 pub loop-preserved : goal.loop-preserved
 loop-preserved g c =
@@ -35,18 +36,18 @@ loop-preserved g c =
     let mid = c.take.new.self in
     let new = c.commit_taken.new.engine in
     let now = c.commit_taken.new.publisher in
-    let go = c.in_ok.ensures.goes_on in
+    let go = c.in_ok-commit_taken.ensures.goes_on in
     let was = c.args.publisher.now.refused in
     record {
       together = c.commit_taken.ensures.together;
       halted = go.1 ∙ (sym go.0 ∙ i.halted);
       still = λ h. absurd (true≢false (sym h ∙ go.1));
-      gives = gives_then was mid.refused now.refused (subst (GivesUp was) (sym c.take.ensures.taken.refused) i.gives) c.in_ok.ensures.given_up;
+      gives = gives_then was mid.refused now.refused (subst (GivesUp was) (sym c.take.ensures.taken.refused) i.gives) c.in_ok-commit_taken.ensures.given_up;
       base = c.commit_taken.ensures.base ∙ i.base;
       follows = follows_then g.S.Store c.args.engine.now c.loop.engine new i.follows c.commit_taken.ensures.follows;
       grows = before_trans c.args.publisher.now mid now (before_trans c.args.publisher.now c.loop.publisher mid i.grows c.take.ensures.grows) c.commit_taken.ensures.grows;
-      empty = c.list_with_room.ensures.none;
-      room = c.list_with_room.ensures.room;
+      empty = search rules;
+      room = search rules;
       next = search rules;
       ends = search rules;
     }
