@@ -1,5 +1,5 @@
 -- What becomes of submissions, from batch to batch.
-use Rattle.std.proofs.Common.{◌≡◌, ◌⊎◌, inl, inr, ◌≤◌, Bool, true, false, List, [], ◌∷◌, ◌++◌, length, map, refl, sym, ap, ◌∙◌, subst, append_assoc, true≢false}
+use Rattle.std.proofs.Common.{◌≡◌, inl, inr, ◌≤◌, true, List, [], ◌∷◌, ◌++◌, length, map, refl, sym, ap, ◌∙◌, subst, append_assoc}
 use Rattle.std.specs.Prelude.{All}
 use Rattle.std.proofs.lemmas.List.{append-nil, map-append}
 use Rattle.std.proofs.lemmas.List.Elements.{All-nil, All-cons, All-append}
@@ -11,13 +11,13 @@ use Rattle.flow_machine.specs.declared.submission.Taken.{Taken}
 use Rattle.flow_view.specs.Codes.{view_fault_code}
 use Rattle.flow_view.specs.declared.fault.ViewFault.{ViewFault}
 use Rattle.flow_view.specs.declared.fault.ViewFault.TheVariants as view_fault
-use Rattle.flow_commit.specs.Keeping.{Keeping, IsFit}
+use Rattle.flow_commit.specs.Keeping.{Keeping}
 use Rattle.flow_hub.specs.declared.known.Known.{Known}
 use Rattle.flow_hub.specs.declared.refused.Refused.{Refused}
-use Rattle.flow_hub.specs.Knowing.{IsOver, IsSamePart, refused_by}
-use Rattle.flow_hub.specs.Publishing.{Together, HasTaken}
+use Rattle.flow_hub.specs.Knowing.{IsOver, refused_by}
+use Rattle.flow_hub.specs.Publishing.{Together}
 use Rattle.flow_engine.specs.Answering.{Follows}
-use Rattle.flow_engine.specs.Serving.{IsGivenUp, GivesUp, TurnsAway, EndsInDoubt, EndsHalted, EndsUnserved, StopsAt, StopsFor, EndsFor}
+use Rattle.flow_engine.specs.Serving.{IsGivenUp, GivesUp, TurnsAway, StopsAt, StopsFor}
 
 ---- What was answered by a code
 

@@ -1,4 +1,4 @@
-use Rattle.std.proofs.Common.{◌≡◌, List, true, []}
+use Rattle.std.proofs.Common.{◌≡◌, List, []}
 use Rattle.flow_machine.specs.declared.submission.Taken.{Taken}
 use Rattle.flow_hub.specs.Knowing.{IsBefore}
 use Rattle.flow_engine.specs.Serving.{TurnsAway}
