@@ -9,6 +9,7 @@ pub mod Lives
 pub mod OneMore
 pub mod Singly
 pub mod Same
+pub mod Serving
 pub mod Standing
 pub mod Stopping
 pub mod Walking

@@ -5,3 +5,4 @@ pub mod Headline
 pub mod Stopping
 pub mod Together
 pub mod Worlds
+pub mod Serving

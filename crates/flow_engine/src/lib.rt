@@ -1,5 +1,5 @@
 //! The engine over a store: opened, it has the positions of the open runs; it answers one command, a list of them one by one,
-//! or several together. All batches go through `drive`.
+//! or several together, all through `drive`; and it serves a hub, whose submitters are on other threads.
 #![tactic(auto)]
 
 pub mod answering;
@@ -7,4 +7,5 @@ pub mod done;
 pub mod drive;
 pub mod engine;
 pub mod headline;
+pub mod serve;
 pub mod together;

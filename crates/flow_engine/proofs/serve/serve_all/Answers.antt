@@ -1,0 +1,53 @@
+use Rattle.std.proofs.Common.{rules, ◌≡◌, ◌≤◌, true, List, length, sym, ◌∙◌, subst, true≢false}
+use Rattle.std.proofs.lemmas.Result.{err_from_is_err_and}
+use Rattle.flow_machine.specs.declared.submission.Taken.{Taken}
+use Rattle.flow_hub.proofs.Growing.{before_trans}
+use Rattle.flow_engine.specs.Serving.{GivesUp, StopsAt}
+use Rattle.flow_engine.proofs.Serving.{follows_then, gives_then, stops_behind}
+use Rattle.flow_engine.proofs.serve.serve_all.Goals as goal
+
+-- the batch that stops the engine is behind those that didn't
+pub returns-in_err-commit_taken-clause-stops : goal.returns-in_err-commit_taken-clause-stops
+returns-in_err-commit_taken-clause-stops g c =
+    let i = c.loop.invariant in
+    let mid = c.loop.engine in
+    let new = c.commit_taken.new.engine in
+    let was = c.args.publisher.now.refused in
+    let then = c.take.new.self.refused in
+    let now = c.commit_taken.new.publisher.refused in
+    let hand = c.take.new.into.items in
+    let fault = c.in_err-commit_taken.field-0.0 in
+    let same = c.take.ensures.taken.refused in
+    let some : (1 ≤ length hand) × (length hand ≤ 64) = search rules in
+    let stop = subst (λ (ts : List Taken). StopsAt mid new then now ts fault) c.of.ensures c.in_err-commit_taken.ensures.stops in
+    let still : mid.halted ≡ true → (mid ≡ c.args.engine.now) × (then ≡ was) = λ h. let back = i.still h in (back.0, same ∙ back.1) in
+    let p = err_from_is_err_and c.from_residual.result c.from_residual.ensures.1 in
+    rw (p.1, p.2) (stops_behind c.args.engine.now mid new was then now hand fault i.halted still (subst (GivesUp was) (sym same) i.gives) some stop)
+
+pub returns-in_err-commit_taken-clause-grows : goal.returns-in_err-commit_taken-clause-grows
+returns-in_err-commit_taken-clause-grows g c =
+    let mid = c.take.new.self in
+    let now = c.commit_taken.new.publisher in
+    before_trans c.args.publisher.now mid now (before_trans c.args.publisher.now c.loop.publisher mid c.loop.invariant.grows c.take.ensures.grows) c.commit_taken.ensures.grows
+
+pub loop-preserved : goal.loop-preserved
+loop-preserved g c =
+    let i = c.loop.invariant in
+    let mid = c.take.new.self in
+    let new = c.commit_taken.new.engine in
+    let now = c.commit_taken.new.publisher in
+    let go = c.in_ok-commit_taken.ensures.goes_on in
+    let was = c.args.publisher.now.refused in
+    record {
+      together = c.commit_taken.ensures.together;
+      halted = go.1 ∙ (sym go.0 ∙ i.halted);
+      still = λ h. absurd (true≢false (sym h ∙ go.1));
+      gives = gives_then was mid.refused now.refused (subst (GivesUp was) (sym c.take.ensures.taken.refused) i.gives) c.in_ok-commit_taken.ensures.given_up;
+      base = c.commit_taken.ensures.base ∙ i.base;
+      follows = follows_then g.S.Store c.args.engine.now c.loop.engine new i.follows c.commit_taken.ensures.follows;
+      grows = before_trans c.args.publisher.now mid now (before_trans c.args.publisher.now c.loop.publisher mid i.grows c.take.ensures.grows) c.commit_taken.ensures.grows;
+      empty = search rules;
+      room = search rules;
+      next = search rules;
+      ends = search rules;
+    }

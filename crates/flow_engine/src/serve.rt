@@ -1,0 +1,177 @@
+//! The thread that keeps: it takes what was submitted to a hub, commits it and answers it.
+ghost use Rattle.std.specs.Prelude.{◌≡◌, ◌≤◌, true, false, [], List, IfErr, OnOk};
+ghost use Rattle.std.specs.Vec.{vec_capacity};
+ghost use Rattle.flow_machine.specs.declared.submission.Taken.{Taken as ATaken};
+ghost use Rattle.flow_hub.specs.Knowing.{IsBefore};
+ghost use Rattle.flow_hub.specs.Publishing.{InHand, IsDone, Together};
+ghost use Rattle.flow_engine.specs.Answering.{Follows};
+ghost use Rattle.flow_engine.specs.Serving.{EndsFor, GivesUp, StopsAt, StopsFor, TurnsAway};
+
+use crate::engine::Engine;
+use flow_base::code::Code;
+use flow_base::fault::Fault;
+use flow_commit::batch::Batch;
+use flow_commit::outcome::Outcome;
+use flow_hub::publisher::Publisher;
+use flow_hub::seats::Room;
+use flow_machine::submission::Taken;
+use flow_timers::Clock;
+use sqlite::Alter;
+use std::alloc::Global;
+use std::sync::Wait;
+use std::thread;
+
+/// An empty list with room for so many. It is asked for again until it is there.
+fn list_with_room<R: Wait>(rt: &R, alloc: Global, most: usize) -> Vec<Taken>
+    ensures none { result.items ≡ [] }
+    ensures room { most ≤ vec_capacity result }
+{
+    for _ in rt.forever() {
+        if let Ok(list) = Vec::with_capacity(alloc, most) {
+            return list;
+        }
+        thread::yield_now();
+    }
+    unreachable!()
+}
+
+/// Commits what was taken, and answers it: by receipts, or by the code for which it isn't kept.
+fn commit_taken<S: Alter, B: Room, R: Wait>(
+    rt: &R,
+    engine: &mut Engine<S>,
+    publisher: &mut Publisher<S, B>,
+    batch: Batch,
+) -> Result<(), Fault>
+    requires hand { InHand engine.old publisher.old batch }
+    ensures together { Together engine.new publisher.new }
+    ensures goes_on { OnOk result ((engine.old.halted ≡ false) × (engine.new.halted ≡ false)) }
+    ensures given_up { OnOk result (GivesUp publisher.old.refused publisher.new.refused) }
+    ensures stops { IfErr result (λ f. StopsAt engine.old engine.new publisher.old.refused publisher.new.refused batch f) }
+    ensures base { engine.new.base ≡ engine.old.base }
+    ensures follows { Follows S.Store engine.old engine.new }
+    ensures grows { IsBefore publisher.old publisher.new }
+{
+    match engine.commit(batch) {
+        Outcome::Kept(receipts, stamp) => {
+            publisher.publish(rt, receipts, stamp);
+            Ok(())
+        }
+        Outcome::NotApplied(back, fault) => {
+            publisher.refuse(rt, back.into_taken(), fault.code());
+            Ok(())
+        }
+        Outcome::Unknown(back, _fault) => {
+            publisher.refuse(rt, back.into_taken(), Code::Unknown);
+            Err(Fault::Unknown)
+        }
+        Outcome::Halted(back) => {
+            publisher.refuse(rt, back.into_taken(), Code::Halted);
+            Err(Fault::Halted)
+        }
+    }
+}
+
+/// Answers what is submitted until the hub is closed and nothing waits, or a batch halts the engine. The first list is given.
+fn serve_all<S: Alter, B: Room, R: Wait>(
+    rt: &R,
+    engine: &mut Engine<S>,
+    publisher: &mut Publisher<S, B>,
+    first: Vec<Taken>,
+    most: usize,
+) -> Result<(), Fault>
+    requires together { Together engine.old publisher.old }
+    requires most { (1 ≤ most) × (most ≤ 64) }
+    requires room { (first.items ≡ []) × (most ≤ vec_capacity first) }
+    ensures together { Together engine.new publisher.new }
+    ensures done { OnOk result (IsDone publisher.new) }
+    ensures goes_on { OnOk result (engine.new.halted ≡ engine.old.halted) }
+    ensures given_up { OnOk result (GivesUp publisher.old.refused publisher.new.refused) }
+    ensures stops { IfErr result (λ f. (waiting : List ATaken) × StopsFor engine.old engine.new publisher.old.refused publisher.new.refused waiting f) }
+    ensures base { engine.new.base ≡ engine.old.base }
+    ensures follows { Follows S.Store engine.old engine.new }
+    ensures grows { IsBefore publisher.old publisher.new }
+{
+    let mut taken = first;
+    for _ in rt.forever() {
+        if !publisher.take(rt, &mut taken, most) {
+            return Ok(());
+        }
+        commit_taken(rt, engine, publisher, Batch::of(taken))?;
+        taken = list_with_room(rt, engine.alloc(), most);
+    }
+    unreachable!()
+}
+
+/// Takes nothing more in, and answers all that waits that the engine has halted: E85.
+fn turn_away<S: Alter, B: Room, R: Wait>(
+    rt: &R,
+    alloc: Global,
+    publisher: &mut Publisher<S, B>,
+    most: usize,
+)
+    requires none { publisher.old.held ≡ [] }
+    requires most { (1 ≤ most) × (most ≤ 64) }
+    ensures done { IsDone publisher.new }
+    ensures none { publisher.new.held ≡ [] }
+    ensures history { (publisher.new.history ≡ publisher.old.history) × (publisher.new.last ≡ publisher.old.last) }
+    ensures turned { (waiting : List ATaken) × TurnsAway publisher.old.refused publisher.new.refused waiting }
+    ensures grows { IsBefore publisher.old publisher.new }
+{
+    publisher.close(rt);
+    for _ in rt.forever() {
+        let mut taken = list_with_room(rt, alloc, most);
+        if !publisher.take(rt, &mut taken, most) {
+            return;
+        }
+        publisher.refuse(rt, taken, Code::Halted);
+    }
+    unreachable!()
+}
+
+impl<S: Alter> Engine<S> {
+    /// Serves a hub: takes up to `most` submissions, commits them together and answers them, until the hub is closed and nothing
+    /// waits. A batch that isn't applied is answered E80 or E01, and it goes on. Behind a batch of which nobody knows whether it
+    /// is kept, which is answered E84, it closes the hub and answers all that waits E85, as it does over an engine that had
+    /// halted before.
+    ///
+    /// By the caller's condition the publisher has published what the engine has kept, as it is of an engine that has kept no
+    /// batch since it was opened and a publisher that has published none. The moment will be asked of the clock for the tasks
+    /// that are posted; nothing is yet.
+    ///
+    /// # Failure
+    /// E01 before anything is taken: the hub is closed, and all that waits is answered E85. Room for later lists is asked for
+    /// until it is there. E84, and E85 where the engine had halted before.
+    pub fn serve<B: Room, R: Wait, C: Clock>(
+        &mut self,
+        rt: &R,
+        publisher: &mut Publisher<S, B>,
+        _clock: &C,
+        most: usize,
+    ) -> Result<(), Fault>
+        requires together { Together self.old publisher.old }
+        requires most { (1 ≤ most) × (most ≤ 64) }
+        // At the end the hub's history is what the keeper has kept, and all that was submitted is answered.
+        ensures together { Together self.new publisher.new }
+        ensures done { IsDone publisher.new }
+        ensures goes_on { OnOk result (self.new.halted ≡ self.old.halted) }
+        ensures given_up { OnOk result (GivesUp publisher.old.refused publisher.new.refused) }
+        ensures stops { IfErr result (λ f. (waiting : List ATaken) × EndsFor self.old self.new publisher.old.refused publisher.new.refused waiting f) }
+        ensures base { self.new.base ≡ self.old.base }
+        ensures follows { Follows S.Store self.old self.new }
+        ensures grows { IsBefore publisher.old publisher.new }
+    {
+        match Vec::with_capacity(self.alloc(), most) {
+            Ok(first) => match serve_all(rt, self, publisher, first, most) {
+                Ok(()) => Ok(()),
+                Err(fault) => {
+                    turn_away(rt, self.alloc(), publisher, most);
+                    Err(fault)
+                }
+            },
+            Err(_) => {
+                turn_away(rt, self.alloc(), publisher, most);
+                Err(Fault::NoMemory)
+            }
+        }
+    }
+}
