@@ -73,7 +73,7 @@ fn submitted<S: Alter, B: Room, R: Wait>(
     submitter.submit(rt, command).ok()
 }
 
-fn told<S: Alter, B: Room, R: Wait>(
+fn fetched<S: Alter, B: Room, R: Wait>(
     rt: &R,
     submitter: &mut Submitter<S, B>,
     ticket: Ticket,
@@ -123,8 +123,8 @@ fn served<B: Room, R: Wait>(
     if !serve(rt, alloc, &mut publisher, clock)? {
         return None;
     }
-    let first = told(rt, &mut submitter, first);
-    let second = told(rt, &mut submitter, second);
+    let first = fetched(rt, &mut submitter, first);
+    let second = fetched(rt, &mut submitter, second);
     Some((first, second, submitter.published()))
 }
 
