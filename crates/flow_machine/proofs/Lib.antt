@@ -25,3 +25,4 @@ pub mod TicksStand
 pub mod TicksDecide
 pub mod OneTick
 pub mod GoingOn
+pub mod OfHeads

@@ -2,6 +2,7 @@
 #![tactic(auto)]
 
 pub mod answer;
+pub mod by_head;
 pub mod decide;
 mod description;
 mod failing;
