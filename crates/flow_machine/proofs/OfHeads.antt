@@ -1,12 +1,11 @@
 -- Commands that go on need of a run no more than its head, where it stands and one event.
-use Rattle.std.proofs.Common.{◌≡◌, ℕ, List, refl, sym, ap, ◌∙◌, subst, Option, Some, None}
+use Rattle.std.proofs.Common.{◌≡◌, ℕ, List, refl, ap, ◌∙◌, Option, Some, None}
 use Rattle.std.specs.Prelude.{max, nat_lt, if◌then◌else◌}
 use Rattle.flow_base.specs.Syntax.{Bytes, Program}
 use Rattle.flow_base.specs.declared.value.Value.{Value}
 use Rattle.flow_base.specs.declared.event.Cmd.{Cmd}
 use Rattle.flow_base.specs.declared.event.Input.{Input}
 use Rattle.flow_base.specs.declared.event.Input.TheVariants.{ActivityCompleted, ActivityFailed, Signaled, TimerFired}
-use Rattle.flow_base.specs.declared.book.Due.{Due}
 use Rattle.flow_base.specs.declared.book.Run.{Run}
 use Rattle.flow_base.specs.declared.book.Turn.{Turn}
 use Rattle.flow_base.specs.declared.code.Code.{Code}
@@ -19,11 +18,11 @@ use Rattle.flow_model.specs.Open.{state_of}
 use Rattle.flow_model.specs.Turn.{Fresh}
 use Rattle.flow_model.specs.Turned.{turned, position_by_inputs}
 use Rattle.flow_model.specs.Stands.{Stands}
-use Rattle.flow_model.specs.Book.{Book, nth, signalled, open_run}
+use Rattle.flow_model.specs.Book.{Book, nth, open_run}
 use Rattle.flow_model.specs.Apply.{Rules, Outcome, run_from, next_run, first_turn, continued, turn_made, recorded, input_recorded, report_refusal, failure_refusal, attempt_failed, signal_recorded, terminated, if_sound, must_be, must_hold, none_there, tested, tries_of, program_at, retried, ready_after, complete, fail, signal, fired, terminate}
 use Rattle.flow_model.proofs.Positions.{position_computed}
 use Rattle.flow_view.specs.Heads.{head_of, event_of}
-use Rattle.flow_machine.specs.ByHead.{begun_by, next_by, made_by, recorded_by, report_refused, failure_refused, completed_by, retried_by, failed_by, sent_by, terminated_by, IsAt, CompletesByHead, FailsByHead, SignalsByHead, FiresByHead, TerminatesByHead}
+use Rattle.flow_machine.specs.ByHead.{begun_by, next_by, made_by, recorded_by, report_refused, failure_refused, retried_by, sent_by, CompletesByHead, FailsByHead, SignalsByHead, FiresByHead, TerminatesByHead}
 
 begun_is : (r : Run) (t : Option Turn) → run_from r t ≡ begun_by (head_of r) t
 begun_is r None = refl

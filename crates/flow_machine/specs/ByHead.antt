@@ -1,5 +1,5 @@
 -- What commands that go on decide, said of a run's head, of where the run stands, and of one event: no history is read for them.
-use Rattle.std.specs.Prelude.{◌≡◌, ◌+◌, ℕ, true, false, List, [], ◌∷◌, length, max, Option, Some, None, nat_eq, nat_le, nat_lt, if◌then◌else◌}
+use Rattle.std.specs.Prelude.{◌≡◌, ◌+◌, ℕ, List, [], ◌∷◌, length, max, Option, Some, None, nat_eq, nat_le, nat_lt, if◌then◌else◌}
 use Rattle.flow_base.specs.Syntax.{Bytes, Program}
 use Rattle.flow_base.specs.declared.value.Value.{Value}
 use Rattle.flow_base.specs.declared.event.Cmd.{Cmd}
@@ -8,7 +8,6 @@ use Rattle.flow_base.specs.declared.event.Input.{Input}
 use Rattle.flow_base.specs.declared.event.Input.TheVariants.{Signaled, ActivityCompleted, ActivityFailed, TimerFired, Terminated}
 use Rattle.flow_base.specs.declared.book.Due.{Due}
 use Rattle.flow_base.specs.declared.book.Run.{Run}
-use Rattle.flow_base.specs.declared.book.Task.{Task}
 use Rattle.flow_base.specs.declared.book.Turn.{Turn}
 use Rattle.flow_base.specs.declared.book.Change.{Change}
 use Rattle.flow_base.specs.declared.book.Change.TheVariants.{AddRun, AddTurn}
@@ -22,7 +21,7 @@ use Rattle.flow_model.specs.Turned.{turned}
 use Rattle.flow_model.specs.Stands.{Stands}
 use Rattle.flow_model.specs.WellFormed.{signal_of}
 use Rattle.flow_model.specs.Book.{Book, nth, signalled, open_run}
-use Rattle.flow_model.specs.Apply.{Rules, Outcome, must_be, must_hold, none_there, tested, refuse_unless, on_task, task_at, if_sound, program_at, first_turn, continued, gives_kind, tries_of, ready_after, retried, history_limit, complete, fail, signal, fired, terminate}
+use Rattle.flow_model.specs.Apply.{Rules, Outcome, must_be, must_hold, tested, refuse_unless, on_task, task_at, if_sound, program_at, first_turn, continued, gives_kind, tries_of, ready_after, retried, history_limit, complete, fail, signal, fired, terminate}
 use Rattle.flow_view.specs.declared.head.Head.{Head}
 use Rattle.flow_view.specs.Heads.{head_of, event_of}
 
