@@ -51,7 +51,7 @@ slot_itself x = rw (tied_itself nat_cmp_total x.0, tied_itself nat_cmp_total x.1
 
 ---- One run's timers go or come
 
-not_true : (b : Bool) → b ≢ true → b ≡ false
+pub not_true : (b : Bool) → b ≢ true → b ≡ false
 not_true true h = absurd (h refl)
 not_true false h = refl
 

@@ -51,11 +51,15 @@ abbrev pub replaced : {A : Type 0} → ℕ → List A → (ℕ → List A) → �
 replaced run xs f n = cond (is_run run n) xs (f n)
 
 -- So many runs, so many of them open, with these timers and activities.
-pub record ArePlans (p : Plans) (count opened : ℕ) (f : ℕ → List Timer) (g : ℕ → List Task) : Type 0 where
-  pub count : p.count ≡ count
-  pub opened : p.opened ≡ opened
+pub record ArePlans (p : Plans) (n o : ℕ) (f : ℕ → List Timer) (g : ℕ → List Task) : Type 0 where
+  pub counted : p.count ≡ n
+  pub opened : p.opened ≡ o
   pub timers : Times p.timers f
   pub tasks : (n : ℕ) → list_of p.tasks n ≡ g n
+
+-- what the runs of a book wait for
+abbrev pub IsPlan : Plans → Book → Type 0
+IsPlan p b = ArePlans p (length b.runs) (open_runs b) (timers_at b) (tasks_at b)
 
 -- what is known is so
 abbrev pub Knows : Agenda → ℕ → ℕ → (ℕ → List Timer) → (ℕ → List Task) → Type 0

@@ -1,5 +1,5 @@
 //! What the runs of a book wait for, in memory: kept beside a book that is changed.
-ghost use Rattle.std.specs.Prelude.{◌≡◌, ◌+◌, ◌++◌, ◌∷◌, [], ℕ, List, Some, true, false, IfSome, length, map};
+ghost use Rattle.std.specs.Prelude.{◌≡◌, ◌⊎◌, ◌+◌, ◌++◌, ◌∷◌, [], ℕ, List, Some, true, false, IfSome, length, map};
 ghost use Rattle.flow_base.specs.Syntax.{Bytes};
 ghost use Rattle.flow_base.specs.declared.book.Change.TheVariants.{AddRun, AddTurn, SetAttempt};
 ghost use Rattle.flow_base.specs.declared.book.Run.{Run as ARun};
@@ -9,7 +9,7 @@ ghost use Rattle.std.specs.Prelude.{Option};
 ghost use Rattle.flow_model.specs.Book as words;
 ghost use Rattle.flow_model.specs.Book.{Book, nth, changed, at_attempt};
 ghost use Rattle.flow_maps.specs.Agenda as rule;
-ghost use Rattle.flow_maps.specs.Agenda.{ArePlans, Knows, IsOf, replaced, one_if, is_open_run, open_runs};
+ghost use Rattle.flow_maps.specs.Agenda.{ArePlans, IsPlan, Knows, IsOf, replaced, one_if, is_open_run, open_runs};
 ghost use Rattle.flow_maps.specs.OfRuns.{list_of};
 ghost use Rattle.flow_maps.specs.Timers.{Times, timers_at};
 ghost use Rattle.std.specs.Prelude.{IfOk};
@@ -102,6 +102,13 @@ fn opened_by(opened: u64, was: bool, is_now: bool) -> Option<u64>
     Some(opened - 1)
 }
 
+/// Whether a turn that leaves a run open or not is followed: of a run that was closed only what leaves it so.
+fn may_follow(was: bool, is_now: bool) -> bool
+    ensures { result ≡ true → (was ≡ true) ⊎ (is_now ≡ false) }
+{
+    was || !is_now
+}
+
 impl Plans {
     fn new(alloc: Global) -> Plans
         ensures { ArePlans result 0 0 (λ n. []) (λ n. []) }
@@ -175,7 +182,7 @@ impl Plans {
     /// One more run, with its first turn.
     fn begin(&mut self, alloc: Global, turn: &Turn) -> bool
         ensures { result ≡ true → (b : Book) → (flow : Bytes) → (request : Option Bytes) → (text : ℕ)
-            → ArePlans self.old (length b.runs) (open_runs b) (timers_at b) (rule.tasks_at b) → (after : Book) → after ≡ changed b (AddRun flow request text turn.now) → ArePlans self.new (length after.runs) (open_runs after) (timers_at after) (rule.tasks_at after) }
+            → IsPlan self.old b → IsPlan self.new (changed b (AddRun flow request text turn.now)) }
     {
         if !self.add(false) {
             return false;
@@ -184,6 +191,24 @@ impl Plans {
             return false;
         };
         self.go_on(alloc, run, false, is_open_behind(false, turn), 0, turn)
+    }
+
+    /// A turn more of a run that has so many events and was open or not. One that is opened again isn't followed.
+    fn follow(
+        &mut self,
+        alloc: Global,
+        run: RunId,
+        was: bool,
+        count: u64,
+        turn: &Turn,
+    ) -> bool
+        ensures { result ≡ true → (b : Book) → (r : ARun) → nth b.runs run ≡ Some r → is_open_run r ≡ was → length r.history ≡ count → IsPlan self.old b → IsPlan self.new (changed b (AddTurn run turn.now)) }
+    {
+        let is_now = is_open_behind(was, turn);
+        if !may_follow(was, is_now) {
+            return false;
+        }
+        self.go_on(alloc, run, was, is_now, count, turn)
     }
 
     /// An open activity is at another attempt.
@@ -233,81 +258,72 @@ impl Agenda {
     pub fn add(&mut self, is_open: bool)
         ensures { (n o : ℕ) → (f : ℕ → List ATimer) → (g : ℕ → List ATask) → Knows self.old n o f g → Knows self.new (n + 1) (o + one_if is_open) f g }
     {
-        let known = match &mut self.plans {
-            Some(plans) => plans.add(is_open),
-            None => false,
-        };
-        if !known {
-            self.forget();
+        if let Some(plans) = &mut self.plans {
+            if plans.add(is_open) {
+                return;
+            }
         }
+        self.forget();
     }
 
     /// One more timer of a run, by its row.
     pub fn add_timer(&mut self, run: RunId, timer: &Timer)
         ensures { (n o : ℕ) → (f : ℕ → List ATimer) → (g : ℕ → List ATask) → Knows self.old n o f g → Knows self.new n o (replaced run (f run ++ timer.now ∷ []) f) g }
     {
-        let known = match &mut self.plans {
-            Some(plans) => plans.add_timer(run, timer),
-            None => false,
-        };
-        if !known {
-            self.forget();
+        if let Some(plans) = &mut self.plans {
+            if plans.add_timer(run, timer) {
+                return;
+            }
         }
+        self.forget();
     }
 
     /// One more activity of a run, by its row.
     pub fn add_task(&mut self, run: RunId, task: &Task)
         ensures { (n o : ℕ) → (f : ℕ → List ATimer) → (g : ℕ → List ATask) → Knows self.old n o f g → Knows self.new n o f (replaced run (g run ++ task.now ∷ []) g) }
     {
-        let known = match &mut self.plans {
-            Some(plans) => plans.add_task(run, task),
-            None => false,
-        };
-        if !known {
-            self.forget();
+        if let Some(plans) = &mut self.plans {
+            if plans.add_task(run, task) {
+                return;
+            }
         }
+        self.forget();
     }
 
     /// One more run, with its first turn.
     pub fn begin(&mut self, turn: &Turn)
         ensures { (b : Book) → (flow : Bytes) → (request : Option Bytes) → (text : ℕ) → IsOf self.old b → IsOf self.new (changed b (AddRun flow request text turn.now)) }
     {
-        let known = match &mut self.plans {
-            Some(plans) => plans.begin(self.alloc, turn),
-            None => false,
-        };
-        if !known {
-            self.forget();
+        if let Some(plans) = &mut self.plans {
+            if plans.begin(self.alloc, turn) {
+                return;
+            }
         }
+        self.forget();
     }
 
     /// A turn more of a run that has so many events and was open or not. One that is opened again isn't followed.
     pub fn go_on(&mut self, run: RunId, was: bool, count: u64, turn: &Turn)
         ensures { (b : Book) → (r : ARun) → nth b.runs run ≡ Some r → is_open_run r ≡ was → length r.history ≡ count → IsOf self.old b → IsOf self.new (changed b (AddTurn run turn.now)) }
     {
-        let is_now = is_open_behind(was, turn);
-        let known = match &mut self.plans {
-            Some(plans) => {
-                (was || !is_now) && plans.go_on(self.alloc, run, was, is_now, count, turn)
+        if let Some(plans) = &mut self.plans {
+            if plans.follow(self.alloc, run, was, count, turn) {
+                return;
             }
-            None => false,
-        };
-        if !known {
-            self.forget();
         }
+        self.forget();
     }
 
     /// An open activity is at another attempt.
     pub fn set_attempt(&mut self, run: RunId, event: EventId, attempt: u64, ready: Moment)
         ensures { (b : Book) → IsOf self.old b → IsOf self.new (changed b (SetAttempt run event attempt ready)) }
     {
-        let known = match &mut self.plans {
-            Some(plans) => plans.set_attempt(self.alloc, run, event, attempt, ready),
-            None => false,
-        };
-        if !known {
-            self.forget();
+        if let Some(plans) = &mut self.plans {
+            if plans.set_attempt(self.alloc, run, event, attempt, ready) {
+                return;
+            }
         }
+        self.forget();
     }
 
     /// The timer that is due first, of those that are due by a moment, if that is known.
