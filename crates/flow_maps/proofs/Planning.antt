@@ -185,6 +185,16 @@ begun p b after r t run now runs at times tasks h = record {
   tasks = λ n. h.tasks n ∙ ap (λ xs. replaced run xs (tasks_at b) n) (ap (tasks_behind 0 t) (no_run_yet tasks_of b run at) ∙ sym tasks) ∙ sym (ap (λ rs. of_run tasks_of (nth rs n)) runs ∙ new_run tasks_of b r run at n);
 }
 
+-- one that is read whole
+pub whole : (p : Plans) (b : Book) (r : Run) (run : ℕ) (ts : List Timer) (ks : List Task) → run ≡ length b.runs + 1 → ts ≡ timers_of r → ks ≡ tasks_of r
+    → ArePlans p (length b.runs + 1) (open_runs b + one_if (is_open_run r)) (replaced run ts (timers_at b)) (replaced run ks (tasks_at b)) → IsPlan p (record b { runs = b.runs ++ r ∷ [] })
+whole p b r run ts ks at times tasks h = record {
+  counted = h.counted ∙ sym (longer b.runs r);
+  opened = h.opened ∙ sym (count_more b.runs r);
+  timers = times_same p.timers (replaced run ts (timers_at b)) (timers_at (record b { runs = b.runs ++ r ∷ [] })) (λ n. ap (λ xs. replaced run xs (timers_at b) n) times ∙ sym (new_run timers_of b r run at n)) h.timers;
+  tasks = λ n. h.tasks n ∙ ap (λ xs. replaced run xs (tasks_at b) n) tasks ∙ sym (new_run tasks_of b r run at n);
+}
+
 pub begun_open : (b after : Book) (r : Run) (now : Bool) → after.runs ≡ b.runs ++ r ∷ [] → is_open_run r ≡ now → open_runs after + one_if false ≡ open_runs b + one_if false + one_if now
 begun_open b after r now runs is =
     let a = ap (λ rs. length (filter is_open_run rs)) runs ∙ count_more b.runs r in

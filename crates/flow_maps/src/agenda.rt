@@ -11,7 +11,7 @@ ghost use Rattle.flow_model.specs.Book.{Book, nth, changed, at_attempt};
 ghost use Rattle.flow_maps.specs.Agenda as rule;
 ghost use Rattle.flow_maps.specs.Agenda.{ArePlans, IsPlan, Knows, IsOf, replaced, one_if, is_open_run, open_runs};
 ghost use Rattle.flow_maps.specs.OfRuns.{list_of};
-ghost use Rattle.flow_maps.specs.Timers.{Times, timers_at};
+ghost use Rattle.flow_maps.specs.Timers.{Times, timers_at, timers_of};
 ghost use Rattle.std.specs.Prelude.{IfOk};
 
 use crate::left::{tasks_behind, timers_behind, with_attempt};
@@ -193,6 +193,28 @@ impl Plans {
         self.go_on(alloc, run, false, is_open_behind(false, turn), 0, turn)
     }
 
+    /// One more run, which waits for these.
+    fn add_whole(
+        &mut self,
+        is_open: bool,
+        timers: Sequence<Timer>,
+        tasks: Sequence<Task>,
+    ) -> bool
+        ensures { result ≡ true → (b : Book) → (r : ARun) → timers ≡ timers_of r → tasks ≡ r.tasks → is_open ≡ is_open_run r → IsPlan self.old b → IsPlan self.new (record b { runs = b.runs ++ r ∷ [] }) }
+    {
+        if !self.add(is_open) {
+            return false;
+        }
+        let Some(run) = RunId::new(self.count) else {
+            return false;
+        };
+        self.timers.take(run);
+        if !self.timers.put(run, timers) {
+            return false;
+        }
+        self.tasks.put(run, tasks)
+    }
+
     /// A turn more of a run that has so many events and was open or not. One that is opened again isn't followed.
     fn follow(
         &mut self,
@@ -284,6 +306,18 @@ impl Agenda {
     {
         if let Some(plans) = &mut self.plans {
             if plans.add_task(run, task) {
+                return;
+            }
+        }
+        self.forget();
+    }
+
+    /// One more run, open or not, with its open timers and activities.
+    pub fn add_whole(&mut self, is_open: bool, timers: Sequence<Timer>, tasks: Sequence<Task>)
+        ensures { (b : Book) → (r : ARun) → timers ≡ timers_of r → tasks ≡ r.tasks → is_open ≡ is_open_run r → IsOf self.old b → IsOf self.new (record b { runs = b.runs ++ r ∷ [] }) }
+    {
+        if let Some(plans) = &mut self.plans {
+            if plans.add_whole(is_open, timers, tasks) {
                 return;
             }
         }

@@ -11,6 +11,7 @@ ghost use Rattle.flow_base.specs.declared.book.Task.{Task as ATask};
 ghost use Rattle.flow_base.specs.declared.book.Timer.{Timer as ATimer};
 ghost use Rattle.flow_maps.specs.Agenda as plans;
 ghost use Rattle.flow_maps.specs.Agenda.{IsOf, replaced, one_if};
+ghost use Rattle.flow_maps.specs.Timers.{timers_of};
 ghost use Rattle.flow_maps.specs.Keys.{Lists};
 ghost use Rattle.flow_maps.specs.Serving.{Serves, Sees, IsSeen, AreKeys, AreRunKeys, Awaits, open_key, key_if, named};
 
@@ -19,6 +20,7 @@ use crate::index::Index;
 use crate::turned::is_open_behind;
 use flow_base::book::{Change, Due, Task, Timer, Turn};
 use flow_base::number::{Moment, RunId, TextNo};
+use flow_base::sequence::Sequence;
 use flow_base::text::Key;
 use std::alloc::Global;
 
@@ -224,7 +226,7 @@ impl Maps {
     /// One more run.
     fn add(&mut self, flow: &Key, request: &Option<Key>, is_open: bool)
         ensures keys { (b : Book) → (r : ARun) → r.request ≡ request.now → open_key r ≡ key_if is_open flow.now → AreRunKeys self.old b → AreRunKeys self.new (record b { runs = b.runs ++ r ∷ [] }) }
-        ensures same { self.new.agenda ≡ self.old.agenda }
+        ensures same { (self.new.agenda ≡ self.old.agenda) × (self.new.seen ≡ self.old.seen) }
     {
         match request {
             Some(request) => self.requests.add(request.as_str()),
@@ -237,10 +239,26 @@ impl Maps {
         }
     }
 
+    /// One more run, open or not, with its open timers and activities.
+    pub fn add_whole(
+        &mut self,
+        flow: &Key,
+        request: &Option<Key>,
+        is_open: bool,
+        timers: Sequence<Timer>,
+        tasks: Sequence<Task>,
+    )
+        ensures serves { (b : Book) → (r : ARun) → r.flow ≡ flow.now → r.request ≡ request.now → is_open ≡ plans.is_open_run r → timers ≡ timers_of r → tasks ≡ r.tasks → Serves self.old b → Serves self.new (record b { runs = b.runs ++ r ∷ [] }) }
+        ensures sees { (b : Book) → Sees self.old b → Sees self.new b }
+    {
+        self.agenda.add_whole(is_open, timers, tasks);
+        self.add(flow, request, is_open);
+    }
+
     /// One more run, with its first turn.
     fn add_run(&mut self, flow: &Key, request: &Option<Key>, text: TextNo, turn: &Turn)
         ensures keys { (b : Book) → AreRunKeys self.old b → AreRunKeys self.new (changed b (AddRun flow.now request.now text turn.now)) }
-        ensures same { self.new.agenda ≡ self.old.agenda }
+        ensures same { (self.new.agenda ≡ self.old.agenda) × (self.new.seen ≡ self.old.seen) }
     {
         self.add(flow, request, is_open_behind(false, turn));
     }
