@@ -1,4 +1,5 @@
-use Rattle.std.proofs.Common.{rules, ◌+◌, ◌++◌, ◌∷◌, [], map, take, ap, subst, ◌∙◌}
+use Rattle.std.proofs.Common.{arith, ◌+◌, ◌++◌, ◌∷◌, [], map, take, ap, subst, ◌∙◌}
+use Rattle.std.proofs.lemmas.List.{take_all}
 use Rattle.flow_maps.specs.Serving.{AreKeys, named, key_if}
 use Rattle.flow_tables.specs.Owned.{row_request, row_open}
 use Rattle.flow_tables.proofs.Serving.{keys_on}
@@ -20,5 +21,5 @@ loop-row-preserved c =
 pub returns-clause-keys : goal.returns-clause-keys
 returns-clause-keys c =
     let rows = c.args.rows.now in
-    let known : AreKeys c.loop-row.maps (map row_request rows) (map row_open rows) = search rules in
-    c.forget_agenda.ensures.keys (map row_request rows) (map row_open rows) known
+    c.forget_agenda.ensures.keys (map row_request rows) (map row_open rows)
+    (subst (λ xs. AreKeys c.loop-row.maps (map row_request xs) (map row_open xs)) (take_all c.loop-row.row-index rows (omega (arith, c.loop-row-test.false))) c.loop-row.invariant.0)

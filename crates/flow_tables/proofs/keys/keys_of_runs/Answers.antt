@@ -1,4 +1,5 @@
-use Rattle.std.proofs.Common.{take, subst}
+use Rattle.std.proofs.Common.{take, subst, arith}
+use Rattle.std.proofs.lemmas.List.{take_all}
 use Rattle.flow_maps.specs.Serving.{Serves}
 use Rattle.flow_tables.proofs.Serving.{runs_on}
 use Rattle.flow_tables.proofs.keys.keys_of_runs.Goals as goal
@@ -11,3 +12,7 @@ loop-run-preserved c =
           (c.add_whole.ensures.serves (record { texts = texts; runs = take i rs }) (c.loop-run.invariant.0 texts)),
       c.add_whole.ensures.sees c.loop-run.invariant.1,
     )
+
+pub returns-clause-serves : goal.returns-clause-serves
+returns-clause-serves c texts =
+    subst (λ xs. Serves c.loop-run.maps (record { texts = texts; runs = xs })) (take_all c.loop-run.run-index c.args.runs.now (omega (arith, c.loop-run-test.false))) (c.loop-run.invariant.0 texts)
