@@ -183,4 +183,3 @@ runs_least at n (x ∷ xs) S best h =
       | inr (zero, m, r, there, is, more) ↦ inl (inr (subst (λ i. InTimers i ts d) (let same : m ≡ n = omega (arith, is) in same) (subst (λ (y : Run). InTimers m (timers_left y.history) d) (sym (some_is x r there)) more)))
       | inr (suc k, m, r, there, is, more) ↦ inr (k, m, r, there, omega (arith, is), more)
     ]) _ (runs_least at (n + 1) xs (λ d. S d ⊎ InTimers n ts d) (least_of at n best ts) (timers_least at n ts S best h))
-

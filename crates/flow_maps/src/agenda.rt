@@ -194,12 +194,7 @@ impl Plans {
     }
 
     /// One more run, which waits for these.
-    fn add_whole(
-        &mut self,
-        is_open: bool,
-        timers: Sequence<Timer>,
-        tasks: Sequence<Task>,
-    ) -> bool
+    fn add_whole(&mut self, is_open: bool, timers: Sequence<Timer>, tasks: Sequence<Task>) -> bool
         ensures { result ≡ true → (b : Book) → (r : ARun) → timers ≡ timers_of r → tasks ≡ r.tasks → is_open ≡ is_open_run r → IsPlan self.old b → IsPlan self.new (record b { runs = b.runs ++ r ∷ [] }) }
     {
         if !self.add(is_open) {
@@ -216,14 +211,7 @@ impl Plans {
     }
 
     /// A turn more of a run that has so many events and was open or not. One that is opened again isn't followed.
-    fn follow(
-        &mut self,
-        alloc: Global,
-        run: RunId,
-        was: bool,
-        count: u64,
-        turn: &Turn,
-    ) -> bool
+    fn follow(&mut self, alloc: Global, run: RunId, was: bool, count: u64, turn: &Turn) -> bool
         ensures { result ≡ true → (b : Book) → (r : ARun) → nth b.runs run ≡ Some r → is_open_run r ≡ was → length r.history ≡ count → IsPlan self.old b → IsPlan self.new (changed b (AddTurn run turn.now)) }
     {
         let is_now = is_open_behind(was, turn);

@@ -187,14 +187,20 @@ fn least_behind(
 #[test]
 fn timers_follow_their_runs(rt: HostRuntime) -> Result<(), Fail> {
     let mut tables = begun(rt.alloc())?;
-    assert_eq!(rt; least_behind(rt.alloc(), &mut tables, true)?, ((85, 1, 4), (90, 2, 2)));
+    assert_eq!(rt;
+        least_behind(rt.alloc(), &mut tables, true)?,
+        ((85, 1, 4), (90, 2, 2))
+    );
     Ok(())
 }
 
 #[test]
 fn timers_of_runs_that_were_not_read(rt: HostRuntime) -> Result<(), Fail> {
     let mut tables = begun(rt.alloc())?;
-    assert_eq!(rt; least_behind(rt.alloc(), &mut tables, false)?, ((85, 1, 4), (90, 2, 2)));
+    assert_eq!(rt;
+        least_behind(rt.alloc(), &mut tables, false)?,
+        ((85, 1, 4), (90, 2, 2))
+    );
     Ok(())
 }
 
@@ -219,7 +225,10 @@ fn least_rolled_back(
 #[test]
 fn a_rollback_takes_timers_back(rt: HostRuntime) -> Result<(), Fail> {
     let mut tables = begun(rt.alloc())?;
-    assert_eq!(rt; least_rolled_back(rt.alloc(), &mut tables)?, ((80, 2, 2), (90, 1, 2)));
+    assert_eq!(rt;
+        least_rolled_back(rt.alloc(), &mut tables)?,
+        ((80, 2, 2), (90, 1, 2))
+    );
     Ok(())
 }
 
