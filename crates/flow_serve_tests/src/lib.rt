@@ -1,0 +1,5 @@
+//! Tests of an engine that serves a hub.
+#![tactic(auto)]
+
+#[cfg(test)]
+mod serving;

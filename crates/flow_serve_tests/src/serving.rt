@@ -1,0 +1,139 @@
+//! Two commands are submitted to a hub, served by an engine over memory, and their receipts fetched.
+ghost use Rattle.std.specs.Prelude.{◌≡◌, []};
+ghost use Rattle.flow_hub.specs.Seating.{IsRoomOf};
+
+use flow_base::command::{Command, Reply};
+use flow_base::number::{Moment, TextNo};
+use flow_base::sequence::Sequence;
+use flow_base::text::{Key, RawText};
+use flow_engine::engine::Engine;
+use flow_hub::hub::Hub;
+use flow_hub::publisher::Publisher;
+use flow_hub::seats::{Opened, Room};
+use flow_hub::submitter::Submitter;
+use flow_hub::ticket::Ticket;
+use flow_machine::submission::Receipt;
+use flow_timers::Clock;
+use sqlite::{Alter, Connection, MemStore};
+use std::alloc::Global;
+use std::marker::Brand;
+use std::sync::Wait;
+use std::test::*;
+
+/// What is told of a command: the place of its receipt, and the number that its reply names; or zeros.
+#[derive(Clone, Copy, PartialEq, Eq)]
+struct Told {
+    place: u64,
+    named: u64,
+}
+
+#[derive(Clone, Copy)]
+struct Still {
+    now: Moment,
+}
+
+impl Clock for Still {
+    fn now(&self) -> Moment {
+        self.now
+    }
+}
+
+fn register(alloc: Global) -> Option<Command> {
+    Some(Command::Register(RawText::new(alloc, "workflow e() {}").ok()?))
+}
+
+fn start(alloc: Global) -> Option<Command> {
+    let text = TextNo::new(1)?;
+    let at = Moment::new(1000)?;
+    let request = Key::new(alloc, "q").ok()?;
+    let flow = Key::new(alloc, "f").ok()?;
+    Some(Command::Start(request, flow, text, Sequence::new(alloc), at))
+}
+
+fn named(reply: &Reply) -> u64 {
+    match reply {
+        Reply::Registered(text) => text.get(),
+        Reply::Started(run) => run.get(),
+        _ => 0,
+    }
+}
+
+fn told_of(receipt: &Receipt) -> Told {
+    Told {
+        place: receipt.place,
+        named: named(&receipt.reply),
+    }
+}
+
+fn submitted<S: Alter, B: Room, R: Wait>(
+    rt: &R,
+    submitter: &mut Submitter<S, B>,
+    command: Command,
+) -> Option<Ticket> {
+    submitter.submit(rt, command).ok()
+}
+
+fn fetched<S: Alter, B: Room, R: Wait>(
+    rt: &R,
+    submitter: &mut Submitter<S, B>,
+    ticket: Ticket,
+) -> Told {
+    match submitter.wait(rt, ticket) {
+        Ok(receipt) => told_of(&receipt),
+        Err(_instead) => Told { place: 0, named: 0 },
+    }
+}
+
+/// Opens an engine over memory, and serves what was submitted. Whether it ended with all answered.
+fn serve<B: Room, R: Wait>(
+    rt: &R,
+    alloc: Global,
+    publisher: &mut Publisher<MemStore, B>,
+    clock: Still,
+) -> Option<bool>
+    requires { (publisher.old.history ≡ []) × (publisher.old.last ≡ []) × (publisher.old.held ≡ []) }
+{
+    let conn = Connection::open_in_memory(alloc).ok()?;
+    match Engine::open(alloc, conn) {
+        Ok(engine) => {
+            let mut engine = engine;
+            let ended = engine.serve(rt, publisher, &clock, 16);
+            Some(ended.is_ok())
+        }
+        Err((_fault, _conn)) => None,
+    }
+}
+
+/// What is told of the two commands, and how many are published at the end.
+fn served<B: Room, R: Wait>(
+    rt: &R,
+    alloc: Global,
+    opened: Opened<MemStore>,
+) -> Option<(Told, Told, u64)>
+    requires { IsRoomOf opened B.table B.name B.parts }
+{
+    let (mut publisher, hub) = Hub::<MemStore, B>::new(alloc, opened).ok()?;
+    let clock = Still {
+        now: Moment::new(1000)?,
+    };
+    let mut submitter = hub.submitter(rt).ok()?;
+    let first = submitted(rt, &mut submitter, register(alloc)?)?;
+    let second = submitted(rt, &mut submitter, start(alloc)?)?;
+    hub.close(rt);
+    if !serve(rt, alloc, &mut publisher, clock)? {
+        return None;
+    }
+    let first = fetched(rt, &mut submitter, first);
+    let second = fetched(rt, &mut submitter, second);
+    Some((first, second, submitter.published()))
+}
+
+#[test]
+fn what_was_submitted_is_served(rt: HostRuntime) -> Result<(), Fail> {
+    let alloc = rt.alloc();
+    let all = served::<Brand, HostRuntime>(&rt, alloc, Opened::new(alloc)?);
+    let first = Told { place: 1, named: 1 };
+    let second = Told { place: 2, named: 1 };
+    assert!(rt; all == Some((first, second, 2)));
+    Ok(())
+}
