@@ -1,3 +1,6 @@
+pub mod Agenda
 pub mod Keys
+pub mod OfRuns
 pub mod Serving
+pub mod Timers
 pub mod Turned
