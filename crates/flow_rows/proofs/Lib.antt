@@ -14,6 +14,8 @@ pub mod Telling
 pub mod OneMore
 pub mod WholeChanges
 pub mod Finds
+pub mod EventReads
+pub mod HeadReads
 pub mod Singles
 pub mod Recalls
 pub mod NextRuns

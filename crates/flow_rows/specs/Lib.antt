@@ -11,3 +11,4 @@ pub mod Told
 pub mod Recalling
 pub mod Whole
 pub mod Dues
+pub mod Heading

@@ -6,6 +6,7 @@ pub mod change_rows;
 pub mod damage;
 pub mod dues;
 mod events;
+pub mod head;
 mod outbox;
 pub mod recall;
 pub mod rows;

@@ -159,6 +159,8 @@ module _ (db : Trees) (ours : AreOurs db) (utf8 : AreUtf8 (tables_in db)) where
     are_readable Read.all_events = of_events _ _ _ (λ r h. (h.0, (h.1, (h.2, (h.3, tt))))) _
     are_readable Read.run_events = of_events _ _ _ (λ r h. (h.0, (h.1, (h.2, (h.3, tt))))) _
     are_readable Read.last_event = first_holds db params 5 _ _ refl ReadsEvent _ (λ r h. (h.1, tt)) events_read _ rows
+    are_readable Read.event_at = of_events _ _ _ (λ r h. (h.0, (h.1, (h.2, (h.3, tt))))) _
+    are_readable Read.newest_event = first_holds db params 5 _ _ refl ReadsEvent _ (λ r h. (h.0, (h.1, (h.2, (h.3, tt))))) events_read _ rows
     are_readable Read.all_timers = rows_hold db params 7 _ _ refl ReadsTimer _ (λ r h. (h.0, (h.1, (h.2, tt)))) timers_read _ rows
     are_readable Read.all_tasks = of_tasks _ _ _ (λ r h. (h.0, (h.1, (h.2, (h.3, tt))))) _
     are_readable Read.run_tasks = of_tasks _ _ _ (λ r h. (h.0, (h.1, (h.2, (h.3, tt))))) _

@@ -38,6 +38,8 @@ read_takes Read.open_run = 1
 read_takes Read.flow_runs = 1
 read_takes Read.run_events = 1
 read_takes Read.last_event = 1
+read_takes Read.event_at = 2
+read_takes Read.newest_event = 1
 read_takes Read.run_tasks = 1
 read_takes _ = 0
 

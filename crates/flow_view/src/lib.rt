@@ -3,6 +3,7 @@
 
 pub mod due;
 pub mod fault;
+pub mod head;
 pub mod history;
 pub mod lists;
 pub mod run;
