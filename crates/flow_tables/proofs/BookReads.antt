@@ -1,11 +1,15 @@
 -- What reads of rows tell of the book.
 use Rattle.std.specs.Prelude.{◌≡◌, ◌∷◌, ◌+◌, ◌≤◌, if◌then◌else◌}
-use Rattle.flow_tables.proofs.Names.{Run, Book, nth, last_number, event_row, run_row, Tells, Tables, OutboxRow, RunRow, State, ints, AllByRecursion, Bool, IfErr, List, MatchResult, Option, false, map, pos, true, ℕ, IsRefused, IsStill, tables_in, ViewFault, Err, IfOk, None, Ok, Some, option_map, ℤ, [], refl, Result, suc, zero, subst, ◌∙◌, sym, ap, arith, RecallsRun, StopsRecall, IsBelowOne, as_number, as_count}
+use Rattle.flow_tables.proofs.Names.{Run, Book, nth, last_number, event_row, run_row, Tells, Tables, OutboxRow, RunRow, State, ints, AllByRecursion, Bool, IfErr, List, MatchResult, Option, false, map, pos, true, ℕ, IsRefused, IsStill, tables_in, ViewFault, Err, IfOk, None, Ok, Some, option_map, ℤ, [], refl, Result, suc, zero, subst, ◌∙◌, sym, ap, arith, RecallsRun, RecallsHead, StopsRecall, last, IsBelowOne, as_number, as_count}
 use Rattle.flow_model.specs.Book.{first_from}
+use Rattle.flow_view.specs.Heads.{head_of, head_if, head_at}
 use Rattle.flow_view.specs.declared.fault.ViewFault.TheVariants as view
+use Rattle.flow_view.specs.declared.head.Head.{Head}
 use Rattle.flow_rows.specs.declared.rows.EventRow.{EventRow}
+use Rattle.flow_rows.specs.Heading.{head_in}
 use Rattle.flow_rows.specs.Recalling.{run_in}
 use Rattle.flow_rows.specs.Told.{run_told, IsTold}
+use Rattle.flow_rows.proofs.HeadReads.{head_told}
 use Rattle.flow_rows.proofs.Recalled.{run_in_told, run_back}
 use Rattle.flow_rows.proofs.BookTables.{nth_is}
 use Rattle.flow_rows.proofs.WholeChanges.{all_get}
@@ -58,6 +62,29 @@ run_then a b c k n row result h still e recalls = let it = no_some (run_row n) (
     go it (Ok v) r = (still_then true a b c still r.0, ap Some r.1 ∙ sym it.1)
     go it (Err f) r = still_refused true a b c still r
 
+-- where no row has the number, there is no head
+pub no_head : (k : Book) (n : ℕ) → None ≡ option_map (run_row n) (nth k.runs n) → None ≡ head_at k.runs n
+no_head k n e = ap head_if (no_run n (nth k.runs n) e)
+
+-- a head that was recalled after the row of its run was read
+pub head_then : (a b c : State) (k : Book) (n : ℕ) (row : RunRow) (result : Result Head ViewFault) → Tells (tables_in a.now.trees) k → IsStill true a b → Some row ≡ option_map (run_row n) (nth k.runs n)
+    → RecallsHead b c n row result → MatchResult result (λ v. IsStill true a c × (Some v ≡ head_at k.runs n)) (λ _. IsRefused true a c)
+head_then a b c k n row result h still e recalls = let it = no_some (run_row n) (nth k.runs n) row e in go it result (recalls k it.0 (tells_still a b k still h) it.1 it.2 (λ _. still.0))
+  where
+    go : (it : (x : Run) × (nth k.runs n ≡ Some x) × (row ≡ run_row n x)) (result : Result Head ViewFault) → MatchResult result (λ v. IsStill true b c × (v ≡ head_of it.0)) (λ _. IsRefused true b c)
+        → MatchResult result (λ v. IsStill true a c × (Some v ≡ head_at k.runs n)) (λ _. IsRefused true a c)
+    go it (Ok v) r = (still_then true a b c still r.0, ap Some r.1 ∙ ap head_if (sym it.1))
+    go it (Err f) r = still_refused true a b c still r
+
+-- the head that was read from its rows
+pub head_recalled : (t : Tables) (b : Book) (n : ℕ) (r : Run) (x : Head) (row : RunRow) (end : Option EventRow) (tasks : List OutboxRow) → Tells t b → nth b.runs n ≡ Some r → row ≡ run_row n r
+    → end ≡ last (t.events (pos n)) → tasks ≡ t.outbox (pos n) → Some x ≡ head_in row end tasks → x ≡ head_of r
+head_recalled t b n r x row end tasks h at is e k found = let same = found ∙ head_told t b n r row end tasks h at is e k in cc
+
+pub head_unread : (t : Tables) (b : Book) (n : ℕ) (r : Run) (row : RunRow) (end : Option EventRow) (tasks : List OutboxRow) → Tells t b → nth b.runs n ≡ Some r → row ≡ run_row n r
+    → end ≡ last (t.events (pos n)) → tasks ≡ t.outbox (pos n) → None ≡ head_in row end tasks → ⊥
+head_unread t b n r row end tasks h at is e k none = let clash = none ∙ head_told t b n r row end tasks h at is e k in cc
+
 ---- Why a read is refused
 
 one_more : (v : Bool) (m k : ℕ) (o : Option ℕ) → 1 ≤ m → (o ≡ Some k → 1 ≤ k) → (if v then Some m else o) ≡ Some k → 1 ≤ k
@@ -93,7 +120,7 @@ never_unread t b n r row events tasks h at is e k none = let clash = none ∙ re
         ∙ run_back n (pos n) r (told_at b n r h.runs at)
 
 -- a run that wasn't recalled after its row was read
-pub run_stops : (a b : State) (k : Book) (n : ℕ) (row : RunRow) (result : Result Run ViewFault) (W : Type 0) → Tells (tables_in a.now.trees) k → IsStill true a b
+pub run_stops : {A : Type 0} (a b : State) (k : Book) (n : ℕ) (row : RunRow) (result : Result A ViewFault) (W : Type 0) → Tells (tables_in a.now.trees) k → IsStill true a b
     → Some row ≡ option_map (run_row n) (nth k.runs n) → StopsRecall b n row result W → IfErr result (λ f. f ≡ view.StoreRefused → W)
 run_stops a b k n row result W h still e stops = let it = no_some (run_row n) (nth k.runs n) row e in stops k it.0 (tells_still a b k still h) it.1 it.2 (λ _. still.0)
 

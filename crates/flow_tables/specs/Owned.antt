@@ -4,7 +4,9 @@ use Rattle.flow_tables.specs.Names.{Bytes, Bool, Run, Book, nth, no_book, last_n
 use Rattle.std.specs.Coded.{Coded, code_by, coded×, coded_option}
 use Rattle.sqlite.specs.Tree.{Trees}
 use Rattle.sqlite.specs.Held.{held_code}
+use Rattle.flow_view.specs.Heads.{head_of}
 use Rattle.flow_view.specs.declared.fault.ViewFault.TheVariants as fault
+use Rattle.flow_view.specs.declared.head.Head.{Head}
 use Rattle.flow_tables.specs.contracts.fault.Refusal as refusal_row
 use Rattle.flow_maps.specs.declared.maps.Maps.{Maps}
 use Rattle.flow_maps.specs.Serving.{Serves, Sees, named, key_if}
@@ -157,13 +159,19 @@ RecallsRun old new number row result =
     (b : Book) (r : Run) → Tells (tables_in old.now.trees) b → nth b.runs number ≡ Some r → row ≡ run_row number r → Holds true old
     → MatchResult result (λ v. IsStill true old new × (v ≡ r)) (λ _. IsRefused true old new)
 
+-- and of what is read of it without its history
+abbrev pub RecallsHead : State → State → ℕ → RunRow → Result Head ViewFault → Type 0
+RecallsHead old new number row result =
+    (b : Book) (r : Run) → Tells (tables_in old.now.trees) b → nth b.runs number ≡ Some r → row ≡ run_row number r → Holds true old
+    → MatchResult result (λ v. IsStill true old new × (v ≡ head_of r)) (λ _. IsRefused true old new)
+
 -- A refusal has this behind it, where the tables tell a book.
 abbrev pub StopsRead : {A : Type 0} → State → Result A ViewFault → Type 0 → Type 0
 StopsRead old result why =
     (b : Book) → Tells (tables_in old.now.trees) b → Holds true old → IfErr result (λ f. f ≡ fault.StoreRefused → why)
 
 -- the same, of the run that has this row and stands at this number
-abbrev pub StopsRecall : State → ℕ → RunRow → Result Run ViewFault → Type 0 → Type 0
+abbrev pub StopsRecall : {A : Type 0} → State → ℕ → RunRow → Result A ViewFault → Type 0 → Type 0
 StopsRecall old number row result why =
     (b : Book) (r : Run) → Tells (tables_in old.now.trees) b → nth b.runs number ≡ Some r → row ≡ run_row number r → Holds true old
     → IfErr result (λ f. f ≡ fault.StoreRefused → why)
