@@ -9,6 +9,7 @@ pub mod fault;
 mod first_due;
 mod keys;
 pub mod known;
+mod learning;
 pub mod open;
 pub mod questions;
 pub mod row_changes;
