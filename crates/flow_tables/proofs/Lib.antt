@@ -18,4 +18,4 @@ pub mod Questioned
 pub mod Signalled
 pub mod Altering
 pub mod Serving
-pub mod Learning
+pub mod RunsRead

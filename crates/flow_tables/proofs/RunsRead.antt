@@ -30,7 +30,8 @@ first_of b n = record { texts = b.texts; runs = take n b.runs }
 -- What is known of the first runs is known of one more.
 pub serves_more : (m : Maps) (b b' : Book) (i : ℕ) (r : Run) → b' ≡ b → nth b'.runs (i + 1) ≡ Some r → Serves m (record { texts = b.texts; runs = take i b.runs ++ r ∷ [] }) → Serves m (first_of b (i + 1))
 serves_more m b b' i r same there h =
-    subst (λ rs. Serves m (record { texts = b.texts; runs = rs })) (one_more b.runs i r (sym (nth_at b.runs (i + 1) i (omega arith)) ∙ ap (λ (k : Book). nth k.runs (i + 1)) (sym same) ∙ there) ∙ ap (λ n. take n b.runs) (omega arith)) h
+    let next : suc i ≡ i + 1 = omega arith in
+    subst (λ rs. Serves m (record { texts = b.texts; runs = rs })) (one_more b.runs i r (sym (nth_at b.runs (i + 1) i (omega arith)) ∙ ap (λ (k : Book). nth k.runs (i + 1)) (sym same) ∙ there) ∙ ap (λ n. take n b.runs) next) h
 
 -- And behind the last of them nothing is left.
 pub serves_all : (m : Maps) (b b' : Book) (i : ℕ) → b' ≡ b → nth b'.runs (i + 1) ≡ None → Serves m (first_of b i) → Serves m b
