@@ -1,20 +1,24 @@
 -- What a board names: the tasks that are ready and weren't posted, and what else whoever posts them needs to know.
-use Rattle.std.specs.Prelude.{◌≡◌, ℕ, ◌+◌, Bool, true, ◌&&◌, not, ◌++◌, List, [], ◌∷◌, length, map, filter, Option, Some, None, nat_eq, nat_le, nat_lt, if◌then◌else◌, refl}
+use Rattle.std.specs.Prelude.{◌≡◌, ℕ, Bool, true, ◌&&◌, not, ◌++◌, List, [], ◌∷◌, filter, Option, Some, None, nat_eq, nat_le, nat_lt, if◌then◌else◌, refl}
 use Rattle.std.specs.Coded.{Coded, code_by, coded×, coded_ℕ, coded_list, coded_option}
 use Rattle.std.specs.List.{list_any}
 use Rattle.flow_base.specs.Syntax.{Bytes}
 use Rattle.flow_base.specs.declared.book.Run.{Run}
-use Rattle.flow_base.specs.declared.book.Task.{Task as OpenTask}
+use Rattle.flow_base.specs.declared.event.Cmd.{Cmd}
 use Rattle.flow_base.specs.declared.event.Cmd.TheVariants.{Schedule}
 use Rattle.flow_base.specs.declared.event.Event.{Event}
+use Rattle.flow_base.specs.declared.event.What.{What}
 use Rattle.flow_base.specs.declared.event.What.TheVariants.{Came, Asked}
 use Rattle.flow_base.specs.declared.fault.Fault.{Fault}
 use Rattle.flow_base.specs.declared.fault.Fault.TheVariants as fault
 use Rattle.flow_base.specs.declared.value.Value.{Value}
 use Rattle.flow_model.specs.Book.{Book, nth}
-use Rattle.flow_model.specs.Configuration.{is_open}
-use Rattle.flow_model.specs.Open.{state_of}
+use Rattle.flow_maps.specs.Agenda.{open_runs}
+use Rattle.flow_maps.specs.Outlooks.{Waiting, waiting}
 use Rattle.flow_rows.specs.Dues.{next_moment}
+use Rattle.flow_view.specs.declared.fault.ViewFault.{ViewFault}
+use Rattle.flow_view.specs.declared.fault.ViewFault.TheVariants as view
+use Rattle.flow_commit.specs.declared.waiting.Draft.{Draft}
 use Rattle.flow_machine.specs.declared.task.Task.{Task}
 use Rattle.flow_machine.specs.contracts.task.Task as task_row
 
@@ -45,23 +49,6 @@ boarded_code =
 
 ---- What a book gives out to be done
 
--- an open activity of the run of a number
-abbrev pub Waiting : Type 0
-Waiting = ℕ × OpenTask
-
-abbrev pub waiting_in : ℕ → List OpenTask → List Waiting
-waiting_in n [] = []
-waiting_in n (t ∷ ts) = (n, t) ∷ waiting_in n ts
-
--- the open activities of runs, of a list that begins with number n
-abbrev pub waiting_from : ℕ → List Run → List Waiting
-waiting_from n [] = []
-waiting_from n (r ∷ rs) = waiting_in n r.tasks ++ waiting_from (n + 1) rs
-
--- All open activities of a book at their current attempts, in order of run and event.
-abbrev pub waiting : Book → List Waiting
-waiting b = waiting_from 1 b.runs
-
 abbrev pub is_key : Key → Key → Bool
 is_key q p = nat_eq q.0 p.0 && nat_eq q.1 p.1 && nat_eq q.2 p.2
 
@@ -76,16 +63,26 @@ is_ready posted at w = nat_le w.1.ready at && not (is_posted posted (w.0, w.1.ev
 abbrev pub Call : Type 0
 Call = Bytes × List Value
 
--- what an event calls, if it is such an event
-abbrev pub called_by : Event → Option Call
-called_by e = elim e.what [ Came i ↦ None | Asked c ↦ elim c [ Schedule a vs tries every k ↦ Some (a, vs) | _ ↦ None ] ]
+-- what a command of a program calls, if it is a call
+abbrev pub called_of : Cmd → Option Call
+called_of (Schedule a vs tries every k) = Some (a, vs)
+called_of _ = None
 
-abbrev pub called_in : Run → ℕ → Option Call
-called_in r event = elim (nth r.history event) [ None ↦ None | Some e ↦ called_by e ]
+abbrev pub called_in : What → Option Call
+called_in (Came i) = None
+called_in (Asked c) = called_of c
+
+abbrev pub called_by : Option Event → Option Call
+called_by None = None
+called_by (Some e) = called_in e.what
+
+abbrev pub event_of : Option Run → ℕ → Option Event
+event_of None event = None
+event_of (Some r) event = nth r.history event
 
 -- what the event of a run calls
 abbrev pub call_at : Book → ℕ → ℕ → Option Call
-call_at b run event = elim (nth b.runs run) [ None ↦ None | Some r ↦ called_in r event ]
+call_at b run event = called_by (event_of (nth b.runs run) event)
 
 abbrev pub task_with : Waiting → Option Call → List Task
 task_with w None = []
@@ -105,21 +102,18 @@ abbrev pub sooner : Option ℕ → ℕ → Option ℕ
 sooner None m = Some m
 sooner (Some n) m = if nat_lt m n then Some m else Some n
 
+-- an attempt counts that is ready after `at`
+abbrev pub with_ready : ℕ → Option ℕ → Waiting → Option ℕ
+with_ready at best w = if nat_lt at w.1.ready then sooner best w.1.ready else best
+
 -- the least of a moment and of those after `at` at which attempts are ready
 abbrev pub soonest : ℕ → Option ℕ → List Waiting → Option ℕ
 soonest at best [] = best
-soonest at best (w ∷ ws) = soonest at (if nat_lt at w.1.ready then sooner best w.1.ready else best) ws
+soonest at best (w ∷ ws) = soonest at (with_ready at best w) ws
 
 -- When more is to be done: the least of the open timers' due moments and of the ready moments after this one.
 abbrev pub next_due : ℕ → Book → Option ℕ
 next_due at b = soonest at (next_moment b) (waiting b)
-
-abbrev pub is_open_run : Run → Bool
-is_open_run r = is_open (state_of r.history)
-
--- how many runs of a book are open
-abbrev pub open_runs : Book → ℕ
-open_runs b = length (filter is_open_run b.runs)
 
 -- The board is that of a book, where these tasks were posted.
 pub record IsBoardOf (b : Book) (posted : List Key) (at : ℕ) (it : Boarded) : Type 0 where
@@ -133,3 +127,12 @@ IsOfBoard halted fault.NoMemory = Unit {0}
 IsOfBoard halted fault.StoreRefused = Unit {0}
 IsOfBoard halted fault.Halted = halted ≡ true
 IsOfBoard halted _ = ⊥
+
+-- What is read of a book for a board.
+abbrev pub draft_of : List Key → ℕ → Book → Draft
+draft_of posted at b = record { tasks = ready_tasks posted at b; due = next_due at b; open_runs = open_runs b }
+
+-- how a refusal of the tables is told
+abbrev pub board_fault : ViewFault → Fault
+board_fault view.NoMemory = fault.NoMemory
+board_fault view.StoreRefused = fault.StoreRefused
