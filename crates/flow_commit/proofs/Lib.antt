@@ -2,3 +2,5 @@ pub mod Following
 pub mod Ends
 pub mod Lawful
 pub mod RunningOut
+pub mod Posting
+pub mod Sealing

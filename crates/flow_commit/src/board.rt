@@ -1,13 +1,15 @@
 //! What a keeper's book gives out to be done.
 ghost use Rattle.std.specs.Prelude.{◌≡◌};
 
-use flow_base::number::{EventId, Moment, RunId};
+use crate::waiting::Draft;
+use flow_base::number::Moment;
 use flow_machine::task::Task;
+use std::collections::BTreeSet;
 use std::marker::Model;
-use unseen::Listed;
+use unseen::{Listed, Makes};
 
-/// A task that was posted: its run, its event and its attempt.
-pub type Posted = (RunId, EventId, u64);
+/// A task that was posted: the numbers of its run, of its event and of its attempt.
+pub type Posted = (u64, u64, u64);
 
 /// The tasks of a keeper's book that are ready and weren't posted. A keeper alone makes it.
 #[derive(Drop)]
@@ -31,6 +33,31 @@ impl Model for Board {
     ghost coded = { boarded_code };
 
     ghost view = { λ b. record { tasks = b.tasks.items; due = b.due; open_runs = b.open_runs; kept = b.kept; posted = b.posted } };
+}
+
+// The keys that are there.
+pub(crate) struct Keys;
+
+impl Makes<&BTreeSet<Posted>, Posted> for Keys {
+    ghost list = { λ s. s.now.keys };
+}
+
+/// The board of a draft, behind so many commands, where these tasks were posted.
+pub(crate) fn board_of(draft: Draft, kept: u64, posted: &BTreeSet<Posted>) -> Board
+    ensures { result ≡ record { tasks = draft.tasks; due = draft.due; open_runs = draft.open_runs; kept = kept; posted = posted.now.keys } }
+{
+    let Draft {
+        tasks,
+        due,
+        open_runs,
+    } = draft;
+    Board {
+        tasks: tasks.into_vec(),
+        due,
+        open_runs,
+        kept,
+        posted: Listed::of::<&BTreeSet<Posted>, Keys>(&posted),
+    }
 }
 
 impl Board {

@@ -9,4 +9,6 @@ pub mod laws;
 pub mod outcome;
 mod receipts;
 pub mod stamp;
+mod survey;
 mod transaction;
+mod waiting;

@@ -11,11 +11,13 @@ ghost use Rattle.flow_model.specs.Book.{Book, nth, changed, at_attempt};
 ghost use Rattle.flow_maps.specs.Agenda as rule;
 ghost use Rattle.flow_maps.specs.Agenda.{ArePlans, IsPlan, Knows, IsOf, replaced, one_if, is_open_run, open_runs};
 ghost use Rattle.flow_maps.specs.OfRuns.{list_of};
+ghost use Rattle.flow_maps.specs.Outlooks.{outlook_of};
 ghost use Rattle.flow_maps.specs.Timers.{Times, timers_at, timers_of};
 ghost use Rattle.std.specs.Prelude.{IfOk};
 
 use crate::left::{tasks_behind, timers_behind, with_attempt};
 use crate::of_runs::OfRuns;
+use crate::outlook::{Outlook, last_moment, listed};
 use crate::timers::Timers;
 use crate::turned::is_open_behind;
 use flow_base::book::{Due, Task, Timer, Turn};
@@ -238,6 +240,23 @@ impl Plans {
             Err(_) => false,
         }
     }
+
+    /// All of it, listed; none where there is no memory.
+    fn outlook(&self, alloc: Global) -> Option<Outlook>
+        ensures { IfSome result (λ v. (b : Book) → IsPlan self.now b → v ≡ outlook_of b) }
+    {
+        let Some(first) = self.timers.first_due(last_moment()) else {
+            return None;
+        };
+        let Some(waiting) = listed(alloc, &self.tasks) else {
+            return None;
+        };
+        Some(Outlook {
+            waiting,
+            first,
+            open_runs: self.opened,
+        })
+    }
 }
 
 impl Agenda {
@@ -358,12 +377,12 @@ impl Agenda {
         }
     }
 
-    /// How many runs are open, if that is known.
-    pub fn open_runs(&self) -> Option<u64>
-        ensures { IfSome result (λ n. (b : Book) → IsOf self.now b → n ≡ open_runs b) }
+    /// All that the book waits for, if that is known and there is memory for the list.
+    pub fn outlook(&self) -> Option<Outlook>
+        ensures { IfSome result (λ v. (b : Book) → IsOf self.now b → v ≡ outlook_of b) }
     {
         match &self.plans {
-            Some(plans) => Some(plans.opened),
+            Some(plans) => plans.outlook(self.alloc),
             None => None,
         }
     }

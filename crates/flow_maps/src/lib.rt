@@ -7,5 +7,6 @@ pub mod index;
 mod left;
 pub mod maps;
 pub mod of_runs;
+pub mod outlook;
 pub mod timers;
 mod turned;

@@ -13,10 +13,12 @@ ghost use Rattle.flow_maps.specs.Agenda as plans;
 ghost use Rattle.flow_maps.specs.Agenda.{IsOf, replaced, one_if};
 ghost use Rattle.flow_maps.specs.Timers.{timers_of};
 ghost use Rattle.flow_maps.specs.Keys.{Lists};
+ghost use Rattle.flow_maps.specs.Outlooks.{outlook_of};
 ghost use Rattle.flow_maps.specs.Serving.{Serves, Sees, IsSeen, AreKeys, AreRunKeys, Awaits, open_key, key_if, named};
 
 use crate::agenda::Agenda;
 use crate::index::Index;
+use crate::outlook::Outlook;
 use crate::turned::is_open_behind;
 use flow_base::book::{Change, Due, Task, Timer, Turn};
 use flow_base::number::{Moment, RunId, TextNo};
@@ -307,10 +309,10 @@ impl Maps {
         self.agenda.least_due(at)
     }
 
-    /// How many runs are open, if that is known.
-    pub fn open_runs(&self) -> Option<u64>
-        ensures { IfSome result (λ n. (b : Book) → Serves self.now b → n ≡ plans.open_runs b) }
+    /// All that the book waits for, if that is known and there is memory for the list.
+    pub fn outlook(&self) -> Option<Outlook>
+        ensures { IfSome result (λ v. (b : Book) → Serves self.now b → v ≡ outlook_of b) }
     {
-        self.agenda.open_runs()
+        self.agenda.outlook()
     }
 }

@@ -11,7 +11,7 @@ use std::collections::BTreeMap;
 #[derive(Drop)]
 pub struct OfRuns<T: Drop> {
     alloc: Global,
-    lists: BTreeMap<u64, Sequence<T>>,
+    pub(crate) lists: BTreeMap<u64, Sequence<T>>,
 }
 
 impl<T: Drop> OfRuns<T> {

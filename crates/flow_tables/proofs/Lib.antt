@@ -18,3 +18,4 @@ pub mod Questioned
 pub mod Signalled
 pub mod Altering
 pub mod Serving
+pub mod RunsRead

@@ -35,7 +35,7 @@ pub(crate) fn keys_of(alloc: Global, rows: &[RunRow]) -> Maps
 }
 
 /// One more run, and what it waits for. Short of memory nothing is known any more.
-fn add_whole(alloc: Global, maps: &mut Maps, run: &Run)
+pub(crate) fn add_whole(alloc: Global, maps: &mut Maps, run: &Run)
     ensures serves { (b : Book) → Serves maps.old b → Serves maps.new (record b { runs = b.runs ++ run.now ∷ [] }) }
     ensures sees { ((b : Book) → Sees maps.old b) → (b : Book) → Sees maps.new b }
 {

@@ -10,6 +10,7 @@ mod first_due;
 mod head;
 mod keys;
 pub mod known;
+mod learning;
 mod one_event;
 pub mod open;
 pub mod questions;

@@ -1,0 +1,223 @@
+//! Which open activities are to be posted, and when there is more to be done.
+ghost use Rattle.std.specs.Prelude.{◌≡◌, ◌++◌, IfOk, OnOk, filter};
+ghost use Rattle.flow_model.specs.Book.{nth};
+ghost use Rattle.flow_view.specs.Reading.{Caused, Reads};
+ghost use Rattle.flow_commit.specs.Boards as rule;
+
+use crate::board::Posted;
+use flow_base::book::Task as OpenTask;
+use flow_base::event::{Cmd, Event, What, copy_values};
+use flow_base::number::{EventId, Moment, RunId};
+use flow_base::sequence::Sequence;
+use flow_base::text::Key;
+use flow_base::value::Value;
+use flow_machine::task::Task;
+use flow_view::fault::ViewFault;
+use flow_view::view::View;
+use std::alloc::{AllocError, Global};
+use std::collections::BTreeSet;
+
+/// An open activity with its run.
+type Waiting = (RunId, OpenTask);
+
+/// What is read of a book for a board.
+#[derive(Drop)]
+pub(crate) struct Draft {
+    pub(crate) tasks: Sequence<Task>,
+    pub(crate) due: Option<Moment>,
+    pub(crate) open_runs: u64,
+}
+
+fn is_posted(posted: &BTreeSet<Posted>, key: &Posted) -> bool
+    ensures { result ≡ rule.is_posted posted.now.keys key.now }
+{
+    posted.contains(key)
+}
+
+/// Whether an attempt may be made by a moment and wasn't posted.
+fn is_ready(posted: &BTreeSet<Posted>, at: Moment, entry: &Waiting) -> bool
+    ensures { result ≡ rule.is_ready posted.now.keys at entry.now }
+{
+    let task = &entry.1;
+    if at.get() < task.ready.get() {
+        return false;
+    }
+    let key = (entry.0.get(), task.event.get(), task.attempt);
+    !is_posted(posted, &key)
+}
+
+/// The open activities whose attempt is to be posted.
+pub(crate) fn wanted(
+    alloc: Global,
+    posted: &BTreeSet<Posted>,
+    at: Moment,
+    waiting: &[Waiting],
+) -> Result<Vec<Waiting>, AllocError>
+    ensures { IfOk result (λ v. v.items ≡ filter (rule.is_ready posted.now.keys at) waiting.now) }
+{
+    let mut list = Vec::new(alloc);
+    for entry in waiting {
+        if is_ready(posted, at, entry) {
+            list.push(*entry)?;
+        }
+    }
+    Ok(list)
+}
+
+fn sooner(best: Option<Moment>, next: Moment) -> Option<Moment>
+    ensures { result ≡ rule.sooner best next }
+{
+    match best {
+        Some(moment) => {
+            if next.get() < moment.get() {
+                Some(next)
+            } else {
+                Some(moment)
+            }
+        }
+        None => Some(next),
+    }
+}
+
+fn with_ready(at: Moment, best: Option<Moment>, entry: &Waiting) -> Option<Moment>
+    ensures { result ≡ rule.with_ready at best entry.now }
+{
+    let ready = entry.1.ready;
+    if at.get() < ready.get() {
+        sooner(best, ready)
+    } else {
+        best
+    }
+}
+
+/// The least of a moment and of those after `at` at which attempts are ready.
+pub(crate) fn soonest(at: Moment, first: Option<Moment>, waiting: &[Waiting]) -> Option<Moment>
+    ensures { result ≡ rule.soonest at first waiting.now }
+{
+    let mut best = first;
+    for entry in waiting {
+        best = with_ready(at, best, entry);
+    }
+    best
+}
+
+fn called_of(alloc: Global, command: &Cmd) -> Result<Option<(Key, Sequence<Value>)>, AllocError>
+    ensures { IfOk result (λ o. o ≡ rule.called_of command.now) }
+{
+    match command {
+        Cmd::Schedule(activity, args, _, _, _) => {
+            let activity = activity.copy(alloc)?;
+            let args = copy_values(alloc, args.as_slice())?;
+            Ok(Some((activity, args)))
+        }
+        _ => Ok(None),
+    }
+}
+
+/// What an event calls, if it is such an event.
+fn called_in(alloc: Global, event: &Event) -> Result<Option<(Key, Sequence<Value>)>, AllocError>
+    ensures { IfOk result (λ o. o ≡ rule.called_in event.now.what) }
+{
+    match &event.what {
+        What::Came(_) => Ok(None),
+        What::Asked(command) => called_of(alloc, command),
+    }
+}
+
+/// What the event of a number calls.
+fn called_by(
+    alloc: Global,
+    events: &[Event],
+    event: EventId,
+) -> Result<Option<(Key, Sequence<Value>)>, AllocError>
+    ensures { IfOk result (λ o. o ≡ rule.called_by (nth events.now event)) }
+{
+    let place = event.get() - 1;
+    if place < events.len() as u64 {
+        called_in(alloc, &events[place as usize])
+    } else {
+        Ok(None)
+    }
+}
+
+/// What the event calls that scheduled an activity.
+fn call_at<V: View>(
+    alloc: Global,
+    view: &mut V,
+    entry: &Waiting,
+) -> Result<Option<(Key, Sequence<Value>)>, ViewFault>
+    ensures reads { IfOk result (λ o. Reads (V.is_sure view.new) (V.book view.old) (V.book view.new) o (rule.call_at (V.book view.old) entry.now.0 entry.now.1.event)) }
+    ensures cause { (a : V) → V.follows a view.old → V.is_true view.new → V.is_sure view.old → Caused result (V.refuses a view.new) }
+    ensures goes_on { OnOk result (V.is_true view.new → V.is_sure view.old → V.is_sure view.new) }
+    ensures sure { V.is_sure view.new → V.is_sure view.old }
+    ensures was_true { V.is_true view.new → V.is_true view.old }
+    ensures follows { (a : V) → V.follows a view.old → V.follows a view.new }
+{
+    let Some(run) = view.run(entry.0)? else {
+        return Ok(None);
+    };
+    match called_by(alloc, run.history.as_slice(), entry.1.event) {
+        Ok(call) => Ok(call),
+        Err(_) => Err(ViewFault::NoMemory),
+    }
+}
+
+fn add_task(
+    list: &mut Vec<Task>,
+    entry: &Waiting,
+    call: Option<(Key, Sequence<Value>)>,
+) -> Result<(), AllocError>
+    ensures { OnOk result (list.new.items ≡ list.old.items ++ rule.task_with entry.now call) }
+{
+    if let Some((activity, args)) = call {
+        list.push(Task {
+            run: entry.0,
+            event: entry.1.event,
+            attempt: entry.1.attempt,
+            activity,
+            args,
+        })?;
+    }
+    Ok(())
+}
+
+/// One more task, read from the book.
+fn add_ready<V: View>(
+    alloc: Global,
+    view: &mut V,
+    list: &mut Vec<Task>,
+    entry: &Waiting,
+) -> Result<(), ViewFault>
+    ensures reads { OnOk result (V.is_sure view.new → (V.book view.new ≡ V.book view.old) × (list.new.items ≡ list.old.items ++ rule.task_with entry.now (rule.call_at (V.book view.old) entry.now.0 entry.now.1.event))) }
+    ensures cause { (a : V) → V.follows a view.old → V.is_true view.new → V.is_sure view.old → Caused result (V.refuses a view.new) }
+    ensures goes_on { OnOk result (V.is_true view.new → V.is_sure view.old → V.is_sure view.new) }
+    ensures sure { V.is_sure view.new → V.is_sure view.old }
+    ensures was_true { V.is_true view.new → V.is_true view.old }
+    ensures follows { (a : V) → V.follows a view.old → V.follows a view.new }
+{
+    let call = call_at(alloc, view, entry)?;
+    match add_task(list, entry, call) {
+        Ok(()) => Ok(()),
+        Err(_) => Err(ViewFault::NoMemory),
+    }
+}
+
+/// The tasks of these open activities, each with what its event calls.
+pub(crate) fn tasks_of<V: View>(
+    alloc: Global,
+    view: &mut V,
+    wanted: &[Waiting],
+) -> Result<Sequence<Task>, ViewFault>
+    ensures reads { IfOk result (λ v. Reads (V.is_sure view.new) (V.book view.old) (V.book view.new) v (rule.tasks_of (V.book view.old) wanted.now)) }
+    ensures cause { (a : V) → V.follows a view.old → V.is_true view.new → V.is_sure view.old → Caused result (V.refuses a view.new) }
+    ensures goes_on { OnOk result (V.is_true view.new → V.is_sure view.old → V.is_sure view.new) }
+    ensures sure { V.is_sure view.new → V.is_sure view.old }
+    ensures was_true { V.is_true view.new → V.is_true view.old }
+    ensures follows { (a : V) → V.follows a view.old → V.follows a view.new }
+{
+    let mut list = Vec::new(alloc);
+    for entry in wanted {
+        add_ready(alloc, view, &mut list, entry)?;
+    }
+    Ok(Sequence::from_vec(list))
+}
