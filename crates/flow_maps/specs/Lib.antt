@@ -1,3 +1,4 @@
 pub mod Keys
 pub mod Serving
+pub mod Signals
 pub mod Turned

@@ -3,4 +3,5 @@
 
 pub mod index;
 pub mod maps;
+pub mod signals;
 mod turned;
