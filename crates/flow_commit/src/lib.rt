@@ -2,6 +2,7 @@
 #![tactic(auto)]
 
 pub mod batch;
+pub mod board;
 mod deciding;
 pub mod keeper;
 pub mod laws;

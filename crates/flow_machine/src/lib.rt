@@ -12,6 +12,7 @@ pub mod reached;
 mod report;
 mod sending;
 pub mod submission;
+pub mod task;
 mod ticking;
 mod turns;
 mod upgrading;

@@ -17,7 +17,7 @@ use Rattle.flow_model.specs.Turned.{traces, turn_events}
 use Rattle.flow_model.specs.Book.{Book, nth, with_run, with_turn, first_from, is_from, is_open_of, requested, open_run}
 use Rattle.flow_maps.specs.declared.maps.Maps.{Maps}
 use Rattle.flow_maps.specs.Keys.{is_key, key_found, Lists}
-use Rattle.flow_maps.specs.Serving.{Serves, request_key, key_if, open_key}
+use Rattle.flow_maps.specs.Serving.{AreRunKeys, request_key, key_if, open_key}
 use Rattle.flow_maps.specs.Turned.{is_open_by, is_open_after, is_open_behind}
 
 none_is : {A : Type 0} (x : A) → None ≡ Some x → ⊥
@@ -115,13 +115,14 @@ appended : (s : State) (h es : List Event) → state_after s (h ++ es) ≡ state
 appended s [] es = refl
 appended s (e ∷ h) es = appended (state_after_one s e) h es
 
-pub turn_key : (t : Turn) (r : Run) → open_key (with_turn t r) ≡ key_if (is_open_behind (is_open (state_of r.history)) t) r.flow
-turn_key t r =
-    ap (λ v. key_if v r.flow) (
+pub turn_open : (t : Turn) (r : Run) → is_open (state_of (with_turn t r).history) ≡ is_open_behind (is_open (state_of r.history)) t
+turn_open t r =
     ap is_open (appended state.Unbegun r.history (turn_events (length r.history + 1) t.at t.input t.commands))
     ∙ traced (state_by (state_of r.history) (effect_of_input t.input)) (length r.history + 1 + 1) t.at t.commands
     ∙ ap (λ o. is_open_after o t.commands) (opened (state_of r.history) (effect_of_input t.input))
-    )
+
+pub turn_key : (t : Turn) (r : Run) → open_key (with_turn t r) ≡ key_if (is_open_behind (is_open (state_of r.history)) t) r.flow
+turn_key t r = ap (λ v. key_if v r.flow) (turn_open t r)
 
 pub run_is : (b : Book) (n : ℕ) (f : Run → Run) (r : Run) → nth b.runs n ≡ Some r → record b { runs = slice_set b.runs (n - 1) (f r) } ≡ with_run b n f
 run_is b n f r at = go (nth b.runs n) at
@@ -146,7 +147,7 @@ keys_stay key f same b n = go (nth b.runs n) refl
     go (Some x) is = ap (λ (y : Book). map key y.runs) (sym (run_is b n f x is)) ∙ same_keys key b.runs n x (f x) is (same x)
 
 -- what is of the keys of a book is of those of the changed one
-pub serves_on : (m : Maps) (f : Run → Run) → ((r : Run) → request_key (f r) ≡ request_key r) → ((r : Run) → open_key (f r) ≡ open_key r) → (b : Book) (n : ℕ) → Serves m b → Serves m (with_run b n f)
+pub serves_on : (m : Maps) (f : Run → Run) → ((r : Run) → request_key (f r) ≡ request_key r) → ((r : Run) → open_key (f r) ≡ open_key r) → (b : Book) (n : ℕ) → AreRunKeys m b → AreRunKeys m (with_run b n f)
 serves_on m f requests flows b n h = record {
   requests = subst (λ ks. Lists m.requests ks) (sym (keys_stay request_key f requests b n)) h.requests;
   flows = subst (λ ks. Lists m.flows ks) (sym (keys_stay open_key f flows b n)) h.flows;

@@ -15,12 +15,12 @@ use Rattle.flow_base.specs.declared.book.Change.TheVariants.{AddRun, AddTurn}
 use Rattle.flow_base.specs.declared.book.Run.{Run}
 use Rattle.flow_base.specs.declared.book.Turn.{Turn}
 use Rattle.flow_model.specs.Turned.{traces, turn_events}
-use Rattle.flow_model.specs.Book.{Book, nth, changed, with_turn, unbegun_run, signal_in, is_signal_of, is_run_of, found_in, signalled, signalled_from}
+use Rattle.flow_model.specs.Book.{Book, nth, changed, with_run, with_turn, unbegun_run, signal_in, is_signal_of, is_run_of, found_in, signalled, signalled_from}
 use Rattle.flow_model.proofs.Logs.{nth_at}
 use Rattle.flow_maps.specs.declared.signals.FlowSignals.{FlowSignals}
 use Rattle.flow_maps.specs.declared.signals.Signals.{Signals}
 use Rattle.flow_maps.specs.Signals.{at_request, asked_by, signal_of, or_later, with_history, AreOf, KnowsFlow, KnowsSignals, IsTaken}
-use Rattle.flow_maps.proofs.Serving.{run_is}
+use Rattle.flow_maps.proofs.Serving.{none_is_there, run_is}
 
 none_is : {A : Type 0} (x : A) → None ≡ Some x → ⊥
 none_is x h = let same = h in cc
@@ -226,6 +226,20 @@ stays_known s b c same h = λ f. knows_as (get_by_text s.flows f) b c f (same f)
 -- a turn with which no signal came
 pub turn_quiet : (s : Signals) (b : Book) (run : ℕ) (t : Turn) (r : Run) → nth b.runs run ≡ Some r → asked_by t.input ≡ None → KnowsSignals s b → KnowsSignals s (changed b (AddTurn run t))
 turn_quiet s b run t r at none = stays_known s b (changed b (AddTurn run t)) (λ f q. turn_stays b (changed b (AddTurn run t)) run t r f q (has_turn b run t r at) (quiet_says f q t r (named_none q (asked_by t.input) none)))
+
+-- a change of one run that leaves its flow and its history
+pub set_quiet : (s : Signals) (b : Book) (n : ℕ) (f : Run → Run) → ((fl q : Bytes) (r : Run) → said fl q (f r) ≡ said fl q r) → KnowsSignals s b → KnowsSignals s (with_run b n f)
+set_quiet s b n f same h = go (nth b.runs n) refl
+  where
+    there : (m : ℕ) (r : Run) → nth b.runs m ≡ Some r → (fl q : Bytes) → signalled (record b { runs = slice_set b.runs (m - 1) (f r) }) fl q ≡ signalled b fl q
+    there zero r at fl q = absurd (none_is r at)
+    there (suc i) r at fl q =
+        let back : suc i - 1 ≡ i = omega arith in
+        ap (λ k. signalled_from fl q 1 (slice_set b.runs k (f r))) back ∙ stays fl q 1 b.runs i r (f r) (sym (nth_at b.runs (suc i) i refl) ∙ at) (same fl q r)
+
+    go : (o : Option Run) → nth b.runs n ≡ o → KnowsSignals s (with_run b n f)
+    go None is = subst (KnowsSignals s) (none_is_there b n f is) h
+    go (Some r) is = subst (KnowsSignals s) (run_is b n f r is) (stays_known s b (record b { runs = slice_set b.runs (n - 1) (f r) }) (there n r is) h)
 
 first_says : (flow : Bytes) (request : Option Bytes) (text : ℕ) (t : Turn) (f q : Bytes) → said f q (unbegun_run flow request text) ≡ None
 first_says flow request text t f q = go (bytes_eq flow f)

@@ -1,4 +1,7 @@
+pub mod Agenda
 pub mod Keys
+pub mod OfRuns
 pub mod Serving
 pub mod Signals
+pub mod Timers
 pub mod Turned

@@ -1,5 +1,5 @@
 //! What is known of the runs of a book by their keys.
-ghost use Rattle.std.specs.Prelude.{◌≡◌, ◌↔◌, ◌-◌, ◌++◌, ◌∷◌, [], map, IfSome, IsTrue, List, Option, Some, true, slice_set};
+ghost use Rattle.std.specs.Prelude.{◌≡◌, ◌↔◌, ◌-◌, ◌+◌, ◌++◌, ◌∷◌, [], ℕ, length, map, IfSome, IsTrue, List, Option, Some, true, slice_set};
 ghost use Rattle.flow_base.specs.Syntax.{Bytes};
 ghost use Rattle.flow_base.specs.declared.book.Run.{Run as ARun};
 ghost use Rattle.flow_base.specs.declared.book.Change.TheVariants.{AddRun, AddTurn};
@@ -7,13 +7,22 @@ ghost use Rattle.flow_model.specs.Configuration as configuration;
 ghost use Rattle.flow_model.specs.Open.{state_of};
 ghost use Rattle.flow_model.specs.Book as words;
 ghost use Rattle.flow_model.specs.Book.{Book, nth, changed};
+ghost use Rattle.flow_base.specs.declared.book.Task.{Task as ATask};
+ghost use Rattle.flow_base.specs.declared.book.Timer.{Timer as ATimer};
+ghost use Rattle.flow_maps.specs.Agenda as plans;
+ghost use Rattle.flow_maps.specs.Agenda.{IsOf, replaced, one_if};
+ghost use Rattle.flow_maps.specs.Timers.{timers_of};
+ghost use Rattle.flow_maps.specs.Signals.{AreOf, KnowsSignals};
 ghost use Rattle.flow_maps.specs.Keys.{Lists};
-ghost use Rattle.flow_maps.specs.Serving.{Serves, Sees, IsSeen, AreKeys, open_key, key_if, named};
+ghost use Rattle.flow_maps.specs.Serving.{Serves, Sees, IsSeen, AreKeys, AreRunKeys, Awaits, HasSignals, open_key, key_if, named};
 
+use crate::agenda::Agenda;
 use crate::index::Index;
+use crate::signals::{FlowSignals, Signals};
 use crate::turned::is_open_behind;
-use flow_base::book::{Change, Turn};
-use flow_base::number::{RunId, TextNo};
+use flow_base::book::{Change, Due, Task, Timer, Turn};
+use flow_base::number::{EventId, Moment, RunId, TextNo};
+use flow_base::sequence::Sequence;
 use flow_base::text::Key;
 use std::alloc::Global;
 
@@ -23,13 +32,17 @@ struct Seen {
     run: RunId,
     flow: Key,
     is_open: bool,
+    /// How many events it has.
+    count: u64,
 }
 
-/// The runs by their requests, and the open ones by their flows.
+/// The runs by their requests, the open ones by their flows, what they wait for, and where signals are recorded.
 #[derive(Drop)]
 pub struct Maps {
     requests: Index,
     flows: Index,
+    agenda: Agenda,
+    signals: Signals,
     seen: Option<Seen>,
 }
 
@@ -74,6 +87,58 @@ fn put_turn(flows: &mut Index, seen: &Option<Seen>, run: RunId, turn: &Turn)
     }
 }
 
+/// What runs wait for behind one turn more of a run, where that run was read.
+fn turn_agenda(agenda: &mut Agenda, seen: &Option<Seen>, run: RunId, turn: &Turn)
+    ensures { (b : Book) → IsSeen seen.now b → IsOf agenda.old b → IsOf agenda.new (changed b (AddTurn run turn.now)) }
+{
+    if let Some(read) = seen {
+        if is_of(read, run) {
+            agenda.go_on(run, read.is_open, read.count, turn);
+            return;
+        }
+    }
+    agenda.forget();
+}
+
+fn change_agenda(agenda: &mut Agenda, seen: &Option<Seen>, change: &Change)
+    ensures { (b : Book) → IsSeen seen.now b → IsOf agenda.old b → IsOf agenda.new (changed b change.now) }
+{
+    match change {
+        Change::AddText(_) => {}
+        Change::AddRun(_, _, _, turn) => agenda.begin(turn),
+        Change::AddTurn(run, turn) => turn_agenda(agenda, seen, *run, turn),
+        Change::SetAttempt(run, event, attempt, ready) => {
+            agenda.set_attempt(*run, *event, *attempt, *ready)
+        }
+        Change::SetText(_, _) => {}
+    }
+}
+
+/// Where signals are recorded behind one turn more of a run, where that run was read.
+fn turn_signals(signals: &mut Signals, seen: &Option<Seen>, run: RunId, turn: &Turn)
+    ensures { (b : Book) → IsSeen seen.now b → KnowsSignals signals.old b → KnowsSignals signals.new (changed b (AddTurn run turn.now)) }
+{
+    if let Some(read) = seen {
+        if is_of(read, run) {
+            signals.follow(&read.flow, run, read.count, turn);
+            return;
+        }
+    }
+    signals.forget();
+}
+
+fn change_signals(signals: &mut Signals, seen: &Option<Seen>, change: &Change)
+    ensures { (b : Book) → IsSeen seen.now b → KnowsSignals signals.old b → KnowsSignals signals.new (changed b change.now) }
+{
+    match change {
+        Change::AddText(_) => {}
+        Change::AddRun(flow, _, _, turn) => signals.begin(flow, turn),
+        Change::AddTurn(run, turn) => turn_signals(signals, seen, *run, turn),
+        Change::SetAttempt(_, _, _, _) => {}
+        Change::SetText(_, _) => {}
+    }
+}
+
 impl Maps {
     /// Nothing is known.
     pub fn unknown(alloc: Global) -> Maps
@@ -83,6 +148,8 @@ impl Maps {
         Maps {
             requests: Index::unknown(alloc),
             flows: Index::unknown(alloc),
+            agenda: Agenda::unknown(alloc),
+            signals: Signals::unknown(alloc),
             seen: None,
         }
     }
@@ -90,11 +157,14 @@ impl Maps {
     /// There is no run yet.
     pub fn none(alloc: Global) -> Maps
         ensures keys { AreKeys result [] [] }
+        ensures awaits { Awaits result 0 0 (λ n. []) (λ n. []) }
         ensures sees { (b : Book) → Sees result b }
     {
         Maps {
             requests: Index::new(alloc),
             flows: Index::new(alloc),
+            agenda: Agenda::new(alloc),
+            signals: Signals::unknown(alloc),
             seen: None,
         }
     }
@@ -106,6 +176,8 @@ impl Maps {
     {
         self.requests.forget();
         self.flows.forget();
+        self.agenda.forget();
+        self.signals.forget();
         self.seen = None;
     }
 
@@ -123,8 +195,10 @@ impl Maps {
     /// One more run, by its row: the empty text stands for no request.
     pub fn add_row(&mut self, flow: &str, request: &str, is_open: bool)
         ensures keys { (ks : List (Option Bytes)) → (fs : List (Option Bytes)) → AreKeys self.old ks fs → AreKeys self.new (ks ++ named request.now ∷ []) (fs ++ key_if is_open flow.now ∷ []) }
+        ensures awaits { (n o : ℕ) → (f : ℕ → List ATimer) → (g : ℕ → List ATask) → Awaits self.old n o f g → Awaits self.new (n + 1) (o + one_if is_open) f g }
         ensures sees { (b : Book) → Sees self.old b → Sees self.new b }
     {
+        self.agenda.add(is_open);
         if request.len() == 0 {
             self.requests.add_none();
         } else {
@@ -137,20 +211,55 @@ impl Maps {
         }
     }
 
+    /// One more open timer of a run, by its row.
+    pub fn add_timer(&mut self, run: RunId, timer: &Timer)
+        ensures keys { (ks : List (Option Bytes)) → (fs : List (Option Bytes)) → AreKeys self.old ks fs → AreKeys self.new ks fs }
+        ensures awaits { (n o : ℕ) → (f : ℕ → List ATimer) → (g : ℕ → List ATask) → Awaits self.old n o f g → Awaits self.new n o (replaced run (f run ++ timer.now ∷ []) f) g }
+        ensures sees { (b : Book) → Sees self.old b → Sees self.new b }
+    {
+        self.agenda.add_timer(run, timer);
+    }
+
+    /// One more open activity of a run, by its row.
+    pub fn add_task(&mut self, run: RunId, task: &Task)
+        ensures keys { (ks : List (Option Bytes)) → (fs : List (Option Bytes)) → AreKeys self.old ks fs → AreKeys self.new ks fs }
+        ensures awaits { (n o : ℕ) → (f : ℕ → List ATimer) → (g : ℕ → List ATask) → Awaits self.old n o f g → Awaits self.new n o f (replaced run (g run ++ task.now ∷ []) g) }
+        ensures sees { (b : Book) → Sees self.old b → Sees self.new b }
+    {
+        self.agenda.add_task(run, task);
+    }
+
+    /// What runs wait for and what they have taken isn't known any more.
+    pub fn forget_histories(&mut self)
+        ensures keys { (ks : List (Option Bytes)) → (fs : List (Option Bytes)) → AreKeys self.old ks fs → AreKeys self.new ks fs }
+        ensures awaits { (n o : ℕ) → (f : ℕ → List ATimer) → (g : ℕ → List ATask) → Awaits self.new n o f g }
+        ensures signals { (b : Book) → HasSignals self.new b }
+        ensures sees { (b : Book) → Sees self.old b → Sees self.new b }
+    {
+        self.agenda.forget();
+        self.signals.forget();
+    }
+
     /// A run was read. Short of memory it is as if it wasn't.
-    pub fn see(&mut self, alloc: Global, run: RunId, flow: &Key, is_open: bool)
+    pub fn see(&mut self, alloc: Global, run: RunId, flow: &Key, is_open: bool, count: u64)
         ensures serves { (b : Book) → Serves self.old b → Serves self.new b }
-        ensures sees { (b : Book) → (r : ARun) → nth b.runs run ≡ Some r → r.flow ≡ flow.now → configuration.is_open (state_of r.history) ≡ is_open → Sees self.new b }
+        ensures sees { (b : Book) → (r : ARun) → nth b.runs run ≡ Some r → r.flow ≡ flow.now → configuration.is_open (state_of r.history) ≡ is_open → length r.history ≡ count → Sees self.new b }
     {
         self.seen = match flow.copy(alloc) {
-            Ok(flow) => Some(Seen { run, flow, is_open }),
+            Ok(flow) => Some(Seen {
+                run,
+                flow,
+                is_open,
+                count,
+            }),
             Err(_) => None,
         };
     }
 
     /// One more run.
     fn add(&mut self, flow: &Key, request: &Option<Key>, is_open: bool)
-        ensures { (b : Book) → (r : ARun) → r.request ≡ request.now → open_key r ≡ key_if is_open flow.now → Serves self.old b → Serves self.new (record b { runs = b.runs ++ r ∷ [] }) }
+        ensures keys { (b : Book) → (r : ARun) → r.request ≡ request.now → open_key r ≡ key_if is_open flow.now → AreRunKeys self.old b → AreRunKeys self.new (record b { runs = b.runs ++ r ∷ [] }) }
+        ensures same { (self.new.agenda ≡ self.old.agenda) × (self.new.seen ≡ self.old.seen) × (self.new.signals ≡ self.old.signals) }
     {
         match request {
             Some(request) => self.requests.add(request.as_str()),
@@ -163,15 +272,34 @@ impl Maps {
         }
     }
 
+    /// One more run, open or not, with its open timers and activities.
+    pub fn add_whole(
+        &mut self,
+        flow: &Key,
+        request: &Option<Key>,
+        is_open: bool,
+        timers: Sequence<Timer>,
+        tasks: Sequence<Task>,
+    )
+        ensures serves { (b : Book) → (r : ARun) → r.flow ≡ flow.now → r.request ≡ request.now → is_open ≡ plans.is_open_run r → timers ≡ timers_of r → tasks ≡ r.tasks → Serves self.old b → Serves self.new (record b { runs = b.runs ++ r ∷ [] }) }
+        ensures sees { (b : Book) → Sees self.old b → Sees self.new b }
+    {
+        self.signals.forget();
+        self.agenda.add_whole(is_open, timers, tasks);
+        self.add(flow, request, is_open);
+    }
+
     /// One more run, with its first turn.
     fn add_run(&mut self, flow: &Key, request: &Option<Key>, text: TextNo, turn: &Turn)
-        ensures { (b : Book) → Serves self.old b → Serves self.new (changed b (AddRun flow.now request.now text turn.now)) }
+        ensures keys { (b : Book) → AreRunKeys self.old b → AreRunKeys self.new (changed b (AddRun flow.now request.now text turn.now)) }
+        ensures same { (self.new.agenda ≡ self.old.agenda) × (self.new.seen ≡ self.old.seen) × (self.new.signals ≡ self.old.signals) }
     {
         self.add(flow, request, is_open_behind(false, turn));
     }
 
     fn change_keys(&mut self, change: &Change)
-        ensures { (b : Book) → Sees self.old b → Serves self.old b → Serves self.new (changed b change.now) }
+        ensures keys { (b : Book) → Sees self.old b → AreRunKeys self.old b → AreRunKeys self.new (changed b change.now) }
+        ensures same { (self.new.agenda ≡ self.old.agenda) × (self.new.signals ≡ self.old.signals) }
     {
         match change {
             Change::AddText(_) => {}
@@ -187,6 +315,8 @@ impl Maps {
         ensures serves { (b : Book) → Sees self.old b → Serves self.old b → Serves self.new (changed b change.now) }
         ensures sees { (b : Book) → Sees self.new b }
     {
+        change_agenda(&mut self.agenda, &self.seen, change);
+        change_signals(&mut self.signals, &self.seen, change);
         self.change_keys(change);
         self.seen = None;
     }
@@ -203,5 +333,34 @@ impl Maps {
         ensures { IfSome result (λ o. (b : Book) → Serves self.now b → o ≡ words.open_run b flow.now) }
     {
         self.flows.find(flow)
+    }
+
+    /// The open timer that is due first, of those that are due by a moment, if that is known.
+    pub fn least_due(&self, at: Moment) -> Option<Option<Due>>
+        ensures { IfSome result (λ o. (b : Book) → Serves self.now b → o ≡ words.least_due b at) }
+    {
+        self.agenda.least_due(at)
+    }
+
+    /// How many runs are open, if that is known.
+    pub fn open_runs(&self) -> Option<u64>
+        ensures { IfSome result (λ n. (b : Book) → Serves self.now b → n ≡ plans.open_runs b) }
+    {
+        self.agenda.open_runs()
+    }
+
+    /// Where the signal of a request is recorded in the runs of a flow, if that is known.
+    pub fn signalled(&self, flow: &Key, request: &Key) -> Option<Option<(RunId, EventId)>>
+        ensures { IfSome result (λ o. (b : Book) → Serves self.now b → o ≡ words.signalled b flow.now request.now) }
+    {
+        self.signals.find(flow, request)
+    }
+
+    /// These are all signals that the runs of a flow have taken.
+    pub fn learn_signals(&mut self, flow: &Key, events: FlowSignals)
+        ensures serves { (b : Book) → AreOf events b flow.now → Serves self.old b → Serves self.new b }
+        ensures sees { (b : Book) → Sees self.old b → Sees self.new b }
+    {
+        self.signals.learn(flow, events);
     }
 }

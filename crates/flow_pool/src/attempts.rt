@@ -2,11 +2,11 @@
 ghost use Rattle.std.specs.Prelude.{◌≡◌, ◌<◌, ◌≤◌, None, length, IfOk, IfSome, IfNone, slice_get};
 ghost use Rattle.flow_pool.specs.Attempts.{failed_with};
 ghost use Rattle.flow_pool.specs.Reports.{first_named, MayCome};
-ghost use Rattle.flow_pool.specs.declared.task.Task.{Task};
+ghost use Rattle.flow_machine.specs.declared.task.Task.{Task};
 ghost use Rattle.flow_pool.specs.declared.activity.Attempt.{Attempt};
 
 use crate::activity::{Activity, Attempt};
-use crate::task::Task;
+use flow_machine::task::Task;
 use std::alloc::{AllocError, Global};
 use std::sync::Wait;
 use std::thread;

@@ -3,8 +3,8 @@ ghost use Rattle.std.specs.Prelude.{◌≡◌, IfOk};
 ghost use Rattle.flow_pool.specs.Attempts.{echoed, added, flaked};
 
 use crate::activity::{Activity, Attempt};
-use crate::task::Task;
 use flow_base::value::Value;
+use flow_machine::task::Task;
 use std::alloc::{AllocError, Global};
 
 /// Gives its first argument.

@@ -6,8 +6,8 @@ ghost use Rattle.flow_pool.specs.Ends.{put_by, made_by, back_at, number_of, take
 
 use crate::ends::{Door, TaskReceiver, TaskSender, receiver, sender};
 use crate::hand::{Learnt, Makes, Puts, Returns, Takes};
-use crate::task::Task;
 use crossbeam_channel::{SendError, bounded_with};
+use flow_machine::task::Task;
 use std::alloc::{AllocError, Global};
 use std::sync::Wait;
 

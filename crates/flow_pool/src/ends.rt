@@ -4,8 +4,8 @@ ghost use Rattle.crossbeam_channel.specs.Claims.{view, IsSeatAt};
 ghost use Rattle.crossbeam_channel.specs.Ends.{sends_on, receives_on};
 
 use crate::hand::{Hand, InTurn};
-use crate::task::Task;
 use crossbeam_channel::{Pass, RuledReceiver, RuledSender};
+use flow_machine::task::Task;
 
 /// The dispatcher's end of the channel.
 #[derive(Drop)]

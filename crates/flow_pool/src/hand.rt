@@ -1,6 +1,6 @@
 //! What the ends of the channel of tasks know, and what its calls tell. No value of these is made.
-use crate::task::Task;
 use crossbeam_channel::protocol::{Join, Lesson, Outcome, Protocol, Split};
+use flow_machine::task::Task;
 use std::collections::LinkedList;
 
 /// What a worker that has come back had taken.

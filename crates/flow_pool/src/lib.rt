@@ -9,5 +9,4 @@ pub mod dispatcher;
 pub mod ends;
 pub mod hand;
 pub mod report;
-pub mod task;
 pub mod worker;

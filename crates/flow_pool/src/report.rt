@@ -3,9 +3,9 @@ ghost use Rattle.std.specs.Prelude.{◌≡◌};
 ghost use Rattle.flow_pool.specs.Reports.{report_of, unheard_number, is_final};
 
 use crate::activity::Attempt;
-use crate::task::Task;
 use flow_base::command::{Command, Reply};
 use flow_base::number::Moment;
+use flow_machine::task::Task;
 use std::sync::Wait;
 
 /// Why a report wasn't answered by a reply.

@@ -1,6 +1,6 @@
 //! A worker: takes tasks, makes an attempt of each, and reports it.
 ghost use Rattle.std.specs.Prelude.{◌≡◌, ◌++◌, List, is_err};
-ghost use Rattle.flow_pool.specs.declared.task.Task.{Task};
+ghost use Rattle.flow_machine.specs.declared.task.Task.{Task};
 ghost use Rattle.flow_pool.specs.declared.activity.Attempt.{Attempt};
 ghost use Rattle.flow_pool.specs.Ends.{number_of, taken_by, IsSameEnd};
 ghost use Rattle.flow_pool.specs.Reports.{Telling, Tells, Follows, Reported, Works, MayCome, is_wrong_type};
@@ -9,9 +9,9 @@ use crate::activity::{Activity, Attempt};
 use crate::attempts::{attempt, failure};
 use crate::ends::TaskReceiver;
 use crate::report::{Reports, Unheard, report};
-use crate::task::Task;
 use flow_base::code::Code;
 use flow_base::command::{Command, Reply};
+use flow_machine::task::Task;
 use flow_timers::Clock;
 use std::alloc::Global;
 use std::sync::Wait;

@@ -3,9 +3,9 @@ use flow_base::number::{EventId, RunId};
 use flow_base::sequence::Sequence;
 use flow_base::text::Key;
 use flow_base::value::Value;
+use flow_machine::task::Task;
 use flow_pool::activity::{Activity, Attempt};
 use flow_pool::builtin::{Add, Echo, Flaky};
-use flow_pool::task::Task;
 use std::alloc::Global;
 use std::test::Fail;
 

@@ -2,7 +2,7 @@
 use crate::rows::{run, turn};
 use flow_base::book::Change;
 use flow_base::event::{Cmd, Input};
-use flow_base::number::{Moment, TextNo};
+use flow_base::number::{EventId, Moment, TextNo};
 use flow_base::sequence::Sequence;
 use flow_base::text::{Key, RawText};
 use flow_base::value::Value;
@@ -54,17 +54,17 @@ fn moment(milliseconds: u64) -> Result<Moment, &'static str> {
     Moment::new(milliseconds).ok_or("no moment")
 }
 
-/// A run of flow `f` that asks for one thing as it starts.
-fn first_run(alloc: Global, command: Cmd) -> Result<Change, &'static str> {
-    let flow = key(alloc, "f")?;
+/// A run that asks for one thing as it starts.
+fn first_run(alloc: Global, flow: &str, command: Cmd) -> Result<Change, &'static str> {
+    let flow = key(alloc, flow)?;
     let text = TextNo::new(1).ok_or("no text")?;
     let turn = turn(alloc, Input::Started(Sequence::new(alloc)), command)?;
     Ok(Change::AddRun(flow, None, text, turn))
 }
 
-/// The same, which waits for a timer.
+/// A run of flow `f` that waits for a timer.
 fn waits(alloc: Global, due: u64) -> Result<Change, &'static str> {
-    first_run(alloc, Cmd::StartTimer(moment(due)?))
+    first_run(alloc, "f", Cmd::StartTimer(moment(due)?))
 }
 
 /// The moment, the run and the event of the timer that is due first by a moment; zeros where none is due.
@@ -147,5 +147,116 @@ fn a_signal_is_found_in_an_earlier_run(rt: HostRuntime) -> Result<(), Fail> {
     add_signalled(alloc, &mut tables)?;
     assert_eq!(rt; signalled(alloc, &mut tables, "q")?, (1, 3));
     assert_eq!(rt; signalled(alloc, &mut tables, "p")?, (0, 0));
+    Ok(())
+}
+
+/// The timer of run 1 fires, and the run starts another one.
+fn waits_again(alloc: Global, due: u64) -> Result<Change, &'static str> {
+    let input = Input::TimerFired(EventId::new(2).ok_or("no event")?);
+    let turn = turn(alloc, input, Cmd::StartTimer(moment(due)?))?;
+    Ok(Change::AddTurn(run(1)?, turn))
+}
+
+/// Puts a turn of run 1, which is read before it as a command does, or not.
+fn go_on(
+    tables: &mut Memory,
+    reads: bool,
+    change: Result<Change, &'static str>,
+) -> Result<(), &'static str> {
+    if reads && tables.run(run(1)?).is_err() {
+        return Err("not read");
+    }
+    add(tables, change)
+}
+
+/// What is due first behind a timer that fired, and behind the end of its run.
+fn least_behind(
+    alloc: Global,
+    tables: &mut Memory,
+    reads: bool,
+) -> Result<((u64, u64, u64), (u64, u64, u64)), &'static str> {
+    add(tables, text(alloc))?;
+    add(tables, waits(alloc, 80))?;
+    add(tables, waits(alloc, 90))?;
+    go_on(tables, reads, waits_again(alloc, 85))?;
+    let fired = least(tables, 100)?;
+    go_on(tables, reads, signal(alloc))?;
+    Ok((fired, least(tables, 100)?))
+}
+
+#[test]
+fn timers_follow_their_runs(rt: HostRuntime) -> Result<(), Fail> {
+    let mut tables = begun(rt.alloc())?;
+    assert_eq!(rt;
+        least_behind(rt.alloc(), &mut tables, true)?,
+        ((85, 1, 4), (90, 2, 2))
+    );
+    Ok(())
+}
+
+#[test]
+fn timers_of_runs_that_were_not_read(rt: HostRuntime) -> Result<(), Fail> {
+    let mut tables = begun(rt.alloc())?;
+    assert_eq!(rt;
+        least_behind(rt.alloc(), &mut tables, false)?,
+        ((85, 1, 4), (90, 2, 2))
+    );
+    Ok(())
+}
+
+/// A timer is committed, and an earlier one rolled back: what is due first before that and behind it.
+fn least_rolled_back(
+    alloc: Global,
+    tables: &mut Memory,
+) -> Result<((u64, u64, u64), (u64, u64, u64)), &'static str> {
+    add(tables, text(alloc))?;
+    add(tables, waits(alloc, 90))?;
+    if !(tables.commit().is_ok() && tables.begin().is_ok()) {
+        return Err("not committed");
+    }
+    add(tables, waits(alloc, 80))?;
+    let before = least(tables, 100)?;
+    if !(tables.rollback().is_ok() && tables.begin().is_ok()) {
+        return Err("not rolled back");
+    }
+    Ok((before, least(tables, 100)?))
+}
+
+#[test]
+fn a_rollback_takes_timers_back(rt: HostRuntime) -> Result<(), Fail> {
+    let mut tables = begun(rt.alloc())?;
+    assert_eq!(rt;
+        least_rolled_back(rt.alloc(), &mut tables)?,
+        ((80, 2, 2), (90, 1, 2))
+    );
+    Ok(())
+}
+
+/// Two runs of two flows that wait, the second for what is due first.
+fn add_flows(alloc: Global, tables: &mut Memory) -> Result<(), &'static str> {
+    add(tables, text(alloc))?;
+    add(tables, waits(alloc, 90))?;
+    add(tables, first_run(alloc, "g", Cmd::StartTimer(moment(80)?)))
+}
+
+/// Opens the tables again and asks what is due first, and when.
+fn least_opened(alloc: Global) -> Result<((u64, u64, u64), u64), &'static str> {
+    let mut tables = begun(alloc)?;
+    add_flows(alloc, &mut tables)?;
+    if tables.commit().is_err() {
+        return Err("not committed");
+    }
+    let Ok((mut again, _)) = Tables::open(alloc, tables.into_connection()) else {
+        return Err("not opened");
+    };
+    if again.begin().is_err() {
+        return Err("not begun");
+    }
+    Ok((least(&mut again, 85)?, next(&mut again)?))
+}
+
+#[test]
+fn timers_are_known_behind_an_opening(rt: HostRuntime) -> Result<(), Fail> {
+    assert_eq!(rt; least_opened(rt.alloc())?, ((80, 2, 2), 80));
     Ok(())
 }

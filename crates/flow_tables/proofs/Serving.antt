@@ -1,16 +1,18 @@
 -- What the tables keep true of the keys that are known, call by call.
 use Rattle.std.specs.Prelude.{◌≡◌, ◌≢◌, ◌+◌, ◌<◌, ◌++◌, ◌∷◌}
-use Rattle.flow_tables.proofs.Names.{int_eq, pos, Change, Book, Run, RunRow, AllByRecursion, Bytes, Database, HasCleanDisk, State, Bool, List, MatchResult, Option, false, map, true, ℕ, HasBegun, HasCommitted, HasEnded, IsRefused, IsStill, Refusal, ViewFault, Err, IfOk, None, Ok, OnOk, Some, [], length, refl, Result, changed, is_open, state_of, open_number, subst, ◌∙◌, sym, ap, true≢false, book_of, IsOwn, told_answer, IsSure, ReadsBook, IsNoted}
+use Rattle.flow_tables.proofs.Names.{int_eq, pos, Change, Book, Run, RunRow, AllByRecursion, Bytes, Database, HasCleanDisk, State, Bool, List, MatchResult, Option, false, map, true, ℕ, HasBegun, HasCommitted, HasEnded, IsRefused, IsStill, Refusal, ViewFault, Err, IfOk, None, Ok, OnOk, Some, [], length, refl, Result, changed, is_open, state_of, open_number, subst, ◌∙◌, sym, ap, true≢false, book_of, tables_in, IsOwn, told_answer, IsSure, ReadsBook, IsNoted}
 use Rattle.std.proofs.Common.{take, get_or}
-use Rattle.std.proofs.lemmas.List.{map_more}
+use Rattle.std.proofs.lemmas.List.{map_more, take_more}
 use Rattle.flow_maps.specs.declared.maps.Maps.{Maps}
+use Rattle.flow_maps.specs.Agenda.{IsOf}
 use Rattle.flow_maps.specs.Keys.{Lists}
 use Rattle.flow_maps.specs.Serving.{Serves, Sees, AreKeys, named, key_if, request_key, open_key}
 use Rattle.flow_rows.specs.Rows.{run_rows, request_text}
 use Rattle.flow_rows.specs.Told.{IsTold}
 use Rattle.flow_view.specs.Reading.{Reads}
 use Rattle.flow_tables.specs.Faults.{noted_fault}
-use Rattle.flow_tables.specs.Owned.{IsServing, row_request, row_open}
+use Rattle.flow_rows.proofs.Telling.{told as told_back}
+use Rattle.flow_tables.specs.Owned.{Keeps, IsServing, row_request, row_open}
 use Rattle.flow_tables.proofs.Owning.{read_leaves, holds}
 
 ---- The keys that rows tell
@@ -32,20 +34,31 @@ opens_back : (n : ℕ) (rs : List Run) → map row_open (run_rows n rs) ≡ map 
 opens_back n [] = refl
 opens_back n (r ∷ rs) = ap (λ v. key_if v r.flow ∷ map row_open (run_rows (n + 1) rs)) (marked_back (is_open (state_of r.history))) ∙ ap (λ ks. open_key r ∷ ks) (opens_back (n + 1) rs)
 
-pub rows_serve : (m : Maps) (rows : List RunRow) (b : Book) → rows ≡ run_rows 1 b.runs → AllByRecursion IsTold b.runs → AreKeys m (map row_request rows) (map row_open rows) → Serves m b
-rows_serve m rows b same told are = record {
+pub rows_serve : (m : Maps) (rows : List RunRow) (b : Book) → rows ≡ run_rows 1 b.runs → AllByRecursion IsTold b.runs → AreKeys m (map row_request rows) (map row_open rows) → IsOf m.agenda b → Serves m b
+rows_serve m rows b same told are awaits = record {
   requests = subst (λ ks. Lists m.requests ks) (ap (map row_request) same ∙ requests_back 1 b.runs told) are.requests;
   flows = subst (λ ks. Lists m.flows ks) (ap (map row_open) same ∙ opens_back 1 b.runs) are.flows;
+  agenda = awaits;
 }
 
 pub keys_on : {A B : Type 0} (f : A → B) (xs : List A) (i : ℕ) (x : A) (k : B) → x ≡ get_or xs i x → i < length xs → k ≡ f x → map f (take i xs) ++ k ∷ [] ≡ map f (take (i + 1) xs)
 keys_on f xs i x k is more same = ap (λ y. map f (take i xs) ++ y ∷ []) (same ∙ ap f is) ∙ sym (map_more f xs i x more)
+
+pub runs_on : {A : Type 0} (xs : List A) (i : ℕ) (x : A) → x ≡ get_or xs i x → i < length xs → take i xs ++ x ∷ [] ≡ take (i + 1) xs
+runs_on xs i x is more = ap (λ y. take i xs ++ y ∷ []) is ∙ sym (take_more xs i x more)
 
 ---- The calls
 
 -- nothing is known
 pub any_serving : (m : Maps) (k : Bool) (s : State) (r : Option Refusal) → ((b : Book) → Serves m b) → ((b : Book) → Sees m b) → IsServing m k s r
 any_serving m k s r serves sees = record { last = λ is up. serves (book_of s.committed.trees); shown = λ none inside. (serves (book_of s.now.trees), sees (book_of s.now.trees)) }
+
+-- the book was read whole
+pub opened_serving : (m : Maps) (k : Bool) (s : State) (r : Option Refusal) (b : Book) → s.in_transaction ≡ false → Keeps s b → Serves m b → IsServing m k s r
+opened_serving m k s r b rest kept serves = record {
+  last = λ is up. subst (λ x. Serves m x) (sym (told_back (tables_in s.committed.trees) b (kept.kept up).1)) serves;
+  shown = λ none inside. absurd (true≢false (sym inside ∙ rest));
+}
 
 -- the keys were read
 pub learnt_serving : (m : Maps) (s : State) (r : Option Refusal) → (r ≡ None → s.in_transaction ≡ true → Serves m (book_of s.now.trees)) → ((b : Book) → Sees m b) → IsServing m false s r

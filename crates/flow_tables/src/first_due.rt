@@ -34,13 +34,13 @@ impl BookRead for LeastDue {
     }
 }
 
-fn last_moment() -> Moment
+pub(crate) fn last_moment() -> Moment
     ensures { result ≡ 1000000000000000 }
 {
     Moment::new(LAST_MOMENT).unwrap()
 }
 
-fn moment_of(found: Option<Due>) -> Option<Moment>
+pub(crate) fn moment_of(found: Option<Due>) -> Option<Moment>
     ensures { result ≡ option_map rule.moment_of found }
 {
     match found {

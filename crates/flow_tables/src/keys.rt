@@ -1,27 +1,81 @@
 //! The keys by which runs are found, as rows of runs tell them.
 ghost use Rattle.std.specs.Prelude.{◌≡◌};
 ghost use Rattle.flow_tables.specs.Names.{Book, map, IfSome};
-ghost use Rattle.flow_maps.specs.Serving.{Serves, Sees, AreKeys};
+ghost use Rattle.flow_maps.specs.Serving.{Serves, Sees, AreKeys, Awaits};
+ghost use Rattle.flow_tables.specs.Names.{ℕ, List, Bytes, shown_book, ◌++◌, ◌∷◌, []};
+ghost use Rattle.flow_base.specs.declared.book.Task.{Task as ATask};
+ghost use Rattle.flow_base.specs.declared.book.Timer.{Timer as ATimer};
 ghost use Rattle.flow_tables.specs.Owned.{row_request, row_open};
 
 use crate::ask::{BookRead, Of};
 use crate::book_changes::is_marked;
+use crate::first_due::{LeastDue, NextMoment, last_moment, moment_of};
 use crate::questions::{OpenRun, Requested};
-use flow_base::number::RunId;
+use flow_base::book::{Due, Run, copy_tasks};
+use flow_base::number::{Moment, RunId};
+use flow_base::sequence::Sequence;
 use flow_maps::maps::Maps;
+use flow_rows::book::WholeBook;
 use flow_rows::rows::RunRow;
+use flow_view::history::{is_open, timers_left};
 use std::alloc::Global;
 
 /// The keys of these runs.
 pub(crate) fn keys_of(alloc: Global, rows: &[RunRow]) -> Maps
     ensures keys { AreKeys result (map row_request rows.now) (map row_open rows.now) }
     ensures sees { (b : Book) → Sees result b }
+    ensures awaits { (n o : ℕ) → (f : ℕ → List ATimer) → (g : ℕ → List ATask) → Awaits result n o f g }
 {
     let mut maps = Maps::none(alloc);
     for row in rows {
         maps.add_row(row.flow.as_str(), row.req.as_str(), is_marked(row));
     }
+    maps.forget_agenda();
     maps
+}
+
+/// One more run, and what it waits for. Short of memory nothing is known any more.
+fn add_whole(alloc: Global, maps: &mut Maps, run: &Run)
+    ensures serves { (b : Book) → Serves maps.old b → Serves maps.new (record b { runs = b.runs ++ run.now ∷ [] }) }
+    ensures sees { ((b : Book) → Sees maps.old b) → (b : Book) → Sees maps.new b }
+{
+    let events = run.history.as_slice();
+    let is_open = is_open(events);
+    let Ok(timers) = timers_left(alloc, events) else {
+        maps.forget();
+        return;
+    };
+    let Ok(tasks) = copy_tasks(alloc, run.tasks.as_slice()) else {
+        maps.forget();
+        return;
+    };
+    maps.add_whole(
+        &run.flow,
+        &run.request,
+        is_open,
+        Sequence::from_vec(timers),
+        tasks,
+    );
+}
+
+/// What is known of these runs, which were read whole.
+fn keys_of_runs(alloc: Global, runs: &[Run]) -> Maps
+    ensures serves { (texts : List Bytes) → Serves result (record { texts = texts; runs = runs.now }) }
+    ensures sees { (b : Book) → Sees result b }
+{
+    let mut maps = Maps::none(alloc);
+    for run in runs {
+        add_whole(alloc, &mut maps, run);
+    }
+    maps
+}
+
+/// What is known of a book that was read whole.
+pub(crate) fn keys_of_book(alloc: Global, book: &WholeBook) -> Maps
+    ensures serves { Serves result (shown_book book.now) }
+    ensures sees { (b : Book) → Sees result b }
+{
+    keys_of_runs(alloc, book.runs.as_slice())
 }
 
 /// A read of the book that its keys may answer.
@@ -39,5 +93,20 @@ impl ByKey for Of<Requested<'_>> {
 impl ByKey for Of<OpenRun<'_>> {
     fn find(&self, maps: &Maps) -> Option<Option<RunId>> {
         maps.open_run(self.0.0)
+    }
+}
+
+impl ByKey for LeastDue {
+    fn find(&self, maps: &Maps) -> Option<Option<Due>> {
+        maps.least_due(self.0)
+    }
+}
+
+impl ByKey for NextMoment {
+    fn find(&self, maps: &Maps) -> Option<Option<Moment>> {
+        match maps.least_due(last_moment()) {
+            Some(found) => Some(moment_of(found)),
+            None => None,
+        }
     }
 }

@@ -1,5 +1,5 @@
 use Rattle.flow_pool.specs.Reports.{MayCome}
-use Rattle.flow_pool.specs.declared.task.Task.{Task}
+use Rattle.flow_machine.specs.declared.task.Task.{Task}
 use Rattle.flow_pool.specs.declared.activity.Attempt.{Attempt}
 use Rattle.flow_pool.proofs.attempts.attempt.Given as goal
 

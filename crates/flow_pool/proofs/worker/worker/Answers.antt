@@ -1,5 +1,5 @@
 use Rattle.std.proofs.Common.{◌∙◌, ◌++◌, ◌∷◌, [], inr, refl, ap, append_assoc, List, true, false}
-use Rattle.flow_pool.specs.declared.task.Task.{Task}
+use Rattle.flow_machine.specs.declared.task.Task.{Task}
 use Rattle.flow_pool.specs.Ends.{taken_by}
 use Rattle.flow_pool.specs.Reports.{Telling, MayCome}
 use Rattle.flow_pool.proofs.Telling.{goes_on, reported_by}

@@ -1,7 +1,7 @@
 use Rattle.std.proofs.Common.{◌≡◌, ◌++◌, List}
 use Rattle.flow_pool.specs.Ends.{taken_by, number_of, IsSameEnd}
 use Rattle.flow_pool.specs.Reports.{Telling, MayCome, GoesOn}
-use Rattle.flow_pool.specs.declared.task.Task.{Task}
+use Rattle.flow_machine.specs.declared.task.Task.{Task}
 use Rattle.flow_pool.specs.declared.activity.Attempt.{Attempt}
 use Rattle.flow_pool.proofs.worker.worker.Given as goal
 

@@ -1,4 +1,5 @@
-use Rattle.std.proofs.Common.{◌+◌, ◌++◌, ◌∷◌, [], map, take, ap, subst, ◌∙◌}
+use Rattle.std.proofs.Common.{arith, ◌+◌, ◌++◌, ◌∷◌, [], map, take, ap, subst, ◌∙◌}
+use Rattle.std.proofs.lemmas.List.{take_all}
 use Rattle.flow_maps.specs.Serving.{AreKeys, named, key_if}
 use Rattle.flow_tables.specs.Owned.{row_request, row_open}
 use Rattle.flow_tables.proofs.Serving.{keys_on}
@@ -16,3 +17,9 @@ loop-row-preserved c =
           (c.add_row.ensures.keys (map row_request (take i rows)) (map row_open (take i rows)) c.loop-row.invariant.0)),
       λ b. c.add_row.ensures.sees b (c.loop-row.invariant.1 b),
     )
+
+pub returns-clause-keys : goal.returns-clause-keys
+returns-clause-keys c =
+    let rows = c.args.rows.now in
+    c.forget_agenda.ensures.keys (map row_request rows) (map row_open rows)
+    (subst (λ xs. AreKeys c.loop-row.maps (map row_request xs) (map row_open xs)) (take_all c.loop-row.row-index rows (omega (arith, c.loop-row-test.false))) c.loop-row.invariant.0)

@@ -1,3 +1,4 @@
+//! What is to be done outside of the engine.
 use flow_base::number::{EventId, RunId};
 use flow_base::sequence::Sequence;
 use flow_base::text::Key;

@@ -1,0 +1,18 @@
+use Rattle.std.proofs.Common.{take, subst, arith}
+use Rattle.std.proofs.lemmas.List.{take_all}
+use Rattle.flow_maps.specs.Serving.{Serves}
+use Rattle.flow_tables.proofs.Serving.{runs_on}
+use Rattle.flow_tables.proofs.keys.keys_of_runs.Goals as goal
+
+pub loop-run-preserved : goal.loop-run-preserved
+loop-run-preserved c =
+    let rs = c.args.runs.now in
+    let i = c.loop-run.run-index in (
+      λ texts. subst (λ xs. Serves c.add_whole.new.maps (record { texts = texts; runs = xs })) (runs_on rs i c.run-item.result c.run-item.is c.loop-run-test.true)
+          (c.add_whole.ensures.serves (record { texts = texts; runs = take i rs }) (c.loop-run.invariant.0 texts)),
+      c.add_whole.ensures.sees c.loop-run.invariant.1,
+    )
+
+pub returns-clause-serves : goal.returns-clause-serves
+returns-clause-serves c texts =
+    subst (λ xs. Serves c.loop-run.maps (record { texts = texts; runs = xs })) (take_all c.loop-run.run-index c.args.runs.now (omega (arith, c.loop-run-test.false))) (c.loop-run.invariant.0 texts)
