@@ -19,7 +19,7 @@ use Rattle.flow_model.specs.Book.{Book, nth, changed, with_run, with_turn, unbeg
 use Rattle.flow_model.proofs.Logs.{nth_at}
 use Rattle.flow_maps.specs.declared.signals.FlowSignals.{FlowSignals}
 use Rattle.flow_maps.specs.declared.signals.Signals.{Signals}
-use Rattle.flow_maps.specs.Signals.{at_request, asked_by, signal_of, or_later, with_history, AreOf, KnowsFlow, KnowsSignals, IsTaken}
+use Rattle.flow_maps.specs.Signals.{at_request, asked_by, signal_of, or_later, with_history, AreOf, KnowsFlow, KnowsSignals, IsSameBut, IsTaken, KnowsBut}
 use Rattle.flow_maps.proofs.Serving.{none_is_there, run_is}
 
 none_is : {A : Type 0} (x : A) → None ≡ Some x → ⊥
@@ -140,6 +140,18 @@ comes f q n (y ∷ ys) (suc i) r r' e at none says =
     one f q n y (slice_set ys i r') ∙ ap (λ o. found_in n o (signalled_from f q (n + 1) (slice_set ys i r'))) parts.0
     ∙ comes f q (n + 1) ys i r r' e at parts.1 says ∙ ap (λ (k : ℕ). Some (k, e)) (let same : n + 1 + i ≡ n + suc i = omega arith in same)
 
+found_first : (n : ℕ) (o : Option ℕ) (m later : Option (ℕ × ℕ)) → found_in n o (or_later m later) ≡ or_later (found_in n o m) later
+found_first n None m later = refl
+found_first n (Some e) m later = refl
+
+-- one more run
+at_end : (f q : Bytes) (n : ℕ) (rs : List Run) (r : Run) → signalled_from f q n (rs ++ r ∷ []) ≡ or_later (signalled_from f q n rs) (found_in (n + length rs) (said f q r) None)
+at_end f q n [] r = one f q n r [] ∙ ap (λ (k : ℕ). found_in k (said f q r) None) (let same : n ≡ n + 0 = omega arith in same)
+at_end f q n (y ∷ ys) r =
+    one f q n y (ys ++ r ∷ []) ∙ ap (found_in n (said f q y)) (at_end f q (n + 1) ys r ∙ ap (λ (k : ℕ). or_later (signalled_from f q (n + 1) ys) (found_in k (said f q r) None)) (let same : n + 1 + length ys ≡ n + length (y ∷ ys) = omega arith in same))
+    ∙ found_first n (said f q y) (signalled_from f q (n + 1) ys) (found_in (n + length (y ∷ ys)) (said f q r) None)
+    ∙ ap (λ o. or_later o (found_in (n + length (y ∷ ys)) (said f q r) None)) (sym (one f q n y ys))
+
 behind : (f q : Bytes) (n : ℕ) (rs : List Run) (r : Run) → said f q r ≡ None → signalled_from f q n (rs ++ r ∷ []) ≡ signalled_from f q n rs
 behind f q n [] r none = one f q n r [] ∙ ap (λ o. found_in n o None) none
 behind f q n (y ∷ ys) r none = one f q n y (ys ++ r ∷ []) ∙ ap (found_in n (said f q y)) (behind f q (n + 1) ys r none) ∙ sym (one f q n y ys)
@@ -215,13 +227,25 @@ signal_taken b run count t r flow request at own long asks =
 
 ---- What is known
 
-knows_as : (o : Option FlowSignals) (b c : Book) (f : Bytes) → ((q : Bytes) → signalled c f q ≡ signalled b f q) → KnowsFlow o b f → KnowsFlow o c f
-knows_as None b c f same h = tt
-knows_as (Some m) b c f same h = λ q. h q ∙ sym (same q)
+knows_as : (w : Bool) (o : Option FlowSignals) (b c : Book) (f : Bytes) → ((q : Bytes) → signalled c f q ≡ signalled b f q) → KnowsFlow w o b f → KnowsFlow w o c f
+knows_as true None b c f same h = λ q. same q ∙ h q
+knows_as false None b c f same h = tt
+knows_as w (Some m) b c f same h = λ q. h q ∙ sym (same q)
 
 -- all stays known
 pub stays_known : (s : Signals) (b c : Book) → ((f q : Bytes) → signalled c f q ≡ signalled b f q) → KnowsSignals s b → KnowsSignals s c
-stays_known s b c same h = λ f. knows_as (get_by_text s.flows f) b c f (same f) (h f)
+stays_known s b c same h = λ f. knows_as s.is_whole (get_by_text s.flows f) b c f (same f) (h f)
+
+-- nothing is listed
+pub none_listed : (s : Signals) (b : Book) → ((f : Bytes) → get_by_text s.flows f ≡ None) → b.runs ≡ [] → KnowsSignals s b
+none_listed s b empty none = λ f. subst (λ o. KnowsFlow s.is_whole o b f) (sym (empty f)) (go s.is_whole f)
+  where
+    go : (w : Bool) (f : Bytes) → KnowsFlow w None b f
+    go true f = λ q. ap (signalled_from f q 1) none
+    go false f = tt
+
+pub nothing_listed : (s : Signals) (b : Book) → s.is_whole ≡ false → ((f : Bytes) → get_by_text s.flows f ≡ None) → KnowsSignals s b
+nothing_listed s b part empty = λ f. subst (λ o. KnowsFlow s.is_whole o b f) (sym (empty f)) (subst (λ w. KnowsFlow w None b f) (sym part) tt)
 
 -- a turn with which no signal came
 pub turn_quiet : (s : Signals) (b : Book) (run : ℕ) (t : Turn) (r : Run) → nth b.runs run ≡ Some r → asked_by t.input ≡ None → KnowsSignals s b → KnowsSignals s (changed b (AddTurn run t))
@@ -252,43 +276,78 @@ first_says flow request text t f q = go (bytes_eq flow f)
 pub run_quiet : (s : Signals) (b : Book) (flow : Bytes) (request : Option Bytes) (text : ℕ) (t : Turn) → asked_by t.input ≡ None → KnowsSignals s b → KnowsSignals s (changed b (AddRun flow request text t))
 run_quiet s b flow request text t none = stays_known s b (changed b (AddRun flow request text t)) (λ f q. behind f q 1 b.runs (with_turn t (unbegun_run flow request text)) (quiet_says f q t (unbegun_run flow request text) (named_none q (asked_by t.input) none) ∙ first_says flow request text t f q))
 
--- of other flows it says nothing
-pub run_others : (b : Book) (flow : Bytes) (request : Option Bytes) (text : ℕ) (t : Turn) (f : Bytes) → bytes_eq flow f ≡ false → (q : Bytes) → signalled (changed b (AddRun flow request text t)) f q ≡ signalled b f q
-run_others b flow request text t f other q = behind f q 1 b.runs (with_turn t (unbegun_run flow request text)) (other_says f q t (unbegun_run flow request text) other ∙ first_says flow request text t f q)
+-- one more run that has taken none
+pub append_quiet : (s : Signals) (b : Book) (r : Run) → ((q : Bytes) → signal_in q r.history ≡ None) → KnowsSignals s b → KnowsSignals s (record b { runs = b.runs ++ r ∷ [] })
+append_quiet s b r none = stays_known s b (record b { runs = b.runs ++ r ∷ [] }) (λ f q. behind f q 1 b.runs r (go (is_run_of f r) q))
+  where
+    go : (v : Bool) (q : Bytes) → (if v then signal_in q r.history else None) ≡ None
+    go true q = none q
+    go false q = refl
+
+-- of other flows one more run says nothing
+pub append_others : (b : Book) (r : Run) (flow : Bytes) → r.flow ≡ flow → IsSameBut b (record b { runs = b.runs ++ r ∷ [] }) flow
+append_others b r flow own f other q = behind f q 1 b.runs r (ap (λ v. if v then signal_in q r.history else None) (ap (λ x. bytes_eq x f) own ∙ other))
+
+-- its own flow has those too that it has taken
+pub append_known : (m m' : FlowSignals) (b : Book) (r : Run) (flow : Bytes) (run : ℕ) (h : List Event) → run ≡ length b.runs + 1 → r.flow ≡ flow → r.history ≡ h → ((q : Bytes) → at_request m' q ≡ with_history run h (at_request m) q)
+    → AreOf m b flow → AreOf m' (record b { runs = b.runs ++ r ∷ [] }) flow
+append_known m m' b r flow run h number own same more are = λ q.
+    let place : run ≡ 1 + length b.runs = omega (arith, number) in
+    let says : said flow q r ≡ signal_in q h = ap (λ v. if v then signal_in q r.history else None) (ap (λ x. bytes_eq x flow) own ∙ bytes_same flow) ∙ ap (signal_in q) same in
+    more q ∙ ap (λ o. or_later o (found_in run (signal_in q h) None)) (are q)
+    ∙ ap (λ (k : ℕ). or_later (signalled b flow q) (found_in k (signal_in q h) None)) place
+    ∙ ap (λ o. or_later (signalled b flow q) (found_in (1 + length b.runs) o None)) (sym says)
+    ∙ sym (at_end flow q 1 b.runs r)
 
 module _ (s s' : Signals) (flow : Bytes) where
-  -- of one flow nothing is known any more
-  pub without_flow : ((f : Bytes) → get_by_text s'.flows f ≡ update bytes_eq (get_by_text s.flows) flow None f) → (b c : Book) → ((f : Bytes) → bytes_eq flow f ≡ false → (q : Bytes) → signalled c f q ≡ signalled b f q)
+  -- one flow isn't listed any more
+  pub without_flow : s'.is_whole ≡ s.is_whole → ((f : Bytes) → get_by_text s'.flows f ≡ update bytes_eq (get_by_text s.flows) flow None f) → (b c : Book) → IsSameBut b c flow
+      → KnowsSignals s b → KnowsBut s' c flow
+  without_flow whole updates b c others h = λ f other.
+      subst (λ w. KnowsFlow w (get_by_text s'.flows f) c f) (sym whole)
+      (subst (λ o. KnowsFlow s.is_whole o c f) (sym (updates f ∙ ap (λ v. cond v None (get_by_text s.flows f)) other))
+      (knows_as s.is_whole (get_by_text s.flows f) b c f (others f other) (h f)))
+
+  -- and nothing was known of it
+  pub unknown_flow : s'.is_whole ≡ false → s.is_whole ≡ false → ((f : Bytes) → get_by_text s'.flows f ≡ update bytes_eq (get_by_text s.flows) flow None f) → (b c : Book) → IsSameBut b c flow
       → KnowsSignals s b → KnowsSignals s' c
-  without_flow updates b c others h = λ f. subst (λ o. KnowsFlow o c f) (sym (updates f)) (go f (bytes_eq flow f) refl)
+  unknown_flow part part' updates b c others h = λ f. go f (bytes_eq flow f) refl
     where
-      go : (f : Bytes) (v : Bool) → bytes_eq flow f ≡ v → KnowsFlow (cond v None (get_by_text s.flows f)) c f
-      go f true is = tt
-      go f false is = knows_as (get_by_text s.flows f) b c f (others f is) (h f)
+      go : (f : Bytes) (v : Bool) → bytes_eq flow f ≡ v → KnowsFlow s'.is_whole (get_by_text s'.flows f) c f
+      go f true is =
+          subst (λ w. KnowsFlow w (get_by_text s'.flows f) c f) (sym part)
+          (subst (λ o. KnowsFlow false o c f) (sym (updates f ∙ ap (λ v. cond v None (get_by_text s.flows f)) is)) tt)
+      go f false is = without_flow (part ∙ sym part') updates b c others h f is
 
   -- of one flow all is known now
-  pub with_flow : (m : FlowSignals) → ((f : Bytes) → get_by_text s'.flows f ≡ update bytes_eq (get_by_text s.flows) flow (Some m) f) → (b : Book) → AreOf m b flow → KnowsSignals s b → KnowsSignals s' b
-  with_flow m updates b are h = λ f. subst (λ o. KnowsFlow o b f) (sym (updates f)) (go f (bytes_eq flow f) refl)
+  pub with_flow : (m : FlowSignals) → s'.is_whole ≡ s.is_whole → ((f : Bytes) → get_by_text s'.flows f ≡ update bytes_eq (get_by_text s.flows) flow (Some m) f) → (b : Book) → AreOf m b flow → KnowsBut s b flow → KnowsSignals s' b
+  with_flow m whole updates b are h = λ f. subst (λ w. KnowsFlow w (get_by_text s'.flows f) b f) (sym whole) (subst (λ o. KnowsFlow s.is_whole o b f) (sym (updates f)) (go f (bytes_eq flow f) refl))
     where
-      go : (f : Bytes) (v : Bool) → bytes_eq flow f ≡ v → KnowsFlow (cond v (Some m) (get_by_text s.flows f)) b f
+      go : (f : Bytes) (v : Bool) → bytes_eq flow f ≡ v → KnowsFlow s.is_whole (cond v (Some m) (get_by_text s.flows f)) b f
       go f true is = subst (AreOf m b) ((bytes_eq-Decides flow f).0 is) are
-      go f false is = h f
+      go f false is = h f is
 
 -- what is known of a flow is of it
-pub known_flow : (o : Option FlowSignals) (m : FlowSignals) (b : Book) (f : Bytes) → o ≡ Some m → KnowsFlow o b f → AreOf m b f
-known_flow None m b f is h = absurd (none_is m is)
-known_flow (Some n) m b f is h = subst (λ x. AreOf x b f) (some_is n m is) h
+pub known_flow : (w : Bool) (o : Option FlowSignals) (m : FlowSignals) (b : Book) (f : Bytes) → o ≡ Some m → KnowsFlow w o b f → AreOf m b f
+known_flow w None m b f is h = absurd (none_is m is)
+known_flow w (Some n) m b f is h = subst (λ x. AreOf x b f) (some_is n m is) h
+
+-- and of one that isn't listed, where all are that have taken any
+pub none_of_flow : (w : Bool) (o : Option FlowSignals) (b : Book) (f : Bytes) → w ≡ true → o ≡ None → KnowsFlow w o b f → (q : Bytes) → None ≡ signalled b f q
+none_of_flow true None b f whole none h q = sym (h q)
+none_of_flow false o b f whole none h q = absurd (clash false whole refl)
+none_of_flow true (Some m) b f whole none h q = absurd (none_is m (sym none))
 
 -- all signals of a flow, with the one that was taken
-pub taken_known : (m m' : FlowSignals) (b c : Book) (flow request : Bytes) (run count event : ℕ) → IsTaken b c flow run count request → at_request m request ≡ None → event ≡ count + 1
-    → ((q : Bytes) → at_request m' q ≡ or_later (at_request m q) (if bytes_eq request q then Some (run, event) else None)) → AreOf m b flow → AreOf m' c flow
-taken_known m m' b c flow request run count event taken free at more are = λ q. more q ∙ go q (bytes_eq request q) refl
+pub taken_known : (m m' : FlowSignals) (b c : Book) (flow request : Bytes) (run count : ℕ) → IsTaken b c flow run count request → at_request m request ≡ None
+    → ((q : Bytes) → at_request m' q ≡ or_later (at_request m q) (if bytes_eq request q then Some (run, count + 1) else None)) → AreOf m b flow → AreOf m' c flow
+taken_known m m' b c flow request run count taken free more are = λ q. more q ∙ go q (bytes_eq request q) refl
   where
-    go : (q : Bytes) (v : Bool) → bytes_eq request q ≡ v → or_later (at_request m q) (if v then Some (run, event) else None) ≡ signalled c flow q
+    go : (q : Bytes) (v : Bool) → bytes_eq request q ≡ v → or_later (at_request m q) (if v then Some (run, count + 1) else None) ≡ signalled c flow q
     go q true is =
         let same = (bytes_eq-Decides request q).0 is in
-        subst (λ x. or_later (at_request m x) (Some (run, event)) ≡ signalled c flow x) same
-        (ap (λ o. or_later o (Some (run, event))) free ∙ ap (λ (k : ℕ). Some (run, k)) at ∙ sym (taken.taken (sym (are request) ∙ free)))
+        subst (λ x. or_later (at_request m x) (Some (run, count + 1)) ≡ signalled c flow x) same
+        (ap (λ o. or_later o (Some (run, count + 1))) free ∙ sym (taken.taken (sym (are request) ∙ free)))
     go q false is = or_none (at_request m q) ∙ are q ∙ sym (taken.same q is)
 
 ---- The signals of one flow
@@ -332,3 +391,10 @@ pub history_behind : (run : ℕ) (h : List Event) (i : ℕ) (e : Event) (f g g' 
 history_behind run h i e f g g' lt here so more q =
     let now : take (i + 1) h ≡ take i h ++ e ∷ [] = take_more h i e lt ∙ ap (λ y. take i h ++ y ∷ []) (sym here) in
     history_more run (take i h) e f g g' so more q ∙ ap (λ l. with_history run l f q) (sym now)
+
+-- one event more that records no signal
+pub none_behind : (h : List Event) (i : ℕ) (e : Event) → i < length h → e ≡ get_or h i e → signal_of e ≡ None → ((q : Bytes) → signal_in q (take i h) ≡ None) → (q : Bytes) → signal_in q (take (i + 1) h) ≡ None
+none_behind h i e lt here none so q =
+    let now : take (i + 1) h ≡ take i h ++ e ∷ [] = take_more h i e lt ∙ ap (λ y. take i h ++ y ∷ []) (sym here) in
+    let quiet : is_signal_of q e ≡ false = signal_is q e ∙ named_none q (signal_of e) none in
+    ap (signal_in q) now ∙ signal_both q (take i h) (e ∷ []) ∙ ap (λ o. or_else o (signal_in q (e ∷ []))) (so q) ∙ ap (λ v. if v then Some e.id else None) quiet

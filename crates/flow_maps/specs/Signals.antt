@@ -1,5 +1,6 @@
--- Where the signals of flows are recorded, by their requests: of some flows all is known, of the others nothing.
-use Rattle.std.specs.Prelude.{◌≡◌, ◌+◌, ℕ, List, Option, Some, None, MatchOption, bytes_eq, false, if◌then◌else◌}
+-- Where the signals of flows are recorded, by their requests. Of some flows all is known; of the others nothing, or that they have
+-- taken none.
+use Rattle.std.specs.Prelude.{◌≡◌, ◌+◌, ℕ, Bool, List, Option, Some, None, MatchBool, MatchOption, bytes_eq, false}
 use Rattle.std.specs.BTreeMap.{get_by_text}
 use Rattle.flow_base.specs.Syntax.{Bytes}
 use Rattle.flow_base.specs.declared.event.Event.{Event}
@@ -36,17 +37,25 @@ with_history run h f q = or_later (f q) (found_in run (signal_in q h) None)
 abbrev pub AreOf : FlowSignals → Book → Bytes → Type 0
 AreOf m b flow = (q : Bytes) → at_request m q ≡ signalled b flow q
 
--- what is known of a flow is so
-abbrev pub KnowsFlow : Option FlowSignals → Book → Bytes → Type 0
-KnowsFlow o b flow = MatchOption o (Unit {0}) (λ m. AreOf m b flow)
+-- of a flow all that is listed is so, or, where it isn't listed: it has taken none where the flows that have are all listed
+abbrev pub KnowsFlow : Bool → Option FlowSignals → Book → Bytes → Type 0
+KnowsFlow whole o b flow = MatchOption o (MatchBool whole ((q : Bytes) → signalled b flow q ≡ None) (Unit {0})) (λ m. AreOf m b flow)
 
 -- what is known is of this book
 abbrev pub KnowsSignals : Signals → Book → Type 0
-KnowsSignals s b = (flow : Bytes) → KnowsFlow (get_by_text s.flows flow) b flow
+KnowsSignals s b = (flow : Bytes) → KnowsFlow s.is_whole (get_by_text s.flows flow) b flow
+
+-- and so it is of all flows but one
+abbrev pub KnowsBut : Signals → Book → Bytes → Type 0
+KnowsBut s b but = (flow : Bytes) → bytes_eq but flow ≡ false → KnowsFlow s.is_whole (get_by_text s.flows flow) b flow
+
+-- another book says nothing else of the other flows
+abbrev pub IsSameBut : Book → Book → Bytes → Type 0
+IsSameBut b c but = (flow : Bytes) → bytes_eq but flow ≡ false → (q : Bytes) → signalled c flow q ≡ signalled b flow q
 
 -- In the second book a run of a flow has taken the signal of a request by its next event, behind so many; nothing else is found
 -- otherwise.
 pub record IsTaken (b c : Book) (flow : Bytes) (run count : ℕ) (request : Bytes) : Type 0 where
-  pub others : (f : Bytes) → bytes_eq flow f ≡ false → (q : Bytes) → signalled c f q ≡ signalled b f q
+  pub others : IsSameBut b c flow
   pub same : (q : Bytes) → bytes_eq request q ≡ false → signalled c flow q ≡ signalled b flow q
   pub taken : signalled b flow request ≡ None → signalled c flow request ≡ Some (run, count + 1)

@@ -21,6 +21,7 @@ use crate::index::Index;
 use crate::signals::{FlowSignals, Signals};
 use crate::turned::is_open_behind;
 use flow_base::book::{Change, Due, Task, Timer, Turn};
+use flow_base::event::Event;
 use flow_base::number::{EventId, Moment, RunId, TextNo};
 use flow_base::sequence::Sequence;
 use flow_base::text::Key;
@@ -132,7 +133,7 @@ fn change_signals(signals: &mut Signals, seen: &Option<Seen>, change: &Change)
 {
     match change {
         Change::AddText(_) => {}
-        Change::AddRun(flow, _, _, turn) => signals.begin(flow, turn),
+        Change::AddRun(_, _, _, turn) => signals.begin(turn),
         Change::AddTurn(run, turn) => turn_signals(signals, seen, *run, turn),
         Change::SetAttempt(_, _, _, _) => {}
         Change::SetText(_, _) => {}
@@ -158,13 +159,14 @@ impl Maps {
     pub fn none(alloc: Global) -> Maps
         ensures keys { AreKeys result [] [] }
         ensures awaits { Awaits result 0 0 (λ n. []) (λ n. []) }
+        ensures signals { (b : Book) → b.runs ≡ [] → HasSignals result b }
         ensures sees { (b : Book) → Sees result b }
     {
         Maps {
             requests: Index::new(alloc),
             flows: Index::new(alloc),
             agenda: Agenda::new(alloc),
-            signals: Signals::unknown(alloc),
+            signals: Signals::new(alloc),
             seen: None,
         }
     }
@@ -272,19 +274,31 @@ impl Maps {
         }
     }
 
-    /// One more run, open or not, with its open timers and activities.
+    /// One more run, with the signals that it has taken.
+    fn add_signals(&mut self, flow: &Key, history: &[Event])
+        ensures signals { (b : Book) → (r : ARun) → r.flow ≡ flow.now → r.history ≡ history.now → Serves self.old b → HasSignals self.new (record b { runs = b.runs ++ r ∷ [] }) }
+        ensures same { (self.new.requests ≡ self.old.requests) × (self.new.flows ≡ self.old.flows) × (self.new.agenda ≡ self.old.agenda) × (self.new.seen ≡ self.old.seen) }
+    {
+        match self.agenda.next_run() {
+            Some(run) => self.signals.add_run(flow, run, history),
+            None => self.signals.forget(),
+        }
+    }
+
+    /// One more run, open or not, with its history and its open timers and activities.
     pub fn add_whole(
         &mut self,
         flow: &Key,
         request: &Option<Key>,
+        history: &[Event],
         is_open: bool,
         timers: Sequence<Timer>,
         tasks: Sequence<Task>,
     )
-        ensures serves { (b : Book) → (r : ARun) → r.flow ≡ flow.now → r.request ≡ request.now → is_open ≡ plans.is_open_run r → timers ≡ timers_of r → tasks ≡ r.tasks → Serves self.old b → Serves self.new (record b { runs = b.runs ++ r ∷ [] }) }
+        ensures serves { (b : Book) → (r : ARun) → r.flow ≡ flow.now → r.request ≡ request.now → r.history ≡ history.now → is_open ≡ plans.is_open_run r → timers ≡ timers_of r → tasks ≡ r.tasks → Serves self.old b → Serves self.new (record b { runs = b.runs ++ r ∷ [] }) }
         ensures sees { (b : Book) → Sees self.old b → Sees self.new b }
     {
-        self.signals.forget();
+        self.add_signals(flow, history);
         self.agenda.add_whole(is_open, timers, tasks);
         self.add(flow, request, is_open);
     }

@@ -7,7 +7,7 @@ pub returns-in-AddText : goal.returns-in-AddText
 returns-in-AddText c b seen h = rw c.in-AddText.is (λ f. h f)
 
 pub returns-in-AddRun : goal.returns-in-AddRun
-returns-in-AddRun c b seen h = rw c.in-AddRun.is (c.begin.ensures b c.in-AddRun.field-1 c.in-AddRun.field-2 h)
+returns-in-AddRun c b seen h = rw c.in-AddRun.is (c.begin.ensures b c.in-AddRun.field-0 c.in-AddRun.field-1 c.in-AddRun.field-2 h)
 
 pub returns-in-SetAttempt : goal.returns-in-SetAttempt
 returns-in-SetAttempt c b seen h = rw c.in-SetAttempt.is (set_quiet c.args.signals.now b c.in-SetAttempt.field-0 (with_attempt c.in-SetAttempt.field-1 c.in-SetAttempt.field-2 c.in-SetAttempt.field-3) (λ f q r. refl) h)
