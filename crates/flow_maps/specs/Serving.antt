@@ -11,6 +11,7 @@ use Rattle.flow_base.specs.declared.book.Task.{Task}
 use Rattle.flow_base.specs.declared.book.Timer.{Timer}
 use Rattle.flow_maps.specs.Agenda.{Knows, IsOf}
 use Rattle.flow_maps.specs.Keys.{Lists}
+use Rattle.flow_maps.specs.Signals.{KnowsSignals}
 
 -- a run is found by its request, if it has one
 abbrev pub request_key : Run → Option Bytes
@@ -41,11 +42,16 @@ AreRunKeys m b = AreKeys m (map request_key b.runs) (map open_key b.runs)
 abbrev pub Awaits : Maps → ℕ → ℕ → (ℕ → List Timer) → (ℕ → List Task) → Type 0
 Awaits m n o f g = Knows m.agenda n o f g
 
+-- where the signals of its flows are recorded, as far as that is known
+abbrev pub HasSignals : Maps → Book → Type 0
+HasSignals m b = KnowsSignals m.signals b
+
 -- What is known is of this book.
 pub record Serves (m : Maps) (b : Book) : Type 0 where
   pub requests : Lists m.requests (map request_key b.runs)
   pub flows : Lists m.flows (map open_key b.runs)
   pub agenda : IsOf m.agenda b
+  pub signals : KnowsSignals m.signals b
 
 -- and so is what is known of the run that was read last
 abbrev pub IsSeen : Option Seen → Book → Type 0

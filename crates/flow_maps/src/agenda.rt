@@ -123,6 +123,16 @@ impl Plans {
         }
     }
 
+    /// The number that the next run gets.
+    fn next_run(&self) -> Option<RunId>
+        ensures { IfSome result (λ n. n ≡ self.now.count + 1) }
+    {
+        if self.count >= LAST_NUMBER {
+            return None;
+        }
+        RunId::new(self.count + 1)
+    }
+
     /// One more run, which waits for nothing yet.
     fn add(&mut self, is_open: bool) -> bool
         ensures { result ≡ true → (n o : ℕ) → (f : ℕ → List ATimer) → (g : ℕ → List ATask) → ArePlans self.old n o f g → ArePlans self.new (n + 1) (o + one_if is_open) f g }
@@ -365,6 +375,16 @@ impl Agenda {
             }
         }
         self.forget();
+    }
+
+    /// The number that the next run gets, if it is known how many there are.
+    pub fn next_run(&self) -> Option<RunId>
+        ensures { IfSome result (λ n. (b : Book) → IsOf self.now b → n ≡ length b.runs + 1) }
+    {
+        match &self.plans {
+            Some(plans) => plans.next_run(),
+            None => None,
+        }
     }
 
     /// The timer that is due first, of those that are due by a moment, if that is known.

@@ -8,5 +8,6 @@ mod left;
 pub mod maps;
 pub mod of_runs;
 pub mod outlook;
+pub mod signals;
 pub mod timers;
 mod turned;

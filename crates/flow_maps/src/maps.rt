@@ -12,16 +12,19 @@ ghost use Rattle.flow_base.specs.declared.book.Timer.{Timer as ATimer};
 ghost use Rattle.flow_maps.specs.Agenda as plans;
 ghost use Rattle.flow_maps.specs.Agenda.{IsOf, replaced, one_if};
 ghost use Rattle.flow_maps.specs.Timers.{timers_of};
+ghost use Rattle.flow_maps.specs.Signals.{AreOf, KnowsSignals};
 ghost use Rattle.flow_maps.specs.Keys.{Lists};
 ghost use Rattle.flow_maps.specs.Outlooks.{outlook_of};
-ghost use Rattle.flow_maps.specs.Serving.{Serves, Sees, IsSeen, AreKeys, AreRunKeys, Awaits, open_key, key_if, named};
+ghost use Rattle.flow_maps.specs.Serving.{Serves, Sees, IsSeen, AreKeys, AreRunKeys, Awaits, HasSignals, open_key, key_if, named};
 
 use crate::agenda::Agenda;
 use crate::index::Index;
 use crate::outlook::Outlook;
+use crate::signals::{FlowSignals, Signals};
 use crate::turned::is_open_behind;
 use flow_base::book::{Change, Due, Task, Timer, Turn};
-use flow_base::number::{Moment, RunId, TextNo};
+use flow_base::event::Event;
+use flow_base::number::{EventId, Moment, RunId, TextNo};
 use flow_base::sequence::Sequence;
 use flow_base::text::Key;
 use std::alloc::Global;
@@ -36,12 +39,13 @@ struct Seen {
     count: u64,
 }
 
-/// The runs by their requests, the open ones by their flows, and what they wait for.
+/// The runs by their requests, the open ones by their flows, what they wait for, and where signals are recorded.
 #[derive(Drop)]
 pub struct Maps {
     requests: Index,
     flows: Index,
     agenda: Agenda,
+    signals: Signals,
     seen: Option<Seen>,
 }
 
@@ -113,6 +117,31 @@ fn change_agenda(agenda: &mut Agenda, seen: &Option<Seen>, change: &Change)
     }
 }
 
+/// Where signals are recorded behind one turn more of a run, where that run was read.
+fn turn_signals(signals: &mut Signals, seen: &Option<Seen>, run: RunId, turn: &Turn)
+    ensures { (b : Book) → IsSeen seen.now b → KnowsSignals signals.old b → KnowsSignals signals.new (changed b (AddTurn run turn.now)) }
+{
+    if let Some(read) = seen {
+        if is_of(read, run) {
+            signals.follow(&read.flow, run, read.count, turn);
+            return;
+        }
+    }
+    signals.forget();
+}
+
+fn change_signals(signals: &mut Signals, seen: &Option<Seen>, change: &Change)
+    ensures { (b : Book) → IsSeen seen.now b → KnowsSignals signals.old b → KnowsSignals signals.new (changed b change.now) }
+{
+    match change {
+        Change::AddText(_) => {}
+        Change::AddRun(_, _, _, turn) => signals.begin(turn),
+        Change::AddTurn(run, turn) => turn_signals(signals, seen, *run, turn),
+        Change::SetAttempt(_, _, _, _) => {}
+        Change::SetText(_, _) => {}
+    }
+}
+
 impl Maps {
     /// Nothing is known.
     pub fn unknown(alloc: Global) -> Maps
@@ -123,6 +152,7 @@ impl Maps {
             requests: Index::unknown(alloc),
             flows: Index::unknown(alloc),
             agenda: Agenda::unknown(alloc),
+            signals: Signals::unknown(alloc),
             seen: None,
         }
     }
@@ -131,12 +161,14 @@ impl Maps {
     pub fn none(alloc: Global) -> Maps
         ensures keys { AreKeys result [] [] }
         ensures awaits { Awaits result 0 0 (λ n. []) (λ n. []) }
+        ensures signals { (b : Book) → b.runs ≡ [] → HasSignals result b }
         ensures sees { (b : Book) → Sees result b }
     {
         Maps {
             requests: Index::new(alloc),
             flows: Index::new(alloc),
             agenda: Agenda::new(alloc),
+            signals: Signals::new(alloc),
             seen: None,
         }
     }
@@ -149,6 +181,7 @@ impl Maps {
         self.requests.forget();
         self.flows.forget();
         self.agenda.forget();
+        self.signals.forget();
         self.seen = None;
     }
 
@@ -200,13 +233,15 @@ impl Maps {
         self.agenda.add_task(run, task);
     }
 
-    /// What runs wait for isn't known any more.
-    pub fn forget_agenda(&mut self)
+    /// What runs wait for and what they have taken isn't known any more.
+    pub fn forget_histories(&mut self)
         ensures keys { (ks : List (Option Bytes)) → (fs : List (Option Bytes)) → AreKeys self.old ks fs → AreKeys self.new ks fs }
         ensures awaits { (n o : ℕ) → (f : ℕ → List ATimer) → (g : ℕ → List ATask) → Awaits self.new n o f g }
+        ensures signals { (b : Book) → HasSignals self.new b }
         ensures sees { (b : Book) → Sees self.old b → Sees self.new b }
     {
         self.agenda.forget();
+        self.signals.forget();
     }
 
     /// A run was read. Short of memory it is as if it wasn't.
@@ -228,7 +263,7 @@ impl Maps {
     /// One more run.
     fn add(&mut self, flow: &Key, request: &Option<Key>, is_open: bool)
         ensures keys { (b : Book) → (r : ARun) → r.request ≡ request.now → open_key r ≡ key_if is_open flow.now → AreRunKeys self.old b → AreRunKeys self.new (record b { runs = b.runs ++ r ∷ [] }) }
-        ensures same { (self.new.agenda ≡ self.old.agenda) × (self.new.seen ≡ self.old.seen) }
+        ensures same { (self.new.agenda ≡ self.old.agenda) × (self.new.seen ≡ self.old.seen) × (self.new.signals ≡ self.old.signals) }
     {
         match request {
             Some(request) => self.requests.add(request.as_str()),
@@ -241,18 +276,31 @@ impl Maps {
         }
     }
 
-    /// One more run, open or not, with its open timers and activities.
+    /// One more run, with the signals that it has taken.
+    fn add_signals(&mut self, flow: &Key, history: &[Event])
+        ensures signals { (b : Book) → (r : ARun) → r.flow ≡ flow.now → r.history ≡ history.now → Serves self.old b → HasSignals self.new (record b { runs = b.runs ++ r ∷ [] }) }
+        ensures same { (self.new.requests ≡ self.old.requests) × (self.new.flows ≡ self.old.flows) × (self.new.agenda ≡ self.old.agenda) × (self.new.seen ≡ self.old.seen) }
+    {
+        match self.agenda.next_run() {
+            Some(run) => self.signals.add_run(flow, run, history),
+            None => self.signals.forget(),
+        }
+    }
+
+    /// One more run, open or not, with its history and its open timers and activities.
     pub fn add_whole(
         &mut self,
         flow: &Key,
         request: &Option<Key>,
+        history: &[Event],
         is_open: bool,
         timers: Sequence<Timer>,
         tasks: Sequence<Task>,
     )
-        ensures serves { (b : Book) → (r : ARun) → r.flow ≡ flow.now → r.request ≡ request.now → is_open ≡ plans.is_open_run r → timers ≡ timers_of r → tasks ≡ r.tasks → Serves self.old b → Serves self.new (record b { runs = b.runs ++ r ∷ [] }) }
+        ensures serves { (b : Book) → (r : ARun) → r.flow ≡ flow.now → r.request ≡ request.now → r.history ≡ history.now → is_open ≡ plans.is_open_run r → timers ≡ timers_of r → tasks ≡ r.tasks → Serves self.old b → Serves self.new (record b { runs = b.runs ++ r ∷ [] }) }
         ensures sees { (b : Book) → Sees self.old b → Sees self.new b }
     {
+        self.add_signals(flow, history);
         self.agenda.add_whole(is_open, timers, tasks);
         self.add(flow, request, is_open);
     }
@@ -260,14 +308,14 @@ impl Maps {
     /// One more run, with its first turn.
     fn add_run(&mut self, flow: &Key, request: &Option<Key>, text: TextNo, turn: &Turn)
         ensures keys { (b : Book) → AreRunKeys self.old b → AreRunKeys self.new (changed b (AddRun flow.now request.now text turn.now)) }
-        ensures same { (self.new.agenda ≡ self.old.agenda) × (self.new.seen ≡ self.old.seen) }
+        ensures same { (self.new.agenda ≡ self.old.agenda) × (self.new.seen ≡ self.old.seen) × (self.new.signals ≡ self.old.signals) }
     {
         self.add(flow, request, is_open_behind(false, turn));
     }
 
     fn change_keys(&mut self, change: &Change)
         ensures keys { (b : Book) → Sees self.old b → AreRunKeys self.old b → AreRunKeys self.new (changed b change.now) }
-        ensures same { self.new.agenda ≡ self.old.agenda }
+        ensures same { (self.new.agenda ≡ self.old.agenda) × (self.new.signals ≡ self.old.signals) }
     {
         match change {
             Change::AddText(_) => {}
@@ -284,6 +332,7 @@ impl Maps {
         ensures sees { (b : Book) → Sees self.new b }
     {
         change_agenda(&mut self.agenda, &self.seen, change);
+        change_signals(&mut self.signals, &self.seen, change);
         self.change_keys(change);
         self.seen = None;
     }
@@ -314,5 +363,20 @@ impl Maps {
         ensures { IfSome result (λ v. (b : Book) → Serves self.now b → v ≡ outlook_of b) }
     {
         self.agenda.outlook()
+    }
+
+    /// Where the signal of a request is recorded in the runs of a flow, if that is known.
+    pub fn signalled(&self, flow: &Key, request: &Key) -> Option<Option<(RunId, EventId)>>
+        ensures { IfSome result (λ o. (b : Book) → Serves self.now b → o ≡ words.signalled b flow.now request.now) }
+    {
+        self.signals.find(flow, request)
+    }
+
+    /// These are all signals that the runs of a flow have taken.
+    pub fn learn_signals(&mut self, flow: &Key, events: FlowSignals)
+        ensures serves { (b : Book) → AreOf events b flow.now → Serves self.old b → Serves self.new b }
+        ensures sees { (b : Book) → Sees self.old b → Sees self.new b }
+    {
+        self.signals.learn(flow, events);
     }
 }

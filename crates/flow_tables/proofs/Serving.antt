@@ -6,7 +6,7 @@ use Rattle.std.proofs.lemmas.List.{map_more, take_more}
 use Rattle.flow_maps.specs.declared.maps.Maps.{Maps}
 use Rattle.flow_maps.specs.Agenda.{IsOf}
 use Rattle.flow_maps.specs.Keys.{Lists}
-use Rattle.flow_maps.specs.Serving.{Serves, Sees, AreKeys, named, key_if, request_key, open_key}
+use Rattle.flow_maps.specs.Serving.{Serves, Sees, AreKeys, HasSignals, named, key_if, request_key, open_key}
 use Rattle.flow_rows.specs.Rows.{run_rows, request_text}
 use Rattle.flow_rows.specs.Told.{IsTold}
 use Rattle.flow_view.specs.Reading.{Reads}
@@ -34,11 +34,12 @@ opens_back : (n : ℕ) (rs : List Run) → map row_open (run_rows n rs) ≡ map 
 opens_back n [] = refl
 opens_back n (r ∷ rs) = ap (λ v. key_if v r.flow ∷ map row_open (run_rows (n + 1) rs)) (marked_back (is_open (state_of r.history))) ∙ ap (λ ks. open_key r ∷ ks) (opens_back (n + 1) rs)
 
-pub rows_serve : (m : Maps) (rows : List RunRow) (b : Book) → rows ≡ run_rows 1 b.runs → AllByRecursion IsTold b.runs → AreKeys m (map row_request rows) (map row_open rows) → IsOf m.agenda b → Serves m b
-rows_serve m rows b same told are awaits = record {
+pub rows_serve : (m : Maps) (rows : List RunRow) (b : Book) → rows ≡ run_rows 1 b.runs → AllByRecursion IsTold b.runs → AreKeys m (map row_request rows) (map row_open rows) → IsOf m.agenda b → HasSignals m b → Serves m b
+rows_serve m rows b same told are awaits signals = record {
   requests = subst (λ ks. Lists m.requests ks) (ap (map row_request) same ∙ requests_back 1 b.runs told) are.requests;
   flows = subst (λ ks. Lists m.flows ks) (ap (map row_open) same ∙ opens_back 1 b.runs) are.flows;
   agenda = awaits;
+  signals = signals;
 }
 
 pub keys_on : {A B : Type 0} (f : A → B) (xs : List A) (i : ℕ) (x : A) (k : B) → x ≡ get_or xs i x → i < length xs → k ≡ f x → map f (take i xs) ++ k ∷ [] ≡ map f (take (i + 1) xs)

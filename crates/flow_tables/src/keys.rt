@@ -1,7 +1,7 @@
 //! The keys by which runs are found, as rows of runs tell them.
 ghost use Rattle.std.specs.Prelude.{◌≡◌};
 ghost use Rattle.flow_tables.specs.Names.{Book, map, IfSome};
-ghost use Rattle.flow_maps.specs.Serving.{Serves, Sees, AreKeys, Awaits};
+ghost use Rattle.flow_maps.specs.Serving.{Serves, Sees, AreKeys, Awaits, HasSignals};
 ghost use Rattle.flow_tables.specs.Names.{ℕ, List, Bytes, shown_book, ◌++◌, ◌∷◌, []};
 ghost use Rattle.flow_base.specs.declared.book.Task.{Task as ATask};
 ghost use Rattle.flow_base.specs.declared.book.Timer.{Timer as ATimer};
@@ -25,12 +25,13 @@ pub(crate) fn keys_of(alloc: Global, rows: &[RunRow]) -> Maps
     ensures keys { AreKeys result (map row_request rows.now) (map row_open rows.now) }
     ensures sees { (b : Book) → Sees result b }
     ensures awaits { (n o : ℕ) → (f : ℕ → List ATimer) → (g : ℕ → List ATask) → Awaits result n o f g }
+    ensures signals { (b : Book) → HasSignals result b }
 {
     let mut maps = Maps::none(alloc);
     for row in rows {
         maps.add_row(row.flow.as_str(), row.req.as_str(), is_marked(row));
     }
-    maps.forget_agenda();
+    maps.forget_histories();
     maps
 }
 
@@ -52,6 +53,7 @@ pub(crate) fn add_whole(alloc: Global, maps: &mut Maps, run: &Run)
     maps.add_whole(
         &run.flow,
         &run.request,
+        events,
         is_open,
         Sequence::from_vec(timers),
         tasks,

@@ -21,5 +21,5 @@ loop-row-preserved c =
 pub returns-clause-keys : goal.returns-clause-keys
 returns-clause-keys c =
     let rows = c.args.rows.now in
-    c.forget_agenda.ensures.keys (map row_request rows) (map row_open rows)
+    c.forget_histories.ensures.keys (map row_request rows) (map row_open rows)
     (subst (λ xs. AreKeys c.loop-row.maps (map row_request xs) (map row_open xs)) (take_all c.loop-row.row-index rows (omega (arith, c.loop-row-test.false))) c.loop-row.invariant.0)

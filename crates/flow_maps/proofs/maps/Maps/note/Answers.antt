@@ -1,6 +1,7 @@
 use Rattle.std.proofs.Common.{sym, subst}
 use Rattle.flow_model.specs.Book.{changed}
 use Rattle.flow_maps.specs.Agenda.{IsOf}
+use Rattle.flow_maps.specs.Signals.{KnowsSignals}
 use Rattle.flow_maps.proofs.maps.Maps.note.Goals as goal
 
 pub returns-clause-serves : goal.returns-clause-serves
@@ -9,5 +10,6 @@ returns-clause-serves c b seen h =
     record {
       requests = keys.requests;
       flows = keys.flows;
-      agenda = subst (λ a. IsOf a (changed b c.args.change.now)) (sym c.change_keys.ensures.same) (c.change_agenda.ensures b seen h.agenda);
+      agenda = subst (λ a. IsOf a (changed b c.args.change.now)) (sym c.change_keys.ensures.same.0) (c.change_agenda.ensures b seen h.agenda);
+      signals = subst (λ s. KnowsSignals s (changed b c.args.change.now)) (sym c.change_keys.ensures.same.1) (c.change_signals.ensures b seen h.signals);
     }
