@@ -8,7 +8,10 @@ use Rattle.flow_tables.specs.Faults.{Since, HasFailed, IsCutOff}
 use Rattle.flow_tables.proofs.Stopping.{since_then}
 use Rattle.flow_view.specs.Reading.{Caused}
 use Rattle.flow_view.specs.declared.fault.ViewFault.{ViewFault}
-use Rattle.flow_commit.specs.Boards.{Key, Boarded, IsBoardOf, draft_of}
+use Rattle.flow_view.specs.declared.fault.ViewFault.TheVariants as view
+use Rattle.flow_base.specs.declared.fault.Fault.{Fault}
+use Rattle.flow_base.specs.declared.fault.Fault.TheVariants as faults
+use Rattle.flow_commit.specs.Boards.{Key, Boarded, IsBoardOf, draft_of, board_fault}
 use Rattle.flow_commit.specs.declared.waiting.Draft.{Draft}
 use Rattle.flow_commit.specs.Committing.{IsDown}
 use Rattle.flow_commit.proofs.Following.{fit_before, up_before, not_hindered}
@@ -61,3 +64,8 @@ kept_either g new sure b b' same written still = record {
   kept = λ up. (still up).kept up;
   stops = λ db may. elim (written db may) [ inl before ↦ before | inr after ↦ subst (λ k. IsFileOf db k) same after.1 ];
 }
+
+-- the cause of E80, where a refusal of the tables is told
+pub told_cause : (C : Type 0) (v : ViewFault) (f : Fault) → f ≡ board_fault v → Caused {A = Unit} (Err v) C → f ≡ faults.StoreRefused → C
+told_cause C view.NoMemory f is why e = absurd (let clash = sym is ∙ e in cc)
+told_cause C view.StoreRefused f is why e = why
