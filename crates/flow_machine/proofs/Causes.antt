@@ -1,5 +1,6 @@
 -- Causes of a refusal.
-use Rattle.std.proofs.Common.{Err}
+use Rattle.std.proofs.Common.{Err, inl, inr}
+use Rattle.std.specs.Prelude.{◌⊎◌}
 use Rattle.flow_view.specs.Reading.{Caused}
 use Rattle.flow_view.specs.declared.fault.ViewFault.{ViewFault}
 use Rattle.flow_view.specs.declared.fault.ViewFault.TheVariants as fault
@@ -8,3 +9,8 @@ use Rattle.flow_view.specs.declared.fault.ViewFault.TheVariants as fault
 pub caused_by : (f : ViewFault) (X Y : Type 0) → (X → Y) → Caused {A = Unit {0}} (Err f) X → Caused {A = Unit {0}} (Err f) Y
 caused_by fault.NoMemory X Y g h = tt
 caused_by fault.StoreRefused X Y g h = g h
+
+-- the second side is another
+pub other_side : (X Y Z : Type 0) → (Y → Z) → X ⊎ Y → X ⊎ Z
+other_side X Y Z f (inl x) = inl x
+other_side X Y Z f (inr y) = inr (f y)

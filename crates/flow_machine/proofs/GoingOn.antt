@@ -1,26 +1,23 @@
 -- What a run has reached, it has reached for good.
-use Rattle.std.proofs.Common.{◌≡◌, ◌≤◌, ℕ, zero, suc, ◌+◌, ◌-◌, List, [], ◌∷◌, ◌++◌, length, refl, sym, ap, ◌∙◌, subst, arith, Option, Some, None, length-append, append-nil, Bool, true, false}
-use Rattle.std.specs.Prelude.{slice_get, slice_set, nat_eq, Result, if◌then◌else◌}
+use Rattle.std.proofs.Common.{◌≡◌, ℕ, zero, suc, ◌+◌, ◌-◌, List, [], ◌∷◌, ◌++◌, length, refl, sym, ap, ◌∙◌, subst, arith, Option, Some, None, length-append, append-nil, true, false}
+use Rattle.std.specs.Prelude.{slice_get, slice_set, nat_eq, if◌then◌else◌}
 use Rattle.std.proofs.lemmas.Option.{none-some, same_Some}
 use Rattle.std.proofs.lemmas.List.{append_assoc}
 use Rattle.std.proofs.lemmas.Bool.{eqb-true, eqb-false}
 use Rattle.flow_base.specs.Syntax.{Bytes, Program}
 use Rattle.flow_base.specs.declared.event.Cmd.{Cmd}
 use Rattle.flow_base.specs.declared.event.Event.{Event}
-use Rattle.flow_base.specs.declared.event.Input.{Input}
 use Rattle.flow_base.specs.declared.event.Input.TheVariants.{Started}
-use Rattle.flow_base.specs.declared.value.Value.{Value}
 use Rattle.flow_base.specs.declared.book.Run.{Run}
 use Rattle.flow_base.specs.declared.book.Turn.{Turn}
 use Rattle.flow_base.specs.declared.book.Change.{Change}
 use Rattle.flow_base.specs.declared.book.Change.TheVariants.{AddText, AddRun, AddTurn, SetAttempt, SetText}
-use Rattle.flow_base.specs.declared.command.Command.{Command}
 use Rattle.flow_model.specs.Configuration.{Configuration, first_configuration}
 use Rattle.flow_model.specs.Turn.{Fresh}
-use Rattle.flow_model.specs.Turned.{turned, turn_events}
+use Rattle.flow_model.specs.Turned.{turn_events}
 use Rattle.flow_model.specs.Stands.{Leads, Stands}
 use Rattle.flow_model.specs.Book.{Book, nth, changed, changed_by, with_run, with_turn, with_attempt, with_text, unbegun_run}
-use Rattle.flow_model.specs.Apply.{Rules, program_at, program_if, outcome, after}
+use Rattle.flow_model.specs.Apply.{program_at, program_if, outcome}
 use Rattle.flow_model.proofs.OneMore.{stands_on, stands_first}
 use Rattle.flow_model.proofs.Positions.{turned_is}
 use Rattle.flow_run.specs.Position.{config_of}

@@ -25,3 +25,8 @@ pub mod TicksStand
 pub mod TicksDecide
 pub mod OneTick
 pub mod GoingOn
+pub mod ByHeads
+pub mod Seating
+pub mod Stepping
+pub mod Taking
+pub mod OneMoreCommand

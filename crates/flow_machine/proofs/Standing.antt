@@ -66,7 +66,7 @@ leads_moment p n (c ∷ due) k (d ∷ later) k' l =
     let a = l.1.1.0 in
     ap (λ (m : ℕ). moment_after m later) (a.1 ∙ ap (λ (q : Configuration). q.moment) (sym a.4)) ∙ leads_moment p (suc n) l.0 l.1.0 later k' l.1.1.1
 
-stands_moment : (p : Program) (h : List Event) (k : Configuration) → Stands p h k → moment_of h ≡ k.moment
+pub stands_moment : (p : Program) (h : List Event) (k : Configuration) → Stands p h k → moment_of h ≡ k.moment
 stands_moment p h k s = leads_moment p 1 [] first_configuration h k s.1
 
 -- a turn is put into its run

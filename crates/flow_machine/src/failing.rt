@@ -2,7 +2,6 @@
 ghost use Rattle.std.specs.Prelude.{◌≡◌, ◌<◌, IfOk};
 ghost use Rattle.flow_machine.specs.Deciding.{Gives};
 ghost use Rattle.flow_model.specs.Apply as apply;
-ghost use Rattle.flow_model.specs.Book.{nth};
 ghost use Rattle.flow_view.specs.Reading.{Caused};
 
 use crate::puts::one;
@@ -14,18 +13,17 @@ use flow_view::fault::ViewFault;
 use std::alloc::Global;
 
 /// How often the activity of an event is tried, and the pause between two attempts.
-pub fn tries_of(events: &[Event], event: EventId) -> Option<(u64, u64)>
-    ensures { result ≡ apply.tries_of (nth events.now event) }
+pub fn tries_of(event: &Option<Event>) -> Option<(u64, u64)>
+    ensures { result ≡ apply.tries_of event.now }
 {
-    let n = event.get();
-    if n > events.len() as u64 {
-        return None;
-    }
-    match &events[(n - 1) as usize].what {
-        What::Came(_) => None,
-        What::Asked(command) => match command {
-            Cmd::Schedule(_, _, tries, every, _) => Some((*tries, *every)),
-            _ => None,
+    match event {
+        None => None,
+        Some(event) => match &event.what {
+            What::Came(_) => None,
+            What::Asked(command) => match command {
+                Cmd::Schedule(_, _, tries, every, _) => Some((*tries, *every)),
+                _ => None,
+            },
         },
     }
 }

@@ -2,18 +2,12 @@
 ghost use Rattle.std.specs.Prelude.{◌≡◌, IfOk, bytes_eq, map};
 ghost use Rattle.flow_base.specs.Shown.{shown_declaration};
 ghost use Rattle.flow_check.specs.Shown.{shown_checked};
-ghost use Rattle.flow_machine.specs.Deciding.{Gives};
-ghost use Rattle.flow_machine.specs.Stuck.{StuckSent};
-ghost use Rattle.flow_model.specs.Apply as apply;
+ghost use Rattle.flow_machine.specs.ByHead as by_head;
 ghost use Rattle.flow_model.specs.WellFormed as declared;
 ghost use Rattle.flow_view.specs.Reading.{Caused};
 
-use crate::turns::recorded;
-use flow_base::book::{Change, Run};
 use flow_base::code::Code;
-use flow_base::command::Reply;
 use flow_base::event::Input;
-use flow_base::number::{Moment, RunId};
 use flow_base::syntax::Declaration;
 use flow_base::text::{Key, RawText};
 use flow_base::value::{Kind, Value};
@@ -51,7 +45,13 @@ fn carries(program: &Checked, name: &RawText) -> Option<Kind>
     signal_of(&program.program().declarations, name)
 }
 
-fn input_of(alloc: Global, request: &Key, name: &RawText, value: &Value) -> Result<Input, ViewFault>
+/// The input of a signal.
+pub fn input_of(
+    alloc: Global,
+    request: &Key,
+    name: &RawText,
+    value: &Value,
+) -> Result<Input, ViewFault>
     ensures input { IfOk result (λ i. i ≡ Input.Signaled name.now request.now value.now) }
     ensures cause { Caused result ⊥ }
 {
@@ -64,28 +64,19 @@ fn input_of(alloc: Global, request: &Key, name: &RawText, value: &Value) -> Resu
     Ok(Input::Signaled(name, request, value))
 }
 
-/// A run takes a signal that its program declares with the value's type.
-pub fn signal_recorded(
-    alloc: Global,
-    limit: u64,
-    program: &Checked,
-    run: &Run,
-    number: RunId,
-    request: &Key,
-    name: &RawText,
-    value: &Value,
-    at: Moment,
-) -> Result<(Reply, Vec<Change>), ViewFault>
-    ensures gives { IfOk result (λ x. Gives x.0 x.1.items (apply.signal_recorded limit run.now number request.now name.now value.now at (shown_checked program.now))) }
-    ensures cause { Caused result (StuckSent run.now request.now name.now value.now (shown_checked program.now)) }
+/// The first refusal of a signal by the program of the run that is to take it.
+#[tactic(auto, unfolding(crate::specs::ByHead::signal_refused))]
+pub fn signal_refused(program: &Checked, name: &RawText, value: &Value) -> Option<Code>
+    ensures { result ≡ by_head.signal_refused (shown_checked program.now) name.now value.now }
 {
-    let Some(kind) = carries(program, name) else {
-        return Ok((Reply::Refused(Code::NoSuchSignal), Vec::new(alloc)));
-    };
-    if !has_kind(kind, value) {
-        return Ok((Reply::Refused(Code::WrongType), Vec::new(alloc)));
+    match carries(program, name) {
+        None => Some(Code::NoSuchSignal),
+        Some(kind) => {
+            if has_kind(kind, value) {
+                None
+            } else {
+                Some(Code::WrongType)
+            }
+        }
     }
-    let input = input_of(alloc, request, name, value)?;
-    let (reply, changes) = recorded(alloc, limit, program, run, number, at, input)?;
-    Ok((reply, changes))
 }

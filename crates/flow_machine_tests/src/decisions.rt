@@ -8,6 +8,7 @@ use flow_base::text::{Key, RawText, Text};
 use flow_base::value::Value;
 use flow_check::language::Language;
 use flow_machine::decide::{decide, decide_all};
+use flow_machine::seats::Seats;
 use flow_programs::kept::Kept;
 use flow_view::lists::Lists;
 use std::alloc::Global;
@@ -87,7 +88,14 @@ fn history(number: u64) -> Result<Command, Fail> {
 
 // A command is decided, and its changes are in the book: what it was answered, and how many changes it made.
 fn put(alloc: Global, book: &mut Lists, command: &Command) -> Result<(Told, usize), Fail> {
-    let (reply, changes) = decide(alloc, &mut Kept::new(alloc, Language), book, command)?;
+    let mut seats = Seats::new(alloc, 1)?;
+    let (reply, changes) = decide(
+        alloc,
+        &mut Kept::new(alloc, Language),
+        book,
+        &mut seats,
+        command,
+    )?;
     Ok((in_short(&reply), changes.len()))
 }
 
@@ -176,7 +184,14 @@ fn a_report_is_recorded(rt: HostRuntime) -> Result<(), Fail> {
 fn ask(alloc: Global, book: &mut Lists, command: Command) -> Result<Vec<Reply>, Fail> {
     let mut commands = Vec::new(alloc);
     commands.push(command)?;
-    Ok(decide_all(alloc, &mut Kept::new(alloc, Language), book, &commands)?)
+    let mut seats = Seats::new(alloc, 1)?;
+    Ok(decide_all(
+        alloc,
+        &mut Kept::new(alloc, Language),
+        book,
+        &mut seats,
+        &commands,
+    )?)
 }
 
 fn is_open_run(run: &Description) -> bool {
@@ -330,7 +345,14 @@ fn are_path(replies: &[Reply]) -> bool {
 // Whether a text, a start, a report and a question are answered in turn.
 fn is_path_told(alloc: Global, book: &mut Lists) -> Result<bool, Fail> {
     let commands = path(alloc)?;
-    let replies = decide_all(alloc, &mut Kept::new(alloc, Language), book, &commands)?;
+    let mut seats = Seats::new(alloc, 1)?;
+    let replies = decide_all(
+        alloc,
+        &mut Kept::new(alloc, Language),
+        book,
+        &mut seats,
+        &commands,
+    )?;
     Ok(are_path(&replies))
 }
 

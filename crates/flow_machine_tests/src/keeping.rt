@@ -10,6 +10,7 @@ use flow_check::checked::Checked;
 use flow_check::language::Language;
 use flow_check::texts::Texts;
 use flow_machine::decide::decide;
+use flow_machine::seats::Seats;
 use flow_programs::kept::{Kept, LIMIT};
 use flow_view::lists::Lists;
 use std::alloc::{AllocError, Global};
@@ -68,7 +69,10 @@ fn is_decided<'a>(
     command: Option<Command>,
 ) -> bool {
     match command {
-        Some(command) => decide(alloc, programs, book, &command).is_ok(),
+        Some(command) => match Seats::new(alloc, 1) {
+            Ok(mut seats) => decide(alloc, programs, book, &mut seats, &command).is_ok(),
+            Err(_) => false,
+        },
         None => false,
     }
 }

@@ -5,6 +5,7 @@ use flow_base::number::{Moment, RunId};
 use flow_base::text::Text;
 use flow_check::language::Language;
 use flow_machine::decide::decide;
+use flow_machine::seats::Seats;
 use flow_programs::kept::Kept;
 use flow_view::lists::Lists;
 use std::alloc::Global;
@@ -24,14 +25,30 @@ fn in_short(reply: &Reply, changes: usize) -> Option<Told> {
 
 fn tick(alloc: Global, book: &mut Lists, at: u64) -> Option<Told> {
     let command = Command::Tick(Moment::new(at)?);
-    let (reply, changes) = decide(alloc, &mut Kept::new(alloc, Language), book, &command).ok()?;
+    let mut seats = Seats::new(alloc, 1).ok()?;
+    let (reply, changes) = decide(
+        alloc,
+        &mut Kept::new(alloc, Language),
+        book,
+        &mut seats,
+        &command,
+    )
+    .ok()?;
     in_short(&reply, changes.len())
 }
 
 fn end(alloc: Global, book: &mut Lists, at: u64) -> Option<usize> {
     let reason = Text::new(alloc, "why").ok()?;
     let command = Command::Terminate(RunId::new(1)?, reason, Moment::new(at)?);
-    let (_, changes) = decide(alloc, &mut Kept::new(alloc, Language), book, &command).ok()?;
+    let mut seats = Seats::new(alloc, 1).ok()?;
+    let (_, changes) = decide(
+        alloc,
+        &mut Kept::new(alloc, Language),
+        book,
+        &mut seats,
+        &command,
+    )
+    .ok()?;
     Some(changes.len())
 }
 

@@ -8,6 +8,7 @@ use flow_base::text::{Key, RawText, Text};
 use flow_base::value::Value;
 use flow_check::language::Language;
 use flow_machine::decide::decide;
+use flow_machine::seats::Seats;
 use flow_programs::kept::Kept;
 use flow_view::lists::Lists;
 use std::alloc::Global;
@@ -49,7 +50,15 @@ fn in_short(reply: &Reply) -> Short {
 
 // A command is decided, and its changes are in the book: what it was answered, and how many changes it made.
 fn put(alloc: Global, book: &mut Lists, command: &Command) -> Option<(Short, usize)> {
-    let (reply, changes) = decide(alloc, &mut Kept::new(alloc, Language), book, command).ok()?;
+    let mut seats = Seats::new(alloc, 1).ok()?;
+    let (reply, changes) = decide(
+        alloc,
+        &mut Kept::new(alloc, Language),
+        book,
+        &mut seats,
+        command,
+    )
+    .ok()?;
     Some((in_short(&reply), changes.len()))
 }
 

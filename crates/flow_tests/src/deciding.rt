@@ -4,6 +4,7 @@ ghost use Rattle.flow_model.specs.Apply.{rules_of};
 use flow_base::command::Command;
 use flow_machine::answer::{Answer, Answering, Stop, Together};
 use flow_machine::decide::{decide, decide_all};
+use flow_machine::seats::Seats;
 use flow_programs::programs::Programs;
 use flow_view::view::View;
 use std::alloc::Global;
@@ -32,17 +33,31 @@ impl<V: View + Drop, P: Programs + Drop> Answering for Deciding<V, P> {
     ghost stops = { λ s b cs stop. Unit {0} };
 
     fn answer(&mut self, command: Command) -> Result<Answer, Stop> {
-        match decide(self.alloc, &mut self.programs, &mut self.view, &command) {
+        // No position is known from one command to the next.
+        let Ok(mut seats) = Seats::new(self.alloc, 1) else {
+            return Err(Stop::Unknown);
+        };
+        match decide(
+            self.alloc,
+            &mut self.programs,
+            &mut self.view,
+            &mut seats,
+            &command,
+        ) {
             Ok((reply, _)) => Ok(Answer::Replied(reply)),
             Err(_) => Err(Stop::Unknown),
         }
     }
 
     fn answer_together(&mut self, commands: Vec<Command>) -> Result<Together, Stop> {
+        let Ok(mut seats) = Seats::new(self.alloc, 1) else {
+            return Err(Stop::Unknown);
+        };
         match decide_all(
             self.alloc,
             &mut self.programs,
             &mut self.view,
+            &mut seats,
             commands.as_slice(),
         ) {
             Ok(replies) => Ok(Together::Replied(replies)),
