@@ -2,3 +2,4 @@ pub mod Following
 pub mod Ends
 pub mod Lawful
 pub mod RunningOut
+pub mod Seating
