@@ -1,6 +1,6 @@
 -- What reads of rows tell of the book.
 use Rattle.std.specs.Prelude.{◌≡◌, ◌∷◌, ◌+◌, ◌≤◌, if◌then◌else◌}
-use Rattle.flow_tables.proofs.Names.{Run, Book, nth, last_number, event_row, run_row, Tells, Tables, OutboxRow, RunRow, State, ints, AllByRecursion, Bool, IfErr, List, MatchResult, Option, false, map, pos, true, ℕ, IsRefused, IsStill, tables_in, ViewFault, Err, IfOk, None, Ok, Some, option_map, ℤ, [], refl, Result, suc, zero, subst, ◌∙◌, sym, ap, arith, RecallsRun, RecallsHead, StopsRecall, last, IsBelowOne, as_number, as_count}
+use Rattle.flow_tables.proofs.Names.{Run, Book, nth, last_number, event_row, run_row, Tells, Tables, OutboxRow, RunRow, State, ints, AllByRecursion, Bool, IfErr, List, MatchResult, Option, false, map, pos, true, ℕ, IsRefused, IsStill, tables_in, ViewFault, Err, IfOk, None, Ok, Some, option_map, ℤ, [], refl, Result, suc, zero, subst, ◌∙◌, sym, ap, arith, RecallsRun, StopsRecall, last, IsBelowOne, as_number, as_count}
 use Rattle.flow_model.specs.Book.{first_from}
 use Rattle.flow_view.specs.Heads.{head_of, head_if, head_at}
 use Rattle.flow_view.specs.declared.fault.ViewFault.TheVariants as view
@@ -15,6 +15,7 @@ use Rattle.flow_rows.proofs.BookTables.{nth_is}
 use Rattle.flow_rows.proofs.WholeChanges.{all_get}
 use Rattle.flow_rows.proofs.Finds.{run_read, event_rows_read, task_rows_read}
 use Rattle.flow_tables.specs.Asking.{IsValue}
+use Rattle.flow_tables.specs.Owned.{RecallsHead}
 use Rattle.flow_tables.proofs.Succession.{still_then, still_refused}
 
 pub same_numbers : (a b : Option ℕ) → option_map pos a ≡ option_map pos b → a ≡ b
