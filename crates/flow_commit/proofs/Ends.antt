@@ -69,6 +69,11 @@ pub ok_on : {A : Type 0} (P T : A → Type 0) (Q G : Type 0) (r : Result A ViewF
 ok_on P T Q G (Ok v) on p q g = on v p q g
 ok_on P T Q G (Err f) on p q g = tt
 
+-- and what follows by two
+pub both_on : {A : Type 0} (Q G T : Type 0) (r : Result A ViewFault) → (Q → G → T) → OnOk r Q → OnOk r G → OnOk r T
+both_on Q G T (Ok v) on q g = on q g
+both_on Q G T (Err f) on q g = tt
+
 pub done_on : {A : Type 0} (G T : Type 0) (r : Result A ViewFault) → (G → T) → OnOk r G → OnOk r T
 done_on G T (Ok v) on h = on h
 done_on G T (Err f) on h = tt

@@ -2,3 +2,4 @@ pub mod Keeping
 pub mod Committing
 pub mod Stamps
 pub mod Boards
+pub mod Seating

@@ -2,3 +2,4 @@ pub mod Reaching
 pub mod Refusing
 pub mod Programs
 pub mod Recovering
+pub mod Filled

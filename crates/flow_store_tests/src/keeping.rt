@@ -50,11 +50,14 @@ fn keep<S: Alter>(
     calls: &[(u64, Call)],
 ) -> (Option<Vec<Told>>, Connection<S>) {
     match Tables::open(alloc, conn) {
-        Ok((tables, _)) => {
-            let mut keeper = Keeper::over(alloc, tables);
-            let told = all_committed(alloc, &mut keeper, calls);
-            (told, keeper.into_tables().into_connection())
-        }
+        Ok((tables, _)) => match Keeper::anew(alloc, tables, 2) {
+            Ok(keeper) => {
+                let mut keeper = keeper;
+                let told = all_committed(alloc, &mut keeper, calls);
+                (told, keeper.into_tables().into_connection())
+            }
+            Err((_, tables)) => (None, tables.into_connection()),
+        },
         Err((_, conn)) => (None, conn),
     }
 }

@@ -9,6 +9,7 @@ use flow_commit::batch::Batch;
 use flow_commit::keeper::Keeper;
 use flow_commit::outcome::Outcome;
 use flow_machine::decide::decide;
+use flow_machine::seats::Seats;
 use flow_programs::kept::Kept;
 use flow_recover::positions::Position;
 use flow_recover::recover::recover;
@@ -128,7 +129,17 @@ fn decided<S: Alter>(alloc: Global, tables: &mut Tables<S>, call: Call) -> bool 
     match command(alloc, call) {
         Some(command) => {
             tables.begin().is_ok()
-                && decide(alloc, &mut Kept::new(alloc, Language), tables, &command).is_ok()
+                && match Seats::new(alloc, 1) {
+                    Ok(mut seats) => decide(
+                        alloc,
+                        &mut Kept::new(alloc, Language),
+                        tables,
+                        &mut seats,
+                        &command,
+                    )
+                    .is_ok(),
+                    Err(_) => false,
+                }
         }
         None => false,
     }

@@ -11,6 +11,7 @@ use flow_base::text::{Key, RawText};
 use flow_base::value::Value;
 use flow_check::language::Language;
 use flow_machine::decide::decide;
+use flow_machine::seats::Seats;
 use flow_programs::kept::Kept;
 use flow_recover::positions::{Position, positions};
 use flow_rows::book::WholeBook;
@@ -22,7 +23,17 @@ use std::test::Fail;
 
 fn is_decided(alloc: Global, book: &mut Lists, command: Option<Command>) -> bool {
     match command {
-        Some(command) => decide(alloc, &mut Kept::new(alloc, Language), book, &command).is_ok(),
+        Some(command) => match Seats::new(alloc, 1) {
+            Ok(mut seats) => decide(
+                alloc,
+                &mut Kept::new(alloc, Language),
+                book,
+                &mut seats,
+                &command,
+            )
+            .is_ok(),
+            Err(_) => false,
+        },
         None => false,
     }
 }

@@ -2,6 +2,8 @@ use Rattle.std.proofs.Common.{◌≡◌, ◌+◌, ◌++◌, drop, length}
 use Rattle.flow_model.specs.Apply.{after, replies}
 use Rattle.flow_machine.specs.Stuck.{IsStuckWithin}
 use Rattle.flow_machine.specs.Fitting.{IsUnfitWithin}
+use Rattle.flow_check.specs.Language.{meaning_of}
+use Rattle.flow_machine.specs.Seated.{FitSeats, KeepsNoMore}
 use Rattle.flow_commit.specs.Keeping.{rules, commands_of}
 use Rattle.flow_commit.proofs.deciding.decide_batch.Given as goal
 
@@ -10,12 +12,15 @@ invariant-loop-taken g l =
     let book = g.V.View.book in
     let left = commands_of (drop l.taken-index l.batch) in
     let all = commands_of l.batch in
+    let Fit : Type 0 = FitSeats meaning_of (book l.fn.view) l.fn.seats in
     record {
-      told : g.V.View.is_sure l.view → l.replies.items ++ replies rules (book l.view) left ≡ replies rules (book l.fn.view) all;
-      rest : g.V.View.is_sure l.view → after rules (book l.view) left ≡ after rules (book l.fn.view) all;
+      told : g.V.View.is_sure l.view → Fit → l.replies.items ++ replies rules (book l.view) left ≡ replies rules (book l.fn.view) all;
+      rest : g.V.View.is_sure l.view → Fit → after rules (book l.view) left ≡ after rules (book l.fn.view) all;
+      fit : g.V.View.is_sure l.view → Fit → FitSeats meaning_of (book l.view) l.seats;
+      no_more : KeepsNoMore l.fn.seats l.seats;
       counted : length l.replies.items + length (drop l.taken-index l.batch) ≡ length l.batch;
-      stuck : g.V.View.is_sure l.view → IsStuckWithin rules (book l.view) left → IsStuckWithin rules (book l.fn.view) all;
-      unfit : g.V.View.is_sure l.view → IsUnfitWithin g.V.View.unfit rules (book l.view) left → IsUnfitWithin g.V.View.unfit rules (book l.fn.view) all;
+      stuck : g.V.View.is_sure l.view → Fit → IsStuckWithin rules (book l.view) left → IsStuckWithin rules (book l.fn.view) all;
+      unfit : g.V.View.is_sure l.view → Fit → IsUnfitWithin g.V.View.unfit rules (book l.view) left → IsUnfitWithin g.V.View.unfit rules (book l.fn.view) all;
       goes_on : g.V.View.is_true l.view → g.V.View.is_sure l.fn.view → g.V.View.is_sure l.view;
       sure : g.V.View.is_sure l.view → g.V.View.is_sure l.fn.view;
       was_true : g.V.View.is_true l.view → g.V.View.is_true l.fn.view;
