@@ -22,6 +22,9 @@ use Rattle.flow_machine.specs.contracts.task.Task as task_row
 abbrev pub Key : Type 0
 Key = ℕ × ℕ × ℕ
 
+abbrev pub key_code : Coded Key
+key_code = code_by (ℕ × (ℕ × ℕ)) (coded× coded_ℕ (coded× coded_ℕ coded_ℕ)) (λ k. (k.0, (k.1, k.2))) (λ p. (p.0, p.1.0, p.1.1)) (λ _. refl)
+
 abbrev pub key_of : Task → Key
 key_of t = (t.run, t.event, t.attempt)
 
@@ -36,7 +39,7 @@ pub record Boarded : Type 0 where
 
 abbrev pub boarded_code : Coded Boarded
 boarded_code =
-    code_by (List Task × (Option ℕ × (ℕ × (ℕ × List Key)))) (coded× (coded_list task_row.the_row.coded) (coded× (coded_option coded_ℕ) (coded× coded_ℕ (coded× coded_ℕ (coded_list (coded× coded_ℕ (coded× coded_ℕ coded_ℕ)))))))
+    code_by (List Task × (Option ℕ × (ℕ × (ℕ × List Key)))) (coded× (coded_list task_row.the_row.coded) (coded× (coded_option coded_ℕ) (coded× coded_ℕ (coded× coded_ℕ (coded_list key_code)))))
     (λ b. (b.tasks, (b.due, (b.open_runs, (b.kept, b.posted)))))
     (λ p. record { tasks = p.0; due = p.1.0; open_runs = p.1.1.0; kept = p.1.1.1.0; posted = p.1.1.1.1 }) (λ _. refl)
 
