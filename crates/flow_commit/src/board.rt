@@ -6,7 +6,7 @@ use flow_machine::task::Task;
 use std::marker::Model;
 use unseen::Listed;
 
-/// A task that was posted: the numbers of its run and its event, and its attempt. They are numbers, since sets order them.
+/// A task that was posted: the numbers of its run, of its event and of its attempt.
 pub type Posted = (u64, u64, u64);
 
 /// The tasks of a keeper's book that are ready and weren't posted. A keeper alone makes it.
