@@ -1,12 +1,29 @@
 -- What a board names: the tasks that are ready and weren't posted, and what else whoever posts them needs to know.
-use Rattle.std.specs.Prelude.{ℕ, List, Option, refl}
+use Rattle.std.specs.Prelude.{◌≡◌, ℕ, ◌+◌, Bool, true, ◌&&◌, not, ◌++◌, List, [], ◌∷◌, length, map, filter, Option, Some, None, nat_eq, nat_le, nat_lt, if◌then◌else◌, refl}
 use Rattle.std.specs.Coded.{Coded, code_by, coded×, coded_ℕ, coded_list, coded_option}
+use Rattle.std.specs.List.{list_any}
+use Rattle.flow_base.specs.Syntax.{Bytes}
+use Rattle.flow_base.specs.declared.book.Run.{Run}
+use Rattle.flow_base.specs.declared.book.Task.{Task as OpenTask}
+use Rattle.flow_base.specs.declared.event.Cmd.TheVariants.{Schedule}
+use Rattle.flow_base.specs.declared.event.Event.{Event}
+use Rattle.flow_base.specs.declared.event.What.TheVariants.{Came, Asked}
+use Rattle.flow_base.specs.declared.fault.Fault.{Fault}
+use Rattle.flow_base.specs.declared.fault.Fault.TheVariants as fault
+use Rattle.flow_base.specs.declared.value.Value.{Value}
+use Rattle.flow_model.specs.Book.{Book, nth}
+use Rattle.flow_model.specs.Configuration.{is_open}
+use Rattle.flow_model.specs.Open.{state_of}
+use Rattle.flow_rows.specs.Dues.{next_moment}
 use Rattle.flow_machine.specs.declared.task.Task.{Task}
 use Rattle.flow_machine.specs.contracts.task.Task as task_row
 
 -- a task that was posted, by its run, its event and its attempt
 abbrev pub Key : Type 0
 Key = ℕ × ℕ × ℕ
+
+abbrev pub key_code : Coded Key
+key_code = code_by (ℕ × (ℕ × ℕ)) (coded× coded_ℕ (coded× coded_ℕ coded_ℕ)) (λ k. (k.0, (k.1, k.2))) (λ p. (p.0, p.1.0, p.1.1)) (λ _. refl)
 
 abbrev pub key_of : Task → Key
 key_of t = (t.run, t.event, t.attempt)
@@ -22,6 +39,97 @@ pub record Boarded : Type 0 where
 
 abbrev pub boarded_code : Coded Boarded
 boarded_code =
-    code_by (List Task × (Option ℕ × (ℕ × (ℕ × List Key)))) (coded× (coded_list task_row.the_row.coded) (coded× (coded_option coded_ℕ) (coded× coded_ℕ (coded× coded_ℕ (coded_list (coded× coded_ℕ (coded× coded_ℕ coded_ℕ)))))))
+    code_by (List Task × (Option ℕ × (ℕ × (ℕ × List Key)))) (coded× (coded_list task_row.the_row.coded) (coded× (coded_option coded_ℕ) (coded× coded_ℕ (coded× coded_ℕ (coded_list key_code)))))
     (λ b. (b.tasks, (b.due, (b.open_runs, (b.kept, b.posted)))))
     (λ p. record { tasks = p.0; due = p.1.0; open_runs = p.1.1.0; kept = p.1.1.1.0; posted = p.1.1.1.1 }) (λ _. refl)
+
+---- What a book gives out to be done
+
+-- an open activity of the run of a number
+abbrev pub Waiting : Type 0
+Waiting = ℕ × OpenTask
+
+abbrev pub waiting_in : ℕ → List OpenTask → List Waiting
+waiting_in n [] = []
+waiting_in n (t ∷ ts) = (n, t) ∷ waiting_in n ts
+
+-- the open activities of runs, of a list that begins with number n
+abbrev pub waiting_from : ℕ → List Run → List Waiting
+waiting_from n [] = []
+waiting_from n (r ∷ rs) = waiting_in n r.tasks ++ waiting_from (n + 1) rs
+
+-- All open activities of a book at their current attempts, in order of run and event.
+abbrev pub waiting : Book → List Waiting
+waiting b = waiting_from 1 b.runs
+
+abbrev pub is_key : Key → Key → Bool
+is_key q p = nat_eq q.0 p.0 && nat_eq q.1 p.1 && nat_eq q.2 p.2
+
+abbrev pub is_posted : List Key → Key → Bool
+is_posted posted q = list_any (is_key q) posted
+
+-- the attempt may be made by now, and wasn't posted
+abbrev pub is_ready : List Key → ℕ → Waiting → Bool
+is_ready posted at w = nat_le w.1.ready at && not (is_posted posted (w.0, w.1.event, w.1.attempt))
+
+-- an activity's name and its arguments
+abbrev pub Call : Type 0
+Call = Bytes × List Value
+
+-- what an event calls, if it is such an event
+abbrev pub called_by : Event → Option Call
+called_by e = elim e.what [ Came i ↦ None | Asked c ↦ elim c [ Schedule a vs tries every k ↦ Some (a, vs) | _ ↦ None ] ]
+
+abbrev pub called_in : Run → ℕ → Option Call
+called_in r event = elim (nth r.history event) [ None ↦ None | Some e ↦ called_by e ]
+
+-- what the event of a run calls
+abbrev pub call_at : Book → ℕ → ℕ → Option Call
+call_at b run event = elim (nth b.runs run) [ None ↦ None | Some r ↦ called_in r event ]
+
+abbrev pub task_with : Waiting → Option Call → List Task
+task_with w None = []
+task_with w (Some c) = record { run = w.0; event = w.1.event; attempt = w.1.attempt; activity = c.0; args = c.1 } ∷ []
+
+-- the tasks of open activities, each with what its event calls: in a sound book each calls something
+abbrev pub tasks_of : Book → List Waiting → List Task
+tasks_of b [] = []
+tasks_of b (w ∷ ws) = task_with w (call_at b w.0 w.1.event) ++ tasks_of b ws
+
+-- The tasks that are ready by a moment and weren't posted.
+abbrev pub ready_tasks : List Key → ℕ → Book → List Task
+ready_tasks posted at b = tasks_of b (filter (is_ready posted at) (waiting b))
+
+-- the lesser of two moments, of which one needn't be there
+abbrev pub sooner : Option ℕ → ℕ → Option ℕ
+sooner None m = Some m
+sooner (Some n) m = if nat_lt m n then Some m else Some n
+
+-- the least of a moment and of those after `at` at which attempts are ready
+abbrev pub soonest : ℕ → Option ℕ → List Waiting → Option ℕ
+soonest at best [] = best
+soonest at best (w ∷ ws) = soonest at (if nat_lt at w.1.ready then sooner best w.1.ready else best) ws
+
+-- When more is to be done: the least of the open timers' due moments and of the ready moments after this one.
+abbrev pub next_due : ℕ → Book → Option ℕ
+next_due at b = soonest at (next_moment b) (waiting b)
+
+abbrev pub is_open_run : Run → Bool
+is_open_run r = is_open (state_of r.history)
+
+-- how many runs of a book are open
+abbrev pub open_runs : Book → ℕ
+open_runs b = length (filter is_open_run b.runs)
+
+-- The board is that of a book, where these tasks were posted.
+pub record IsBoardOf (b : Book) (posted : List Key) (at : ℕ) (it : Boarded) : Type 0 where
+  pub tasks : it.tasks ≡ ready_tasks posted at b
+  pub due : it.due ≡ next_due at b
+  pub open_runs : it.open_runs ≡ open_runs b
+
+-- why there may be no board: E85 only where the keeper has halted
+abbrev pub IsOfBoard : Bool → Fault → Type 0
+IsOfBoard halted fault.NoMemory = Unit {0}
+IsOfBoard halted fault.StoreRefused = Unit {0}
+IsOfBoard halted fault.Halted = halted ≡ true
+IsOfBoard halted _ = ⊥

@@ -1,13 +1,13 @@
 //! What a keeper's book gives out to be done.
 ghost use Rattle.std.specs.Prelude.{◌≡◌};
 
-use flow_base::number::{EventId, Moment, RunId};
+use flow_base::number::Moment;
 use flow_machine::task::Task;
 use std::marker::Model;
 use unseen::Listed;
 
-/// A task that was posted: its run, its event and its attempt.
-pub type Posted = (RunId, EventId, u64);
+/// A task that was posted: the numbers of its run, of its event and of its attempt.
+pub type Posted = (u64, u64, u64);
 
 /// The tasks of a keeper's book that are ready and weren't posted. A keeper alone makes it.
 #[derive(Drop)]
@@ -34,6 +34,13 @@ impl Model for Board {
 }
 
 impl Board {
+    /// Its tasks in order of run and event.
+    pub fn tasks(&self) -> &[Task]
+        ensures { result.now ≡ self.now.tasks }
+    {
+        self.tasks.as_slice()
+    }
+
     /// Its tasks in order of run and event, the moment at which more is to be done, and how many runs are open.
     pub fn into_parts(self) -> (Vec<Task>, Option<Moment>, u64)
         ensures tasks { result.0.items ≡ self.tasks }
