@@ -27,7 +27,10 @@ fn main(rt: HostRuntime) -> ExitCode {
 }
 
 /// Does what the words ask for; the program's own name is the first. Threads are started by `threads`.
-fn run<T: Threads + Wait + Clock + Copy + Send + Sync + Drop + 'static>(rt: &HostRuntime, threads: &T) -> Result<u8, Stopped> {
+fn run<T: Threads + Wait + Clock + Copy + Send + Sync + Drop + 'static>(
+    rt: &HostRuntime,
+    threads: &T,
+) -> Result<u8, Stopped> {
     let words = match env::args(rt) {
         Ok(words) => words.collect::<Vec<String>>(rt.alloc())?,
         Err(error) => return Err(Stopped::Refused(fault_of_error(error.kind(), Fault::BadUsage))),
@@ -38,7 +41,11 @@ fn run<T: Threads + Wait + Clock + Copy + Send + Sync + Drop + 'static>(rt: &Hos
     }
 }
 
-fn answer<T: Threads + Wait + Clock + Copy + Send + Sync + Drop + 'static>(rt: &HostRuntime, threads: &T, call: &Call<'_>) -> Result<u8, Stopped> {
+fn answer<T: Threads + Wait + Clock + Copy + Send + Sync + Drop + 'static>(
+    rt: &HostRuntime,
+    threads: &T,
+    call: &Call<'_>,
+) -> Result<u8, Stopped> {
     match call {
         Call::Check(file) => check(rt, file),
         Call::Safe { old, new } => safe(rt, old, new),

@@ -22,7 +22,10 @@ pub enum Call<'a> {
     /// Check the text in this file.
     Check(&'a str),
     /// Tell whether the change from the text in the first file to that in the second is safe.
-    Safe { old: &'a str, new: &'a str },
+    Safe {
+        old: &'a str,
+        new: &'a str,
+    },
     /// Do this over this store; `-` is a store in memory, which begins with no run.
     Over(&'a str, Work),
     /// Keep an engine running over this store, by the settings in that file; `-` is a store in memory.

@@ -12,7 +12,11 @@ fn moment_at(milliseconds: u128) -> Moment
     ensures { result ≡ min milliseconds LAST_MOMENT }
 {
     let last = u128::from(LAST_MOMENT);
-    let number = if milliseconds < last { milliseconds as u64 } else { LAST_MOMENT };
+    let number = if milliseconds < last {
+        milliseconds as u64
+    } else {
+        LAST_MOMENT
+    };
     Moment::new(number).unwrap()
 }
 

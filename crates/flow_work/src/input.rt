@@ -34,7 +34,12 @@ fn next_input<I: BufRead>(alloc: Global, reader: &mut I) -> Input {
 }
 
 /// Reads line after line and hands each on, until the input has ended or can't be read, or nobody takes it.
-pub fn read_lines<R: Wait, I: BufRead>(rt: &R, alloc: Global, reader: &mut I, sender: &Sender<Input>) {
+pub fn read_lines<R: Wait, I: BufRead>(
+    rt: &R,
+    alloc: Global,
+    reader: &mut I,
+    sender: &Sender<Input>,
+) {
     for _ in rt.forever() {
         let input = next_input(alloc, reader);
         let is_last = !input.is_line();

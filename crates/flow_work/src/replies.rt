@@ -208,12 +208,7 @@ impl<'a, S: Alter, B: Room, W: Write> Desk<'a, S, B, W> {
     /// Submits the lines that are read, each at the moment that the clock tells then, and prints their replies, until the input has
     /// ended and all is printed, or nothing is answered any more. A line is submitted again after E90; a command that was answered E80
     /// or E01 is told as not applied.
-    pub fn answer_lines<R: Wait, C: Clock>(
-        &mut self,
-        rt: &R,
-        clock: &C,
-        inputs: &Receiver<Input>,
-    ) {
+    pub fn answer_lines<R: Wait, C: Clock>(&mut self, rt: &R, clock: &C, inputs: &Receiver<Input>) {
         'steps: for _ in rt.forever() {
             if !self.step(rt, clock, inputs) {
                 return;

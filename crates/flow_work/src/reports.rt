@@ -37,7 +37,14 @@ impl Makes<(), Telling> for Nothing {
 
 struct OneMore;
 
-impl Makes<(Listed<Telling>, Snapshot<Command>, &Result<Reply, (Command, Unheard)>), Telling> for OneMore {
+impl Makes<
+    (
+        Listed<Telling>,
+        Snapshot<Command>,
+        &Result<Reply, (Command, Unheard)>,
+    ),
+    Telling,
+> for OneMore {
     ghost use Rattle.std.specs.Prelude.{[], ◌∷◌, ◌++◌};
     ghost use Rattle.flow_pool.specs.Reports.{came_of};
 

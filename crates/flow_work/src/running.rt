@@ -29,9 +29,8 @@ use std::alloc::{AllocError, Global};
 use std::io::{BufRead, Write};
 use std::marker::Brand;
 use std::sync::Wait;
-use std::thread;
 use std::thread::{Scope, Threads};
-use std::time;
+use std::{thread, time};
 
 /// How many tasks may wait for a worker.
 const MOST_TASKS: usize = 64;
@@ -40,7 +39,10 @@ const MOST_TASKS: usize = 64;
 const MOST_LINES: usize = 64;
 
 /// The channel of tasks with an end for each worker.
-fn open_channel(alloc: Global, workers: usize) -> Result<(TaskSender, Vec<TaskReceiver>), AllocError> {
+fn open_channel(
+    alloc: Global,
+    workers: usize,
+) -> Result<(TaskSender, Vec<TaskReceiver>), AllocError> {
     let (mut sender, door) = opened(alloc, MOST_TASKS)?;
     let mut receivers = Vec::with_capacity(alloc, workers)?;
     for _ in 0..workers {
@@ -106,12 +108,7 @@ fn run_desk<S: Alter, B: Room, W: Write, R: Wait, C: Clock>(
     desk.status()
 }
 
-fn run_reader<R: Wait, I: BufRead + Drop>(
-    rt: &R,
-    alloc: Global,
-    reader: I,
-    sender: Sender<Input>,
-) {
+fn run_reader<R: Wait, I: BufRead + Drop>(rt: &R, alloc: Global, reader: I, sender: Sender<Input>) {
     let mut reader = reader;
     read_lines(rt, alloc, &mut reader, &sender);
 }
@@ -172,7 +169,9 @@ fn start_workers<
         let activities = skills.of_worker(alloc)?;
         let reports = reporter(rt, hub)?;
         let group = group.clone()?;
-        let started = scope.spawn(move || run_worker(rt, alloc, activities, receiver, reports, clock, group));
+        let started = scope.spawn(move || run_worker(
+            rt, alloc, activities, receiver, reports, clock, group,
+        ));
         if started.is_err() {
             return Err(Fault::NoMemory);
         }
@@ -194,7 +193,14 @@ fn start_dispatcher<'s, E, S: Alter + 's, B: Room + Send + Sync + 's, R: Wait + 
     }
 }
 
-fn start_timer<'s, E, S: Alter + 's, B: Room + Send + Sync + 's, R: Wait + time::Clock + Sync + 's, C: Clock + Sync + 's>(
+fn start_timer<
+    's,
+    E,
+    S: Alter + 's,
+    B: Room + Send + Sync + 's,
+    R: Wait + time::Clock + Sync + 's,
+    C: Clock + Sync + 's,
+>(
     scope: &Scope<'s, E>,
     rt: &'s R,
     hub: &'s Hub<S, B>,
@@ -209,12 +215,10 @@ fn start_timer<'s, E, S: Alter + 's, B: Room + Send + Sync + 's, R: Wait + time:
     }
 }
 
-fn start_reader<R: Wait + Threads + Copy + Send + Drop + 'static, I: BufRead + Drop + Send + 'static>(
-    rt: &R,
-    alloc: Global,
-    reader: I,
-    lines: Sender<Input>,
-) -> Result<(), Fault> {
+fn start_reader<
+    R: Wait + Threads + Copy + Send + Drop + 'static,
+    I: BufRead + Drop + Send + 'static,
+>(rt: &R, alloc: Global, reader: I, lines: Sender<Input>) -> Result<(), Fault> {
     let its = *rt;
     match thread::spawn(rt, move || run_reader(&its, alloc, reader, lines)) {
         Ok(_thread) => Ok(()),
@@ -259,32 +263,38 @@ where
     let desk = Desk::new(alloc, submitter, writer)?;
     let own_lines = lines.clone()?;
     let hub = &hub;
-    thread::scope(thread::scope_env(), rt, move |scope| -> Result<Status, Fault>
-        requires { Together engine.entry publisher.entry }
-    {
-        let mut started = start_workers(scope, rt, alloc, hub, skills, clock, receivers, &group);
-        if started.is_ok() {
-            started = start_dispatcher(scope, rt, tasks, sender, &group);
-        }
-        if started.is_ok() {
-            started = start_timer(scope, rt, hub, clock, &group);
-        }
-        if started.is_ok() {
-            started = start_reader(rt, alloc, reader, lines);
-        }
-        if let Err(fault) = started {
-            hub.close(rt);
-            return Err(fault);
-        }
-        let Ok(answering) = scope.spawn(move || run_desk(rt, desk, clock, inputs, hub)) else {
-            hub.close(rt);
-            return Err(Fault::NoMemory);
-        };
-        let ended = engine.serve(rt, &mut publisher, clock, settings.batch());
-        let _ = own_lines.send(rt, Input::Stopped);
-        let status = answering.join(rt);
-        group.wait(rt);
-        ended?;
-        Ok(status)
-    })
+    thread::scope(
+        thread::scope_env(),
+        rt,
+        move |scope| -> Result<Status, Fault>
+            requires { Together engine.entry publisher.entry }
+        {
+            let mut started = start_workers(
+                scope, rt, alloc, hub, skills, clock, receivers, &group,
+            );
+            if started.is_ok() {
+                started = start_dispatcher(scope, rt, tasks, sender, &group);
+            }
+            if started.is_ok() {
+                started = start_timer(scope, rt, hub, clock, &group);
+            }
+            if started.is_ok() {
+                started = start_reader(rt, alloc, reader, lines);
+            }
+            if let Err(fault) = started {
+                hub.close(rt);
+                return Err(fault);
+            }
+            let Ok(answering) = scope.spawn(move || run_desk(rt, desk, clock, inputs, hub)) else {
+                hub.close(rt);
+                return Err(Fault::NoMemory);
+            };
+            let ended = engine.serve(rt, &mut publisher, clock, settings.batch());
+            let _ = own_lines.send(rt, Input::Stopped);
+            let status = answering.join(rt);
+            group.wait(rt);
+            ended?;
+            Ok(status)
+        },
+    )
 }

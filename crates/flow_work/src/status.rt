@@ -50,7 +50,11 @@ impl Status {
     pub fn or(self, other: Status) -> Status
         ensures { result ≡ max self other }
     {
-        if self.number < other.number { other } else { self }
+        if self.number < other.number {
+            other
+        } else {
+            self
+        }
     }
 
     /// Its number.

@@ -5,8 +5,7 @@ use flow_pool::report::Reports;
 use flow_timers::Clock;
 use sqlite::Alter;
 use std::sync::Wait;
-use std::thread;
-use std::time;
+use std::{thread, time};
 
 /// Submits a tick as soon as something is due by the clock, waits for its answer, and goes on, until nothing is answered any more.
 /// After E01, E80 and E90 it asks again what is due.
