@@ -13,6 +13,7 @@ pub struct Tasks<S: Alter, B: Room> {
 }
 
 impl<S: Alter, B: Room> Tasks<S, B> {
+    /// The tasks that this hub gives out.
     pub fn new(feed: Feed<S, B>) -> Tasks<S, B> {
         Tasks { feed }
     }
@@ -23,6 +24,9 @@ impl<S: Alter, B: Room> Posted for Tasks<S, B> {
     ghost given = { λ p. p.feed.given };
 
     fn next<R: Wait>(&mut self, rt: &R) -> Option<Task> {
-        self.feed.next(rt)
+        match self.feed.next(rt) {
+            Some(task) => Some(task),
+            None => None,
+        }
     }
 }
