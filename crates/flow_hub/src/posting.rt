@@ -40,11 +40,12 @@ fn remove(keys: &mut Keys, task: &Task)
 
 /// Takes the keys of the tasks that are marked away again.
 fn remove_marked(keys: &mut Keys, tasks: &[Task], marks: &Vec<bool>)
+    requires { vec_len marks.now ≤ length tasks.now }
     ensures { (q : Key) → contains key_cmp keys.new q ≡ (contains key_cmp keys.old q && not (has_key (chosen tasks.now marks.now.items) q)) }
 {
-    for (task, mark) in tasks.iter().zip(marks.iter()) {
-        if *mark {
-            remove(keys, task);
+    for k in 0..marks.len() {
+        if marks[k] {
+            remove(keys, &tasks[k]);
         }
     }
 }
@@ -70,12 +71,12 @@ pub(crate) fn add_all(alloc: Global, keys: &mut Keys, tasks: &[Task]) -> Result<
 }
 
 /// Moves the tasks that are marked behind those that wait.
-pub(crate) fn push_marked(waiting: &mut VecDeque<Task>, tasks: Vec<Task>, marks: &Vec<bool>)
+pub(crate) fn push_marked(waiting: &mut VecDeque<Task>, tasks: Vec<Task>, marks: Vec<bool>)
     requires room { deque_len waiting.old + vec_len tasks ≤ deque_capacity waiting.old }
-    ensures items { waiting.new.items ≡ waiting.old.items ++ chosen tasks.items marks.now.items }
+    ensures items { waiting.new.items ≡ waiting.old.items ++ chosen tasks.items marks.items }
 {
-    for (task, mark) in tasks.into_iter().zip(marks.iter()) {
-        if *mark {
+    for (task, mark) in tasks.into_iter().zip(marks) {
+        if mark {
             waiting.push_back_reserved(task);
         }
     }

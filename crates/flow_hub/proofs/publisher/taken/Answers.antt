@@ -13,7 +13,6 @@ loop-init g c = (
   search rules,
   search rules,
   search rules,
-  search rules,
 )
 
 pub loop-preserved : goal.loop-preserved
@@ -21,7 +20,6 @@ loop-preserved g c =
     let empty : c.take-me.new.into.items ≡ [] = no_length c.take-me.new.into.items (search rules) in (
       before_trans c.args.seat.was c.loop.me.was c.take-me.result.was c.loop.invariant.0 c.take-me.ensures.grows,
       none_taken c.args.seat.was c.loop.me.was c.take-me.result.was c.take-me.new.into.items empty c.loop.invariant.1 c.take-me.ensures.seen,
-      search rules,
       search rules,
       empty,
       search rules,

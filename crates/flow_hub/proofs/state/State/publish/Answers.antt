@@ -33,6 +33,7 @@ invariant_of-self g c =
       search rules,
       search rules,
       search rules,
+      search rules,
     )
 
 pub tell-me-requires-clause-grows : goal.tell-me-requires-clause-grows
@@ -48,7 +49,7 @@ returns-clause-legal g c =
     let rs = c.args.receipts.items in
     let same : IsSamePart c.args.me.was i.known = search rules in
     let asked : Answers i.known c.args.stamp rs = same_answers g.S.Store c.args.me.was i.known c.args.stamp rs same c.requires.answers in
-    let was = was_of c.tell-me.result _ c.publish.new.self c.tell-me.ensures.told ∙ c.publish.ensures in
+    let was = was_of c.tell-me.result _ _ c.publish.new.self c.tell-me.ensures.told ∙ c.publish.ensures in
     history_by g.S.Store c.tell-me.result.was _ was (published_history g.S.Store _ c.args.stamp rs c.self.invariant.0 asked c.spend.ensures.lawful)
 
 pub returns-clause-seen : goal.returns-clause-seen
@@ -56,5 +57,5 @@ returns-clause-seen g c =
     let i = c.self.inside in
     let rs = c.args.receipts.items in
     let same : IsSamePart c.args.me.was i.known = search rules in
-    let was = was_of c.tell-me.result _ c.publish.new.self c.tell-me.ensures.told ∙ c.publish.ensures in
+    let was = was_of c.tell-me.result _ _ c.publish.new.self c.tell-me.ensures.told ∙ c.publish.ensures in
     published_by c.args.me.was c.tell-me.result.was _ c.args.stamp rs was (has_published g.S.Store i.known c.args.me.was c.args.stamp rs same c.requires.answers)
