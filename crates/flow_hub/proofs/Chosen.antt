@@ -1,6 +1,6 @@
 -- Which tasks of a board are new, one after the other.
-use Rattle.std.proofs.Common.{◌≡◌, ◌||◌, ◌&&◌, not, ℕ, zero, suc, ◌+◌, Bool, true, false, cond, List, [], ◌∷◌, ◌++◌, length, drop, refl, sym, ap, ◌∙◌, subst, append_assoc, arith, length-append}
-use Rattle.std.proofs.lemmas.List.{append-nil}
+use Rattle.std.proofs.Common.{◌≡◌, ◌||◌, ◌&&◌, not, ℕ, zero, suc, ◌+◌, Bool, true, false, cond, List, [], ◌∷◌, ◌++◌, length, drop, refl, sym, ap, ◌∙◌, subst, append_assoc, arith, length-append, slice_index_or, ◌<◌, ◌⊎◌, inl, inr}
+use Rattle.std.proofs.lemmas.List.{append-nil, at_drop_more}
 use Rattle.std.specs.BTreeSet.{BTreeSet, contains}
 use Rattle.flow_machine.specs.declared.task.Task.{Task}
 use Rattle.flow_commit.specs.Boards.{Key, key_of}
@@ -168,3 +168,36 @@ marked_all old now ts ms posted e m h =
 
 pub chosen_new : (posted ts : List Task) (ms : List Bool) → ms ≡ marks_of posted ts → chosen ts ms ≡ new_ones posted ts
 chosen_new posted ts ms e = ap (chosen ts) e ∙ chosen_marks posted ts
+
+---- Back, and on
+
+pub drop_at : {X : Type 0} (xs : List X) (k : ℕ) (x : X) → k < length xs → x ≡ slice_index_or xs k x → drop k xs ≡ x ∷ drop (k + 1) xs
+drop_at xs k x small is = at_drop_more (λ l. l) xs k x small ∙ ap (λ y. y ∷ drop (k + 1) xs) (sym is)
+
+none_of : (x : Bool) → false ≡ (x && false)
+none_of true = refl
+none_of false = refl
+
+back_of : (m b x : Bool) (t : Task) (rest : List Task) (q : Key) → is_key (key_of t) q ≡ b → (cond (m && b) false x && not (has_key rest q)) ≡ (x && not (has_key (cond m (t ∷ rest) rest) q))
+back_of true true x t rest q e = none_of x ∙ ap (λ c. x && not (c || has_key rest q)) (sym e)
+back_of true false x t rest q e = ap (λ c. x && not (c || has_key rest q)) (sym e)
+back_of false true x t rest q e = refl
+back_of false false x t rest q e = refl
+
+-- the key of one that is marked is taken away
+pub removed_next : (now next : BTreeSet Key) (ts : List Task) (ms : List Bool) (k : ℕ) (t : Task) (m : Bool) (q : Key) (whole : Bool)
+    → drop k ts ≡ t ∷ drop (k + 1) ts → drop k ms ≡ m ∷ drop (k + 1) ms
+    → contains key_cmp next q ≡ cond (m && is_key (key_of t) q) false (contains key_cmp now q)
+    → (contains key_cmp now q && not (has_key (chosen (drop k ts) (drop k ms)) q)) ≡ whole
+    → (contains key_cmp next q && not (has_key (chosen (drop (k + 1) ts) (drop (k + 1) ms)) q)) ≡ whole
+removed_next now next ts ms k t m q whole dt dm is so_far =
+    let rest = chosen (drop (k + 1) ts) (drop (k + 1) ms) in
+    let here : chosen (drop k ts) (drop k ms) ≡ cond m (t ∷ rest) rest = ap (λ l. chosen l (drop k ms)) dt ∙ ap (λ l. chosen (t ∷ drop (k + 1) ts) l) dm in
+    ap (λ b. b && not (has_key rest q)) is
+    ∙ (back_of m (is_key (key_of t) q) (contains key_cmp now q) t rest q refl ∙ (ap (λ l. contains key_cmp now q && not (has_key l q)) (sym here) ∙ so_far))
+
+pub chosen_ended : (ts : List Task) (ms : List Bool) → (length ts ≡ 0) ⊎ (length ms ≡ 0) → chosen ts ms ≡ []
+chosen_ended ts [] e = refl
+chosen_ended [] (m ∷ ms) e = refl
+chosen_ended (t ∷ ts) (m ∷ ms) (inl e) = absurd (omega (arith, e))
+chosen_ended (t ∷ ts) (m ∷ ms) (inr e) = absurd (omega (arith, e))

@@ -18,8 +18,8 @@ use Rattle.flow_hub.specs.declared.known.Outlook.{Outlook}
 use Rattle.flow_hub.specs.declared.refused.Refused.{Refused}
 use Rattle.flow_hub.specs.Asks.{Rises, ticket_in, ticket_of, tickets_in, tickets_of, takens_of, IsAsked, IsOwn, IsGone, IsTold, Stands}
 use Rattle.flow_hub.specs.Knowing.{IsSamePart, IsHistory, IsOver, answered_in, nothing, refused_by, with_ask, with_taken, with_published, with_refused, with_fetched, with_member, with_closed, with_posted, with_skipped, with_given}
-use Rattle.flow_hub.specs.Feeding.{HasGiven, IsIdle}
-use Rattle.flow_hub.specs.Posting.{new_ones}
+use Rattle.flow_hub.specs.Feeding.{HasGiven, IsIdle, given_with}
+use Rattle.flow_hub.specs.Posting.{IsOnce, new_ones}
 use Rattle.flow_hub.specs.Halls.{Hall, IsSound, new_ask, submitted, took, published, refused_all, fetched_receipt, fetched_refusal, enrolled, closed, posted_on, skipped, gave}
 use Rattle.flow_hub.specs.Publishing.{Answers, HasTaken, HasPublished, HasRefused, HasPosted, HasSkipped, IsDone}
 use Rattle.flow_hub.proofs.Once.{still_once}
@@ -489,6 +489,12 @@ module _ {S : Type 0} where
 
   pub idle_by : (k l : Known S) → k ≡ l → IsIdle l → IsIdle k
   idle_by k l e h = subst (λ x. IsIdle x) (sym e) h
+
+  pub none_given : (j k l : Known S) (t : Option Task) → t ≡ None → j.given ≡ k.given → HasGiven k l t → j.given ≡ l.given
+  none_given j k l t none same h = same ∙ sym (subst (λ (o : Option Task). given_with k l o) none h.next)
+
+  pub once_by : (k l : Known S) → k ≡ l → IsOnce l.posted → IsOnce k.posted
+  once_by k l e o = subst (λ (x : Known S). IsOnce x.posted) (sym e) o
 
   -- what was given out since
   pub given_since : (j k l : Known S) (t : Option Task) → j.given ≡ k.given → HasGiven k l t → HasGiven j l t

@@ -38,15 +38,21 @@ fn remove(keys: &mut Keys, task: &Task)
     keys.remove(&key_of(task));
 }
 
+fn remove_if(keys: &mut Keys, task: &Task, marked: bool)
+    ensures { (q : Key) → contains key_cmp keys.new q ≡ cond (marked && is_key (the_key task.now) q) false (contains key_cmp keys.old q) }
+{
+    if marked {
+        remove(keys, task);
+    }
+}
+
 /// Takes the keys of the tasks that are marked away again.
 fn remove_marked(keys: &mut Keys, tasks: &[Task], marks: &Vec<bool>)
     requires { vec_len marks.now ≤ length tasks.now }
     ensures { (q : Key) → contains key_cmp keys.new q ≡ (contains key_cmp keys.old q && not (has_key (chosen tasks.now marks.now.items) q)) }
 {
     for k in 0..marks.len() {
-        if marks[k] {
-            remove(keys, &tasks[k]);
-        }
+        remove_if(keys, &tasks[k], marks[k]);
     }
 }
 

@@ -4,7 +4,7 @@ use Rattle.flow_hub.proofs.Sound.{is_idle, idle_by}
 use Rattle.flow_hub.proofs.state.State.is_idle.Goals as goal
 
 pub returns-clause-idle : goal.returns-clause-idle
-returns-clause-idle g c yes =
+returns-clause-idle g c idle =
     let i = c.self.inside in
     let is : c.see-me.result.was ≡ i.known = search rules in
     let waits : i.waiting.items ≡ [] = no_length i.waiting.items (search rules) in
