@@ -5,7 +5,7 @@ use Rattle.std.specs.BTreeSet.{BTreeSet, contains}
 use Rattle.flow_machine.specs.declared.task.Task.{Task}
 use Rattle.flow_commit.specs.Boards.{Key, key_of}
 use Rattle.flow_hub.specs.Posting.{key_cmp, is_key, has_key, HasKeys, new_ones, marks_of, chosen}
-use Rattle.flow_hub.proofs.Once.{off, has_both, has_last, key_is, key_itself}
+use Rattle.flow_hub.proofs.Once.{off, has_last, key_is}
 
 abbrev pub if_new : Bool → Task → List Task
 if_new m t = cond m (t ∷ []) []

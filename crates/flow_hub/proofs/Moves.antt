@@ -1,17 +1,15 @@
 -- Each step at the table keeps its rule.
-use Rattle.std.proofs.Common.{◌≡◌, ◌≢◌, ◌⊎◌, ℕ, zero, suc, ◌+◌, ◌==◌, List, [], ◌∷◌, ◌++◌, length, set, slice_index, Bool, true, false, true≢false, inl, inr, refl, sym, ap, ◌∙◌, subst, ⊎_elim, arith, append_assoc}
-use Rattle.std.proofs.lemmas.List.{append-nil}
+use Rattle.std.proofs.Common.{◌≡◌, ◌≢◌, ◌⊎◌, ℕ, zero, suc, ◌==◌, List, [], ◌∷◌, ◌++◌, length, set, slice_index, Bool, true, false, true≢false, inl, inr, refl, sym, ap, ◌∙◌, subst, ⊎_elim, arith}
 use Rattle.std.proofs.lemmas.Bool.Decides.{nat_tests}
 use prog.Atomic.{either}
-use mathlib.Core.Option.{Option, none, some, some-ne-none, some-injective}
-use mathlib.Core.List.{IsPrefix}
+use mathlib.Core.Option.{none, some, some-ne-none, some-injective}
 use lib.ListN.{get_elem?}
-use Rattle.atomic_table.specs.Table.{State, Me, Step, step, Allows, Enters, Splits, Joins, keeps, opening}
-use Rattle.atomic_table.proofs.Lists.{at_set, at_snoc, set_again}
+use Rattle.atomic_table.specs.Table.{step, Allows, Enters, Splits, Joins, keeps, opening}
+use Rattle.atomic_table.proofs.Lists.{at_set, at_snoc}
 use Rattle.flow_hub.specs.declared.known.Known.{Known}
 use Rattle.flow_hub.specs.declared.seats.Sight.{Sight}
 use Rattle.flow_hub.specs.Knowing.{nothing, IsBefore, IsSamePart}
-use Rattle.flow_hub.specs.Seating.{opener, nobody, Fits, Kept, said_of, Knows, adding, Adds, Looks, lent, keeps_left, handed_back, gives_none, gives_alone, keeping, seeing}
+use Rattle.flow_hub.specs.Seating.{opener, nobody, Fits, Kept, adding, Adds, Looks, lent, keeps_left, handed_back, gives_none, gives_alone, keeping, seeing}
 use Rattle.flow_hub.proofs.Growing.{before_self, before_trans, before_all, same_part, part_of}
 
 off : false ≡ true → ⊥
@@ -136,11 +134,11 @@ module _ {S : Type 0} where
       let first : (j : ℕ) (x : Sight S) → j ≢ other → get_elem? (set s.views by w) j ≡ some x → Fits a d e' now j x =
       λ j x away e. fits_set' a d e' now s.views by w other j x away
       (λ i y away' e''. let f = h.5 i y e'' in (
-            f.0,
-            (λ p. (pick_else u.pubs by b i (f.1 p).0 (λ q. away' ((f.1 p).0 ∙ sym (theirs.1 q).0)), (f.1 p).1)),
-            (λ g. (pick_else u.gives by c i (f.2 g).0 (λ q. away' ((f.2 g).0 ∙ sym (theirs.2 q).0)), (f.2 g).1)),
-            f.3,
-          ))
+        f.0,
+        (λ p. (pick_else u.pubs by b i (f.1 p).0 (λ q. away' ((f.1 p).0 ∙ sym (theirs.1 q).0)), (f.1 p).1)),
+        (λ g. (pick_else u.gives by c i (f.2 g).0 (λ q. away' ((f.2 g).0 ∙ sym (theirs.2 q).0)), (f.2 g).1)),
+        f.3,
+      ))
       (mine.0, (λ p. (pick_then u.pubs by b p, (theirs.1 p).1)), (λ g. (pick_then u.gives by c g, (theirs.2 g).1)), theirs.3) e in
       (a, d, e', now, h.4, fits_set a d e' now (set s.views by w) other nobody first (nobody_fits a d e' now other))
     where
@@ -177,11 +175,11 @@ module _ {S : Type 0} where
       let others : (j : ℕ) (u : Sight S) → get_elem? views' j ≡ some u → Fits a d e' now j u =
       fits_set a d e' now s.views by w
       (λ j u apart e. let f = h.5 j u e in (
-            f.0,
-            (λ p. (pick_else v.pubs (length views') b j (f.1 p).0 (λ q. apart ((f.1 p).0 ∙ sym (mine.1 q).0)), (f.1 p).1)),
-            (λ g. (pick_else v.gives (length views') c j (f.2 g).0 (λ q. apart ((f.2 g).0 ∙ sym (mine.2 q).0)), (f.2 g).1)),
-            f.3,
-          ))
+        f.0,
+        (λ p. (pick_else v.pubs (length views') b j (f.1 p).0 (λ q. apart ((f.1 p).0 ∙ sym (mine.1 q).0)), (f.1 p).1)),
+        (λ g. (pick_else v.gives (length views') c j (f.2 g).0 (λ q. apart ((f.2 g).0 ∙ sym (mine.2 q).0)), (f.2 g).1)),
+        f.3,
+      ))
       (mine.0, (λ p. absurd (off p)), (λ g. absurd (off g)), before_all now) in (
         a,
         d,
@@ -214,11 +212,11 @@ module _ {S : Type 0} where
       let others : (j : ℕ) (u : Sight S) → get_elem? views' j ≡ some u → Fits a b d now j u =
       fits_set a b d now s.views by w
       (λ j u apart e. let f = h.5 j u e in (
-            f.0,
-            f.1,
-            (λ g. (pick_else v.gives (length views') c j (f.2 g).0 (λ q. apart ((f.2 g).0 ∙ sym (mine.2 q).0)), (f.2 g).1)),
-            f.3,
-          ))
+        f.0,
+        f.1,
+        (λ g. (pick_else v.gives (length views') c j (f.2 g).0 (λ q. apart ((f.2 g).0 ∙ sym (mine.2 q).0)), (f.2 g).1)),
+        f.3,
+      ))
       (mine.0, mine.1, (λ g. absurd (off g)), mine.3) in (
         a,
         b,

@@ -1,5 +1,5 @@
 -- A keeper and a publisher that stand together go on so, whatever becomes of a batch.
-use Rattle.std.proofs.Common.{◌≡◌, ◌+◌, List, [], ◌∷◌, ◌++◌, length, map, refl, sym, ap, ◌∙◌, subst, arith}
+use Rattle.std.proofs.Common.{◌≡◌, List, [], ◌∷◌, ◌++◌, length, map, refl, sym, ap, ◌∙◌, subst}
 use Rattle.std.specs.BTreeSet.{BTreeSet}
 use Rattle.flow_base.specs.declared.code.Code.{Code}
 use Rattle.flow_machine.specs.declared.submission.Receipt.{Receipt}
@@ -11,7 +11,7 @@ use Rattle.flow_commit.specs.Boards.{Boarded, Key}
 use Rattle.flow_hub.specs.declared.known.Known.{Known}
 use Rattle.flow_hub.specs.Knowing.{IsOver, IsSamePart}
 use Rattle.flow_hub.specs.Posting.{HasKeys}
-use Rattle.flow_hub.specs.Publishing.{Together, InHand, HasTaken, Answers, HasPublished, HasRefused, HasPosted, HasSkipped, IsFresh, IsSameHistory}
+use Rattle.flow_hub.specs.Publishing.{Together, InHand, HasTaken, Answers, HasPublished, HasRefused, IsFresh, IsSameHistory}
 
 module _ {S : Type 0} where
   -- a later keeper over the same tables is over what the earlier one was over

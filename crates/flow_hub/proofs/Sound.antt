@@ -1,5 +1,5 @@
 -- Each call keeps the hall sound.
-use Rattle.std.proofs.Common.{◌≡◌, ℕ, zero, suc, ◌+◌, ◌≤◌, true, List, [], ◌∷◌, ◌++◌, length, map, refl, ap, sym, ◌∙◌, subst, arith, length-append, append_assoc, Option, Some, None, slice_get, take, drop}
+use Rattle.std.proofs.Common.{◌≡◌, ℕ, suc, ◌+◌, true, List, [], ◌∷◌, ◌++◌, length, map, refl, ap, sym, ◌∙◌, subst, arith, length-append, append_assoc, Option, Some, None, slice_get, take, drop}
 use Rattle.std.specs.Prelude.{All}
 use Rattle.std.proofs.lemmas.List.{append-nil}
 use Rattle.std.proofs.lemmas.List.Elements.{All-append, All-weaker, All-push, All-head, All-tail, All-nil, All-cons, All-take, All-drop}
@@ -10,14 +10,14 @@ use Rattle.flow_machine.specs.declared.submission.Receipt.{Receipt}
 use Rattle.flow_machine.specs.declared.submission.Taken.{Taken}
 use Rattle.flow_machine.specs.declared.task.Task.{Task}
 use Rattle.flow_commit.specs.Boards.{Boarded}
-use Rattle.flow_commit.specs.Keeping.{Keeping, IsLawful, count_from, place_of}
+use Rattle.flow_commit.specs.Keeping.{IsLawful, count_from, place_of}
 use Rattle.flow_commit.specs.Committing.{taken_of}
 use Rattle.flow_commit.specs.Stamps.{Stamped}
 use Rattle.flow_hub.specs.declared.known.Known.{Known}
 use Rattle.flow_hub.specs.declared.known.Outlook.{Outlook}
 use Rattle.flow_hub.specs.declared.refused.Refused.{Refused}
 use Rattle.flow_hub.specs.Asks.{Rises, ticket_in, ticket_of, tickets_in, tickets_of, takens_of, IsAsked, IsOwn, IsGone, IsTold, Stands}
-use Rattle.flow_hub.specs.Knowing.{IsSamePart, IsHistory, IsOver, answered_in, nothing, refused_by, with_ask, with_taken, with_published, with_refused, with_fetched, with_member, with_closed, with_posted, with_skipped, with_given}
+use Rattle.flow_hub.specs.Knowing.{IsSamePart, IsHistory, IsOver, answered_in, nothing, refused_by, with_taken, with_published, with_refused, with_posted, with_skipped, with_given}
 use Rattle.flow_hub.specs.Feeding.{HasGiven, IsIdle, given_with}
 use Rattle.flow_hub.specs.Posting.{IsOnce, new_ones}
 use Rattle.flow_hub.specs.Halls.{Hall, IsSound, new_ask, submitted, took, published, refused_all, fetched_receipt, fetched_refusal, enrolled, closed, posted_on, skipped, gave}

@@ -94,7 +94,11 @@ impl<S: Alter, B: Room> State<S, B> {
     }
 
     /// When more is to be done, as the last board says, if nothing was answered since.
-    pub(crate) fn due(&mut self, seats: &Seats<S, B>, me: Pass<S, B>) -> (Pass<S, B>, Option<Moment>)
+    pub(crate) fn due(
+        &mut self,
+        seats: &Seats<S, B>,
+        me: Pass<S, B>,
+    ) -> (Pass<S, B>, Option<Moment>)
         requires seat { IsSubmitters me }
         ensures same { self.new ≡ self.old }
         ensures due { result.1 ≡ due_in result.0.was }

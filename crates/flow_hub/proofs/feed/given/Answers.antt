@@ -1,4 +1,4 @@
-use Rattle.std.proofs.Common.{rules, refl, ◌≡◌, None}
+use Rattle.std.proofs.Common.{rules, refl}
 use Rattle.flow_hub.proofs.Growing.{before_self, before_trans}
 use Rattle.flow_hub.proofs.Sound.{none_given}
 use Rattle.flow_hub.proofs.feed.given.Goals as goal

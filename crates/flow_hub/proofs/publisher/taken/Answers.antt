@@ -1,7 +1,7 @@
 use Rattle.std.proofs.Common.{rules, ◌≡◌, []}
 use Rattle.flow_hub.proofs.Growing.{before_self, before_trans, same_part}
 use Rattle.flow_hub.proofs.Lists.{no_length}
-use Rattle.flow_hub.proofs.Sound.{none_taken, taken_since}
+use Rattle.flow_hub.proofs.Sound.{none_taken}
 use Rattle.flow_hub.proofs.publisher.taken.Goals as goal
 
 pub loop-init : goal.loop-init

@@ -1,4 +1,4 @@
-use Rattle.std.proofs.Common.{◌≡◌, [], true, false}
+use Rattle.std.proofs.Common.{◌≡◌, []}
 use Rattle.std.specs.Vec.{vec_capacity}
 use Rattle.flow_hub.specs.Knowing.{IsBefore, IsSamePart}
 use Rattle.flow_hub.specs.Seating.{IsPublishers}

@@ -1,4 +1,3 @@
-use Rattle.std.proofs.Common.{◌≡◌, false}
 use Rattle.flow_hub.specs.Knowing.{IsBefore}
 use Rattle.flow_hub.specs.Seating.{IsSubmitters}
 use Rattle.flow_hub.proofs.submitter.ticked.Given as goal

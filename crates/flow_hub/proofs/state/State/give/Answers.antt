@@ -1,8 +1,6 @@
-use Rattle.std.proofs.Common.{rules, ◌≡◌, ◌∷◌, ap, ◌∙◌, None, Some}
+use Rattle.std.proofs.Common.{rules, ◌≡◌, ap, ◌∙◌, None}
 use Rattle.flow_hub.specs.declared.known.Known.{Known}
-use Rattle.flow_hub.proofs.Growing.{gives_on, gives_part, grows_by}
-use Rattle.flow_hub.proofs.Moves.{was_of}
-use Rattle.flow_hub.proofs.Sound.{gives, has_given, has_given_none, given_by}
+use Rattle.flow_hub.proofs.Sound.{gives, has_given_none, given_by}
 use Rattle.flow_hub.proofs.state.State.give.Goals as goal
 
 pub returns-then-self-clause-seen : goal.returns-then-self-clause-seen

@@ -22,8 +22,7 @@ invariant_of-self-2 g c =
     let known : c.post.new.self ≡ with_posted i.known (new_ones posted ts) (record { due = c.args.board.due; open_runs = c.args.board.open_runs }) =
     c.post.ensures ∙ (λ j. with_posted i.known (chose j) (record { due = into.ensures.due j; open_runs = into.ensures.open_runs j })) in
     let was : c.tell-me.result.was ≡ _ = was_of c.tell-me.result _ _ c.post.new.self c.tell-me.ensures.told ∙ known in
-    let queue : c.push_marked.new.waiting.items ≡ i.tasks.items ++ new_ones posted ts = c.push_marked.ensures.items ∙ (ap (λ us. us ++ chosen into.result.0.items c.in-Ok.marks.items) c.reserve.ensures.items ∙ ap (λ us. i.tasks.items ++ us) chose) in
-    (
+    let queue : c.push_marked.new.waiting.items ≡ i.tasks.items ++ new_ones posted ts = c.push_marked.ensures.items ∙ (ap (λ us. us ++ chosen into.result.0.items c.in-Ok.marks.items) c.reserve.ensures.items ∙ ap (λ us. i.tasks.items ++ us) chose) in (
       rw (known, queue) (posts g.S.Store _ ts _ c.self.invariant.0),
       search rules,
       search rules,
@@ -104,4 +103,3 @@ returns-clause-once g c =
     let was : c.tell-me.result.was ≡ _ = was_of c.tell-me.result _ _ c.post.new.self c.tell-me.ensures.told ∙ known in
     let queue : c.push_marked.new.waiting.items ≡ i.tasks.items ++ new_ones posted ts = c.push_marked.ensures.items ∙ (ap (λ us. us ++ chosen into.result.0.items c.in-Ok.marks.items) c.reserve.ensures.items ∙ ap (λ us. i.tasks.items ++ us) chose) in
     once_by c.tell-me.result.was _ was (still_once posted ts c.self.invariant.0.once)
-

@@ -1,8 +1,8 @@
-use Rattle.std.proofs.Common.{rules, ◌≡◌, ◌+◌, ◌++◌, length, refl, ap, sym, ◌∙◌, arith, length-append, subst, vec_len}
+use Rattle.std.proofs.Common.{rules, ◌≡◌, ◌+◌, ◌++◌, length, ap, sym, ◌∙◌, arith, length-append, vec_len}
 use Rattle.flow_commit.specs.Committing.{taken_of}
-use Rattle.flow_hub.specs.Knowing.{IsSamePart, with_published}
+use Rattle.flow_hub.specs.Knowing.{IsSamePart}
 use Rattle.flow_hub.specs.Publishing.{Answers}
-use Rattle.flow_hub.proofs.Growing.{before_self, part_by, publishes_on, grows_by}
+use Rattle.flow_hub.proofs.Growing.{publishes_on, grows_by}
 use Rattle.flow_hub.proofs.Lists.{length-mapped}
 use Rattle.flow_hub.proofs.Moves.{all_of, was_of}
 use Rattle.flow_hub.proofs.Sound.{publishes, published_history, has_published, published_by, history_by, same_answers}

@@ -1,4 +1,4 @@
-use Rattle.std.proofs.Common.{rules, ◌≡◌, ◌+◌, ◌++◌, length, ap, ◌∙◌, arith, length-append}
+use Rattle.std.proofs.Common.{rules, ◌≡◌, ◌+◌, ◌++◌, length, ◌∙◌, arith, length-append}
 use Rattle.flow_hub.proofs.Growing.{takes_on, grows_by}
 use Rattle.flow_hub.specs.Knowing.{IsSamePart}
 use Rattle.flow_hub.proofs.Moves.{was_of}
