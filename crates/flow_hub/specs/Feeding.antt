@@ -21,18 +21,26 @@ pub record HasGiven {S : Type 0} (old new : Known S) (task : Option Task) : Type
   pub first : IsPrefix new.given new.posted
   pub once : IsOnce new.posted
 
--- The command fires what is due: a moment that the last board names has come.
-pub record IsTick {S : Type 0} (k : Known S) (command : Command) : Type 0 where
+-- The command fires what is due: the moment has come.
+pub record IsDueBy (due : Option ℕ) (command : Command) : Type 0 where
+  pub moment : ℕ
   pub now : ℕ
-  pub due : ℕ
-  pub open_runs : ℕ
   pub is : command ≡ Tick now
-  pub named : k.outlook ≡ Some (record { due = Some due; open_runs = open_runs })
-  pub come : due ≤ now
+  pub named : due ≡ Some moment
+  pub come : moment ≤ now
+
+-- when more is to be done, as the last board says, if nothing was answered since
+abbrev pub due_of : Option Outlook → Option ℕ
+due_of None = None
+due_of (Some o) = o.due
+
+abbrev pub due_in : {S : Type 0} → Known S → Option ℕ
+due_in k = due_of k.outlook
 
 -- All that was submitted is answered, and the board that was made since says that no run is open.
 pub record IsIdle {S : Type 0} (k : Known S) : Type 0 where
-  pub due : Option ℕ
-  pub closed_all : k.outlook ≡ Some (record { due = due; open_runs = 0 })
+  pub outlook : Outlook
+  pub named : k.outlook ≡ Some outlook
+  pub none_open : outlook.open_runs ≡ 0
   pub answered : length k.asked ≡ answered_in k
   pub none : k.held ≡ []

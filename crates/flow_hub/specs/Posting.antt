@@ -39,6 +39,6 @@ marks_of posted (t ∷ ts) = cond (has_key posted (key_of t)) (false ∷ marks_o
 
 -- those that are marked
 abbrev pub chosen : List Task → List Bool → List Task
-chosen [] ms = []
-chosen (t ∷ ts) [] = []
+chosen ts [] = []
+chosen [] (m ∷ ms) = []
 chosen (t ∷ ts) (m ∷ ms) = cond m (t ∷ chosen ts ms) (chosen ts ms)

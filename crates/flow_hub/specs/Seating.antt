@@ -1,5 +1,5 @@
 -- What the seats at the table of the published word know, and its rule.
-use Rattle.std.specs.Prelude.{ℕ, ◌≡◌, Bool, true, false, List, [], ◌∷◌, length, refl}
+use Rattle.std.specs.Prelude.{ℕ, ◌≡◌, Bool, true, false, [], ◌∷◌, length, refl}
 use Rattle.std.specs.Coded.{Coded, code_by, coded×, coded_ℕ, coded_bool}
 use mathlib.Core.Option.{Option, none, some}
 use lib.ListN.{get_elem?}

@@ -38,20 +38,31 @@ fn remove(keys: &mut Keys, task: &Task)
     keys.remove(&key_of(task));
 }
 
+fn remove_if(keys: &mut Keys, task: &Task, marked: bool)
+    ensures { (q : Key) → contains key_cmp keys.new q ≡ cond (marked && is_key (the_key task.now) q) false (contains key_cmp keys.old q) }
+{
+    if marked {
+        remove(keys, task);
+    }
+}
+
 /// Takes the keys of the tasks that are marked away again.
 fn remove_marked(keys: &mut Keys, tasks: &[Task], marks: &Vec<bool>)
+    requires { vec_len marks.now ≤ length tasks.now }
     ensures { (q : Key) → contains key_cmp keys.new q ≡ (contains key_cmp keys.old q && not (has_key (chosen tasks.now marks.now.items) q)) }
 {
-    for (task, mark) in tasks.iter().zip(marks.iter()) {
-        if *mark {
-            remove(keys, task);
-        }
+    for k in 0..marks.len() {
+        remove_if(keys, &tasks[k], marks[k]);
     }
 }
 
 /// Joins the keys of these tasks to those of what was posted, and marks the tasks whose key is new. Where memory is refused all is
 /// as before.
-pub(crate) fn add_all(alloc: Global, keys: &mut Keys, tasks: &[Task]) -> Result<Vec<bool>, AllocError>
+pub(crate) fn add_all(
+    alloc: Global,
+    keys: &mut Keys,
+    tasks: &[Task],
+) -> Result<Vec<bool>, AllocError>
     ensures marked { IfOk result (λ marks. (posted : List ATask) → HasKeys keys.old posted → (marks.items ≡ marks_of posted tasks.now) × HasKeys keys.new (posted ++ new_ones posted tasks.now)) }
     ensures length { IfOk result (λ marks. vec_len marks ≡ length tasks.now) }
     ensures refused { OnErr result ((q : Key) → contains key_cmp keys.new q ≡ contains key_cmp keys.old q) }
@@ -70,12 +81,12 @@ pub(crate) fn add_all(alloc: Global, keys: &mut Keys, tasks: &[Task]) -> Result<
 }
 
 /// Moves the tasks that are marked behind those that wait.
-pub(crate) fn push_marked(waiting: &mut VecDeque<Task>, tasks: Vec<Task>, marks: &Vec<bool>)
+pub(crate) fn push_marked(waiting: &mut VecDeque<Task>, tasks: Vec<Task>, marks: Vec<bool>)
     requires room { deque_len waiting.old + vec_len tasks ≤ deque_capacity waiting.old }
-    ensures items { waiting.new.items ≡ waiting.old.items ++ chosen tasks.items marks.now.items }
+    ensures items { waiting.new.items ≡ waiting.old.items ++ chosen tasks.items marks.items }
 {
-    for (task, mark) in tasks.into_iter().zip(marks.iter()) {
-        if *mark {
+    for (task, mark) in tasks.into_iter().zip(marks) {
+        if mark {
             waiting.push_back_reserved(task);
         }
     }

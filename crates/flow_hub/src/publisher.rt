@@ -160,11 +160,10 @@ impl<S: Alter, B: Room> Publisher<S, B> {
     {
         let shared = &*self.shared;
         let me = mem::replace(&mut self.seat, shared.seats.enter());
-        let (me, answer) =
-            shared
-                .state
-                .lock(rt)
-                .post(self.alloc, &shared.seats, me, &mut self.keys, board);
+        let (me, answer) = shared
+            .state
+            .lock(rt)
+            .post(self.alloc, &shared.seats, me, &mut self.keys, board);
         self.seat = me;
         if let Err(board) = answer {
             return Err((board, AllocError));

@@ -132,6 +132,7 @@ impl<S: Alter, B: Room> State<S, B> {
         ensures seat { result ≡ seeing me.pubs me.gives self.new.known }
         ensures before { IsBefore me.was result.was }
         ensures part { me.pubs ≡ true → IsSamePart me.was result.was }
+        ensures given { me.gives ≡ true → me.was.given ≡ result.was.given }
     {
         seats.tell(&mut self.keeper, me, self.places, self.places, &self.known)
     }

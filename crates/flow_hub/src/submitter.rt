@@ -1,7 +1,7 @@
 //! The calls of a thread that submits.
 ghost use Rattle.std.specs.Prelude.{◌≡◌, ◌≢◌, ◌+◌, ◌^◌, ◌≤◌, true, false, length, IfOk, IfErr, IfSome, IfNone, OnOk};
 ghost use Rattle.flow_hub.specs.Asks.{IsOwn, IsGone, IsTold, Stands};
-ghost use Rattle.flow_hub.specs.Feeding.{IsIdle, IsTick};
+ghost use Rattle.flow_hub.specs.Feeding.{IsDueBy, IsIdle, due_in};
 ghost use Rattle.flow_hub.specs.Knowing.{IsBefore, IsHistory};
 ghost use Rattle.flow_hub.specs.Seating.{IsSubmitters};
 ghost use Rattle.flow_hub.specs.Submitting.{IsTicket, IsDenied, IsReceipt, IsNotDone, IsSettled};
@@ -13,6 +13,7 @@ use crate::seats::{Pass, Room};
 use crate::settled::Settled;
 use crate::ticket::{NotDone, Ticket, Why};
 use flow_base::command::Command;
+use flow_base::number::{LAST_MOMENT, Moment};
 use flow_machine::submission::Receipt;
 use flow_timers::{Clock, tick_due};
 use sqlite::Alter;
@@ -75,6 +76,21 @@ fn awaited<S: Alter, B: Room, R: Wait>(
     unreachable!()
 }
 
+/// The command that fires what is due by the clock, or how long it is until then. Where nothing will be, it is so long that no clock
+/// comes to the end of it.
+fn tick_or_pause<C: Clock>(due: Option<Moment>, clock: &C) -> Result<Command, Duration>
+    ensures tick { IfOk result (λ c. IsDueBy due c) }
+{
+    let now = clock.now();
+    match due {
+        Some(moment) => match tick_due(Some(moment), now) {
+            Some(tick) => Ok(tick),
+            None => Err(Duration::from_millis(moment.get().saturating_sub(now.get()))),
+        },
+        None => Err(Duration::from_millis(LAST_MOMENT)),
+    }
+}
+
 /// Sleeps until something is due by the clock, or the hub is closed.
 fn ticked<S: Alter, B: Room, R: Wait + Timing, C: Clock>(
     rt: &R,
@@ -83,7 +99,7 @@ fn ticked<S: Alter, B: Room, R: Wait + Timing, C: Clock>(
     clock: &C,
 ) -> (Pass<S, B>, Option<Command>)
     requires seat { IsSubmitters seat }
-    ensures tick { IfSome result.1 (λ c. IsTick result.0.was c) }
+    ensures tick { IfSome result.1 (λ c. IsDueBy (due_in result.0.was) c) }
     ensures none { IfNone result.1 (result.0.was.closed ≡ true) }
     ensures seat { IsSubmitters result.0 }
     ensures grows { IsBefore seat.was result.0.was }
@@ -96,17 +112,10 @@ fn ticked<S: Alter, B: Room, R: Wait + Timing, C: Clock>(
         if state.is_closed() {
             return (me, None);
         }
-        let now = clock.now();
-        if let Some(tick) = tick_due(due, now) {
-            return (me, Some(tick));
+        match tick_or_pause(due, clock) {
+            Ok(tick) => return (me, Some(tick)),
+            Err(pause) => state = shared.turned.wait_timeout(rt, state, pause).0,
         }
-        state = match due {
-            Some(due) => {
-                let left = Duration::from_millis(due.get().saturating_sub(now.get()));
-                shared.turned.wait_timeout(rt, state, left).0
-            }
-            None => shared.turned.wait(rt, state),
-        };
     }
     unreachable!()
 }
@@ -236,7 +245,7 @@ impl<S: Alter, B: Room> Submitter<S, B> {
     /// A board that names an earlier one wakes it. What was due is due no more once something was answered, so whoever waits for the
     /// answer of the command and then asks again is told of it once. None where the hub is closed.
     pub fn next_tick<R: Wait + Timing, C: Clock>(&mut self, rt: &R, clock: &C) -> Option<Command>
-        ensures tick { IfSome result (λ c. IsTick self.new.was c) }
+        ensures tick { IfSome result (λ c. IsDueBy (due_in self.new.was) c) }
         ensures none { IfNone result (self.new.was.closed ≡ true) }
         ensures grows { IsBefore self.old.was self.new.was }
         ensures same { (self.new.id ≡ self.old.id) × (self.new.parts ≡ self.old.parts) × (self.new.amount ≡ self.old.amount) }

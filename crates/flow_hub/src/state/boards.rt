@@ -1,11 +1,11 @@
 //! What the locked state does with boards and with the tasks that are posted.
-ghost use Rattle.std.specs.Prelude.{◌≡◌, ◌×◌, false, true, ◌∷◌, ◌++◌, length, IfSome, IfErr, IfNone, IsErr, OnOk, OnErr, MatchOption, Some, IsTrue};
+ghost use Rattle.std.specs.Prelude.{◌≡◌, false, true, ◌∷◌, ◌++◌, length, IfSome, IfErr, IfNone, IsErr, OnOk, OnErr, MatchOption, Some, IsTrue};
 ghost use mathlib.Core.List.{IsPrefix};
 ghost use Rattle.flow_hub.specs.Halls.{posted_on, skipped, gave};
 ghost use Rattle.flow_hub.specs.Knowing.{IsBefore, IsSamePart, answered_in, nothing};
 ghost use Rattle.flow_hub.specs.Posting.{HasKeys, IsOnce};
 ghost use Rattle.flow_hub.specs.Publishing.{HasPosted, HasSkipped};
-ghost use Rattle.flow_hub.specs.Feeding.{HasGiven, IsIdle};
+ghost use Rattle.flow_hub.specs.Feeding.{HasGiven, IsIdle, due_in};
 ghost use Rattle.flow_hub.specs.Seating.{seeing, IsGivers, IsPublishers, IsSubmitters};
 
 use super::State;
@@ -50,7 +50,7 @@ impl<S: Alter, B: Room> State<S, B> {
         let (tasks, due, open_runs) = board.into_parts();
         self.known.post(&tasks, &marks, Outlook { due, open_runs });
         let me = seats.tell(&mut self.keeper, me, self.places, self.places, &self.known);
-        push_marked(&mut self.tasks, tasks, &marks);
+        push_marked(&mut self.tasks, tasks, marks);
         (me, Ok(()))
     }
 
@@ -94,18 +94,22 @@ impl<S: Alter, B: Room> State<S, B> {
     }
 
     /// When more is to be done, as the last board says, if nothing was answered since.
-    pub(crate) fn due(&mut self, seats: &Seats<S, B>, me: Pass<S, B>) -> (Pass<S, B>, Option<Moment>)
+    pub(crate) fn due(
+        &mut self,
+        seats: &Seats<S, B>,
+        me: Pass<S, B>,
+    ) -> (Pass<S, B>, Option<Moment>)
         requires seat { IsSubmitters me }
         ensures same { self.new ≡ self.old }
-        ensures due { IfSome result.1 (λ m. (open_runs : ℕ) × (result.0.was.outlook ≡ Some (record { due = Some m; open_runs = open_runs }))) }
-        ensures seat { IsSubmitters result.0 }
+        ensures due { result.1 ≡ due_in result.0.was }
+        ensures seat { result.0 ≡ seeing false false self.new.known }
         ensures grows { IsBefore me.was result.0.was }
     {
         let me = self.see(seats, me);
-        match self.known.outlook {
-            Some(outlook) => (me, outlook.due),
-            None => (me, None),
-        }
+        let Some(outlook) = self.known.outlook else {
+            return (me, None);
+        };
+        (me, outlook.due)
     }
 
     /// Whether all that was submitted is answered, and the board that was made then says that no run is open.
@@ -113,14 +117,22 @@ impl<S: Alter, B: Room> State<S, B> {
         requires seat { IsSubmitters me }
         ensures same { self.new ≡ self.old }
         ensures idle { result.1 ≡ true → IsIdle result.0.was }
-        ensures seat { IsSubmitters result.0 }
+        ensures seat { result.0 ≡ seeing false false self.new.known }
         ensures grows { IsBefore me.was result.0.was }
     {
         let me = self.see(seats, me);
-        let answered = self.waiting.is_empty() && self.held == 0;
-        match self.known.outlook {
-            Some(outlook) => (me, answered && outlook.open_runs == 0),
-            None => (me, false),
+        let Some(outlook) = self.known.outlook else {
+            return (me, false);
+        };
+        if outlook.open_runs != 0 {
+            return (me, false);
         }
+        if !self.waiting.is_empty() {
+            return (me, false);
+        }
+        if self.held != 0 {
+            return (me, false);
+        }
+        (me, true)
     }
 }
