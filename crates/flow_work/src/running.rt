@@ -267,7 +267,7 @@ where
         thread::scope_env(),
         rt,
         move |scope| -> Result<Status, Fault>
-            requires { Together engine.entry publisher.entry }
+            requires { Together engine.now publisher }
         {
             let mut started = start_workers(
                 scope, rt, alloc, hub, skills, clock, receivers, &group,
