@@ -73,6 +73,7 @@ help_is_refused = refl
 no_subcommand : fault_of flow (codes "flow" ∷ []) ≡ kind.MissingSubcommand ∷ []
 unfolding clap_on_literals
 no_subcommand = refl
+
 work_is_taken : fault_of flow (codes "flow" ∷ codes "work" ∷ codes "a" ∷ codes "--settings" ∷ codes "s" ∷ []) ≡ []
 unfolding clap_on_literals
 work_is_taken = refl

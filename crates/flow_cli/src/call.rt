@@ -3,7 +3,7 @@ ghost use Rattle.std.specs.Prelude.{◌≡◌, ◌⊎◌, IfOk, IfErr, false, ma
 ghost use Rattle.clap.specs.Words.{app_of, rule_of, found_of, rows_of, first_of, subcommand_rows_of};
 ghost use Rattle.clap.specs.declared.builder.command.Command.TheViews.{out-Command as fields_of};
 ghost use Rattle.clap.specs.declared.error.kind.ErrorKind.TheVariants.{OutOfMemory};
-ghost use Rattle.flow_cli.specs.Calls.{flow, over_texts, check, safe, drive, history, work, settings, needed, batch, run_in, batch_in, safe_in, drive_in, history_in, work_in, named_call, IsCall};
+ghost use Rattle.flow_cli.specs.Calls.{flow, answering, over_texts, check, safe, drive, history, work, settings, needed, batch, run_in, batch_in, safe_in, drive_in, history_in, work_in, named_call, IsCall};
 ghost use Rattle.flow_cli.specs.Calls.{Call as Pure};
 ghost use Rattle.flow_cli.specs.Shown.{shown};
 
@@ -22,7 +22,10 @@ pub enum Call<'a> {
     /// Check the text in this file.
     Check(&'a str),
     /// Tell whether the change from the text in the first file to that in the second is safe.
-    Safe { old: &'a str, new: &'a str },
+    Safe {
+        old: &'a str,
+        new: &'a str,
+    },
     /// Do this over this store; `-` is a store in memory, which begins with no run.
     Over(&'a str, Work),
     /// Keep an engine running over this store, by the settings in that file; `-` is a store in memory.
@@ -126,19 +129,22 @@ fn text_command<'a>(alloc: Global) -> Result<Command<'a>, AllocError>
     )
 }
 
-fn flow_command<'a>(alloc: Global) -> Result<Command<'a>, AllocError>
-    ensures app { IfOk result (λ c. app_of c ≡ flow) }
+/// The program with the calls that answer what is asked and end.
+fn answering_command<'a>(alloc: Global) -> Result<Command<'a>, AllocError>
+    ensures app { IfOk result (λ c. app_of c ≡ answering) }
 {
     let drive = drive_command(alloc)?;
     let history = history_command(alloc)?;
-    let work = work_command(alloc)?;
     let texts = text_command(alloc)?;
-    Ok(
-        texts
-            .subcommand(drive)?
-            .subcommand(history)?
-            .subcommand(work)?,
-    )
+    Ok(texts.subcommand(drive)?.subcommand(history)?)
+}
+
+fn flow_command<'a>(alloc: Global) -> Result<Command<'a>, AllocError>
+    ensures app { IfOk result (λ c. app_of c ≡ flow) }
+{
+    let work = work_command(alloc)?;
+    let answering = answering_command(alloc)?;
+    Ok(answering.subcommand(work)?)
 }
 
 #[tactic(auto, using(crate::proofs::Rows::first_in_rows))]

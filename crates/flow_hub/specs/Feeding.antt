@@ -1,0 +1,46 @@
+-- What comes of what is posted: tasks that are given out, ticks, and the end.
+use Rattle.std.specs.Prelude.{ℕ, ◌≡◌, ◌≤◌, ◌∷◌, ◌++◌, [], length, Option, Some, None}
+use mathlib.Core.List.{IsPrefix}
+use Rattle.flow_base.specs.declared.command.Command.{Command}
+use Rattle.flow_base.specs.declared.command.Command.TheVariants.{Tick}
+use Rattle.flow_machine.specs.declared.task.Task.{Task}
+use Rattle.flow_hub.specs.declared.known.Known.{Known}
+use Rattle.flow_hub.specs.declared.known.Outlook.{Outlook}
+use Rattle.flow_hub.specs.Knowing.{answered_in}
+use Rattle.flow_hub.specs.Posting.{IsOnce}
+
+-- the task is the next one behind those that were given out
+abbrev pub given_with : {S : Type 0} → Known S → Known S → Option Task → Type 0
+given_with old new None = new.given ≡ old.given
+given_with old new (Some t) = new.given ≡ old.given ++ t ∷ []
+
+-- What is given out is the next task that was posted, if one is there; and so all that were given out are a beginning of those that were
+-- posted, none of them twice.
+pub record HasGiven {S : Type 0} (old new : Known S) (task : Option Task) : Type 0 where
+  pub next : given_with old new task
+  pub first : IsPrefix new.given new.posted
+  pub once : IsOnce new.posted
+
+-- The command fires what is due: the moment has come.
+pub record IsDueBy (due : Option ℕ) (command : Command) : Type 0 where
+  pub moment : ℕ
+  pub now : ℕ
+  pub is : command ≡ Tick now
+  pub named : due ≡ Some moment
+  pub come : moment ≤ now
+
+-- when more is to be done, as the last board says, if nothing was answered since
+abbrev pub due_of : Option Outlook → Option ℕ
+due_of None = None
+due_of (Some o) = o.due
+
+abbrev pub due_in : {S : Type 0} → Known S → Option ℕ
+due_in k = due_of k.outlook
+
+-- All that was submitted is answered, and the board that was made since says that no run is open.
+pub record IsIdle {S : Type 0} (k : Known S) : Type 0 where
+  pub outlook : Outlook
+  pub named : k.outlook ≡ Some outlook
+  pub none_open : outlook.open_runs ≡ 0
+  pub answered : length k.asked ≡ answered_in k
+  pub none : k.held ≡ []

@@ -1,0 +1,15 @@
+//! The running engine as a program: threads that serve, run activities, fire timers, read lines and print replies.
+#![tactic(auto)]
+
+pub mod clock;
+pub mod input;
+pub mod moments;
+pub mod queue;
+pub mod replies;
+pub mod reports;
+pub mod running;
+pub mod settings;
+pub mod skills;
+pub mod status;
+pub mod tasks;
+pub mod timer;

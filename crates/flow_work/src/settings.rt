@@ -1,0 +1,23 @@
+//! The settings file of the program.
+ghost use Rattle.std.specs.Prelude.{◌≡◌, IfOk, IfErr, Some, Ok, Err};
+ghost use Rattle.flow_settings.specs.Allowed.{settings_in};
+
+use flow_settings::fault::SettingsFault;
+use flow_settings::settings::Settings;
+use std::alloc::Global;
+use std::io;
+use std::io::ErrorKind;
+
+/// The settings that a file gives which was read: E96 also where it couldn't be read, or is no UTF-8.
+pub fn settings_of(
+    alloc: Global,
+    read: Result<String, io::Error>,
+) -> Result<Settings, SettingsFault> {
+    match read {
+        Ok(text) => Settings::read(alloc, text.as_str()),
+        Err(error) => match error.kind() {
+            ErrorKind::OutOfMemory => Err(SettingsFault::NoMemory),
+            _ => Err(SettingsFault::BadSettings),
+        },
+    }
+}
