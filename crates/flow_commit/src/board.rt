@@ -61,6 +61,13 @@ pub(crate) fn board_of(draft: Draft, kept: u64, posted: &BTreeSet<Posted>) -> Bo
 }
 
 impl Board {
+    /// Its tasks in order of run and event.
+    pub fn tasks(&self) -> &[Task]
+        ensures { result.now ≡ self.now.tasks }
+    {
+        self.tasks.as_slice()
+    }
+
     /// Its tasks in order of run and event, the moment at which more is to be done, and how many runs are open.
     pub fn into_parts(self) -> (Vec<Task>, Option<Moment>, u64)
         ensures tasks { result.0.items ≡ self.tasks }
