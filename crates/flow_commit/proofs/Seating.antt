@@ -11,9 +11,9 @@ use Rattle.flow_machine.specs.declared.seats.Seats.{Seats}
 use Rattle.flow_model.specs.Book.{Book}
 use Rattle.flow_rows.proofs.Telling.{told}
 use Rattle.flow_tables.specs.Stored.{tables_in}
-use Rattle.flow_tables.specs.Owned.{Stored, IsFit, IsUp, Follows, Keeps, book_now, state_of}
+use Rattle.flow_tables.specs.Owned.{Stored, IsFit, IsUp, Follows, Keeps, book_now, kept_book, state_of}
 use Rattle.flow_commit.specs.Seating.{HasSeats, IsSeated}
-use Rattle.flow_commit.proofs.Following.{fit_before, up_before}
+use Rattle.flow_commit.proofs.Following.{fit_before, keeps_behind, up_before}
 
 -- an open connection keeps one book
 pub one_kept : {S : Type 0} (g : Ghosts S) (t : Stored S) (b c : Book) → IsUp g t → Keeps (state_of g t) b → Keeps (state_of g t) c → b ≡ c
@@ -43,4 +43,16 @@ pub none_has : {S : Type 0} (g : Ghosts S) (t : Stored S) (s : Seats) → HasNon
 none_has g t s none = record {
   ahead = none.ahead;
   kept = λ fit up b keeps run e there. let in_none = subst (λ (es : Entries). Contains es (run, e)) none.kept there in absurd (omega (arith, in_none.1));
+}
+
+-- they stay those of the book that is kept on
+pub seated_behind : {S : Type 0} (g : Ghosts S) (old new : Stored S) (s : Seats) → Follows g old new → (IsFit g new → IsUp g old → Keeps (state_of g old) (kept_book g old)) → HasSeats g old s → HasSeats g new s
+seated_behind g old new s follows own has = record {
+  ahead = has.ahead;
+  kept = λ fit up b keeps.
+      let was_fit = fit_before g old new follows fit in
+      let was_up = up_before g old new follows fit up in
+      let first = kept_book g old in
+      let held = own fit was_up in
+      subst (λ k. AllHave (ReachedIn meaning_of k) s.kept.entries) (one_kept g new first b up (keeps_behind g old new follows fit first held) keeps) (has.kept was_fit was_up first held);
 }
