@@ -4,3 +4,4 @@ pub mod Lawful
 pub mod RunningOut
 pub mod Posting
 pub mod Sealing
+pub mod BoardRows
