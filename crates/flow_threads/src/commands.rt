@@ -30,7 +30,7 @@ pub fn start(alloc: Global, number: u64) -> Option<Command> {
     Some(Command::Start(request, flow, text, Sequence::new(alloc), at))
 }
 
-pub fn named(reply: &Reply) -> Named {
+pub fn name_in(reply: &Reply) -> Named {
     match reply {
         Reply::Registered(text) => Named::Text(text.get()),
         Reply::Started(run) => Named::Run(run.get()),

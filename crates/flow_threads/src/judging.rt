@@ -1,5 +1,5 @@
 //! What is told of the receipts of all submitters.
-use crate::commands::{Named, named, once_more};
+use crate::commands::{Named, name_in, once_more};
 use crate::submitting::Brought;
 use flow_base::command::Command;
 use flow_engine::engine::Engine;
@@ -37,7 +37,7 @@ fn is_rising(receipts: &[Receipt]) -> bool {
 impl Gathered {
     /// Takes one more receipt apart. False: memory was refused.
     fn keep(&mut self, receipt: Receipt) -> bool {
-        let named = named(&receipt.reply);
+        let named = name_in(&receipt.reply);
         let Receipt {
             ticket: _,
             place,
@@ -161,7 +161,7 @@ fn named_of(alloc: Global, answers: Vec<Answer>) -> Option<Vec<Named>> {
 
 fn named_in(answer: &Answer) -> Named {
     match answer {
-        Answer::Replied(reply) => named(reply),
+        Answer::Replied(reply) => name_in(reply),
         Answer::NotApplied(_) => Named::Other,
     }
 }

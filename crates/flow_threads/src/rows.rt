@@ -4,7 +4,7 @@ ghost use Rattle.flow_hub.specs.Seating.{IsRoomOf};
 
 use crate::commands::Named;
 use crate::judging::{Gathered, are_there, gather, places_once, replies_to, runs_once};
-use crate::serving::{Served, open, served, served_behind};
+use crate::serving::{Served, open, serve_behind, serve_racing};
 use crate::stores::behind_a_stop;
 use crate::submitting::{Brought, Plan};
 use flow_base::command::Command;
@@ -89,7 +89,7 @@ pub fn over_memory<B: Room + Send + Sync, R: Threads + Wait + Clock + Sync>(
     requires room { IsRoomOf opened B.table B.name B.parts }
     requires most { (1 ≤ plan.most) × (plan.most ≤ 64) }
 {
-    let served = served::<MemStore, B, R>(rt, alloc, conn, opened, plan)?;
+    let served = serve_racing::<MemStore, B, R>(rt, alloc, conn, opened, plan)?;
     let Served {
         brought,
         ended,
@@ -127,7 +127,7 @@ pub struct Cut {
     pub is_found: bool,
 }
 
-fn cut(told: Told, count: usize, most: usize, is_found: bool) -> Cut
+fn cut_of(told: Told, count: usize, most: usize, is_found: bool) -> Cut
     requires { 1 ≤ most }
 {
     let answered = told
@@ -159,7 +159,7 @@ pub fn over_stopping<B: Room + Send + Sync, R: Threads + Wait + Sync>(
     requires room { IsRoomOf opened B.table B.name B.parts }
     requires most { (1 ≤ plan.most) × (plan.most ≤ 64) }
 {
-    let served = served_behind::<FileStore<StopAt<Memory>>, B, R>(rt, alloc, conn, opened, plan)?;
+    let served = serve_behind::<FileStore<StopAt<Memory>>, B, R>(rt, alloc, conn, opened, plan)?;
     let Served {
         brought,
         ended,
@@ -168,7 +168,7 @@ pub fn over_stopping<B: Room + Send + Sync, R: Threads + Wait + Sync>(
     } = served;
     let (told, commands, replies) = judged(alloc, brought, ended, published)?;
     let is_found = finds_all(alloc, behind_a_stop(alloc, conn)?, commands, replies)?;
-    Some(cut(told, count, plan.most, is_found))
+    Some(cut_of(told, count, plan.most, is_found))
 }
 
 /// Over a file, which is closed then: beside what is told, the commands of all receipts and what their replies name.
@@ -182,7 +182,7 @@ pub fn over_file<B: Room + Send + Sync, R: Threads + Wait + Clock + Sync>(
     requires room { IsRoomOf opened B.table B.name B.parts }
     requires most { (1 ≤ plan.most) × (plan.most ≤ 64) }
 {
-    let served = served::<FileStore<File>, B, R>(rt, alloc, conn, opened, plan)?;
+    let served = serve_racing::<FileStore<File>, B, R>(rt, alloc, conn, opened, plan)?;
     let Served {
         brought,
         ended,
@@ -213,7 +213,7 @@ pub fn received<
     requires room { IsRoomOf opened B.table B.name B.parts }
     requires most { (1 ≤ plan.most) × (plan.most ≤ 64) }
 {
-    let served = served::<S, B, R>(rt, alloc, conn, opened, plan)?;
+    let served = serve_racing::<S, B, R>(rt, alloc, conn, opened, plan)?;
     let mut count: usize = 0;
     for brought in &served.brought {
         count = count.saturating_add(brought.receipts.len());

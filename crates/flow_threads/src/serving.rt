@@ -102,7 +102,7 @@ fn race<
 }
 
 /// Serves a hub over this connection with all of a plan's submitters.
-pub fn served<
+pub fn serve_racing<
     S: Alter + Drop + Send + Sync,
     B: Room + Send + Sync,
     R: Threads + Wait + time::Clock + Sync,
@@ -157,11 +157,13 @@ fn fetched<S: Alter + Drop + Send + Sync, B: Room + Send + Sync, R: Threads + Wa
 
 /// Serves a hub to which all of a plan was submitted, on as many threads as it has submitters, and which was closed then. So each
 /// batch but the last is full.
-pub fn served_behind<
-    S: Alter + Drop + Send + Sync,
-    B: Room + Send + Sync,
-    R: Threads + Wait + Sync,
->(rt: &R, alloc: Global, conn: Connection<S>, opened: Opened<S>, plan: Plan) -> Option<Served<S>>
+pub fn serve_behind<S: Alter + Drop + Send + Sync, B: Room + Send + Sync, R: Threads + Wait + Sync>(
+    rt: &R,
+    alloc: Global,
+    conn: Connection<S>,
+    opened: Opened<S>,
+    plan: Plan,
+) -> Option<Served<S>>
     requires room { IsRoomOf opened B.table B.name B.parts }
     requires most { (1 ≤ plan.most) × (plan.most ≤ 64) }
 {
