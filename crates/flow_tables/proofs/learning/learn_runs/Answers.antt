@@ -1,7 +1,7 @@
-use Rattle.std.proofs.Common.{rules, ◌≡◌, ◌+◌, Some, take}
+use Rattle.std.proofs.Common.{rules, ◌≡◌, ◌+◌, None, Some, take}
 use Rattle.flow_base.specs.declared.book.Run.{Run}
 use Rattle.flow_model.specs.Book.{Book, nth}
-use Rattle.flow_tables.proofs.RunsRead.{serves_more}
+use Rattle.flow_tables.proofs.RunsRead.{serves_all, serves_more}
 use Rattle.flow_tables.proofs.learning.learn_runs.Goals as goal
 
 pub loop-count-preserved : goal.loop-count-preserved
@@ -20,3 +20,14 @@ loop-count-preserved g c =
       was_true = search rules;
       follows = search rules;
     }
+
+pub returns-in-Ok-None-clause-serves : goal.returns-in-Ok-None-clause-serves
+returns-in-Ok-None-clause-serves g c = λ sure.
+    let first = g.V.Runs.book c.args.view.now in
+    let mid = g.V.Runs.book c.loop-count.view in
+    let was = c.recall.ensures.sure sure in
+    let none : nth mid.runs (c.loop-count.count + 1) ≡ None = (let h : g.V.Runs.is_sure c.recall.new.self → nth mid.runs (c.loop-count.count + 1) ≡ None = search rules in h sure) in
+    serves_all c.loop-count.maps first mid c.loop-count.count (c.loop-count.invariant.still was) none (c.loop-count.invariant.serves was)
+
+pub returns-clause-serves : goal.returns-clause-serves
+returns-clause-serves g c = λ sure. c.unknown.ensures.serves (g.V.Runs.book c.args.view.now)
