@@ -6,4 +6,3 @@ pub mod Stopping
 pub mod Together
 pub mod Worlds
 pub mod Serving
-pub mod Boarding

@@ -1,9 +1,7 @@
 pub mod Asks
-pub mod Posting
 pub mod Knowing
 pub mod Seating
 pub mod Halls
 pub mod Refusals
 pub mod Publishing
-pub mod Feeding
 pub mod Submitting

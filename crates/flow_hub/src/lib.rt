@@ -2,10 +2,8 @@
 #![tactic(auto)]
 
 pub mod denied;
-pub mod feed;
 pub mod hub;
 pub mod known;
-mod posting;
 pub mod publisher;
 mod queues;
 pub mod refused;

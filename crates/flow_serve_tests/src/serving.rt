@@ -1,5 +1,4 @@
-//! Two commands are submitted to a hub, served by an engine over memory, and their receipts fetched, one of them behind another
-//! submitter that tries.
+//! Two commands are submitted to a hub, served by an engine over memory, and their receipts fetched.
 ghost use Rattle.std.specs.Prelude.{◌≡◌, []};
 ghost use Rattle.flow_hub.specs.Seating.{IsRoomOf};
 
@@ -12,7 +11,7 @@ use flow_hub::hub::Hub;
 use flow_hub::publisher::Publisher;
 use flow_hub::seats::{Opened, Room};
 use flow_hub::submitter::Submitter;
-use flow_hub::ticket::{NotDone, Ticket};
+use flow_hub::ticket::Ticket;
 use flow_machine::submission::Receipt;
 use flow_timers::Clock;
 use sqlite::{Alter, Connection, MemStore};
@@ -85,23 +84,6 @@ fn fetched<S: Alter, B: Room, R: Wait>(
     }
 }
 
-/// What another submitter is told of an answered ticket: the number of the refusal, and then what its owner is told.
-fn lent<S: Alter, B: Room, R: Wait>(
-    rt: &R,
-    other: &mut Submitter<S, B>,
-    owner: &mut Submitter<S, B>,
-    ticket: Ticket,
-) -> (u8, Told) {
-    match other.wait(rt, ticket) {
-        Ok(receipt) => (0, told_of(&receipt)),
-        Err(instead) => {
-            let number = instead.code.number();
-            let NotDone { ticket, .. } = instead;
-            (number, fetched(rt, owner, ticket))
-        }
-    }
-}
-
 /// Opens an engine over memory, and serves what was submitted. Whether it ended with all answered.
 fn serve<B: Room, R: Wait>(
     rt: &R,
@@ -122,13 +104,12 @@ fn serve<B: Room, R: Wait>(
     }
 }
 
-/// What is told of the two commands, of which another submitter waits for the first before its owner does, and how many are
-/// published at the end.
+/// What is told of the two commands, and how many are published at the end.
 fn served<B: Room, R: Wait>(
     rt: &R,
     alloc: Global,
     opened: Opened<MemStore>,
-) -> Option<((u8, Told), Told, u64)>
+) -> Option<(Told, Told, u64)>
     requires { IsRoomOf opened B.table B.name B.parts }
 {
     let (mut publisher, hub) = Hub::<MemStore, B>::new(alloc, opened).ok()?;
@@ -136,14 +117,13 @@ fn served<B: Room, R: Wait>(
         now: Moment::new(1000)?,
     };
     let mut submitter = hub.submitter(rt).ok()?;
-    let mut other = hub.submitter(rt).ok()?;
     let first = submitted(rt, &mut submitter, register(alloc)?)?;
     let second = submitted(rt, &mut submitter, start(alloc)?)?;
     hub.close(rt);
     if !serve(rt, alloc, &mut publisher, clock)? {
         return None;
     }
-    let first = lent(rt, &mut other, &mut submitter, first);
+    let first = fetched(rt, &mut submitter, first);
     let second = fetched(rt, &mut submitter, second);
     Some((first, second, submitter.published()))
 }
@@ -154,6 +134,6 @@ fn what_was_submitted_is_served(rt: HostRuntime) -> Result<(), Fail> {
     let all = served::<Brand, HostRuntime>(&rt, alloc, Opened::new(alloc)?);
     let first = Told { place: 1, named: 1 };
     let second = Told { place: 2, named: 1 };
-    assert!(rt; all == Some(((92, first), second, 2)));
+    assert!(rt; all == Some((first, second, 2)));
     Ok(())
 }

@@ -19,7 +19,6 @@ invariant_of-self g c = (
   search rules,
   search rules,
   search rules,
-  search rules,
 )
 
 pub tell-requires-clause-may : goal.tell-requires-clause-may

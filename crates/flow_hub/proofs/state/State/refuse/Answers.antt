@@ -31,7 +31,6 @@ invariant_of-self g c =
       search rules,
       search rules,
       search rules,
-      search rules,
     )
 
 pub tell-me-requires-clause-grows : goal.tell-me-requires-clause-grows

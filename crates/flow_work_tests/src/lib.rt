@@ -1,5 +1,0 @@
-//! Tests of a running engine.
-#![tactic(auto)]
-
-#[cfg(test)]
-mod together;
