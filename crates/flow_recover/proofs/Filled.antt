@@ -34,22 +34,19 @@ position_at u b [] (p ∷ qs) are i q short is = absurd are
 
 open_there : (b : Book) (n : ℕ) (rs : List Run) → ((k : ℕ) → nth b.runs (n + k) ≡ slice_get rs k) → (i : ℕ) (x : ℕ × Run) → slice_get (open_from n rs) i ≡ Some x → nth b.runs x.0 ≡ Some x.1
 open_there b n [] at i x there = absurd (let clash = there in cc)
-open_there b n (r ∷ rs) at i x there = elim (cases_Bool (is_open (state_of r.history))) [
-  | inl opened ↦ here i (rw opened at there)
-  | inr closed ↦ later i (rw closed at there)
-]
+open_there b n (r ∷ rs) at i x there =
+    let next : (k : ℕ) → nth b.runs (n + 1 + k) ≡ slice_get rs k = λ k. ap (nth b.runs) (let same : n + 1 + k ≡ n + suc k = omega arith in same) ∙ at (suc k) in
+    let later : (j : ℕ) → slice_get (open_from (n + 1) rs) j ≡ Some x → nth b.runs x.0 ≡ Some x.1 = λ j h. open_there b (n + 1) rs next j x h in
+    elim (cases_Bool (is_open (state_of r.history))) [
+      | inl opened ↦ here later i (rw opened at there)
+      | inr closed ↦ later i (rw closed at there)
+    ]
   where
-    next : (k : ℕ) → nth b.runs (n + 1 + k) ≡ slice_get rs k
-    next k = ap (nth b.runs) (let same : n + 1 + k ≡ n + suc k = omega arith in same) ∙ at (suc k)
-
-    later : (i : ℕ) → slice_get (open_from (n + 1) rs) i ≡ Some x → nth b.runs x.0 ≡ Some x.1
-    later i there = open_there b (n + 1) rs next i x there
-
-    here : (i : ℕ) → slice_get ((n, r) ∷ open_from (n + 1) rs) i ≡ Some x → nth b.runs x.0 ≡ Some x.1
-    here zero there =
+    here : ((j : ℕ) → slice_get (open_from (n + 1) rs) j ≡ Some x → nth b.runs x.0 ≡ Some x.1) → (i : ℕ) → slice_get ((n, r) ∷ open_from (n + 1) rs) i ≡ Some x → nth b.runs x.0 ≡ Some x.1
+    here later zero there =
         let same : (n, r) ≡ x = (let e = there in cc) in
         subst (λ (y : ℕ × Run). nth b.runs y.0 ≡ Some y.1) same (ap (nth b.runs) (let same : n ≡ n + 0 = omega arith in same) ∙ at 0)
-    here (suc i) there = later i there
+    here later (suc i) there = later i there
 
 of_run : (u : Meaning) (b : Book) (qs : List Position) → ArePositions u b qs → (q : Position) → Contains qs q → IsOfRun u b q
 of_run u b qs are q there =
