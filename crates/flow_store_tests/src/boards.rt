@@ -32,11 +32,7 @@ fn shown(board: Board) -> Shown {
     (tasks.len(), first(tasks.as_slice()), due, open_runs)
 }
 
-fn board_of<S: Alter>(
-    keeper: &mut Keeper<S>,
-    posted: &BTreeSet<Posted>,
-    at: u64,
-) -> Option<Shown> {
+fn board_of<S: Alter>(keeper: &mut Keeper<S>, posted: &BTreeSet<Posted>, at: u64) -> Option<Shown> {
     match keeper.board(posted, Moment::new(at)?) {
         Ok(board) => Some(shown(board)),
         Err(_) => None,
