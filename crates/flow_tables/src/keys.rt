@@ -1,8 +1,8 @@
 //! The keys by which runs are found, as rows of runs tell them.
-ghost use Rattle.std.specs.Prelude.{◌≡◌};
+ghost use Rattle.std.specs.Prelude.{◌≡◌, ◌++◌, ◌∷◌};
 ghost use Rattle.flow_tables.specs.Names.{Book, map, IfSome};
 ghost use Rattle.flow_maps.specs.Serving.{Serves, Sees, AreKeys, Awaits, HasSignals};
-ghost use Rattle.flow_tables.specs.Names.{ℕ, List, Bytes, shown_book, ◌++◌, ◌∷◌, []};
+ghost use Rattle.flow_tables.specs.Names.{ℕ, List, Bytes, shown_book, []};
 ghost use Rattle.flow_base.specs.declared.book.Task.{Task as ATask};
 ghost use Rattle.flow_base.specs.declared.book.Timer.{Timer as ATimer};
 ghost use Rattle.flow_tables.specs.Owned.{row_request, row_open};
