@@ -1,8 +1,8 @@
-use Rattle.std.proofs.Common.{rules, ◌≡◌, ◌+◌, ◌++◌, length, ap, sym, ◌∙◌, arith, length-append, vec_len}
+use Rattle.std.proofs.Common.{rules, ◌≡◌, ◌+◌, ◌++◌, length, refl, ap, sym, ◌∙◌, arith, length-append, vec_len}
 use Rattle.flow_commit.specs.Committing.{taken_of}
 use Rattle.flow_hub.specs.Knowing.{IsSamePart}
 use Rattle.flow_hub.specs.Publishing.{Answers}
-use Rattle.flow_hub.proofs.Growing.{publishes_on, grows_by}
+use Rattle.flow_hub.proofs.Growing.{before_self, publishes_on, grows_by}
 use Rattle.flow_hub.proofs.Lists.{length-mapped}
 use Rattle.flow_hub.proofs.Moves.{all_of, was_of}
 use Rattle.flow_hub.proofs.Sound.{publishes, published_history, has_published, published_by, history_by, same_answers}
@@ -35,6 +35,9 @@ invariant_of-self g c =
       search rules,
       search rules,
     )
+
+pub tell-seen-requires-clause-grows : goal.tell-seen-requires-clause-grows
+tell-seen-requires-clause-grows g c = grows_by c.self.inside.keeper.all c.self.inside.known _ _ c.self.invariant.13 refl (before_self c.self.inside.known)
 
 pub tell-me-requires-clause-grows : goal.tell-me-requires-clause-grows
 tell-me-requires-clause-grows g c =
