@@ -1,6 +1,7 @@
 //! The thread that keeps: it takes what was submitted to a hub, commits it and answers it.
 ghost use Rattle.std.specs.Prelude.{◌≡◌, ◌≤◌, true, false, [], List, IfErr, OnOk};
 ghost use Rattle.std.specs.Vec.{vec_capacity};
+ghost use Rattle.flow_base.specs.Codes.{fault_code};
 ghost use Rattle.flow_machine.specs.declared.submission.Taken.{Taken as ATaken};
 ghost use Rattle.flow_hub.specs.Knowing.{IsBefore};
 ghost use Rattle.flow_engine.specs.Boarding.{IsStill};
@@ -152,6 +153,13 @@ fn serve_all<S: Alter, B: Room, R: Wait, C: Clock>(
     unreachable!()
 }
 
+/// The code of a fault that is still to be handed on.
+fn code_of(fault: &Fault) -> Code
+    ensures { result ≡ fault_code fault.now }
+{
+    fault.code()
+}
+
 /// Takes nothing more in, and answers all that waits that the engine has halted: E85. There is no board any more, for this code.
 fn turn_away<S: Alter, B: Room, R: Wait>(
     rt: &R,
@@ -218,7 +226,7 @@ impl<S: Alter> Engine<S> {
             Ok(first) => match serve_all(rt, self, publisher, clock, first, most) {
                 Ok(()) => Ok(()),
                 Err(fault) => {
-                    turn_away(rt, self.alloc(), publisher, most, fault.code());
+                    turn_away(rt, self.alloc(), publisher, most, code_of(&fault));
                     Err(fault)
                 }
             },

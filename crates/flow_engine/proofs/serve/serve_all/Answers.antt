@@ -54,7 +54,7 @@ loop-preserved g c =
     let mid = c.take.new.self in
     let kept = c.commit_taken.new.engine in
     let told = c.commit_taken.new.publisher in
-    let b = c.post_board-2.ensures in
+    let b = c.post_board-in-loop.ensures in
     let go = c.in_ok-commit_taken.ensures.goes_on in
     let was = c.args.publisher.now.refused in
     let gives = gives_then was mid.refused told.refused (subst (GivesUp was) (sym c.take.ensures.taken.refused) i.gives) c.in_ok-commit_taken.ensures.given_up in
@@ -64,9 +64,9 @@ loop-preserved g c =
       still = λ h. absurd (true≢false (sym h ∙ (b.still.halted ∙ go.1)));
       gives = subst (GivesUp was) (sym b.refused) gives;
       base = b.still.base ∙ (c.commit_taken.ensures.base ∙ i.base);
-      follows = follows_then g.S.Store c.args.engine.now kept c.post_board-2.new.engine (follows_then g.S.Store c.args.engine.now c.loop.engine kept i.follows c.commit_taken.ensures.follows) b.still.follows;
+      follows = follows_then g.S.Store c.args.engine.now kept c.post_board-in-loop.new.engine (follows_then g.S.Store c.args.engine.now c.loop.engine kept i.follows c.commit_taken.ensures.follows) b.still.follows;
       grows =
-          before_trans c.args.publisher.now told c.post_board-2.new.publisher
+          before_trans c.args.publisher.now told c.post_board-in-loop.new.publisher
           (before_trans c.args.publisher.now mid told (before_trans c.args.publisher.now c.loop.publisher mid i.grows c.take.ensures.grows) c.commit_taken.ensures.grows) b.grows;
       boarded = b.boarded;
       empty = search rules;
