@@ -1,5 +1,4 @@
 use Rattle.std.proofs.Common.{rules, List, ◌++◌, ◌∙◌, subst}
-use Rattle.flow_base.specs.declared.code.Code.TheVariants as code
 use Rattle.flow_hub.proofs.Growing.{before_trans}
 use Rattle.flow_hub.specs.declared.refused.Refused.{Refused}
 use Rattle.flow_engine.specs.Serving.{TurnsAway}
