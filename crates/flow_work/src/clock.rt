@@ -1,6 +1,6 @@
 //! The clock of the system, in moments.
 ghost use Rattle.std.specs.Prelude.{◌≡◌, ◌/◌, min};
-ghost use Rattle.core.specs.Duration.{as_nanos};
+ghost use Rattle.std.specs.Duration.{as_nanos};
 
 use flow_base::number::{LAST_MOMENT, Moment};
 use flow_timers::Clock;
