@@ -1,6 +1,7 @@
 //! The activities that the program `flow` has.
 ghost use Rattle.std.specs.Prelude.{◌≡◌, IfOk};
 ghost use Rattle.flow_pool.specs.Attempts.{echoed, added, flaked};
+ghost use Rattle.flow_pool.specs.Builtin.{all_builtin};
 
 use crate::activity::{Activity, Attempt};
 use flow_base::value::Value;
@@ -67,6 +68,52 @@ impl Activity for Flaky {
 
     fn run(&mut self, alloc: Global, task: &Task) -> Result<Attempt, AllocError> {
         from_third(alloc, task.attempt, task.args.as_slice())
+    }
+}
+
+/// One of the activities that the program has.
+#[derive(Clone, Copy, Debug, Drop)]
+pub enum Builtin {
+    Echo,
+    Add,
+    Flaky,
+}
+
+impl Activity for Builtin {
+    ghost use Rattle.std.specs.Prelude.{◌≡◌};
+    ghost use Rattle.flow_pool.specs.Builtin.{builtin_name, builtin_given};
+
+    ghost named = { builtin_name };
+
+    ghost gives = { λ b t a. a ≡ builtin_given b t.attempt t.args };
+
+    fn name(&self) -> &str {
+        match self {
+            Builtin::Echo => "echo",
+            Builtin::Add => "add",
+            Builtin::Flaky => "flaky",
+        }
+    }
+
+    fn run(&mut self, alloc: Global, task: &Task) -> Result<Attempt, AllocError> {
+        match self {
+            Builtin::Echo => first_of(alloc, task.args.as_slice()),
+            Builtin::Add => sum_of(alloc, task.args.as_slice()),
+            Builtin::Flaky => from_third(alloc, task.attempt, task.args.as_slice()),
+        }
+    }
+}
+
+impl Builtin {
+    /// All of them.
+    pub fn all(alloc: Global) -> Result<Vec<Builtin>, AllocError>
+        ensures { IfOk result (λ all. all.items ≡ all_builtin) }
+    {
+        let mut all = Vec::with_capacity(alloc, 3)?;
+        all.push(Builtin::Echo)?;
+        all.push(Builtin::Add)?;
+        all.push(Builtin::Flaky)?;
+        Ok(all)
     }
 }
 
