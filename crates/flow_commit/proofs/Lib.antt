@@ -5,3 +5,4 @@ pub mod RunningOut
 pub mod Posting
 pub mod Sealing
 pub mod BoardRows
+pub mod BoardLaw

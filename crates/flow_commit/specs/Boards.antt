@@ -1,5 +1,5 @@
 -- What a board names: the tasks that are ready and weren't posted, and what else whoever posts them needs to know.
-use Rattle.std.specs.Prelude.{◌≡◌, ℕ, Bool, true, ◌&&◌, not, ◌++◌, List, [], ◌∷◌, filter, Option, Some, None, nat_eq, nat_le, nat_lt, if◌then◌else◌, refl}
+use Rattle.std.specs.Prelude.{◌≡◌, ℕ, Bool, true, ◌&&◌, not, ◌++◌, List, [], ◌∷◌, map, filter, Option, Some, None, nat_eq, nat_le, nat_lt, if◌then◌else◌, refl}
 use Rattle.std.specs.Coded.{Coded, code_by, coded×, coded_ℕ, coded_list, coded_option}
 use Rattle.std.specs.List.{list_any}
 use Rattle.flow_base.specs.Syntax.{Bytes}
@@ -21,6 +21,7 @@ use Rattle.flow_view.specs.declared.fault.ViewFault.TheVariants as view
 use Rattle.flow_commit.specs.declared.waiting.Draft.{Draft}
 use Rattle.flow_machine.specs.declared.task.Task.{Task}
 use Rattle.flow_machine.specs.contracts.task.Task as task_row
+use Rattle.flow_commit.specs.Keeping.{IsWell}
 
 -- a task that was posted, by its run, its event and its attempt
 abbrev pub Key : Type 0
@@ -136,3 +137,12 @@ draft_of posted at b = record { tasks = ready_tasks posted at b; due = next_due 
 abbrev pub board_fault : ViewFault → Fault
 board_fault view.NoMemory = fault.NoMemory
 board_fault view.StoreRefused = fault.StoreRefused
+
+---- A law
+
+abbrev pub key_at : Waiting → Key
+key_at w = (w.0, w.1.event, w.1.attempt)
+
+-- Over a book such as commands make no open activity is left off that is ready and wasn't posted: each has its task.
+abbrev pub BoardsLeaveNoneOut : Type 0
+BoardsLeaveNoneOut = (b : Book) (posted : List Key) (at : ℕ) → IsWell b → map key_of (ready_tasks posted at b) ≡ map key_at (filter (is_ready posted at) (waiting b))
