@@ -1,4 +1,4 @@
-use Rattle.std.proofs.Common.{◌≡◌, inl, inr, ap, ◌∙◌}
+use Rattle.std.proofs.Common.{inr, ap, ◌∙◌}
 use Rattle.flow_commit.specs.Boards.{draft_of}
 use Rattle.flow_commit.proofs.Following.{fit_before, follows_self}
 use Rattle.flow_commit.proofs.Ends.{done_on, caused_on}

@@ -1,4 +1,4 @@
-use Rattle.std.proofs.Common.{◌≡◌, subst}
+use Rattle.std.proofs.Common.{subst}
 use Rattle.flow_tables.specs.Owned.{is_sure, Keeps, state_of, book_now}
 use Rattle.flow_commit.proofs.Sealing.{kept_either, cut_failed}
 use Rattle.flow_commit.proofs.survey.sealed.Goals as goal

@@ -1,5 +1,4 @@
-use Rattle.std.proofs.Common.{◌≡◌, ◌++◌, refl, sym, ap, ◌∙◌, subst}
-use Rattle.flow_maps.specs.Outlooks.{waiting, joined}
+use Rattle.std.proofs.Common.{◌∙◌}
 use Rattle.flow_maps.proofs.Listing.{all_listed, end_of}
 use Rattle.flow_maps.proofs.outlook.listed.Goals as goal
 
