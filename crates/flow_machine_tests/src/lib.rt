@@ -10,6 +10,8 @@ mod keeping;
 #[cfg(test)]
 mod lists;
 #[cfg(test)]
+mod places;
+#[cfg(test)]
 mod signals;
 #[cfg(test)]
 mod ticks;
