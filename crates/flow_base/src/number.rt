@@ -162,6 +162,15 @@ impl Moment {
         }
     }
 
+    /// The last one that there is.
+    pub fn last() -> Moment
+        ensures { result ≡ LAST_MOMENT }
+    {
+        Moment {
+            milliseconds: LAST_MOMENT,
+        }
+    }
+
     /// Its milliseconds, from 0 to 10^15.
     pub fn get(self) -> u64
         ensures value { result ≡ self }

@@ -17,7 +17,7 @@ use Rattle.flow_model.proofs.Logs.{nth_at}
 use Rattle.flow_maps.specs.declared.timers.Timers.{Timers}
 use Rattle.flow_maps.specs.OfRuns.{is_run, list_of}
 use Rattle.flow_maps.specs.Timers.{Slot, slot_cmp, is_slot, slot, due_of, has_slot, of_run, timers_of, timers_at, Times}
-use Rattle.flow_maps.proofs.DueFirst.{Before, IsLeast, Has, due_at, InTimers, InRuns, the_least, runs_least, so_before, same_least}
+use Rattle.flow_model.proofs.DueFirst.{Before, IsLeast, Has, due_at, InTimers, InRuns, the_least, runs_least, so_before, same_least}
 
 ---- Numbers and slots
 

@@ -17,7 +17,7 @@ ghost use Rattle.std.specs.Prelude.{IfOk};
 
 use crate::left::{tasks_behind, timers_behind, with_attempt};
 use crate::of_runs::OfRuns;
-use crate::outlook::{Outlook, last_moment, listed};
+use crate::outlook::{Outlook, listed};
 use crate::timers::Timers;
 use crate::turned::is_open_behind;
 use flow_base::book::{Due, Task, Timer, Turn};
@@ -255,7 +255,7 @@ impl Plans {
     fn outlook(&self, alloc: Global) -> Option<Outlook>
         ensures { IfSome result (λ v. (b : Book) → IsPlan self.now b → v ≡ outlook_of b) }
     {
-        let Some(first) = self.timers.first_due(last_moment()) else {
+        let Some(first) = self.timers.first_due(Moment::last()) else {
             return None;
         };
         let Some(waiting) = listed(alloc, &self.tasks) else {

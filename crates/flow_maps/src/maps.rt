@@ -12,7 +12,7 @@ ghost use Rattle.flow_base.specs.declared.book.Timer.{Timer as ATimer};
 ghost use Rattle.flow_maps.specs.Agenda as plans;
 ghost use Rattle.flow_maps.specs.Agenda.{IsOf, replaced, one_if};
 ghost use Rattle.flow_maps.specs.Timers.{timers_of};
-ghost use Rattle.flow_maps.specs.Signals.{AreOf, KnowsSignals};
+ghost use Rattle.flow_maps.specs.Signals.{KnowsSignals};
 ghost use Rattle.flow_maps.specs.Keys.{Lists};
 ghost use Rattle.flow_maps.specs.Outlooks.{outlook_of};
 ghost use Rattle.flow_maps.specs.Serving.{Serves, Sees, IsSeen, AreKeys, AreRunKeys, Awaits, HasSignals, open_key, key_if, named};
@@ -20,7 +20,7 @@ ghost use Rattle.flow_maps.specs.Serving.{Serves, Sees, IsSeen, AreKeys, AreRunK
 use crate::agenda::Agenda;
 use crate::index::Index;
 use crate::outlook::Outlook;
-use crate::signals::{FlowSignals, Signals};
+use crate::signals::Signals;
 use crate::turned::is_open_behind;
 use flow_base::book::{Change, Due, Task, Timer, Turn};
 use flow_base::event::Event;
@@ -370,13 +370,5 @@ impl Maps {
         ensures { IfSome result (λ o. (b : Book) → Serves self.now b → o ≡ words.signalled b flow.now request.now) }
     {
         self.signals.find(flow, request)
-    }
-
-    /// These are all signals that the runs of a flow have taken.
-    pub fn learn_signals(&mut self, flow: &Key, events: FlowSignals)
-        ensures serves { (b : Book) → AreOf events b flow.now → Serves self.old b → Serves self.new b }
-        ensures sees { (b : Book) → Sees self.old b → Sees self.new b }
-    {
-        self.signals.learn(flow, events);
     }
 }

@@ -7,7 +7,7 @@ ghost use Rattle.flow_maps.specs.Outlooks.{waiting, waiting_in};
 
 use crate::of_runs::OfRuns;
 use flow_base::book::{Due, Task};
-use flow_base::number::{LAST_MOMENT, Moment, RunId};
+use flow_base::number::RunId;
 use flow_base::sequence::Sequence;
 use std::alloc::Global;
 
@@ -20,12 +20,6 @@ pub struct Outlook {
     pub first: Option<Due>,
     /// How many runs are open.
     pub open_runs: u64,
-}
-
-pub(crate) fn last_moment() -> Moment
-    ensures { result ≡ 1000000000000000 }
-{
-    Moment::new(LAST_MOMENT).unwrap()
 }
 
 /// Lists what a run has behind the others. Whether it did: there may be no memory.

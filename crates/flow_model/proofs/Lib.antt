@@ -1,3 +1,4 @@
+pub mod DueFirst
 pub mod FirstFault
 pub mod WellFormedRows
 mod BookRows

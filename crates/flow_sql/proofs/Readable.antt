@@ -155,7 +155,6 @@ module _ (db : Trees) (ours : AreOurs db) (utf8 : AreUtf8 (tables_in db)) where
     are_readable Read.last_run = first_holds db params 4 _ _ refl ReadsRun _ (λ r h. (h.0, tt)) runs_read _ rows
     are_readable Read.requested = of_runs _ _ _ (λ r h. (h.0, tt)) _
     are_readable Read.open_run = of_runs _ _ _ (λ r h. (h.0, tt)) _
-    are_readable Read.flow_runs = of_runs _ _ _ (λ r h. (h.0, tt)) _
     are_readable Read.all_events = of_events _ _ _ (λ r h. (h.0, (h.1, (h.2, (h.3, tt))))) _
     are_readable Read.run_events = of_events _ _ _ (λ r h. (h.0, (h.1, (h.2, (h.3, tt))))) _
     are_readable Read.last_event = first_holds db params 5 _ _ refl ReadsEvent _ (λ r h. (h.1, tt)) events_read _ rows

@@ -35,7 +35,6 @@ read_takes Read.text_number = 1
 read_takes Read.run_row = 1
 read_takes Read.requested = 1
 read_takes Read.open_run = 1
-read_takes Read.flow_runs = 1
 read_takes Read.run_events = 1
 read_takes Read.last_event = 1
 read_takes Read.event_at = 2

@@ -15,7 +15,6 @@ pub mod OpenTables
 pub mod Misreading
 pub mod Texts
 pub mod Questioned
-pub mod Signalled
 pub mod Altering
 pub mod Serving
 pub mod RunsRead

@@ -12,4 +12,3 @@ pub mod Puts
 pub mod Known
 pub mod Owned
 pub mod Asking
-pub mod Signals

@@ -7,7 +7,7 @@ use crate::ask::{BookRead, ask};
 use crate::fault::view_fault;
 use crate::questions::AllTimers;
 use flow_base::book::Due;
-use flow_base::number::{LAST_MOMENT, Moment};
+use flow_base::number::Moment;
 use flow_rows::dues::least_due;
 use flow_view::fault::ViewFault;
 use sqlite::{Alter, Connection};
@@ -34,12 +34,6 @@ impl BookRead for LeastDue {
     }
 }
 
-pub(crate) fn last_moment() -> Moment
-    ensures { result ≡ 1000000000000000 }
-{
-    Moment::new(LAST_MOMENT).unwrap()
-}
-
 pub(crate) fn moment_of(found: Option<Due>) -> Option<Moment>
     ensures { result ≡ option_map rule.moment_of found }
 {
@@ -64,7 +58,7 @@ impl BookRead for NextMoment {
         conn: &mut Connection<S>,
     ) -> Result<Option<Moment>, ViewFault> {
         match ask(alloc, conn, &AllTimers) {
-            Ok(rows) => Ok(moment_of(least_due(last_moment(), rows.as_slice()))),
+            Ok(rows) => Ok(moment_of(least_due(Moment::last(), rows.as_slice()))),
             Err(fault) => Err(view_fault(fault)),
         }
     }

@@ -9,7 +9,7 @@ ghost use Rattle.flow_tables.specs.Owned.{row_request, row_open};
 
 use crate::ask::{BookRead, Of};
 use crate::book_changes::is_marked;
-use crate::first_due::{LeastDue, NextMoment, last_moment, moment_of};
+use crate::first_due::{LeastDue, NextMoment, moment_of};
 use crate::questions::{OpenRun, Requested};
 use flow_base::book::{Due, Run, copy_tasks};
 use flow_base::number::{Moment, RunId};
@@ -106,7 +106,7 @@ impl ByKey for LeastDue {
 
 impl ByKey for NextMoment {
     fn find(&self, maps: &Maps) -> Option<Option<Moment>> {
-        match maps.least_due(last_moment()) {
+        match maps.least_due(Moment::last()) {
             Some(found) => Some(moment_of(found)),
             None => None,
         }

@@ -9,6 +9,7 @@ use flow_base::book::{Run, Task};
 use flow_base::effect::{Effect, effect_of};
 use flow_base::event::{Event, Input, What};
 use flow_base::number::{EventId, RunId};
+use flow_view::head::Head;
 use flow_view::history::is_open;
 
 /// Which rows a run may have in the outbox.
@@ -164,6 +165,22 @@ pub fn run_known(number: RunId, run: &Run) -> KnownRun
             is_marked: false,
             tasks: tasks_known(run.tasks.as_slice()),
             has_timers: started_timer(events),
+        },
+    }
+}
+
+/// What the head of a run tells of its rows. Whether it has had timers stands in its history alone.
+pub fn head_known(number: RunId, head: &Head) -> KnownRun
+    ensures { result ≡ words.head_known number head.now }
+{
+    KnownRun {
+        number,
+        count: head.events,
+        standing: Standing {
+            is_open: head.is_open,
+            is_marked: false,
+            tasks: tasks_known(head.tasks.as_slice()),
+            has_timers: true,
         },
     }
 }

@@ -17,7 +17,6 @@ pub mod questions;
 pub mod row_changes;
 mod rows;
 pub mod run_changes;
-mod signals;
 pub mod tables;
 pub mod transaction;
 pub mod turn_changes;

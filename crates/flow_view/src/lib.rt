@@ -5,6 +5,7 @@ pub mod due;
 pub mod fault;
 pub mod head;
 pub mod history;
+pub mod left;
 pub mod lists;
 pub mod run;
 pub mod view;

@@ -1,5 +1,4 @@
--- Which of some dues is the least, and which is the least of a book: what a set of timers in order of their dues is held against. As
--- flow_rows/proofs/DueFirst.antt has it for rows.
+-- Which of some dues is the least, and which is the least of a book: what timers in memory and rows of timers are held against.
 use Rattle.std.proofs.Common.{◌≡◌, ℕ, zero, suc, ◌+◌, ◌≤◌, ◌<◌, List, [], ◌∷◌, Bool, true, false, ◌&&◌, ◌||◌, if◌then◌else◌, Option, Some, None, nat_eq, slice_get, refl, sym, ap, ◌∙◌, subst, inl, inr, true≢false, arith}
 use Rattle.std.specs.Prelude.{◌⊎◌, nat_lt, nat_le}
 use Rattle.std.specs.Cmp.Derive.{both_true}
@@ -17,7 +16,7 @@ some_is : {A : Type 0} (x y : A) → Some x ≡ Some y → x ≡ y
 some_is x y h = let same = h in cc
 
 -- the lesser of what was found before and of a timer, where it is due by a moment
-abbrev with_due : ℕ → Option Due → Due → Option Due
+abbrev pub with_due : ℕ → Option Due → Due → Option Due
 with_due at best d = if nat_le d.due at then Some (lesser best d) else best
 
 ---- The order of dues
@@ -83,7 +82,7 @@ abbrev pub IsLeast : ℕ → (Due → Type 0) → Option Due → Type 0
 IsLeast at S None = (d : Due) → S d → d.due ≤ at → ⊥
 IsLeast at S (Some m) = S m × (m.due ≤ at) × ((d : Due) → S d → d.due ≤ at → Before d m → ⊥)
 
-abbrev And : (Due → Type 0) → Due → Due → Type 0
+abbrev pub And : (Due → Type 0) → Due → Due → Type 0
 And S x d = S d ⊎ (d ≡ x)
 
 module _ (at : ℕ) where
@@ -122,7 +121,7 @@ module _ (at : ℕ) where
     ],
   )
 
-  one_more : (S : Due → Type 0) (best : Option Due) (x : Due) → IsLeast at S best → IsLeast at (And S x) (with_due at best x)
+  pub one_more : (S : Due → Type 0) (best : Option Due) (x : Due) → IsLeast at S best → IsLeast at (And S x) (with_due at best x)
   one_more S best x h = elim (cases_Bool (nat_le x.due at)) [
     | inl by ↦ rw by (first best (leb-true x.due at by) h)
     | inr not_so ↦ rw not_so (later S x not_so best h)
