@@ -195,7 +195,8 @@ impl<S: Alter> Engine<S> {
     /// halted before.
     ///
     /// Before anything is taken, and behind each batch that doesn't halt the engine, what the book gives out by the clock is posted.
-    /// A board that can't be made or posted, E80 or E01, is tried once more, and then skipped until the next batch.
+    /// A board that can't be made or posted, E80 or E01, is tried once more, and then skipped until the next batch, which a thread that
+    /// waits by `Submitter::next_tick` brings within a minute.
     ///
     /// By the caller's condition the publisher has published what the engine has kept, as it is of an engine that has kept no
     /// batch since it was opened and a publisher that has published none.
