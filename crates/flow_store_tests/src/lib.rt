@@ -10,6 +10,8 @@ mod boards;
 #[cfg(test)]
 mod calls;
 #[cfg(test)]
+mod capacities;
+#[cfg(test)]
 mod driving;
 #[cfg(test)]
 mod found;
