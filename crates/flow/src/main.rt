@@ -1,8 +1,10 @@
-//! `flow`: checks programs of workflows, and answers command lines.
+//! `flow`: checks programs of workflows, answers command lines, and keeps an engine running.
 #![tactic(auto)]
 
+mod running;
 mod store;
 
+use crate::running::keep_running;
 use crate::store::{close_file, open_file, open_memory};
 use flow_base::fault::Fault;
 use flow_check::language::Language;
@@ -14,31 +16,42 @@ use flow_cli::fault::fault_of_error;
 use flow_cli::safety::tell_safety;
 use flow_cli::work::{Work, perform_here};
 use std::process::ExitCode;
+use std::sync::Wait;
+use std::thread::Threads;
+use std::time::Clock;
 use std::{env, fs, io};
 
 fn main(rt: HostRuntime) -> ExitCode {
-    let outcome = run(&rt);
+    let outcome = run(&rt, &rt);
     ExitCode::from(ended(rt.alloc(), &mut rt.stderr(), &outcome))
 }
 
-/// Does what the words ask for; the program's own name is the first.
-fn run(rt: &HostRuntime) -> Result<u8, Stopped> {
+/// Does what the words ask for; the program's own name is the first. Threads are started by `threads`.
+fn run<T: Threads + Wait + Clock + Copy + Send + Sync + Drop + 'static>(
+    rt: &HostRuntime,
+    threads: &T,
+) -> Result<u8, Stopped> {
     let words = match env::args(rt) {
         Ok(words) => words.collect::<Vec<String>>(rt.alloc())?,
         Err(error) => return Err(Stopped::Refused(fault_of_error(error.kind(), Fault::BadUsage))),
     };
     match call_of(rt.alloc(), words.as_slice()) {
-        Ok(call) => answer(rt, &call),
+        Ok(call) => answer(rt, threads, &call),
         Err(fault) => Err(Stopped::Refused(fault)),
     }
 }
 
-fn answer(rt: &HostRuntime, call: &Call<'_>) -> Result<u8, Stopped> {
+fn answer<T: Threads + Wait + Clock + Copy + Send + Sync + Drop + 'static>(
+    rt: &HostRuntime,
+    threads: &T,
+    call: &Call<'_>,
+) -> Result<u8, Stopped> {
     match call {
         Call::Check(file) => check(rt, file),
         Call::Safe { old, new } => safe(rt, old, new),
         Call::Over("-", work) => over_memory(rt, work),
         Call::Over(file, work) => over_file(rt, file, work),
+        Call::Work { base, settings } => keep_running(rt, threads, base, *settings),
     }
 }
 

@@ -1,0 +1,5 @@
+pub mod Configured
+pub mod Endings
+pub mod Inputs
+pub mod Moments
+pub mod Printing

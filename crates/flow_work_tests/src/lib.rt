@@ -1,0 +1,5 @@
+//! Tests of a running engine.
+#![tactic(auto)]
+
+#[cfg(test)]
+mod together;
