@@ -10,6 +10,7 @@ ghost use Rattle.flow.specs.Openings.{IsHandedOn};
 use flow_base::fault::Fault;
 use flow_cli::drive::Stopped;
 use flow_engine::engine::Engine;
+use flow_settings::settings::Settings;
 use sqlite::{Alter, Connection, Error, ErrorCode, File, FileStore, MemStore};
 
 /// The engine over a store.
@@ -21,7 +22,7 @@ fn open<S: Alter + Drop>(rt: &HostRuntime, conn: Connection<S>) -> Result<Engine
     ensures book { IfOk result (λ e. IsSure S.Store e → IsFound (state S.Store conn) (kept_book S.Store e)) }
     ensures refused { IfErr result (IsHandedOn S.Store (state S.Store conn)) }
 {
-    match Engine::open(rt.alloc(), conn) {
+    match Engine::open(rt.alloc(), conn, Settings::usual()) {
         Ok(engine) => Ok(engine),
         Err((fault, _held)) => Err(Stopped::Refused(fault)),
     }

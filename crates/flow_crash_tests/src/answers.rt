@@ -6,6 +6,7 @@ use flow_base::code::Code;
 use flow_base::command::{Command, Reply};
 use flow_engine::engine::Engine;
 use flow_machine::answer::{Stop, Together};
+use flow_settings::settings::Settings;
 use sqlite::{Alter, Connection};
 use std::alloc::Global;
 
@@ -132,7 +133,7 @@ pub fn answers_over<S: Alter>(
     conn: Connection<S>,
     batches: &[[Call; 3]],
 ) -> (Option<Answers>, Connection<S>) {
-    match Engine::open(alloc, conn) {
+    match Engine::open(alloc, conn, Settings::usual()) {
         Ok(engine) => {
             let mut engine = engine;
             let answers = answer_all(alloc, &mut engine, batches);

@@ -387,6 +387,16 @@ impl Agenda {
         }
     }
 
+    /// Whether it is known that a run has no timer.
+    pub fn has_no_timer(&self, run: RunId) -> bool
+        ensures { result ≡ true → (b : Book) → IsOf self.now b → timers_at b run ≡ [] }
+    {
+        match &self.plans {
+            Some(plans) => plans.timers.has_none(run),
+            None => false,
+        }
+    }
+
     /// The timer that is due first, of those that are due by a moment, if that is known.
     pub fn least_due(&self, at: Moment) -> Option<Option<Due>>
         ensures { IfSome result (λ o. (b : Book) → IsOf self.now b → o ≡ words.least_due b at) }

@@ -11,7 +11,7 @@ ghost use Rattle.flow_base.specs.declared.book.Task.{Task as ATask};
 ghost use Rattle.flow_base.specs.declared.book.Timer.{Timer as ATimer};
 ghost use Rattle.flow_maps.specs.Agenda as plans;
 ghost use Rattle.flow_maps.specs.Agenda.{IsOf, replaced, one_if};
-ghost use Rattle.flow_maps.specs.Timers.{timers_of};
+ghost use Rattle.flow_maps.specs.Timers.{timers_at, timers_of};
 ghost use Rattle.flow_maps.specs.Signals.{KnowsSignals};
 ghost use Rattle.flow_maps.specs.Keys.{Lists};
 ghost use Rattle.flow_maps.specs.Outlooks.{outlook_of};
@@ -349,6 +349,13 @@ impl Maps {
         ensures { IfSome result (λ o. (b : Book) → Serves self.now b → o ≡ words.open_run b flow.now) }
     {
         self.flows.find(flow)
+    }
+
+    /// Whether it is known that a run has no open timer.
+    pub fn has_no_timer(&self, run: RunId) -> bool
+        ensures { result ≡ true → (b : Book) → Serves self.now b → timers_at b run ≡ [] }
+    {
+        self.agenda.has_no_timer(run)
     }
 
     /// The open timer that is due first, of those that are due by a moment, if that is known.

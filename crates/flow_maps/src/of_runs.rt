@@ -25,6 +25,16 @@ impl<T: Drop> OfRuns<T> {
         }
     }
 
+    /// Whether a run has nothing.
+    pub fn has_none(&self, run: RunId) -> bool
+        ensures { result ≡ true → list_of self.now run ≡ [] }
+    {
+        match self.lists.get(&run.get()) {
+            Some(list) => list.is_empty(),
+            None => true,
+        }
+    }
+
     /// Takes the list of a run, which then has none.
     pub fn take(&mut self, run: RunId) -> Sequence<T>
         ensures taken { result ≡ list_of self.old run }

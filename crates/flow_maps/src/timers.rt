@@ -89,6 +89,13 @@ impl Timers {
         }
     }
 
+    /// Whether a run has no timer.
+    pub fn has_none(&self, run: RunId) -> bool
+        ensures { result ≡ true → (f : ℕ → List ATimer) → Times self.now f → f run ≡ [] }
+    {
+        self.lists.has_none(run)
+    }
+
     /// Takes the timers of a run, which then has none.
     pub fn take(&mut self, run: RunId) -> Sequence<Timer>
         ensures taken { (f : ℕ → List ATimer) → Times self.old f → result ≡ f run }

@@ -13,6 +13,7 @@ use flow_hub::seats::{Opened, Room};
 use flow_hub::submitter::Submitter;
 use flow_hub::ticket::Ticket;
 use flow_machine::submission::Receipt;
+use flow_settings::settings::Settings;
 use flow_timers::Clock;
 use sqlite::{Alter, Connection, MemStore};
 use std::alloc::Global;
@@ -94,7 +95,7 @@ fn serve<B: Room, R: Wait>(
     requires { (publisher.old.history ≡ []) × (publisher.old.last ≡ []) × (publisher.old.held ≡ []) }
 {
     let conn = Connection::open_in_memory(alloc).ok()?;
-    match Engine::open(alloc, conn) {
+    match Engine::open(alloc, conn, Settings::usual()) {
         Ok(engine) => {
             let mut engine = engine;
             let ended = engine.serve(rt, publisher, &clock, 16);

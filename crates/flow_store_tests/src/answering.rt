@@ -4,6 +4,7 @@ use crate::keeping::failing;
 use flow_base::code::Code;
 use flow_engine::engine::Engine;
 use flow_machine::answer::{Answer, Stop};
+use flow_settings::settings::Settings;
 use sqlite::{Alter, Connection};
 use std::alloc::Global;
 use std::test::Fail;
@@ -39,7 +40,7 @@ fn answered_over<S: Alter + Drop>(
     conn: Connection<S>,
     calls: &[Call],
 ) -> Option<Vec<Heard>> {
-    match Engine::open(alloc, conn) {
+    match Engine::open(alloc, conn, Settings::usual()) {
         Ok(engine) => {
             let mut engine = engine;
             let list = answered(alloc, &mut engine, calls);

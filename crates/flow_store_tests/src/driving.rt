@@ -5,6 +5,7 @@ use flow_commit::batch::Batch;
 use flow_engine::done::Done;
 use flow_engine::drive::drive;
 use flow_engine::engine::Engine;
+use flow_settings::settings::Settings;
 use flow_view::fault::ViewFault;
 use sqlite::{Alter, Connection};
 use std::alloc::Global;
@@ -65,7 +66,7 @@ fn drive_two<S: Alter>(
     calls: &[(u64, Call)],
     more: &[(u64, Call)],
 ) -> (Answers, Connection<S>) {
-    match Engine::open(alloc, conn) {
+    match Engine::open(alloc, conn, Settings::usual()) {
         Ok(engine) => {
             let mut engine = engine;
             let first = drive_calls(alloc, &mut engine, calls);
@@ -171,7 +172,7 @@ fn a_flow_with_nothing_to_do_ends(rt: HostRuntime) -> Result<(), Fail> {
 
 /// The code of an opening that is refused.
 fn open_code<S: Alter + Drop>(alloc: Global, conn: Connection<S>) -> u8 {
-    match Engine::open(alloc, conn) {
+    match Engine::open(alloc, conn, Settings::usual()) {
         Ok(engine) => {
             let_go(engine.close());
             0

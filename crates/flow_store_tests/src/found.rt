@@ -3,6 +3,7 @@ use crate::calls::{Call, command, let_go};
 use crate::positions::is_waiting;
 use flow_engine::engine::Engine;
 use flow_recover::positions::Position;
+use flow_settings::settings::Settings;
 use sqlite::{Alter, Connection};
 use std::alloc::Global;
 use std::test::Fail;
@@ -39,7 +40,7 @@ fn finds<S: Alter>(
     runs: &[u64],
     calls: &[Call],
 ) -> (bool, Connection<S>) {
-    match Engine::open(alloc, conn) {
+    match Engine::open(alloc, conn, Settings::usual()) {
         Ok(engine) => {
             let mut engine = engine;
             let are = are_waiting(engine.found(), runs)

@@ -8,6 +8,8 @@ mod batches;
 #[cfg(test)]
 mod calls;
 #[cfg(test)]
+mod capacities;
+#[cfg(test)]
 mod driving;
 #[cfg(test)]
 mod found;

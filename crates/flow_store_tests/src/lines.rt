@@ -5,6 +5,7 @@ use flow_cli::batch::BatchSize;
 use flow_cli::drive::{drive_lines, end_status};
 use flow_cli::history::history_from;
 use flow_engine::engine::Engine;
+use flow_settings::settings::Settings;
 use sqlite::{Connection, MemStore};
 use std::alloc::Global;
 use std::test::Fail;
@@ -28,7 +29,7 @@ fn driven_over(
     input: &[u8],
     wanted: &[u8],
 ) -> (Option<u8>, Connection<MemStore>) {
-    match Engine::open(alloc, conn) {
+    match Engine::open(alloc, conn, Settings::usual()) {
         Ok(engine) => {
             let mut engine = engine;
             let status = driven(alloc, &mut engine, input, wanted);
@@ -64,7 +65,7 @@ fn what_was_answered_is_there_again(rt: HostRuntime) -> Result<(), Fail> {
 
 /// Whether a store has no such run.
 fn is_missing(alloc: Global, conn: Connection<MemStore>, run: RunId) -> bool {
-    match Engine::open(alloc, conn) {
+    match Engine::open(alloc, conn, Settings::usual()) {
         Ok(mut engine) => matches!(&history_from(&mut engine, run), Err(Fault::NoRun)),
         Err((_, _)) => false,
     }

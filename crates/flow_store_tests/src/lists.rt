@@ -7,6 +7,7 @@ use flow_cli::command::command_of;
 use flow_engine::done::Unanswered;
 use flow_engine::engine::Engine;
 use flow_machine::answer::{Answer, Stop};
+use flow_settings::settings::Settings;
 use sqlite::{Alter, Connection};
 use std::alloc::Global;
 use std::test::Fail;
@@ -89,7 +90,7 @@ fn heard_twice<S: Alter + Drop>(
     first: Option<Vec<Command>>,
     second: Option<Vec<Command>>,
 ) -> (Option<Vec<Heard>>, Option<Vec<Heard>>) {
-    match Engine::open(alloc, conn) {
+    match Engine::open(alloc, conn, Settings::usual()) {
         Ok(engine) => {
             let mut engine = engine;
             let one = heard_at_once(alloc, &mut engine, first);
@@ -110,7 +111,7 @@ fn heard_one_by_one<S: Alter + Drop>(
     conn: Connection<S>,
     commands: Option<Vec<Command>>,
 ) -> Option<Vec<Heard>> {
-    match Engine::open(alloc, conn) {
+    match Engine::open(alloc, conn, Settings::usual()) {
         Ok(engine) => {
             let mut engine = engine;
             let heard = heard_singly(alloc, &mut engine, commands);

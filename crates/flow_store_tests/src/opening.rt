@@ -66,7 +66,7 @@ fn refused(fault: &Fault) -> Found {
 
 /// What is found in a store. It is closed again.
 fn look<S: Alter>(alloc: Global, conn: Connection<S>) -> (Found, Connection<S>) {
-    match recover(alloc, conn) {
+    match recover(alloc, conn, 256) {
         Ok((keeper, positions)) => {
             if keeper.is_halted() {
                 return (Found::Other, closed(keeper));
@@ -108,7 +108,7 @@ enum Step {
 
 /// Whether the call is kept, and the store behind it.
 fn keep<S: Alter>(alloc: Global, conn: Connection<S>, batch: Batch) -> (bool, Connection<S>) {
-    match recover(alloc, conn) {
+    match recover(alloc, conn, 1) {
         Ok((keeper, _)) => {
             let mut keeper = keeper;
             let is = is_kept(keeper.commit(batch));
@@ -147,7 +147,7 @@ fn decided<S: Alter>(alloc: Global, tables: &mut Tables<S>, call: Call) -> bool 
 
 /// Whether the call is applied, and the store within the transaction.
 fn apply<S: Alter>(alloc: Global, conn: Connection<S>, call: Call) -> (bool, Connection<S>) {
-    match recover(alloc, conn) {
+    match recover(alloc, conn, 2) {
         Ok((keeper, _)) => {
             let mut tables = keeper.into_tables();
             let is = decided(alloc, &mut tables, call);

@@ -117,6 +117,13 @@ fn signal(alloc: Global) -> Result<Change, &'static str> {
     Ok(Change::AddTurn(run(1)?, turn))
 }
 
+/// A signal of another request comes to run 2, which completes.
+fn other_signal(alloc: Global) -> Result<Change, &'static str> {
+    let input = Input::Signaled(key(alloc, "s")?, key(alloc, "p")?, Value::Int(7));
+    let turn = turn(alloc, input, Cmd::Complete(Value::Int(7)))?;
+    Ok(Change::AddTurn(run(2)?, turn))
+}
+
 /// A run that was signalled and is closed, and a later one of its flow.
 fn add_signalled(alloc: Global, tables: &mut Memory) -> Result<(), &'static str> {
     add(tables, text(alloc))?;
@@ -157,13 +164,30 @@ fn waits_again(alloc: Global, due: u64) -> Result<Change, &'static str> {
     Ok(Change::AddTurn(run(1)?, turn))
 }
 
+/// What of a run is read before a turn of it.
+#[derive(Clone, Copy)]
+enum Look {
+    Nothing,
+    Head,
+    Whole,
+}
+
+fn is_read(tables: &mut Memory, look: Look) -> Result<bool, &'static str> {
+    let run = run(1)?;
+    match look {
+        Look::Nothing => Ok(true),
+        Look::Head => Ok(tables.head(run).is_ok()),
+        Look::Whole => Ok(tables.run(run).is_ok()),
+    }
+}
+
 /// Puts a turn of run 1, which is read before it as a command does, or not.
 fn go_on(
     tables: &mut Memory,
-    reads: bool,
+    look: Look,
     change: Result<Change, &'static str>,
 ) -> Result<(), &'static str> {
-    if reads && tables.run(run(1)?).is_err() {
+    if !is_read(tables, look)? {
         return Err("not read");
     }
     add(tables, change)
@@ -173,14 +197,14 @@ fn go_on(
 fn least_behind(
     alloc: Global,
     tables: &mut Memory,
-    reads: bool,
+    look: Look,
 ) -> Result<((u64, u64, u64), (u64, u64, u64)), &'static str> {
     add(tables, text(alloc))?;
     add(tables, waits(alloc, 80))?;
     add(tables, waits(alloc, 90))?;
-    go_on(tables, reads, waits_again(alloc, 85))?;
+    go_on(tables, look, waits_again(alloc, 85))?;
     let fired = least(tables, 100)?;
-    go_on(tables, reads, signal(alloc))?;
+    go_on(tables, look, signal(alloc))?;
     Ok((fired, least(tables, 100)?))
 }
 
@@ -188,7 +212,17 @@ fn least_behind(
 fn timers_follow_their_runs(rt: HostRuntime) -> Result<(), Fail> {
     let mut tables = begun(rt.alloc())?;
     assert_eq!(rt;
-        least_behind(rt.alloc(), &mut tables, true)?,
+        least_behind(rt.alloc(), &mut tables, Look::Whole)?,
+        ((85, 1, 4), (90, 2, 2))
+    );
+    Ok(())
+}
+
+#[test]
+fn timers_follow_runs_of_which_the_head_was_read(rt: HostRuntime) -> Result<(), Fail> {
+    let mut tables = begun(rt.alloc())?;
+    assert_eq!(rt;
+        least_behind(rt.alloc(), &mut tables, Look::Head)?,
         ((85, 1, 4), (90, 2, 2))
     );
     Ok(())
@@ -198,7 +232,7 @@ fn timers_follow_their_runs(rt: HostRuntime) -> Result<(), Fail> {
 fn timers_of_runs_that_were_not_read(rt: HostRuntime) -> Result<(), Fail> {
     let mut tables = begun(rt.alloc())?;
     assert_eq!(rt;
-        least_behind(rt.alloc(), &mut tables, false)?,
+        least_behind(rt.alloc(), &mut tables, Look::Nothing)?,
         ((85, 1, 4), (90, 2, 2))
     );
     Ok(())
@@ -228,6 +262,35 @@ fn a_rollback_takes_timers_back(rt: HostRuntime) -> Result<(), Fail> {
     assert_eq!(rt;
         least_rolled_back(rt.alloc(), &mut tables)?,
         ((80, 2, 2), (90, 1, 2))
+    );
+    Ok(())
+}
+
+/// A signal was taken before the last commit, another came in a transaction that is rolled back: where both are.
+fn signalled_rolled_back(
+    alloc: Global,
+    tables: &mut Memory,
+) -> Result<((u64, u64), (u64, u64)), &'static str> {
+    add_signalled(alloc, tables)?;
+    if !(tables.commit().is_ok() && tables.begin().is_ok()) {
+        return Err("not committed");
+    }
+    add(tables, other_signal(alloc))?;
+    if !(tables.rollback().is_ok() && tables.begin().is_ok()) {
+        return Err("not rolled back");
+    }
+    Ok((
+        signalled(alloc, tables, "q")?,
+        signalled(alloc, tables, "p")?,
+    ))
+}
+
+#[test]
+fn a_rollback_takes_signals_back(rt: HostRuntime) -> Result<(), Fail> {
+    let mut tables = begun(rt.alloc())?;
+    assert_eq!(rt;
+        signalled_rolled_back(rt.alloc(), &mut tables)?,
+        ((1, 3), (0, 0))
     );
     Ok(())
 }

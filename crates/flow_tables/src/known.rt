@@ -169,9 +169,9 @@ pub fn run_known(number: RunId, run: &Run) -> KnownRun
     }
 }
 
-/// What the head of a run tells of its rows. Whether it has had timers stands in its history alone.
-pub fn head_known(number: RunId, head: &Head) -> KnownRun
-    ensures { result ≡ words.head_known number head.now }
+/// What the head of a run tells of its rows, which may have timers or not.
+pub fn head_known(number: RunId, head: &Head, has_timers: bool) -> KnownRun
+    ensures { result ≡ words.head_known number head.now has_timers }
 {
     KnownRun {
         number,
@@ -180,7 +180,7 @@ pub fn head_known(number: RunId, head: &Head) -> KnownRun
             is_open: head.is_open,
             is_marked: false,
             tasks: tasks_known(head.tasks.as_slice()),
-            has_timers: true,
+            has_timers,
         },
     }
 }
