@@ -15,6 +15,7 @@ use flow_cli::ending::ended;
 use flow_cli::fault::fault_of_error;
 use flow_cli::safety::tell_safety;
 use flow_cli::work::{Work, perform_here};
+use flow_settings::settings::Settings;
 use std::process::ExitCode;
 use std::sync::Wait;
 use std::thread::Threads;
@@ -27,7 +28,7 @@ fn main(rt: HostRuntime) -> ExitCode {
 }
 
 /// Does what the words ask for; the program's own name is the first. Threads are started by `threads`.
-fn run<T: Threads + Wait + Clock + Copy + Send + Sync + Drop + 'static>(
+fn run<T: Threads + Wait + Clock + Copy + Send + Drop + 'static>(
     rt: &HostRuntime,
     threads: &T,
 ) -> Result<u8, Stopped> {
@@ -41,7 +42,7 @@ fn run<T: Threads + Wait + Clock + Copy + Send + Sync + Drop + 'static>(
     }
 }
 
-fn answer<T: Threads + Wait + Clock + Copy + Send + Sync + Drop + 'static>(
+fn answer<T: Threads + Wait + Clock + Copy + Send + Drop + 'static>(
     rt: &HostRuntime,
     threads: &T,
     call: &Call<'_>,
@@ -84,13 +85,13 @@ fn safe(rt: &HostRuntime, old: &str, new: &str) -> Result<u8, Stopped> {
 }
 
 fn over_file(rt: &HostRuntime, file: &str, work: &Work) -> Result<u8, Stopped> {
-    let mut engine = open_file(rt, file)?;
+    let mut engine = open_file(rt, file, Settings::usual())?;
     let outcome = perform_here(rt, &mut engine, work);
     close_file(engine);
     outcome
 }
 
 fn over_memory(rt: &HostRuntime, work: &Work) -> Result<u8, Stopped> {
-    let mut engine = open_memory(rt)?;
+    let mut engine = open_memory(rt, Settings::usual())?;
     perform_here(rt, &mut engine, work)
 }

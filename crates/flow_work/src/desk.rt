@@ -1,5 +1,5 @@
 //! The thread that submits lines and prints their replies, in the order of the lines.
-ghost use Rattle.std.specs.Prelude.{◌≡◌, ◌≤◌, ◌<◌, ◌∷◌, ◌++◌, [], false, length, max, IfOk, IfSome};
+ghost use Rattle.std.specs.Prelude.{◌≡◌, ◌≤◌, ◌<◌, [], false, length, IfOk, IfSome};
 ghost use Rattle.flow_work.specs.Endings.{IsToldOf, line_instead};
 ghost use Rattle.flow_work.specs.Printing.{Prints, status_with};
 

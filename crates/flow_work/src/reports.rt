@@ -1,7 +1,7 @@
 //! A submitter, as workers report to it and the timer thread ticks by it.
 ghost use Rattle.std.specs.Prelude.{◌≡◌, [], ◌∷◌, ◌++◌, IfErr, IfSome, IfNone, Some, true};
 ghost use Rattle.flow_base.specs.declared.command.Command.{Command as ACommand};
-ghost use Rattle.flow_hub.specs.Feeding.{IsDueBy, due_in};
+ghost use Rattle.flow_hub.specs.Feeding.{IsTickOf};
 ghost use Rattle.flow_pool.specs.Reports.{came_of};
 ghost use Rattle.flow_work.specs.Endings.{unheard_denied, unheard_why};
 
@@ -132,7 +132,7 @@ impl<S: Alter, B: Room> Reporter<S, B> {
         rt: &R,
         clock: &C,
     ) -> Option<Command>
-        ensures tick { IfSome result (λ c. IsDueBy (due_in self.new.submitter.was) c) }
+        ensures tick { IfSome result (λ c. IsTickOf self.new.submitter.was c) }
         ensures none { IfNone result (self.new.submitter.was.closed ≡ true) }
     {
         self.submitter.next_tick(rt, clock)

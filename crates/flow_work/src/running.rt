@@ -1,5 +1,5 @@
 //! A running engine: the threads around the one that serves.
-ghost use Rattle.std.specs.Prelude.{◌≡◌, ◌≤◌, [], IfOk, IfErr, OnOk};
+ghost use Rattle.std.specs.Prelude.{◌≡◌, [], length, IfOk, IfErr, OnOk};
 ghost use Rattle.flow_hub.specs.Seating.{IsRoomOf};
 ghost use Rattle.flow_hub.specs.Publishing.{Together};
 ghost use Rattle.flow_engine.specs.Answering.{Follows};
@@ -54,7 +54,9 @@ fn open_channel(
 }
 
 /// One who reports to a hub. E01 where there's no memory for it.
-fn reporter<S: Alter, B: Room, R: Wait>(rt: &R, hub: &Hub<S, B>) -> Result<Reporter<S, B>, Fault> {
+fn reporter<S: Alter, B: Room, R: Wait>(rt: &R, hub: &Hub<S, B>) -> Result<Reporter<S, B>, Fault>
+    ensures { IfErr result (λ f. f ≡ Fault.NoMemory) }
+{
     match hub.submitter(rt) {
         Ok(submitter) => Ok(Reporter::new(submitter)),
         Err(_) => Err(Fault::NoMemory),
@@ -78,6 +80,7 @@ where
     A: Activity + Drop + Send + 'static,
     K: Skills<A>,
     C: Clock + Copy + Send + Drop + 'static,
+    ensures { IfErr result (λ f. f ≡ Fault.NoMemory) }
 {
     for receiver in receivers {
         let activities = skills.of_worker(alloc)?;
@@ -112,6 +115,7 @@ where
     A: Activity + Drop + Send + 'static,
     K: Skills<A>,
     C: Clock + Copy + Send + Drop + 'static,
+    ensures { IfErr result (λ f. f ≡ Fault.NoMemory) }
 {
     let Some(feed) = hub.feed(rt) else {
         return Err(Fault::NoMemory);
@@ -137,6 +141,7 @@ where
     I: BufRead + Drop + Send + 'static,
     W: Write + Drop + Send + 'static,
     C: Clock + Copy + Send + Drop + 'static,
+    ensures { IfErr result (λ f. f ≡ Fault.NoMemory) }
 {
     let (lines, inputs) = bounded(alloc, MOST_LINES)?;
     let own_lines = lines.clone()?;
@@ -170,6 +175,7 @@ where
     A: Activity + Drop + Send + 'static,
     K: Skills<A>,
     C: Clock + Copy + Send + Drop + 'static,
+    ensures { IfErr result (λ f. f ≡ Fault.NoMemory) }
 {
     start_pool(rt, alloc, hub, workers, skills, clock, group)?;
     start_timer(rt, reporter(rt, hub)?, clock, group.clone()?)?;

@@ -1,7 +1,5 @@
 //! The settings file of the program.
-ghost use Rattle.std.specs.Prelude.{◌≡◌, ◌⊎◌, IfOk, IfErr, Some, None, Ok, Err, string_bytes};
-ghost use Rattle.flow_settings.specs.Allowed.{settings_in};
-ghost use Rattle.flow_settings.specs.declared.fault.SettingsFault.TheVariants as faults;
+ghost use Rattle.std.specs.Prelude.{◌≡◌, IfOk, IfErr};
 ghost use Rattle.flow_work.specs.Configured.{GivesSettings, IsNoSettings};
 
 use flow_settings::fault::SettingsFault;

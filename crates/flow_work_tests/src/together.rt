@@ -73,6 +73,8 @@ struct Both {
 }
 
 impl Skills<Pair> for Both {
+    ghost has = { λ _ all. Unit {0} };
+
     fn of_worker(&self, alloc: Global) -> Result<Vec<Pair>, AllocError> {
         let mut both = Vec::with_capacity(alloc, 2)?;
         both.push(Pair::Hold(Arc::try_clone(&self.mark)?))?;
