@@ -3,7 +3,6 @@ use Rattle.std.specs.Prelude.{◌≡◌, ℕ, Bool, true, ◌&&◌, not, ◌++�
 use Rattle.std.specs.Coded.{Coded, code_by, coded×, coded_ℕ, coded_list, coded_option}
 use Rattle.std.specs.List.{list_any}
 use Rattle.flow_base.specs.Syntax.{Bytes}
-use Rattle.flow_base.specs.declared.book.Run.{Run}
 use Rattle.flow_base.specs.declared.event.Cmd.{Cmd}
 use Rattle.flow_base.specs.declared.event.Cmd.TheVariants.{Schedule}
 use Rattle.flow_base.specs.declared.event.Event.{Event}
@@ -12,10 +11,11 @@ use Rattle.flow_base.specs.declared.event.What.TheVariants.{Came, Asked}
 use Rattle.flow_base.specs.declared.fault.Fault.{Fault}
 use Rattle.flow_base.specs.declared.fault.Fault.TheVariants as fault
 use Rattle.flow_base.specs.declared.value.Value.{Value}
-use Rattle.flow_model.specs.Book.{Book, nth}
+use Rattle.flow_model.specs.Book.{Book}
 use Rattle.flow_maps.specs.Agenda.{open_runs}
 use Rattle.flow_maps.specs.Outlooks.{Waiting, waiting}
 use Rattle.flow_rows.specs.Dues.{next_moment}
+use Rattle.flow_view.specs.Heads.{event_at}
 use Rattle.flow_view.specs.declared.fault.ViewFault.{ViewFault}
 use Rattle.flow_view.specs.declared.fault.ViewFault.TheVariants as view
 use Rattle.flow_commit.specs.declared.waiting.Draft.{Draft}
@@ -76,13 +76,9 @@ abbrev pub called_by : Option Event → Option Call
 called_by None = None
 called_by (Some e) = called_in e.what
 
-abbrev pub event_of : Option Run → ℕ → Option Event
-event_of None event = None
-event_of (Some r) event = nth r.history event
-
 -- what the event of a run calls
 abbrev pub call_at : Book → ℕ → ℕ → Option Call
-call_at b run event = called_by (event_of (nth b.runs run) event)
+call_at b run event = called_by (event_at b.runs run event)
 
 abbrev pub task_with : Waiting → Option Call → List Task
 task_with w None = []

@@ -1,13 +1,12 @@
 //! Which open activities are to be posted, and when there is more to be done.
 ghost use Rattle.std.specs.Prelude.{◌≡◌, ◌++◌, IfOk, OnOk, filter};
-ghost use Rattle.flow_model.specs.Book.{nth};
 ghost use Rattle.flow_view.specs.Reading.{Caused, Reads};
 ghost use Rattle.flow_commit.specs.Boards as rule;
 
 use crate::board::Posted;
 use flow_base::book::Task as OpenTask;
 use flow_base::event::{Cmd, Event, What, copy_values};
-use flow_base::number::{EventId, Moment, RunId};
+use flow_base::number::{Moment, RunId};
 use flow_base::sequence::Sequence;
 use flow_base::text::Key;
 use flow_base::value::Value;
@@ -124,19 +123,16 @@ fn called_in(alloc: Global, event: &Event) -> Result<Option<(Key, Sequence<Value
     }
 }
 
-/// What the event of a number calls.
+/// What an event calls, if there is one.
 fn called_by(
     alloc: Global,
-    events: &[Event],
-    event: EventId,
+    event: &Option<Event>,
 ) -> Result<Option<(Key, Sequence<Value>)>, AllocError>
-    ensures { IfOk result (λ o. o ≡ rule.called_by (nth events.now event)) }
+    ensures { IfOk result (λ o. o ≡ rule.called_by event.now) }
 {
-    let place = event.get() - 1;
-    if place < events.len() as u64 {
-        called_in(alloc, &events[place as usize])
-    } else {
-        Ok(None)
+    match event {
+        Some(event) => called_in(alloc, event),
+        None => Ok(None),
     }
 }
 
@@ -153,10 +149,8 @@ fn call_at<V: View>(
     ensures was_true { V.is_true view.new → V.is_true view.old }
     ensures follows { (a : V) → V.follows a view.old → V.follows a view.new }
 {
-    let Some(run) = view.run(entry.0)? else {
-        return Ok(None);
-    };
-    match called_by(alloc, run.history.as_slice(), entry.1.event) {
+    let event = view.event(entry.0, entry.1.event)?;
+    match called_by(alloc, &event) {
         Ok(call) => Ok(call),
         Err(_) => Err(ViewFault::NoMemory),
     }

@@ -6,7 +6,6 @@ use Rattle.std.proofs.lemmas.List.Elements.{All-nil, All-cons, All-append}
 use Rattle.sqlite_trees.specs.declared.store.Store.{Ghosts}
 use Rattle.flow_base.specs.declared.code.Code.TheVariants as code
 use Rattle.flow_base.specs.declared.fault.Fault.{Fault}
-use Rattle.flow_base.specs.declared.fault.Fault.TheVariants as fault
 use Rattle.flow_machine.specs.declared.submission.Taken.{Taken}
 use Rattle.flow_view.specs.Codes.{view_fault_code}
 use Rattle.flow_view.specs.declared.fault.ViewFault.{ViewFault}
@@ -17,6 +16,7 @@ use Rattle.flow_hub.specs.declared.refused.Refused.{Refused}
 use Rattle.flow_hub.specs.Knowing.{IsOver, refused_by}
 use Rattle.flow_hub.specs.Publishing.{Together}
 use Rattle.flow_engine.specs.Answering.{Follows}
+use Rattle.flow_engine.specs.Boarding.{IsStill}
 use Rattle.flow_engine.specs.Serving.{IsGivenUp, GivesUp, TurnsAway, StopsAt, StopsFor}
 
 ---- What was answered by a code
@@ -120,3 +120,15 @@ module _ {S : Type 0} where
 
   pub follows_then : (g : Ghosts S) (a b c : Keeping S) → Follows g a b → Follows g b c → Follows g a c
   follows_then g a b c p q = (q.0 ∙ p.0, λ fit. p.1 (q.1 fit))
+
+  pub still_self : (g : Ghosts S) (k : Keeping S) → IsStill g k k
+  still_self g k = record { log = refl; base = refl; halted = refl; nothing = λ _. refl; follows = follows_self g k }
+
+  pub still_then : (g : Ghosts S) (a b c : Keeping S) → IsStill g a b → IsStill g b c → IsStill g a c
+  still_then g a b c p q = record {
+    log = q.log ∙ p.log;
+    base = q.base ∙ p.base;
+    halted = q.halted ∙ p.halted;
+    nothing = λ h. q.nothing (p.halted ∙ h) ∙ p.nothing h;
+    follows = follows_then g a b c p.follows q.follows;
+  }

@@ -6,3 +6,4 @@ pub mod Stopping
 pub mod Together
 pub mod Worlds
 pub mod Serving
+pub mod Boarding

@@ -1,8 +1,10 @@
 //! The thread that keeps: it takes what was submitted to a hub, commits it and answers it.
 ghost use Rattle.std.specs.Prelude.{◌≡◌, ◌≤◌, true, false, [], List, IfErr, OnOk};
 ghost use Rattle.std.specs.Vec.{vec_capacity};
+ghost use Rattle.flow_base.specs.Codes.{fault_code};
 ghost use Rattle.flow_machine.specs.declared.submission.Taken.{Taken as ATaken};
 ghost use Rattle.flow_hub.specs.Knowing.{IsBefore};
+ghost use Rattle.flow_engine.specs.Boarding.{IsStill};
 ghost use Rattle.flow_hub.specs.Publishing.{InHand, IsDone, Together};
 ghost use Rattle.flow_engine.specs.Answering.{Follows};
 ghost use Rattle.flow_engine.specs.Serving.{EndsFor, GivesUp, StopsAt, StopsFor, TurnsAway};
@@ -71,11 +73,58 @@ fn commit_taken<S: Alter, B: Room, R: Wait>(
     }
 }
 
-/// Answers what is submitted until the hub is closed and nothing waits, or a batch halts the engine. The first list is given.
-fn serve_all<S: Alter, B: Room, R: Wait>(
+/// Makes a board and posts it, or says for which code there is none.
+fn try_board<S: Alter, B: Room, R: Wait, C: Clock>(
     rt: &R,
     engine: &mut Engine<S>,
     publisher: &mut Publisher<S, B>,
+    clock: &C,
+) -> Result<(), Code>
+    requires together { Together engine.old publisher.old }
+    ensures together { Together engine.new publisher.new }
+    ensures boarded { OnOk result (publisher.new.boarded ≡ true) }
+    ensures still { IsStill S.Store engine.old engine.new }
+    ensures refused { publisher.new.refused ≡ publisher.old.refused }
+    ensures grows { IsBefore publisher.old publisher.new }
+{
+    match engine.board(publisher.posted(), clock.now()) {
+        Ok(board) => match publisher.post(rt, board) {
+            Ok(()) => Ok(()),
+            Err((_board, _no_memory)) => Err(Code::NoMemory),
+        },
+        Err(fault) => Err(fault.code()),
+    }
+}
+
+/// Posts a board behind what is kept. One that can't be made or posted is tried once more, and then there is none this time.
+fn post_board<S: Alter, B: Room, R: Wait, C: Clock>(
+    rt: &R,
+    engine: &mut Engine<S>,
+    publisher: &mut Publisher<S, B>,
+    clock: &C,
+)
+    requires together { Together engine.old publisher.old }
+    ensures together { Together engine.new publisher.new }
+    ensures boarded { publisher.new.boarded ≡ true }
+    ensures still { IsStill S.Store engine.old engine.new }
+    ensures refused { publisher.new.refused ≡ publisher.old.refused }
+    ensures grows { IsBefore publisher.old publisher.new }
+{
+    if try_board(rt, engine, publisher, clock).is_ok() {
+        return;
+    }
+    if let Err(code) = try_board(rt, engine, publisher, clock) {
+        publisher.skip(rt, code);
+    }
+}
+
+/// Answers what is submitted until the hub is closed and nothing waits, or a batch halts the engine. A board is posted first and
+/// behind each batch. The first list is given.
+fn serve_all<S: Alter, B: Room, R: Wait, C: Clock>(
+    rt: &R,
+    engine: &mut Engine<S>,
+    publisher: &mut Publisher<S, B>,
+    clock: &C,
     first: Vec<Taken>,
     most: usize,
 ) -> Result<(), Fault>
@@ -92,22 +141,32 @@ fn serve_all<S: Alter, B: Room, R: Wait>(
     ensures grows { IsBefore publisher.old publisher.new }
 {
     let mut taken = first;
+    post_board(rt, engine, publisher, clock);
     for _ in rt.forever() {
         if !publisher.take(rt, &mut taken, most) {
             return Ok(());
         }
         commit_taken(rt, engine, publisher, Batch::of(taken))?;
+        post_board(rt, engine, publisher, clock);
         taken = list_with_room(rt, engine.alloc(), most);
     }
     unreachable!()
 }
 
-/// Takes nothing more in, and answers all that waits that the engine has halted: E85.
+/// The code of a fault that is still to be handed on.
+fn code_of(fault: &Fault) -> Code
+    ensures { result ≡ fault_code fault.now }
+{
+    fault.code()
+}
+
+/// Takes nothing more in, and answers all that waits that the engine has halted: E85. There is no board any more, for this code.
 fn turn_away<S: Alter, B: Room, R: Wait>(
     rt: &R,
     alloc: Global,
     publisher: &mut Publisher<S, B>,
     most: usize,
+    code: Code,
 )
     requires none { publisher.old.held ≡ [] }
     requires most { (1 ≤ most) × (most ≤ 64) }
@@ -120,6 +179,7 @@ fn turn_away<S: Alter, B: Room, R: Wait>(
     publisher.close(rt);
     for _ in rt.forever() {
         let mut taken = list_with_room(rt, alloc, most);
+        publisher.skip(rt, code);
         if !publisher.take(rt, &mut taken, most) {
             return;
         }
@@ -134,9 +194,12 @@ impl<S: Alter> Engine<S> {
     /// is kept, which is answered E84, it closes the hub and answers all that waits E85, as it does over an engine that had
     /// halted before.
     ///
+    /// Before anything is taken, and behind each batch that doesn't halt the engine, what the book gives out by the clock is posted.
+    /// A board that can't be made or posted, E80 or E01, is tried once more, and then skipped until the next batch, which a thread that
+    /// waits by `Submitter::next_tick` brings within a minute.
+    ///
     /// By the caller's condition the publisher has published what the engine has kept, as it is of an engine that has kept no
-    /// batch since it was opened and a publisher that has published none. The moment will be asked of the clock for the tasks
-    /// that are posted; nothing is yet.
+    /// batch since it was opened and a publisher that has published none.
     ///
     /// # Failure
     /// E01 before anything is taken: the hub is closed, and all that waits is answered E85. Room for later lists is asked for
@@ -145,7 +208,7 @@ impl<S: Alter> Engine<S> {
         &mut self,
         rt: &R,
         publisher: &mut Publisher<S, B>,
-        _clock: &C,
+        clock: &C,
         most: usize,
     ) -> Result<(), Fault>
         requires together { Together self.old publisher.old }
@@ -161,15 +224,15 @@ impl<S: Alter> Engine<S> {
         ensures grows { IsBefore publisher.old publisher.new }
     {
         match Vec::with_capacity(self.alloc(), most) {
-            Ok(first) => match serve_all(rt, self, publisher, first, most) {
+            Ok(first) => match serve_all(rt, self, publisher, clock, first, most) {
                 Ok(()) => Ok(()),
                 Err(fault) => {
-                    turn_away(rt, self.alloc(), publisher, most);
+                    turn_away(rt, self.alloc(), publisher, most, code_of(&fault));
                     Err(fault)
                 }
             },
             Err(_) => {
-                turn_away(rt, self.alloc(), publisher, most);
+                turn_away(rt, self.alloc(), publisher, most, Code::NoMemory);
                 Err(Fault::NoMemory)
             }
         }

@@ -1,13 +1,15 @@
 -- What is known only grows.
-use Rattle.std.proofs.Common.{◌≡◌, ℕ, suc, ◌+◌, ◌≤◌, Bool, true, false, List, [], ◌∷◌, ◌++◌, length, map, refl, sym, ap, ◌∙◌, subst, arith, le_trans, append_assoc, length-append}
+use Rattle.std.proofs.Common.{◌≡◌, ◌≤◌, List, [], ◌∷◌, ◌++◌, length, map, refl, sym, ap, ◌∙◌, subst, arith, le_trans, append_assoc, length-append}
 use Rattle.std.proofs.lemmas.List.{append-nil}
 use mathlib.Core.List.{IsPrefix}
 use Rattle.flow_base.specs.declared.code.Code.{Code}
 use Rattle.flow_machine.specs.declared.submission.Receipt.{Receipt}
 use Rattle.flow_machine.specs.declared.submission.Taken.{Taken}
 use Rattle.flow_commit.specs.Keeping.{Keeping}
+use Rattle.flow_machine.specs.declared.task.Task.{Task}
 use Rattle.flow_hub.specs.declared.known.Known.{Known}
-use Rattle.flow_hub.specs.Knowing.{nothing, refused_by, with_ask, with_taken, with_published, with_refused, with_fetched, with_member, with_closed, IsOver, IsBefore, IsSamePart}
+use Rattle.flow_hub.specs.declared.known.Outlook.{Outlook}
+use Rattle.flow_hub.specs.Knowing.{nothing, refused_by, with_ask, with_taken, with_published, with_refused, with_fetched, with_member, with_closed, with_posted, with_skipped, with_given, IsOver, IsBefore, IsSamePart}
 
 pub prefix_self : {A : Type 0} (xs : List A) → IsPrefix xs xs
 prefix_self xs = ([], append-nil xs)
@@ -38,6 +40,8 @@ module _ {S : Type 0} where
     fetched = omega arith;
     members = omega arith;
     closed = λ c. c;
+    posted = prefix_self k.posted;
+    given = prefix_self k.given;
   }
 
   pub before_trans : (j k l : Known S) → IsBefore j k → IsBefore k l → IsBefore j l
@@ -49,6 +53,8 @@ module _ {S : Type 0} where
     fetched = le_trans p.fetched q.fetched;
     members = le_trans p.members q.members;
     closed = λ c. q.closed (p.closed c);
+    posted = prefix_trans j.posted k.posted l.posted p.posted q.posted;
+    given = prefix_trans j.given k.given l.given p.given q.given;
   }
 
   pub before_all : (k : Known S) → IsBefore nothing k
@@ -60,10 +66,12 @@ module _ {S : Type 0} where
     fetched = omega arith;
     members = omega arith;
     closed = λ c. absurd (cc c);
+    posted = (k.posted, refl);
+    given = (k.given, refl);
   }
 
   pub same_part : (k : Known S) → IsSamePart k k
-  same_part k = record { history = refl; refused = refl; last = refl; held = refl }
+  same_part k = record { history = refl; refused = refl; last = refl; held = refl; posted = refl; boarded = refl; outlook = refl }
 
   -- two that agree with a third on the publisher's part agree
   pub part_of : (x now y k : Known S) → IsSamePart x now → y ≡ now → IsSamePart k y → IsSamePart x k
@@ -72,6 +80,9 @@ module _ {S : Type 0} where
     refused = p.refused ∙ (ap (λ (l : Known S). l.refused) (sym e) ∙ sym q.refused);
     last = p.last ∙ (ap (λ (l : Known S). l.last) (sym e) ∙ sym q.last);
     held = p.held ∙ (ap (λ (l : Known S). l.held) (sym e) ∙ sym q.held);
+    posted = p.posted ∙ (ap (λ (l : Known S). l.posted) (sym e) ∙ sym q.posted);
+    boarded = p.boarded ∙ (ap (λ (l : Known S). l.boarded) (sym e) ∙ sym q.boarded);
+    outlook = p.outlook ∙ (ap (λ (l : Known S). l.outlook) (sym e) ∙ sym q.outlook);
   }
 
   ---- Each change lets it grow
@@ -85,6 +96,8 @@ module _ {S : Type 0} where
     fetched = omega arith;
     members = omega arith;
     closed = λ c. c;
+    posted = prefix_self k.posted;
+    given = prefix_self k.given;
   }
 
   pub takes_on : (k : Known S) (xs : List Taken) → IsBefore k (with_taken k xs)
@@ -96,6 +109,8 @@ module _ {S : Type 0} where
     fetched = omega arith;
     members = omega arith;
     closed = λ c. c;
+    posted = prefix_self k.posted;
+    given = prefix_self k.given;
   }
 
   pub publishes_on : (k : Known S) (keeper : Keeping S) (rs : List Receipt) → IsOver k.last (keeper ∷ []) → IsBefore k (with_published k keeper rs)
@@ -107,6 +122,8 @@ module _ {S : Type 0} where
     fetched = omega arith;
     members = omega arith;
     closed = λ c. c;
+    posted = prefix_self k.posted;
+    given = prefix_self k.given;
   }
 
   pub refuses_on : (k : Known S) (xs : List Taken) (code : Code) → IsBefore k (with_refused k xs code)
@@ -118,6 +135,8 @@ module _ {S : Type 0} where
     fetched = omega arith;
     members = omega arith;
     closed = λ c. c;
+    posted = prefix_self k.posted;
+    given = prefix_self k.given;
   }
 
   pub fetches_on : (k : Known S) → IsBefore k (with_fetched k)
@@ -129,6 +148,8 @@ module _ {S : Type 0} where
     fetched = omega arith;
     members = omega arith;
     closed = λ c. c;
+    posted = prefix_self k.posted;
+    given = prefix_self k.given;
   }
 
   pub enrolls_on : (k : Known S) → IsBefore k (with_member k)
@@ -140,6 +161,8 @@ module _ {S : Type 0} where
     fetched = omega arith;
     members = omega arith;
     closed = λ c. c;
+    posted = prefix_self k.posted;
+    given = prefix_self k.given;
   }
 
   pub closes_on : (k : Known S) → IsBefore k (with_closed k)
@@ -151,21 +174,65 @@ module _ {S : Type 0} where
     fetched = omega arith;
     members = omega arith;
     closed = λ _. refl;
+    posted = prefix_self k.posted;
+    given = prefix_self k.given;
+  }
+
+  pub posts_on : (k : Known S) (ts : List Task) (outlook : Outlook) → IsBefore k (with_posted k ts outlook)
+  posts_on k ts outlook = record {
+    asked = prefix_self k.asked;
+    history = prefix_self k.history;
+    refused = prefix_self k.refused;
+    over = over_self k.last;
+    fetched = omega arith;
+    members = omega arith;
+    closed = λ c. c;
+    posted = (ts, refl);
+    given = prefix_self k.given;
+  }
+
+  pub skips_on : (k : Known S) → IsBefore k (with_skipped k)
+  skips_on k = record {
+    asked = prefix_self k.asked;
+    history = prefix_self k.history;
+    refused = prefix_self k.refused;
+    over = over_self k.last;
+    fetched = omega arith;
+    members = omega arith;
+    closed = λ c. c;
+    posted = prefix_self k.posted;
+    given = prefix_self k.given;
+  }
+
+  pub gives_on : (k : Known S) (t : Task) → IsBefore k (with_given k t)
+  gives_on k t = record {
+    asked = prefix_self k.asked;
+    history = prefix_self k.history;
+    refused = prefix_self k.refused;
+    over = over_self k.last;
+    fetched = omega arith;
+    members = omega arith;
+    closed = λ c. c;
+    posted = prefix_self k.posted;
+    given = (t ∷ [], refl);
   }
 
   ---- What a submitter changes, hub and lock included, isn't the publisher's
 
   pub asks_part : (k : Known S) (t : Taken) → IsSamePart (with_ask k t) k
-  asks_part k t = record { history = refl; refused = refl; last = refl; held = refl }
+  asks_part k t = record { history = refl; refused = refl; last = refl; held = refl; posted = refl; boarded = refl; outlook = refl }
 
   pub fetches_part : (k : Known S) → IsSamePart (with_fetched k) k
-  fetches_part k = record { history = refl; refused = refl; last = refl; held = refl }
+  fetches_part k = record { history = refl; refused = refl; last = refl; held = refl; posted = refl; boarded = refl; outlook = refl }
 
   pub enrolls_part : (k : Known S) → IsSamePart (with_member k) k
-  enrolls_part k = record { history = refl; refused = refl; last = refl; held = refl }
+  enrolls_part k = record { history = refl; refused = refl; last = refl; held = refl; posted = refl; boarded = refl; outlook = refl }
 
   pub closes_part : (k : Known S) → IsSamePart (with_closed k) k
-  closes_part k = record { history = refl; refused = refl; last = refl; held = refl }
+  closes_part k = record { history = refl; refused = refl; last = refl; held = refl; posted = refl; boarded = refl; outlook = refl }
+
+  pub gives_part : (k : Known S) (t : Task) → IsSamePart (with_given k t) k
+  gives_part k t = record { history = refl; refused = refl; last = refl; held = refl; posted = refl; boarded = refl; outlook = refl }
 
   -- the same of equal ones
   pub grows_by : (k l m n : Known S) → k ≡ l → n ≡ m → IsBefore l m → IsBefore k n

@@ -3,3 +3,5 @@ pub mod Moves
 pub mod Lists
 pub mod Sound
 pub mod Serving
+pub mod Once
+pub mod Chosen

@@ -7,7 +7,7 @@ use Rattle.flow_machine.specs.declared.submission.Receipt.{Receipt}
 use Rattle.flow_machine.specs.declared.submission.Taken.{Taken}
 use Rattle.flow_commit.specs.Keeping.{count_from, place_of}
 use Rattle.flow_commit.specs.Committing.{taken_of}
-use Rattle.flow_hub.specs.Asks.{Rises, ticket_of, tickets_in, tickets_of, takens_of, Stands}
+use Rattle.flow_hub.specs.Asks.{Rises, tickets_in, tickets_of, takens_of, Stands}
 
 pub map-both : {A B : Type 0} (f : A → B) (xs ys : List A) → map f (xs ++ ys) ≡ map f xs ++ map f ys
 map-both f [] ys = refl

@@ -1,14 +1,17 @@
 -- A keeper and a publisher that stand together go on so, whatever becomes of a batch.
-use Rattle.std.proofs.Common.{◌≡◌, ◌+◌, List, [], ◌∷◌, ◌++◌, length, map, refl, sym, ap, ◌∙◌, subst, arith}
+use Rattle.std.proofs.Common.{◌≡◌, List, [], ◌∷◌, ◌++◌, length, map, refl, sym, ap, ◌∙◌, subst}
+use Rattle.std.specs.BTreeSet.{BTreeSet}
 use Rattle.flow_base.specs.declared.code.Code.{Code}
 use Rattle.flow_machine.specs.declared.submission.Receipt.{Receipt}
 use Rattle.flow_machine.specs.declared.submission.Taken.{Taken}
 use Rattle.flow_commit.specs.Keeping.{Keeping}
 use Rattle.flow_commit.specs.Committing.{taken_of, IsStampOf}
 use Rattle.flow_commit.specs.Stamps.{Stamped}
+use Rattle.flow_commit.specs.Boards.{Boarded, Key}
 use Rattle.flow_hub.specs.declared.known.Known.{Known}
-use Rattle.flow_hub.specs.Knowing.{IsOver}
-use Rattle.flow_hub.specs.Publishing.{Together, InHand, HasTaken, Answers, HasPublished, HasRefused}
+use Rattle.flow_hub.specs.Knowing.{IsOver, IsSamePart}
+use Rattle.flow_hub.specs.Posting.{HasKeys}
+use Rattle.flow_hub.specs.Publishing.{Together, InHand, HasTaken, Answers, HasPublished, HasRefused, IsFresh, IsSameHistory}
 
 module _ {S : Type 0} where
   -- a later keeper over the same tables is over what the earlier one was over
@@ -54,3 +57,24 @@ module _ {S : Type 0} where
     over = subst (λ ks. IsOver ks (new ∷ [])) (sym r.last) (over_by was.last old new base h.over);
     none = r.held;
   }
+
+  ---- Boards
+
+  -- a board that was made of what is kept and of what was posted
+  pub is_fresh : (keeper : Keeping S) (k : Known S) (board : Boarded) (keys : BTreeSet Key) → Together keeper k → HasKeys keys k.posted
+      → board.kept ≡ length keeper.log → board.posted ≡ keys.keys → IsFresh k board
+  is_fresh keeper k board keys t h kept posted = record {
+    kept = kept ∙ ap length t.log;
+    posted = subst (λ (ks : List Key). HasKeys (record { keys = ks }) k.posted) (sym posted) h;
+  }
+
+  -- and behind it they stand together as before
+  pub boarded_together : (old new : Keeping S) (was k : Known S) → Together old was → new.log ≡ old.log → new.base ≡ old.base → IsSameHistory was k → Together new k
+  boarded_together old new was k t log base same = record {
+    log = log ∙ (t.log ∙ sym same.history);
+    over = subst (λ ks. IsOver ks (new ∷ [])) (sym same.last) (over_by was.last old new base t.over);
+    none = same.held ∙ t.none;
+  }
+
+  pub same_history : (was k : Known S) → IsSamePart was k → IsSameHistory was k
+  same_history was k same = record { history = sym same.history; refused = sym same.refused; last = sym same.last; held = sym same.held }

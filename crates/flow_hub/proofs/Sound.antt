@@ -1,5 +1,5 @@
 -- Each call keeps the hall sound.
-use Rattle.std.proofs.Common.{◌≡◌, ℕ, zero, suc, ◌+◌, ◌≤◌, true, List, [], ◌∷◌, ◌++◌, length, map, refl, ap, sym, ◌∙◌, subst, arith, length-append, append_assoc, Some, slice_get, take, drop}
+use Rattle.std.proofs.Common.{◌≡◌, ℕ, suc, ◌+◌, true, List, [], ◌∷◌, ◌++◌, length, map, refl, ap, sym, ◌∙◌, subst, arith, length-append, append_assoc, Option, Some, None, slice_get, take, drop}
 use Rattle.std.specs.Prelude.{All}
 use Rattle.std.proofs.lemmas.List.{append-nil}
 use Rattle.std.proofs.lemmas.List.Elements.{All-append, All-weaker, All-push, All-head, All-tail, All-nil, All-cons, All-take, All-drop}
@@ -8,19 +8,25 @@ use Rattle.flow_base.specs.declared.code.Code.{Code}
 use Rattle.flow_base.specs.declared.command.Command.{Command}
 use Rattle.flow_machine.specs.declared.submission.Receipt.{Receipt}
 use Rattle.flow_machine.specs.declared.submission.Taken.{Taken}
-use Rattle.flow_commit.specs.Keeping.{Keeping, IsLawful, count_from, place_of}
+use Rattle.flow_machine.specs.declared.task.Task.{Task}
+use Rattle.flow_commit.specs.Boards.{Boarded}
+use Rattle.flow_commit.specs.Keeping.{IsLawful, count_from, place_of}
 use Rattle.flow_commit.specs.Committing.{taken_of}
 use Rattle.flow_commit.specs.Stamps.{Stamped}
 use Rattle.flow_hub.specs.declared.known.Known.{Known}
+use Rattle.flow_hub.specs.declared.known.Outlook.{Outlook}
 use Rattle.flow_hub.specs.declared.refused.Refused.{Refused}
 use Rattle.flow_hub.specs.Asks.{Rises, ticket_in, ticket_of, tickets_in, tickets_of, takens_of, IsAsked, IsOwn, IsGone, IsTold, Stands}
-use Rattle.flow_hub.specs.Knowing.{IsSamePart, IsHistory, IsOver, answered_in, nothing, refused_by, with_ask, with_taken, with_published, with_refused, with_fetched, with_member, with_closed}
-use Rattle.flow_hub.specs.Halls.{Hall, IsSound, new_ask, submitted, took, published, refused_all, fetched_receipt, fetched_refusal, enrolled, closed}
-use Rattle.flow_hub.specs.Publishing.{Answers, HasTaken, HasPublished, HasRefused, IsDone}
+use Rattle.flow_hub.specs.Knowing.{IsSamePart, IsHistory, IsOver, answered_in, nothing, refused_by, with_taken, with_published, with_refused, with_posted, with_skipped, with_given}
+use Rattle.flow_hub.specs.Feeding.{HasGiven, IsIdle, given_with}
+use Rattle.flow_hub.specs.Posting.{IsOnce, new_ones}
+use Rattle.flow_hub.specs.Halls.{Hall, IsSound, new_ask, submitted, took, published, refused_all, fetched_receipt, fetched_refusal, enrolled, closed, posted_on, skipped, gave}
+use Rattle.flow_hub.specs.Publishing.{Answers, HasTaken, HasPublished, HasRefused, HasPosted, HasSkipped, IsDone}
+use Rattle.flow_hub.proofs.Once.{still_once}
 use Rattle.flow_hub.proofs.Lists.{map-both, length-mapped, from_same, long_same, count_from-next, count_split, rises_count, rises-append, rises_higher, tickets_same, get_front, get_next, stands_on, stand_next}
 
 module _ {S : Type 0} (g : Ghosts S) where
-  pub begins_sound : IsSound g (record { known = nothing; waiting = []; answered = []; refused = []; given = 0; shares = 0 })
+  pub begins_sound : IsSound g (record { known = nothing; waiting = []; answered = []; refused = []; given = 0; shares = 0; tasks = [] })
   begins_sound = record {
     legal = record { kept = refl; rising = omega arith };
     order = refl;
@@ -34,6 +40,8 @@ module _ {S : Type 0} (g : Ghosts S) where
     gone = All-nil (IsGone []);
     stand = All-nil (Stands []);
     told = All-nil (IsTold []);
+    queued = refl;
+    once = tt;
   }
 
   pub submits : (h : Hall S) (c : Command) → IsSound g h → IsSound g (submitted h c)
@@ -62,6 +70,8 @@ module _ {S : Type 0} (g : Ghosts S) where
         gone = All-weaker (IsGone asked) (IsGone more) (λ r. still r.asked) h.refused s.gone;
         stand = s.stand;
         told = s.told;
+        queued = s.queued;
+        once = s.once;
       }
 
   all_front : (P : Taken → Type 0) (xs ys : List Taken) → All P (xs ++ ys) → All P xs
@@ -93,6 +103,8 @@ module _ {S : Type 0} (g : Ghosts S) where
         gone = s.gone;
         stand = s.stand;
         told = s.told;
+        queued = s.queued;
+        once = s.once;
       }
 
   -- what the publisher's seat has of what was taken
@@ -109,6 +121,9 @@ module _ {S : Type 0} (g : Ghosts S) where
         history = sym same.history;
         refused = sym same.refused;
         last = sym same.last;
+        posted = sym same.posted;
+        boarded = sym same.boarded;
+        outlook = sym same.outlook;
         asked = all_front (IsAsked h.known.asked) xs rest (subst (All (IsAsked h.known.asked)) is s.pending);
         order = here ∙ from_same (first + length held) (answered_in was + length was.held) (length xs)
             (omega (arith, ap length same.history, ap length same.refused, ap length same.held));
@@ -178,6 +193,8 @@ module _ {S : Type 0} (g : Ghosts S) where
             (All-weaker (Stands history) (Stands (history ++ rs)) (stands_on history rs) h.answered s.stand)
             (stand_next rs history next);
         told = s.told;
+        queued = s.queued;
+        once = s.once;
       }
 
   -- what the publisher's seat has of what was published
@@ -188,6 +205,9 @@ module _ {S : Type 0} (g : Ghosts S) where
     last = refl;
     held = refl;
     refused = sym same.refused;
+    posted = sym same.posted;
+    boarded = refl;
+    outlook = refl;
   }
 
   pub history_by : (k l : Known S) → k ≡ l → IsHistory g l → IsHistory g k
@@ -211,6 +231,8 @@ module _ {S : Type 0} (g : Ghosts S) where
     gone = s.gone;
     stand = All-without (Stands h.known.history) h.answered rs k e s.stand;
     told = s.told;
+    queued = s.queued;
+    once = s.once;
   }
 
   -- one refusal fewer, which was fetched
@@ -228,6 +250,8 @@ module _ {S : Type 0} (g : Ghosts S) where
     gone = All-without (IsGone h.known.asked) h.refused rs k e s.gone;
     stand = s.stand;
     told = All-without (IsTold h.known.refused) h.refused rs k e s.told;
+    queued = s.queued;
+    once = s.once;
   }
 
   refused_own : (asked : List Taken) (code : Code) (xs : List Taken) → All (IsAsked asked) xs → All (IsGone asked) (map (refused_by code) xs)
@@ -269,6 +293,8 @@ module _ {S : Type 0} (g : Ghosts S) where
         told = All-append (IsTold (h.known.refused ++ more)) h.refused more
             (All-weaker (IsTold h.known.refused) (IsTold (h.known.refused ++ more)) (told_on h.known.refused more) h.refused s.told)
             (told_next more h.known.refused);
+        queued = s.queued;
+        once = s.once;
       }
 
   -- what the publisher's seat has of what was refused
@@ -278,6 +304,9 @@ module _ {S : Type 0} (g : Ghosts S) where
     held = refl;
     history = sym same.history;
     last = sym same.last;
+    posted = sym same.posted;
+    boarded = refl;
+    outlook = refl;
   }
 
   pub enrolls : (h : Hall S) → IsSound g h → IsSound g (enrolled h)
@@ -294,6 +323,8 @@ module _ {S : Type 0} (g : Ghosts S) where
     gone = s.gone;
     stand = s.stand;
     told = s.told;
+    queued = s.queued;
+    once = s.once;
   }
 
   pub closes : (h : Hall S) → IsSound g h → IsSound g (closed h)
@@ -310,6 +341,107 @@ module _ {S : Type 0} (g : Ghosts S) where
     gone = s.gone;
     stand = s.stand;
     told = s.told;
+    queued = s.queued;
+    once = s.once;
+  }
+
+  ---- Tasks
+
+  pub posts : (h : Hall S) (ts : List Task) (outlook : Outlook) → IsSound g h → IsSound g (posted_on h ts outlook)
+  posts h ts outlook s = record {
+    legal = record { kept = s.legal.kept; rising = s.legal.rising };
+    order = s.order;
+    counts = s.counts;
+    shared = s.shared;
+    asked = s.asked;
+    fetched = s.fetched;
+    taken = s.taken;
+    pending = s.pending;
+    own = s.own;
+    gone = s.gone;
+    stand = s.stand;
+    told = s.told;
+    queued = ap (λ l. l ++ new_ones h.known.posted ts) s.queued ∙ append_assoc h.known.given h.tasks (new_ones h.known.posted ts);
+    once = still_once h.known.posted ts s.once;
+  }
+
+  pub skips : (h : Hall S) → IsSound g h → IsSound g (skipped h)
+  skips h s = record {
+    legal = record { kept = s.legal.kept; rising = s.legal.rising };
+    order = s.order;
+    counts = s.counts;
+    shared = s.shared;
+    asked = s.asked;
+    fetched = s.fetched;
+    taken = s.taken;
+    pending = s.pending;
+    own = s.own;
+    gone = s.gone;
+    stand = s.stand;
+    told = s.told;
+    queued = s.queued;
+    once = s.once;
+  }
+
+  pub gives : (h : Hall S) (t : Task) (rest : List Task) → h.tasks ≡ t ∷ rest → IsSound g h → IsSound g (gave h t rest)
+  gives h t rest is s = record {
+    legal = record { kept = s.legal.kept; rising = s.legal.rising };
+    order = s.order;
+    counts = s.counts;
+    shared = s.shared;
+    asked = s.asked;
+    fetched = s.fetched;
+    taken = s.taken;
+    pending = s.pending;
+    own = s.own;
+    gone = s.gone;
+    stand = s.stand;
+    told = s.told;
+    queued = s.queued ∙ (ap (λ l. h.known.given ++ l) is ∙ sym (append_assoc h.known.given (t ∷ []) rest));
+    once = s.once;
+  }
+
+  -- what the publisher's seat has of what was posted
+  pub has_posted : (l was : Known S) (board : Boarded) → IsSamePart was l
+      → HasPosted was (with_posted l (new_ones l.posted board.tasks) (record { due = board.due; open_runs = board.open_runs })) board
+  has_posted l was board same = record {
+    rest = record { history = sym same.history; refused = sym same.refused; last = sym same.last; held = sym same.held };
+    posted = ap (λ ts. ts ++ new_ones ts board.tasks) (sym same.posted);
+    boarded = refl;
+    outlook = refl;
+  }
+
+  pub has_skipped : (l was : Known S) → IsSamePart was l → HasSkipped was (with_skipped l)
+  has_skipped l was same = record {
+    rest = record { history = sym same.history; refused = sym same.refused; last = sym same.last; held = sym same.held };
+    posted = sym same.posted;
+    boarded = refl;
+    outlook = sym same.outlook;
+  }
+
+  -- what the giver's seat has of what was given out
+  pub has_given : (h : Hall S) (was : Known S) (t : Task) (rest : List Task) → h.tasks ≡ t ∷ rest → IsSound g h → was.given ≡ h.known.given → HasGiven was (with_given h.known t) (Some t)
+  has_given h was t rest is s same = record {
+    next = ap (λ l. l ++ t ∷ []) (sym same);
+    first = (rest, append_assoc h.known.given (t ∷ []) rest ∙ (ap (λ l. h.known.given ++ l) (sym is) ∙ sym s.queued));
+    once = s.once;
+  }
+
+  pub has_given_none : (h : Hall S) (was : Known S) → IsSound g h → was.given ≡ h.known.given → HasGiven was h.known None
+  has_given_none h was s same = record {
+    next = sym same;
+    first = (h.tasks, sym s.queued);
+    once = s.once;
+  }
+
+  -- where nothing waits and nothing is taken, all is answered
+  pub is_idle : (h : Hall S) (o : Outlook) → h.known.outlook ≡ Some o → o.open_runs ≡ 0 → h.waiting ≡ [] → h.known.held ≡ [] → IsSound g h → IsIdle h.known
+  is_idle h o named none waits held s = record {
+    outlook = o;
+    named = named;
+    none_open = none;
+    answered = omega (arith, s.asked, s.counts, ap length waits, ap length held);
+    none = held;
   }
 
 -- what was taken since
@@ -320,6 +452,9 @@ module _ {S : Type 0} where
     history = t.history ∙ sym same.history;
     refused = t.refused ∙ sym same.refused;
     last = t.last ∙ sym same.last;
+    posted = t.posted ∙ sym same.posted;
+    boarded = t.boarded ∙ sym same.boarded;
+    outlook = t.outlook ∙ sym same.outlook;
     asked = t.asked;
     order = t.order ∙ from_same (answered_in k + length k.held) (answered_in j + length j.held) (length xs)
         (omega (arith, ap length same.history, ap length same.refused, ap length same.held));
@@ -338,4 +473,30 @@ module _ {S : Type 0} where
     refused = same.refused ∙ sym t.refused;
     last = same.last ∙ sym t.last;
     held = same.held ∙ sym (t.held ∙ (ap (λ x. k.held ++ x) none ∙ append-nil k.held));
+    posted = same.posted ∙ sym t.posted;
+    boarded = same.boarded ∙ sym t.boarded;
+    outlook = same.outlook ∙ sym t.outlook;
   }
+
+  pub posted_by : (was k l : Known S) (board : Boarded) → k ≡ l → HasPosted was l board → HasPosted was k board
+  posted_by was k l board e t = subst (λ x. HasPosted was x board) (sym e) t
+
+  pub skipped_by : (was k l : Known S) → k ≡ l → HasSkipped was l → HasSkipped was k
+  skipped_by was k l e t = subst (λ x. HasSkipped was x) (sym e) t
+
+  pub given_by : (was k l : Known S) (t : Option Task) → k ≡ l → HasGiven was l t → HasGiven was k t
+  given_by was k l t e h = subst (λ x. HasGiven was x t) (sym e) h
+
+  pub idle_by : (k l : Known S) → k ≡ l → IsIdle l → IsIdle k
+  idle_by k l e h = subst (λ x. IsIdle x) (sym e) h
+
+  pub none_given : (j k l : Known S) (t : Option Task) → t ≡ None → j.given ≡ k.given → HasGiven k l t → j.given ≡ l.given
+  none_given j k l t none same h = same ∙ sym (subst (λ (o : Option Task). given_with k l o) none h.next)
+
+  pub once_by : (k l : Known S) → k ≡ l → IsOnce l.posted → IsOnce k.posted
+  once_by k l e o = subst (λ (x : Known S). IsOnce x.posted) (sym e) o
+
+  -- what was given out since
+  pub given_since : (j k l : Known S) (t : Option Task) → j.given ≡ k.given → HasGiven k l t → HasGiven j l t
+  given_since j k l None same h = record { next = h.next ∙ sym same; first = h.first; once = h.once }
+  given_since j k l (Some t) same h = record { next = h.next ∙ ap (λ xs. xs ++ t ∷ []) (sym same); first = h.first; once = h.once }

@@ -1,18 +1,22 @@
 -- What lies under the lock, as plain data.
-use Rattle.std.specs.Prelude.{ℕ, Bool, ◌+◌, ◌≤◌, ◌<◌, ◌^◌, ◌⊎◌, ◌≡◌, true, false, List, [], ◌∷◌, ◌++◌, length, map, All, refl}
+use Rattle.std.specs.Prelude.{ℕ, ◌+◌, ◌≡◌, List, [], ◌∷◌, ◌++◌, length, map, All, refl}
 use Rattle.std.specs.Coded.{Coded, code_by, coded×, coded_ℕ}
 use Rattle.sqlite_trees.specs.declared.store.Store.{Ghosts}
 use Rattle.flow_base.specs.declared.code.Code.{Code}
 use Rattle.flow_base.specs.declared.command.Command.{Command}
 use Rattle.flow_machine.specs.declared.submission.Receipt.{Receipt}
 use Rattle.flow_machine.specs.declared.submission.Taken.{Taken}
+use Rattle.flow_machine.specs.declared.task.Task.{Task}
 use Rattle.flow_commit.specs.Keeping.{Keeping, log_code, batch_code, count_from}
 use Rattle.flow_hub.specs.declared.known.Known.{Known}
+use Rattle.flow_hub.specs.declared.known.Outlook.{Outlook}
 use Rattle.flow_hub.specs.declared.refused.Refused.{Refused}
 use Rattle.flow_hub.specs.Asks.{tickets_in, IsAsked, IsOwn, IsGone, IsTold, Stands}
-use Rattle.flow_hub.specs.Knowing.{IsHistory, answered_in, known_code, refusals_code, refused_by, with_ask, with_taken, with_published, with_refused, with_fetched, with_member, with_closed}
+use Rattle.flow_hub.specs.Knowing.{IsHistory, answered_in, known_code, refusals_code, task_list_code, refused_by, with_ask, with_taken, with_published, with_refused, with_fetched, with_member, with_closed, with_posted, with_skipped, with_given}
+use Rattle.flow_hub.specs.Posting.{IsOnce, new_ones}
 
--- What is known of the hub, and the three lists that its calls work on: what waits, and the answers that were not fetched.
+-- What is known of the hub, and the four lists that its calls work on: what waits, the answers that were not fetched, and the tasks that
+-- were posted and not given out.
 pub record Hall (S : Type 0) : Type 0 where
   pub known : Known S
   pub waiting : List Taken
@@ -20,13 +24,14 @@ pub record Hall (S : Type 0) : Type 0 where
   pub refused : List Refused
   pub given : ℕ  -- how many tickets were given
   pub shares : ℕ  -- the sum of the submitters' shares
+  pub tasks : List Task
 
 abbrev pub hall_code : {S : Type 0} → Coded S → Coded (Hall S)
 hall_code {S} store =
-    code_by (Known S × (List Taken × (List Receipt × (List Refused × (ℕ × ℕ)))))
-    (coded× (known_code store) (coded× batch_code (coded× log_code (coded× refusals_code (coded× coded_ℕ coded_ℕ)))))
-    (λ h. (h.known, (h.waiting, (h.answered, (h.refused, (h.given, h.shares))))))
-    (λ p. record { known = p.0; waiting = p.1.0; answered = p.1.1.0; refused = p.1.1.1.0; given = p.1.1.1.1.0; shares = p.1.1.1.1.1 })
+    code_by (Known S × (List Taken × (List Receipt × (List Refused × (ℕ × (ℕ × List Task))))))
+    (coded× (known_code store) (coded× batch_code (coded× log_code (coded× refusals_code (coded× coded_ℕ (coded× coded_ℕ task_list_code))))))
+    (λ h. (h.known, (h.waiting, (h.answered, (h.refused, (h.given, (h.shares, h.tasks)))))))
+    (λ p. record { known = p.0; waiting = p.1.0; answered = p.1.1.0; refused = p.1.1.1.0; given = p.1.1.1.1.0; shares = p.1.1.1.1.1.0; tasks = p.1.1.1.1.1.1 })
     (λ _. refl)
 
 -- submissions whose answer was not fetched
@@ -47,6 +52,8 @@ pub record IsSound {S : Type 0} (g : Ghosts S) (h : Hall S) : Type 0 where
   pub gone : All (IsGone h.known.asked) h.refused
   pub stand : All (Stands h.known.history) h.answered
   pub told : All (IsTold h.known.refused) h.refused
+  pub queued : h.known.posted ≡ h.known.given ++ h.tasks  -- what was posted was given out or waits for that
+  pub once : IsOnce h.known.posted
 
 abbrev pub new_ask : {S : Type 0} → Hall S → Command → Taken
 new_ask h c = record { ticket = h.given; command = c }
@@ -79,3 +86,14 @@ enrolled h = record h { known = with_member h.known }
 
 abbrev pub closed : {S : Type 0} → Hall S → Hall S
 closed h = record h { known = with_closed h.known }
+
+-- Of these tasks those are posted that weren't before, each once.
+abbrev pub posted_on : {S : Type 0} → Hall S → List Task → Outlook → Hall S
+posted_on h ts outlook = let more = new_ones h.known.posted ts in record h { known = with_posted h.known more outlook; tasks = h.tasks ++ more }
+
+abbrev pub skipped : {S : Type 0} → Hall S → Hall S
+skipped h = record h { known = with_skipped h.known }
+
+-- a task is given out, and the rest waits on
+abbrev pub gave : {S : Type 0} → Hall S → Task → List Task → Hall S
+gave h t rest = record h { known = with_given h.known t; tasks = rest }

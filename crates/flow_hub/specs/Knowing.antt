@@ -1,13 +1,17 @@
 -- What threads know of a hub, how it changes, and how it grows.
-use Rattle.std.specs.Prelude.{ℕ, ◌≡◌, ◌≤◌, ◌+◌, Bool, true, false, List, [], ◌∷◌, ◌++◌, length, map, refl}
-use Rattle.std.specs.Coded.{Coded, code_by, coded×, coded_ℕ, coded_bool, coded_list}
+use Rattle.std.specs.Prelude.{ℕ, ◌≡◌, ◌≤◌, ◌+◌, Bool, true, false, Option, Some, None, List, [], ◌∷◌, ◌++◌, length, map, refl}
+use Rattle.std.specs.Coded.{Coded, code_by, coded×, coded_ℕ, coded_bool, coded_list, coded_option}
 use mathlib.Core.List.{IsPrefix}
 use Rattle.sqlite_trees.specs.declared.store.Store.{Ghosts}
 use Rattle.flow_base.specs.declared.code.Code.{Code}
 use Rattle.flow_machine.specs.declared.submission.Receipt.{Receipt}
 use Rattle.flow_machine.specs.declared.submission.Taken.{Taken}
+use Rattle.flow_machine.specs.declared.task.Task.{Task}
+use Rattle.flow_machine.specs.contracts.task.Task as task_row
 use Rattle.flow_commit.specs.Keeping.{Keeping, IsLegal, keeping_code, log_code, batch_code}
 use Rattle.flow_hub.specs.declared.known.Known.{Known}
+use Rattle.flow_hub.specs.declared.known.Outlook.{Outlook}
+use Rattle.flow_hub.specs.contracts.known.Outlook as outlook_row
 use Rattle.flow_hub.specs.declared.refused.Refused.{Refused}
 use Rattle.flow_hub.specs.contracts.refused.Refused as refused_row
 use Rattle.flow_hub.specs.Asks.{Rises, tickets_of}
@@ -15,16 +19,26 @@ use Rattle.flow_hub.specs.Asks.{Rises, tickets_of}
 abbrev pub refusals_code : Coded (List Refused)
 refusals_code = coded_list refused_row.the_row.coded
 
+abbrev pub task_list_code : Coded (List Task)
+task_list_code = coded_list task_row.the_row.coded
+
+-- the part of the tasks
+abbrev Tasks : Type 0
+Tasks = List Task × (List Task × (Bool × Option Outlook))
+
+abbrev tasks_code : Coded Tasks
+tasks_code = coded× task_list_code (coded× task_list_code (coded× coded_bool (coded_option outlook_row.the_row.coded)))
+
 abbrev pub known_code : {S : Type 0} → Coded S → Coded (Known S)
 known_code {S} store =
-    code_by (List Taken × (List Receipt × (List Refused × (List (Keeping S) × (List Taken × (ℕ × (ℕ × Bool)))))))
-    (coded× batch_code (coded× log_code (coded× refusals_code (coded× (coded_list (keeping_code store)) (coded× batch_code (coded× coded_ℕ (coded× coded_ℕ coded_bool)))))))
-    (λ k. (k.asked, (k.history, (k.refused, (k.last, (k.held, (k.fetched, (k.members, k.closed))))))))
-    (λ p. record { asked = p.0; history = p.1.0; refused = p.1.1.0; last = p.1.1.1.0; held = p.1.1.1.1.0; fetched = p.1.1.1.1.1.0; members = p.1.1.1.1.1.1.0; closed = p.1.1.1.1.1.1.1 })
+    code_by (List Taken × (List Receipt × (List Refused × (List (Keeping S) × (List Taken × (ℕ × (ℕ × (Bool × Tasks))))))))
+    (coded× batch_code (coded× log_code (coded× refusals_code (coded× (coded_list (keeping_code store)) (coded× batch_code (coded× coded_ℕ (coded× coded_ℕ (coded× coded_bool tasks_code))))))))
+    (λ k. (k.asked, (k.history, (k.refused, (k.last, (k.held, (k.fetched, (k.members, (k.closed, (k.posted, (k.given, (k.boarded, k.outlook))))))))))))
+    (λ p. record { asked = p.0; history = p.1.0; refused = p.1.1.0; last = p.1.1.1.0; held = p.1.1.1.1.0; fetched = p.1.1.1.1.1.0; members = p.1.1.1.1.1.1.0; closed = p.1.1.1.1.1.1.1.0; posted = p.1.1.1.1.1.1.1.1.0; given = p.1.1.1.1.1.1.1.1.1.0; boarded = p.1.1.1.1.1.1.1.1.1.1.0; outlook = p.1.1.1.1.1.1.1.1.1.1.1 })
     (λ _. refl)
 
 abbrev pub nothing : {S : Type 0} → Known S
-nothing {S} = record { asked = []; history = []; refused = []; last = []; held = []; fetched = 0; members = 0; closed = false }
+nothing {S} = record { asked = []; history = []; refused = []; last = []; held = []; fetched = 0; members = 0; closed = false; posted = []; given = []; boarded = false; outlook = None }
 
 -- how many submissions are answered, by a receipt or by a code
 abbrev pub answered_in : {S : Type 0} → Known S → ℕ
@@ -42,10 +56,10 @@ abbrev pub with_taken : {S : Type 0} → Known S → List Taken → Known S
 with_taken k xs = record k { held = k.held ++ xs }
 
 abbrev pub with_published : {S : Type 0} → Known S → Keeping S → List Receipt → Known S
-with_published k keeper rs = record k { history = k.history ++ rs; last = keeper ∷ []; held = [] }
+with_published k keeper rs = record k { history = k.history ++ rs; last = keeper ∷ []; held = []; boarded = false; outlook = None }
 
 abbrev pub with_refused : {S : Type 0} → Known S → List Taken → Code → Known S
-with_refused k xs code = record k { refused = k.refused ++ map (refused_by code) xs; held = [] }
+with_refused k xs code = record k { refused = k.refused ++ map (refused_by code) xs; held = []; boarded = false; outlook = None }
 
 abbrev pub with_fetched : {S : Type 0} → Known S → Known S
 with_fetched k = record k { fetched = k.fetched + 1 }
@@ -56,6 +70,15 @@ with_member k = record k { members = k.members + 1 }
 abbrev pub with_closed : {S : Type 0} → Known S → Known S
 with_closed k = record k { closed = true }
 
+abbrev pub with_posted : {S : Type 0} → Known S → List Task → Outlook → Known S
+with_posted k ts outlook = record k { posted = k.posted ++ ts; boarded = true; outlook = Some outlook }
+
+abbrev pub with_skipped : {S : Type 0} → Known S → Known S
+with_skipped k = record k { boarded = true }
+
+abbrev pub with_given : {S : Type 0} → Known S → Task → Known S
+with_given k t = record k { given = k.given ++ t ∷ [] }
+
 ---- How it grows
 
 -- The later stamp's keeper was made over the tables of the earlier one's.
@@ -64,8 +87,8 @@ IsOver [] ls = Unit {0}
 IsOver (k ∷ ks) [] = ⊥
 IsOver (k ∷ ks) (l ∷ ls) = l.base ≡ k.base
 
--- What was submitted, the history and what was answered by a code only grow; all stamps have one base; answers that were fetched
--- and submitters are counted on; and what is closed stays so.
+-- What was submitted, the history, what was answered by a code, the tasks posted and those given only grow; all stamps have one
+-- base; answers that were fetched and submitters are counted on; and what is closed stays so.
 pub record IsBefore {S : Type 0} (k l : Known S) : Type 0 where
   pub asked : IsPrefix k.asked l.asked
   pub history : IsPrefix k.history l.history
@@ -74,13 +97,19 @@ pub record IsBefore {S : Type 0} (k l : Known S) : Type 0 where
   pub fetched : k.fetched ≤ l.fetched
   pub members : k.members ≤ l.members
   pub closed : k.closed ≡ true → l.closed ≡ true
+  pub posted : IsPrefix k.posted l.posted
+  pub given : IsPrefix k.given l.given
 
--- What the publisher alone changes is the same: the history, the last stamp, what was answered by a code, and what is taken.
+-- What the publisher alone changes is the same: the history, the last stamp, what was answered by a code, what is taken, and what it
+-- has posted.
 pub record IsSamePart {S : Type 0} (k l : Known S) : Type 0 where
   pub history : k.history ≡ l.history
   pub refused : k.refused ≡ l.refused
   pub last : k.last ≡ l.last
   pub held : k.held ≡ l.held
+  pub posted : k.posted ≡ l.posted
+  pub boarded : k.boarded ≡ l.boarded
+  pub outlook : k.outlook ≡ l.outlook
 
 ---- One history
 

@@ -1,7 +1,9 @@
 pub mod Asks
+pub mod Posting
 pub mod Knowing
 pub mod Seating
 pub mod Halls
 pub mod Refusals
 pub mod Publishing
+pub mod Feeding
 pub mod Submitting

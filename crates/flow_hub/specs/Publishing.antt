@@ -1,11 +1,13 @@
 -- What the publisher does.
-use Rattle.std.specs.Prelude.{ℕ, ◌≡◌, ◌+◌, true, List, [], ◌∷◌, ◌++◌, length, map, All}
+use Rattle.std.specs.Prelude.{◌≡◌, ◌+◌, true, false, List, [], ◌∷◌, ◌++◌, length, map, All, Some, None}
 use Rattle.flow_base.specs.declared.code.Code.{Code}
 use Rattle.flow_machine.specs.declared.submission.Receipt.{Receipt}
 use Rattle.flow_machine.specs.declared.submission.Taken.{Taken}
 use Rattle.flow_commit.specs.Keeping.{Keeping, count_from}
 use Rattle.flow_commit.specs.Stamps.{Stamped}
+use Rattle.flow_commit.specs.Boards.{Boarded}
 use Rattle.flow_hub.specs.declared.known.Known.{Known}
+use Rattle.flow_hub.specs.Posting.{HasKeys, new_ones}
 use Rattle.flow_hub.specs.Asks.{IsAsked, tickets_in, takens_of}
 use Rattle.flow_hub.specs.Knowing.{IsOver, answered_in, refused_by}
 
@@ -27,6 +29,9 @@ pub record HasTaken {S : Type 0} (old new : Known S) (xs : List Taken) : Type 0 
   pub history : new.history ≡ old.history
   pub refused : new.refused ≡ old.refused
   pub last : new.last ≡ old.last
+  pub posted : new.posted ≡ old.posted
+  pub boarded : new.boarded ≡ old.boarded
+  pub outlook : new.outlook ≡ old.outlook
   pub asked : All (IsAsked new.asked) xs
   pub order : tickets_in xs ≡ count_from (answered_in old + length old.held) (length xs)
 
@@ -43,13 +48,16 @@ pub record Answers {S : Type 0} (k : Known S) (stamp : Stamped S) (rs : List Rec
   pub log : stamp.keeper.log ≡ k.history ++ rs
   pub over : IsOver k.last (stamp.keeper ∷ [])
 
--- The history has these receipts more, and is all that the stamp's keeper has kept.
+-- The history has these receipts more, and is all that the stamp's keeper has kept. What the last board says holds no more.
 pub record HasPublished {S : Type 0} (old new : Known S) (stamp : Stamped S) (rs : List Receipt) : Type 0 where
   pub history : new.history ≡ old.history ++ rs
   pub log : new.history ≡ stamp.keeper.log
   pub last : new.last ≡ stamp.keeper ∷ []
   pub held : new.held ≡ []
   pub refused : new.refused ≡ old.refused
+  pub posted : new.posted ≡ old.posted
+  pub boarded : new.boarded ≡ false
+  pub outlook : new.outlook ≡ None
 
 -- These are answered by a code.
 pub record HasRefused {S : Type 0} (old new : Known S) (xs : List Taken) (code : Code) : Type 0 where
@@ -57,3 +65,32 @@ pub record HasRefused {S : Type 0} (old new : Known S) (xs : List Taken) (code :
   pub held : new.held ≡ []
   pub history : new.history ≡ old.history
   pub last : new.last ≡ old.last
+  pub posted : new.posted ≡ old.posted
+  pub boarded : new.boarded ≡ false
+  pub outlook : new.outlook ≡ None
+
+-- The board was made behind all that is published, when these tasks were posted.
+pub record IsFresh {S : Type 0} (k : Known S) (board : Boarded) : Type 0 where
+  pub kept : board.kept ≡ length k.history
+  pub posted : HasKeys (record { keys = board.posted }) k.posted
+
+-- All else that the publisher alone changes is as it was.
+pub record IsSameHistory {S : Type 0} (old new : Known S) : Type 0 where
+  pub history : new.history ≡ old.history
+  pub refused : new.refused ≡ old.refused
+  pub last : new.last ≡ old.last
+  pub held : new.held ≡ old.held
+
+-- Those of the board's tasks are posted that weren't posted before, each once and in their order, and it says what is open.
+pub record HasPosted {S : Type 0} (old new : Known S) (board : Boarded) : Type 0 where
+  pub rest : IsSameHistory old new
+  pub posted : new.posted ≡ old.posted ++ new_ones old.posted board.tasks
+  pub boarded : new.boarded ≡ true
+  pub outlook : new.outlook ≡ Some (record { due = board.due; open_runs = board.open_runs })
+
+-- There is no board this time.
+pub record HasSkipped {S : Type 0} (old new : Known S) : Type 0 where
+  pub rest : IsSameHistory old new
+  pub posted : new.posted ≡ old.posted
+  pub boarded : new.boarded ≡ true
+  pub outlook : new.outlook ≡ old.outlook

@@ -1,9 +1,10 @@
 //! The hub: what its threads share.
-ghost use Rattle.std.specs.Prelude.{◌≡◌, ◌+◌, IfOk};
+ghost use Rattle.std.specs.Prelude.{◌≡◌, ◌+◌, IfOk, IfSome};
 ghost use Rattle.flow_hub.specs.Knowing.{nothing};
 ghost use Rattle.flow_hub.specs.Seating.{IsRoomOf};
 
 use crate::denied::Unseated;
+use crate::feed::Feed;
 use crate::publisher::Publisher;
 use crate::seats::{Opened, Room, Seats};
 use crate::state::State;
@@ -21,6 +22,20 @@ pub(crate) struct Shared<S: Alter, B: Room> {
     pub(crate) asked: Condvar,
     /// Told when something was answered.
     pub(crate) answered: Condvar,
+    /// Told when tasks were posted, and at closing.
+    pub(crate) posted: Condvar,
+    /// Told when a board was posted, and at closing.
+    pub(crate) turned: Condvar,
+}
+
+impl<S: Alter, B: Room> Shared<S, B> {
+    /// Wakes all who wait.
+    pub(crate) fn wake(&self) {
+        self.asked.notify_all();
+        self.answered.notify_all();
+        self.posted.notify_all();
+        self.turned.notify_all();
+    }
 }
 
 /// Takes commands from submitters on many threads, for one publisher, who answers them.
@@ -45,9 +60,11 @@ impl<S: Alter, B: Room> Hub<S, B> {
             state: Mutex::new(state),
             asked: Condvar::new(),
             answered: Condvar::new(),
+            posted: Condvar::new(),
+            turned: Condvar::new(),
         };
         let shared = Arc::new(alloc, shared)?;
-        let publisher = Publisher::over(Arc::try_clone(&shared)?, seat);
+        let publisher = Publisher::over(alloc, Arc::try_clone(&shared)?, seat);
         Ok((publisher, Hub { shared }))
     }
 
@@ -68,11 +85,19 @@ impl<S: Alter, B: Room> Hub<S, B> {
         Ok(Submitter::over(shared, id, seat, share))
     }
 
+    /// Who gives the tasks out that are posted. None where it was asked for before, or there is no memory.
+    pub fn feed<R: Wait>(&self, rt: &R) -> Option<Feed<S, B>>
+        ensures { IfSome result (λ f. f ≡ nothing) }
+    {
+        let shared = Arc::try_clone(&self.shared).ok()?;
+        let seat = self.shared.state.lock(rt).take_feed()?;
+        Some(Feed::over(shared, seat))
+    }
+
     /// Nothing more is taken in, what waits is still taken, and who waits is woken.
     pub fn close<R: Wait>(&self, rt: &R) {
         let me = self.shared.seats.enter();
         self.shared.state.lock(rt).close(&self.shared.seats, me);
-        self.shared.asked.notify_all();
-        self.shared.answered.notify_all();
+        self.shared.wake();
     }
 }

@@ -1,14 +1,26 @@
 //! What threads know of a hub.
 ghost use Rattle.std.specs.Prelude.{◌≡◌, [], ◌∷◌, ◌++◌, map};
-ghost use Rattle.flow_hub.specs.Knowing.{nothing, with_ask, with_taken, with_published, with_refused, with_fetched, with_member, with_closed};
+ghost use Rattle.flow_hub.specs.Knowing.{nothing, with_ask, with_taken, with_published, with_refused, with_posted, with_skipped, with_given};
+ghost use Rattle.flow_hub.specs.Posting.{chosen};
 
 use crate::refused::Refused;
 use flow_base::code::Code;
+use flow_base::number::Moment;
 use flow_commit::keeper::Keeper;
 use flow_commit::stamp::Stamp;
 use flow_machine::submission::{Receipt, Taken};
+use flow_machine::task::Task;
 use sqlite::Alter;
 use unseen::{Listed, Makes};
+
+/// What a board says beside its tasks.
+#[derive(Clone, Copy, Debug, PartialEq, Eq)]
+pub struct Outlook {
+    /// When a timer is due next, or the next attempt of an activity is ready.
+    pub due: Option<Moment>,
+    /// How many runs are open.
+    pub open_runs: u64,
+}
 
 /// What threads know of a hub. Its lists are data for contracts alone.
 #[derive(Drop)]
@@ -29,6 +41,14 @@ pub struct Known<S: Alter> {
     pub members: u64,
     /// Whether nothing more is taken in.
     pub closed: bool,
+    /// All tasks that were posted, in their order.
+    pub posted: Listed<Task>,
+    /// Those of them that were given to whoever hands them to workers, in their order.
+    pub given: Listed<Task>,
+    /// Whether a board was posted or skipped since the hub was made and since what was taken last was answered.
+    pub boarded: bool,
+    /// What the last board says. None where what was taken was answered since it was made.
+    pub outlook: Option<Outlook>,
 }
 
 struct Empty;
@@ -67,6 +87,16 @@ impl Makes<(Listed<Refused>, &Vec<Taken>, Code), Refused> for Answered {
     ghost list = { λ p. p.0 ++ map (refused_by p.2) p.1.now.items };
 }
 
+/// A list, and behind it those of these that are marked.
+struct Chosen;
+
+impl Makes<(Listed<Task>, &Vec<Task>, &Vec<bool>), Task> for Chosen {
+    ghost use Rattle.std.specs.Prelude.{◌++◌};
+    ghost use Rattle.flow_hub.specs.Posting.{chosen};
+
+    ghost list = { λ p. p.0 ++ chosen p.1.now.items p.2.now.items };
+}
+
 /// The keeper that a stamp names.
 struct Named;
 
@@ -89,6 +119,10 @@ impl<S: Alter> Known<S> {
             fetched: 0,
             members: 0,
             closed: false,
+            posted: Listed::of::<(), Empty>(&()),
+            given: Listed::of::<(), Empty>(&()),
+            boarded: false,
+            outlook: None,
         }
     }
 
@@ -116,6 +150,8 @@ impl<S: Alter> Known<S> {
         ));
         self.last = Listed::of::<Stamp<S>, Named>(stamp);
         self.held = Listed::of::<(), Empty>(&());
+        self.boarded = false;
+        self.outlook = None;
     }
 
     /// What was taken is answered by a code.
@@ -128,5 +164,34 @@ impl<S: Alter> Known<S> {
             code,
         ));
         self.held = Listed::of::<(), Empty>(&());
+        self.boarded = false;
+        self.outlook = None;
+    }
+
+    /// A board was posted: those of its tasks that are marked, and what it says beside.
+    pub(crate) fn post(&mut self, tasks: &Vec<Task>, marks: &Vec<bool>, outlook: Outlook)
+        ensures { self.new ≡ with_posted self.old (chosen tasks.now.items marks.now.items) outlook }
+    {
+        self.posted = Listed::of::<(Listed<Task>, &Vec<Task>, &Vec<bool>), Chosen>(&(
+            self.posted.again(),
+            tasks,
+            marks,
+        ));
+        self.boarded = true;
+        self.outlook = Some(outlook);
+    }
+
+    /// No board this time.
+    pub(crate) fn skip(&mut self)
+        ensures { self.new ≡ with_skipped self.old }
+    {
+        self.boarded = true;
+    }
+
+    /// A task was given to whoever hands them to workers.
+    pub(crate) fn give(&mut self, task: &Task)
+        ensures { self.new ≡ with_given self.old task.now }
+    {
+        self.given = Listed::of::<(Listed<Task>, &Task), OneMore>(&(self.given.again(), task));
     }
 }

@@ -2,8 +2,10 @@
 #![tactic(auto)]
 
 pub mod denied;
+pub mod feed;
 pub mod hub;
 pub mod known;
+mod posting;
 pub mod publisher;
 mod queues;
 pub mod refused;

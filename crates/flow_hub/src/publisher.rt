@@ -1,15 +1,21 @@
 //! The calls of the thread that answers.
-ghost use Rattle.std.specs.Prelude.{◌≡◌, ◌<◌, ◌≤◌, true, false, [], length};
+ghost use Rattle.std.specs.Prelude.{◌≡◌, ◌<◌, ◌≤◌, true, false, [], length, IfErr, OnOk};
 ghost use Rattle.std.specs.Vec.{vec_capacity};
 ghost use Rattle.flow_hub.specs.Knowing.{IsBefore, IsHistory, IsSamePart};
-ghost use Rattle.flow_hub.specs.Publishing.{Answers, HasTaken, HasPublished, HasRefused, IsDone};
+ghost use Rattle.flow_hub.specs.Posting.{HasKeys, IsOnce};
+ghost use Rattle.flow_hub.specs.Publishing.{Answers, HasTaken, HasPublished, HasRefused, HasPosted, HasSkipped, IsFresh, IsDone};
+ghost use Rattle.flow_hub.specs.Seating.{IsPublishers};
 
 use crate::hub::Shared;
+use crate::posting::Keys;
 use crate::seats::{Pass, Room};
 use flow_base::code::Code;
+use flow_commit::board::{Board, Posted};
 use flow_commit::stamp::Stamp;
 use flow_machine::submission::{Receipt, Taken};
 use sqlite::Alter;
+use std::alloc::{AllocError, Global};
+use std::collections::BTreeSet;
 use std::marker::Model;
 use std::mem;
 use std::sync::{Arc, Wait};
@@ -18,14 +24,18 @@ use std::sync::{Arc, Wait};
 /// alone changes, all.
 #[derive(Drop)]
 pub struct Publisher<S: Alter, B: Room> {
+    alloc: Global,
     shared: Arc<Shared<S, B>>,
     seat: Pass<S, B>,
+    /// The keys of all that it has posted.
+    keys: Keys,
 }
 
 impl<S: Alter, B: Room> Model for Publisher<S, B> {
-    ghost use Rattle.std.specs.Prelude.{◌≡◌, true, false};
     ghost use Rattle.flow_hub.specs.declared.known.Known.{Known};
     ghost use Rattle.flow_hub.specs.Knowing.{known_code};
+    ghost use Rattle.flow_hub.specs.Posting.{HasKeys};
+    ghost use Rattle.flow_hub.specs.Seating.{IsPublishers};
 
     ghost Value = { Known S };
 
@@ -33,7 +43,7 @@ impl<S: Alter, B: Room> Model for Publisher<S, B> {
 
     ghost view = { λ p. p.seat.was };
 
-    ghost invariant = { λ p. (p.seat.keeps ≡ false) × (p.seat.pubs ≡ true) };
+    ghost invariant = { λ p. IsPublishers p.seat × HasKeys p.keys p.seat.was.posted };
 }
 
 /// Waits until something is there to be taken, or nothing will come.
@@ -44,14 +54,14 @@ fn taken<S: Alter, B: Room, R: Wait>(
     into: &mut Vec<Taken>,
     most: usize,
 ) -> (Pass<S, B>, bool)
-    requires seat { (seat.keeps ≡ false) × (seat.pubs ≡ true) }
+    requires seat { IsPublishers seat }
     requires most { 1 ≤ most }
     requires room { (into.old.items ≡ []) × (most ≤ vec_capacity into.old) }
     ensures seen { HasTaken seat.was result.0.was into.new.items }
     ensures count { (length into.new.items ≤ most) × (vec_capacity into.new ≡ vec_capacity into.old) }
     ensures some { result.1 ≡ true → 0 < length into.new.items }
     ensures none { result.1 ≡ false → (into.new.items ≡ []) × IsDone result.0.was }
-    ensures seat { (result.0.keeps ≡ false) × (result.0.pubs ≡ true) }
+    ensures seat { IsPublishers result.0 }
     ensures grows { IsBefore seat.was result.0.was }
 {
     let mut me = seat;
@@ -70,16 +80,28 @@ fn taken<S: Alter, B: Room, R: Wait>(
 }
 
 impl<S: Alter, B: Room> Publisher<S, B> {
-    pub(crate) fn over(shared: Arc<Shared<S, B>>, seat: Pass<S, B>) -> Publisher<S, B>
-        requires { (seat.keeps ≡ false) × (seat.pubs ≡ true) }
+    pub(crate) fn over(
+        alloc: Global,
+        shared: Arc<Shared<S, B>>,
+        seat: Pass<S, B>,
+    ) -> Publisher<S, B>
+        requires seat { IsPublishers seat }
+        requires none { seat.was.posted ≡ [] }
         ensures { result ≡ seat.was }
     {
-        Publisher { shared, seat }
+        Publisher {
+            alloc,
+            shared,
+            seat,
+            keys: BTreeSet::new(alloc),
+        }
     }
 
     /// Waits until something waits, and moves 1 to `most` of it into an empty list with that room, in the order of submission.
-    /// False: the hub is closed, and nothing waits.
+    /// False: the hub is closed, and nothing waits. By the caller's condition a board was posted or skipped since the hub was made and
+    /// since what was taken last was answered, so that what is ready is given out before more is done.
     pub fn take<R: Wait>(&mut self, rt: &R, into: &mut Vec<Taken>, most: usize) -> bool
+        requires boarded { self.old.boarded ≡ true }
         requires most { (1 ≤ most) × (most ≤ 64) }
         requires room { (into.old.items ≡ []) × (most ≤ vec_capacity into.old) }
         ensures taken { HasTaken self.old self.new into.new.items }
@@ -123,6 +145,51 @@ impl<S: Alter, B: Room> Publisher<S, B> {
         shared.answered.notify_all();
     }
 
+    /// Posts those of a board's tasks that it hasn't posted before, for those who give them out, and what the board says beside. By
+    /// the caller's condition the board was made behind all that is published, when these tasks were posted. So none is posted
+    /// twice, whatever the board names.
+    ///
+    /// # Failure
+    /// E01: nothing is posted, and the board comes back.
+    pub fn post<R: Wait>(&mut self, rt: &R, board: Board) -> Result<(), (Board, AllocError)>
+        requires fresh { IsFresh self.old board }
+        ensures posted { OnOk result (HasPosted self.old self.new board) }
+        ensures refused { IfErr result (λ e. (e.0 ≡ board) × IsSamePart self.old self.new) }
+        ensures once { IsOnce self.new.posted }
+        ensures grows { IsBefore self.old self.new }
+    {
+        let shared = &*self.shared;
+        let me = mem::replace(&mut self.seat, shared.seats.enter());
+        let (me, answer) = shared
+            .state
+            .lock(rt)
+            .post(self.alloc, &shared.seats, me, &mut self.keys, board);
+        self.seat = me;
+        if let Err(board) = answer {
+            return Err((board, AllocError));
+        }
+        shared.posted.notify_all();
+        shared.turned.notify_all();
+        Ok(())
+    }
+
+    /// The keys of all that it has posted.
+    pub fn posted(&self) -> &BTreeSet<Posted>
+        ensures { HasKeys result.now self.now.posted }
+    {
+        &self.keys
+    }
+
+    /// There is no board this time, for this cause.
+    pub fn skip<R: Wait>(&mut self, rt: &R, _code: Code)
+        ensures skipped { HasSkipped self.old self.new }
+        ensures grows { IsBefore self.old self.new }
+    {
+        let shared = &*self.shared;
+        let me = mem::replace(&mut self.seat, shared.seats.enter());
+        self.seat = shared.state.lock(rt).skip(&shared.seats, me);
+    }
+
     /// Nothing more is taken in, and what waits is still taken.
     pub fn close<R: Wait>(&mut self, rt: &R)
         ensures closed { self.new.closed ≡ true }
@@ -132,7 +199,6 @@ impl<S: Alter, B: Room> Publisher<S, B> {
         let shared = &*self.shared;
         let me = mem::replace(&mut self.seat, shared.seats.enter());
         self.seat = shared.state.lock(rt).close(&shared.seats, me);
-        shared.asked.notify_all();
-        shared.answered.notify_all();
+        shared.wake();
     }
 }

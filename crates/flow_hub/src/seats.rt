@@ -1,7 +1,7 @@
 //! The table of the published word, and its seats.
 ghost use Rattle.std.specs.Prelude.{◌≡◌, ◌^◌, ◌⊎◌, true, false, length, IfOk};
 ghost use Rattle.flow_hub.specs.Knowing.{IsBefore, IsSamePart};
-ghost use Rattle.flow_hub.specs.Seating.{IsRoomOf, opener, nobody, lent, adding, keeps_left, handed_back, keeping, seeing, Knows};
+ghost use Rattle.flow_hub.specs.Seating.{IsRoomOf, opener, nobody, lent, adding, keeps_left, handed_back, gives_none, gives_alone, keeping, seeing, Knows};
 
 use crate::known::Known;
 use atomic_table::{Join, Play, Seat, Split, Table, TableRule};
@@ -19,6 +19,8 @@ pub struct Sight<S: Alter> {
     pub keeps: bool,
     /// With the one under the lock, it may add to the history.
     pub pubs: bool,
+    /// With the one under the lock, it may give tasks out.
+    pub gives: bool,
     pub all: Known<S>,
     /// What was seen last.
     pub was: Known<S>,
@@ -93,6 +95,16 @@ impl<S: Alter> Split<Sight<S>> for Back {
     ghost right = { handed_back };
 }
 
+struct Hands;
+
+impl<S: Alter> Split<Sight<S>> for Hands {
+    ghost use Rattle.flow_hub.specs.Seating.{gives_none, gives_alone};
+
+    ghost left = { gives_none };
+
+    ghost right = { gives_alone };
+}
+
 /// What a hub is made of before it has a name. `Hub::new` takes it under the one that its caller has picked.
 pub struct Opened<S: Alter> {
     table: Table<Known<S>, Sight<S>, (), Law, Global>,
@@ -163,7 +175,7 @@ impl<S: Alter> Opened<S> {
         })
     }
 
-    /// Under a name, with the one seat that keeps and publishes.
+    /// Under a name, with the one seat that keeps, publishes and gives out.
     pub(crate) fn named<B: Room>(self) -> Named<S, B>
         requires room { IsRoomOf self B.table B.name B.parts }
         ensures seat { result.seat ≡ opener }
@@ -204,7 +216,7 @@ impl<S: Alter, B: Room> Seats<S, B> {
     pub(crate) fn look(&self, me: &mut Pass<S, B>) -> u64
         ensures length { result ≡ length me.new.was.history }
         ensures grows { IsBefore me.old.was me.new.was }
-        ensures same { (me.new.keeps ≡ me.old.keeps) × (me.new.pubs ≡ me.old.pubs) }
+        ensures same { (me.new.keeps ≡ me.old.keeps) × (me.new.pubs ≡ me.old.pubs) × (me.new.gives ≡ me.old.gives) }
     {
         self.table.shared.load::<Look>(&mut me.seat, 0)
     }
@@ -228,10 +240,22 @@ impl<S: Alter, B: Room> Seats<S, B> {
         }
     }
 
+    /// Giving out goes to a seat of its own.
+    pub(crate) fn hands(&self, keeper: &mut Pass<S, B>) -> Pass<S, B>
+        ensures { (keeper.new ≡ gives_none keeper.old) × (result ≡ gives_alone keeper.old) }
+    {
+        let seat = self.table.shared.split_seat::<Hands>(&mut keeper.seat);
+        Pass {
+            seat,
+            of: PhantomData,
+        }
+    }
+
     /// The seat under the lock adds to what is known, and publishes the history's length.
     fn store(&self, keeper: &mut Pass<S, B>, old: u64, new: u64, all: &Known<S>)
         requires keeps { keeper.old.keeps ≡ true }
         requires may { (keeper.old.pubs ≡ true) ⊎ IsSamePart all.now keeper.old.all }
+        requires may_give { (keeper.old.gives ≡ true) ⊎ (all.now.given ≡ keeper.old.all.given) }
         requires grows { IsBefore keeper.old.all all.now }
         requires lengths { (length keeper.old.all.history ≡ old) × (length all.now.history ≡ new) }
         ensures added { keeper.new ≡ adding keeper.old all.now }
@@ -253,12 +277,14 @@ impl<S: Alter, B: Room> Seats<S, B> {
     ) -> Pass<S, B>
         requires keeps { keeper.old.keeps ≡ true }
         requires may { (me.pubs ≡ true) ⊎ IsSamePart all.now keeper.old.all }
+        requires may_give { (me.gives ≡ true) ⊎ (all.now.given ≡ keeper.old.all.given) }
         requires grows { IsBefore keeper.old.all all.now }
         requires lengths { (length keeper.old.all.history ≡ old) × (length all.now.history ≡ new) }
         ensures keeper { keeper.new ≡ keeping all.now }
-        ensures told { result ≡ seeing me.pubs all.now }
+        ensures told { result ≡ seeing me.pubs me.gives all.now }
         ensures before { IsBefore me.was keeper.old.all }
         ensures same { me.pubs ≡ true → IsSamePart me.was keeper.old.all }
+        ensures given { me.gives ≡ true → me.was.given ≡ keeper.old.all.given }
     {
         self.lend(keeper, me);
         self.store(keeper, old, new, all);

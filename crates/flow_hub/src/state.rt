@@ -3,10 +3,12 @@ ghost use Rattle.std.specs.Prelude.{◌≡◌, ◌≢◌, ◌+◌, ◌<◌, ◌�
 ghost use Rattle.std.specs.Vec.{vec_capacity};
 ghost use Rattle.flow_hub.specs.Asks.{Stands, IsOwn, IsGone, IsTold};
 ghost use Rattle.flow_hub.specs.Knowing.{IsBefore, IsHistory, IsSamePart, answered_in, nothing};
-ghost use Rattle.flow_hub.specs.Seating.{opener, seeing};
+ghost use Rattle.flow_hub.specs.Seating.{opener, seeing, IsSubmitters, IsPublishers};
 ghost use Rattle.flow_hub.specs.Halls.{submitted, took, published, refused_all, fetched_receipt, fetched_refusal, enrolled, closed, new_ask, unfetched};
 ghost use Rattle.flow_hub.specs.Publishing.{Answers, HasTaken, HasPublished, HasRefused, IsDone};
 ghost use Rattle.flow_hub.specs.Submitting.{IsOpen, IsDenied, IsSettled};
+
+mod boards;
 
 use crate::denied::Denied;
 use crate::known::Known;
@@ -18,6 +20,7 @@ use flow_base::code::Code;
 use flow_base::command::Command;
 use flow_commit::stamp::Stamp;
 use flow_machine::submission::{Receipt, Taken};
+use flow_machine::task::Task;
 use sqlite::Alter;
 use std::alloc::{AllocError, Global};
 use std::collections::VecDeque;
@@ -46,32 +49,38 @@ pub(crate) struct State<S: Alter, B: Room> {
     places: u64,
     /// How many were answered by a code.
     codes: u64,
+    /// Tasks that were posted and not given out.
+    tasks: VecDeque<Task>,
     tickets: Book<B>,
     /// The ledger's parts of the submitters that were not given yet.
     spare: Share<B>,
     known: Known<S>,
     /// The seat that keeps.
     keeper: Pass<S, B>,
+    /// The seat that gives tasks out, until somebody has it.
+    feed: Option<Pass<S, B>>,
 }
 
 impl<S: Alter, B: Room> Model for State<S, B> {
-    ghost use Rattle.std.specs.Prelude.{◌≡◌, ◌≤◌, ◌+◌, ◌^◌, length, true};
+    ghost use Rattle.std.specs.Prelude.{◌≡◌, ◌≤◌, ◌+◌, ◌^◌, length, true, false, IfSome};
     ghost use Rattle.std.specs.Vec.{vec_capacity, vec_len};
     ghost use Rattle.std.specs.VecDeque.{deque_capacity, deque_len};
     ghost use Rattle.flow_hub.specs.Halls.{Hall, IsSound, hall_code};
+    ghost use Rattle.flow_hub.specs.Knowing.{nothing};
+    ghost use Rattle.flow_hub.specs.Seating.{seeing};
 
     ghost Value = { Hall S };
 
     ghost coded = { hall_code S.code };
 
-    ghost view = { λ s. record { known = s.known; waiting = s.waiting.items; answered = s.answered.items; refused = s.refused.items; given = s.given; shares = s.tickets.total } };
+    ghost view = { λ s. record { known = s.known; waiting = s.waiting.items; answered = s.answered.items; refused = s.refused.items; given = s.given; shares = s.tickets.total; tasks = s.tasks.items } };
 
-    ghost invariant = { λ s. IsSound S.Store (record { known = s.known; waiting = s.waiting.items; answered = s.answered.items; refused = s.refused.items; given = s.given; shares = s.tickets.total })
+    ghost invariant = { λ s. IsSound S.Store (record { known = s.known; waiting = s.waiting.items; answered = s.answered.items; refused = s.refused.items; given = s.given; shares = s.tickets.total; tasks = s.tasks.items })
         × (s.held ≡ length s.known.held) × (s.places ≡ length s.known.history) × (s.codes ≡ length s.known.refused)
         × (1024 ≤ deque_capacity s.waiting) × (1024 ≤ vec_capacity s.answered) × (1024 ≤ vec_capacity s.refused)
         × (deque_len s.waiting + s.held + vec_len s.answered + vec_len s.refused ≤ 1024) × (s.given ≤ 2 ^ 62)
         × (s.spare.amount ≡ 0) × (s.spare.parts + s.known.members ≡ 2 ^ 62) × (B.parts ≡ 2 ^ 62)
-        × (s.keeper.keeps ≡ true) × (s.keeper.all ≡ s.known) };
+        × (s.keeper.keeps ≡ true) × (s.keeper.all ≡ s.known) × IfSome s.feed (λ p. p ≡ seeing false true nothing) };
 }
 
 impl<S: Alter, B: Room> State<S, B> {
@@ -84,8 +93,8 @@ impl<S: Alter, B: Room> State<S, B> {
         requires tickets { named.tickets.total ≡ 0 }
         requires share { (named.share.parts ≡ 2 ^ 62) × (named.share.amount ≡ 0) }
         requires parts { B.parts ≡ 2 ^ 62 }
-        ensures seat { IfOk result (λ r. r.2 ≡ seeing true nothing) }
-        ensures empty { IfOk result (λ r. r.1 ≡ record { known = nothing; waiting = []; answered = []; refused = []; given = 0; shares = 0 }) }
+        ensures seat { IfOk result (λ r. r.2 ≡ seeing true false nothing) }
+        ensures empty { IfOk result (λ r. r.1 ≡ record { known = nothing; waiting = []; answered = []; refused = []; given = 0; shares = 0; tasks = [] }) }
     {
         let Named {
             seats,
@@ -97,6 +106,7 @@ impl<S: Alter, B: Room> State<S, B> {
         let waiting = VecDeque::with_capacity(alloc, MOST)?;
         let answered = Vec::with_capacity(alloc, MOST)?;
         let refused = Vec::with_capacity(alloc, MOST)?;
+        let feed = seats.hands(&mut keeper);
         let publisher = seats.back(&mut keeper);
         let state = State {
             waiting,
@@ -106,10 +116,12 @@ impl<S: Alter, B: Room> State<S, B> {
             given: 0,
             places: 0,
             codes: 0,
+            tasks: VecDeque::new(alloc),
             tickets,
             spare: share,
             known: Known::new(),
             keeper,
+            feed: Some(feed),
         };
         Ok((seats, state, publisher))
     }
@@ -117,9 +129,10 @@ impl<S: Alter, B: Room> State<S, B> {
     /// The seat sees what lies here, and nothing changes.
     fn see(&mut self, seats: &Seats<S, B>, me: Pass<S, B>) -> Pass<S, B>
         ensures same { self.new ≡ self.old }
-        ensures seat { result ≡ seeing me.pubs self.new.known }
+        ensures seat { result ≡ seeing me.pubs me.gives self.new.known }
         ensures before { IsBefore me.was result.was }
         ensures part { me.pubs ≡ true → IsSamePart me.was result.was }
+        ensures given { me.gives ≡ true → me.was.given ≡ result.was.given }
     {
         seats.tell(&mut self.keeper, me, self.places, self.places, &self.known)
     }
@@ -127,7 +140,7 @@ impl<S: Alter, B: Room> State<S, B> {
     /// One more submitter: its number, its seat and its part of the ledger. None where as many were given as there are parts.
     pub(crate) fn enroll(&mut self, seats: &Seats<S, B>) -> Option<(u64, Pass<S, B>, Share<B>)>
         ensures enrolled { IfSome result (λ m. (m.0 ≡ self.old.known.members) × (self.new ≡ enrolled self.old)) }
-        ensures seat { IfSome result (λ m. m.1 ≡ seeing false self.new.known) }
+        ensures seat { IfSome result (λ m. m.1 ≡ seeing false false self.new.known) }
         ensures share { IfSome result (λ m. (m.2.parts ≡ 1) × (m.2.amount ≡ 0)) }
         ensures parts { B.parts ≡ 2 ^ 62 }
         ensures none { IfNone result ((self.new ≡ self.old) × (2 ^ 62 ≤ self.old.known.members)) }
@@ -172,12 +185,12 @@ impl<S: Alter, B: Room> State<S, B> {
         command: Command,
     ) -> (Pass<S, B>, Result<u64, (Command, Denied)>)
         requires share { 0 < mine.old.parts }
-        requires seat { (me.keeps ≡ false) × (me.pubs ≡ false) }
+        requires seat { IsSubmitters me }
         ensures ok { IfOk result.1 (λ t. (t ≡ self.old.given) × (self.new ≡ submitted self.old command) × (mine.new.amount ≡ mine.old.amount + 1)) }
         ensures room { OnOk result.1 (IsOpen self.old.known) }
         ensures err { IfErr result.1 (λ e. (e.0 ≡ command) × (self.new ≡ self.old) × (mine.new.amount ≡ mine.old.amount) × IsDenied self.old.known e.1) }
         ensures parts { mine.new.parts ≡ mine.old.parts }
-        ensures seat { result.0 ≡ seeing false self.new.known }
+        ensures seat { result.0 ≡ seeing false false self.new.known }
         ensures before { IsBefore me.was self.old.known }
         ensures grows { IsBefore me.was result.0.was }
         ensures ticket { IfOk result.1 (λ t. (length me.was.asked ≤ t) × (length result.0.was.asked ≡ t + 1) × (slice_get result.0.was.asked t ≡ Some (new_ask self.old command))) }
@@ -203,12 +216,12 @@ impl<S: Alter, B: Room> State<S, B> {
         into: &mut Vec<Taken>,
         most: usize,
     ) -> Pass<S, B>
-        requires seat { (me.keeps ≡ false) × (me.pubs ≡ true) }
+        requires seat { IsPublishers me }
         requires most { 1 ≤ most }
         requires room { (into.old.items ≡ []) × (most ≤ vec_capacity into.old) }
         ensures taken { (self.old.waiting ≡ into.new.items ++ self.new.waiting) × (self.new ≡ took self.old into.new.items self.new.waiting) }
         ensures count { (length into.new.items ≤ most) × (vec_capacity into.new ≡ vec_capacity into.old) }
-        ensures seat { result ≡ seeing true self.new.known }
+        ensures seat { result ≡ seeing true false self.new.known }
         ensures seen { HasTaken me.was result.was into.new.items }
         ensures grows { IsBefore me.was result.was }
         ensures none { into.new.items ≡ [] → self.new.known.closed ≡ true → IsDone result.was }
@@ -227,10 +240,10 @@ impl<S: Alter, B: Room> State<S, B> {
         mut receipts: Vec<Receipt>,
         stamp: Stamp<S>,
     ) -> Pass<S, B>
-        requires seat { (me.keeps ≡ false) × (me.pubs ≡ true) }
+        requires seat { IsPublishers me }
         requires answers { Answers me.was stamp receipts.items }
         ensures published { self.new ≡ published self.old stamp.keeper receipts.items }
-        ensures seat { result ≡ seeing true self.new.known }
+        ensures seat { result ≡ seeing true false self.new.known }
         ensures seen { HasPublished me.was result.was stamp receipts.items }
         ensures grows { IsBefore me.was result.was }
         ensures legal { IsHistory S.Store result.was }
@@ -257,10 +270,10 @@ impl<S: Alter, B: Room> State<S, B> {
         all: Vec<Taken>,
         code: Code,
     ) -> Pass<S, B>
-        requires seat { (me.keeps ≡ false) × (me.pubs ≡ true) }
+        requires seat { IsPublishers me }
         requires all { all.items ≡ me.was.held }
         ensures refused { self.new ≡ refused_all self.old code }
-        ensures seat { result ≡ seeing true self.new.known }
+        ensures seat { result ≡ seeing true false self.new.known }
         ensures seen { HasRefused me.was result.was all.items code }
         ensures grows { IsBefore me.was result.was }
     {
@@ -279,11 +292,11 @@ impl<S: Alter, B: Room> State<S, B> {
         me: Pass<S, B>,
         ticket: u64,
     ) -> (Pass<S, B>, Option<Receipt>)
-        requires seat { (me.keeps ≡ false) × (me.pubs ≡ false) }
+        requires seat { IsSubmitters me }
         ensures own { IfSome result.1 (λ r. (r.ticket ≡ ticket) × IsOwn result.0.was.asked r × Stands result.0.was.history r) }
         ensures legal { IfSome result.1 (λ r. IsHistory S.Store result.0.was) }
         ensures fetched { MatchOption result.1 (self.new ≡ self.old) (λ r. (k : ℕ) × (slice_get self.old.answered k ≡ Some r) × (self.new ≡ fetched_receipt self.old (remove self.old.answered k))) }
-        ensures seat { (result.0.keeps ≡ false) × (result.0.pubs ≡ false) }
+        ensures seat { IsSubmitters result.0 }
         ensures grows { IsBefore me.was result.0.was }
     {
         let Some(k) = ticket_at(self.answered.as_slice(), ticket) else {
@@ -302,10 +315,10 @@ impl<S: Alter, B: Room> State<S, B> {
         me: Pass<S, B>,
         ticket: u64,
     ) -> (Pass<S, B>, Option<Refused>)
-        requires seat { (me.keeps ≡ false) × (me.pubs ≡ false) }
+        requires seat { IsSubmitters me }
         ensures own { IfSome result.1 (λ r. (r.asked.ticket ≡ ticket) × IsGone result.0.was.asked r × IsTold result.0.was.refused r) }
         ensures fetched { MatchOption result.1 (self.new ≡ self.old) (λ r. (k : ℕ) × (slice_get self.old.refused k ≡ Some r) × (self.new ≡ fetched_refusal self.old (remove self.old.refused k))) }
-        ensures seat { (result.0.keeps ≡ false) × (result.0.pubs ≡ false) }
+        ensures seat { IsSubmitters result.0 }
         ensures grows { IsBefore me.was result.0.was }
     {
         let Some(k) = refused_at(self.refused.as_slice(), ticket) else {
@@ -325,11 +338,11 @@ impl<S: Alter, B: Room> State<S, B> {
         me: Pass<S, B>,
         ticket: u64,
     ) -> (Pass<S, B>, Option<Result<Receipt, Refused>>)
-        requires seat { (me.keeps ≡ false) × (me.pubs ≡ false) }
+        requires seat { IsSubmitters me }
         ensures receipt { IfSome result.1 (λ a. IfOk a (λ r. (r.ticket ≡ ticket) × IsOwn result.0.was.asked r × Stands result.0.was.history r)) }
         ensures legal { IfSome result.1 (λ a. IfOk a (λ r. IsHistory S.Store result.0.was)) }
         ensures refused { IfSome result.1 (λ a. IfErr a (λ r. (r.asked.ticket ≡ ticket) × IsGone result.0.was.asked r × IsTold result.0.was.refused r)) }
-        ensures seat { (result.0.keeps ≡ false) × (result.0.pubs ≡ false) }
+        ensures seat { IsSubmitters result.0 }
         ensures grows { IsBefore me.was result.0.was }
     {
         let (me, receipt) = self.fetch_receipt(seats, me, ticket);
@@ -357,7 +370,7 @@ impl<S: Alter, B: Room> State<S, B> {
         ensures settled { IfSome result.1 (λ s. (s.given ≡ all.new.amount) × IsSettled self.new.known s) }
         ensures waiting { IfSome result.1 (λ s. s.waiting ≡ length self.new.waiting) }
         ensures none { IfNone result.1 (self.old.known.members ≢ parts) }
-        ensures seat { result.0 ≡ seeing me.pubs self.new.known }
+        ensures seat { result.0 ≡ seeing me.pubs me.gives self.new.known }
         ensures grows { IsBefore me.was result.0.was }
     {
         let me = self.see(seats, me);
@@ -382,7 +395,7 @@ impl<S: Alter, B: Room> State<S, B> {
     /// What waits is still taken, and nothing more is taken in.
     pub(crate) fn close(&mut self, seats: &Seats<S, B>, me: Pass<S, B>) -> Pass<S, B>
         ensures closed { self.new ≡ closed self.old }
-        ensures seat { result ≡ seeing me.pubs self.new.known }
+        ensures seat { result ≡ seeing me.pubs me.gives self.new.known }
         ensures grows { IsBefore me.was result.was }
         ensures part { me.pubs ≡ true → IsSamePart me.was result.was }
     {

@@ -1,7 +1,9 @@
 //! The calls of a thread that submits.
-ghost use Rattle.std.specs.Prelude.{◌≡◌, ◌≢◌, ◌+◌, ◌^◌, ◌≤◌, false, length, IfOk, IfErr, IfSome, IfNone, OnOk};
+ghost use Rattle.std.specs.Prelude.{◌≡◌, ◌≢◌, ◌+◌, ◌^◌, ◌≤◌, true, false, length, IfOk, IfErr, IfSome, IfNone, OnOk};
 ghost use Rattle.flow_hub.specs.Asks.{IsOwn, IsGone, IsTold, Stands};
+ghost use Rattle.flow_hub.specs.Feeding.{IsDueBy, IsIdle, IsTickOf};
 ghost use Rattle.flow_hub.specs.Knowing.{IsBefore, IsHistory};
+ghost use Rattle.flow_hub.specs.Seating.{IsSubmitters};
 ghost use Rattle.flow_hub.specs.Submitting.{IsTicket, IsDenied, IsReceipt, IsNotDone, IsSettled};
 
 use crate::denied::Denied;
@@ -11,12 +13,15 @@ use crate::seats::{Pass, Room};
 use crate::settled::Settled;
 use crate::ticket::{NotDone, Ticket, Why};
 use flow_base::command::Command;
+use flow_base::number::Moment;
 use flow_machine::submission::Receipt;
+use flow_timers::{Clock, tick_due};
 use sqlite::Alter;
 use std::marker::Model;
 use std::mem;
 use std::sync::ledger::Share;
 use std::sync::{Arc, Wait};
+use std::time::{Clock as Timing, Duration};
 
 /// Submits commands to a hub, and waits for their receipts. To a contract it is its number, what it has seen of the hub, and its
 /// share of the tickets.
@@ -31,7 +36,8 @@ pub struct Submitter<S: Alter, B: Room> {
 }
 
 impl<S: Alter, B: Room> Model for Submitter<S, B> {
-    ghost use Rattle.std.specs.Prelude.{◌≡◌, ◌<◌, ◌≤◌, false, ◌^◌};
+    ghost use Rattle.std.specs.Prelude.{◌≡◌, ◌<◌, ◌≤◌, ◌^◌};
+    ghost use Rattle.flow_hub.specs.Seating.{IsSubmitters};
     ghost use Rattle.flow_hub.specs.Submitting.{Member, member_code};
 
     ghost Value = { Member S };
@@ -40,7 +46,7 @@ impl<S: Alter, B: Room> Model for Submitter<S, B> {
 
     ghost view = { λ m. record { id = m.id; was = m.seat.was; parts = m.parts; amount = m.share.amount } };
 
-    ghost invariant = { λ m. (m.seat.keeps ≡ false) × (m.seat.pubs ≡ false) × (m.share.parts ≡ m.parts) × (0 < m.parts) × (B.parts ≡ 2 ^ 62) };
+    ghost invariant = { λ m. IsSubmitters m.seat × (m.share.parts ≡ m.parts) × (0 < m.parts) × (B.parts ≡ 2 ^ 62) };
 }
 
 /// Waits until a ticket has its answer.
@@ -50,11 +56,11 @@ fn awaited<S: Alter, B: Room, R: Wait>(
     seat: Pass<S, B>,
     ticket: u64,
 ) -> (Pass<S, B>, Result<Receipt, Refused>)
-    requires seat { (seat.keeps ≡ false) × (seat.pubs ≡ false) }
+    requires seat { IsSubmitters seat }
     ensures receipt { IfOk result.1 (λ r. (r.ticket ≡ ticket) × IsOwn result.0.was.asked r × Stands result.0.was.history r) }
     ensures legal { IfOk result.1 (λ r. IsHistory S.Store result.0.was) }
     ensures refused { IfErr result.1 (λ r. (r.asked.ticket ≡ ticket) × IsGone result.0.was.asked r × IsTold result.0.was.refused r) }
-    ensures seat { (result.0.keeps ≡ false) × (result.0.pubs ≡ false) }
+    ensures seat { IsSubmitters result.0 }
     ensures grows { IsBefore seat.was result.0.was }
 {
     let mut me = seat;
@@ -70,6 +76,93 @@ fn awaited<S: Alter, B: Room, R: Wait>(
     unreachable!()
 }
 
+/// The longest pause before the clock is asked again, in milliseconds: it may be set, and stands still for the pauses of a machine that
+/// sleeps.
+const LONGEST_PAUSE: u64 = 60_000;
+
+/// The command that fires what is due by the clock, or how long to wait before it is asked again.
+fn tick_or_pause<C: Clock>(due: Option<Moment>, clock: &C) -> Result<Command, Duration>
+    ensures tick { IfOk result (λ c. IsDueBy due c) }
+{
+    let now = clock.now();
+    match due {
+        Some(moment) => match tick_due(Some(moment), now) {
+            Some(tick) => Ok(tick),
+            None => {
+                let left = moment.get().saturating_sub(now.get());
+                Err(Duration::from_millis(left.min(LONGEST_PAUSE)))
+            }
+        },
+        None => Err(Duration::from_millis(LONGEST_PAUSE)),
+    }
+}
+
+/// Sleeps until something is due by the clock, or the hub is closed. Where no board says what is due it asks after one whole pause,
+/// and not at once: what is wrong with the store may last.
+fn ticked<S: Alter, B: Room, R: Wait + Timing, C: Clock>(
+    rt: &R,
+    shared: &Shared<S, B>,
+    seat: Pass<S, B>,
+    clock: &C,
+) -> (Pass<S, B>, Option<Command>)
+    requires seat { IsSubmitters seat }
+    ensures tick { IfSome result.1 (λ c. IsTickOf result.0.was c) }
+    ensures none { IfNone result.1 (result.0.was.closed ≡ true) }
+    ensures seat { IsSubmitters result.0 }
+    ensures grows { IsBefore seat.was result.0.was }
+{
+    let mut me = seat;
+    let mut state = shared.state.lock(rt);
+    let mut paused = false;
+    for _ in rt.forever() {
+        let (seen, due) = state.due(&shared.seats, me);
+        me = seen;
+        if state.is_closed() {
+            return (me, None);
+        }
+        if paused && state.has_no_board() {
+            return (me, Some(Command::Tick(clock.now())));
+        }
+        match tick_or_pause(due, clock) {
+            Ok(tick) => return (me, Some(tick)),
+            Err(pause) => {
+                let (guard, end) = shared.turned.wait_timeout(rt, state, pause);
+                state = guard;
+                paused = end.timed_out();
+            }
+        }
+    }
+    unreachable!()
+}
+
+/// Waits until nothing is left to be done, or the hub is closed.
+fn rested<S: Alter, B: Room, R: Wait>(
+    rt: &R,
+    shared: &Shared<S, B>,
+    seat: Pass<S, B>,
+) -> (Pass<S, B>, bool)
+    requires seat { IsSubmitters seat }
+    ensures idle { result.1 ≡ true → IsIdle result.0.was }
+    ensures closed { result.1 ≡ false → result.0.was.closed ≡ true }
+    ensures seat { IsSubmitters result.0 }
+    ensures grows { IsBefore seat.was result.0.was }
+{
+    let mut me = seat;
+    let mut state = shared.state.lock(rt);
+    for _ in rt.forever() {
+        let (seen, idle) = state.is_idle(&shared.seats, me);
+        me = seen;
+        if idle {
+            return (me, true);
+        }
+        if state.is_closed() {
+            return (me, false);
+        }
+        state = shared.turned.wait(rt, state);
+    }
+    unreachable!()
+}
+
 impl<S: Alter, B: Room> Submitter<S, B> {
     pub(crate) fn over(
         shared: Arc<Shared<S, B>>,
@@ -77,7 +170,7 @@ impl<S: Alter, B: Room> Submitter<S, B> {
         seat: Pass<S, B>,
         share: Share<B>,
     ) -> Submitter<S, B>
-        requires seat { (seat.keeps ≡ false) × (seat.pubs ≡ false) }
+        requires seat { IsSubmitters seat }
         requires share { share.parts ≡ 1 }
         requires parts { B.parts ≡ 2 ^ 62 }
         ensures { result ≡ record { id = id; was = seat.was; parts = 1; amount = share.amount } }
@@ -161,6 +254,41 @@ impl<S: Alter, B: Room> Submitter<S, B> {
                 })
             }
         }
+    }
+
+    /// Sleeps until the moment at which something is due by the clock, as the last board names it, and gives the command that fires it.
+    /// A board that names an earlier one wakes it. What was due is due no more once something was answered, so whoever waits for the
+    /// answer of the command and then asks again is told of it once. None where the hub is closed.
+    ///
+    /// The clock is asked once a minute at least, since it may be set. Where no board could be made it gives a tick after a minute at
+    /// most, so that one is tried again: else nothing would go on until somebody submits.
+    pub fn next_tick<R: Wait + Timing, C: Clock>(&mut self, rt: &R, clock: &C) -> Option<Command>
+        ensures tick { IfSome result (λ c. IsTickOf self.new.was c) }
+        ensures none { IfNone result (self.new.was.closed ≡ true) }
+        ensures grows { IsBefore self.old.was self.new.was }
+        ensures same { (self.new.id ≡ self.old.id) × (self.new.parts ≡ self.old.parts) × (self.new.amount ≡ self.old.amount) }
+    {
+        let shared = &*self.shared;
+        let me = mem::replace(&mut self.seat, shared.seats.enter());
+        let (me, tick) = ticked(rt, shared, me, clock);
+        self.seat = me;
+        tick
+    }
+
+    /// Waits until all that was submitted is answered and the board that was made then says that no run is open. False where the hub
+    /// is closed before. Where no board could be made it waits on for the next one, which comes behind the next batch: whoever wants
+    /// one without has a thread that submits what `next_tick` gives.
+    pub fn rest<R: Wait>(&mut self, rt: &R) -> bool
+        ensures idle { result ≡ true → IsIdle self.new.was }
+        ensures closed { result ≡ false → self.new.was.closed ≡ true }
+        ensures grows { IsBefore self.old.was self.new.was }
+        ensures same { (self.new.id ≡ self.old.id) × (self.new.parts ≡ self.old.parts) × (self.new.amount ≡ self.old.amount) }
+    {
+        let shared = &*self.shared;
+        let me = mem::replace(&mut self.seat, shared.seats.enter());
+        let (me, idle) = rested(rt, shared, me);
+        self.seat = me;
+        idle
     }
 
     /// Takes over the share of another submitter, which is no more.

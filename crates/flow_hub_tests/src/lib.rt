@@ -4,6 +4,8 @@
 #[cfg(test)]
 mod commands;
 #[cfg(test)]
+mod feeding;
+#[cfg(test)]
 mod refusing;
 #[cfg(test)]
 mod threads;

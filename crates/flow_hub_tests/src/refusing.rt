@@ -25,6 +25,7 @@ pub fn refuse_next<S: Alter, B: Room, R: Wait>(
     ensures { publisher.new.held ≡ [] }
 {
     let mut taken = Vec::with_capacity(alloc, most).ok()?;
+    publisher.skip(rt, code);
     let some = publisher.take(rt, &mut taken, most);
     publisher.refuse(rt, taken, code);
     Some(some)

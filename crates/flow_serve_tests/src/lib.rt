@@ -3,3 +3,5 @@
 
 #[cfg(test)]
 mod serving;
+#[cfg(test)]
+mod working;

@@ -23,14 +23,15 @@ use std::test::*;
 
 /// What is told of a command: the place of its receipt, and the number that its reply names; or zeros.
 #[derive(Clone, Copy, PartialEq, Eq)]
-struct Told {
-    place: u64,
-    named: u64,
+pub struct Told {
+    pub place: u64,
+    pub named: u64,
 }
 
+/// A clock that stands.
 #[derive(Clone, Copy)]
-struct Still {
-    now: Moment,
+pub struct Still {
+    pub now: Moment,
 }
 
 impl Clock for Still {
@@ -55,6 +56,7 @@ fn named(reply: &Reply) -> u64 {
     match reply {
         Reply::Registered(text) => text.get(),
         Reply::Started(run) => run.get(),
+        Reply::Fired(timers, _) => *timers,
         _ => 0,
     }
 }
@@ -66,7 +68,7 @@ fn told_of(receipt: &Receipt) -> Told {
     }
 }
 
-fn submitted<S: Alter, B: Room, R: Wait>(
+pub fn submitted<S: Alter, B: Room, R: Wait>(
     rt: &R,
     submitter: &mut Submitter<S, B>,
     command: Command,
@@ -74,7 +76,7 @@ fn submitted<S: Alter, B: Room, R: Wait>(
     submitter.submit(rt, command).ok()
 }
 
-fn fetched<S: Alter, B: Room, R: Wait>(
+pub fn fetched<S: Alter, B: Room, R: Wait>(
     rt: &R,
     submitter: &mut Submitter<S, B>,
     ticket: Ticket,
@@ -86,7 +88,7 @@ fn fetched<S: Alter, B: Room, R: Wait>(
 }
 
 /// Opens an engine over memory, and serves what was submitted. Whether it ended with all answered.
-fn serve<B: Room, R: Wait>(
+pub fn serve<B: Room, R: Wait>(
     rt: &R,
     alloc: Global,
     publisher: &mut Publisher<MemStore, B>,

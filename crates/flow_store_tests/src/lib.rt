@@ -6,6 +6,8 @@ mod answering;
 #[cfg(test)]
 mod batches;
 #[cfg(test)]
+mod boards;
+#[cfg(test)]
 mod calls;
 #[cfg(test)]
 mod capacities;

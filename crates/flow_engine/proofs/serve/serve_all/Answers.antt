@@ -3,7 +3,7 @@ use Rattle.std.proofs.lemmas.Result.{err_from_is_err_and}
 use Rattle.flow_machine.specs.declared.submission.Taken.{Taken}
 use Rattle.flow_hub.proofs.Growing.{before_trans}
 use Rattle.flow_engine.specs.Serving.{GivesUp, StopsAt}
-use Rattle.flow_engine.proofs.Serving.{follows_then, gives_then, stops_behind}
+use Rattle.flow_engine.proofs.Serving.{follows_then, gives_none, gives_then, stops_behind}
 use Rattle.flow_engine.proofs.serve.serve_all.Goals as goal
 
 -- the batch that stops the engine is behind those that didn't
@@ -30,22 +30,45 @@ returns-in_err-commit_taken-clause-grows g c =
     let now = c.commit_taken.new.publisher in
     before_trans c.args.publisher.now mid now (before_trans c.args.publisher.now c.loop.publisher mid c.loop.invariant.grows c.take.ensures.grows) c.commit_taken.ensures.grows
 
+pub loop-init : goal.loop-init
+loop-init g c =
+    let b = c.post_board.ensures in
+    record {
+      together = b.together;
+      halted = b.still.halted;
+      still = λ h. (b.still.nothing (sym b.still.halted ∙ h), b.refused);
+      gives = gives_none c.args.publisher.now.refused c.post_board.new.publisher.refused b.refused;
+      base = b.still.base;
+      follows = b.still.follows;
+      grows = b.grows;
+      boarded = b.boarded;
+      empty = search rules;
+      room = search rules;
+      next = search rules;
+      ends = search rules;
+    }
+
 pub loop-preserved : goal.loop-preserved
 loop-preserved g c =
     let i = c.loop.invariant in
     let mid = c.take.new.self in
-    let new = c.commit_taken.new.engine in
-    let now = c.commit_taken.new.publisher in
+    let kept = c.commit_taken.new.engine in
+    let told = c.commit_taken.new.publisher in
+    let b = c.post_board-in-loop.ensures in
     let go = c.in_ok-commit_taken.ensures.goes_on in
     let was = c.args.publisher.now.refused in
+    let gives = gives_then was mid.refused told.refused (subst (GivesUp was) (sym c.take.ensures.taken.refused) i.gives) c.in_ok-commit_taken.ensures.given_up in
     record {
-      together = c.commit_taken.ensures.together;
-      halted = go.1 ∙ (sym go.0 ∙ i.halted);
-      still = λ h. absurd (true≢false (sym h ∙ go.1));
-      gives = gives_then was mid.refused now.refused (subst (GivesUp was) (sym c.take.ensures.taken.refused) i.gives) c.in_ok-commit_taken.ensures.given_up;
-      base = c.commit_taken.ensures.base ∙ i.base;
-      follows = follows_then g.S.Store c.args.engine.now c.loop.engine new i.follows c.commit_taken.ensures.follows;
-      grows = before_trans c.args.publisher.now mid now (before_trans c.args.publisher.now c.loop.publisher mid i.grows c.take.ensures.grows) c.commit_taken.ensures.grows;
+      together = b.together;
+      halted = b.still.halted ∙ (go.1 ∙ (sym go.0 ∙ i.halted));
+      still = λ h. absurd (true≢false (sym h ∙ (b.still.halted ∙ go.1)));
+      gives = subst (GivesUp was) (sym b.refused) gives;
+      base = b.still.base ∙ (c.commit_taken.ensures.base ∙ i.base);
+      follows = follows_then g.S.Store c.args.engine.now kept c.post_board-in-loop.new.engine (follows_then g.S.Store c.args.engine.now c.loop.engine kept i.follows c.commit_taken.ensures.follows) b.still.follows;
+      grows =
+          before_trans c.args.publisher.now told c.post_board-in-loop.new.publisher
+          (before_trans c.args.publisher.now mid told (before_trans c.args.publisher.now c.loop.publisher mid i.grows c.take.ensures.grows) c.commit_taken.ensures.grows) b.grows;
+      boarded = b.boarded;
       empty = search rules;
       room = search rules;
       next = search rules;

@@ -17,6 +17,7 @@ invariant-loop g l =
       base : l.engine.base ≡ l.fn.engine.base;
       follows : Follows g.S.Store l.fn.engine l.engine;
       grows : IsBefore l.fn.publisher l.publisher;
+      boarded : l.publisher.boarded ≡ true;
       empty : l.taken.items ≡ [];
       room : l.fn.most ≤ vec_capacity l.taken;
       next : (goal.iterator-loop g).can_next l.iterator';

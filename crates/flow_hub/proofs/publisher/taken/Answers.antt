@@ -1,14 +1,13 @@
 use Rattle.std.proofs.Common.{rules, ◌≡◌, []}
 use Rattle.flow_hub.proofs.Growing.{before_self, before_trans, same_part}
 use Rattle.flow_hub.proofs.Lists.{no_length}
-use Rattle.flow_hub.proofs.Sound.{none_taken, taken_since}
+use Rattle.flow_hub.proofs.Sound.{none_taken}
 use Rattle.flow_hub.proofs.publisher.taken.Goals as goal
 
 pub loop-init : goal.loop-init
 loop-init g c = (
   before_self c.args.seat.was,
   same_part c.args.seat.was,
-  search rules,
   search rules,
   search rules,
   search rules,
@@ -21,7 +20,6 @@ loop-preserved g c =
     let empty : c.take-me.new.into.items ≡ [] = no_length c.take-me.new.into.items (search rules) in (
       before_trans c.args.seat.was c.loop.me.was c.take-me.result.was c.loop.invariant.0 c.take-me.ensures.grows,
       none_taken c.args.seat.was c.loop.me.was c.take-me.result.was c.take-me.new.into.items empty c.loop.invariant.1 c.take-me.ensures.seen,
-      search rules,
       search rules,
       empty,
       search rules,

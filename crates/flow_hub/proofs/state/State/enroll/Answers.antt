@@ -19,6 +19,7 @@ invariant_of-self g c = (
   search rules,
   search rules,
   search rules,
+  search rules,
 )
 
 pub tell-seat-requires-clause-may : goal.tell-seat-requires-clause-may

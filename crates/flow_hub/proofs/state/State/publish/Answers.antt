@@ -1,8 +1,8 @@
-use Rattle.std.proofs.Common.{rules, ◌≡◌, ◌+◌, ◌++◌, length, refl, ap, sym, ◌∙◌, arith, length-append, subst, vec_len}
+use Rattle.std.proofs.Common.{rules, ◌≡◌, ◌+◌, ◌++◌, length, refl, ap, sym, ◌∙◌, arith, length-append, vec_len}
 use Rattle.flow_commit.specs.Committing.{taken_of}
-use Rattle.flow_hub.specs.Knowing.{IsSamePart, with_published}
+use Rattle.flow_hub.specs.Knowing.{IsSamePart}
 use Rattle.flow_hub.specs.Publishing.{Answers}
-use Rattle.flow_hub.proofs.Growing.{before_self, part_by, publishes_on, grows_by}
+use Rattle.flow_hub.proofs.Growing.{before_self, publishes_on, grows_by}
 use Rattle.flow_hub.proofs.Lists.{length-mapped}
 use Rattle.flow_hub.proofs.Moves.{all_of, was_of}
 use Rattle.flow_hub.proofs.Sound.{publishes, published_history, has_published, published_by, history_by, same_answers}
@@ -33,7 +33,11 @@ invariant_of-self g c =
       search rules,
       search rules,
       search rules,
+      search rules,
     )
+
+pub tell-seen-requires-clause-grows : goal.tell-seen-requires-clause-grows
+tell-seen-requires-clause-grows g c = grows_by c.self.inside.keeper.all c.self.inside.known _ _ c.self.invariant.13 refl (before_self c.self.inside.known)
 
 pub tell-me-requires-clause-grows : goal.tell-me-requires-clause-grows
 tell-me-requires-clause-grows g c =
@@ -48,7 +52,7 @@ returns-clause-legal g c =
     let rs = c.args.receipts.items in
     let same : IsSamePart c.args.me.was i.known = search rules in
     let asked : Answers i.known c.args.stamp rs = same_answers g.S.Store c.args.me.was i.known c.args.stamp rs same c.requires.answers in
-    let was = was_of c.tell-me.result _ c.publish.new.self c.tell-me.ensures.told ∙ c.publish.ensures in
+    let was = was_of c.tell-me.result _ _ c.publish.new.self c.tell-me.ensures.told ∙ c.publish.ensures in
     history_by g.S.Store c.tell-me.result.was _ was (published_history g.S.Store _ c.args.stamp rs c.self.invariant.0 asked c.spend.ensures.lawful)
 
 pub returns-clause-seen : goal.returns-clause-seen
@@ -56,5 +60,5 @@ returns-clause-seen g c =
     let i = c.self.inside in
     let rs = c.args.receipts.items in
     let same : IsSamePart c.args.me.was i.known = search rules in
-    let was = was_of c.tell-me.result _ c.publish.new.self c.tell-me.ensures.told ∙ c.publish.ensures in
+    let was = was_of c.tell-me.result _ _ c.publish.new.self c.tell-me.ensures.told ∙ c.publish.ensures in
     published_by c.args.me.was c.tell-me.result.was _ c.args.stamp rs was (has_published g.S.Store i.known c.args.me.was c.args.stamp rs same c.requires.answers)

@@ -31,6 +31,7 @@ invariant_of-self g c =
       search rules,
       search rules,
       search rules,
+      search rules,
     )
 
 pub tell-me-requires-clause-grows : goal.tell-me-requires-clause-grows

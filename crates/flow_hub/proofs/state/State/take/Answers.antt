@@ -1,4 +1,4 @@
-use Rattle.std.proofs.Common.{rules, ◌≡◌, ◌+◌, ◌++◌, length, ap, ◌∙◌, arith, length-append}
+use Rattle.std.proofs.Common.{rules, ◌≡◌, ◌+◌, ◌++◌, length, ◌∙◌, arith, length-append}
 use Rattle.flow_hub.proofs.Growing.{takes_on, grows_by}
 use Rattle.flow_hub.specs.Knowing.{IsSamePart}
 use Rattle.flow_hub.proofs.Moves.{was_of}
@@ -26,6 +26,7 @@ invariant_of-self g c =
       search rules,
       search rules,
       search rules,
+      search rules,
     )
 
 pub tell-requires-clause-grows : goal.tell-requires-clause-grows
@@ -37,5 +38,5 @@ returns-clause-seen g c =
     let xs = c.move_front.new.into.items in
     let same : IsSamePart c.args.me.was i.known = search rules in
     let parts : i.waiting.items ≡ xs ++ c.move_front.new.waiting.items = search rules in
-    let was = was_of c.tell.result _ c.take.new.self c.tell.ensures.told ∙ c.take.ensures in
+    let was = was_of c.tell.result _ _ c.take.new.self c.tell.ensures.told ∙ c.take.ensures in
     taken_by c.args.me.was c.tell.result.was _ xs was (has_taken g.S.Store _ c.args.me.was xs c.move_front.new.waiting.items parts c.self.invariant.0 same)

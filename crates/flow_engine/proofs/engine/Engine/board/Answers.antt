@@ -1,0 +1,23 @@
+use Rattle.std.proofs.Common.{◌≡◌, subst}
+use Rattle.std.specs.Prelude.{IfErr}
+use Rattle.flow_model.specs.Book.{Book}
+use Rattle.flow_base.specs.declared.fault.Fault.{Fault}
+use Rattle.flow_base.specs.declared.fault.Fault.TheVariants as faults
+use Rattle.flow_tables.specs.Owned as tables
+use Rattle.flow_commit.specs.Committing.{IsDown}
+use Rattle.flow_commit.specs.Keeping.{IsFit, Keeping, KeepsBook}
+use Rattle.flow_engine.proofs.engine.Engine.board.Goals as goal
+
+-- the keeper says it
+pub returns-clause-follows : goal.returns-clause-follows
+returns-clause-follows g c = subst (λ (k : Keeping g.row.S.Denot). tables.Follows g.S.Store k.stored c.board.new.self.stored) c.self.view_is c.board.ensures.follows
+
+pub returns-clause-book : goal.returns-clause-book
+returns-clause-book g c =
+    let new = c.board.new.self in
+    subst (λ (k : Keeping g.row.S.Denot). IsFit g.S.Store new → (b : Book) → KeepsBook g.S.Store k b → KeepsBook g.S.Store new b) c.self.view_is c.board.ensures.book
+
+pub returns-clause-cause : goal.returns-clause-cause
+returns-clause-cause g c =
+    let new = c.board.new.self in
+    subst (λ (k : Keeping g.row.S.Denot). IsFit g.S.Store new → IfErr c.board.result (λ (f : Fault). f ≡ faults.StoreRefused → IsDown g.S.Store k.stored new.stored)) c.self.view_is c.board.ensures.cause

@@ -1,0 +1,13 @@
+-- What making a board leaves of an engine.
+use Rattle.std.specs.Prelude.{◌≡◌, true}
+use Rattle.sqlite_trees.specs.declared.store.Store.{Ghosts}
+use Rattle.flow_commit.specs.Keeping.{Keeping}
+use Rattle.flow_engine.specs.Answering.{Follows}
+
+-- It has kept what it had kept, over the same tables, and goes on as before; and where it had halted it has done nothing.
+pub record IsStill {S : Type 0} (g : Ghosts S) (old new : Keeping S) : Type 0 where
+  pub log : new.log ≡ old.log
+  pub base : new.base ≡ old.base
+  pub halted : new.halted ≡ old.halted
+  pub nothing : old.halted ≡ true → new ≡ old
+  pub follows : Follows g old new

@@ -1,0 +1,105 @@
+use Rattle.std.proofs.Common.{rules, ◌≡◌, ◌++◌, sym, ap, ◌∙◌, subst, List}
+use Rattle.flow_machine.specs.declared.task.Task.{Task}
+use Rattle.flow_hub.specs.declared.known.Known.{Known}
+use Rattle.flow_hub.specs.Knowing.{IsSamePart, with_posted}
+use Rattle.flow_hub.specs.Posting.{HasKeys, chosen, marks_of, new_ones}
+use Rattle.flow_hub.proofs.Chosen.{chosen_new}
+use Rattle.flow_hub.proofs.Moves.{was_of}
+use Rattle.flow_hub.proofs.Once.{still_once}
+use Rattle.flow_hub.proofs.Sound.{posts, has_posted, posted_by, once_by}
+use Rattle.flow_hub.proofs.state.State.post.Goals as goal
+
+pub invariant_of-self-2 : goal.invariant_of-self-2
+invariant_of-self-2 g c =
+    let i = c.self.inside in
+    let ts = c.args.board.tasks in
+    let posted = i.known.posted in
+    let into = c.into_parts-tasks in
+    let same : IsSamePart c.args.me.was i.known = search rules in
+    let keys : HasKeys c.args.keys.now posted = subst (HasKeys c.args.keys.now) same.posted c.requires.keys in
+    let marked = subst (λ (us : List Task). (c.in-Ok.marks.items ≡ marks_of posted us) × HasKeys c.add_all.new.keys (posted ++ new_ones posted us)) c.tasks-2.ensures (c.in-Ok.ensures.marked posted keys) in
+    let chose : chosen into.result.0.items c.in-Ok.marks.items ≡ new_ones posted ts = ap (λ us. chosen us c.in-Ok.marks.items) into.ensures.tasks ∙ chosen_new posted ts c.in-Ok.marks.items marked.0 in
+    let known : c.post.new.self ≡ with_posted i.known (new_ones posted ts) (record { due = c.args.board.due; open_runs = c.args.board.open_runs }) =
+    c.post.ensures ∙ (λ j. with_posted i.known (chose j) (record { due = into.ensures.due j; open_runs = into.ensures.open_runs j })) in
+    let was : c.tell-me.result.was ≡ _ = was_of c.tell-me.result _ _ c.post.new.self c.tell-me.ensures.told ∙ known in
+    let queue : c.push_marked.new.waiting.items ≡ i.tasks.items ++ new_ones posted ts = c.push_marked.ensures.items ∙ (ap (λ us. us ++ chosen into.result.0.items c.in-Ok.marks.items) c.reserve.ensures.items ∙ ap (λ us. i.tasks.items ++ us) chose) in (
+      rw (known, queue) (posts g.S.Store _ ts _ c.self.invariant.0),
+      search rules,
+      search rules,
+      search rules,
+      search rules,
+      search rules,
+      search rules,
+      search rules,
+      search rules,
+      search rules,
+      search rules,
+      search rules,
+      search rules,
+      search rules,
+      search rules,
+    )
+
+pub returns-clause-posted : goal.returns-clause-posted
+returns-clause-posted g c =
+    let i = c.self.inside in
+    let ts = c.args.board.tasks in
+    let posted = i.known.posted in
+    let into = c.into_parts-tasks in
+    let same : IsSamePart c.args.me.was i.known = search rules in
+    let keys : HasKeys c.args.keys.now posted = subst (HasKeys c.args.keys.now) same.posted c.requires.keys in
+    let marked = subst (λ (us : List Task). (c.in-Ok.marks.items ≡ marks_of posted us) × HasKeys c.add_all.new.keys (posted ++ new_ones posted us)) c.tasks-2.ensures (c.in-Ok.ensures.marked posted keys) in
+    let chose : chosen into.result.0.items c.in-Ok.marks.items ≡ new_ones posted ts = ap (λ us. chosen us c.in-Ok.marks.items) into.ensures.tasks ∙ chosen_new posted ts c.in-Ok.marks.items marked.0 in
+    let known : c.post.new.self ≡ with_posted i.known (new_ones posted ts) (record { due = c.args.board.due; open_runs = c.args.board.open_runs }) =
+    c.post.ensures ∙ (λ j. with_posted i.known (chose j) (record { due = into.ensures.due j; open_runs = into.ensures.open_runs j })) in
+    let was : c.tell-me.result.was ≡ _ = was_of c.tell-me.result _ _ c.post.new.self c.tell-me.ensures.told ∙ known in
+    let queue : c.push_marked.new.waiting.items ≡ i.tasks.items ++ new_ones posted ts = c.push_marked.ensures.items ∙ (ap (λ us. us ++ chosen into.result.0.items c.in-Ok.marks.items) c.reserve.ensures.items ∙ ap (λ us. i.tasks.items ++ us) chose) in
+    rw (known, queue) (search rules)
+
+pub returns-clause-keys : goal.returns-clause-keys
+returns-clause-keys g c =
+    let i = c.self.inside in
+    let ts = c.args.board.tasks in
+    let posted = i.known.posted in
+    let into = c.into_parts-tasks in
+    let same : IsSamePart c.args.me.was i.known = search rules in
+    let keys : HasKeys c.args.keys.now posted = subst (HasKeys c.args.keys.now) same.posted c.requires.keys in
+    let marked = subst (λ (us : List Task). (c.in-Ok.marks.items ≡ marks_of posted us) × HasKeys c.add_all.new.keys (posted ++ new_ones posted us)) c.tasks-2.ensures (c.in-Ok.ensures.marked posted keys) in
+    let chose : chosen into.result.0.items c.in-Ok.marks.items ≡ new_ones posted ts = ap (λ us. chosen us c.in-Ok.marks.items) into.ensures.tasks ∙ chosen_new posted ts c.in-Ok.marks.items marked.0 in
+    let known : c.post.new.self ≡ with_posted i.known (new_ones posted ts) (record { due = c.args.board.due; open_runs = c.args.board.open_runs }) =
+    c.post.ensures ∙ (λ j. with_posted i.known (chose j) (record { due = into.ensures.due j; open_runs = into.ensures.open_runs j })) in
+    let was : c.tell-me.result.was ≡ _ = was_of c.tell-me.result _ _ c.post.new.self c.tell-me.ensures.told ∙ known in
+    let queue : c.push_marked.new.waiting.items ≡ i.tasks.items ++ new_ones posted ts = c.push_marked.ensures.items ∙ (ap (λ us. us ++ chosen into.result.0.items c.in-Ok.marks.items) c.reserve.ensures.items ∙ ap (λ us. i.tasks.items ++ us) chose) in
+    subst (λ (k : Known g.row.S.Denot). HasKeys c.add_all.new.keys k.posted) (sym was) marked.1
+
+pub returns-clause-seen : goal.returns-clause-seen
+returns-clause-seen g c =
+    let i = c.self.inside in
+    let ts = c.args.board.tasks in
+    let posted = i.known.posted in
+    let into = c.into_parts-tasks in
+    let same : IsSamePart c.args.me.was i.known = search rules in
+    let keys : HasKeys c.args.keys.now posted = subst (HasKeys c.args.keys.now) same.posted c.requires.keys in
+    let marked = subst (λ (us : List Task). (c.in-Ok.marks.items ≡ marks_of posted us) × HasKeys c.add_all.new.keys (posted ++ new_ones posted us)) c.tasks-2.ensures (c.in-Ok.ensures.marked posted keys) in
+    let chose : chosen into.result.0.items c.in-Ok.marks.items ≡ new_ones posted ts = ap (λ us. chosen us c.in-Ok.marks.items) into.ensures.tasks ∙ chosen_new posted ts c.in-Ok.marks.items marked.0 in
+    let known : c.post.new.self ≡ with_posted i.known (new_ones posted ts) (record { due = c.args.board.due; open_runs = c.args.board.open_runs }) =
+    c.post.ensures ∙ (λ j. with_posted i.known (chose j) (record { due = into.ensures.due j; open_runs = into.ensures.open_runs j })) in
+    let was : c.tell-me.result.was ≡ _ = was_of c.tell-me.result _ _ c.post.new.self c.tell-me.ensures.told ∙ known in
+    let queue : c.push_marked.new.waiting.items ≡ i.tasks.items ++ new_ones posted ts = c.push_marked.ensures.items ∙ (ap (λ us. us ++ chosen into.result.0.items c.in-Ok.marks.items) c.reserve.ensures.items ∙ ap (λ us. i.tasks.items ++ us) chose) in
+    posted_by c.args.me.was c.tell-me.result.was _ c.args.board was (has_posted g.S.Store i.known c.args.me.was c.args.board same)
+
+pub returns-clause-once : goal.returns-clause-once
+returns-clause-once g c =
+    let i = c.self.inside in
+    let ts = c.args.board.tasks in
+    let posted = i.known.posted in
+    let into = c.into_parts-tasks in
+    let same : IsSamePart c.args.me.was i.known = search rules in
+    let keys : HasKeys c.args.keys.now posted = subst (HasKeys c.args.keys.now) same.posted c.requires.keys in
+    let marked = subst (λ (us : List Task). (c.in-Ok.marks.items ≡ marks_of posted us) × HasKeys c.add_all.new.keys (posted ++ new_ones posted us)) c.tasks-2.ensures (c.in-Ok.ensures.marked posted keys) in
+    let chose : chosen into.result.0.items c.in-Ok.marks.items ≡ new_ones posted ts = ap (λ us. chosen us c.in-Ok.marks.items) into.ensures.tasks ∙ chosen_new posted ts c.in-Ok.marks.items marked.0 in
+    let known : c.post.new.self ≡ with_posted i.known (new_ones posted ts) (record { due = c.args.board.due; open_runs = c.args.board.open_runs }) =
+    c.post.ensures ∙ (λ j. with_posted i.known (chose j) (record { due = into.ensures.due j; open_runs = into.ensures.open_runs j })) in
+    let was : c.tell-me.result.was ≡ _ = was_of c.tell-me.result _ _ c.post.new.self c.tell-me.ensures.told ∙ known in
+    let queue : c.push_marked.new.waiting.items ≡ i.tasks.items ++ new_ones posted ts = c.push_marked.ensures.items ∙ (ap (λ us. us ++ chosen into.result.0.items c.in-Ok.marks.items) c.reserve.ensures.items ∙ ap (λ us. i.tasks.items ++ us) chose) in
+    once_by c.tell-me.result.was _ was (still_once posted ts c.self.invariant.0.once)

@@ -1,0 +1,58 @@
+-- What comes of what is posted: tasks that are given out, ticks, and the end.
+use Rattle.std.specs.Prelude.{ℕ, ◌≡◌, ◌≤◌, ◌⊎◌, ◌∷◌, ◌++◌, [], length, true, Option, Some, None}
+use mathlib.Core.List.{IsPrefix}
+use Rattle.flow_base.specs.declared.command.Command.{Command}
+use Rattle.flow_base.specs.declared.command.Command.TheVariants.{Tick}
+use Rattle.flow_machine.specs.declared.task.Task.{Task}
+use Rattle.flow_hub.specs.declared.known.Known.{Known}
+use Rattle.flow_hub.specs.declared.known.Outlook.{Outlook}
+use Rattle.flow_hub.specs.Knowing.{answered_in}
+use Rattle.flow_hub.specs.Posting.{IsOnce}
+
+-- the task is the next one behind those that were given out
+abbrev pub given_with : {S : Type 0} → Known S → Known S → Option Task → Type 0
+given_with old new None = new.given ≡ old.given
+given_with old new (Some t) = new.given ≡ old.given ++ t ∷ []
+
+-- What is given out is the next task that was posted, if one is there; and so all that were given out are a beginning of those that were
+-- posted, none of them twice.
+pub record HasGiven {S : Type 0} (old new : Known S) (task : Option Task) : Type 0 where
+  pub next : given_with old new task
+  pub first : IsPrefix new.given new.posted
+  pub once : IsOnce new.posted
+
+-- The command fires what is due: the moment has come.
+pub record IsDueBy (due : Option ℕ) (command : Command) : Type 0 where
+  pub moment : ℕ
+  pub now : ℕ
+  pub is : command ≡ Tick now
+  pub named : due ≡ Some moment
+  pub come : moment ≤ now
+
+-- when more is to be done, as the last board says, if nothing was answered since
+abbrev pub due_of : Option Outlook → Option ℕ
+due_of None = None
+due_of (Some o) = o.due
+
+abbrev pub due_in : {S : Type 0} → Known S → Option ℕ
+due_in k = due_of k.outlook
+
+-- The command asks for what is due by now, where no board could be made that would name it: behind the answer there is one, or it is
+-- asked again.
+pub record AsksAnew {S : Type 0} (k : Known S) (command : Command) : Type 0 where
+  pub now : ℕ
+  pub is : command ≡ Tick now
+  pub skipped : k.boarded ≡ true
+  pub none : k.outlook ≡ None
+
+-- why a command comes from the clock
+abbrev pub IsTickOf : {S : Type 0} → Known S → Command → Type 0
+IsTickOf k c = IsDueBy (due_in k) c ⊎ AsksAnew k c
+
+-- All that was submitted is answered, and the board that was made since says that no run is open.
+pub record IsIdle {S : Type 0} (k : Known S) : Type 0 where
+  pub outlook : Outlook
+  pub named : k.outlook ≡ Some outlook
+  pub none_open : outlook.open_runs ≡ 0
+  pub answered : length k.asked ≡ answered_in k
+  pub none : k.held ≡ []

@@ -1,0 +1,85 @@
+//! Who gives the tasks out that are posted.
+ghost use Rattle.std.specs.Prelude.{◌≡◌, true, IfNone, MatchOption};
+ghost use Rattle.flow_hub.specs.Feeding.{HasGiven};
+ghost use Rattle.flow_hub.specs.Knowing.{IsBefore};
+ghost use Rattle.flow_hub.specs.Seating.{IsGivers};
+
+use crate::hub::Shared;
+use crate::seats::{Pass, Room};
+use flow_machine::task::Task;
+use sqlite::Alter;
+use std::marker::Model;
+use std::mem;
+use std::sync::{Arc, Wait};
+
+/// Gives the tasks out that are posted, in their order. A hub has one. To a contract it is what it knows of the hub: of what was
+/// given out, all.
+#[derive(Drop)]
+pub struct Feed<S: Alter, B: Room> {
+    shared: Arc<Shared<S, B>>,
+    seat: Pass<S, B>,
+}
+
+impl<S: Alter, B: Room> Model for Feed<S, B> {
+    ghost use Rattle.flow_hub.specs.declared.known.Known.{Known};
+    ghost use Rattle.flow_hub.specs.Knowing.{known_code};
+    ghost use Rattle.flow_hub.specs.Seating.{IsGivers};
+
+    ghost Value = { Known S };
+
+    ghost coded = { known_code S.code };
+
+    ghost view = { λ f. f.seat.was };
+
+    ghost invariant = { λ f. IsGivers f.seat };
+}
+
+/// Waits until a task is there, or the hub is closed.
+fn given<S: Alter, B: Room, R: Wait>(
+    rt: &R,
+    shared: &Shared<S, B>,
+    seat: Pass<S, B>,
+) -> (Pass<S, B>, Option<Task>)
+    requires seat { IsGivers seat }
+    ensures given { HasGiven seat.was result.0.was result.1 }
+    ensures none { IfNone result.1 (result.0.was.closed ≡ true) }
+    ensures seat { IsGivers result.0 }
+    ensures grows { IsBefore seat.was result.0.was }
+{
+    let mut me = seat;
+    let mut state = shared.state.lock(rt);
+    for _ in rt.forever() {
+        let (seen, task) = state.give(&shared.seats, me);
+        me = seen;
+        if let Some(task) = task {
+            return (me, Some(task));
+        }
+        if state.is_closed() {
+            return (me, None);
+        }
+        state = shared.posted.wait(rt, state);
+    }
+    unreachable!()
+}
+
+impl<S: Alter, B: Room> Feed<S, B> {
+    pub(crate) fn over(shared: Arc<Shared<S, B>>, seat: Pass<S, B>) -> Feed<S, B>
+        requires { IsGivers seat }
+        ensures { result ≡ seat.was }
+    {
+        Feed { shared, seat }
+    }
+
+    /// Waits for the next task. None where the hub is closed.
+    pub fn next<R: Wait>(&mut self, rt: &R) -> Option<Task>
+        ensures given { HasGiven self.old self.new result }
+        ensures none { IfNone result (self.new.closed ≡ true) }
+        ensures grows { IsBefore self.old self.new }
+    {
+        let shared = &*self.shared;
+        let me = mem::replace(&mut self.seat, shared.seats.enter());
+        let (me, task) = given(rt, shared, me);
+        self.seat = me;
+        task
+    }
+}

@@ -1,0 +1,148 @@
+//! What the locked state does with boards and with the tasks that are posted.
+ghost use Rattle.std.specs.Prelude.{◌≡◌, false, true, ◌∷◌, ◌++◌, length, IfSome, IfErr, IfNone, IsErr, OnOk, OnErr, MatchOption, None, Some, IsTrue};
+ghost use mathlib.Core.List.{IsPrefix};
+ghost use Rattle.flow_hub.specs.Halls.{posted_on, skipped, gave};
+ghost use Rattle.flow_hub.specs.Knowing.{IsBefore, IsSamePart, answered_in, nothing};
+ghost use Rattle.flow_hub.specs.Posting.{HasKeys, IsOnce};
+ghost use Rattle.flow_hub.specs.Publishing.{HasPosted, HasSkipped};
+ghost use Rattle.flow_hub.specs.Feeding.{HasGiven, IsIdle, due_in};
+ghost use Rattle.flow_hub.specs.Seating.{seeing, IsGivers, IsPublishers, IsSubmitters};
+
+use super::State;
+use crate::known::Outlook;
+use crate::posting::{Keys, add_all, push_marked};
+use crate::seats::{Pass, Room, Seats};
+use flow_base::number::Moment;
+use flow_commit::board::Board;
+use flow_machine::task::Task;
+use sqlite::Alter;
+use std::alloc::Global;
+
+impl<S: Alter, B: Room> State<S, B> {
+    /// Posts those of the board's tasks that weren't posted before, and joins their keys to those of all that was. Where room for
+    /// them is refused the board comes back, and nothing is posted.
+    pub(crate) fn post(
+        &mut self,
+        alloc: Global,
+        seats: &Seats<S, B>,
+        me: Pass<S, B>,
+        keys: &mut Keys,
+        board: Board,
+    ) -> (Pass<S, B>, Result<(), Board>)
+        requires seat { IsPublishers me }
+        requires keys { HasKeys keys.old me.was.posted }
+        ensures posted { OnOk result.1 (self.new ≡ posted_on self.old board.tasks (record { due = board.due; open_runs = board.open_runs })) }
+        ensures refused { IfErr result.1 (λ b. (b ≡ board) × (self.new ≡ self.old)) }
+        ensures keys { HasKeys keys.new result.0.was.posted }
+        ensures seat { result.0 ≡ seeing true false self.new.known }
+        ensures seen { OnOk result.1 (HasPosted me.was result.0.was board) }
+        ensures part { OnErr result.1 (IsSamePart me.was result.0.was) }
+        ensures once { IsOnce result.0.was.posted }
+        ensures grows { IsBefore me.was result.0.was }
+    {
+        let me = self.see(seats, me);
+        if self.tasks.reserve(board.tasks().len()).is_err() {
+            return (me, Err(board));
+        }
+        let Ok(marks) = add_all(alloc, keys, board.tasks()) else {
+            return (me, Err(board));
+        };
+        let (tasks, due, open_runs) = board.into_parts();
+        self.known.post(&tasks, &marks, Outlook { due, open_runs });
+        let me = seats.tell(&mut self.keeper, me, self.places, self.places, &self.known);
+        push_marked(&mut self.tasks, tasks, marks);
+        (me, Ok(()))
+    }
+
+    /// No board this time.
+    pub(crate) fn skip(&mut self, seats: &Seats<S, B>, me: Pass<S, B>) -> Pass<S, B>
+        requires seat { IsPublishers me }
+        ensures skipped { self.new ≡ skipped self.old }
+        ensures seat { result ≡ seeing true false self.new.known }
+        ensures seen { HasSkipped me.was result.was }
+        ensures grows { IsBefore me.was result.was }
+    {
+        self.known.skip();
+        seats.tell(&mut self.keeper, me, self.places, self.places, &self.known)
+    }
+
+    /// The seat that gives tasks out, where nobody has it yet.
+    pub(crate) fn take_feed(&mut self) -> Option<Pass<S, B>>
+        ensures same { self.new ≡ self.old }
+        ensures seat { IfSome result (λ p. p ≡ seeing false true nothing) }
+    {
+        self.feed.take()
+    }
+
+    /// The next task that waits, if one does and the hub isn't closed.
+    pub(crate) fn give(&mut self, seats: &Seats<S, B>, me: Pass<S, B>) -> (Pass<S, B>, Option<Task>)
+        requires seat { IsGivers me }
+        ensures given { MatchOption result.1 (self.new ≡ self.old) (λ t. (self.old.tasks ≡ t ∷ self.new.tasks) × (self.new ≡ gave self.old t self.new.tasks)) }
+        ensures seat { result.0 ≡ seeing false true self.new.known }
+        ensures seen { HasGiven me.was result.0.was result.1 }
+        ensures grows { IsBefore me.was result.0.was }
+    {
+        if self.known.closed {
+            return (self.see(seats, me), None);
+        }
+        let Some(task) = self.tasks.pop_front() else {
+            return (self.see(seats, me), None);
+        };
+        self.known.give(&task);
+        let me = seats.tell(&mut self.keeper, me, self.places, self.places, &self.known);
+        (me, Some(task))
+    }
+
+    /// When more is to be done, as the last board says, if nothing was answered since.
+    pub(crate) fn due(
+        &mut self,
+        seats: &Seats<S, B>,
+        me: Pass<S, B>,
+    ) -> (Pass<S, B>, Option<Moment>)
+        requires seat { IsSubmitters me }
+        ensures same { self.new ≡ self.old }
+        ensures due { result.1 ≡ due_in result.0.was }
+        ensures seat { result.0 ≡ seeing false false self.new.known }
+        ensures grows { IsBefore me.was result.0.was }
+    {
+        let me = self.see(seats, me);
+        let Some(outlook) = self.known.outlook else {
+            return (me, None);
+        };
+        (me, outlook.due)
+    }
+
+    /// Whether no board could be made since what was taken last was answered.
+    pub(crate) fn has_no_board(&self) -> bool
+        ensures { result ≡ true → (self.now.known.boarded ≡ true) × (self.now.known.outlook ≡ None) }
+    {
+        if !self.known.boarded {
+            return false;
+        }
+        self.known.outlook.is_none()
+    }
+
+    /// Whether all that was submitted is answered, and the board that was made then says that no run is open.
+    pub(crate) fn is_idle(&mut self, seats: &Seats<S, B>, me: Pass<S, B>) -> (Pass<S, B>, bool)
+        requires seat { IsSubmitters me }
+        ensures same { self.new ≡ self.old }
+        ensures idle { result.1 ≡ true → IsIdle result.0.was }
+        ensures seat { result.0 ≡ seeing false false self.new.known }
+        ensures grows { IsBefore me.was result.0.was }
+    {
+        let me = self.see(seats, me);
+        let Some(outlook) = self.known.outlook else {
+            return (me, false);
+        };
+        if outlook.open_runs != 0 {
+            return (me, false);
+        }
+        if !self.waiting.is_empty() {
+            return (me, false);
+        }
+        if self.held != 0 {
+            return (me, false);
+        }
+        (me, true)
+    }
+}
