@@ -47,7 +47,7 @@ fn open_channel(
 {
     let (mut sender, door) = opened(alloc, MOST_TASKS)?;
     let mut receivers = Vec::with_capacity(alloc, workers)?;
-    'ends: for _made in 0..workers {
+    'ends: for made in 0..workers {
         receivers.push(sender.worker(&door)?)?;
     }
     Ok((sender, receivers))
