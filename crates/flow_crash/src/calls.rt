@@ -5,9 +5,9 @@ ghost use Rattle.flow_crash.specs.declared.calls.Part.TheVariants as parts;
 ghost use Rattle.flow_crash.specs.Numbers.{Rises};
 
 use std::alloc::{AllocError, Global};
-use std::cell::Cell;
 use std::io;
-use std::rc::Rc;
+use std::sync::Arc;
+use std::sync::atomic::{AtomicU64, Ordering};
 
 /// How much of a call that is refused is carried out.
 #[derive(Clone, Copy, Debug, PartialEq, Eq)]
@@ -20,10 +20,11 @@ pub enum Part {
     After,
 }
 
-/// The count of the calls that were asked of the files which share it. The first one has the number 1.
+/// The count of the calls that were asked of the files which share it. The first one has the number 1. It may go to another thread
+/// with its files.
 #[derive(Drop)]
 pub struct Calls {
-    asked: Rc<Cell<u64>>,
+    asked: Arc<AtomicU64>,
 }
 
 impl Calls {
@@ -33,7 +34,7 @@ impl Calls {
     /// Where room for it is refused.
     pub fn new(alloc: Global) -> Result<Calls, AllocError> {
         Ok(Calls {
-            asked: Rc::new(alloc, Cell::new(0))?,
+            asked: Arc::new(alloc, AtomicU64::new(0))?,
         })
     }
 
@@ -43,22 +44,23 @@ impl Calls {
     /// Where the holders of the count can't be counted any more.
     pub fn share(&self) -> Result<Calls, AllocError> {
         Ok(Calls {
-            asked: self.asked.clone()?,
+            asked: Arc::try_clone(&self.asked)?,
         })
     }
 
     /// How many calls were asked. It stops at the top of its type.
     pub fn count(&self) -> u64 {
-        self.asked.get()
+        self.asked.load(Ordering::SeqCst)
     }
 
     /// Counts one more call of a file, and gives its number, which is above that of the file's last one.
     pub(crate) fn next_after(&self, last: u64) -> u64
         ensures { Rises last result }
     {
-        // The count is never below a number that it gave. No clause says so of a cell, so it is seen to here.
-        let number = self.asked.get().max(last).saturating_add(1);
-        self.asked.set(number);
+        // The count is never below a number that it gave. No clause says so of a shared word, so it is seen to here.
+        let asked = self.asked.load(Ordering::SeqCst);
+        let number = asked.max(last).saturating_add(1);
+        self.asked.store(number, Ordering::SeqCst);
         number
     }
 }
