@@ -8,7 +8,8 @@ use std::alloc::Global;
 use std::test::Fail;
 
 // Two runs in turn, so that one of them always pushes the other's position out where one is kept.
-const IN_TURN: &[u8] = b"{\"do\":\"register\",\"src\":\"workflow a(n: int) { activity c(int) -> int; let r = 0; r = call c(n); r = call c(r); return r; }\"}
+const IN_TURN: &[u8] =
+    b"{\"do\":\"register\",\"src\":\"workflow a(n: int) { activity c(int) -> int; let r = 0; r = call c(n); r = call c(r); return r; }\"}
 {\"args\":[7],\"at\":1000,\"do\":\"start\",\"flow\":\"f\",\"req\":\"q1\",\"text\":1}
 {\"args\":[8],\"at\":1000,\"do\":\"start\",\"flow\":\"g\",\"req\":\"q2\",\"text\":1}
 {\"at\":1500,\"attempt\":1,\"do\":\"complete\",\"event\":2,\"run\":1,\"value\":1}
@@ -20,20 +21,15 @@ const IN_TURN: &[u8] = b"{\"do\":\"register\",\"src\":\"workflow a(n: int) { act
 ";
 
 // What is said of run 2 behind its end.
-const ENDED: &[u8] = b"{\"activities\":[],\"events\":6,\"flow\":\"g\",\"reply\":\"run\",\"state\":\"completed\",\"text\":1,\"timers\":[]}
+const ENDED: &[u8] =
+    b"{\"activities\":[],\"events\":6,\"flow\":\"g\",\"reply\":\"run\",\"state\":\"completed\",\"text\":1,\"timers\":[]}
 ";
 
 /// What is written where every line is a command.
 fn written(alloc: Global, engine: &mut Engine<MemStore>) -> Option<Vec<u8>> {
     let mut reader = IN_TURN;
     let mut writer = Vec::new(alloc);
-    let outcome = drive_lines(
-        alloc,
-        engine,
-        &mut reader,
-        &mut writer,
-        BatchSize::new(1)?,
-    );
+    let outcome = drive_lines(alloc, engine, &mut reader, &mut writer, BatchSize::new(1)?);
     if end_status(&outcome) == 0 {
         Some(writer)
     } else {
