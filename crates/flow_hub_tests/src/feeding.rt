@@ -45,10 +45,10 @@ fn closed<B: Room, R: Wait + Timing>(
 ) -> Option<(bool, [bool; 3])>
     requires { IsRoomOf opened B.table B.name B.parts }
 {
+    let (_publisher, hub) = Hub::<MemStore, B>::new(alloc, opened).ok()?;
     let clock = Still {
         now: Moment::new(1000)?,
     };
-    let (_publisher, hub) = Hub::<MemStore, B>::new(alloc, opened).ok()?;
     let mut feed = hub.feed(rt)?;
     let second = hub.feed(rt).is_some();
     let mut submitter = hub.submitter(rt).ok()?;

@@ -101,13 +101,13 @@ fn served<B: Room + Send + Sync, R: Threads + Wait + Timing + Sync>(
 ) -> Option<Seen>
     requires { IsRoomOf opened B.table B.name B.parts }
 {
+    let (mut publisher, hub) = Hub::<MemStore, B>::new(alloc, opened).ok()?;
     let early = Still {
         now: Moment::new(1000)?,
     };
     let late = Still {
         now: Moment::new(1500)?,
     };
-    let (mut publisher, hub) = Hub::<MemStore, B>::new(alloc, opened).ok()?;
     let mut feed = hub.feed(rt)?;
     let mut submitter = hub.submitter(rt).ok()?;
     let hub = &hub;
