@@ -1,5 +1,5 @@
 //! The store of a call, and the engine over it.
-ghost use Rattle.std.specs.Prelude.{◌≡◌, false, IfOk, IfErr};
+ghost use Rattle.std.specs.Prelude.{◌≡◌, [], false, IfOk, IfErr};
 ghost use Rattle.sqlite.specs.Held.{state};
 ghost use Rattle.flow_tables.specs.Owned.{IsFound};
 ghost use Rattle.flow_commit.specs.Keeping.{IsFit, kept_book};
@@ -14,24 +14,34 @@ use flow_settings::settings::Settings;
 use sqlite::{Alter, Connection, Error, ErrorCode, File, FileStore, MemStore};
 
 /// The engine over a store.
-fn open<S: Alter + Drop>(rt: &HostRuntime, conn: Connection<S>) -> Result<Engine<S>, Stopped>
+fn open<S: Alter + Drop>(
+    rt: &HostRuntime,
+    conn: Connection<S>,
+    settings: Settings,
+) -> Result<Engine<S>, Stopped>
     ensures opened { IfOk result (λ e. e.stored.opened ≡ conn) }
-    ensures anew { IfOk result (λ e. (e.kept ≡ 0) × (e.halted ≡ false)) }
+    ensures anew { IfOk result (λ e. (e.kept ≡ 0) × (e.halted ≡ false) × (e.log ≡ [])) }
     ensures found { IfOk result (λ e. IsFit S.Store e → IsOpened S.Store (state S.Store conn) e) }
     // The book over which it answers first is the one that the store held.
     ensures book { IfOk result (λ e. IsSure S.Store e → IsFound (state S.Store conn) (kept_book S.Store e)) }
     ensures refused { IfErr result (IsHandedOn S.Store (state S.Store conn)) }
 {
-    match Engine::open(rt.alloc(), conn, Settings::usual()) {
+    match Engine::open(rt.alloc(), conn, settings) {
         Ok(engine) => Ok(engine),
         Err((fault, _held)) => Err(Stopped::Refused(fault)),
     }
 }
 
 /// The store in this file, which is made where there is none.
-pub fn open_file(rt: &HostRuntime, file: &str) -> Result<Engine<FileStore<File>>, Stopped> {
+pub fn open_file(
+    rt: &HostRuntime,
+    file: &str,
+    settings: Settings,
+) -> Result<Engine<FileStore<File>>, Stopped>
+    ensures { IfOk result (λ e. e.log ≡ []) }
+{
     match Connection::open(rt, file) {
-        Ok(conn) => open(rt, conn),
+        Ok(conn) => open(rt, conn, settings),
         Err(Error::SqliteFailure(ErrorCode::OutOfMemory)) => Err(Stopped::Refused(Fault::NoMemory)),
         Err(_) => Err(Stopped::Refused(Fault::StoreRefused)),
     }
@@ -43,6 +53,8 @@ pub fn close_file(engine: Engine<FileStore<File>>) {
 }
 
 /// A new store in memory.
-pub fn open_memory(rt: &HostRuntime) -> Result<Engine<MemStore>, Stopped> {
-    open(rt, Connection::open_in_memory(rt.alloc())?)
+pub fn open_memory(rt: &HostRuntime, settings: Settings) -> Result<Engine<MemStore>, Stopped>
+    ensures { IfOk result (λ e. e.log ≡ []) }
+{
+    open(rt, Connection::open_in_memory(rt.alloc())?, settings)
 }

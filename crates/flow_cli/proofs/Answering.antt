@@ -95,6 +95,7 @@ module _ (u : Rules) (given_up : Book → List Command → Code → Type 0) wher
   bad_written b (stopped.Refused f) (Some bytes) left old new found line first same bad w =
       record { lines = []; later = lines_of bytes; answers = []; book = b; lines_are = refl; answers_are = refl; written_are = kept_appends old new w; book_is = tt }
   bad_written b (stopped.Input f) (Some bytes) left old new found line first same bad w = absurd w
+  bad_written b stopped.BadSettings (Some bytes) left old new found line first same bad w = absurd w
   bad_written b (stopped.Output f) (Some bytes) left old new found line first same bad w = record {
     lines = line ∷ [];
     later = lines_of (drop_through 10 bytes);
@@ -171,12 +172,14 @@ module _ (u : Rules) (given_up : Book → List Command → Code → Type 0) wher
       let front = front_answered b b1 ls w.0 w.1.0 (subst (AreAnswers u given_up b b1 ls) w.1.1.0 are) in
       record { lines = front.lines; later = front.later; answers = w.0; book = front.book; lines_are = front.split; answers_are = front.are; written_are = w.1.1.1; book_is = tt }
   some_written b b1 (stopped.Input f) ls answers old new are w = absurd w
+  some_written b b1 stopped.BadSettings ls answers old new are w = absurd w
   some_written b b1 (stopped.Output f) ls answers old new are w =
       record { lines = ls; later = []; answers = answers; book = b1; lines_are = sym (append-nil ls); answers_are = are; written_are = w; book_is = refl }
 
   written_later : (e : Stopped) (old new new1 : Option (List ℕ)) (done later : List Line) → Appends old new (written done) → WritesUntil e new new1 later → WritesUntil e old new1 (done ++ later)
   written_later (stopped.Refused f) old new new1 done later adds w = subst (Appends old new1) (sym (written-append done later)) (Appends-trans old new new1 _ _ adds w)
   written_later (stopped.Input f) old new new1 done later adds w = subst (Appends old new1) (sym (written-append done later)) (Appends-trans old new new1 _ _ adds w)
+  written_later stopped.BadSettings old new new1 done later adds w = absurd w
   written_later (stopped.Output f) old new new1 done later adds w = record {
     front = written done ++ w.front;
     back = w.back;

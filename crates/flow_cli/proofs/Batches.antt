@@ -292,6 +292,7 @@ pub telling_stops : (e : Stopped) (whole now left : List Line) (a : Line) (old m
 telling_stops (stopped.Refused f) whole now left a old mid new n next was w =
     (was.front, (now, (was.split, subst (Appends old new) (append-nil (written was.front)) (Appends-trans old mid new _ _ was.written_are (kept_appends mid new w)))))
 telling_stops (stopped.Input f) whole now left a old mid new n next was w = absurd w
+telling_stops stopped.BadSettings whole now left a old mid new n next was w = absurd w
 telling_stops (stopped.Output f) whole now left a old mid new n next was w = record {
   front = written was.front ++ w.front;
   back = w.back ++ written left;

@@ -5,7 +5,7 @@ use Rattle.clap.proofs.WalkLemmas.{first_value-rows}
 use Rattle.clap.specs.Words.{Text, fault_of, first_of, first_value, rows_of}
 use Rattle.clap.specs.declared.error.kind.ErrorKind.TheVariants as kind
 use Rattle.clap.specs.declared.parser.matches.Found.{Found}
-use Rattle.flow_cli.specs.Calls.{flow, call_in, Check, Safe, Drive, History}
+use Rattle.flow_cli.specs.Calls.{flow, call_in, Check, Safe, Drive, History, Work}
 
 pub first_in_rows : (f : Found) (id : Text) → first_value f id ≡ first_of id (rows_of f)
 first_in_rows f id = first_value-rows f id
@@ -73,3 +73,19 @@ help_is_refused = refl
 no_subcommand : fault_of flow (codes "flow" ∷ []) ≡ kind.MissingSubcommand ∷ []
 unfolding clap_on_literals
 no_subcommand = refl
+
+work_is_taken : fault_of flow (codes "flow" ∷ codes "work" ∷ codes "a" ∷ codes "--settings" ∷ codes "s" ∷ []) ≡ []
+unfolding clap_on_literals
+work_is_taken = refl
+
+work_says : call_in (codes "flow" ∷ codes "work" ∷ codes "a" ∷ codes "--settings" ∷ codes "s" ∷ []) ≡ Some (Work (codes "a") (Some (codes "s")))
+unfolding clap_on_literals
+work_says = refl
+
+work_without : call_in (codes "flow" ∷ codes "work" ∷ codes "a" ∷ []) ≡ Some (Work (codes "a") None)
+unfolding clap_on_literals
+work_without = refl
+
+work_is_free : fault_of flow (codes "flow" ∷ codes "work" ∷ codes "a" ∷ []) ≡ []
+unfolding clap_on_literals
+work_is_free = refl

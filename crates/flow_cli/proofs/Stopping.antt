@@ -45,6 +45,7 @@ pub stop_by : (e : Stopped) (X Y : Stop → Type 0) (P Q : Type 0) → ((s : Sto
 stop_by (stopped.Refused f) X Y P Q g h c = fault_by f X Y P Q g h c
 stop_by (stopped.Input e) X Y P Q g h c = tt
 stop_by (stopped.Output e) X Y P Q g h c = tt
+stop_by stopped.BadSettings X Y P Q g h c = absurd c
 
 pub uncaused : (e : Stopped) (Y : Stop → Type 0) (Q : Type 0) → CausedStop e (λ s. ⊥) ⊥ → CausedStop e Y Q
 uncaused e Y Q c = stop_by e (λ s. ⊥) Y ⊥ Q (λ s x. absurd x) (λ x. absurd x) c

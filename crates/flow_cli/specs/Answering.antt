@@ -87,18 +87,21 @@ abbrev pub WritesPart : Stopped → Option (List ℕ) → Option (List ℕ) → 
 WritesPart (stopped.Refused f) old new bytes = Keeps old new
 WritesPart (stopped.Input e) old new bytes = ⊥
 WritesPart (stopped.Output e) old new bytes = WritesBeginning old new bytes
+WritesPart stopped.BadSettings old new bytes = ⊥
 
 -- Only a failed write leaves a line that isn't whole.
 abbrev pub WritesUntil : Stopped → Option (List ℕ) → Option (List ℕ) → List Line → Type 0
 WritesUntil (stopped.Refused f) old new answers = Appends old new (written answers)
 WritesUntil (stopped.Input e) old new answers = Appends old new (written answers)
 WritesUntil (stopped.Output e) old new answers = WritesBeginning old new (written answers)
+WritesUntil stopped.BadSettings old new answers = ⊥
 
 -- Where reading or writing failed, the book is the one that the answers left. A refusal may stand behind one command more.
 abbrev pub LeavesBook : Stopped → Book → Book → Type 0
 LeavesBook (stopped.Refused f) b b1 = Unit {0}
 LeavesBook (stopped.Input e) b b1 = b1 ≡ b
 LeavesBook (stopped.Output e) b b1 = b1 ≡ b
+LeavesBook stopped.BadSettings b b1 = ⊥
 
 -- The first of the lines were answered, from a book to a book, and a beginning of their answers was written.
 pub record StopsWithin (u : Rules) (given_up : Book → List Command → Code → Type 0) (b b1 : Book) (e : Stopped) (whole : List (List ℕ)) (old new : Option (List ℕ)) : Type 0 where
@@ -172,3 +175,4 @@ abbrev pub WritesSome : Stopped → Option (List ℕ) → Option (List ℕ) → 
 WritesSome (stopped.Refused f) old new answers = (front : List Line) × ((back : List Line) × ((answers ≡ front ++ back) × Appends old new (written front)))
 WritesSome (stopped.Input e) old new answers = ⊥
 WritesSome (stopped.Output e) old new answers = WritesBeginning old new (written answers)
+WritesSome stopped.BadSettings old new answers = ⊥

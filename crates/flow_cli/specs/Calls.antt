@@ -6,7 +6,8 @@ use Rattle.clap.specs.Simple.{on_top}
 use Rattle.clap.specs.ValueTests.{is_unsigned_in}
 use Rattle.std.specs.Str.Parse.{digits_value, without_leading_plus}
 
--- ---- the program: `flow check FILE`, `flow drive DB [--batch N]`, `flow history DB RUN` and `flow safe OLD NEW`
+-- ---- the program: `flow check FILE`, `flow drive DB [--batch N]`, `flow history DB RUN`, `flow safe OLD NEW` and
+-- ---- `flow work DB [--settings FILE]`
 
 -- an argument with one value, which has to be there
 abbrev pub needed : Text → Rule
@@ -43,12 +44,23 @@ run = needed (codes "RUN")
 abbrev pub history : App
 history = with_rule (with_rule (new_app (codes "history")) base) run
 
+-- the file with the settings, which may be left out
+abbrev pub settings : Rule
+settings = record (new_rule (codes "settings")) { long = Some (codes "settings"); action = Some Set }
+
+abbrev pub work : App
+work = with_rule (with_rule (new_app (codes "work")) base) settings
+
 -- the program with the calls that read texts alone
 abbrev pub over_texts : App
 over_texts = with_subcommand (with_subcommand (on_top (λ s. record s { subcommand_required = true }) (new_app (codes "flow"))) check.top) safe.top
 
+-- with those that answer what is asked and end
+abbrev pub answering : App
+answering = with_subcommand (with_subcommand over_texts drive.top) history.top
+
 abbrev pub flow : App
-flow = with_subcommand (with_subcommand over_texts drive.top) history.top
+flow = with_subcommand answering work.top
 
 -- ---- a call, without where its texts lie in memory
 
@@ -57,6 +69,7 @@ pub data Call : Type 0 where
   Safe : (old new : Text) → Call
   Drive : Text → ℕ → Call
   History : Text → ℕ → Call
+  Work : Text → Option Text → Call
 
 -- the number that a word names: digits, perhaps behind a plus, from 1 to the last one
 abbrev pub number_in : ℕ → Text → Option ℕ
@@ -77,12 +90,16 @@ drive_in rows = option_and_then (λ base. option_and_then (λ word. option_map (
 abbrev pub history_in : List Row → Option Call
 history_in rows = option_and_then (λ base. option_and_then (λ word. option_map (History base) (run_in word)) (first_of (codes "RUN") rows)) (first_of (codes "DB") rows)
 
+abbrev pub work_in : List Row → Option Call
+work_in rows = option_map (λ base. Work base (first_of (codes "settings") rows)) (first_of (codes "DB") rows)
+
 abbrev pub named_call : Text → List Row → Option Call
 named_call name rows =
     if bytes_eq name (codes "check") then option_map Check (first_of (codes "FILE") rows) else
     (if bytes_eq name (codes "drive") then drive_in rows else
     (if bytes_eq name (codes "history") then history_in rows else
-    (if bytes_eq name (codes "safe") then safe_in rows else None)))
+    (if bytes_eq name (codes "safe") then safe_in rows else
+    (if bytes_eq name (codes "work") then work_in rows else None))))
 
 -- the call that clap's matches of the words are
 abbrev pub call_in : List Text → Option Call

@@ -49,3 +49,4 @@ abbrev pub stopped_status : Stopped → ℕ
 stopped_status (stopped.Refused f) = fault_status f
 stopped_status (stopped.Input e) = 3
 stopped_status (stopped.Output e) = 3
+stopped_status stopped.BadSettings = 2

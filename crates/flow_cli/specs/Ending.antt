@@ -14,8 +14,9 @@ SaysFault f old new = WritesBeginning old new (fault_text f ++ 10 ∷ []) ⊎ Wr
 abbrev pub SaysFirst : List ℕ → Option (List ℕ) → Option (List ℕ) → Type 0
 SaysFirst bytes old new = (behind : List ℕ) × WritesBeginning old new (bytes ++ behind)
 
--- the fault, or that reading or writing failed; what the system says of that stands behind it
+-- the fault, E96, or that reading or writing failed; what the system says of that stands behind it
 abbrev pub SaysStopped : Stopped → Option (List ℕ) → Option (List ℕ) → Type 0
 SaysStopped (stopped.Refused f) old new = SaysFault f old new
 SaysStopped (stopped.Input e) old new = SaysFirst (codes "flow: the input can't be read: ") old new
 SaysStopped (stopped.Output e) old new = SaysFirst (codes "flow: the output can't be written: ") old new
+SaysStopped stopped.BadSettings old new = WritesBeginning old new (codes "flow: E96" ++ 10 ∷ [])

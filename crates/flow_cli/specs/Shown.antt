@@ -1,4 +1,5 @@
 -- A call's texts.
+use Rattle.std.specs.Prelude.{option_map}
 use Rattle.flow_cli.specs.Calls as pure
 use Rattle.flow_cli.specs.declared.call.Call.{Call}
 use Rattle.flow_cli.specs.declared.call.Call.TheVariants as call
@@ -9,3 +10,4 @@ shown (call.Check file) = pure.Check file.now
 shown (call.Safe old new) = pure.Safe old.now new.now
 shown (call.Over base (work.Drive most)) = pure.Drive base.now most
 shown (call.Over base (work.History run)) = pure.History base.now run
+shown (call.Work base settings) = pure.Work base.now (option_map (λ t. t.now) settings)

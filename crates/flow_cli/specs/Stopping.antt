@@ -26,12 +26,14 @@ abbrev pub CausedStop : Stopped → (Stop → Type 0) → Type 0 → Type 0
 CausedStop (stopped.Refused f) cause too_many = CausedFault f cause too_many
 CausedStop (stopped.Input e) cause too_many = Unit {0}
 CausedStop (stopped.Output e) cause too_many = Unit {0}
+CausedStop stopped.BadSettings cause too_many = ⊥
 
 -- Memory ran out, or a write failed.
 abbrev pub StopsWriting : Stopped → Type 0
 StopsWriting (stopped.Refused f) = f ≡ fault.NoMemory
 StopsWriting (stopped.Input e) = ⊥
 StopsWriting (stopped.Output e) = Unit {0}
+StopsWriting stopped.BadSettings = ⊥
 
 -- Commands are those of the next lines, over the book that the lines before them left. They are applied together.
 pub record ComeNext (u : Rules) (given_up : Book → List Command → Code → Type 0) (b : Book) (bytes : List ℕ) (book : Book) (commands : List Command) : Type 0 where

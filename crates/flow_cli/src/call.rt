@@ -3,7 +3,7 @@ ghost use Rattle.std.specs.Prelude.{◌≡◌, ◌⊎◌, IfOk, IfErr, false, ma
 ghost use Rattle.clap.specs.Words.{app_of, rule_of, found_of, rows_of, first_of, subcommand_rows_of};
 ghost use Rattle.clap.specs.declared.builder.command.Command.TheViews.{out-Command as fields_of};
 ghost use Rattle.clap.specs.declared.error.kind.ErrorKind.TheVariants.{OutOfMemory};
-ghost use Rattle.flow_cli.specs.Calls.{flow, over_texts, check, safe, drive, history, needed, batch, run_in, batch_in, safe_in, drive_in, history_in, named_call, IsCall};
+ghost use Rattle.flow_cli.specs.Calls.{flow, answering, over_texts, check, safe, drive, history, work, settings, needed, batch, run_in, batch_in, safe_in, drive_in, history_in, work_in, named_call, IsCall};
 ghost use Rattle.flow_cli.specs.Calls.{Call as Pure};
 ghost use Rattle.flow_cli.specs.Shown.{shown};
 
@@ -22,9 +22,17 @@ pub enum Call<'a> {
     /// Check the text in this file.
     Check(&'a str),
     /// Tell whether the change from the text in the first file to that in the second is safe.
-    Safe { old: &'a str, new: &'a str },
+    Safe {
+        old: &'a str,
+        new: &'a str,
+    },
     /// Do this over this store; `-` is a store in memory, which begins with no run.
     Over(&'a str, Work),
+    /// Keep an engine running over this store, by the settings in that file; `-` is a store in memory.
+    Work {
+        base: &'a str,
+        settings: Option<&'a str>,
+    },
 }
 
 /// An argument with one value, which has to be there.
@@ -86,6 +94,27 @@ fn history_command<'a>(alloc: Global) -> Result<Command<'a>, AllocError>
     )
 }
 
+/// The file with the settings; it may be left out.
+fn settings_arg<'a>(alloc: Global) -> Arg<'a>
+    ensures rule { rule_of result ≡ settings }
+    ensures local { result.global ≡ false }
+{
+    Arg::new(alloc, "settings")
+        .long("settings")
+        .action(ArgAction::Set)
+}
+
+fn work_command<'a>(alloc: Global) -> Result<Command<'a>, AllocError>
+    ensures app { IfOk result (λ c. app_of c ≡ work) }
+    ensures local { IfOk result (λ c. (fields_of c).has_globals ≡ false) }
+{
+    Ok(
+        Command::new(alloc, "work")
+            .arg(needed_arg(alloc, "DB"))?
+            .arg(settings_arg(alloc))?,
+    )
+}
+
 /// The program with the calls that read texts alone.
 fn text_command<'a>(alloc: Global) -> Result<Command<'a>, AllocError>
     ensures app { IfOk result (λ c. app_of c ≡ over_texts) }
@@ -100,13 +129,22 @@ fn text_command<'a>(alloc: Global) -> Result<Command<'a>, AllocError>
     )
 }
 
-fn flow_command<'a>(alloc: Global) -> Result<Command<'a>, AllocError>
-    ensures app { IfOk result (λ c. app_of c ≡ flow) }
+/// The program with the calls that answer what is asked and end.
+fn answering_command<'a>(alloc: Global) -> Result<Command<'a>, AllocError>
+    ensures app { IfOk result (λ c. app_of c ≡ answering) }
 {
     let drive = drive_command(alloc)?;
     let history = history_command(alloc)?;
     let texts = text_command(alloc)?;
     Ok(texts.subcommand(drive)?.subcommand(history)?)
+}
+
+fn flow_command<'a>(alloc: Global) -> Result<Command<'a>, AllocError>
+    ensures app { IfOk result (λ c. app_of c ≡ flow) }
+{
+    let work = work_command(alloc)?;
+    let answering = answering_command(alloc)?;
+    Ok(answering.subcommand(work)?)
 }
 
 #[tactic(auto, using(crate::proofs::Rows::first_in_rows))]
@@ -160,6 +198,14 @@ fn history_call<'a>(found: &ArgMatches<'a>) -> Option<Call<'a>>
     Some(Call::Over(base, Work::History(run)))
 }
 
+fn work_call<'a>(found: &ArgMatches<'a>) -> Option<Call<'a>>
+    ensures { option_map shown result ≡ work_in (rows_of (found_of found.now)) }
+{
+    let base = text_of(found, "DB")?;
+    let settings = text_of(found, "settings");
+    Some(Call::Work { base, settings })
+}
+
 fn named_call<'a>(name: &str, found: &ArgMatches<'a>) -> Option<Call<'a>>
     ensures { option_map shown result ≡ named_call name.now (rows_of (found_of found.now)) }
 {
@@ -171,6 +217,7 @@ fn named_call<'a>(name: &str, found: &ArgMatches<'a>) -> Option<Call<'a>>
         "drive" => drive_call(found),
         "history" => history_call(found),
         "safe" => safe_call(found),
+        "work" => work_call(found),
         _ => None,
     }
 }

@@ -59,6 +59,7 @@ fn say_stopped<W: Write>(alloc: Global, errors: &mut W, stopped: &Stopped) -> Re
         Stopped::Refused(fault) => say_fault(alloc, errors, fault),
         Stopped::Input(error) => say_error(errors, "flow: the input can't be read: ", error),
         Stopped::Output(error) => say_error(errors, "flow: the output can't be written: ", error),
+        Stopped::BadSettings => write_both(errors, "flow: E96".as_bytes(), b"\n"),
     }
 }
 

@@ -1,11 +1,15 @@
 -- What comes of what is posted: tasks that are given out, ticks, and the end.
-use Rattle.std.specs.Prelude.{ℕ, ◌≡◌, ◌≤◌, ◌⊎◌, ◌∷◌, ◌++◌, [], length, true, Option, Some, None}
+use Rattle.std.specs.Prelude.{ℕ, ◌≡◌, ◌≤◌, ◌⊎◌, ◌∷◌, ◌++◌, [], length, true, false, Option, Some, None}
 use mathlib.Core.List.{IsPrefix}
 use Rattle.flow_base.specs.declared.command.Command.{Command}
 use Rattle.flow_base.specs.declared.command.Command.TheVariants.{Tick}
 use Rattle.flow_machine.specs.declared.task.Task.{Task}
 use Rattle.flow_hub.specs.declared.known.Known.{Known}
 use Rattle.flow_hub.specs.declared.known.Outlook.{Outlook}
+use Rattle.flow_hub.specs.declared.rested.Rested.{Rested}
+use Rattle.flow_hub.specs.declared.rested.Rested.TheVariants as rested
+use Rattle.flow_hub.specs.declared.watched.Watched.{Watched}
+use Rattle.flow_hub.specs.declared.watched.Watched.TheVariants as watched
 use Rattle.flow_hub.specs.Knowing.{answered_in}
 use Rattle.flow_hub.specs.Posting.{IsOnce}
 
@@ -56,3 +60,15 @@ pub record IsIdle {S : Type 0} (k : Known S) : Type 0 where
   pub none_open : outlook.open_runs ≡ 0
   pub answered : length k.asked ≡ answered_in k
   pub none : k.held ≡ []
+
+-- what is told to one who only looks
+abbrev pub IsWatched : {S : Type 0} → Known S → Watched → Type 0
+IsWatched k watched.Closed = k.closed ≡ true
+IsWatched k watched.NoBoard = (k.closed ≡ false) × (k.outlook ≡ None)
+IsWatched k (watched.Says o) = (k.closed ≡ false) × (k.outlook ≡ Some o)
+
+-- what came of waiting for the end of all work for a while
+abbrev pub IsRested : {S : Type 0} → Known S → Rested → Type 0
+IsRested k rested.Idle = IsIdle k
+IsRested k rested.Closed = k.closed ≡ true
+IsRested k rested.NotYet = k.closed ≡ false

@@ -1,7 +1,7 @@
 //! The calls of a thread that submits.
 ghost use Rattle.std.specs.Prelude.{◌≡◌, ◌≢◌, ◌+◌, ◌^◌, ◌≤◌, true, false, length, IfOk, IfErr, IfSome, IfNone, OnOk};
 ghost use Rattle.flow_hub.specs.Asks.{IsOwn, IsGone, IsTold, Stands};
-ghost use Rattle.flow_hub.specs.Feeding.{IsDueBy, IsIdle, IsTickOf};
+ghost use Rattle.flow_hub.specs.Feeding.{IsDueBy, IsIdle, IsRested, IsTickOf, IsWatched};
 ghost use Rattle.flow_hub.specs.Knowing.{IsBefore, IsHistory};
 ghost use Rattle.flow_hub.specs.Seating.{IsSubmitters};
 ghost use Rattle.flow_hub.specs.Submitting.{IsTicket, IsDenied, IsReceipt, IsNotDone, IsSettled};
@@ -9,9 +9,11 @@ ghost use Rattle.flow_hub.specs.Submitting.{IsTicket, IsDenied, IsReceipt, IsNot
 use crate::denied::Denied;
 use crate::hub::Shared;
 use crate::refused::Refused;
+use crate::rested::Rested;
 use crate::seats::{Pass, Room};
 use crate::settled::Settled;
 use crate::ticket::{NotDone, Ticket, Why};
+use crate::watched::Watched;
 use flow_base::command::Command;
 use flow_base::number::Moment;
 use flow_machine::submission::Receipt;
@@ -163,6 +165,30 @@ fn rested<S: Alter, B: Room, R: Wait>(
     unreachable!()
 }
 
+/// Waits once, for a pause at most, unless nothing is left to be done or the hub is closed.
+fn rested_for<S: Alter, B: Room, R: Wait + Timing>(
+    rt: &R,
+    shared: &Shared<S, B>,
+    seat: Pass<S, B>,
+    pause: Duration,
+) -> (Pass<S, B>, Rested)
+    requires seat { IsSubmitters seat }
+    ensures rested { IsRested result.0.was result.1 }
+    ensures seat { IsSubmitters result.0 }
+    ensures grows { IsBefore seat.was result.0.was }
+{
+    let mut state = shared.state.lock(rt);
+    let (me, idle) = state.is_idle(&shared.seats, seat);
+    if idle {
+        return (me, Rested::Idle);
+    }
+    if state.is_closed() {
+        return (me, Rested::Closed);
+    }
+    let (_state, _end) = shared.turned.wait_timeout(rt, state, pause);
+    (me, Rested::NotYet)
+}
+
 impl<S: Alter, B: Room> Submitter<S, B> {
     pub(crate) fn over(
         shared: Arc<Shared<S, B>>,
@@ -289,6 +315,32 @@ impl<S: Alter, B: Room> Submitter<S, B> {
         let (me, idle) = rested(rt, shared, me);
         self.seat = me;
         idle
+    }
+
+    /// Waits as `rest` does, but for a pause at most, and less where something is posted meanwhile.
+    pub fn rest_for<R: Wait + Timing>(&mut self, rt: &R, pause: Duration) -> Rested
+        ensures rested { IsRested self.new.was result }
+        ensures grows { IsBefore self.old.was self.new.was }
+        ensures same { (self.new.id ≡ self.old.id) × (self.new.parts ≡ self.old.parts) × (self.new.amount ≡ self.old.amount) }
+    {
+        let shared = &*self.shared;
+        let me = mem::replace(&mut self.seat, shared.seats.enter());
+        let (me, rested) = rested_for(rt, shared, me, pause);
+        self.seat = me;
+        rested
+    }
+
+    /// What the last board says, for one who only shows it. It waits for nothing but the lock.
+    pub fn watch<R: Wait>(&mut self, rt: &R) -> Watched
+        ensures watched { IsWatched self.new.was result }
+        ensures grows { IsBefore self.old.was self.new.was }
+        ensures same { (self.new.id ≡ self.old.id) × (self.new.parts ≡ self.old.parts) × (self.new.amount ≡ self.old.amount) }
+    {
+        let shared = &*self.shared;
+        let me = mem::replace(&mut self.seat, shared.seats.enter());
+        let (me, watched) = shared.state.lock(rt).watch(&shared.seats, me);
+        self.seat = me;
+        watched
     }
 
     /// Takes over the share of another submitter, which is no more.

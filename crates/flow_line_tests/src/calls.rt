@@ -33,6 +33,18 @@ fn is_history(alloc: Global, words: &[&str], base: &str, number: u64) -> bool {
     }
 }
 
+fn is_work(alloc: Global, words: &[&str], base: &str, settings: Option<&str>) -> bool {
+    match &call_of(alloc, words) {
+        Ok(
+            Call::Work {
+                base: found,
+                settings: file,
+            },
+        ) => *found == base && *file == settings,
+        _ => false,
+    }
+}
+
 fn is_usage(alloc: Global, words: &[&str]) -> bool {
     matches!(&call_of(alloc, words), Err(Fault::BadUsage))
 }
@@ -54,6 +66,32 @@ fn calls(rt: HostRuntime) -> Result<(), Fail> {
             9223372036854775807
         )
     );
+    Ok(())
+}
+
+#[test]
+fn calls_that_keep_running(rt: HostRuntime) -> Result<(), Fail> {
+    let a = rt.alloc();
+    assert!(rt; is_work(a, &["flow", "work", "-"], "-", None));
+    assert!(rt;
+        is_work(
+            a,
+            &["flow", "work", "a.db", "--settings", "s.toml"],
+            "a.db",
+            Some("s.toml")
+        )
+    );
+    assert!(rt; is_work(a, &["flow", "work", "--settings=", "-"], "-", Some("")));
+    let others: [&[&str]; 5] = [
+        &["flow", "work"],
+        &["flow", "work", "-", "--settings"],
+        &["flow", "work", "-", "x"],
+        &["flow", "work", "-", "--batch", "2"],
+        &["flow", "drive", "-", "--settings", "s"],
+    ];
+    for words in others {
+        assert!(rt; is_usage(a, words));
+    }
     Ok(())
 }
 

@@ -30,6 +30,8 @@ fn an_early_end_is_said(rt: HostRuntime) -> Result<(), Fail> {
     assert_eq!(rt; said_of(a, Fault::NoMemory, b"flow: E01\n"), Some(3));
     assert_eq!(rt; said_of(a, Fault::NoRun, b"flow: E70\n"), Some(1));
     assert_eq!(rt; said_of(a, Fault::BadUsage, b"flow: E97\n"), Some(2));
+    let settings = Stopped::BadSettings;
+    assert_eq!(rt; said(a, Err(settings), b"flow: E96\n"), Some(2));
     let input = Stopped::Input(ErrorKind::NotFound.into());
     assert_eq!(rt;
         said(

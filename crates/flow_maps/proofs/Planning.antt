@@ -55,12 +55,12 @@ same_replaced run f n = by (is_run run n) refl
 
 ---- The runs
 
-own_set : (rs : List Run) (i : ℕ) (x y : Run) → slice_get rs i ≡ Some x → slice_get (slice_set rs i y) i ≡ Some y
+pub own_set : (rs : List Run) (i : ℕ) (x y : Run) → slice_get rs i ≡ Some x → slice_get (slice_set rs i y) i ≡ Some y
 own_set [] i x y h = absurd (none_is x h)
 own_set (r ∷ rs) zero x y h = refl
 own_set (r ∷ rs) (suc i) x y h = own_set rs i x y h
 
-other_set : (rs : List Run) (i j : ℕ) (y : Run) → (i ≡ j → ⊥) → slice_get (slice_set rs i y) j ≡ slice_get rs j
+pub other_set : (rs : List Run) (i j : ℕ) (y : Run) → (i ≡ j → ⊥) → slice_get (slice_set rs i y) j ≡ slice_get rs j
 other_set [] i j y apart = refl
 other_set (r ∷ rs) zero zero y apart = absurd (apart refl)
 other_set (r ∷ rs) zero (suc j) y apart = refl
@@ -84,7 +84,7 @@ past (r ∷ rs) = past rs
 never_zero : (k : ℕ) → is_run (suc k) zero ≡ false
 never_zero k = not_true (is_run (suc k) zero) (λ own. absurd (let e = run_is (suc k) zero own in omega (arith, e)))
 
-apart_by : (k j : ℕ) → is_run (suc k) (suc j) ≡ false → k ≡ j → ⊥
+pub apart_by : (k j : ℕ) → is_run (suc k) (suc j) ≡ false → k ≡ j → ⊥
 apart_by k j other same = true≢false (sym (subst (λ i. is_run (suc k) (suc i) ≡ true) same (run_itself (suc k))) ∙ other)
 
 same_by : (k j : ℕ) → is_run (suc k) (suc j) ≡ true → k ≡ j

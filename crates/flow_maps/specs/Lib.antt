@@ -1,5 +1,9 @@
 pub mod Agenda
 pub mod Keys
+pub mod KnownCalls
+pub mod KnownHeads
+pub mod KnownRecords
+pub mod KnownTexts
 pub mod OfRuns
 pub mod Outlooks
 pub mod Serving

@@ -287,6 +287,7 @@ impl Agenda {
         Agenda { alloc, plans: None }
     }
 
+    /// Nothing is known any more of what runs wait for.
     pub fn forget(&mut self)
         ensures { (n o : ℕ) → (f : ℕ → List ATimer) → (g : ℕ → List ATask) → Knows self.new n o f g }
     {
@@ -383,6 +384,16 @@ impl Agenda {
     {
         match &self.plans {
             Some(plans) => plans.next_run(),
+            None => None,
+        }
+    }
+
+    /// How many runs there are, if that is known.
+    pub fn run_count(&self) -> Option<u64>
+        ensures { IfSome result (λ n. (b : Book) → IsOf self.now b → n ≡ length b.runs) }
+    {
+        match &self.plans {
+            Some(plans) => Some(plans.count),
             None => None,
         }
     }

@@ -3,8 +3,6 @@ ghost use Rattle.std.specs.Prelude.{◌≡◌, ◌↔◌, ◌-◌, ◌+◌, ◌+
 ghost use Rattle.flow_base.specs.Syntax.{Bytes};
 ghost use Rattle.flow_base.specs.declared.book.Run.{Run as ARun};
 ghost use Rattle.flow_base.specs.declared.book.Change.TheVariants.{AddRun, AddTurn};
-ghost use Rattle.flow_model.specs.Configuration as configuration;
-ghost use Rattle.flow_model.specs.Open.{state_of};
 ghost use Rattle.flow_model.specs.Book as words;
 ghost use Rattle.flow_model.specs.Book.{Book, nth, changed};
 ghost use Rattle.flow_base.specs.declared.book.Task.{Task as ATask};
@@ -15,38 +13,50 @@ ghost use Rattle.flow_maps.specs.Timers.{timers_at, timers_of};
 ghost use Rattle.flow_maps.specs.Signals.{KnowsSignals};
 ghost use Rattle.flow_maps.specs.Keys.{Lists};
 ghost use Rattle.flow_maps.specs.Outlooks.{outlook_of};
-ghost use Rattle.flow_maps.specs.Serving.{Serves, Sees, IsSeen, AreKeys, AreRunKeys, Awaits, HasSignals, open_key, key_if, named};
+ghost use Rattle.flow_maps.specs.KnownRecords.{KnowsRecords};
+ghost use Rattle.flow_maps.specs.Serving.{Serves, Sees, IsSeen, IsRead, AreKeys, AreRunKeys, Awaits, HasSignals, HasRecords, open_key, key_if, named};
+ghost use Rattle.flow_view.specs.Heads.{head_at, head_of, event_at};
 
 use crate::agenda::Agenda;
+use crate::heads::copied;
 use crate::index::Index;
 use crate::outlook::Outlook;
+use crate::records::Records;
 use crate::signals::Signals;
 use crate::turned::is_open_behind;
-use flow_base::book::{Change, Due, Task, Timer, Turn};
+use flow_base::book::{Change, Due, Run, Task, Timer, Turn};
 use flow_base::event::Event;
 use flow_base::number::{EventId, Moment, RunId, TextNo};
 use flow_base::sequence::Sequence;
-use flow_base::text::Key;
+use flow_base::text::{Key, RawText};
+use flow_view::head::{Head, head_of};
 use std::alloc::Global;
 
 /// The run that was read last: a turn of it is known to leave the keys so.
 #[derive(Drop)]
 struct Seen {
     run: RunId,
-    flow: Key,
-    is_open: bool,
-    /// How many events it has.
-    count: u64,
+    head: Head,
 }
 
-/// The runs by their requests, the open ones by their flows, what they wait for, and where signals are recorded.
+/// The text that was read last.
+#[derive(Drop)]
+struct ReadText {
+    number: TextNo,
+    body: RawText,
+}
+
+/// The runs by their requests, the open ones by their flows, what they wait for, where signals are recorded, and what is known of
+/// single runs and texts.
 #[derive(Drop)]
 pub struct Maps {
     requests: Index,
     flows: Index,
     agenda: Agenda,
     signals: Signals,
+    records: Records,
     seen: Option<Seen>,
+    read: Option<ReadText>,
 }
 
 /// Another run in the place of one of this flow, which was open or not.
@@ -78,9 +88,9 @@ fn put_turn(flows: &mut Index, seen: &Option<Seen>, run: RunId, turn: &Turn)
             if is_of(read, run) {
                 put_row(
                     flows,
-                    &read.flow,
-                    read.is_open,
-                    is_open_behind(read.is_open, turn),
+                    &read.head.flow,
+                    read.head.is_open,
+                    is_open_behind(read.head.is_open, turn),
                 );
             } else {
                 flows.forget();
@@ -96,7 +106,7 @@ fn turn_agenda(agenda: &mut Agenda, seen: &Option<Seen>, run: RunId, turn: &Turn
 {
     if let Some(read) = seen {
         if is_of(read, run) {
-            agenda.go_on(run, read.is_open, read.count, turn);
+            agenda.go_on(run, read.head.is_open, read.head.events, turn);
             return;
         }
     }
@@ -123,7 +133,7 @@ fn turn_signals(signals: &mut Signals, seen: &Option<Seen>, run: RunId, turn: &T
 {
     if let Some(read) = seen {
         if is_of(read, run) {
-            signals.follow(&read.flow, run, read.count, turn);
+            signals.follow(&read.head.flow, run, read.head.events, turn);
             return;
         }
     }
@@ -142,6 +152,49 @@ fn change_signals(signals: &mut Signals, seen: &Option<Seen>, change: &Change)
     }
 }
 
+/// What is known of runs and texts behind one turn more of a run, which may have been read.
+fn turn_records(records: &mut Records, seen: &Option<Seen>, run: RunId, turn: &Turn)
+    ensures { (b : Book) → IsSeen seen.now b → KnowsRecords records.old b → KnowsRecords records.new (changed b (AddTurn run turn.now)) }
+{
+    if let Some(read) = seen {
+        if is_of(read, run) {
+            records.go_on_from(run, &read.head, turn);
+            return;
+        }
+    }
+    records.go_on(run, turn);
+}
+
+/// The same behind a change, where a new run has this number, if it is known.
+fn change_records(records: &mut Records, seen: &Option<Seen>, next: &Option<RunId>, change: &Change)
+    ensures { (b : Book) → IsSeen seen.now b → IfSome next.now (λ n. n ≡ length b.runs + 1) → KnowsRecords records.old b → KnowsRecords records.new (changed b change.now) }
+{
+    match change {
+        Change::AddText(_) => {}
+        Change::AddRun(flow, request, text, turn) => {
+            records.begin(next, flow, request, *text, turn)
+        }
+        Change::AddTurn(run, turn) => turn_records(records, seen, *run, turn),
+        Change::SetAttempt(run, event, attempt, ready) => {
+            records.set_attempt(*run, *event, *attempt, *ready)
+        }
+        Change::SetText(run, text) => records.set_text(*run, *text),
+    }
+}
+
+/// A text that was read is known, now that the book is changed.
+fn keep_read(records: &mut Records, read: Option<ReadText>)
+    ensures { (b : Book) → IsRead read b → KnowsRecords records.old b → KnowsRecords records.new b }
+{
+    match read {
+        Some(text) => {
+            let ReadText { number, body } = text;
+            records.keep_text(number, body);
+        }
+        None => {}
+    }
+}
+
 impl Maps {
     /// Nothing is known.
     pub fn unknown(alloc: Global) -> Maps
@@ -153,7 +206,9 @@ impl Maps {
             flows: Index::unknown(alloc),
             agenda: Agenda::unknown(alloc),
             signals: Signals::unknown(alloc),
+            records: Records::new(alloc),
             seen: None,
+            read: None,
         }
     }
 
@@ -162,6 +217,7 @@ impl Maps {
         ensures keys { AreKeys result [] [] }
         ensures awaits { Awaits result 0 0 (λ n. []) (λ n. []) }
         ensures signals { (b : Book) → b.runs ≡ [] → HasSignals result b }
+        ensures records { (b : Book) → HasRecords result b }
         ensures sees { (b : Book) → Sees result b }
     {
         Maps {
@@ -169,7 +225,9 @@ impl Maps {
             flows: Index::new(alloc),
             agenda: Agenda::new(alloc),
             signals: Signals::new(alloc),
+            records: Records::new(alloc),
             seen: None,
+            read: None,
         }
     }
 
@@ -182,7 +240,9 @@ impl Maps {
         self.flows.forget();
         self.agenda.forget();
         self.signals.forget();
+        self.records.forget();
         self.seen = None;
+        self.read = None;
     }
 
     /// The book that was kept is shown again: what isn't known of that one is forgotten.
@@ -191,6 +251,7 @@ impl Maps {
         ensures sees { (b : Book) → Sees self.new b }
     {
         self.seen = None;
+        self.read = None;
         if !is_kept {
             self.forget();
         }
@@ -200,6 +261,7 @@ impl Maps {
     pub fn add_row(&mut self, flow: &str, request: &str, is_open: bool)
         ensures keys { (ks : List (Option Bytes)) → (fs : List (Option Bytes)) → AreKeys self.old ks fs → AreKeys self.new (ks ++ named request.now ∷ []) (fs ++ key_if is_open flow.now ∷ []) }
         ensures awaits { (n o : ℕ) → (f : ℕ → List ATimer) → (g : ℕ → List ATask) → Awaits self.old n o f g → Awaits self.new (n + 1) (o + one_if is_open) f g }
+        ensures records { self.new.records ≡ self.old.records }
         ensures sees { (b : Book) → Sees self.old b → Sees self.new b }
     {
         self.agenda.add(is_open);
@@ -238,24 +300,45 @@ impl Maps {
         ensures keys { (ks : List (Option Bytes)) → (fs : List (Option Bytes)) → AreKeys self.old ks fs → AreKeys self.new ks fs }
         ensures awaits { (n o : ℕ) → (f : ℕ → List ATimer) → (g : ℕ → List ATask) → Awaits self.new n o f g }
         ensures signals { (b : Book) → HasSignals self.new b }
+        ensures records { self.new.records ≡ self.old.records }
         ensures sees { (b : Book) → Sees self.old b → Sees self.new b }
     {
         self.agenda.forget();
         self.signals.forget();
     }
 
-    /// A run was read. Short of memory it is as if it wasn't.
-    pub fn see(&mut self, alloc: Global, run: RunId, flow: &Key, is_open: bool, count: u64)
+    /// The head of a run was read. Short of memory it is as if it wasn't.
+    pub fn see(&mut self, alloc: Global, run: RunId, head: &Head)
         ensures serves { (b : Book) → Serves self.old b → Serves self.new b }
-        ensures sees { (b : Book) → (r : ARun) → nth b.runs run ≡ Some r → r.flow ≡ flow.now → configuration.is_open (state_of r.history) ≡ is_open → length r.history ≡ count → Sees self.new b }
+        ensures sees { (b : Book) → (r : ARun) → nth b.runs run ≡ Some r → head_of r ≡ head.now → Sees self.old b → Sees self.new b }
     {
-        self.seen = match flow.copy(alloc) {
-            Ok(flow) => Some(Seen {
-                run,
-                flow,
-                is_open,
-                count,
-            }),
+        self.seen = match copied(alloc, head) {
+            Ok(head) => Some(Seen { run, head }),
+            Err(_) => None,
+        };
+    }
+
+    /// The same of a run that was read whole.
+    pub fn see_run(&mut self, alloc: Global, run: RunId, whole: &Run)
+        ensures serves { (b : Book) → Serves self.old b → Serves self.new b }
+        ensures sees { (b : Book) → nth b.runs run ≡ Some whole.now → Sees self.old b → Sees self.new b }
+    {
+        self.seen = match head_of(alloc, whole) {
+            Ok(head) => Some(Seen { run, head }),
+            Err(_) => None,
+        };
+    }
+
+    /// A text was read. It is known behind the next change.
+    pub fn see_text(&mut self, alloc: Global, number: TextNo, body: &RawText)
+        ensures serves { (b : Book) → Serves self.old b → Serves self.new b }
+        ensures sees { (b : Book) → nth b.texts number ≡ Some body.now → Sees self.old b → Sees self.new b }
+    {
+        if self.records.has_text(number) {
+            return;
+        }
+        self.read = match body.copy(alloc) {
+            Ok(body) => Some(ReadText { number, body }),
             Err(_) => None,
         };
     }
@@ -263,7 +346,7 @@ impl Maps {
     /// One more run.
     fn add(&mut self, flow: &Key, request: &Option<Key>, is_open: bool)
         ensures keys { (b : Book) → (r : ARun) → r.request ≡ request.now → open_key r ≡ key_if is_open flow.now → AreRunKeys self.old b → AreRunKeys self.new (record b { runs = b.runs ++ r ∷ [] }) }
-        ensures same { (self.new.agenda ≡ self.old.agenda) × (self.new.seen ≡ self.old.seen) × (self.new.signals ≡ self.old.signals) }
+        ensures same { (self.new.agenda ≡ self.old.agenda) × (self.new.seen ≡ self.old.seen) × (self.new.read ≡ self.old.read) × (self.new.signals ≡ self.old.signals) × (self.new.records ≡ self.old.records) }
     {
         match request {
             Some(request) => self.requests.add(request.as_str()),
@@ -279,7 +362,7 @@ impl Maps {
     /// One more run, with the signals that it has taken.
     fn add_signals(&mut self, flow: &Key, history: &[Event])
         ensures signals { (b : Book) → (r : ARun) → r.flow ≡ flow.now → r.history ≡ history.now → Serves self.old b → HasSignals self.new (record b { runs = b.runs ++ r ∷ [] }) }
-        ensures same { (self.new.requests ≡ self.old.requests) × (self.new.flows ≡ self.old.flows) × (self.new.agenda ≡ self.old.agenda) × (self.new.seen ≡ self.old.seen) }
+        ensures same { (self.new.requests ≡ self.old.requests) × (self.new.flows ≡ self.old.flows) × (self.new.agenda ≡ self.old.agenda) × (self.new.seen ≡ self.old.seen) × (self.new.read ≡ self.old.read) × (self.new.records ≡ self.old.records) }
     {
         match self.agenda.next_run() {
             Some(run) => self.signals.add_run(flow, run, history),
@@ -308,14 +391,14 @@ impl Maps {
     /// One more run, with its first turn.
     fn add_run(&mut self, flow: &Key, request: &Option<Key>, text: TextNo, turn: &Turn)
         ensures keys { (b : Book) → AreRunKeys self.old b → AreRunKeys self.new (changed b (AddRun flow.now request.now text turn.now)) }
-        ensures same { (self.new.agenda ≡ self.old.agenda) × (self.new.seen ≡ self.old.seen) × (self.new.signals ≡ self.old.signals) }
+        ensures same { (self.new.agenda ≡ self.old.agenda) × (self.new.seen ≡ self.old.seen) × (self.new.read ≡ self.old.read) × (self.new.signals ≡ self.old.signals) × (self.new.records ≡ self.old.records) }
     {
         self.add(flow, request, is_open_behind(false, turn));
     }
 
     fn change_keys(&mut self, change: &Change)
-        ensures keys { (b : Book) → Sees self.old b → AreRunKeys self.old b → AreRunKeys self.new (changed b change.now) }
-        ensures same { (self.new.agenda ≡ self.old.agenda) × (self.new.signals ≡ self.old.signals) }
+        ensures keys { (b : Book) → IsSeen self.old.seen b → AreRunKeys self.old b → AreRunKeys self.new (changed b change.now) }
+        ensures same { (self.new.agenda ≡ self.old.agenda) × (self.new.signals ≡ self.old.signals) × (self.new.records ≡ self.old.records) }
     {
         match change {
             Change::AddText(_) => {}
@@ -331,10 +414,14 @@ impl Maps {
         ensures serves { (b : Book) → Sees self.old b → Serves self.old b → Serves self.new (changed b change.now) }
         ensures sees { (b : Book) → Sees self.new b }
     {
+        let next = self.agenda.next_run();
+        keep_read(&mut self.records, self.read.take());
+        change_records(&mut self.records, &self.seen, &next, change);
         change_agenda(&mut self.agenda, &self.seen, change);
         change_signals(&mut self.signals, &self.seen, change);
         self.change_keys(change);
         self.seen = None;
+        self.read = None;
     }
 
     /// The run that a request started, if that is known.
@@ -349,6 +436,34 @@ impl Maps {
         ensures { IfSome result (λ o. (b : Book) → Serves self.now b → o ≡ words.open_run b flow.now) }
     {
         self.flows.find(flow)
+    }
+
+    /// The head of a run, if that is known and there is memory for it.
+    pub fn head(&self, run: RunId) -> Option<Head>
+        ensures { IfSome result (λ h. (b : Book) → Serves self.now b → Some h ≡ head_at b.runs run) }
+    {
+        self.records.head(run)
+    }
+
+    /// An event of a run, if it is known and there is memory for it.
+    pub fn event(&self, run: RunId, event: EventId) -> Option<Event>
+        ensures { IfSome result (λ e. (b : Book) → Serves self.now b → Some e ≡ event_at b.runs run event) }
+    {
+        self.records.event(run, event)
+    }
+
+    /// The text of a number, if it is known and there is memory for it.
+    pub fn text(&self, number: TextNo) -> Option<RawText>
+        ensures { IfSome result (λ t. (b : Book) → Serves self.now b → Some t ≡ nth b.texts number) }
+    {
+        self.records.text(number)
+    }
+
+    /// How many runs there are, if that is known.
+    pub fn run_count(&self) -> Option<u64>
+        ensures { IfSome result (λ n. (b : Book) → Serves self.now b → n ≡ length b.runs) }
+    {
+        self.agenda.run_count()
     }
 
     /// Whether it is known that a run has no open timer.

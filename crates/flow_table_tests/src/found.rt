@@ -12,10 +12,10 @@ use sqlite::{Connection, MemStore};
 use std::alloc::Global;
 use std::test::Fail;
 
-type Memory = Tables<MemStore>;
+pub type Memory = Tables<MemStore>;
 
 /// New tables, in a transaction.
-fn begun(alloc: Global) -> Result<Memory, &'static str> {
+pub fn begun(alloc: Global) -> Result<Memory, &'static str> {
     let Ok(conn) = Connection::open_in_memory(alloc) else {
         return Err("no memory");
     };
@@ -31,7 +31,7 @@ fn begun(alloc: Global) -> Result<Memory, &'static str> {
 }
 
 /// Puts a change, so that who calls it holds none.
-fn add(tables: &mut Memory, change: Result<Change, &'static str>) -> Result<(), &'static str> {
+pub fn add(tables: &mut Memory, change: Result<Change, &'static str>) -> Result<(), &'static str> {
     let change = change?;
     if tables.put(&change).is_err() {
         return Err("not put");
@@ -39,14 +39,14 @@ fn add(tables: &mut Memory, change: Result<Change, &'static str>) -> Result<(), 
     Ok(())
 }
 
-fn text(alloc: Global) -> Result<Change, &'static str> {
+pub fn text(alloc: Global) -> Result<Change, &'static str> {
     match RawText::new(alloc, "workflow a() {}") {
         Ok(text) => Ok(Change::AddText(text)),
         Err(_) => Err("no memory"),
     }
 }
 
-fn key(alloc: Global, text: &str) -> Result<Key, &'static str> {
+pub fn key(alloc: Global, text: &str) -> Result<Key, &'static str> {
     Key::new(alloc, text).ok().ok_or("no key")
 }
 
@@ -55,7 +55,7 @@ fn moment(milliseconds: u64) -> Result<Moment, &'static str> {
 }
 
 /// A run that asks for one thing as it starts.
-fn first_run(alloc: Global, flow: &str, command: Cmd) -> Result<Change, &'static str> {
+pub fn first_run(alloc: Global, flow: &str, command: Cmd) -> Result<Change, &'static str> {
     let flow = key(alloc, flow)?;
     let text = TextNo::new(1).ok_or("no text")?;
     let turn = turn(alloc, Input::Started(Sequence::new(alloc)), command)?;

@@ -6,6 +6,8 @@ mod changes;
 #[cfg(test)]
 mod found;
 #[cfg(test)]
+mod heads;
+#[cfg(test)]
 mod keys;
 #[cfg(test)]
 mod opening;

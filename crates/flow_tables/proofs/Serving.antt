@@ -1,12 +1,16 @@
 -- What the tables keep true of the keys that are known, call by call.
-use Rattle.std.specs.Prelude.{◌≡◌, ◌≢◌, ◌+◌, ◌<◌, ◌++◌, ◌∷◌}
+use Rattle.std.specs.Prelude.{◌≡◌, ◌≢◌, ◌-◌, ◌+◌, ◌<◌, ◌++◌, ◌∷◌, nat_eq, slice_get, if◌then◌else◌}
 use Rattle.flow_tables.proofs.Names.{int_eq, pos, Change, Book, Run, RunRow, AllByRecursion, Bytes, Database, HasCleanDisk, State, Bool, List, MatchResult, Option, false, map, true, ℕ, HasBegun, HasCommitted, HasEnded, IsRefused, IsStill, Refusal, ViewFault, Err, IfOk, None, Ok, OnOk, Some, [], length, refl, Result, changed, is_open, state_of, open_number, subst, ◌∙◌, sym, ap, true≢false, book_of, tables_in, IsOwn, told_answer, IsSure, ReadsBook, IsNoted}
 use Rattle.std.proofs.Common.{take, get_or}
 use Rattle.std.proofs.lemmas.List.{map_more, take_more}
 use Rattle.flow_maps.specs.declared.maps.Maps.{Maps}
-use Rattle.flow_maps.specs.Agenda.{IsOf}
+use Rattle.flow_base.specs.declared.book.Task.{Task}
+use Rattle.flow_base.specs.declared.book.Timer.{Timer}
+use Rattle.flow_model.specs.Book.{nth}
+use Rattle.flow_maps.specs.Agenda.{IsOf, Knows, tasks_at, tasks_of}
 use Rattle.flow_maps.specs.Keys.{Lists}
-use Rattle.flow_maps.specs.Serving.{Serves, Sees, AreKeys, HasSignals, named, key_if, request_key, open_key}
+use Rattle.flow_maps.specs.Timers.{of_run, timers_of}
+use Rattle.flow_maps.specs.Serving.{Serves, Sees, AreKeys, Awaits, HasSignals, HasRecords, named, key_if, request_key, open_key}
 use Rattle.flow_rows.specs.Rows.{run_rows, request_text}
 use Rattle.flow_rows.specs.Told.{IsTold}
 use Rattle.flow_view.specs.Reading.{Reads}
@@ -34,12 +38,30 @@ opens_back : (n : ℕ) (rs : List Run) → map row_open (run_rows n rs) ≡ map 
 opens_back n [] = refl
 opens_back n (r ∷ rs) = ap (λ v. key_if v r.flow ∷ map row_open (run_rows (n + 1) rs)) (marked_back (is_open (state_of r.history))) ∙ ap (λ ks. open_key r ∷ ks) (opens_back (n + 1) rs)
 
-pub rows_serve : (m : Maps) (rows : List RunRow) (b : Book) → rows ≡ run_rows 1 b.runs → AllByRecursion IsTold b.runs → AreKeys m (map row_request rows) (map row_open rows) → IsOf m.agenda b → HasSignals m b → Serves m b
-rows_serve m rows b same told are awaits signals = record {
+pub rows_serve : (m : Maps) (rows : List RunRow) (b : Book) → rows ≡ run_rows 1 b.runs → AllByRecursion IsTold b.runs → AreKeys m (map row_request rows) (map row_open rows) → IsOf m.agenda b → HasSignals m b → HasRecords m b → Serves m b
+rows_serve m rows b same told are awaits signals records = record {
   requests = subst (λ ks. Lists m.requests ks) (ap (map row_request) same ∙ requests_back 1 b.runs told) are.requests;
   flows = subst (λ ks. Lists m.flows ks) (ap (map row_open) same ∙ opens_back 1 b.runs) are.flows;
   agenda = awaits;
   signals = signals;
+  records = records;
+}
+
+no_run : {A : Type 0} (h : Run → List A) (n : ℕ) → of_run h (nth [] n) ≡ []
+no_run {A} h n = go (nat_eq n 0)
+  where
+    go : (v : Bool) → of_run h (if v then None else slice_get [] (n - 1)) ≡ []
+    go true = refl
+    go false = refl
+
+-- where there is no run
+pub none_serve : (m : Maps) (texts : List Bytes) → AreKeys m [] [] → Awaits m 0 0 (λ n. []) (λ n. []) → ((b : Book) → b.runs ≡ [] → HasSignals m b) → ((b : Book) → HasRecords m b) → Serves m (record { texts = texts; runs = [] })
+none_serve m texts are awaits signals records = let b : Book = record { texts = texts; runs = [] } in record {
+  requests = are.requests;
+  flows = are.flows;
+  agenda = subst (λ (f : ℕ → List Timer). Knows m.agenda 0 0 f (tasks_at b)) (λ i n. sym (no_run timers_of n) i) (subst (λ (g : ℕ → List Task). Knows m.agenda 0 0 (λ n. []) g) (λ i n. sym (no_run tasks_of n) i) awaits);
+  signals = signals b refl;
+  records = records b;
 }
 
 pub keys_on : {A B : Type 0} (f : A → B) (xs : List A) (i : ℕ) (x : A) (k : B) → x ≡ get_or xs i x → i < length xs → k ≡ f x → map f (take i xs) ++ k ∷ [] ≡ map f (take (i + 1) xs)
@@ -127,7 +149,7 @@ module _ (old new : State) where
 
 -- the other one left the book as it was
 pub read_behind : {A E : Type 0} (r : Result A E) (middle last : Type 0) (b b' b'' : Book) (value : Book → A) → (middle → b' ≡ b) → (last → middle) → IfOk r (λ v. Reads last b' b'' v (value b')) → IfOk r (λ v. Reads last b b'' v (value b))
-read_behind (Ok v) middle last b b' b'' value one was two = λ sure. let first = one (was sure) in let then = two sure in (then.0 ∙ first, then.1 ∙ ap value first)
+read_behind (Ok v) middle last b b' b'' value one was two = λ sure. let first = one (was sure) in let later = two sure in (later.0 ∙ first, later.1 ∙ ap value first)
 read_behind (Err f) middle last b b' b'' value one was two = tt
 
 pub goes_behind : {A E : Type 0} (r : Result A E) (X Y Y' Z : Type 0) → (X → Y → Y') → OnOk r (X → Y' → Z) → OnOk r (X → Y → Z)

@@ -1,7 +1,7 @@
 //! The keys by which runs are found, as rows of runs tell them.
 ghost use Rattle.std.specs.Prelude.{◌≡◌, ◌++◌, ◌∷◌};
 ghost use Rattle.flow_tables.specs.Names.{Book, map, IfSome};
-ghost use Rattle.flow_maps.specs.Serving.{Serves, Sees, AreKeys, Awaits, HasSignals};
+ghost use Rattle.flow_maps.specs.Serving.{Serves, Sees, AreKeys, Awaits, HasSignals, HasRecords};
 ghost use Rattle.flow_tables.specs.Names.{ℕ, List, Bytes, shown_book, []};
 ghost use Rattle.flow_base.specs.declared.book.Task.{Task as ATask};
 ghost use Rattle.flow_base.specs.declared.book.Timer.{Timer as ATimer};
@@ -10,13 +10,18 @@ ghost use Rattle.flow_tables.specs.Owned.{row_request, row_open};
 use crate::ask::{BookRead, Of};
 use crate::book_changes::is_marked;
 use crate::first_due::{LeastDue, NextMoment, moment_of};
-use crate::questions::{OpenRun, Requested};
+use crate::head::HeadOf;
+use crate::one_event::OneEvent;
+use crate::questions::{LastRun, OpenRun, Requested, TextBody};
 use flow_base::book::{Due, Run, copy_tasks};
+use flow_base::event::Event;
 use flow_base::number::{Moment, RunId};
 use flow_base::sequence::Sequence;
+use flow_base::text::RawText;
 use flow_maps::maps::Maps;
 use flow_rows::book::WholeBook;
 use flow_rows::rows::RunRow;
+use flow_view::head::Head;
 use flow_view::history::{is_open, timers_left};
 use std::alloc::Global;
 
@@ -26,6 +31,7 @@ pub(crate) fn keys_of(alloc: Global, rows: &[RunRow]) -> Maps
     ensures sees { (b : Book) → Sees result b }
     ensures awaits { (n o : ℕ) → (f : ℕ → List ATimer) → (g : ℕ → List ATask) → Awaits result n o f g }
     ensures signals { (b : Book) → HasSignals result b }
+    ensures records { (b : Book) → HasRecords result b }
 {
     let mut maps = Maps::none(alloc);
     for row in rows {
@@ -95,6 +101,39 @@ impl ByKey for Of<Requested<'_>> {
 impl ByKey for Of<OpenRun<'_>> {
     fn find(&self, maps: &Maps) -> Option<Option<RunId>> {
         maps.open_run(self.0.0)
+    }
+}
+
+impl ByKey for Of<LastRun> {
+    fn find(&self, maps: &Maps) -> Option<u64> {
+        maps.run_count()
+    }
+}
+
+impl ByKey for HeadOf {
+    fn find(&self, maps: &Maps) -> Option<Option<Head>> {
+        match maps.head(self.0) {
+            Some(head) => Some(Some(head)),
+            None => None,
+        }
+    }
+}
+
+impl ByKey for OneEvent {
+    fn find(&self, maps: &Maps) -> Option<Option<Event>> {
+        match maps.event(self.0, self.1) {
+            Some(event) => Some(Some(event)),
+            None => None,
+        }
+    }
+}
+
+impl ByKey for Of<TextBody> {
+    fn find(&self, maps: &Maps) -> Option<Option<RawText>> {
+        match maps.text(self.0.0) {
+            Some(body) => Some(Some(body)),
+            None => None,
+        }
     }
 }
 

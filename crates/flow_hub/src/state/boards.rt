@@ -5,13 +5,14 @@ ghost use Rattle.flow_hub.specs.Halls.{posted_on, skipped, gave};
 ghost use Rattle.flow_hub.specs.Knowing.{IsBefore, IsSamePart, answered_in, nothing};
 ghost use Rattle.flow_hub.specs.Posting.{HasKeys, IsOnce};
 ghost use Rattle.flow_hub.specs.Publishing.{HasPosted, HasSkipped};
-ghost use Rattle.flow_hub.specs.Feeding.{HasGiven, IsIdle, due_in};
+ghost use Rattle.flow_hub.specs.Feeding.{HasGiven, IsIdle, IsWatched, due_in};
 ghost use Rattle.flow_hub.specs.Seating.{seeing, IsGivers, IsPublishers, IsSubmitters};
 
 use super::State;
 use crate::known::Outlook;
 use crate::posting::{Keys, add_all, push_marked};
 use crate::seats::{Pass, Room, Seats};
+use crate::watched::Watched;
 use flow_base::number::Moment;
 use flow_commit::board::Board;
 use flow_machine::task::Task;
@@ -110,6 +111,24 @@ impl<S: Alter, B: Room> State<S, B> {
             return (me, None);
         };
         (me, outlook.due)
+    }
+
+    /// What is told to one who only looks.
+    pub(crate) fn watch(&mut self, seats: &Seats<S, B>, me: Pass<S, B>) -> (Pass<S, B>, Watched)
+        requires seat { IsSubmitters me }
+        ensures same { self.new ≡ self.old }
+        ensures watched { IsWatched result.0.was result.1 }
+        ensures seat { result.0 ≡ seeing false false self.new.known }
+        ensures grows { IsBefore me.was result.0.was }
+    {
+        let me = self.see(seats, me);
+        if self.known.closed {
+            return (me, Watched::Closed);
+        }
+        let Some(outlook) = self.known.outlook else {
+            return (me, Watched::NoBoard);
+        };
+        (me, Watched::Says(outlook))
     }
 
     /// Whether no board could be made since what was taken last was answered.

@@ -1,8 +1,11 @@
 use Rattle.std.proofs.Common.{take, subst, arith}
 use Rattle.std.proofs.lemmas.List.{take_all}
 use Rattle.flow_maps.specs.Serving.{Serves}
-use Rattle.flow_tables.proofs.Serving.{runs_on}
+use Rattle.flow_tables.proofs.Serving.{none_serve, runs_on}
 use Rattle.flow_tables.proofs.keys.keys_of_runs.Goals as goal
+
+pub loop-run-init : goal.loop-run-init
+loop-run-init c = (λ texts. none_serve c.none-maps.result texts c.none-maps.ensures.keys c.none-maps.ensures.awaits c.none-maps.ensures.signals c.none-maps.ensures.records, c.none-maps.ensures.sees)
 
 pub loop-run-preserved : goal.loop-run-preserved
 loop-run-preserved c =

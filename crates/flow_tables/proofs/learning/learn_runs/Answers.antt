@@ -1,8 +1,20 @@
-use Rattle.std.proofs.Common.{rules, ◌≡◌, ◌+◌, None, Some, take}
+use Rattle.std.proofs.Common.{rules, refl, ◌≡◌, ◌+◌, None, Some, take}
 use Rattle.flow_base.specs.declared.book.Run.{Run}
 use Rattle.flow_model.specs.Book.{Book, nth}
+use Rattle.flow_tables.proofs.Serving.{none_serve}
 use Rattle.flow_tables.proofs.RunsRead.{serves_all, serves_more}
 use Rattle.flow_tables.proofs.learning.learn_runs.Goals as goal
+
+pub loop-count-init : goal.loop-count-init
+loop-count-init g c = record {
+  still = λ _. refl;
+  serves = λ _. none_serve c.none-maps.result (g.V.Runs.book c.args.view.now).texts c.none-maps.ensures.keys c.none-maps.ensures.awaits c.none-maps.ensures.signals c.none-maps.ensures.records;
+  sees = c.none-maps.ensures.sees;
+  goes_on = λ _ sure. sure;
+  sure = λ sure. sure;
+  was_true = λ is. is;
+  follows = λ _ follows. follows;
+}
 
 pub loop-count-preserved : goal.loop-count-preserved
 loop-count-preserved g c =

@@ -1,8 +1,9 @@
 use Rattle.std.proofs.Common.{◌++◌, ◌∷◌, [], sym, subst, ap, ◌∙◌}
 use Rattle.flow_maps.specs.Agenda.{IsOf, is_open_run}
-use Rattle.flow_maps.specs.Keys.{Lists}
+use Rattle.flow_maps.specs.KnownRecords.{KnowsRecords}
 use Rattle.flow_maps.specs.Serving.{key_if}
 use Rattle.flow_maps.specs.Signals.{KnowsSignals}
+use Rattle.flow_maps.proofs.Staying.{records_more}
 use Rattle.flow_maps.proofs.maps.Maps.add_whole.Goals as goal
 
 pub returns-clause-serves : goal.returns-clause-serves
@@ -12,5 +13,6 @@ returns-clause-serves c b r flow request history opened times tasks h =
       requests = keys.requests;
       flows = keys.flows;
       agenda = subst (λ a. IsOf a (record b { runs = b.runs ++ r ∷ [] })) (sym c.add.ensures.same.0) (c.add_whole.ensures b r times tasks opened (rw c.add_signals.ensures.same.2 h.agenda));
-      signals = subst (λ s. KnowsSignals s (record b { runs = b.runs ++ r ∷ [] })) (sym c.add.ensures.same.2) (c.add_signals.ensures.signals b r flow history h);
+      signals = subst (λ s. KnowsSignals s (record b { runs = b.runs ++ r ∷ [] })) (sym c.add.ensures.same.3) (c.add_signals.ensures.signals b r flow history h);
+      records = subst (λ m. KnowsRecords m (record b { runs = b.runs ++ r ∷ [] })) (sym (c.add.ensures.same.4 ∙ c.add_signals.ensures.same.5)) (records_more c.args.self.now.records b r h.records);
     }

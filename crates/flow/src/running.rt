@@ -1,0 +1,120 @@
+//! The call that keeps an engine running.
+ghost use Rattle.std.specs.Prelude.{◌≡◌, ◌≤◌, [], IfOk};
+
+use crate::store::open_memory;
+use flow_base::fault::Fault;
+use flow_cli::drive::Stopped;
+use flow_engine::engine::Engine;
+use flow_settings::fault::SettingsFault;
+use flow_settings::settings::Settings;
+use flow_work::clock::SystemClock;
+use flow_work::running::work_shown;
+use flow_work::settings::settings_of;
+use flow_work::skills::BuiltIn;
+use sqlite::Alter;
+use std::fs;
+use std::io::{BufReader, IsTerminal};
+use std::sync::Wait;
+use std::thread::Threads;
+use std::time::Clock;
+
+/// The settings of this file, and the usual ones where none is named.
+fn settings_in(rt: &HostRuntime, file: Option<&str>) -> Result<Settings, SettingsFault> {
+    match file {
+        Some(file) => settings_of(rt.alloc(), fs::read_to_string(rt, file)),
+        None => Ok(Settings::usual()),
+    }
+}
+
+/// Runs an engine from standard input to standard output.
+pub fn run<S: Alter + Send + 'static, T: Threads + Wait + Clock + Copy + Send + Drop + 'static>(
+    rt: &HostRuntime,
+    threads: &T,
+    engine: &mut Engine<S>,
+    settings: Settings,
+) -> Result<u8, Fault>
+    requires { engine.old.log ≡ [] }
+    ensures { IfOk result (λ n. n ≤ 3) }
+{
+    let Ok(reader) = BufReader::new(rt.alloc(), rt.reader()) else {
+        return Err(Fault::NoMemory);
+    };
+    let stderr = rt.stderr();
+    let terminal = if stderr.is_terminal() {
+        Some(stderr)
+    } else {
+        None
+    };
+    let ended = work_shown(
+        threads,
+        rt.alloc(),
+        engine,
+        reader,
+        rt.stdout(),
+        terminal,
+        settings,
+        &BuiltIn,
+        SystemClock::new(*threads),
+    );
+    match ended {
+        Ok(ended) => ended.outcome(),
+        Err(fault) => Err(fault),
+    }
+}
+
+/// What is left to be done of a call.
+#[derive(Drop)]
+pub enum Next {
+    /// Nothing: the status that the program ends with.
+    Done(u8),
+    /// An engine is to be kept running over this file.
+    Keep(String, Settings),
+}
+
+/// Nothing is left to be done, whatever came of it.
+pub fn done(outcome: Result<u8, Stopped>) -> Result<Next, Stopped> {
+    match outcome {
+        Ok(status) => Ok(Next::Done(status)),
+        Err(stopped) => Err(stopped),
+    }
+}
+
+/// What came of an engine that ran, as the program ends with it.
+pub fn stopped_by(outcome: Result<u8, Fault>) -> Result<u8, Stopped> {
+    match outcome {
+        Ok(status) => Ok(status),
+        Err(fault) => Err(Stopped::Refused(fault)),
+    }
+}
+
+fn run_in_memory<T: Threads + Wait + Clock + Copy + Send + Drop + 'static>(
+    rt: &HostRuntime,
+    threads: &T,
+    settings: Settings,
+) -> Result<u8, Stopped>
+    ensures { IfOk result (λ n. n ≤ 3) }
+{
+    let mut engine = open_memory(rt, settings)?;
+    match run(rt, threads, &mut engine, settings) {
+        Ok(status) => Ok(status),
+        Err(fault) => Err(Stopped::Refused(fault)),
+    }
+}
+
+/// Keeps an engine running over a store in memory; one over a file is left to the caller. Settings that aren't allowed are E96, and
+/// nothing is opened then.
+pub fn keep_running<T: Threads + Wait + Clock + Copy + Send + Drop + 'static>(
+    rt: &HostRuntime,
+    threads: &T,
+    base: &str,
+    file: Option<&str>,
+) -> Result<Next, Stopped> {
+    match settings_in(rt, file) {
+        Ok(settings) => match base {
+            "-" => done(run_in_memory(rt, threads, settings)),
+            _ => Ok(Next::Keep(String::from_str(rt.alloc(), base)?, settings)),
+        },
+        Err(SettingsFault::NoMemory) => Err(Stopped::Refused(Fault::NoMemory)),
+        Err(SettingsFault::BadSettings) => Err(Stopped::BadSettings),
+    }
+}

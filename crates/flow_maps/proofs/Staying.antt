@@ -1,0 +1,187 @@
+-- What no change of a book takes back: its texts, and the events of its runs.
+use Rattle.std.proofs.Common.{◌≡◌, ◌-◌, ◌+◌, ◌<◌, ℕ, zero, suc, Bool, true, false, cond, List, [], ◌∷◌, ◌++◌, length, Option, Some, None, slice_get, slice_set, refl, sym, ap, subst, ◌∙◌, arith, get_or}
+use Rattle.std.specs.Prelude.{IfSome}
+use Rattle.std.specs.BTreeMap.{get}
+use Rattle.std.specs.Ordering.{nat_cmp}
+use Rattle.flow_base.specs.Syntax.{Bytes}
+use Rattle.flow_base.specs.declared.event.Cmd.{Cmd}
+use Rattle.flow_base.specs.declared.event.Event.{Event}
+use Rattle.flow_base.specs.declared.event.What.TheVariants.{Asked}
+use Rattle.flow_base.specs.declared.book.Change.{Change}
+use Rattle.flow_base.specs.declared.book.Change.TheVariants.{AddText, AddRun, AddTurn, SetAttempt, SetText}
+use Rattle.flow_base.specs.declared.book.Run.{Run}
+use Rattle.flow_base.specs.declared.book.Turn.{Turn}
+use Rattle.flow_model.specs.Book.{Book, nth, changed, with_run, with_turn, with_attempt, with_text, unbegun_run}
+use Rattle.flow_model.specs.Turned.{traces, turn_events}
+use Rattle.flow_model.proofs.Logs.{nth_at, nth_next}
+use Rattle.flow_view.specs.Heads.{event_of, event_if, event_at, head_of, head_if}
+use Rattle.flow_view.specs.declared.head.Head.{Head}
+use Rattle.flow_maps.specs.declared.calls.Calls.{Calls}
+use Rattle.flow_maps.specs.declared.records.Records.{Records}
+use Rattle.flow_maps.specs.declared.texts.Texts.{Texts}
+use Rattle.flow_maps.specs.KnownCalls.{IsEventOf, KnowsCalls}
+use Rattle.flow_maps.specs.KnownRecords.{KnowsRecords}
+use Rattle.flow_maps.specs.KnownTexts.{IsText, KnowsTexts}
+use Rattle.flow_maps.specs.OfRuns.{is_run}
+use Rattle.flow_maps.proofs.Headed.{nth_more, own_run, other_run, one_more}
+use Rattle.flow_maps.proofs.Serving.{run_is as book_is, none_is_there}
+use Rattle.flow_maps.proofs.Slots.{run_is}
+
+none_is : {A : Type 0} (x : A) → None ≡ Some x → ⊥
+none_is x h = let same = h in cc
+
+---- Texts
+
+run_texts : (b : Book) (n : ℕ) (f : Run → Run) → (with_run b n f).texts ≡ b.texts
+run_texts b n f = go (nth b.runs n) refl
+  where
+    go : (o : Option Run) → nth b.runs n ≡ o → (with_run b n f).texts ≡ b.texts
+    go None is = ap (λ (x : Book). x.texts) (sym (none_is_there b n f is))
+    go (Some r) is = ap (λ (x : Book). x.texts) (sym (book_is b n f r is))
+
+text_stays : (b : Book) (c : Change) (n : ℕ) (x : Bytes) → nth b.texts n ≡ Some x → nth (changed b c).texts n ≡ Some x
+text_stays b (AddText body) n x h = nth_more b.texts body n x h
+text_stays b (AddRun flow request text t) n x h = h
+text_stays b (AddTurn run t) n x h = ap (λ ts. nth ts n) (run_texts b run (with_turn t)) ∙ h
+text_stays b (SetAttempt run event attempt ready) n x h = ap (λ ts. nth ts n) (run_texts b run (with_attempt event attempt ready)) ∙ h
+text_stays b (SetText run text) n x h = ap (λ ts. nth ts n) (run_texts b run (with_text text)) ∙ h
+
+pub texts_stay : (m : Texts) (b : Book) (c : Change) → KnowsTexts m b → KnowsTexts m (changed b c)
+texts_stay m b c knows n = by (get nat_cmp m.known n) (knows n)
+  where
+    by : (o : Option Bytes) → IsText o (nth b.texts n) → IsText o (nth (changed b c).texts n)
+    by None h = tt
+    by (Some x) h = text_stays b c n x h
+
+pub text_in : (m m' : Texts) (number : ℕ) (t : Bytes) → ((n : ℕ) → get nat_cmp m'.known n ≡ cond (is_run number n) (Some t) (get nat_cmp m.known n)) → (b : Book) → nth b.texts number ≡ Some t → KnowsTexts m b → KnowsTexts m' b
+text_in m m' number t put b at knows n = subst (λ o. IsText o (nth b.texts n)) (sym (put n)) (by (is_run number n) refl)
+  where
+    by : (v : Bool) → is_run number n ≡ v → IsText (cond v (Some t) (get nat_cmp m.known n)) (nth b.texts n)
+    by true own = subst (λ k. nth b.texts k ≡ Some t) (run_is number n own) at
+    by false other = knows n
+
+pub text_found : (m : Texts) (number : ℕ) (k : Bytes) (o : Option Bytes) → get nat_cmp m.known number ≡ Some k → IfSome o (λ t. t ≡ k) → IfSome o (λ t. (b : Book) → KnowsTexts m b → Some t ≡ nth b.texts number)
+text_found m number k None there is = tt
+text_found m number k (Some t) there is = λ b knows. sym (subst (λ o. IsText o (nth b.texts number)) (there ∙ ap Some (sym is)) (knows number))
+
+---- Events
+
+get_longer : {A : Type 0} (xs ys : List A) (k : ℕ) (x : A) → slice_get xs k ≡ Some x → slice_get (xs ++ ys) k ≡ Some x
+get_longer [] ys k x at = absurd (none_is x at)
+get_longer (y ∷ xs) ys zero x at = at
+get_longer (y ∷ xs) ys (suc k) x at = get_longer xs ys k x at
+
+nth_longer : {A : Type 0} (xs ys : List A) (n : ℕ) (x : A) → nth xs n ≡ Some x → nth (xs ++ ys) n ≡ Some x
+nth_longer xs ys zero x at = absurd (none_is x at)
+nth_longer xs ys (suc k) x at = nth_at (xs ++ ys) (suc k) k refl ∙ get_longer xs ys k x (sym (nth_at xs (suc k) k refl) ∙ at)
+
+-- where a run keeps its events it may become another
+set_stays : (b : Book) (run : ℕ) (f : Run → Run) → ((r : Run) (id : ℕ) (e : Event) → event_of r.history id ≡ Some e → event_of (f r).history id ≡ Some e)
+    → (n id : ℕ) (e : Event) → event_at b.runs n id ≡ Some e → event_at (with_run b run f).runs n id ≡ Some e
+set_stays b run f keeps n id e h = by (is_run run n) refl
+  where
+    own : (o : Option Run) → nth b.runs run ≡ o → event_if o id ≡ Some e → event_at (with_run b run f).runs run id ≡ Some e
+    own None is at = absurd (none_is e at)
+    own (Some r) is at = ap (λ o. event_if o id) (own_run b run f r is) ∙ keeps r id e at
+
+    by : (v : Bool) → is_run run n ≡ v → event_at (with_run b run f).runs n id ≡ Some e
+    by true is = let same = run_is run n is in subst (λ k. event_at (with_run b run f).runs k id ≡ Some e) same (own (nth b.runs run) refl (subst (λ k. event_at b.runs k id ≡ Some e) (sym same) h))
+    by false other = ap (λ o. event_if o id) (other_run b run n f other) ∙ h
+
+more_stays : (b : Book) (r : Run) (n id : ℕ) (e : Event) → event_at b.runs n id ≡ Some e → event_at (b.runs ++ r ∷ []) n id ≡ Some e
+more_stays b r n id e h = by (nth b.runs n) refl h
+  where
+    by : (o : Option Run) → nth b.runs n ≡ o → event_if o id ≡ Some e → event_at (b.runs ++ r ∷ []) n id ≡ Some e
+    by None is at = absurd (none_is e at)
+    by (Some x) is at = ap (λ o. event_if o id) (nth_more b.runs r n x is) ∙ at
+
+event_stays : (b : Book) (c : Change) (n id : ℕ) (e : Event) → event_at b.runs n id ≡ Some e → event_at (changed b c).runs n id ≡ Some e
+event_stays b (AddText body) n id e h = h
+event_stays b (AddRun flow request text t) n id e h = more_stays b (with_turn t (unbegun_run flow request text)) n id e h
+event_stays b (AddTurn run t) n id e h = set_stays b run (with_turn t) (λ r k x at. nth_longer r.history (turn_events (length r.history + 1) t.at t.input t.commands) k x at) n id e h
+event_stays b (SetAttempt run event attempt ready) n id e h = set_stays b run (with_attempt event attempt ready) (λ r k x at. at) n id e h
+event_stays b (SetText run text) n id e h = set_stays b run (with_text text) (λ r k x at. at) n id e h
+
+pub calls_stay : (m : Calls) (b : Book) (c : Change) → KnowsCalls m b → KnowsCalls m (changed b c)
+calls_stay m b c knows n = by (get nat_cmp m.known n) (knows n)
+  where
+    by : (o : Option Event) → IsEventOf b.runs n o → IsEventOf (changed b c).runs n o
+    by None h = tt
+    by (Some e) h = event_stays b c n e.id e h
+
+-- the same where a run is read behind the others
+pub calls_more : (m : Calls) (b : Book) (r : Run) → KnowsCalls m b → KnowsCalls m (record b { runs = b.runs ++ r ∷ [] })
+calls_more m b r knows n = by (get nat_cmp m.known n) (knows n)
+  where
+    by : (o : Option Event) → IsEventOf b.runs n o → IsEventOf (b.runs ++ r ∷ []) n o
+    by None h = tt
+    by (Some e) h = more_stays b r n e.id e h
+
+pub call_in : (m m' : Calls) (run : ℕ) (e : Event) → ((n : ℕ) → get nat_cmp m'.known n ≡ cond (is_run run n) (Some e) (get nat_cmp m.known n)) → (b : Book) → event_at b.runs run e.id ≡ Some e → KnowsCalls m b → KnowsCalls m' b
+call_in m m' run e put b at knows n = subst (λ o. IsEventOf b.runs n o) (sym (put n)) (by (is_run run n) refl)
+  where
+    by : (v : Bool) → is_run run n ≡ v → IsEventOf b.runs n (cond v (Some e) (get nat_cmp m.known n))
+    by true own = subst (λ k. event_at b.runs k e.id ≡ Some e) (run_is run n own) at
+    by false other = knows n
+
+pub call_found : (m : Calls) (run id : ℕ) (k : Event) (o : Option Event) → get nat_cmp m.known run ≡ Some k → k.id ≡ id → IfSome o (λ e. e ≡ k) → IfSome o (λ e. (b : Book) → KnowsCalls m b → Some e ≡ event_at b.runs run id)
+call_found m run id k None there number is = tt
+call_found m run id k (Some e) there number is = λ b knows.
+    let at : event_at b.runs run k.id ≡ Some k = subst (λ o. IsEventOf b.runs run o) there (knows run) in
+    ap Some is ∙ sym at ∙ ap (event_at b.runs run) number
+
+---- The event of a turn's last command
+
+traced_at : (n at : ℕ) (cs : List Cmd) (k : ℕ) (c : Cmd) → k < length cs → c ≡ get_or cs k c → slice_get (traces n at cs) k ≡ Some (record { id = n + k; at = at; what = Asked c })
+traced_at n at [] k c less is = absurd (omega (arith, less))
+traced_at n at (x ∷ cs) zero c less is = let first : n ≡ n + zero = omega arith in λ i. Some (record { id = first i; at = at; what = Asked (sym is i) })
+traced_at n at (x ∷ cs) (suc k) c less is =
+    let next : (n + 1) + k ≡ n + suc k = omega arith in
+    traced_at (n + 1) at cs k c (omega (arith, less)) is ∙ (λ i. Some (record { id = next i; at = at; what = Asked c }))
+
+past : {A : Type 0} (xs ys : List A) (m j : ℕ) → m ≡ length xs + j → slice_get (xs ++ ys) m ≡ slice_get ys j
+past [] ys m j e = let same : m ≡ j = omega (arith, e) in ap (slice_get ys) same
+past (x ∷ xs) ys zero j e = absurd (omega (arith, e))
+past (x ∷ xs) ys (suc m) j e = past xs ys m j (omega (arith, e))
+
+pub last_event : (t : Turn) (r : Run) (count id : ℕ) (c : Cmd) → length r.history ≡ count → id ≡ count + 1 + length t.commands → 0 < length t.commands → c ≡ get_or t.commands (length t.commands - 1) c
+    → event_of (with_turn t r).history id ≡ Some (record { id = id; at = t.at; what = Asked c })
+last_event t r count id c long number some is =
+    let h = r.history in
+    let k = length t.commands - 1 in
+    let es = turn_events (length h + 1) t.at t.input t.commands in
+    let place : id ≡ suc (length h + suc k) = omega (arith, long, number, some) in
+    let own : length h + 1 + 1 + k ≡ id = omega (arith, long, number, some) in
+    nth_at (h ++ es) id (length h + suc k) place ∙ past h es (length h + suc k) (suc k) refl ∙ traced_at (length h + 1 + 1) t.at t.commands k c (omega (arith, some)) is
+    ∙ (λ i. Some (record { id = own i; at = t.at; what = Asked c }))
+
+-- as it is asked of whatever run has so many events
+pub last_asked : (o : Option Event) (t : Turn) (count id : ℕ) (c : Cmd) → id ≡ count + 1 + length t.commands → 0 < length t.commands → c ≡ get_or t.commands (length t.commands - 1) c
+    → IfSome o (λ e. e ≡ record { id = id; at = t.at; what = Asked c }) → IfSome o (λ e. (r : Run) → length r.history ≡ count → event_of (with_turn t r).history e.id ≡ Some e)
+last_asked None t count id c number some is made = tt
+last_asked (Some e) t count id c number some is made = λ r long.
+    subst (λ x. event_of (with_turn t r).history x.id ≡ Some x) (sym made) (last_event t r count id c long number some is)
+
+-- and put into a book
+pub call_set : (o : Option Event) (b : Book) (run : ℕ) (t : Turn) (r : Run) (count : ℕ) → nth b.runs run ≡ Some r → length r.history ≡ count → IfSome o (λ e. (x : Run) → length x.history ≡ count → event_of (with_turn t x).history e.id ≡ Some e)
+    → IfSome o (λ e. event_at (with_run b run (with_turn t)).runs run e.id ≡ Some e)
+call_set None b run t r count at long is = tt
+call_set (Some e) b run t r count at long is = ap (λ o. event_if o e.id) (own_run b run (with_turn t) r at) ∙ is r long
+
+pub call_begun : (o : Option Event) (b : Book) (run : ℕ) (t : Turn) (r : Run) → run ≡ length b.runs + 1 → length r.history ≡ 0 → IfSome o (λ e. (x : Run) → length x.history ≡ 0 → event_of (with_turn t x).history e.id ≡ Some e)
+    → IfSome o (λ e. event_at (b.runs ++ with_turn t r ∷ []) run e.id ≡ Some e)
+call_begun None b run t r at long is = tt
+call_begun (Some e) b run t r at long is = ap (λ o. event_if o e.id) (nth_next b.runs (with_turn t r) [] run (omega (arith, at))) ∙ is r long
+
+---- Together
+
+pub head_run : (o : Option Run) (h : Head) → head_if o ≡ Some h → (r : Run) × (o ≡ Some r) × (head_of r ≡ h)
+head_run None h is = absurd (none_is h is)
+head_run (Some r) h is = (r, refl, (let same = is in cc))
+
+-- a run that was read behind the others
+pub records_more : (m : Records) (b : Book) (r : Run) → KnowsRecords m b → KnowsRecords m (record b { runs = b.runs ++ r ∷ [] })
+records_more m b r h = record { heads = one_more m.heads b r h.heads; calls = calls_more m.calls b r h.calls; texts = h.texts }
+
+pub text_added : (m : Records) (b : Book) (body : Bytes) → KnowsRecords m b → KnowsRecords m (changed b (AddText body))
+text_added m b body h = record { heads = h.heads; calls = h.calls; texts = texts_stay m.texts b (AddText body) h.texts }

@@ -1,0 +1,13 @@
+use Rattle.std.proofs.Common.{◌≡◌, Some, ap, subst, ◌∙◌}
+use Rattle.flow_model.specs.Book.{nth}
+use Rattle.flow_view.specs.Heads.{head_if}
+use Rattle.flow_maps.specs.Serving.{IsSeen}
+use Rattle.flow_maps.proofs.maps.turn_records.Goals as goal
+
+pub returns-then-is_of : goal.returns-then-is_of
+returns-then-is_of c b seen h =
+    let it : IsSeen (Some c.in-Some.read) b = subst (λ o. IsSeen o b) c.in-Some.is seen in
+    c.go_on_from.ensures b (ap head_if (subst (λ n. nth b.runs n ≡ Some it.0) (c.is_of.ensures.0 c.if-is_of.true) it.1) ∙ ap Some it.2) h
+
+pub returns : goal.returns
+returns c b seen h = c.go_on.ensures b h

@@ -1,0 +1,16 @@
+-- Texts by their numbers, as far as they are known.
+use Rattle.std.specs.Prelude.{◌≡◌, ℕ, Option, Some, None}
+use Rattle.std.specs.Ordering.{nat_cmp}
+use Rattle.std.specs.BTreeMap.{get}
+use Rattle.flow_base.specs.Syntax.{Bytes}
+use Rattle.flow_model.specs.Book.{Book, nth}
+use Rattle.flow_maps.specs.declared.texts.Texts.{Texts}
+
+-- what is known of a text is so
+abbrev pub IsText : Option Bytes → Option Bytes → Type 0
+IsText None o = Unit {0}
+IsText (Some t) o = o ≡ Some t
+
+-- What is known is of this book.
+abbrev pub KnowsTexts : Texts → Book → Type 0
+KnowsTexts m b = (n : ℕ) → IsText (get nat_cmp m.known n) (nth b.texts n)

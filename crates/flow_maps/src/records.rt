@@ -1,0 +1,124 @@
+//! What is known of single runs and texts, each by its number: the head of a run and the event of its last activity, and texts.
+ghost use Rattle.std.specs.Prelude.{◌≡◌, ◌+◌, IfSome, Some, length};
+ghost use Rattle.flow_base.specs.declared.book.Change.TheVariants.{AddRun, AddTurn, SetAttempt, SetText};
+ghost use Rattle.flow_model.specs.Book.{Book, nth, changed};
+ghost use Rattle.flow_maps.specs.KnownRecords.{KnowsRecords};
+ghost use Rattle.flow_view.specs.Heads.{head_at, event_at};
+
+use crate::calls::Calls;
+use crate::heads::Heads;
+use crate::texts::Texts;
+use flow_base::book::Turn;
+use flow_base::event::Event;
+use flow_base::number::{EventId, Moment, RunId, TextNo};
+use flow_base::text::{Key, RawText};
+use flow_view::head::Head;
+use std::alloc::Global;
+
+/// Heads and last activities of runs, and texts.
+#[derive(Drop)]
+pub struct Records {
+    heads: Heads,
+    calls: Calls,
+    texts: Texts,
+}
+
+impl Records {
+    /// Nothing is known.
+    pub fn new(alloc: Global) -> Records
+        ensures { (b : Book) → KnowsRecords result b }
+    {
+        Records {
+            heads: Heads::new(alloc),
+            calls: Calls::new(alloc),
+            texts: Texts::new(alloc),
+        }
+    }
+
+    /// From now on nothing is known.
+    pub fn forget(&mut self)
+        ensures { (b : Book) → KnowsRecords self.new b }
+    {
+        self.heads.forget();
+        self.calls.forget();
+        self.texts.forget();
+    }
+
+    /// The head of a run, if it is known and there is memory for it.
+    pub fn head(&self, run: RunId) -> Option<Head>
+        ensures { IfSome result (λ h. (b : Book) → KnowsRecords self.now b → Some h ≡ head_at b.runs run) }
+    {
+        self.heads.find(run)
+    }
+
+    /// An event of a run, if it is known and there is memory for it.
+    pub fn event(&self, run: RunId, event: EventId) -> Option<Event>
+        ensures { IfSome result (λ e. (b : Book) → KnowsRecords self.now b → Some e ≡ event_at b.runs run event) }
+    {
+        self.calls.find(run, event)
+    }
+
+    /// The text of a number, if it is known and there is memory for it.
+    pub fn text(&self, number: TextNo) -> Option<RawText>
+        ensures { IfSome result (λ t. (b : Book) → KnowsRecords self.now b → Some t ≡ nth b.texts number) }
+    {
+        self.texts.find(number)
+    }
+
+    /// Whether a text is known.
+    pub fn has_text(&self, number: TextNo) -> bool {
+        self.texts.has(number)
+    }
+
+    /// A text was read, and the book changed since.
+    pub fn keep_text(&mut self, number: TextNo, body: RawText)
+        ensures { (b : Book) → nth b.texts number ≡ Some body → KnowsRecords self.old b → KnowsRecords self.new b }
+    {
+        self.texts.keep(number, body);
+    }
+
+    /// One more run, with its first turn, under its number, if that is known.
+    pub fn begin(
+        &mut self,
+        next: &Option<RunId>,
+        flow: &Key,
+        request: &Option<Key>,
+        text: TextNo,
+        turn: &Turn,
+    )
+        ensures { (b : Book) → IfSome next.now (λ n. n ≡ length b.runs + 1) → KnowsRecords self.old b → KnowsRecords self.new (changed b (AddRun flow.now request.now text turn.now)) }
+    {
+        self.heads.begin(next, flow, request, text, turn);
+        self.calls.begin(next, turn);
+    }
+
+    /// A turn more of a run.
+    pub fn go_on(&mut self, run: RunId, turn: &Turn)
+        ensures { (b : Book) → KnowsRecords self.old b → KnowsRecords self.new (changed b (AddTurn run turn.now)) }
+    {
+        self.heads.go_on(run, turn);
+    }
+
+    /// A turn more of a run whose head was read.
+    pub fn go_on_from(&mut self, run: RunId, head: &Head, turn: &Turn)
+        ensures { (b : Book) → head_at b.runs run ≡ Some head.now → KnowsRecords self.old b → KnowsRecords self.new (changed b (AddTurn run turn.now)) }
+    {
+        self.heads.learn(run, head);
+        self.heads.go_on(run, turn);
+        self.calls.go_on(run, head.events, turn);
+    }
+
+    /// An open activity is at another attempt.
+    pub fn set_attempt(&mut self, run: RunId, event: EventId, attempt: u64, ready: Moment)
+        ensures { (b : Book) → KnowsRecords self.old b → KnowsRecords self.new (changed b (SetAttempt run event attempt ready)) }
+    {
+        self.heads.set_attempt(run, event, attempt, ready);
+    }
+
+    /// A run goes on under another text.
+    pub fn set_text(&mut self, run: RunId, text: TextNo)
+        ensures { (b : Book) → KnowsRecords self.old b → KnowsRecords self.new (changed b (SetText run text)) }
+    {
+        self.heads.set_text(run, text);
+    }
+}

@@ -1,0 +1,107 @@
+//! The texts that runs were last started and went on with, in memory, so that no statement asks for them.
+ghost use Rattle.std.specs.Prelude.{◌≡◌, ℕ, IfSome, Option, Some, None, cond, true};
+ghost use Rattle.std.specs.BTreeMap.{get};
+ghost use Rattle.std.specs.Ordering.{nat_cmp};
+ghost use Rattle.flow_model.specs.Book.{Book, nth};
+ghost use Rattle.flow_maps.specs.KnownTexts.{KnowsTexts};
+ghost use Rattle.flow_maps.specs.OfRuns.{is_run};
+
+use flow_base::number::TextNo;
+use flow_base::text::RawText;
+use std::alloc::Global;
+use std::collections::BTreeMap;
+
+/// The most bytes of texts that are kept: where more come, all are forgotten.
+const MOST_BYTES: usize = 1_048_576;
+
+/// Texts by their numbers.
+#[derive(Drop)]
+pub struct Texts {
+    alloc: Global,
+    known: BTreeMap<u64, RawText>,
+    /// How many bytes they have.
+    bytes: usize,
+}
+
+fn copied(alloc: Global, body: &RawText) -> Option<RawText>
+    ensures { IfSome result (λ t. t ≡ body.now) }
+{
+    match body.copy(alloc) {
+        Ok(body) => Some(body),
+        Err(_) => None,
+    }
+}
+
+/// Whether there was memory for it.
+fn insert(known: &mut BTreeMap<u64, RawText>, number: TextNo, body: RawText) -> bool
+    ensures { result ≡ true → (n : ℕ) → get nat_cmp known.new n ≡ cond (is_run number n) (Some body) (get nat_cmp known.old n) }
+{
+    known.insert(number.get(), body).is_ok()
+}
+
+impl Texts {
+    /// None is known.
+    pub fn new(alloc: Global) -> Texts
+        ensures { (b : Book) → KnowsTexts result b }
+    {
+        Texts {
+            alloc,
+            known: BTreeMap::new(alloc),
+            bytes: 0,
+        }
+    }
+
+    /// From now on none is known.
+    pub fn forget(&mut self)
+        ensures { (b : Book) → KnowsTexts self.new b }
+    {
+        self.known = BTreeMap::new(self.alloc);
+        self.bytes = 0;
+    }
+
+    /// The text of a number, if it is known and there is memory for it.
+    pub fn find(&self, number: TextNo) -> Option<RawText>
+        ensures { IfSome result (λ t. (b : Book) → KnowsTexts self.now b → Some t ≡ nth b.texts number) }
+    {
+        match self.known.get(&number.get()) {
+            Some(body) => copied(self.alloc, body),
+            None => None,
+        }
+    }
+
+    /// Whether the text of a number is known.
+    pub fn has(&self, number: TextNo) -> bool {
+        self.known.contains_key(&number.get())
+    }
+
+    /// There is room for so many bytes more.
+    fn make_room(&mut self, bytes: usize)
+        ensures { (b : Book) → KnowsTexts self.old b → KnowsTexts self.new b }
+    {
+        if bytes > MOST_BYTES || self.bytes > MOST_BYTES - bytes {
+            self.forget();
+        }
+        if bytes <= MOST_BYTES && self.bytes <= MOST_BYTES - bytes {
+            self.bytes += bytes;
+        }
+    }
+
+    fn put(&mut self, number: TextNo, body: RawText)
+        ensures { (b : Book) → nth b.texts number ≡ Some body → KnowsTexts self.old b → KnowsTexts self.new b }
+    {
+        if !insert(&mut self.known, number, body) {
+            self.forget();
+        }
+    }
+
+    /// This is the text of a number. One that is longer than all room isn't kept.
+    pub fn keep(&mut self, number: TextNo, body: RawText)
+        ensures { (b : Book) → nth b.texts number ≡ Some body → KnowsTexts self.old b → KnowsTexts self.new b }
+    {
+        let bytes = body.as_str().len();
+        if bytes <= MOST_BYTES {
+            self.make_room(bytes);
+            self.put(number, body);
+        }
+    }
+}

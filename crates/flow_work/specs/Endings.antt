@@ -1,0 +1,53 @@
+-- What comes of a submission that has no receipt.
+use Rattle.std.specs.Prelude.{◌≡◌, ◌⊎◌, List, Option, Some, None}
+use Rattle.sqlite_trees.specs.declared.store.Store.{Ghosts}
+use Rattle.flow_base.specs.declared.code.Code.TheVariants as code
+use Rattle.flow_base.specs.declared.fault.Fault.{Fault}
+use Rattle.flow_machine.specs.declared.submission.Receipt.{Receipt}
+use Rattle.flow_machine.specs.declared.submission.Taken.{Taken}
+use Rattle.flow_cli.specs.declared.reply.Line.{Line}
+use Rattle.flow_cli.specs.declared.reply.Line.TheVariants as line
+use Rattle.flow_commit.specs.Keeping.{Keeping}
+use Rattle.flow_engine.specs.Serving.{EndsFor}
+use Rattle.flow_hub.specs.declared.denied.Denied.{Denied}
+use Rattle.flow_hub.specs.declared.denied.Denied.TheVariants as denied
+use Rattle.flow_hub.specs.declared.refused.Refused.{Refused}
+use Rattle.flow_hub.specs.declared.ticket.NotDone.{NotDone}
+use Rattle.flow_hub.specs.declared.ticket.Ticket.{Ticket}
+use Rattle.flow_hub.specs.declared.ticket.Why.{Why}
+use Rattle.flow_hub.specs.declared.ticket.Why.TheVariants as why
+use Rattle.flow_hub.specs.Submitting.{Member, IsReceipt, IsNotDone}
+use Rattle.flow_pool.specs.declared.report.Unheard.{Unheard}
+use Rattle.flow_pool.specs.declared.report.Unheard.TheVariants as unheard
+
+-- why a report isn't taken in
+abbrev pub unheard_denied : Denied → Unheard
+unheard_denied denied.InboxFull = unheard.InboxFull
+unheard_denied denied.HubClosed = unheard.HubClosed
+
+-- why a report has no receipt; behind another code nothing is told any more
+abbrev pub unheard_why : Why → Unheard
+unheard_why (why.Refused code.NoMemory) = unheard.NoMemory
+unheard_why (why.Refused code.StoreRefused) = unheard.StoreRefused
+unheard_why (why.Refused code.Unknown) = unheard.Unknown
+unheard_why _ = unheard.Halted
+
+-- What is printed of a command that has no receipt: E01 and E80 as they are, and of another code nothing, since nothing is answered
+-- behind it.
+abbrev pub line_instead : Why → Option Line
+line_instead (why.Refused code.NoMemory) = Some (line.NotApplied code.NoMemory)
+line_instead (why.Refused code.StoreRefused) = Some (line.NotApplied code.StoreRefused)
+line_instead _ = None
+
+-- The line is that of the ticket's receipt; or the ticket has none, and the line says why.
+abbrev pub IsToldOf : {S : Type 0} → Ghosts S → Member S → Ticket → Option Line → Type 0
+IsToldOf g m ticket told =
+    ((r : Receipt) × IsReceipt g m ticket r × (told ≡ Some (line.Of r.reply)))
+    ⊎ ((n : NotDone) × IsNotDone m ticket n × (told ≡ line_instead n.code))
+
+-- Why an engine that ran serves no more, and what has answered what was submitted.
+pub record EndsServing {S : Type 0} (old new : Keeping S) (f : Fault) : Type 0 where
+  pub was : List Refused
+  pub now : List Refused
+  pub waiting : List Taken
+  pub how : EndsFor old new was now waiting f

@@ -1,0 +1,193 @@
+//! The threads that a running engine starts. Each owns all that it has.
+ghost use Rattle.std.specs.Prelude.{◌≡◌, IfErr};
+
+use crate::desk::Desk;
+use crate::input::{Input, read_lines};
+use crate::progress::Progress;
+use crate::reports::Reporter;
+use crate::status::Status;
+use crate::tasks::Tasks;
+use crate::timer::fire_timers;
+use crossbeam_channel::{Receiver, Sender};
+use crossbeam_utils::sync::WaitGroup;
+use flow_base::fault::Fault;
+use flow_hub::hub::Hub;
+use flow_hub::seats::Room;
+use flow_pool::activity::Activity;
+use flow_pool::dispatcher::dispatcher;
+use flow_pool::ends::{TaskReceiver, TaskSender};
+use flow_pool::worker::worker;
+use flow_timers::Clock;
+use sqlite::Alter;
+use std::alloc::Global;
+use std::io::{BufRead, Write};
+use std::sync::{Arc, Wait};
+use std::thread::{JoinHandle, Threads};
+use std::{thread, time};
+
+/// Makes attempts until no task comes any more, or nothing is answered.
+fn run_worker<S: Alter, B: Room, R: Wait, A: Activity + Drop, C: Clock>(
+    rt: &R,
+    alloc: Global,
+    activities: Vec<A>,
+    receiver: TaskReceiver,
+    reports: Reporter<S, B>,
+    clock: &C,
+    group: WaitGroup,
+) {
+    drop(worker(rt, alloc, activities, receiver, reports, clock));
+    drop(group);
+}
+
+/// Hands tasks to the workers until none is posted any more. The workers end when its end of the channel is gone.
+fn run_dispatcher<S: Alter, B: Room, R: Wait>(
+    rt: &R,
+    tasks: Tasks<S, B>,
+    sender: TaskSender,
+    group: WaitGroup,
+) {
+    drop(dispatcher(rt, tasks, sender));
+    drop(group);
+}
+
+fn run_timer<S: Alter, B: Room, R: Wait + time::Clock, C: Clock>(
+    rt: &R,
+    reports: Reporter<S, B>,
+    clock: &C,
+    group: WaitGroup,
+) {
+    drop(fire_timers(rt, reports, clock));
+    drop(group);
+}
+
+/// Answers lines until the input has ended and no run is open, and then closes the hub. The greatest status of what was printed.
+fn run_desk<S: Alter, B: Room, W: Write + Drop, R: Wait + time::Clock, C: Clock, P: Write + Drop>(
+    rt: &R,
+    desk: Desk<S, B, W>,
+    clock: &C,
+    inputs: Receiver<Input>,
+    hub: Arc<Hub<S, B>, Global>,
+    progress: Option<Progress<P>>,
+) -> (W, Status) {
+    let mut desk = desk;
+    desk.answer_lines(rt, clock, &inputs);
+    desk.rest(rt, clock, progress);
+    hub.close(rt);
+    desk.into_parts()
+}
+
+/// Starts a thread that runs a worker. E01 where there is none.
+pub(crate) fn start_worker<S, B, R, A, C>(
+    rt: &R,
+    alloc: Global,
+    activities: Vec<A>,
+    receiver: TaskReceiver,
+    reports: Reporter<S, B>,
+    clock: C,
+    group: WaitGroup,
+) -> Result<(), Fault>
+where
+    S: Alter + Send + 'static,
+    B: Room + Send + Sync + 'static,
+    R: Threads + Wait + Copy + Send + Drop + 'static,
+    A: Activity + Drop + Send + 'static,
+    C: Clock + Copy + Send + Drop + 'static,
+    ensures { IfErr result (λ f. f ≡ Fault.NoMemory) }
+{
+    let its = *rt;
+    match thread::spawn(
+        rt,
+        move || run_worker(&its, alloc, activities, receiver, reports, &clock, group),
+    ) {
+        Ok(_thread) => Ok(()),
+        Err(_) => Err(Fault::NoMemory),
+    }
+}
+
+/// Starts the thread that hands tasks to workers. E01 where there is none.
+pub(crate) fn start_dispatcher<S, B, R>(
+    rt: &R,
+    tasks: Tasks<S, B>,
+    sender: TaskSender,
+    group: WaitGroup,
+) -> Result<(), Fault>
+where
+    S: Alter + Send + 'static,
+    B: Room + Send + Sync + 'static,
+    R: Threads + Wait + Copy + Send + Drop + 'static,
+    ensures { IfErr result (λ f. f ≡ Fault.NoMemory) }
+{
+    let its = *rt;
+    match thread::spawn(rt, move || run_dispatcher(&its, tasks, sender, group)) {
+        Ok(_thread) => Ok(()),
+        Err(_) => Err(Fault::NoMemory),
+    }
+}
+
+/// Starts the thread that fires what is due. E01 where there is none.
+pub(crate) fn start_timer<S, B, R, C>(
+    rt: &R,
+    reports: Reporter<S, B>,
+    clock: C,
+    group: WaitGroup,
+) -> Result<(), Fault>
+where
+    S: Alter + Send + 'static,
+    B: Room + Send + Sync + 'static,
+    R: Threads + Wait + time::Clock + Copy + Send + Drop + 'static,
+    C: Clock + Copy + Send + Drop + 'static,
+    ensures { IfErr result (λ f. f ≡ Fault.NoMemory) }
+{
+    let its = *rt;
+    match thread::spawn(rt, move || run_timer(&its, reports, &clock, group)) {
+        Ok(_thread) => Ok(()),
+        Err(_) => Err(Fault::NoMemory),
+    }
+}
+
+/// Starts the thread that reads. E01 where there is none. Nobody waits for it, since no call ends a read that has begun.
+pub(crate) fn start_reader<R, I>(
+    rt: &R,
+    alloc: Global,
+    reader: I,
+    lines: Sender<Input>,
+) -> Result<(), Fault>
+where
+    R: Threads + Wait + Copy + Send + Drop + 'static,
+    I: BufRead + Drop + Send + 'static,
+    ensures { IfErr result (λ f. f ≡ Fault.NoMemory) }
+{
+    let its = *rt;
+    match thread::spawn(rt, move || read_lines(&its, alloc, reader, lines)) {
+        Ok(_thread) => Ok(()),
+        Err(_) => Err(Fault::NoMemory),
+    }
+}
+
+/// Starts the thread that answers lines. E01 where there is none.
+pub(crate) fn start_desk<S, B, R, W, C, P>(
+    rt: &R,
+    desk: Desk<S, B, W>,
+    clock: C,
+    inputs: Receiver<Input>,
+    hub: Arc<Hub<S, B>, Global>,
+    progress: Option<Progress<P>>,
+) -> Result<JoinHandle<(W, Status)>, Fault>
+where
+    S: Alter + Send + 'static,
+    B: Room + Send + Sync + 'static,
+    R: Threads + Wait + time::Clock + Copy + Send + Drop + 'static,
+    W: Write + Drop + Send + 'static,
+    C: Clock + Copy + Send + Drop + 'static,
+    P: Write + Drop + Send + 'static,
+    ensures { IfErr result (λ f. f ≡ Fault.NoMemory) }
+{
+    let its = *rt;
+    match thread::spawn(
+        rt,
+        move || run_desk(&its, desk, &clock, inputs, hub, progress),
+    ) {
+        Ok(thread) => Ok(thread),
+        Err(_) => Err(Fault::NoMemory),
+    }
+}

@@ -1,0 +1,292 @@
+//! The thread that submits lines and prints their replies, in the order of the lines.
+ghost use Rattle.std.specs.Prelude.{◌≡◌, ◌≤◌, ◌<◌, [], false, length, IfOk, IfSome};
+ghost use Rattle.flow_work.specs.Endings.{IsToldOf, line_instead};
+ghost use Rattle.flow_work.specs.Printing.{Prints, status_with};
+
+use crate::input::Input;
+use crate::moments::command_at;
+use crate::progress::Progress;
+use crate::queue::{MOST_PENDING, Pending, Queue};
+use crate::status::Status;
+use crossbeam_channel::Receiver;
+use flow_base::code::Code;
+use flow_base::command::Command;
+use flow_cli::command::{LineFault, command_of};
+use flow_cli::drive::write_line;
+use flow_cli::reply::Line;
+use flow_hub::denied::Denied;
+use flow_hub::rested::Rested;
+use flow_hub::seats::Room;
+use flow_hub::submitter::Submitter;
+use flow_hub::ticket::{NotDone, Ticket, Why};
+use flow_timers::Clock;
+use sqlite::Alter;
+use std::alloc::{AllocError, Global};
+use std::io::Write;
+use std::sync::Wait;
+use std::time::Duration;
+use std::{thread, time};
+
+/// The longest time for which nobody looks at what is left, in milliseconds.
+const LONGEST_REST: u64 = 1_000;
+
+/// Lines that were read and of which nothing is printed yet, and where their replies go.
+#[derive(Drop)]
+pub(crate) struct Desk<S: Alter, B: Room, W: Write> {
+    alloc: Global,
+    submitter: Submitter<S, B>,
+    pending: Queue,
+    writer: W,
+    /// A write has failed: nothing more is printed.
+    is_mute: bool,
+    status: Status,
+}
+
+/// What is printed of a command that has no receipt. None where nothing is answered any more.
+fn line_instead(why: Why) -> Option<Line>
+    ensures { result ≡ line_instead why }
+{
+    match why {
+        Why::Refused(Code::NoMemory) => Some(Line::NotApplied(Code::NoMemory)),
+        Why::Refused(Code::StoreRefused) => Some(Line::NotApplied(Code::StoreRefused)),
+        _ => None,
+    }
+}
+
+/// The answer to a ticket. None where nothing is answered any more.
+fn answer_to<S: Alter, B: Room, R: Wait>(
+    rt: &R,
+    submitter: &mut Submitter<S, B>,
+    ticket: Ticket,
+) -> Option<Line>
+    ensures { IsToldOf S.Store submitter.new ticket result }
+{
+    match submitter.wait(rt, ticket) {
+        Ok(receipt) => Some(Line::Of(receipt.reply)),
+        Err(instead) => line_instead(instead.code),
+    }
+}
+
+impl<S: Alter, B: Room, W: Write + Drop> Desk<S, B, W> {
+    /// Submits by this submitter and prints to this writer.
+    pub(crate) fn new(
+        alloc: Global,
+        submitter: Submitter<S, B>,
+        writer: W,
+    ) -> Result<Desk<S, B, W>, AllocError>
+        ensures { IfOk result (λ d. (d.submitter ≡ submitter) × (d.writer ≡ writer) × (d.pending.lines.items ≡ []) × (d.is_mute ≡ false) × (d.status ≡ 0)) }
+    {
+        let pending = Queue::new(alloc)?;
+        Ok(Desk {
+            alloc,
+            submitter,
+            pending,
+            writer,
+            is_mute: false,
+            status: Status::done(),
+        })
+    }
+
+    /// The writer, and the greatest status of what was printed and of what failed.
+    pub(crate) fn into_parts(self) -> (W, Status)
+        ensures { (result.0 ≡ self.writer) × (result.1 ≡ self.status) }
+    {
+        let Desk {
+            alloc: _,
+            submitter: _submitter,
+            pending: _pending,
+            writer,
+            is_mute: _,
+            status,
+        } = self;
+        (writer, status)
+    }
+
+    /// Something couldn't be read or written.
+    fn fail(&mut self)
+        ensures status { self.new.status ≡ 3 }
+        ensures pending { self.new.pending ≡ self.old.pending }
+        ensures mute { self.new.is_mute ≡ self.old.is_mute }
+        ensures writer { self.new.writer ≡ self.old.writer }
+    {
+        self.status = Status::failed();
+    }
+
+    /// Prints a line, unless a write has failed before.
+    fn print(&mut self, line: &Line)
+        ensures printed { Prints line.now self.old.is_mute self.new.is_mute (W.contents self.old.writer) (W.contents self.new.writer) }
+        ensures status { self.new.status ≡ status_with self.old.status line.now self.new.is_mute }
+        ensures pending { self.new.pending ≡ self.old.pending }
+    {
+        self.status = self.status.or(Status::of_line(line));
+        if self.is_mute {
+            self.status = Status::failed();
+            return;
+        }
+        if write_line(self.alloc, &mut self.writer, line).is_err() {
+            self.is_mute = true;
+            self.status = Status::failed();
+        }
+    }
+
+    /// Waits for the answer of the oldest line and prints it. No where nothing is answered any more.
+    fn tell_oldest<R: Wait>(&mut self, rt: &R) -> bool
+        ensures { length self.new.pending.lines.items ≤ length self.old.pending.lines.items }
+    {
+        let line = match self.pending.pop() {
+            Some(Pending::Submitted(ticket)) => answer_to(rt, &mut self.submitter, ticket),
+            Some(Pending::Known(line)) => Some(line),
+            None => return true,
+        };
+        match line {
+            Some(line) => {
+                self.print(&line);
+                true
+            }
+            None => false,
+        }
+    }
+
+    /// Submits a command until it is taken in. None where nothing is answered any more.
+    fn submit<R: Wait>(&mut self, rt: &R, command: Command) -> Option<Ticket>
+        ensures { length self.new.pending.lines.items ≤ length self.old.pending.lines.items }
+    {
+        let mut command = command;
+        'tries: for _ in rt.forever() {
+            match self.submitter.submit(rt, command) {
+                Ok(ticket) => return Some(ticket),
+                Err((_back, Denied::HubClosed)) => return None,
+                Err((back, Denied::InboxFull)) => command = back,
+            }
+            if !self.tell_oldest(rt) {
+                return None;
+            }
+            thread::yield_now();
+        }
+        unreachable!()
+    }
+
+    /// What becomes of a line. None where nothing is answered any more.
+    fn pending_of<R: Wait, C: Clock>(&mut self, rt: &R, clock: &C, line: Vec<u8>) -> Option<Pending>
+        ensures { length self.new.pending.lines.items ≤ length self.old.pending.lines.items }
+    {
+        match command_of(self.alloc, line.as_slice()) {
+            Ok(command) => {
+                let ticket = self.submit(rt, command_at(command, clock.now()))?;
+                Some(Pending::Submitted(ticket))
+            }
+            Err(LineFault::NotACommand) => Some(Pending::Known(Line::Bad)),
+            Err(LineFault::NoMemory) => Some(Pending::Known(Line::NotApplied(Code::NoMemory))),
+        }
+    }
+
+    /// Takes in a line. No where nothing is answered any more.
+    fn take_line<R: Wait, C: Clock>(&mut self, rt: &R, clock: &C, line: Vec<u8>) -> bool
+        requires { length self.old.pending.lines.items < 64 }
+    {
+        match self.pending_of(rt, clock, line) {
+            Some(pending) => {
+                self.pending.push(pending);
+                true
+            }
+            None => false,
+        }
+    }
+
+    /// What is read next. None where there is nothing yet and a reply can be waited for meanwhile.
+    fn next_input<R: Wait>(&self, rt: &R, inputs: &Receiver<Input>) -> Option<Input>
+        ensures { IfSome result (λ _. length self.now.pending.lines.items < 64) }
+    {
+        let count = self.pending.len();
+        if count == 0 {
+            return Some(inputs.recv(rt).unwrap_or(Input::Stopped));
+        }
+        if count >= MOST_PENDING {
+            return None;
+        }
+        inputs.try_recv(rt).ok()
+    }
+
+    /// Prints all replies that are to come.
+    fn tell_all<R: Wait>(&mut self, rt: &R) {
+        'lines: for _ in rt.forever() {
+            if self.pending.len() == 0 || !self.tell_oldest(rt) {
+                return;
+            }
+        }
+        unreachable!()
+    }
+
+    /// Takes in what is read next, or prints the oldest reply. No where the input has ended and all is printed, or nothing is answered
+    /// any more.
+    fn step<R: Wait, C: Clock>(&mut self, rt: &R, clock: &C, inputs: &Receiver<Input>) -> bool {
+        match self.next_input(rt, inputs) {
+            Some(Input::Line(line)) => self.take_line(rt, clock, line),
+            Some(Input::Ended) => {
+                self.tell_all(rt);
+                false
+            }
+            Some(Input::Failed) => {
+                self.fail();
+                self.tell_all(rt);
+                false
+            }
+            Some(Input::Stopped) => false,
+            None => self.tell_oldest(rt),
+        }
+    }
+
+    /// Submits the lines that are read, each at the moment that the clock tells then, and prints their replies, until the input has
+    /// ended and all is printed, or nothing is answered any more. A line is submitted again after E90; a command that was answered E80
+    /// or E01 is told as not applied.
+    pub(crate) fn answer_lines<R: Wait, C: Clock>(
+        &mut self,
+        rt: &R,
+        clock: &C,
+        inputs: &Receiver<Input>,
+    ) {
+        'steps: for _ in rt.forever() {
+            if !self.step(rt, clock, inputs) {
+                return;
+            }
+        }
+        unreachable!()
+    }
+
+    /// Waits until no run is open, or nothing is answered any more. A terminal shows meanwhile what is left: only now, since nothing
+    /// is printed any more that would mix with it.
+    pub(crate) fn rest<R: Wait + time::Clock, C: Clock, P: Write + Drop>(
+        &mut self,
+        rt: &R,
+        clock: &C,
+        progress: Option<Progress<P>>,
+    ) {
+        match progress {
+            Some(progress) => self.rest_shown(rt, clock, progress),
+            None => {
+                self.submitter.rest(rt);
+            }
+        }
+    }
+
+    fn rest_shown<R: Wait + time::Clock, C: Clock, P: Write + Drop>(
+        &mut self,
+        rt: &R,
+        clock: &C,
+        progress: Progress<P>,
+    ) {
+        let mut progress = progress;
+        'rests: for _ in rt.forever() {
+            if self
+                .submitter
+                .rest_for(rt, Duration::from_millis(LONGEST_REST))
+                != Rested::NotYet
+            {
+                progress.clear();
+                return;
+            }
+            progress.draw(self.submitter.watch(rt), clock.now());
+        }
+        unreachable!()
+    }
+}

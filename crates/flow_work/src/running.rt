@@ -1,0 +1,343 @@
+//! A running engine: the threads around the one that serves.
+ghost use Rattle.std.specs.Prelude.{◌≡◌, [], length, IfOk, IfErr, OnOk};
+ghost use Rattle.flow_hub.specs.Seating.{IsRoomOf};
+ghost use Rattle.flow_hub.specs.Publishing.{Together};
+ghost use Rattle.flow_engine.specs.Answering.{Follows};
+ghost use Rattle.flow_work.specs.Endings.{EndsServing};
+
+use crate::crew::{start_desk, start_dispatcher, start_reader, start_timer, start_worker};
+use crate::desk::Desk;
+use crate::ended::Ended;
+use crate::input::Input;
+use crate::progress::Progress;
+use crate::reports::Reporter;
+use crate::skills::Skills;
+use crate::status::Status;
+use crate::tally::Tally;
+use crate::tasks::Tasks;
+use crossbeam_channel::{Receiver, Sender, bounded};
+use crossbeam_utils::sync::WaitGroup;
+use flow_base::fault::Fault;
+use flow_engine::engine::Engine;
+use flow_hub::hub::Hub;
+use flow_hub::seats::{Opened, Room};
+use flow_pool::activity::Activity;
+use flow_pool::channel::opened;
+use flow_pool::ends::{TaskReceiver, TaskSender};
+use flow_settings::settings::Settings;
+use flow_timers::Clock;
+use sqlite::Alter;
+use std::alloc::{AllocError, Global};
+use std::io::{BufRead, Write};
+use std::marker::Brand;
+use std::sync::{Arc, Wait};
+use std::thread::{JoinHandle, Threads};
+use std::time;
+
+/// How many tasks may wait for a worker.
+const MOST_TASKS: usize = 64;
+
+/// How many lines may be read ahead.
+const MOST_LINES: usize = 64;
+
+/// The channel of tasks with an end for each worker.
+fn open_channel(
+    alloc: Global,
+    workers: usize,
+) -> Result<(TaskSender, Vec<TaskReceiver>), AllocError>
+    ensures { IfOk result (λ r. length r.1.items ≡ workers) }
+{
+    let (mut sender, door) = opened(alloc, MOST_TASKS)?;
+    let mut receivers = Vec::with_capacity(alloc, workers)?;
+    'ends: for made in 0..workers {
+        receivers.push(sender.worker(&door)?)?;
+    }
+    Ok((sender, receivers))
+}
+
+/// One who reports to a hub. E01 where there's no memory for it.
+fn reporter<S: Alter, B: Room, R: Wait>(
+    rt: &R,
+    hub: &Hub<S, B>,
+    tally: Option<Tally>,
+) -> Result<Reporter<S, B>, Fault>
+    ensures { IfErr result (λ f. f ≡ Fault.NoMemory) }
+{
+    match hub.submitter(rt) {
+        Ok(submitter) => Ok(Reporter::new(submitter, tally)),
+        Err(_) => Err(Fault::NoMemory),
+    }
+}
+
+/// Starts a thread for each worker.
+fn start_workers<S, B, R, A, K, C>(
+    rt: &R,
+    alloc: Global,
+    hub: &Hub<S, B>,
+    receivers: Vec<TaskReceiver>,
+    skills: &K,
+    clock: C,
+    tally: &Tally,
+    group: &WaitGroup,
+) -> Result<(), Fault>
+where
+    S: Alter + Send + 'static,
+    B: Room + Send + Sync + 'static,
+    R: Threads + Wait + Copy + Send + Drop + 'static,
+    A: Activity + Drop + Send + 'static,
+    K: Skills<A>,
+    C: Clock + Copy + Send + Drop + 'static,
+    ensures { IfErr result (λ f. f ≡ Fault.NoMemory) }
+{
+    for receiver in receivers {
+        let activities = skills.of_worker(alloc)?;
+        let reports = reporter(rt, hub, Some(tally.share()?))?;
+        start_worker(
+            rt,
+            alloc,
+            activities,
+            receiver,
+            reports,
+            clock,
+            group.clone()?,
+        )?;
+    }
+    Ok(())
+}
+
+/// Starts those who make attempts of the tasks that are posted, and who hands the tasks to them.
+fn start_pool<S, B, R, A, K, C>(
+    rt: &R,
+    alloc: Global,
+    hub: &Hub<S, B>,
+    workers: usize,
+    skills: &K,
+    clock: C,
+    tally: &Tally,
+    group: &WaitGroup,
+) -> Result<(), Fault>
+where
+    S: Alter + Send + 'static,
+    B: Room + Send + Sync + 'static,
+    R: Threads + Wait + Copy + Send + Drop + 'static,
+    A: Activity + Drop + Send + 'static,
+    K: Skills<A>,
+    C: Clock + Copy + Send + Drop + 'static,
+    ensures { IfErr result (λ f. f ≡ Fault.NoMemory) }
+{
+    let Some(feed) = hub.feed(rt) else {
+        return Err(Fault::NoMemory);
+    };
+    let (sender, receivers) = open_channel(alloc, workers)?;
+    start_workers(rt, alloc, hub, receivers, skills, clock, tally, group)?;
+    start_dispatcher(rt, Tasks::new(feed, tally.share()?), sender, group.clone()?)
+}
+
+/// Starts who reads lines and who answers them. Who answers gives back where the replies went.
+fn start_lines<S, B, R, I, W, C, P>(
+    rt: &R,
+    alloc: Global,
+    hub: &Arc<Hub<S, B>, Global>,
+    reader: I,
+    writer: W,
+    clock: C,
+    progress: Option<Progress<P>>,
+) -> Result<(JoinHandle<(W, Status)>, Sender<Input>), Fault>
+where
+    S: Alter + Send + 'static,
+    B: Room + Send + Sync + 'static,
+    R: Threads + Wait + time::Clock + Copy + Send + Drop + 'static,
+    I: BufRead + Drop + Send + 'static,
+    W: Write + Drop + Send + 'static,
+    C: Clock + Copy + Send + Drop + 'static,
+    P: Write + Drop + Send + 'static,
+    ensures { IfErr result (λ f. f ≡ Fault.NoMemory) }
+{
+    let (lines, inputs) = bounded(alloc, MOST_LINES)?;
+    let own_lines = lines.clone()?;
+    let Ok(submitter) = hub.submitter(rt) else {
+        return Err(Fault::NoMemory);
+    };
+    let desk = Desk::new(alloc, submitter, writer)?;
+    start_reader(rt, alloc, reader, lines)?;
+    let answering = start_desk(rt, desk, clock, inputs, Arc::try_clone(hub)?, progress)?;
+    Ok((answering, own_lines))
+}
+
+/// Starts all threads but the one that serves.
+fn start_all<S, B, R, I, W, A, K, C, P>(
+    rt: &R,
+    alloc: Global,
+    hub: &Arc<Hub<S, B>, Global>,
+    reader: I,
+    writer: W,
+    terminal: Option<P>,
+    workers: usize,
+    skills: &K,
+    clock: C,
+    group: &WaitGroup,
+) -> Result<(JoinHandle<(W, Status)>, Sender<Input>), Fault>
+where
+    S: Alter + Send + 'static,
+    B: Room + Send + Sync + 'static,
+    R: Threads + Wait + time::Clock + Copy + Send + Drop + 'static,
+    I: BufRead + Drop + Send + 'static,
+    W: Write + Drop + Send + 'static,
+    A: Activity + Drop + Send + 'static,
+    K: Skills<A>,
+    C: Clock + Copy + Send + Drop + 'static,
+    P: Write + Drop + Send + 'static,
+    ensures { IfErr result (λ f. f ≡ Fault.NoMemory) }
+{
+    let tally = Tally::new(alloc)?;
+    start_pool(rt, alloc, hub, workers, skills, clock, &tally, group)?;
+    start_timer(rt, reporter(rt, hub, None)?, clock, group.clone()?)?;
+    let progress = match terminal {
+        Some(terminal) => Some(Progress::new(alloc, terminal, tally)),
+        None => None,
+    };
+    start_lines(rt, alloc, hub, reader, writer, clock, progress)
+}
+
+/// Runs an engine: serves, runs activities on as many threads as the settings say, fires what is due by the clock, reads lines and
+/// prints their replies, until the input has ended, each line has its reply and no run is open.
+///
+/// # Failure
+/// E01 where there's no memory or no thread to begin with: nothing is served then.
+pub fn work<S, R, I, W, A, K, C>(
+    rt: &R,
+    alloc: Global,
+    engine: &mut Engine<S>,
+    reader: I,
+    writer: W,
+    settings: Settings,
+    skills: &K,
+    clock: C,
+) -> Result<Ended<W>, Fault>
+where
+    S: Alter + Send + 'static,
+    R: Threads + Wait + time::Clock + Copy + Send + Drop + 'static,
+    I: BufRead + Drop + Send + 'static,
+    W: Write + Drop + Send + 'static,
+    A: Activity + Drop + Send + 'static,
+    K: Skills<A>,
+    C: Clock + Copy + Send + Drop + 'static,
+    requires { engine.old.log ≡ [] }
+    ensures served { IfOk result (λ e. IfErr e.served (EndsServing engine.old engine.new)) }
+    ensures goes_on { IfOk result (λ e. OnOk e.served (engine.new.halted ≡ engine.old.halted)) }
+    ensures unserved { IfErr result (λ f. (f ≡ Fault.NoMemory) × (engine.new ≡ engine.old)) }
+    ensures base { engine.new.base ≡ engine.old.base }
+    ensures follows { Follows S.Store engine.old engine.new }
+{
+    work_shown(
+        rt,
+        alloc,
+        engine,
+        reader,
+        writer,
+        None::<Vec<u8>>,
+        settings,
+        skills,
+        clock,
+    )
+}
+
+/// Runs an engine as `work` does. A terminal, where there is one, shows what is left once the last reply is printed.
+pub fn work_shown<S, R, I, W, A, K, C, P>(
+    rt: &R,
+    alloc: Global,
+    engine: &mut Engine<S>,
+    reader: I,
+    writer: W,
+    terminal: Option<P>,
+    settings: Settings,
+    skills: &K,
+    clock: C,
+) -> Result<Ended<W>, Fault>
+where
+    S: Alter + Send + 'static,
+    R: Threads + Wait + time::Clock + Copy + Send + Drop + 'static,
+    I: BufRead + Drop + Send + 'static,
+    W: Write + Drop + Send + 'static,
+    A: Activity + Drop + Send + 'static,
+    K: Skills<A>,
+    C: Clock + Copy + Send + Drop + 'static,
+    P: Write + Drop + Send + 'static,
+    requires { engine.old.log ≡ [] }
+    ensures served { IfOk result (λ e. IfErr e.served (EndsServing engine.old engine.new)) }
+    ensures goes_on { IfOk result (λ e. OnOk e.served (engine.new.halted ≡ engine.old.halted)) }
+    ensures unserved { IfErr result (λ f. (f ≡ Fault.NoMemory) × (engine.new ≡ engine.old)) }
+    ensures base { engine.new.base ≡ engine.old.base }
+    ensures follows { Follows S.Store engine.old engine.new }
+{
+    let opened = Opened::new(alloc)?;
+    work_in::<S, Brand, R, I, W, A, K, C, P>(
+        rt, alloc, opened, engine, reader, writer, terminal, settings, skills, clock,
+    )
+}
+
+fn work_in<S, B, R, I, W, A, K, C, P>(
+    rt: &R,
+    alloc: Global,
+    opened: Opened<S>,
+    engine: &mut Engine<S>,
+    reader: I,
+    writer: W,
+    terminal: Option<P>,
+    settings: Settings,
+    skills: &K,
+    clock: C,
+) -> Result<Ended<W>, Fault>
+where
+    S: Alter + Send + 'static,
+    B: Room + Send + Sync + 'static,
+    R: Threads + Wait + time::Clock + Copy + Send + Drop + 'static,
+    I: BufRead + Drop + Send + 'static,
+    W: Write + Drop + Send + 'static,
+    A: Activity + Drop + Send + 'static,
+    K: Skills<A>,
+    C: Clock + Copy + Send + Drop + 'static,
+    P: Write + Drop + Send + 'static,
+    requires room { IsRoomOf opened B.table B.name B.parts }
+    requires fresh { engine.old.log ≡ [] }
+    ensures served { IfOk result (λ e. IfErr e.served (EndsServing engine.old engine.new)) }
+    ensures goes_on { IfOk result (λ e. OnOk e.served (engine.new.halted ≡ engine.old.halted)) }
+    ensures unserved { IfErr result (λ f. (f ≡ Fault.NoMemory) × (engine.new ≡ engine.old)) }
+    ensures base { engine.new.base ≡ engine.old.base }
+    ensures follows { Follows S.Store engine.old engine.new }
+{
+    let (mut publisher, hub) = Hub::<S, B>::new(alloc, opened)?;
+    let hub = Arc::new(alloc, hub)?;
+    let group = WaitGroup::new(alloc)?;
+    let started = start_all(
+        rt,
+        alloc,
+        &hub,
+        reader,
+        writer,
+        terminal,
+        settings.workers(),
+        skills,
+        clock,
+        &group,
+    );
+    match started {
+        Ok((answering, own_lines)) => {
+            let served = engine.serve(rt, &mut publisher, &clock, settings.batch());
+            // Who answers lines may wait for one, and none is answered any more.
+            let _ = own_lines.send(rt, Input::Stopped);
+            let (writer, status) = answering.join(rt);
+            group.wait(rt);
+            Ok(Ended {
+                writer,
+                status,
+                served,
+            })
+        }
+        Err(fault) => {
+            hub.close(rt);
+            group.wait(rt);
+            Err(fault)
+        }
+    }
+}

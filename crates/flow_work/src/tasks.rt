@@ -1,0 +1,39 @@
+//! What a hub gives out, as the dispatcher takes it.
+ghost use Rattle.std.specs.Prelude.{◌≡◌};
+
+use crate::tally::Tally;
+use flow_hub::feed::Feed;
+use flow_hub::seats::Room;
+use flow_machine::task::Task;
+use flow_pool::dispatcher::Posted;
+use sqlite::Alter;
+use std::sync::Wait;
+
+/// The tasks that are posted to a hub.
+#[derive(Drop)]
+pub(crate) struct Tasks<S: Alter, B: Room> {
+    feed: Feed<S, B>,
+    tally: Tally,
+}
+
+impl<S: Alter, B: Room> Tasks<S, B> {
+    /// The tasks that this hub gives out, counted.
+    pub(crate) fn new(feed: Feed<S, B>, tally: Tally) -> Tasks<S, B>
+        ensures { result.feed ≡ feed }
+    {
+        Tasks { feed, tally }
+    }
+}
+
+impl<S: Alter, B: Room> Posted for Tasks<S, B> {
+    // All that the hub has given out.
+    ghost given = { λ p. p.feed.given };
+
+    fn next<R: Wait>(&mut self, rt: &R) -> Option<Task> {
+        let task = self.feed.next(rt);
+        if task.is_some() {
+            self.tally.begin();
+        }
+        task
+    }
+}

@@ -1,0 +1,84 @@
+//! Payments of orders that go on through any stop: an engine over the file `payments.db`, with two activities of this program's own.
+//! Command lines in, reply lines out; it ends when the input has ended and no order is open.
+#![tactic(auto)]
+
+ghost use Rattle.std.specs.Prelude.{◌≡◌, [], IfOk};
+
+mod shop;
+
+use crate::shop::Shop;
+use flow_base::fault::Fault;
+use flow_cli::drive::Stopped;
+use flow_cli::ending::ended;
+use flow_engine::engine::Engine;
+use flow_settings::settings::Settings;
+use flow_work::clock::SystemClock;
+use flow_work::running::work;
+use sqlite::{Alter, Connection, File, FileStore};
+use std::io::BufReader;
+use std::process::ExitCode;
+use std::sync::Wait;
+use std::thread::Threads;
+use std::time::Clock;
+
+/// The engine runs from here, where both the store and who starts threads are known.
+fn main(rt: HostRuntime) -> ExitCode {
+    let outcome = match open(&rt) {
+        Ok(engine) => {
+            let mut engine = engine;
+            let outcome = keep_running(&rt, &rt, &mut engine);
+            let _ = engine.close().close();
+            stopped_by(outcome)
+        }
+        Err(fault) => Err(Stopped::Refused(fault)),
+    };
+    ExitCode::from(ended(rt.alloc(), &mut rt.stderr(), &outcome))
+}
+
+/// What came of an engine that ran, as the program ends with it.
+fn stopped_by(outcome: Result<u8, Fault>) -> Result<u8, Stopped> {
+    match outcome {
+        Ok(status) => Ok(status),
+        Err(fault) => Err(Stopped::Refused(fault)),
+    }
+}
+
+/// Opens the store, which is made where there is none.
+fn open(rt: &HostRuntime) -> Result<Engine<FileStore<File>>, Fault>
+    ensures { IfOk result (λ e. e.log ≡ []) }
+{
+    let Ok(conn) = Connection::open(rt, "payments.db") else {
+        return Err(Fault::StoreRefused);
+    };
+    match Engine::open(rt.alloc(), conn, Settings::usual()) {
+        Ok(engine) => Ok(engine),
+        Err((fault, _conn)) => Err(fault),
+    }
+}
+
+/// Runs the engine from standard input to standard output.
+fn keep_running<
+    S: Alter + Send + 'static,
+    T: Threads + Wait + Clock + Copy + Send + Drop + 'static,
+>(rt: &HostRuntime, threads: &T, engine: &mut Engine<S>) -> Result<u8, Fault>
+    requires { engine.old.log ≡ [] }
+{
+    let Ok(reader) = BufReader::new(rt.alloc(), rt.reader()) else {
+        return Err(Fault::NoMemory);
+    };
+    let clock = SystemClock::new(*threads);
+    let ended = work(
+        threads,
+        rt.alloc(),
+        engine,
+        reader,
+        rt.stdout(),
+        Settings::usual(),
+        &Shop::Charge,
+        clock,
+    );
+    match ended {
+        Ok(ended) => ended.outcome(),
+        Err(fault) => Err(fault),
+    }
+}
