@@ -1,5 +1,6 @@
 //! The call that keeps an engine running.
 ghost use Rattle.std.specs.Prelude.{◌≡◌, ◌≤◌, [], IfOk};
+ghost use Rattle.flow.specs.Nexts.{IsWithin, next_of, stopped_of};
 
 use crate::store::open_memory;
 use flow_base::fault::Fault;
@@ -72,7 +73,9 @@ pub enum Next {
 }
 
 /// Nothing is left to be done, whatever came of it.
-pub fn done(outcome: Result<u8, Stopped>) -> Result<Next, Stopped> {
+pub fn done(outcome: Result<u8, Stopped>) -> Result<Next, Stopped>
+    ensures { result ≡ next_of outcome }
+{
     match outcome {
         Ok(status) => Ok(Next::Done(status)),
         Err(stopped) => Err(stopped),
@@ -80,7 +83,9 @@ pub fn done(outcome: Result<u8, Stopped>) -> Result<Next, Stopped> {
 }
 
 /// What came of an engine that ran, as the program ends with it.
-pub fn stopped_by(outcome: Result<u8, Fault>) -> Result<u8, Stopped> {
+pub fn stopped_by(outcome: Result<u8, Fault>) -> Result<u8, Stopped>
+    ensures { result ≡ stopped_of outcome }
+{
     match outcome {
         Ok(status) => Ok(status),
         Err(fault) => Err(Stopped::Refused(fault)),
@@ -95,10 +100,7 @@ fn run_in_memory<T: Threads + Wait + Clock + Copy + Send + Drop + 'static>(
     ensures { IfOk result (λ n. n ≤ 3) }
 {
     let mut engine = open_memory(rt, settings)?;
-    match run(rt, threads, &mut engine, settings) {
-        Ok(status) => Ok(status),
-        Err(fault) => Err(Stopped::Refused(fault)),
-    }
+    stopped_by(run(rt, threads, &mut engine, settings))
 }
 
 /// Keeps an engine running over a store in memory; one over a file is left to the caller. Settings that aren't allowed are E96, and
@@ -108,7 +110,9 @@ pub fn keep_running<T: Threads + Wait + Clock + Copy + Send + Drop + 'static>(
     threads: &T,
     base: &str,
     file: Option<&str>,
-) -> Result<Next, Stopped> {
+) -> Result<Next, Stopped>
+    ensures { IfOk result IsWithin }
+{
     match settings_in(rt, file) {
         Ok(settings) => match base {
             "-" => done(run_in_memory(rt, threads, settings)),

@@ -8,8 +8,6 @@ use Rattle.flow_hub.specs.declared.known.Known.{Known}
 use Rattle.flow_hub.specs.declared.known.Outlook.{Outlook}
 use Rattle.flow_hub.specs.declared.rested.Rested.{Rested}
 use Rattle.flow_hub.specs.declared.rested.Rested.TheVariants as rested
-use Rattle.flow_hub.specs.declared.watched.Watched.{Watched}
-use Rattle.flow_hub.specs.declared.watched.Watched.TheVariants as watched
 use Rattle.flow_hub.specs.Knowing.{answered_in}
 use Rattle.flow_hub.specs.Posting.{IsOnce}
 
@@ -61,14 +59,8 @@ pub record IsIdle {S : Type 0} (k : Known S) : Type 0 where
   pub answered : length k.asked ≡ answered_in k
   pub none : k.held ≡ []
 
--- what is told to one who only looks
-abbrev pub IsWatched : {S : Type 0} → Known S → Watched → Type 0
-IsWatched k watched.Closed = k.closed ≡ true
-IsWatched k watched.NoBoard = (k.closed ≡ false) × (k.outlook ≡ None)
-IsWatched k (watched.Says o) = (k.closed ≡ false) × (k.outlook ≡ Some o)
-
 -- what came of waiting for the end of all work for a while
 abbrev pub IsRested : {S : Type 0} → Known S → Rested → Type 0
 IsRested k rested.Idle = IsIdle k
 IsRested k rested.Closed = k.closed ≡ true
-IsRested k rested.NotYet = k.closed ≡ false
+IsRested k (rested.NotYet outlook) = (k.closed ≡ false) × (k.outlook ≡ outlook)

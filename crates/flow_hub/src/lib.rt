@@ -15,4 +15,3 @@ pub mod settled;
 mod state;
 pub mod submitter;
 pub mod ticket;
-pub mod watched;

@@ -1,4 +1,5 @@
 //! What came of waiting for the end of all work for a while.
+use crate::known::Outlook;
 
 /// What came of waiting until nothing is left to be done, for a while.
 #[derive(Clone, Copy, Debug, PartialEq, Eq)]
@@ -7,6 +8,6 @@ pub enum Rested {
     Idle,
     /// The hub is closed.
     Closed,
-    /// Neither, when the wait began.
-    NotYet,
+    /// Neither; and what the last board says, if nothing was answered since.
+    NotYet(Option<Outlook>),
 }

@@ -1,7 +1,7 @@
 //! The calls of a thread that submits.
 ghost use Rattle.std.specs.Prelude.{◌≡◌, ◌≢◌, ◌+◌, ◌^◌, ◌≤◌, true, false, length, IfOk, IfErr, IfSome, IfNone, OnOk};
 ghost use Rattle.flow_hub.specs.Asks.{IsOwn, IsGone, IsTold, Stands};
-ghost use Rattle.flow_hub.specs.Feeding.{IsDueBy, IsIdle, IsRested, IsTickOf, IsWatched};
+ghost use Rattle.flow_hub.specs.Feeding.{IsDueBy, IsIdle, IsRested, IsTickOf};
 ghost use Rattle.flow_hub.specs.Knowing.{IsBefore, IsHistory};
 ghost use Rattle.flow_hub.specs.Seating.{IsSubmitters};
 ghost use Rattle.flow_hub.specs.Submitting.{IsTicket, IsDenied, IsReceipt, IsNotDone, IsSettled};
@@ -13,7 +13,6 @@ use crate::rested::Rested;
 use crate::seats::{Pass, Room};
 use crate::settled::Settled;
 use crate::ticket::{NotDone, Ticket, Why};
-use crate::watched::Watched;
 use flow_base::command::Command;
 use flow_base::number::Moment;
 use flow_machine::submission::Receipt;
@@ -152,20 +151,19 @@ fn rested<S: Alter, B: Room, R: Wait>(
     let mut me = seat;
     let mut state = shared.state.lock(rt);
     for _ in rt.forever() {
-        let (seen, idle) = state.is_idle(&shared.seats, me);
+        let (seen, rest) = state.rest(&shared.seats, me);
         me = seen;
-        if idle {
-            return (me, true);
-        }
-        if state.is_closed() {
-            return (me, false);
+        match rest {
+            Rested::Idle => return (me, true),
+            Rested::Closed => return (me, false),
+            Rested::NotYet(_outlook) => {}
         }
         state = shared.turned.wait(rt, state);
     }
     unreachable!()
 }
 
-/// Waits once, for a pause at most, unless nothing is left to be done or the hub is closed.
+/// Waits once, for a pause at most, unless nothing is left to be done or the hub is closed, and looks again then.
 fn rested_for<S: Alter, B: Room, R: Wait + Timing>(
     rt: &R,
     shared: &Shared<S, B>,
@@ -178,15 +176,13 @@ fn rested_for<S: Alter, B: Room, R: Wait + Timing>(
     ensures grows { IsBefore seat.was result.0.was }
 {
     let mut state = shared.state.lock(rt);
-    let (me, idle) = state.is_idle(&shared.seats, seat);
-    if idle {
-        return (me, Rested::Idle);
+    let (me, rest) = state.rest(&shared.seats, seat);
+    if let Rested::NotYet(_outlook) = rest {
+        let (mut state, _end) = shared.turned.wait_timeout(rt, state, pause);
+        let (me, rest) = state.rest(&shared.seats, me);
+        return (me, rest);
     }
-    if state.is_closed() {
-        return (me, Rested::Closed);
-    }
-    let (_state, _end) = shared.turned.wait_timeout(rt, state, pause);
-    (me, Rested::NotYet)
+    (me, rest)
 }
 
 impl<S: Alter, B: Room> Submitter<S, B> {
@@ -317,7 +313,8 @@ impl<S: Alter, B: Room> Submitter<S, B> {
         idle
     }
 
-    /// Waits as `rest` does, but for a pause at most, and less where something is posted meanwhile.
+    /// Waits as `rest` does, but for a pause at most, and less where something is posted meanwhile. What is left then is for one who
+    /// shows it.
     pub fn rest_for<R: Wait + Timing>(&mut self, rt: &R, pause: Duration) -> Rested
         ensures rested { IsRested self.new.was result }
         ensures grows { IsBefore self.old.was self.new.was }
@@ -328,19 +325,6 @@ impl<S: Alter, B: Room> Submitter<S, B> {
         let (me, rested) = rested_for(rt, shared, me, pause);
         self.seat = me;
         rested
-    }
-
-    /// What the last board says, for one who only shows it. It waits for nothing but the lock.
-    pub fn watch<R: Wait>(&mut self, rt: &R) -> Watched
-        ensures watched { IsWatched self.new.was result }
-        ensures grows { IsBefore self.old.was self.new.was }
-        ensures same { (self.new.id ≡ self.old.id) × (self.new.parts ≡ self.old.parts) × (self.new.amount ≡ self.old.amount) }
-    {
-        let shared = &*self.shared;
-        let me = mem::replace(&mut self.seat, shared.seats.enter());
-        let (me, watched) = shared.state.lock(rt).watch(&shared.seats, me);
-        self.seat = me;
-        watched
     }
 
     /// Takes over the share of another submitter, which is no more.

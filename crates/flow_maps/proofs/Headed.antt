@@ -1,6 +1,6 @@
 -- What a change of a book makes of the heads of its runs.
 use Rattle.std.proofs.Common.{◌≡◌, ◌-◌, ◌+◌, ℕ, zero, suc, Bool, true, false, cond, List, [], ◌∷◌, ◌++◌, length, Option, Some, None, slice_get, slice_set, refl, sym, ap, subst, ◌∙◌, arith, length-append}
-use Rattle.std.specs.Prelude.{IfSome, IfOk, Result, Ok, Err}
+use Rattle.std.specs.Prelude.{IfSome}
 use Rattle.std.specs.BTreeMap.{get}
 use Rattle.std.specs.Ordering.{nat_cmp}
 use Rattle.flow_base.specs.declared.event.Cmd.{Cmd}
@@ -145,12 +145,12 @@ turned t r = λ i. record {
 
 ---- What is made of a head, where there is memory
 
-pub set_head : {E : Type 0} (o : Result Head E) (b : Book) (run : ℕ) (f : Run → Run) (g : Head → Head) → ((r : Run) → head_of (f r) ≡ g (head_of r)) → (k : Head) → head_at b.runs run ≡ Some k
-    → IfOk o (λ h. h ≡ g k) → IfOk o (λ h. head_at (with_run b run f).runs run ≡ Some h)
-set_head (Ok h) b run f g same k at is = head_set b run f g same k at ∙ ap Some (sym is)
-set_head (Err e) b run f g same k at is = tt
+pub set_head : (o : Option Head) (b : Book) (run : ℕ) (f : Run → Run) (g : Head → Head) → ((r : Run) → head_of (f r) ≡ g (head_of r)) → (k : Head) → head_at b.runs run ≡ Some k
+    → IfSome o (λ h. h ≡ g k) → IfSome o (λ h. head_at (with_run b run f).runs run ≡ Some h)
+set_head (Some h) b run f g same k at is = head_set b run f g same k at ∙ ap Some (sym is)
+set_head None b run f g same k at is = tt
 
-pub begun_head : {E : Type 0} (o : Result Head E) (b : Book) (run : ℕ) (t : Turn) (r : Run) (k : Head) → run ≡ length b.runs + 1 → k ≡ head_of r → IfOk o (λ h. h ≡ head_behind t k)
-    → IfOk o (λ h. head_at (b.runs ++ with_turn t r ∷ []) run ≡ Some h)
-begun_head (Ok h) b run t r k at same is = last_head b (with_turn t r) run at ∙ ap Some (turned t r ∙ ap (head_behind t) (sym same) ∙ sym is)
-begun_head (Err e) b run t r k at same is = tt
+pub begun_head : (o : Option Head) (b : Book) (run : ℕ) (t : Turn) (r : Run) (k : Head) → run ≡ length b.runs + 1 → k ≡ head_of r → IfSome o (λ h. h ≡ head_behind t k)
+    → IfSome o (λ h. head_at (b.runs ++ with_turn t r ∷ []) run ≡ Some h)
+begun_head (Some h) b run t r k at same is = last_head b (with_turn t r) run at ∙ ap Some (turned t r ∙ ap (head_behind t) (sym same) ∙ sym is)
+begun_head None b run t r k at same is = tt

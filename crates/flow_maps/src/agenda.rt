@@ -13,7 +13,6 @@ ghost use Rattle.flow_maps.specs.Agenda.{ArePlans, IsPlan, Knows, IsOf, replaced
 ghost use Rattle.flow_maps.specs.OfRuns.{list_of};
 ghost use Rattle.flow_maps.specs.Outlooks.{outlook_of};
 ghost use Rattle.flow_maps.specs.Timers.{Times, timers_at, timers_of};
-ghost use Rattle.std.specs.Prelude.{IfOk};
 
 use crate::left::{tasks_behind, timers_behind, with_attempt};
 use crate::of_runs::OfRuns;
@@ -23,7 +22,7 @@ use crate::turned::is_open_behind;
 use flow_base::book::{Due, Task, Timer, Turn};
 use flow_base::number::{EventId, LAST_NUMBER, Moment, RunId};
 use flow_base::sequence::Sequence;
-use std::alloc::{AllocError, Global};
+use std::alloc::Global;
 
 /// What so many runs wait for.
 #[derive(Drop)]
@@ -48,14 +47,14 @@ fn timers_now(
     timers: Sequence<Timer>,
     count: u64,
     turn: &Turn,
-) -> Result<Sequence<Timer>, AllocError>
-    ensures { IfOk result (λ v. v ≡ rule.timers_now is_open count turn.now timers) }
+) -> Option<Sequence<Timer>>
+    ensures { IfSome result (λ v. v ≡ rule.timers_now is_open count turn.now timers) }
 {
     if !is_open {
-        return Ok(Sequence::new(alloc));
+        return Some(Sequence::new(alloc));
     }
     let timers = timers_behind(alloc, timers, count, turn)?;
-    Ok(timers)
+    Some(timers)
 }
 
 fn put_timers(
@@ -70,8 +69,8 @@ fn put_timers(
 {
     let before = timers.take(run);
     match timers_now(alloc, is_open, before, count, turn) {
-        Ok(list) => timers.put(run, list),
-        Err(_) => false,
+        Some(list) => timers.put(run, list),
+        None => false,
     }
 }
 
@@ -80,8 +79,8 @@ fn put_tasks(alloc: Global, tasks: &mut OfRuns<Task>, run: RunId, count: u64, tu
 {
     let before = tasks.take(run);
     match tasks_behind(alloc, before, count, turn) {
-        Ok(list) => tasks.put(run, list),
-        Err(_) => false,
+        Some(list) => tasks.put(run, list),
+        None => false,
     }
 }
 
@@ -246,8 +245,8 @@ impl Plans {
     {
         let before = self.tasks.take(run);
         match with_attempt(alloc, before, event, attempt, ready) {
-            Ok(list) => self.tasks.put(run, list),
-            Err(_) => false,
+            Some(list) => self.tasks.put(run, list),
+            None => false,
         }
     }
 

@@ -13,10 +13,9 @@ ghost use Rattle.flow_view.specs.Heads as heads;
 ghost use Rattle.flow_view.specs.Heads.{head_at};
 
 use crate::left::{tasks_behind, with_attempt};
-use crate::turned::is_open_behind;
+use crate::turned::{count_behind, is_open_behind};
 use flow_base::book::{Turn, copy_tasks};
-use flow_base::event::Cmd;
-use flow_base::number::{EventId, LAST_NUMBER, Moment, RunId, TextNo};
+use flow_base::number::{EventId, Moment, RunId, TextNo};
 use flow_base::sequence::Sequence;
 use flow_base::text::Key;
 use flow_view::head::Head;
@@ -33,15 +32,24 @@ pub struct Heads {
     known: BTreeMap<u64, Head>,
 }
 
+fn copied_request(alloc: Global, request: &Option<Key>) -> Result<Option<Key>, AllocError>
+    ensures { IfOk result (λ r. r ≡ request.now) }
+{
+    match request {
+        Some(request) => {
+            let request = request.copy(alloc)?;
+            Ok(Some(request))
+        }
+        None => Ok(None),
+    }
+}
+
 /// The same head.
 pub(crate) fn copied(alloc: Global, head: &Head) -> Result<Head, AllocError>
     ensures { IfOk result (λ h. h ≡ head.now) }
 {
     let flow = head.flow.copy(alloc)?;
-    let request = match &head.request {
-        Some(request) => Some(request.copy(alloc)?),
-        None => None,
-    };
+    let request = copied_request(alloc, &head.request)?;
     let tasks = copy_tasks(alloc, head.tasks.as_slice())?;
     Ok(Head {
         flow,
@@ -83,10 +91,7 @@ fn fresh(alloc: Global, flow: &Key, request: &Option<Key>, text: TextNo) -> Resu
     ensures { IfOk result (λ h. h ≡ heads.head_of (unbegun_run flow.now request.now text)) }
 {
     let flow = flow.copy(alloc)?;
-    let request = match request {
-        Some(request) => Some(request.copy(alloc)?),
-        None => None,
-    };
+    let request = copied_request(alloc, request)?;
     Ok(Head {
         flow,
         request,
@@ -98,28 +103,17 @@ fn fresh(alloc: Global, flow: &Key, request: &Option<Key>, text: TextNo) -> Resu
     })
 }
 
-/// How many events a run has behind a turn. No memory holds so many that the last one has no number.
-fn count_behind(count: u64, commands: &[Cmd]) -> Result<u64, AllocError>
-    ensures { IfOk result (λ n. n ≡ count + 1 + length commands.now) }
-{
-    let more = commands.len() as u64;
-    if count >= LAST_NUMBER || more >= LAST_NUMBER {
-        return Err(AllocError);
-    }
-    Ok(count + 1 + more)
-}
-
 /// The head of a run behind a turn more.
-fn behind(alloc: Global, head: Head, turn: &Turn) -> Result<Head, AllocError>
-    ensures { IfOk result (λ h. h ≡ rule.head_behind turn.now head) }
+fn behind(alloc: Global, head: Head, turn: &Turn) -> Option<Head>
+    ensures { IfSome result (λ h. h ≡ rule.head_behind turn.now head) }
 {
     let mut head = head;
     let count = head.events;
-    head.events = count_behind(count, turn.commands.as_slice())?;
+    head.events = count_behind(count, turn.commands.as_slice().len())?;
     head.moment = turn.at;
     head.is_open = is_open_behind(head.is_open, turn);
     head.tasks = tasks_behind(alloc, head.tasks, count, turn)?;
-    Ok(head)
+    Some(head)
 }
 
 /// The head of a run behind its first turn.
@@ -129,27 +123,21 @@ fn first(
     request: &Option<Key>,
     text: TextNo,
     turn: &Turn,
-) -> Result<Head, AllocError>
-    ensures { IfOk result (λ h. h ≡ rule.head_behind turn.now (heads.head_of (unbegun_run flow.now request.now text))) }
+) -> Option<Head>
+    ensures { IfSome result (λ h. h ≡ rule.head_behind turn.now (heads.head_of (unbegun_run flow.now request.now text))) }
 {
-    let head = fresh(alloc, flow, request, text)?;
+    let head = fresh(alloc, flow, request, text).ok()?;
     let head = behind(alloc, head, turn)?;
-    Ok(head)
+    Some(head)
 }
 
 /// The same head, of whose activities that of an event is at another attempt.
-fn attempted(
-    alloc: Global,
-    head: Head,
-    event: EventId,
-    attempt: u64,
-    ready: Moment,
-) -> Result<Head, AllocError>
-    ensures { IfOk result (λ h. h ≡ record head { tasks = map (at_attempt event attempt ready) head.tasks }) }
+fn attempted(alloc: Global, head: Head, event: EventId, attempt: u64, ready: Moment) -> Option<Head>
+    ensures { IfSome result (λ h. h ≡ record head { tasks = map (at_attempt event attempt ready) head.tasks }) }
 {
     let mut head = head;
     head.tasks = with_attempt(alloc, head.tasks, event, attempt, ready)?;
-    Ok(head)
+    Some(head)
 }
 
 impl Heads {
@@ -215,13 +203,13 @@ impl Heads {
         }
     }
 
-    /// The same of a head that may have been made; where there was no memory for it nothing is known of the run.
-    fn put_if(&mut self, run: RunId, head: Result<Head, AllocError>)
-        ensures { (b : Book) → IfOk head (λ h. head_at b.runs run ≡ Some h) → KnowsHeads self.old b → KnowsHeads self.new b }
+    /// The same of a head that may have been made; where there is none, nothing is known of the run.
+    fn put_if(&mut self, run: RunId, head: Option<Head>)
+        ensures { (b : Book) → IfSome head (λ h. head_at b.runs run ≡ Some h) → KnowsHeads self.old b → KnowsHeads self.new b }
     {
         match head {
-            Ok(head) => self.put(run, head),
-            Err(_) => {}
+            Some(head) => self.put(run, head),
+            None => {}
         }
     }
 
@@ -232,7 +220,7 @@ impl Heads {
         if self.known.contains_key(&run.get()) {
             return;
         }
-        let head = copied(self.alloc, head);
+        let head = copied_if(self.alloc, head);
         self.put_if(run, head);
     }
 

@@ -1,10 +1,11 @@
-//! Whether a turn leaves its run open.
-ghost use Rattle.std.specs.Prelude.{◌≡◌};
+//! What a turn leaves of its run: how many events, and whether it is open.
+ghost use Rattle.std.specs.Prelude.{◌≡◌, ◌+◌, IfSome};
 ghost use Rattle.flow_maps.specs.Turned as words;
 
 use flow_base::book::Turn;
 use flow_base::effect::{Effect, effect_of_command, effect_of_input};
 use flow_base::event::State;
+use flow_base::number::LAST_NUMBER;
 
 fn is_open_by(was: bool, effect: Effect) -> bool
     ensures { result ≡ words.is_open_by was effect }
@@ -14,6 +15,17 @@ fn is_open_by(was: bool, effect: Effect) -> bool
         Effect::Closes(state) => matches!(state, State::Open),
         _ => was,
     }
+}
+
+/// How many events a run of so many has behind a turn of so many commands. None where the last one would have no number.
+pub(crate) fn count_behind(count: u64, commands: usize) -> Option<u64>
+    ensures { IfSome result (λ n. n ≡ count + 1 + commands) }
+{
+    let more = commands as u64;
+    if count >= LAST_NUMBER || more >= LAST_NUMBER {
+        return None;
+    }
+    Some(count + 1 + more)
 }
 
 /// Whether a run that was open or not is so behind a turn.

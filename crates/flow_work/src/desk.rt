@@ -277,15 +277,14 @@ impl<S: Alter, B: Room, W: Write + Drop> Desk<S, B, W> {
     ) {
         let mut progress = progress;
         'rests: for _ in rt.forever() {
-            if self
+            let rest = self
                 .submitter
-                .rest_for(rt, Duration::from_millis(LONGEST_REST))
-                != Rested::NotYet
-            {
+                .rest_for(rt, Duration::from_millis(LONGEST_REST));
+            let Rested::NotYet(outlook) = rest else {
                 progress.clear();
                 return;
-            }
-            progress.draw(self.submitter.watch(rt), clock.now());
+            };
+            progress.draw(outlook, clock.now());
         }
         unreachable!()
     }

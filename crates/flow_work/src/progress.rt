@@ -5,7 +5,6 @@ ghost use Rattle.flow_work.specs.Showing.{next_text, pause_text, progress_text};
 use crate::tally::Tally;
 use flow_base::number::Moment;
 use flow_hub::known::Outlook;
-use flow_hub::watched::Watched;
 use std::alloc::{AllocError, Global};
 use std::io::Write;
 
@@ -83,12 +82,12 @@ impl<P: Write + Drop> Progress<P> {
         let _flushed = self.terminal.flush();
     }
 
-    /// Shows what is left, once a second at most.
-    pub(crate) fn draw(&mut self, watched: Watched, now: Moment) {
+    /// Shows what is left, where that is known, once a second at most.
+    pub(crate) fn draw(&mut self, outlook: Option<Outlook>, now: Moment) {
         if self.is_early(now) {
             return;
         }
-        let Watched::Says(outlook) = watched else {
+        let Some(outlook) = outlook else {
             return;
         };
         if let Ok(line) = progress_line(self.alloc, outlook, self.tally.count(), now) {

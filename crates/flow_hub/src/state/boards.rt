@@ -5,14 +5,14 @@ ghost use Rattle.flow_hub.specs.Halls.{posted_on, skipped, gave};
 ghost use Rattle.flow_hub.specs.Knowing.{IsBefore, IsSamePart, answered_in, nothing};
 ghost use Rattle.flow_hub.specs.Posting.{HasKeys, IsOnce};
 ghost use Rattle.flow_hub.specs.Publishing.{HasPosted, HasSkipped};
-ghost use Rattle.flow_hub.specs.Feeding.{HasGiven, IsIdle, IsWatched, due_in};
+ghost use Rattle.flow_hub.specs.Feeding.{HasGiven, IsIdle, IsRested, due_in};
 ghost use Rattle.flow_hub.specs.Seating.{seeing, IsGivers, IsPublishers, IsSubmitters};
 
 use super::State;
 use crate::known::Outlook;
 use crate::posting::{Keys, add_all, push_marked};
+use crate::rested::Rested;
 use crate::seats::{Pass, Room, Seats};
-use crate::watched::Watched;
 use flow_base::number::Moment;
 use flow_commit::board::Board;
 use flow_machine::task::Task;
@@ -113,24 +113,6 @@ impl<S: Alter, B: Room> State<S, B> {
         (me, outlook.due)
     }
 
-    /// What is told to one who only looks.
-    pub(crate) fn watch(&mut self, seats: &Seats<S, B>, me: Pass<S, B>) -> (Pass<S, B>, Watched)
-        requires seat { IsSubmitters me }
-        ensures same { self.new ≡ self.old }
-        ensures watched { IsWatched result.0.was result.1 }
-        ensures seat { result.0 ≡ seeing false false self.new.known }
-        ensures grows { IsBefore me.was result.0.was }
-    {
-        let me = self.see(seats, me);
-        if self.known.closed {
-            return (me, Watched::Closed);
-        }
-        let Some(outlook) = self.known.outlook else {
-            return (me, Watched::NoBoard);
-        };
-        (me, Watched::Says(outlook))
-    }
-
     /// Whether no board could be made since what was taken last was answered.
     pub(crate) fn has_no_board(&self) -> bool
         ensures { result ≡ true → (self.now.known.boarded ≡ true) × (self.now.known.outlook ≡ None) }
@@ -163,5 +145,23 @@ impl<S: Alter, B: Room> State<S, B> {
             return (me, false);
         }
         (me, true)
+    }
+
+    /// Whether nothing is left to be done, and what is if not.
+    pub(crate) fn rest(&mut self, seats: &Seats<S, B>, me: Pass<S, B>) -> (Pass<S, B>, Rested)
+        requires seat { IsSubmitters me }
+        ensures same { self.new ≡ self.old }
+        ensures rested { IsRested result.0.was result.1 }
+        ensures seat { result.0 ≡ seeing false false self.new.known }
+        ensures grows { IsBefore me.was result.0.was }
+    {
+        let (me, idle) = self.is_idle(seats, me);
+        if idle {
+            return (me, Rested::Idle);
+        }
+        if self.known.closed {
+            return (me, Rested::Closed);
+        }
+        (me, Rested::NotYet(self.known.outlook))
     }
 }
