@@ -11,3 +11,4 @@ pub mod Answering
 pub mod Batches
 pub mod Stopping
 pub mod Histories
+pub mod Works

@@ -66,3 +66,8 @@ pub record ReadLines (n : ℕ) (bytes : List ℕ) (left : Option (List ℕ)) : T
   pub rest : List ℕ
   pub left_is : left ≡ Some rest
   pub count_is : n + length (lines_of rest) ≤ length (lines_of bytes)
+
+-- Of an input whose bytes aren't known, where some batch over some book has the stop. E80 may stand behind more lines than can be
+-- counted.
+abbrev pub CausedHere : Stopped → (Book → List Command → Stop → Type 0) → Type 0
+CausedHere e stops = CausedStop e (λ s. (book : Book) × ((commands : List Command) × stops book commands s)) (Unit {0})

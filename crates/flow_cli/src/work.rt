@@ -4,8 +4,8 @@ ghost use Rattle.flow_base.specs.declared.code.Code.TheVariants as codes;
 ghost use Rattle.flow_base.specs.declared.command.Command.TheVariants as commands;
 ghost use Rattle.flow_cli.specs.Answering.{AllAnswered, OfBatch, StatusWithin, StopsWithin};
 ghost use Rattle.flow_cli.specs.Driving.{lines_of, stopped_status};
-ghost use Rattle.flow_cli.specs.Histories.{TellsHistory, BeginsHistory, HasNoRun, CausedUnwritten};
-ghost use Rattle.flow_cli.specs.Stopping.{CausedStop, StoppedBy};
+ghost use Rattle.flow_cli.specs.Histories.{TellsHistory, BeginsHistory, HasHistory, HasNoRun, CausedUnwritten};
+ghost use Rattle.flow_cli.specs.Stopping.{CausedHere, CausedStop, StoppedBy};
 ghost use Rattle.flow_cli.specs.Working.{OfWork};
 ghost use Rattle.flow_cli.specs.declared.drive.Stopped.TheVariants.{Refused};
 
@@ -68,8 +68,13 @@ pub fn perform_here<E: Answering>(
     engine: &mut E,
     work: &Work,
 ) -> Result<u8, Stopped>
-    ensures done { IfOk result (λ n. OfWork work.now (λ most. n ≤ 3) (λ run. n ≡ 0)) }
+    ensures done { IfOk result (λ n. OfWork work.now (λ most. StatusWithin (OfBatch most E.gives_up) n) (λ run. (n ≡ 0) × (E.is_sure engine.new → HasHistory E.rules (E.book engine.old) (E.book engine.new) run))) }
     ensures early { IfErr result (λ e. OfWork work.now (λ most. stopped_status e ≡ 3) (λ run. (e ≡ Refused Fault.NoRun) ⊎ (stopped_status e ≡ 3))) }
+    ensures cause { IfErr result (λ e. OfWork work.now
+        (λ most. CausedHere e (OfBatch most (E.stops engine.new)))
+        (λ run. CausedUnwritten e (E.is_sure engine.new → HasNoRun E.rules (E.book engine.old) (E.book engine.new) run) (E.is_sure engine.new → E.gives_up (E.book engine.old) (commands.History run ∷ []) codes.StoreRefused) (E.stops engine.new (E.book engine.old) (commands.History run ∷ [])))) }
+    ensures sure { E.is_sure engine.new → E.is_sure engine.old }
+    ensures follows { (a : E) → E.follows a engine.old → E.follows a engine.new }
 {
     let Ok(mut reader) = BufReader::new(rt.alloc(), rt.reader()) else {
         return Err(Stopped::Refused(Fault::NoMemory));

@@ -9,6 +9,7 @@ use crate::publisher::Publisher;
 use crate::seats::{Opened, Room, Seats};
 use crate::state::State;
 use crate::submitter::Submitter;
+use crate::waits::Waits;
 use sqlite::Alter;
 use std::alloc::{AllocError, Global};
 use std::sync::{Arc, Condvar, Mutex, Wait};
@@ -20,8 +21,8 @@ pub(crate) struct Shared<S: Alter, B: Room> {
     pub(crate) state: Mutex<State<S, B>>,
     /// Told when something waits, and at closing.
     pub(crate) asked: Condvar,
-    /// Told when something was answered.
-    pub(crate) answered: Condvar,
+    /// Told when something was answered, by ticket.
+    pub(crate) answered: Waits,
     /// Told when tasks were posted, and at closing.
     pub(crate) posted: Condvar,
     /// Told when a board was posted, and at closing.
@@ -32,7 +33,7 @@ impl<S: Alter, B: Room> Shared<S, B> {
     /// Wakes all who wait.
     pub(crate) fn wake(&self) {
         self.asked.notify_all();
-        self.answered.notify_all();
+        self.answered.tell_all();
         self.posted.notify_all();
         self.turned.notify_all();
     }
@@ -59,7 +60,7 @@ impl<S: Alter, B: Room> Hub<S, B> {
             seats,
             state: Mutex::new(state),
             asked: Condvar::new(),
-            answered: Condvar::new(),
+            answered: Waits::new(),
             posted: Condvar::new(),
             turned: Condvar::new(),
         };

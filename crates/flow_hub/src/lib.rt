@@ -15,3 +15,4 @@ pub mod settled;
 mod state;
 pub mod submitter;
 pub mod ticket;
+mod waits;

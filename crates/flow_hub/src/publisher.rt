@@ -9,6 +9,7 @@ ghost use Rattle.flow_hub.specs.Seating.{IsPublishers};
 use crate::hub::Shared;
 use crate::posting::Keys;
 use crate::seats::{Pass, Room};
+use crate::waits::{told_by, told_of};
 use flow_base::code::Code;
 use flow_commit::board::{Board, Posted};
 use flow_commit::stamp::Stamp;
@@ -124,13 +125,14 @@ impl<S: Alter, B: Room> Publisher<S, B> {
         ensures legal { IsHistory S.Store self.new }
         ensures grows { IsBefore self.old self.new }
     {
+        let told = told_by(receipts.as_slice());
         let shared = &*self.shared;
         let me = mem::replace(&mut self.seat, shared.seats.enter());
         self.seat = shared
             .state
             .lock(rt)
             .publish(&shared.seats, me, receipts, stamp);
-        shared.answered.notify_all();
+        shared.answered.tell(&told);
     }
 
     /// Answers all that was taken by a code.
@@ -139,10 +141,11 @@ impl<S: Alter, B: Room> Publisher<S, B> {
         ensures refused { HasRefused self.old self.new all.items code }
         ensures grows { IsBefore self.old self.new }
     {
+        let told = told_of(all.as_slice());
         let shared = &*self.shared;
         let me = mem::replace(&mut self.seat, shared.seats.enter());
         self.seat = shared.state.lock(rt).refuse(&shared.seats, me, all, code);
-        shared.answered.notify_all();
+        shared.answered.tell(&told);
     }
 
     /// Posts those of a board's tasks that it hasn't posted before, for those who give them out, and what the board says beside. By

@@ -72,7 +72,7 @@ fn awaited<S: Alter, B: Room, R: Wait>(
         if let Some(answer) = answer {
             return (me, answer);
         }
-        state = shared.answered.wait(rt, state);
+        state = shared.answered.of(ticket).wait(rt, state);
     }
     unreachable!()
 }

@@ -7,7 +7,7 @@ loop-init g c = (before_self c.args.seat.was, search rules, search rules, search
 
 pub loop-preserved : goal.loop-preserved
 loop-preserved g c = (
-  before_trans c.args.seat.was c.loop.me.was c.is_idle-seen.result.0.was c.loop.invariant.0 c.is_idle-seen.ensures.grows,
+  before_trans c.args.seat.was c.loop.me.was c.rest-seen.result.0.was c.loop.invariant.0 c.rest-seen.ensures.grows,
   search rules,
   search rules,
   search rules,

@@ -1,0 +1,89 @@
+//! Who waits for an answer, by ticket, so that an answer wakes few beside the one that it is for.
+ghost use Rattle.std.specs.Prelude.{◌<◌};
+
+use flow_machine::submission::{Receipt, Taken};
+use std::sync::Condvar;
+
+/// How many conditions there are.
+const CONDITIONS: u64 = 16;
+
+/// Which of the conditions are to be told.
+pub(crate) type Told = [bool; 16];
+
+/// Conditions, each for every sixteenth ticket.
+#[derive(Drop)]
+pub(crate) struct Waits {
+    conditions: [Condvar; 16],
+}
+
+/// Where the condition of a ticket stands.
+fn place_of(ticket: u64) -> usize
+    ensures { result < 16 }
+{
+    (ticket % CONDITIONS) as usize
+}
+
+impl Waits {
+    /// Nobody waits.
+    pub(crate) fn new() -> Waits {
+        Waits {
+            conditions: [
+                Condvar::new(),
+                Condvar::new(),
+                Condvar::new(),
+                Condvar::new(),
+                Condvar::new(),
+                Condvar::new(),
+                Condvar::new(),
+                Condvar::new(),
+                Condvar::new(),
+                Condvar::new(),
+                Condvar::new(),
+                Condvar::new(),
+                Condvar::new(),
+                Condvar::new(),
+                Condvar::new(),
+                Condvar::new(),
+            ],
+        }
+    }
+
+    /// The condition that is told when a ticket has its answer.
+    pub(crate) fn of(&self, ticket: u64) -> &Condvar {
+        &self.conditions[place_of(ticket)]
+    }
+
+    /// Tells these of the conditions.
+    pub(crate) fn tell(&self, told: &Told) {
+        for place in 0..16 {
+            if told[place] {
+                self.conditions[place].notify_all();
+            }
+        }
+    }
+
+    /// Tells all of them.
+    pub(crate) fn tell_all(&self) {
+        for condition in self.conditions.as_slice() {
+            condition.notify_all();
+        }
+    }
+}
+
+/// The conditions of these receipts' tickets.
+pub(crate) fn told_by(receipts: &[Receipt]) -> Told {
+    let mut told = [false; 16];
+    for receipt in receipts {
+        told[place_of(receipt.ticket)] = true;
+    }
+    told
+}
+
+/// The conditions of what was taken.
+pub(crate) fn told_of(all: &[Taken]) -> Told {
+    let mut told = [false; 16];
+    for taken in all {
+        told[place_of(taken.ticket)] = true;
+    }
+    told
+}
