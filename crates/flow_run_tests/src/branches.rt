@@ -2,6 +2,7 @@
 use crate::numbers::moment;
 use crate::tape::{Asks, Comes, NO, Turn, first_other, program};
 use flow_base::event::{Cause, Cmd};
+use flow_check::checked::Checked;
 use flow_run::stance::{Answers, Stance};
 use std::alloc::Global;
 use std::test::Fail;
@@ -83,18 +84,29 @@ fn the_left_wait_takes_the_signal(rt: HostRuntime) -> Result<(), Fail> {
     Ok(())
 }
 
-// A program of so many branches, each with so many sleeps side by side.
-fn sleepers(alloc: Global, outer: u32, inner: u32) -> Result<String, Fail> {
-    let mut text = String::new(alloc);
-    text.push_str("workflow a() { parallel {")?;
-    for _branch in 0..outer {
-        text.push_str(" { parallel {")?;
-        for _sleep in 0..inner {
-            text.push_str(" { sleep 5; }")?;
-        }
-        text.push_str(" } }")?;
+// A branch with so many sleeps side by side.
+fn push_branch(text: &mut String, sleeps: u32) -> Result<(), Fail> {
+    text.push_str(" { parallel {")?;
+    for _sleep in 0..sleeps {
+        text.push_str(" { sleep 5; }")?;
     }
     text.push_str(" } }")?;
+    Ok(())
+}
+
+// A program of so many branches, each with so many sleeps.
+fn push_program(text: &mut String, branches: u32, sleeps: u32) -> Result<(), Fail> {
+    text.push_str("workflow a() { parallel {")?;
+    for _branch in 0..branches {
+        push_branch(text, sleeps)?;
+    }
+    text.push_str(" } }")?;
+    Ok(())
+}
+
+fn sleepers(alloc: Global, branches: u32, sleeps: u32) -> Result<String, Fail> {
+    let mut text = String::new(alloc);
+    push_program(&mut text, branches, sleeps)?;
     Ok(text)
 }
 
@@ -112,13 +124,22 @@ fn counted(commands: &[Cmd]) -> (u32, u32) {
     (timers, failures)
 }
 
-// The same of the first turn of such a program.
-fn begins(alloc: Global, outer: u32, inner: u32) -> Result<(u32, u32), Fail> {
-    let text = sleepers(alloc, outer, inner)?;
-    let program = program(alloc, text.as_str())?;
+// The same of the first turn of a program.
+fn begun(alloc: Global, program: &Checked) -> Result<(u32, u32), Fail> {
     let at = moment(10)?;
-    let (_stance, commands) = Stance::first(alloc, &program, &[], at, Answers::Fresh)?;
+    let (_stance, commands) = Stance::first(alloc, program, &[], at, Answers::Fresh)?;
     Ok(counted(&commands))
+}
+
+fn begun_by(alloc: Global, text: &str) -> Result<(u32, u32), Fail> {
+    let program = program(alloc, text)?;
+    begun(alloc, &program)
+}
+
+// The same of such a program.
+fn begins(alloc: Global, branches: u32, sleeps: u32) -> Result<(u32, u32), Fail> {
+    let text = sleepers(alloc, branches, sleeps)?;
+    begun_by(alloc, text.as_str())
 }
 
 #[test]

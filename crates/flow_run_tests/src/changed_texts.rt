@@ -1,13 +1,8 @@
 //! The history of a run under its own text and under others: one that calls with another argument, and one with a patch.
-use crate::numbers::{event, event_id};
-use crate::tape::program;
-use flow_base::event::{Cmd, Event, Input, State, What};
-use flow_base::sequence::Sequence;
-use flow_base::text::{Key, Text};
-use flow_base::value::{Kind, Value};
-use flow_match::replay::replay;
+use crate::recorded::{Row, Says, left, tells};
+use crate::tape::Comes;
+use flow_base::event::State;
 use std::alloc::Global;
-use std::string::ToString;
 use std::test::Fail;
 
 const OLD: &str =
@@ -19,102 +14,62 @@ const OTHER: &str =
 const PATCHED: &str =
     "workflow d() { activity p(text) -> int; let r = 0; patch \"v2\" { r = call p(\"usd\"); } else { r = call p(\"eur\"); } return r; }";
 
-fn started(alloc: Global) -> Result<Event, Fail> {
-    event(1, 0, What::Came(Input::Started(Sequence::new(alloc))))
-}
-
-// The marker of a patch, as second event.
-fn marker(alloc: Global, patch: &str) -> Result<Event, Fail> {
-    let patch = Key::new(alloc, patch)?;
-    event(2, 0, What::Asked(Cmd::RecordMarker(patch)))
-}
-
-// The call with this text, as event of this number.
-fn called(alloc: Global, id: u64, currency: &str) -> Result<Event, Fail> {
-    let activity = Key::new(alloc, "p")?;
-    let currency = Value::Text(Text::new(alloc, currency)?);
-    let arguments = Sequence::from_vec(vec![in alloc; currency]?);
-    let call = Cmd::Schedule(activity, arguments, 1, 0, Kind::Int);
-    event(id, 0, What::Asked(call))
-}
-
-// That the activity of the second event gave 5.
-fn completed() -> Result<Event, Fail> {
-    let completed = Input::ActivityCompleted(event_id(2)?, Value::Int(5));
-    event(3, 1, What::Came(completed))
-}
-
-fn ended() -> Result<Event, Fail> {
-    event(4, 1, What::Asked(Cmd::Complete(Value::Int(5))))
-}
+const STARTED: Row = (1, 0, Says::Came(Comes::Start));
 
 // The whole history of a run of the old text.
-fn history(alloc: Global) -> Result<Vec<Event>, Fail> {
-    Ok(vec![in alloc;
-        started(alloc)?,
-        called(alloc, 2, "eur")?,
-        completed()?,
-        ended()?,
-    ]?)
-}
+const HISTORY: [Row; 4] = [
+    STARTED,
+    (2, 0, Says::Calls("p", "eur")),
+    (3, 1, Says::Came(Comes::Gives(2, 5))),
+    (4, 1, Says::Ends(5)),
+];
 
 // The start of a run, the marker of a patch, and the call with this text.
-fn marked(alloc: Global, patch: &str, currency: &str) -> Result<Vec<Event>, Fail> {
-    Ok(vec![in alloc;
-        started(alloc)?,
-        marker(alloc, patch)?,
-        called(alloc, 3, currency)?,
-    ]?)
+fn marked(patch: &'static str, currency: &'static str) -> [Row; 3] {
+    [
+        STARTED,
+        (2, 0, Says::Marker(patch)),
+        (3, 0, Says::Calls("p", currency)),
+    ]
 }
 
-// What a replay under a text says of these events, and nothing where they stand.
-fn told(alloc: Global, text: &str, events: &[Event]) -> Result<String, Fail> {
-    let program = program(alloc, text)?;
-    match replay(alloc, &program, events) {
-        Ok(_stance) => Ok(String::new(alloc)),
-        Err(fault) => Ok(fault.to_string(alloc)?),
-    }
-}
-
-// Where a history leaves its run under a text: its state, and how many events it has.
-fn left(alloc: Global, text: &str, events: &[Event]) -> Result<(State, u64), Fail> {
-    let program = program(alloc, text)?;
-    let stance = replay(alloc, &program, events)?;
-    Ok((stance.state(), stance.events()))
+// Whether a history leaves its run under a text with this state and so many events.
+fn leaves(
+    alloc: Global,
+    text: &str,
+    rows: &[Row],
+    state: State,
+    events: u64,
+) -> Result<bool, Fail> {
+    let left = left(alloc, text, rows)?;
+    Ok(left.state == state && left.events == events)
 }
 
 #[test]
 fn a_history_stands_under_a_patch_around_its_call(rt: HostRuntime) -> Result<(), Fail> {
-    let events = history(rt.alloc())?;
-    let old = left(rt.alloc(), OLD, &events)?;
-    let patched = left(rt.alloc(), PATCHED, &events)?;
-    assert!(rt; old == (State::Completed, 4) && patched == old);
+    let old = leaves(rt.alloc(), OLD, &HISTORY, State::Completed, 4)?;
+    let patched = leaves(rt.alloc(), PATCHED, &HISTORY, State::Completed, 4)?;
+    assert!(rt; old && patched);
     Ok(())
 }
 
 #[test]
 fn a_history_differs_from_another_call(rt: HostRuntime) -> Result<(), Fail> {
-    let events = history(rt.alloc())?;
-    let told = told(rt.alloc(), OTHER, &events)?;
-    assert!(rt; told.as_str() == "E51 at 2");
+    assert!(rt; tells(rt.alloc(), OTHER, &HISTORY, "E51 at 2")?);
     Ok(())
 }
 
 #[test]
 fn a_marker_stands_for_its_own_list(rt: HostRuntime) -> Result<(), Fail> {
-    let events = marked(rt.alloc(), "v2", "usd")?;
-    let left = left(rt.alloc(), PATCHED, &events)?;
-    assert!(rt; left == (State::Open, 3));
-    let events = marked(rt.alloc(), "v2", "eur")?;
-    let other = told(rt.alloc(), PATCHED, &events)?;
-    assert!(rt; other.as_str() == "E51 at 3");
+    let stands = leaves(rt.alloc(), PATCHED, &marked("v2", "usd"), State::Open, 3)?;
+    let other = tells(rt.alloc(), PATCHED, &marked("v2", "eur"), "E51 at 3")?;
+    assert!(rt; stands && other);
     Ok(())
 }
 
 #[test]
 fn a_marker_of_another_patch_stands_for_none(rt: HostRuntime) -> Result<(), Fail> {
-    let events = marked(rt.alloc(), "v3", "usd")?;
-    let other = told(rt.alloc(), PATCHED, &events)?;
-    assert!(rt; other.as_str() == "E50 at 2");
+    let rows = marked("v3", "usd");
+    assert!(rt; tells(rt.alloc(), PATCHED, &rows, "E50 at 2")?);
     Ok(())
 }

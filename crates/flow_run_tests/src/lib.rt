@@ -14,6 +14,8 @@ mod patches;
 #[cfg(test)]
 mod plain_turns;
 #[cfg(test)]
+mod recorded;
+#[cfg(test)]
 mod replays;
 #[cfg(test)]
 mod rows;

@@ -1,5 +1,4 @@
-//! Moments, numbers of events, and events, for the tests.
-use flow_base::event::{Event, What};
+//! Moments and numbers of events, for the tests.
 use flow_base::number::{EventId, Moment};
 use std::test::Fail;
 
@@ -15,10 +14,4 @@ pub fn event_id(id: u64) -> Result<EventId, Fail> {
         Some(id) => Ok(id),
         None => Err(Fail::from("no id")),
     }
-}
-
-pub fn event(id: u64, at: u64, what: What) -> Result<Event, Fail> {
-    let id = event_id(id)?;
-    let at = moment(at)?;
-    Ok(Event { id, at, what })
 }

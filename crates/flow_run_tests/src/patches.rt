@@ -1,37 +1,37 @@
 //! Patches, in fresh turns and in recorded ones.
-use crate::numbers::{event_id, moment};
+use crate::numbers::moment;
+use crate::recorded::{Says, history};
 use crate::tape::{Asks, NO, are, program};
-use flow_base::event::{Cmd, Event, What};
-use flow_base::text::Key;
+use flow_check::checked::Checked;
 use flow_run::stance::{Answers, Stance};
 use std::alloc::Global;
 use std::test::Fail;
 
-// Whether a run asks this in its first turn, which is answered so.
-fn begins(alloc: Global, text: &str, answers: Answers, wanted: [Asks; 3]) -> Result<bool, Fail> {
-    let program = program(alloc, text)?;
+// Whether a run of a program asks this in its first turn, which is answered so.
+fn asks(
+    alloc: Global,
+    program: &Checked,
+    answers: Answers,
+    wanted: [Asks; 3],
+) -> Result<bool, Fail> {
     let at = moment(10)?;
-    let (_stance, commands) = Stance::first(alloc, &program, &[], at, answers)?;
+    let (_stance, commands) = Stance::first(alloc, program, &[], at, answers)?;
     Ok(are(&commands, wanted))
 }
 
-// The marker of a patch, as event of this number.
-fn marker(alloc: Global, number: u64, patch: &str) -> Result<Event, Fail> {
-    let id = event_id(number)?;
-    let at = moment(10)?;
-    let patch = Key::new(alloc, patch)?;
-    let what = What::Asked(Cmd::RecordMarker(patch));
-    Ok(Event { id, at, what })
+fn begins(alloc: Global, text: &str, answers: Answers, wanted: [Asks; 3]) -> Result<bool, Fail> {
+    let program = program(alloc, text)?;
+    asks(alloc, &program, answers, wanted)
 }
 
-// Whether a run asks this in its first turn, behind whose input a history has the marker of this patch alone.
+// The same, behind whose input a history has the marker of this patch alone.
 fn begins_with_marker(
     alloc: Global,
     text: &str,
-    patch: &str,
+    patch: &'static str,
     wanted: [Asks; 3],
 ) -> Result<bool, Fail> {
-    let later = vec![in alloc; marker(alloc, 2, patch)?]?;
+    let later = history(alloc, &[(2, 10, Says::Marker(patch))])?;
     begins(alloc, text, Answers::Recorded(&later), wanted)
 }
 

@@ -1,9 +1,11 @@
 //! What comes to a run, turn by turn, and what it asks: of a plain run and of a stance alike.
 use crate::numbers::{event_id, moment};
-use flow_base::event::{Cause, Cmd, Input};
+use flow_base::event::{Cause, Cmd, Input, State};
+use flow_base::number::Moment;
 use flow_base::sequence::Sequence;
+use flow_base::syntax::Program;
 use flow_base::text::{Key, Text};
-use flow_base::value::Value;
+use flow_base::value::{Kind, Value};
 use flow_check::check::check;
 use flow_check::checked::Checked;
 use flow_run::fault::RunFault;
@@ -30,6 +32,8 @@ pub enum Comes {
     Fails(u64, &'static str),
     /// That the timer of an event fired.
     Fires(u64),
+    /// That it is to be ended.
+    Terminated,
 }
 
 /// A command that a turn is to ask.
@@ -39,10 +43,16 @@ pub enum Asks {
     Nothing,
     /// The run isn't to take what comes.
     Refuses,
+    /// The run is to be closed, and so isn't to take what comes.
+    Closed,
     /// The activity of this name.
     Call(&'static str),
     /// The activity of this name, with a number.
     CallWith(&'static str, i64),
+    /// An activity that is tried so often, with this pause.
+    Tries(u64, u64),
+    /// An activity that gives a number.
+    Number,
     /// A timer that is due at this moment.
     Timer(u64),
     /// That the timer of an event is cancelled.
@@ -80,7 +90,9 @@ fn is_nothing(wanted: Asks) -> bool {
 
 fn is(command: &Cmd, wanted: Asks) -> bool {
     match command {
-        Cmd::Schedule(name, values, _, _, _) => is_call(name, values.as_slice(), wanted),
+        Cmd::Schedule(name, values, tries, every, gives) => {
+            is_call(name, values.as_slice(), wanted) || is_tried(*tries, *every, *gives, wanted)
+        }
         Cmd::StartTimer(at) => matches!(wanted, Asks::Timer(due) if due == at.get()),
         Cmd::CancelTimer(id) => matches!(wanted, Asks::Cancel(n) if n == id.get()),
         Cmd::RecordMarker(id) => matches!(wanted, Asks::Marker(words) if words == id.as_str()),
@@ -102,6 +114,14 @@ fn is_call(name: &Key, values: &[Value], wanted: Asks) -> bool {
     }
 }
 
+fn is_tried(tries: u64, every: u64, gives: Kind, wanted: Asks) -> bool {
+    match wanted {
+        Asks::Tries(n, m) => n == tries && m == every,
+        Asks::Number => gives == Kind::Int,
+        _ => false,
+    }
+}
+
 fn is_end(value: &Value, wanted: Asks) -> bool {
     match value {
         Value::Int(n) => matches!(wanted, Asks::Ends(m) if m == *n),
@@ -114,7 +134,8 @@ fn is_number(values: &[Value], wanted: i64) -> bool {
     matches!(values, [Value::Int(n)] if *n == wanted)
 }
 
-fn input(alloc: Global, comes: Comes) -> Result<Input, Fail> {
+/// What comes, as a run takes it.
+pub fn input(alloc: Global, comes: Comes) -> Result<Input, Fail> {
     match comes {
         Comes::Start => Ok(Input::Started(Sequence::new(alloc))),
         Comes::StartWith(n) => Ok(Input::Started(one(alloc, n)?)),
@@ -123,6 +144,7 @@ fn input(alloc: Global, comes: Comes) -> Result<Input, Fail> {
         Comes::Gives(id, n) => Ok(Input::ActivityCompleted(event_id(id)?, Value::Int(n))),
         Comes::Fails(id, text) => failed(alloc, id, text),
         Comes::Fires(id) => Ok(Input::TimerFired(event_id(id)?)),
+        Comes::Terminated => Ok(Input::Terminated(Text::empty(alloc))),
     }
 }
 
@@ -158,39 +180,51 @@ fn stance_goes(
     alloc: Global,
     program: &Checked,
     stance: &mut Stance,
-    at: u64,
+    at: Moment,
     input: &Input,
     wanted: [Asks; 3],
-) -> Result<bool, Fail> {
-    let at = moment(at)?;
+) -> bool {
     if stance.events() > 1000 {
-        return Ok(false);
+        return false;
     }
     match turn(alloc, stance, program, at, input, Answers::Fresh) {
-        Ok(commands) => Ok(are(&commands, wanted)),
-        Err(RunFault::NotAwaited) => Ok(matches!(wanted[0], Asks::Refuses)),
-        Err(_) => Ok(false),
+        Ok(commands) => are(&commands, wanted),
+        Err(RunFault::NotAwaited) => matches!(wanted[0], Asks::Refuses),
+        Err(RunFault::Closed) => matches!(wanted[0], Asks::Closed),
+        Err(_) => false,
     }
 }
 
 // Whether the next turn of a plain run does.
 fn plain_goes(
     alloc: Global,
-    program: &Checked,
+    program: &Program,
     run: &mut PlainRun,
-    at: u64,
+    at: Moment,
     input: &Input,
     wanted: [Asks; 3],
-) -> Result<bool, Fail> {
-    let at = moment(at)?;
+) -> bool {
     if run.events() > 1000 {
-        return Ok(false);
+        return false;
     }
-    match plain_turn(alloc, run, program.program(), at, input, Answers::Fresh) {
-        Ok(commands) => Ok(are(&commands, wanted)),
-        Err(TurnFault::NotAwaited) => Ok(matches!(wanted[0], Asks::Refuses)),
-        Err(_) => Ok(false),
+    match plain_turn(alloc, run, program, at, input, Answers::Fresh) {
+        Ok(commands) => are(&commands, wanted),
+        Err(TurnFault::NotAwaited) => matches!(wanted[0], Asks::Refuses),
+        Err(_) => false,
     }
+}
+
+/// The same of a turn.
+pub fn stance_goes_on(
+    alloc: Global,
+    program: &Checked,
+    stance: &mut Stance,
+    next: Turn,
+) -> Result<bool, Fail> {
+    let (at, comes, wanted) = next;
+    let at = moment(at)?;
+    let input = input(alloc, comes)?;
+    Ok(stance_goes(alloc, program, stance, at, &input, wanted))
 }
 
 // Whether the next turn of both does.
@@ -202,22 +236,93 @@ fn goes(
     next: Turn,
 ) -> Result<bool, Fail> {
     let (at, comes, wanted) = next;
+    let at = moment(at)?;
     let input = input(alloc, comes)?;
-    let plain = plain_goes(alloc, program, run, at, &input, wanted)?;
-    let stance = stance_goes(alloc, program, stance, at, &input, wanted)?;
+    let plain = plain_goes(alloc, program.program(), run, at, &input, wanted);
+    let stance = stance_goes(alloc, program, stance, at, &input, wanted);
     Ok(plain && stance)
+}
+
+// The number of the first turn in which these two ask something else.
+fn other_of_both(
+    alloc: Global,
+    program: &Checked,
+    run: &mut PlainRun,
+    stance: &mut Stance,
+    turns: &[Turn],
+) -> Result<usize, Fail> {
+    for (i, next) in turns.iter().enumerate() {
+        if !goes(alloc, program, run, stance, *next)? {
+            return Ok(i);
+        }
+    }
+    Ok(turns.len())
+}
+
+// The same of two that haven't begun.
+fn other_of(alloc: Global, program: &Checked, turns: &[Turn]) -> Result<usize, Fail> {
+    let mut run = unbegun(alloc);
+    let mut stance = Stance::unbegun(alloc);
+    other_of_both(alloc, program, &mut run, &mut stance, turns)
 }
 
 /// The number, from 0, of the first of these turns in which a run of the program asks something else; how many there are
 /// where each asks what is wanted.
 pub fn first_other(alloc: Global, text: &str, turns: &[Turn]) -> Result<usize, Fail> {
     let program = program(alloc, text)?;
-    let mut run = unbegun(alloc);
-    let mut stance = Stance::unbegun(alloc);
+    other_of(alloc, &program, turns)
+}
+
+/// Where some turns leave a plain run.
+#[derive(Clone, Copy)]
+pub struct Left {
+    /// As `first_other`.
+    pub other: usize,
+    pub state: State,
+    pub events: u64,
+    pub moment: u64,
+}
+
+// Whether the next turn of a plain run alone asks what is wanted.
+fn plain_goes_on(
+    alloc: Global,
+    program: &Program,
+    run: &mut PlainRun,
+    next: Turn,
+) -> Result<bool, Fail> {
+    let (at, comes, wanted) = next;
+    let at = moment(at)?;
+    let input = input(alloc, comes)?;
+    Ok(plain_goes(alloc, program, run, at, &input, wanted))
+}
+
+fn other_of_plain(
+    alloc: Global,
+    program: &Program,
+    run: &mut PlainRun,
+    turns: &[Turn],
+) -> Result<usize, Fail> {
     for (i, next) in turns.iter().enumerate() {
-        if !goes(alloc, &program, &mut run, &mut stance, *next)? {
+        if !plain_goes_on(alloc, program, run, *next)? {
             return Ok(i);
         }
     }
     Ok(turns.len())
+}
+
+fn left_by_plain(alloc: Global, program: &Program, turns: &[Turn]) -> Result<Left, Fail> {
+    let mut run = unbegun(alloc);
+    let other = other_of_plain(alloc, program, &mut run, turns)?;
+    Ok(Left {
+        other,
+        state: run.state(),
+        events: run.events(),
+        moment: run.moment().get(),
+    })
+}
+
+/// Where these turns leave a plain run of a program that nobody checked.
+pub fn left_by(alloc: Global, text: &str, turns: &[Turn]) -> Result<Left, Fail> {
+    let program = parse(alloc, text)?;
+    left_by_plain(alloc, &program, turns)
 }

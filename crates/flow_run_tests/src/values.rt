@@ -17,22 +17,34 @@ fn returned(program: &Program) -> Result<&Expr, Fail> {
     }
 }
 
-// The value of what a program of this text returns, where nothing has a value, or its fault.
-fn value(alloc: Global, text: &str) -> Result<Result<Value, Cause>, Fail> {
+fn is_value(found: &Result<Value, Cause>, wanted: Result<i64, Cause>) -> bool {
+    match found {
+        Ok(Value::Int(n)) => matches!(wanted, Ok(m) if m == *n),
+        Err(cause) => matches!(wanted, Err(c) if c == *cause),
+        _ => false,
+    }
+}
+
+// Whether what a program returns has this value, where nothing has a value, or this fault.
+fn returns(alloc: Global, program: &Program, wanted: Result<i64, Cause>) -> Result<bool, Fail> {
     let at = moment(10)?;
+    let expr = returned(program)?;
+    let found = eval(alloc, &NamedValues::new(), at, expr)?;
+    Ok(is_value(&found, wanted))
+}
+
+fn gives(alloc: Global, text: &str, wanted: Result<i64, Cause>) -> Result<bool, Fail> {
     let program = parse(alloc, text)?;
-    let expr = returned(&program)?;
-    Ok(eval(alloc, &NamedValues::new(), at, expr)?)
+    returns(alloc, &program, wanted)
 }
 
 #[test]
 fn expressions_have_values_and_faults(rt: HostRuntime) -> Result<(), Fail> {
-    let sum = value(rt.alloc(), "workflow a() { return 2 + 3; }")?;
-    assert!(rt; matches!(sum, Ok(Value::Int(5))));
-    let quotient = value(rt.alloc(), "workflow a() { return (2 + 3) / 0; }")?;
-    assert!(rt; matches!(quotient, Err(Cause::Arith)));
-    let missing = value(rt.alloc(), "workflow a() { return x; }")?;
-    assert!(rt; matches!(missing, Ok(Value::Int(0))));
+    let sum = gives(rt.alloc(), "workflow a() { return 2 + 3; }", Ok(5))?;
+    let faulty = "workflow a() { return (2 + 3) / 0; }";
+    let quotient = gives(rt.alloc(), faulty, Err(Cause::Arith))?;
+    let missing = gives(rt.alloc(), "workflow a() { return x; }", Ok(0))?;
+    assert!(rt; sum && quotient && missing);
     Ok(())
 }
 
