@@ -1,9 +1,10 @@
 //! What tables in memory find over several runs: the timer that is due first, and a signal.
-use crate::rows::{event, key, moment, run, text_no, turn};
+use crate::rows::{run, turn};
 use flow_base::book::Change;
 use flow_base::event::{Cmd, Input};
+use flow_base::number::{EventId, Moment, TextNo};
 use flow_base::sequence::Sequence;
-use flow_base::text::RawText;
+use flow_base::text::{Key, RawText};
 use flow_base::value::Value;
 use flow_tables::tables::Tables;
 use flow_view::view::View;
@@ -45,11 +46,19 @@ pub fn text(alloc: Global) -> Result<Change, &'static str> {
     }
 }
 
+pub fn key(alloc: Global, text: &str) -> Result<Key, &'static str> {
+    Key::new(alloc, text).ok().ok_or("no key")
+}
+
+fn moment(milliseconds: u64) -> Result<Moment, &'static str> {
+    Moment::new(milliseconds).ok_or("no moment")
+}
+
 /// A run that asks for one thing as it starts.
 pub fn first_run(alloc: Global, flow: &str, command: Cmd) -> Result<Change, &'static str> {
-    let text = text_no(1)?;
-    let turn = turn(alloc, Input::Started(Sequence::new(alloc)), command)?;
     let flow = key(alloc, flow)?;
+    let text = TextNo::new(1).ok_or("no text")?;
+    let turn = turn(alloc, Input::Started(Sequence::new(alloc)), command)?;
     Ok(Change::AddRun(flow, None, text, turn))
 }
 
@@ -82,12 +91,30 @@ fn add_waiting(alloc: Global, tables: &mut Memory) -> Result<(), &'static str> {
     add(tables, waits(alloc, 80))
 }
 
+#[test]
+fn the_first_timer_is_found(rt: HostRuntime) -> Result<(), Fail> {
+    let alloc = rt.alloc();
+    let mut tables = begun(alloc)?;
+    add_waiting(alloc, &mut tables)?;
+    assert_eq!(rt; least(&mut tables, 100)?, (80, 2, 2));
+    assert_eq!(rt; least(&mut tables, 79)?, (0, 0, 0));
+    assert_eq!(rt; next(&mut tables)?, 80);
+    Ok(())
+}
+
+#[test]
+fn no_timer_is_found(rt: HostRuntime) -> Result<(), Fail> {
+    let mut tables = begun(rt.alloc())?;
+    assert_eq!(rt; least(&mut tables, 100)?, (0, 0, 0));
+    assert_eq!(rt; next(&mut tables)?, 0);
+    Ok(())
+}
+
 /// A signal of request `q` comes to run 1, which completes.
 fn signal(alloc: Global) -> Result<Change, &'static str> {
     let input = Input::Signaled(key(alloc, "s")?, key(alloc, "q")?, Value::Int(7));
-    let run = run(1)?;
     let turn = turn(alloc, input, Cmd::Complete(Value::Int(7)))?;
-    Ok(Change::AddTurn(run, turn))
+    Ok(Change::AddTurn(run(1)?, turn))
 }
 
 /// A signal of another request comes to run 2, which completes.
@@ -120,9 +147,19 @@ fn signalled(
     }
 }
 
+#[test]
+fn a_signal_is_found_in_an_earlier_run(rt: HostRuntime) -> Result<(), Fail> {
+    let alloc = rt.alloc();
+    let mut tables = begun(alloc)?;
+    add_signalled(alloc, &mut tables)?;
+    assert_eq!(rt; signalled(alloc, &mut tables, "q")?, (1, 3));
+    assert_eq!(rt; signalled(alloc, &mut tables, "p")?, (0, 0));
+    Ok(())
+}
+
 /// The timer of run 1 fires, and the run starts another one.
 fn waits_again(alloc: Global, due: u64) -> Result<Change, &'static str> {
-    let input = Input::TimerFired(event(2)?);
+    let input = Input::TimerFired(EventId::new(2).ok_or("no event")?);
     let turn = turn(alloc, input, Cmd::StartTimer(moment(due)?))?;
     Ok(Change::AddTurn(run(1)?, turn))
 }
@@ -171,6 +208,36 @@ fn least_behind(
     Ok((fired, least(tables, 100)?))
 }
 
+#[test]
+fn timers_follow_their_runs(rt: HostRuntime) -> Result<(), Fail> {
+    let mut tables = begun(rt.alloc())?;
+    assert_eq!(rt;
+        least_behind(rt.alloc(), &mut tables, Look::Whole)?,
+        ((85, 1, 4), (90, 2, 2))
+    );
+    Ok(())
+}
+
+#[test]
+fn timers_follow_runs_of_which_the_head_was_read(rt: HostRuntime) -> Result<(), Fail> {
+    let mut tables = begun(rt.alloc())?;
+    assert_eq!(rt;
+        least_behind(rt.alloc(), &mut tables, Look::Head)?,
+        ((85, 1, 4), (90, 2, 2))
+    );
+    Ok(())
+}
+
+#[test]
+fn timers_of_runs_that_were_not_read(rt: HostRuntime) -> Result<(), Fail> {
+    let mut tables = begun(rt.alloc())?;
+    assert_eq!(rt;
+        least_behind(rt.alloc(), &mut tables, Look::Nothing)?,
+        ((85, 1, 4), (90, 2, 2))
+    );
+    Ok(())
+}
+
 /// A timer is committed, and an earlier one rolled back: what is due first before that and behind it.
 fn least_rolled_back(
     alloc: Global,
@@ -187,6 +254,16 @@ fn least_rolled_back(
         return Err("not rolled back");
     }
     Ok((before, least(tables, 100)?))
+}
+
+#[test]
+fn a_rollback_takes_timers_back(rt: HostRuntime) -> Result<(), Fail> {
+    let mut tables = begun(rt.alloc())?;
+    assert_eq!(rt;
+        least_rolled_back(rt.alloc(), &mut tables)?,
+        ((80, 2, 2), (90, 1, 2))
+    );
+    Ok(())
 }
 
 /// A signal was taken before the last commit, another came in a transaction that is rolled back: where both are.
@@ -208,101 +285,13 @@ fn signalled_rolled_back(
     ))
 }
 
-/// The moment, the run and the event of a timer.
-type Due = (u64, u64, u64);
-
-/// What is due first of two that wait, by a moment and by an earlier one, and when.
-fn first_of_two(alloc: Global, tables: &mut Memory) -> Result<(Due, Due, u64), &'static str> {
-    add_waiting(alloc, tables)?;
-    let due = least(tables, 100)?;
-    let earlier = least(tables, 79)?;
-    Ok((due, earlier, next(tables)?))
-}
-
-/// The signals of two requests.
-fn two_signals(
-    alloc: Global,
-    tables: &mut Memory,
-) -> Result<((u64, u64), (u64, u64)), &'static str> {
-    add_signalled(alloc, tables)?;
-    let first = signalled(alloc, tables, "q")?;
-    Ok((first, signalled(alloc, tables, "p")?))
-}
-
-/// What is put and asked.
-#[derive(Clone, Copy)]
-enum Case {
-    Nothing,
-    TwoTimers,
-    Follow(Look),
-    TimersBack,
-    Signals,
-    SignalsBack,
-}
-
-/// Whether new tables answer a case as they are to.
-fn answers(alloc: Global, tables: &mut Memory, case: Case) -> Result<bool, &'static str> {
-    match case {
-        Case::Nothing => Ok(least(tables, 100)? == (0, 0, 0) && next(tables)? == 0),
-        Case::TwoTimers => Ok(first_of_two(alloc, tables)? == ((80, 2, 2), (0, 0, 0), 80)),
-        Case::Follow(look) => Ok(least_behind(alloc, tables, look)? == ((85, 1, 4), (90, 2, 2))),
-        Case::TimersBack => Ok(least_rolled_back(alloc, tables)? == ((80, 2, 2), (90, 1, 2))),
-        Case::Signals => Ok(two_signals(alloc, tables)? == ((1, 3), (0, 0))),
-        Case::SignalsBack => Ok(signalled_rolled_back(alloc, tables)? == ((1, 3), (0, 0))),
-    }
-}
-
-/// The one owner of tables for these tests.
-fn is_answered(alloc: Global, case: Case) -> Result<bool, &'static str> {
-    let mut tables = begun(alloc)?;
-    answers(alloc, &mut tables, case)
-}
-
-#[test]
-fn the_first_timer_is_found(rt: HostRuntime) -> Result<(), Fail> {
-    assert!(rt; is_answered(rt.alloc(), Case::TwoTimers)?);
-    Ok(())
-}
-
-#[test]
-fn no_timer_is_found(rt: HostRuntime) -> Result<(), Fail> {
-    assert!(rt; is_answered(rt.alloc(), Case::Nothing)?);
-    Ok(())
-}
-
-#[test]
-fn a_signal_is_found_in_an_earlier_run(rt: HostRuntime) -> Result<(), Fail> {
-    assert!(rt; is_answered(rt.alloc(), Case::Signals)?);
-    Ok(())
-}
-
-#[test]
-fn timers_follow_their_runs(rt: HostRuntime) -> Result<(), Fail> {
-    assert!(rt; is_answered(rt.alloc(), Case::Follow(Look::Whole))?);
-    Ok(())
-}
-
-#[test]
-fn timers_follow_runs_of_which_the_head_was_read(rt: HostRuntime) -> Result<(), Fail> {
-    assert!(rt; is_answered(rt.alloc(), Case::Follow(Look::Head))?);
-    Ok(())
-}
-
-#[test]
-fn timers_of_runs_that_were_not_read(rt: HostRuntime) -> Result<(), Fail> {
-    assert!(rt; is_answered(rt.alloc(), Case::Follow(Look::Nothing))?);
-    Ok(())
-}
-
-#[test]
-fn a_rollback_takes_timers_back(rt: HostRuntime) -> Result<(), Fail> {
-    assert!(rt; is_answered(rt.alloc(), Case::TimersBack)?);
-    Ok(())
-}
-
 #[test]
 fn a_rollback_takes_signals_back(rt: HostRuntime) -> Result<(), Fail> {
-    assert!(rt; is_answered(rt.alloc(), Case::SignalsBack)?);
+    let mut tables = begun(rt.alloc())?;
+    assert_eq!(rt;
+        signalled_rolled_back(rt.alloc(), &mut tables)?,
+        ((1, 3), (0, 0))
+    );
     Ok(())
 }
 

@@ -1,8 +1,9 @@
 //! What tables in memory tell of a run that goes on: its head, the events of its activities, and its text.
-use crate::found::{Memory, add, begun, first_run, text};
-use crate::rows::{event, key, moment, run, text_no, turn};
+use crate::found::{Memory, add, begun, first_run, key, text};
+use crate::rows::{event, run, turn};
 use flow_base::book::Change;
 use flow_base::event::{Cmd, Input};
+use flow_base::number::{Moment, TextNo};
 use flow_base::sequence::Sequence;
 use flow_base::text::RawText;
 use flow_base::value::{Kind, Value};
@@ -30,7 +31,7 @@ fn asks_again(alloc: Global, scheduled: u64) -> Result<Change, &'static str> {
 
 /// An activity of run 1 is tried again.
 fn tries_again(scheduled: u64) -> Result<Change, &'static str> {
-    let ready = moment(50)?;
+    let ready = Moment::new(50).ok_or("no moment")?;
     Ok(Change::SetAttempt(run(1)?, event(scheduled)?, 2, ready))
 }
 
@@ -43,7 +44,7 @@ fn second_text(alloc: Global) -> Result<Change, &'static str> {
 
 /// Run 1 goes on under text 2.
 fn other_text() -> Result<Change, &'static str> {
-    Ok(Change::SetText(run(1)?, text_no(2)?))
+    Ok(Change::SetText(run(1)?, TextNo::new(2).ok_or("no text")?))
 }
 
 /// How many events a run has, its text, and the event and the attempt of its one open activity.
@@ -84,21 +85,26 @@ fn start(alloc: Global, tables: &mut Memory) -> Result<(), &'static str> {
     keep(tables)
 }
 
-/// The head behind a start, behind a turn, and behind a second attempt.
-fn follows(alloc: Global, tables: &mut Memory) -> Result<bool, &'static str> {
-    start(alloc, tables)?;
-    let started = head(tables)? == (2, 1, 2, 1);
-    add(tables, asks_again(alloc, 2))?;
-    let went_on = head(tables)? == (4, 1, 4, 1);
-    add(tables, tries_again(4))?;
-    Ok(started && went_on && head(tables)? == (4, 1, 4, 2))
+#[test]
+fn a_head_follows_its_run(rt: HostRuntime) -> Result<(), Fail> {
+    let mut tables = begun(rt.alloc())?;
+    start(rt.alloc(), &mut tables)?;
+    assert_eq!(rt; head(&mut tables)?, (2, 1, 2, 1));
+    add(&mut tables, asks_again(rt.alloc(), 2))?;
+    assert_eq!(rt; head(&mut tables)?, (4, 1, 4, 1));
+    add(&mut tables, tries_again(4))?;
+    assert_eq!(rt; head(&mut tables)?, (4, 1, 4, 2));
+    Ok(())
 }
 
-fn has_other_text(alloc: Global, tables: &mut Memory) -> Result<bool, &'static str> {
-    start(alloc, tables)?;
-    add(tables, second_text(alloc))?;
-    add(tables, other_text())?;
-    Ok(head(tables)? == (2, 2, 2, 1))
+#[test]
+fn a_head_has_the_text_that_its_run_goes_on_under(rt: HostRuntime) -> Result<(), Fail> {
+    let mut tables = begun(rt.alloc())?;
+    start(rt.alloc(), &mut tables)?;
+    add(&mut tables, second_text(rt.alloc()))?;
+    add(&mut tables, other_text())?;
+    assert_eq!(rt; head(&mut tables)?, (2, 2, 2, 1));
+    Ok(())
 }
 
 /// A turn is rolled back.
@@ -114,59 +120,21 @@ fn rolled_back(alloc: Global, tables: &mut Memory) -> Result<(), &'static str> {
     Err("not rolled back")
 }
 
-fn is_back(alloc: Global, tables: &mut Memory) -> Result<bool, &'static str> {
-    rolled_back(alloc, tables)?;
-    Ok(head(tables)? == (2, 1, 2, 1) && !has_event(tables, 4)?)
-}
-
-fn has_its_events(alloc: Global, tables: &mut Memory) -> Result<bool, &'static str> {
-    start(alloc, tables)?;
-    Ok(has_event(tables, 2)? && has_event(tables, 1)? && !has_event(tables, 3)?)
-}
-
-#[derive(Clone, Copy)]
-enum Case {
-    Follows,
-    OtherText,
-    Back,
-    Events,
-}
-
-fn answers(alloc: Global, tables: &mut Memory, case: Case) -> Result<bool, &'static str> {
-    match case {
-        Case::Follows => follows(alloc, tables),
-        Case::OtherText => has_other_text(alloc, tables),
-        Case::Back => is_back(alloc, tables),
-        Case::Events => has_its_events(alloc, tables),
-    }
-}
-
-/// The one owner of tables for these tests.
-fn is_answered(alloc: Global, case: Case) -> Result<bool, &'static str> {
-    let mut tables = begun(alloc)?;
-    answers(alloc, &mut tables, case)
-}
-
-#[test]
-fn a_head_follows_its_run(rt: HostRuntime) -> Result<(), Fail> {
-    assert!(rt; is_answered(rt.alloc(), Case::Follows)?);
-    Ok(())
-}
-
-#[test]
-fn a_head_has_the_text_that_its_run_goes_on_under(rt: HostRuntime) -> Result<(), Fail> {
-    assert!(rt; is_answered(rt.alloc(), Case::OtherText)?);
-    Ok(())
-}
-
 #[test]
 fn a_rollback_takes_a_head_back(rt: HostRuntime) -> Result<(), Fail> {
-    assert!(rt; is_answered(rt.alloc(), Case::Back)?);
+    let mut tables = begun(rt.alloc())?;
+    rolled_back(rt.alloc(), &mut tables)?;
+    assert_eq!(rt; head(&mut tables)?, (2, 1, 2, 1));
+    assert!(rt; !has_event(&mut tables, 4)?);
     Ok(())
 }
 
 #[test]
 fn the_event_of_an_activity_is_found(rt: HostRuntime) -> Result<(), Fail> {
-    assert!(rt; is_answered(rt.alloc(), Case::Events)?);
+    let mut tables = begun(rt.alloc())?;
+    start(rt.alloc(), &mut tables)?;
+    assert!(rt; has_event(&mut tables, 2)?);
+    assert!(rt; has_event(&mut tables, 1)?);
+    assert!(rt; !has_event(&mut tables, 3)?);
     Ok(())
 }

@@ -1,14 +1,17 @@
 //! Runs found by their keys, which are kept in memory: behind a commit, a rollback, and where a key stands twice.
-use crate::rows::{key, moment, run, text_no};
 use crate::tables::{Memory, opened, put_text, started};
 use flow_base::book::{Change, Turn};
 use flow_base::event::Input;
-use flow_base::number::RunId;
+use flow_base::number::{Moment, RunId, TextNo};
 use flow_base::sequence::Sequence;
-use flow_base::text::Text;
+use flow_base::text::{Key, Text};
 use flow_view::view::View;
 use std::alloc::Global;
 use std::test::Fail;
+
+fn key(alloc: Global, text: &str) -> Result<Key, &'static str> {
+    Key::new(alloc, text).ok().ok_or("no key")
+}
 
 /// Starts a run of a flow by a request.
 fn start(
@@ -17,24 +20,20 @@ fn start(
     flow: &str,
     request: &str,
 ) -> Result<bool, &'static str> {
-    let text = text_no(1)?;
-    let request = key(alloc, request)?;
-    let flow = key(alloc, flow)?;
-    let turn = started(alloc)?;
-    let change = Change::AddRun(flow, Some(request), text, turn);
+    let text = TextNo::new(1).ok_or("no text")?;
+    let request = Some(key(alloc, request)?);
+    let change = Change::AddRun(key(alloc, flow)?, request, text, started(alloc)?);
     Ok(tables.put(&change).is_ok())
 }
 
 /// Terminates run 1.
 fn terminate(alloc: Global, tables: &mut Memory) -> Result<bool, &'static str> {
-    let at = moment(7)?;
-    let run = run(1)?;
     let turn = Turn {
-        at,
+        at: Moment::new(7).ok_or("no moment")?,
         input: Input::Terminated(Text::empty(alloc)),
         commands: Sequence::new(alloc),
     };
-    let change = Change::AddTurn(run, turn);
+    let change = Change::AddTurn(RunId::new(1).ok_or("no run")?, turn);
     Ok(tables.put(&change).is_ok())
 }
 
@@ -62,7 +61,7 @@ fn found(
 
 /// Whether run 1 is read.
 fn is_read(tables: &mut Memory) -> Result<bool, &'static str> {
-    let number = run(1)?;
+    let number = RunId::new(1).ok_or("no run")?;
     Ok(matches!(tables.run(number), Ok(Some(_))))
 }
 

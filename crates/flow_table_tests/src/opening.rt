@@ -1,5 +1,4 @@
 //! Opening over the rows of a small history, and over each table damaged by one statement.
-use crate::rows::count;
 use flow_base::code::Code;
 use flow_base::fault::{Damage, Fault, Table};
 use flow_tables::create::create;
@@ -17,14 +16,10 @@ INSERT INTO event (run, id, kind, body) VALUES (1, 3, 8, '{\"at\":1000,\"due\":1
 INSERT INTO timer (run, id, due) VALUES (1, 3, 1100); \
 INSERT INTO outbox (run, id, attempt, ready) VALUES (1, 2, 1, 1000)";
 
-fn fill(conn: &mut Connection<MemStore>) -> Result<(), Error> {
-    create(conn)?;
-    conn.execute_batch(ROWS)
-}
-
 fn filled(alloc: Global) -> Result<Connection<MemStore>, Error> {
     let mut conn = Connection::open_in_memory(alloc)?;
-    fill(&mut conn)?;
+    create(&mut conn)?;
+    conn.execute_batch(ROWS)?;
     Ok(conn)
 }
 
@@ -43,19 +38,11 @@ fn book_opened(alloc: Global, conn: &mut Connection<MemStore>) -> Option<(usize,
     }
 }
 
-fn changed(
-    alloc: Global,
-    conn: &mut Connection<MemStore>,
-    change: &str,
-) -> Result<Result<(), Fault>, Error> {
-    conn.execute_batch(change)?;
-    Ok(opens(alloc, conn))
-}
-
 /// What opening answers after a change of the rows.
 fn opened_after(alloc: Global, change: &str) -> Result<Result<(), Fault>, Error> {
     let mut conn = filled(alloc)?;
-    changed(alloc, &mut conn, change)
+    conn.execute_batch(change)?;
+    Ok(opens(alloc, &mut conn))
 }
 
 fn damaged(table: Table, run: i64, place: i64, cause: Option<Code>) -> Result<(), Fault> {
@@ -67,19 +54,12 @@ fn damaged(table: Table, run: i64, place: i64, cause: Option<Code>) -> Result<()
     }))
 }
 
-fn is_book(alloc: Global, conn: &mut Connection<MemStore>) -> bool {
-    let opened = book_opened(alloc, conn) == Some((1, 1)) && conn.is_autocommit();
-    opened && opens(alloc, conn) == Ok(())
-}
-
-fn opens_filled(alloc: Global) -> Result<bool, Error> {
-    let mut conn = filled(alloc)?;
-    Ok(is_book(alloc, &mut conn))
-}
-
 #[test]
 fn rows_of_a_book_are_opened(rt: HostRuntime) -> Result<(), Fail> {
-    assert!(rt; opens_filled(rt.alloc())?);
+    let mut conn = filled(rt.alloc())?;
+    assert_eq!(rt; book_opened(rt.alloc(), &mut conn), Some((1, 1)));
+    assert!(rt; conn.is_autocommit());
+    assert_eq!(rt; opens(rt.alloc(), &mut conn), Ok(()));
     Ok(())
 }
 
@@ -138,22 +118,16 @@ fn a_missing_table(rt: HostRuntime) -> Result<(), Fail> {
     Ok(())
 }
 
-fn leaves_note(alloc: Global, conn: &mut Connection<MemStore>) -> Result<bool, Error> {
+#[test]
+fn a_table_of_others_stays(rt: HostRuntime) -> Result<(), Fail> {
+    let mut conn = Connection::open_in_memory(rt.alloc())?;
     conn.execute_batch(
         "CREATE TABLE note (said TEXT) STRICT; INSERT INTO note (said) VALUES ('a')",
     )?;
-    let opened = book_opened(alloc, conn) == Some((0, 0));
-    Ok(opened && count(conn, "SELECT count(*) FROM note, meta")? == 1)
-}
-
-fn opens_beside_others(alloc: Global) -> Result<bool, Error> {
-    let mut conn = Connection::open_in_memory(alloc)?;
-    leaves_note(alloc, &mut conn)
-}
-
-#[test]
-fn a_table_of_others_stays(rt: HostRuntime) -> Result<(), Fail> {
-    assert!(rt; opens_beside_others(rt.alloc())?);
+    assert_eq!(rt; book_opened(rt.alloc(), &mut conn), Some((0, 0)));
+    let row = conn.query_row("SELECT count(*) FROM note, meta", &[])?;
+    let rows: i64 = row.get(0)?;
+    assert_eq!(rt; rows, 1);
     Ok(())
 }
 

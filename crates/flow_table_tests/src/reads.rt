@@ -13,31 +13,20 @@ use sqlite::Error;
 use std::alloc::Global;
 use std::test::Fail;
 
-fn two_texts(alloc: Global, conn: &mut Memory) -> Result<(), Error> {
-    add_text(alloc, conn, 1, "a")?;
-    add_text(alloc, conn, 2, "b")
+fn two_texts(alloc: Global) -> Result<Memory, Error> {
+    let mut conn = no_rows(alloc)?;
+    add_text(alloc, &mut conn, 1, "a")?;
+    add_text(alloc, &mut conn, 2, "b")?;
+    Ok(conn)
 }
 
 /// The second text's runs: two of one flow, of which the first is closed, and a closed one of another.
-fn three_runs(alloc: Global, conn: &mut Memory) -> Result<(), Error> {
-    two_texts(alloc, conn)?;
-    add_run(alloc, conn, 1, ("f", "p"), 2, 0)?;
-    add_run(alloc, conn, 2, ("f", "q"), 2, 1)?;
-    add_run(alloc, conn, 3, ("g", "r"), 2, 0)
-}
-
-/// Events of two runs, not in their order.
-fn some_events(alloc: Global, conn: &mut Memory) -> Result<(), Error> {
-    add_event(alloc, conn, 1, 2, "y")?;
-    add_event(alloc, conn, 2, 5, "z")?;
-    add_event(alloc, conn, 1, 1, "x")
-}
-
-/// Tasks of two runs, not in their order.
-fn some_tasks(conn: &mut Memory) -> Result<(), Error> {
-    add_task(conn, 1, 6)?;
-    add_task(conn, 2, 7)?;
-    add_task(conn, 1, 4)
+fn three_runs(alloc: Global) -> Result<Memory, Error> {
+    let mut conn = two_texts(alloc)?;
+    add_run(alloc, &mut conn, 1, ("f", "p"), 2, 0)?;
+    add_run(alloc, &mut conn, 2, ("f", "q"), 2, 1)?;
+    add_run(alloc, &mut conn, 3, ("g", "r"), 2, 0)?;
+    Ok(conn)
 }
 
 fn is_text(row: &TextRow, num: i64, body: &str) -> bool {
@@ -66,6 +55,15 @@ fn are_two_texts(alloc: Global, conn: &mut Memory) -> Result<bool, StoreFault> {
     })
 }
 
+#[test]
+fn texts_are_read(rt: HostRuntime) -> Result<(), Fail> {
+    let alloc = rt.alloc();
+    let mut conn = two_texts(alloc)?;
+    assert!(rt; are_two_texts(alloc, &mut conn)?);
+    assert_eq!(rt; ask_first(alloc, &mut conn, &LastText)?, Some(2));
+    Ok(())
+}
+
 fn are_three_runs(alloc: Global, conn: &mut Memory) -> Result<bool, StoreFault> {
     let rows = ask(alloc, conn, &AllRuns)?;
     Ok(match rows.as_slice() {
@@ -76,10 +74,29 @@ fn are_three_runs(alloc: Global, conn: &mut Memory) -> Result<bool, StoreFault> 
     })
 }
 
+#[test]
+fn runs_are_read(rt: HostRuntime) -> Result<(), Fail> {
+    let alloc = rt.alloc();
+    let mut conn = three_runs(alloc)?;
+    assert!(rt; are_three_runs(alloc, &mut conn)?);
+    assert_eq!(rt; ask_first(alloc, &mut conn, &LastRun)?, Some(3));
+    Ok(())
+}
+
 /// How many texts and runs are read.
 fn lengths(alloc: Global, conn: &mut Memory) -> Result<(usize, usize), StoreFault> {
     let texts = ask(alloc, conn, &AllTexts)?.len();
     Ok((texts, ask(alloc, conn, &AllRuns)?.len()))
+}
+
+#[test]
+fn no_rows_are_read(rt: HostRuntime) -> Result<(), Fail> {
+    let alloc = rt.alloc();
+    let mut conn = no_rows(alloc)?;
+    assert_eq!(rt; lengths(alloc, &mut conn)?, (0, 0));
+    assert_eq!(rt; ask_first(alloc, &mut conn, &LastText)?, None);
+    assert_eq!(rt; ask_first(alloc, &mut conn, &LastRun)?, None);
+    Ok(())
 }
 
 fn has_body(alloc: Global, conn: &mut Memory, number: u64, body: &str) -> bool {
@@ -102,9 +119,28 @@ fn has_no_body(alloc: Global, conn: &mut Memory, number: u64) -> bool {
     }
 }
 
+#[test]
+fn bodies_are_found(rt: HostRuntime) -> Result<(), Fail> {
+    let alloc = rt.alloc();
+    let mut conn = two_texts(alloc)?;
+    assert!(rt; has_body(alloc, &mut conn, 1, "a"));
+    assert!(rt; has_body(alloc, &mut conn, 2, "b"));
+    assert!(rt; has_no_body(alloc, &mut conn, 3));
+    Ok(())
+}
+
 fn number_of(alloc: Global, conn: &mut Memory, body: &str) -> Result<Option<i64>, StoreFault> {
     let body = RawText::new(alloc, body)?;
     ask_first(alloc, conn, &TextNumber(&body))
+}
+
+#[test]
+fn texts_are_found(rt: HostRuntime) -> Result<(), Fail> {
+    let alloc = rt.alloc();
+    let mut conn = two_texts(alloc)?;
+    assert_eq!(rt; number_of(alloc, &mut conn, "b")?, Some(2));
+    assert_eq!(rt; number_of(alloc, &mut conn, "B")?, None);
+    Ok(())
 }
 
 fn is_run_2(alloc: Global, conn: &mut Memory) -> Result<bool, Fail> {
@@ -118,14 +154,50 @@ fn has_run(alloc: Global, conn: &mut Memory, number: u64) -> Result<bool, Fail> 
     Ok(ask_first(alloc, conn, &RunAt(run(number)?))?.is_some())
 }
 
+#[test]
+fn a_run_is_found(rt: HostRuntime) -> Result<(), Fail> {
+    let alloc = rt.alloc();
+    let mut conn = three_runs(alloc)?;
+    assert!(rt; is_run_2(alloc, &mut conn)?);
+    assert!(rt; !has_run(alloc, &mut conn, 4)?);
+    Ok(())
+}
+
 fn requested(alloc: Global, conn: &mut Memory, request: &str) -> Result<Option<i64>, Fail> {
     let request = Key::new(alloc, request)?;
     Ok(ask_first(alloc, conn, &Requested(&request))?)
 }
 
+#[test]
+fn requests_are_found(rt: HostRuntime) -> Result<(), Fail> {
+    let alloc = rt.alloc();
+    let mut conn = three_runs(alloc)?;
+    assert_eq!(rt; requested(alloc, &mut conn, "q")?, Some(2));
+    assert_eq!(rt; requested(alloc, &mut conn, "f")?, None);
+    Ok(())
+}
+
 fn opened(alloc: Global, conn: &mut Memory, flow: &str) -> Result<Option<i64>, Fail> {
     let flow = Key::new(alloc, flow)?;
     Ok(ask_first(alloc, conn, &OpenRun(&flow))?)
+}
+
+#[test]
+fn open_runs_are_found(rt: HostRuntime) -> Result<(), Fail> {
+    let alloc = rt.alloc();
+    let mut conn = three_runs(alloc)?;
+    assert_eq!(rt; opened(alloc, &mut conn, "f")?, Some(2));
+    assert_eq!(rt; opened(alloc, &mut conn, "g")?, None);
+    Ok(())
+}
+
+/// Events of two runs, not in their order.
+fn some_events(alloc: Global) -> Result<Memory, Error> {
+    let mut conn = three_runs(alloc)?;
+    add_event(alloc, &mut conn, 1, 2, "y")?;
+    add_event(alloc, &mut conn, 2, 5, "z")?;
+    add_event(alloc, &mut conn, 1, 1, "x")?;
+    Ok(conn)
 }
 
 fn are_two_events(alloc: Global, conn: &mut Memory) -> Result<bool, Fail> {
@@ -140,8 +212,36 @@ fn event_count(alloc: Global, conn: &mut Memory, number: u64) -> Result<usize, F
     Ok(ask(alloc, conn, &RunEvents(run(number)?))?.len())
 }
 
+#[test]
+fn events_are_found(rt: HostRuntime) -> Result<(), Fail> {
+    let alloc = rt.alloc();
+    let mut conn = some_events(alloc)?;
+    assert!(rt; are_two_events(alloc, &mut conn)?);
+    assert_eq!(rt; event_count(alloc, &mut conn, 3)?, 0);
+    Ok(())
+}
+
 fn last(alloc: Global, conn: &mut Memory, number: u64) -> Result<Option<i64>, Fail> {
     Ok(ask_first(alloc, conn, &LastEvent(run(number)?))?)
+}
+
+#[test]
+fn last_events_are_found(rt: HostRuntime) -> Result<(), Fail> {
+    let alloc = rt.alloc();
+    let mut conn = some_events(alloc)?;
+    assert_eq!(rt; last(alloc, &mut conn, 1)?, Some(2));
+    assert_eq!(rt; last(alloc, &mut conn, 2)?, Some(5));
+    assert_eq!(rt; last(alloc, &mut conn, 3)?, None);
+    Ok(())
+}
+
+/// Tasks of two runs, not in their order.
+fn some_tasks(alloc: Global) -> Result<Memory, Error> {
+    let mut conn = three_runs(alloc)?;
+    add_task(&mut conn, 1, 6)?;
+    add_task(&mut conn, 2, 7)?;
+    add_task(&mut conn, 1, 4)?;
+    Ok(conn)
 }
 
 fn are_two_tasks(alloc: Global, conn: &mut Memory) -> Result<bool, Fail> {
@@ -156,190 +256,11 @@ fn task_count(alloc: Global, conn: &mut Memory, number: u64) -> Result<usize, Fa
     Ok(ask(alloc, conn, &RunTasks(run(number)?))?.len())
 }
 
-/// Whether the last text and the last run have these numbers.
-fn are_last(
-    alloc: Global,
-    conn: &mut Memory,
-    text: Option<i64>,
-    run: Option<i64>,
-) -> Result<bool, StoreFault> {
-    let last_text = ask_first(alloc, conn, &LastText)?;
-    Ok(last_text == text && ask_first(alloc, conn, &LastRun)? == run)
-}
-
-fn are_none(alloc: Global, conn: &mut Memory) -> Result<bool, Fail> {
-    Ok(lengths(alloc, conn)? == (0, 0) && are_last(alloc, conn, None, None)?)
-}
-
-fn are_texts(alloc: Global, conn: &mut Memory) -> Result<bool, Fail> {
-    Ok(are_two_texts(alloc, conn)? && are_last(alloc, conn, Some(2), None)?)
-}
-
-fn are_bodies(alloc: Global, conn: &mut Memory) -> bool {
-    has_body(alloc, conn, 1, "a") && has_body(alloc, conn, 2, "b") && has_no_body(alloc, conn, 3)
-}
-
-fn are_numbers(alloc: Global, conn: &mut Memory) -> Result<bool, Fail> {
-    Ok(number_of(alloc, conn, "b")? == Some(2) && number_of(alloc, conn, "B")? == None)
-}
-
-fn are_runs(alloc: Global, conn: &mut Memory) -> Result<bool, Fail> {
-    Ok(are_three_runs(alloc, conn)? && are_last(alloc, conn, Some(2), Some(3))?)
-}
-
-fn is_the_run(alloc: Global, conn: &mut Memory) -> Result<bool, Fail> {
-    Ok(is_run_2(alloc, conn)? && !has_run(alloc, conn, 4)?)
-}
-
-fn are_requests(alloc: Global, conn: &mut Memory) -> Result<bool, Fail> {
-    Ok(requested(alloc, conn, "q")? == Some(2) && requested(alloc, conn, "f")? == None)
-}
-
-fn are_open(alloc: Global, conn: &mut Memory) -> Result<bool, Fail> {
-    Ok(opened(alloc, conn, "f")? == Some(2) && opened(alloc, conn, "g")? == None)
-}
-
-fn are_events(alloc: Global, conn: &mut Memory) -> Result<bool, Fail> {
-    Ok(are_two_events(alloc, conn)? && event_count(alloc, conn, 3)? == 0)
-}
-
-fn are_last_events(alloc: Global, conn: &mut Memory) -> Result<bool, Fail> {
-    let found = last(alloc, conn, 1)? == Some(2) && last(alloc, conn, 2)? == Some(5);
-    Ok(found && last(alloc, conn, 3)? == None)
-}
-
-fn are_tasks(alloc: Global, conn: &mut Memory) -> Result<bool, Fail> {
-    Ok(are_two_tasks(alloc, conn)? && task_count(alloc, conn, 3)? == 0)
-}
-
-/// What is read.
-#[derive(Clone, Copy)]
-enum Case {
-    Nothing,
-    Texts,
-    Bodies,
-    Numbers,
-    Runs,
-    Run,
-    Requests,
-    Open,
-    Events,
-    LastEvents,
-    Tasks,
-}
-
-fn of_texts(alloc: Global, conn: &mut Memory, case: Case) -> Result<bool, Fail> {
-    two_texts(alloc, conn)?;
-    match case {
-        Case::Texts => are_texts(alloc, conn),
-        Case::Bodies => Ok(are_bodies(alloc, conn)),
-        _ => are_numbers(alloc, conn),
-    }
-}
-
-fn of_events(alloc: Global, conn: &mut Memory, case: Case) -> Result<bool, Fail> {
-    three_runs(alloc, conn)?;
-    some_events(alloc, conn)?;
-    match case {
-        Case::Events => are_events(alloc, conn),
-        _ => are_last_events(alloc, conn),
-    }
-}
-
-fn of_tasks(alloc: Global, conn: &mut Memory) -> Result<bool, Fail> {
-    three_runs(alloc, conn)?;
-    some_tasks(conn)?;
-    are_tasks(alloc, conn)
-}
-
-fn of_runs(alloc: Global, conn: &mut Memory, case: Case) -> Result<bool, Fail> {
-    three_runs(alloc, conn)?;
-    match case {
-        Case::Runs => are_runs(alloc, conn),
-        Case::Run => is_the_run(alloc, conn),
-        Case::Requests => are_requests(alloc, conn),
-        _ => are_open(alloc, conn),
-    }
-}
-
-fn is_found(alloc: Global, conn: &mut Memory, case: Case) -> Result<bool, Fail> {
-    match case {
-        Case::Nothing => are_none(alloc, conn),
-        Case::Texts | Case::Bodies | Case::Numbers => of_texts(alloc, conn, case),
-        Case::Events | Case::LastEvents => of_events(alloc, conn, case),
-        Case::Tasks => of_tasks(alloc, conn),
-        _ => of_runs(alloc, conn, case),
-    }
-}
-
-/// The one owner of tables for these tests.
-fn is_read(alloc: Global, case: Case) -> Result<bool, Fail> {
-    let mut conn = no_rows(alloc)?;
-    is_found(alloc, &mut conn, case)
-}
-
-#[test]
-fn texts_are_read(rt: HostRuntime) -> Result<(), Fail> {
-    assert!(rt; is_read(rt.alloc(), Case::Texts)?);
-    Ok(())
-}
-
-#[test]
-fn runs_are_read(rt: HostRuntime) -> Result<(), Fail> {
-    assert!(rt; is_read(rt.alloc(), Case::Runs)?);
-    Ok(())
-}
-
-#[test]
-fn no_rows_are_read(rt: HostRuntime) -> Result<(), Fail> {
-    assert!(rt; is_read(rt.alloc(), Case::Nothing)?);
-    Ok(())
-}
-
-#[test]
-fn bodies_are_found(rt: HostRuntime) -> Result<(), Fail> {
-    assert!(rt; is_read(rt.alloc(), Case::Bodies)?);
-    Ok(())
-}
-
-#[test]
-fn texts_are_found(rt: HostRuntime) -> Result<(), Fail> {
-    assert!(rt; is_read(rt.alloc(), Case::Numbers)?);
-    Ok(())
-}
-
-#[test]
-fn a_run_is_found(rt: HostRuntime) -> Result<(), Fail> {
-    assert!(rt; is_read(rt.alloc(), Case::Run)?);
-    Ok(())
-}
-
-#[test]
-fn requests_are_found(rt: HostRuntime) -> Result<(), Fail> {
-    assert!(rt; is_read(rt.alloc(), Case::Requests)?);
-    Ok(())
-}
-
-#[test]
-fn open_runs_are_found(rt: HostRuntime) -> Result<(), Fail> {
-    assert!(rt; is_read(rt.alloc(), Case::Open)?);
-    Ok(())
-}
-
-#[test]
-fn events_are_found(rt: HostRuntime) -> Result<(), Fail> {
-    assert!(rt; is_read(rt.alloc(), Case::Events)?);
-    Ok(())
-}
-
-#[test]
-fn last_events_are_found(rt: HostRuntime) -> Result<(), Fail> {
-    assert!(rt; is_read(rt.alloc(), Case::LastEvents)?);
-    Ok(())
-}
-
 #[test]
 fn tasks_are_found(rt: HostRuntime) -> Result<(), Fail> {
-    assert!(rt; is_read(rt.alloc(), Case::Tasks)?);
+    let alloc = rt.alloc();
+    let mut conn = some_tasks(alloc)?;
+    assert!(rt; are_two_tasks(alloc, &mut conn)?);
+    assert_eq!(rt; task_count(alloc, &mut conn, 3)?, 0);
     Ok(())
 }

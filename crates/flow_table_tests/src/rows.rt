@@ -1,9 +1,9 @@
 //! Rows put into tables in memory one by one, and what SQL counts there.
 use flow_base::book::Turn;
 use flow_base::event::{Cmd, Input};
-use flow_base::number::{EventId, Moment, RunId, TextNo};
+use flow_base::number::{EventId, Moment, RunId};
 use flow_base::sequence::Sequence;
-use flow_base::text::{Key, RawText};
+use flow_base::text::RawText;
 use flow_rows::rows::{EventRow, OutboxRow, RunRow, TextRow, TimerRow};
 use flow_tables::ask::change;
 use flow_tables::create::create;
@@ -14,15 +14,11 @@ use std::alloc::Global;
 
 pub type Memory = Connection<MemStore>;
 
-fn make(conn: &mut Memory) -> Result<(), Error> {
-    create(conn)?;
-    begin(conn)
-}
-
 /// New tables, in a transaction.
 pub fn no_rows(alloc: Global) -> Result<Memory, Error> {
     let mut conn = Connection::open_in_memory(alloc)?;
-    make(&mut conn)?;
+    create(&mut conn)?;
+    begin(&mut conn)?;
     Ok(conn)
 }
 
@@ -98,66 +94,23 @@ pub fn add_task(conn: &mut Memory, run: i64, id: i64) -> Result<(), Error> {
 }
 
 pub fn run(number: u64) -> Result<RunId, &'static str> {
-    match RunId::new(number) {
-        Some(run) => Ok(run),
-        None => Err("no run"),
-    }
+    RunId::new(number).ok_or("no run")
 }
 
 pub fn event(number: u64) -> Result<EventId, &'static str> {
-    match EventId::new(number) {
-        Some(event) => Ok(event),
-        None => Err("no event"),
-    }
+    EventId::new(number).ok_or("no event")
 }
 
-pub fn text_no(number: u64) -> Result<TextNo, &'static str> {
-    match TextNo::new(number) {
-        Some(text) => Ok(text),
-        None => Err("no text"),
-    }
-}
-
-pub fn moment(milliseconds: u64) -> Result<Moment, &'static str> {
-    match Moment::new(milliseconds) {
-        Some(moment) => Ok(moment),
-        None => Err("no moment"),
-    }
-}
-
-pub fn key(alloc: Global, text: &str) -> Result<Key, &'static str> {
-    match Key::new(alloc, text) {
-        Ok(key) => Ok(key),
-        Err(_) => Err("no key"),
-    }
-}
-
-/// A list of one command.
-fn one(alloc: Global, command: Cmd) -> Result<Sequence<Cmd>, &'static str> {
+/// A turn that asks for one thing.
+pub fn turn(alloc: Global, input: Input, command: Cmd) -> Result<Turn, &'static str> {
     let mut commands = Sequence::new(alloc);
-    match commands.push(command) {
-        Ok(()) => Ok(commands),
-        Err(_) => Err("no memory"),
+    if commands.push(command).is_err() {
+        return Err("no memory");
     }
-}
-
-/// A turn at a moment that asks for one thing.
-pub fn turn_at(
-    alloc: Global,
-    milliseconds: u64,
-    input: Input,
-    command: Cmd,
-) -> Result<Turn, &'static str> {
-    let at = moment(milliseconds)?;
-    let commands = one(alloc, command)?;
+    let at = Moment::new(5).ok_or("no moment")?;
     Ok(Turn {
         at,
         input,
         commands,
     })
-}
-
-/// A turn that asks for one thing.
-pub fn turn(alloc: Global, input: Input, command: Cmd) -> Result<Turn, &'static str> {
-    turn_at(alloc, 5, input, command)
 }

@@ -3,7 +3,7 @@ use flow_base::fault::Fault;
 use flow_tables::create::create;
 use flow_tables::open::open;
 use flow_tables::transaction::{begin, commit, rollback, undo};
-use sqlite::{Connection, Error, MemStore};
+use sqlite::{Connection, MemStore};
 use std::alloc::Global;
 use std::test::Fail;
 
@@ -53,89 +53,53 @@ fn texts(conn: &mut Memory) -> usize {
     }
 }
 
-fn can_open(alloc: Global, conn: &mut Memory) -> bool {
-    opens(alloc, conn) == Ok(())
-}
-
-fn is_open_twice(alloc: Global, conn: &mut Memory) -> bool {
-    can_open(alloc, conn) && can_open(alloc, conn) && !makes(conn) && conn.is_autocommit()
-}
-
-fn is_kept(conn: &mut Memory) -> bool {
-    let back = makes(conn) && begins(conn) && put(conn) && rolls_back(conn);
-    let none = back && texts(conn) == 0;
-    none && begins(conn) && put(conn) && commits(conn) && texts(conn) == 1
-}
-
-fn is_ended(alloc: Global, conn: &mut Memory) -> bool {
-    let put = makes(conn) && begins(conn) && put(conn);
-    put && can_open(alloc, conn) && texts(conn) == 0 && ends(conn)
-}
-
-fn is_left(alloc: Global, conn: &mut Memory) -> bool {
-    let made = change(conn, "CREATE TABLE meta (name TEXT) STRICT");
-    let refused = made && opens(alloc, conn) == Err(Fault::NotOurs);
-    refused && conn.is_autocommit() && texts(conn) == 99
-}
-
-fn tells_format(alloc: Global, conn: &mut Memory) -> bool {
-    let other = can_open(alloc, conn) && change(conn, "UPDATE meta SET value = 3");
-    let refused = other && opens(alloc, conn) == Err(Fault::BadVersion);
-    let gone = refused && change(conn, "DELETE FROM meta");
-    gone && opens(alloc, conn) == Err(Fault::NotOurs)
-}
-
-#[derive(Clone, Copy)]
-enum Case {
-    Twice,
-    Kept,
-    Ended,
-    Others,
-    Format,
-}
-
-fn is_so(alloc: Global, conn: &mut Memory, case: Case) -> bool {
-    match case {
-        Case::Twice => is_open_twice(alloc, conn),
-        Case::Kept => is_kept(conn),
-        Case::Ended => is_ended(alloc, conn),
-        Case::Others => is_left(alloc, conn),
-        Case::Format => tells_format(alloc, conn),
-    }
-}
-
-/// The one owner of a connection for these tests.
-fn tried(alloc: Global, case: Case) -> Result<bool, Error> {
-    let mut conn = Connection::open_in_memory(alloc)?;
-    Ok(is_so(alloc, &mut conn, case))
-}
-
 #[test]
 fn opens_twice(rt: HostRuntime) -> Result<(), Fail> {
-    assert!(rt; tried(rt.alloc(), Case::Twice)?);
+    let mut conn = Connection::open_in_memory(rt.alloc())?;
+    assert_eq!(rt; opens(rt.alloc(), &mut conn), Ok(()));
+    assert_eq!(rt; opens(rt.alloc(), &mut conn), Ok(()));
+    assert!(rt; !makes(&mut conn));
+    assert!(rt; conn.is_autocommit());
     Ok(())
 }
 
 #[test]
 fn keeps_what_was_committed(rt: HostRuntime) -> Result<(), Fail> {
-    assert!(rt; tried(rt.alloc(), Case::Kept)?);
+    let mut conn = Connection::open_in_memory(rt.alloc())?;
+    assert!(rt; makes(&mut conn) && begins(&mut conn) && put(&mut conn) && rolls_back(&mut conn));
+    assert_eq!(rt; texts(&mut conn), 0);
+    assert!(rt; begins(&mut conn) && put(&mut conn) && commits(&mut conn));
+    assert_eq!(rt; texts(&mut conn), 1);
     Ok(())
 }
 
 #[test]
 fn opening_ends_a_transaction(rt: HostRuntime) -> Result<(), Fail> {
-    assert!(rt; tried(rt.alloc(), Case::Ended)?);
+    let mut conn = Connection::open_in_memory(rt.alloc())?;
+    assert!(rt; makes(&mut conn) && begins(&mut conn) && put(&mut conn));
+    assert_eq!(rt; opens(rt.alloc(), &mut conn), Ok(()));
+    assert_eq!(rt; texts(&mut conn), 0);
+    assert!(rt; ends(&mut conn));
     Ok(())
 }
 
 #[test]
 fn leaves_tables_of_others(rt: HostRuntime) -> Result<(), Fail> {
-    assert!(rt; tried(rt.alloc(), Case::Others)?);
+    let mut conn = Connection::open_in_memory(rt.alloc())?;
+    assert!(rt; change(&mut conn, "CREATE TABLE meta (name TEXT) STRICT"));
+    assert_eq!(rt; opens(rt.alloc(), &mut conn), Err(Fault::NotOurs));
+    assert!(rt; conn.is_autocommit());
+    assert_eq!(rt; texts(&mut conn), 99);
     Ok(())
 }
 
 #[test]
 fn tells_another_format(rt: HostRuntime) -> Result<(), Fail> {
-    assert!(rt; tried(rt.alloc(), Case::Format)?);
+    let mut conn = Connection::open_in_memory(rt.alloc())?;
+    assert_eq!(rt; opens(rt.alloc(), &mut conn), Ok(()));
+    assert!(rt; change(&mut conn, "UPDATE meta SET value = 3"));
+    assert_eq!(rt; opens(rt.alloc(), &mut conn), Err(Fault::BadVersion));
+    assert!(rt; change(&mut conn, "DELETE FROM meta"));
+    assert_eq!(rt; opens(rt.alloc(), &mut conn), Err(Fault::NotOurs));
     Ok(())
 }
