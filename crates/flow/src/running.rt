@@ -84,7 +84,8 @@ pub fn done(outcome: Result<u8, Stopped>) -> Result<Next, Stopped>
 
 /// What came of an engine that ran, as the program ends with it.
 pub fn stopped_by(outcome: Result<u8, Fault>) -> Result<u8, Stopped>
-    ensures { result ≡ stopped_of outcome }
+    ensures is { result ≡ stopped_of outcome }
+    ensures within { IfOk outcome (λ n. n ≤ 3) → IfOk result (λ n. n ≤ 3) }
 {
     match outcome {
         Ok(status) => Ok(status),
