@@ -1,0 +1,62 @@
+//! What one thread gets for the same commands.
+use crate::commands::{Note, command, note_of};
+use crate::racing::{limited, open};
+use flow_commit::batch::Batch;
+use flow_engine::done::Done;
+use flow_engine::drive::drive;
+use flow_machine::submission::Taken;
+use sqlite::{Alter, Connection};
+use std::alloc::Global;
+
+fn batch_of(alloc: Global, numbers: &[u64]) -> Option<Batch> {
+    let mut taken = Vec::new(alloc);
+    for number in numbers {
+        let command = command(alloc, *number)?;
+        taken
+            .push(Taken {
+                ticket: *number,
+                command,
+            })
+            .ok()?;
+    }
+    if taken.is_empty() || taken.len() > 64 {
+        return None;
+    }
+    Some(Batch::of(taken))
+}
+
+fn batches_of(alloc: Global, numbers: &[u64], most: usize) -> Option<Vec<Batch>> {
+    let mut batches = Vec::new(alloc);
+    for some in numbers.chunks(limited(most)) {
+        batches.push(batch_of(alloc, some)?).ok()?;
+    }
+    Some(batches)
+}
+
+/// What is noted of all that is kept.
+fn notes_of(alloc: Global, dones: &[Done]) -> Option<Vec<Note>> {
+    let mut notes = Vec::new(alloc);
+    for done in dones {
+        if let Done::Kept(receipts) = done {
+            for receipt in receipts {
+                notes.push(note_of(receipt)).ok()?;
+            }
+        }
+    }
+    Some(notes)
+}
+
+/// Commits the commands of these numbers over a store, which is let go of then, in batches of at most so many.
+pub fn driven<S: Alter + Drop>(
+    alloc: Global,
+    conn: Connection<S>,
+    numbers: &[u64],
+    most: usize,
+) -> Option<Vec<Note>> {
+    let batches = batches_of(alloc, numbers, most)?;
+    let mut engine = open(alloc, conn)?;
+    match drive(&mut engine, batches) {
+        Ok(dones) => notes_of(alloc, dones.as_slice()),
+        Err((_batches, _error)) => None,
+    }
+}
