@@ -4,6 +4,7 @@ use crate::racing::{limited, open};
 use flow_commit::batch::Batch;
 use flow_engine::done::Done;
 use flow_engine::drive::drive;
+use flow_engine::engine::Engine;
 use flow_machine::submission::Taken;
 use sqlite::{Alter, Connection};
 use std::alloc::Global;
@@ -46,17 +47,32 @@ fn notes_of(alloc: Global, dones: &[Done]) -> Option<Vec<Note>> {
     Some(notes)
 }
 
-/// Commits the commands of these numbers over a store, which is let go of then, in batches of at most so many.
-pub fn driven<S: Alter + Drop>(
+/// Commits the commands of these numbers.
+fn driven_by<S: Alter>(
+    alloc: Global,
+    engine: &mut Engine<S>,
+    numbers: &[u64],
+    most: usize,
+) -> Option<Vec<Note>> {
+    match drive(engine, batches_of(alloc, numbers, most)?) {
+        Ok(dones) => notes_of(alloc, dones.as_slice()),
+        Err((_batches, _error)) => None,
+    }
+}
+
+/// The same in batches of at most so many, over a store, which comes back.
+pub fn driven<S: Alter>(
     alloc: Global,
     conn: Connection<S>,
     numbers: &[u64],
     most: usize,
-) -> Option<Vec<Note>> {
-    let batches = batches_of(alloc, numbers, most)?;
-    let mut engine = open(alloc, conn)?;
-    match drive(&mut engine, batches) {
-        Ok(dones) => notes_of(alloc, dones.as_slice()),
-        Err((_batches, _error)) => None,
+) -> (Option<Vec<Note>>, Connection<S>) {
+    match open(alloc, conn) {
+        Ok(engine) => {
+            let mut engine = engine;
+            let notes = driven_by(alloc, &mut engine, numbers, most);
+            (notes, engine.close())
+        }
+        Err(conn) => (None, conn),
     }
 }

@@ -27,6 +27,20 @@ pub fn numbers_in(alloc: Global, receipts: &[Note]) -> Option<Vec<u64>> {
     Some(numbers)
 }
 
+/// How many commands a plan has, with the text.
+fn count_of(plan: Plan) -> u64 {
+    plan.threads.saturating_mul(plan.each).saturating_add(1)
+}
+
+/// The numbers of all its commands.
+pub fn numbers_of(alloc: Global, plan: Plan) -> Option<Vec<u64>> {
+    let mut numbers = Vec::new(alloc);
+    for number in 0..count_of(plan) {
+        numbers.push(number).ok()?;
+    }
+    Some(numbers)
+}
+
 /// Whether each submitter's tickets, places and commands rise as it has fetched them.
 fn is_fair(notes: &[Vec<Note>]) -> bool {
     for some in notes {
@@ -71,7 +85,7 @@ fn count(notes: &[Vec<Note>], code: u8) -> u64 {
 /// for what waited or E91 for what came later.
 fn is_told(raced: &Raced, plan: Plan) -> bool {
     let notes = raced.brought.notes.as_slice();
-    let all = plan.threads.saturating_mul(plan.each).saturating_add(1);
+    let all = count_of(plan);
     let kept = count(notes, 0);
     let unknown = count(notes, 84);
     let later = count(notes, 85).saturating_add(count(notes, 91));
@@ -115,31 +129,32 @@ fn is_same(receipts: &[Note], others: &[Note], is_again: bool) -> bool {
     true
 }
 
-/// What isn't as it should be, in words. `again` is what one thread got for the commands of the receipts over the same store, and
-/// `anew` over a new one.
-pub fn verdict(
-    raced: &Raced,
-    plan: Plan,
-    receipts: &[Note],
-    again: &[Note],
-    anew: &[Note],
-) -> &'static str {
+/// The receipts of a race, and what one thread got for their commands, over the same store and over a new one.
+#[derive(Clone, Copy)]
+pub struct Told<'a> {
+    pub receipts: &'a [Note],
+    pub again: &'a [Note],
+    pub anew: &'a [Note],
+}
+
+/// What isn't as it should be, in words.
+pub fn verdict(raced: &Raced, plan: Plan, told: &Told<'_>) -> &'static str {
     if !is_told(raced, plan) {
         return "not every command is told what became of it";
     }
-    if !is_one_order(receipts) {
+    if !is_one_order(told.receipts) {
         return "the places are not those of one order";
     }
     if !is_fair(raced.brought.notes.as_slice()) {
         return "a submitter's places do not rise";
     }
-    if raced.brought.published != receipts.len() as u64 {
+    if raced.brought.published != told.receipts.len() as u64 {
         return "not all receipts are published";
     }
-    if !is_same(receipts, again, true) {
+    if !is_same(told.receipts, told.again, true) {
         return "not all that has a receipt is in the store";
     }
-    if !is_same(receipts, anew, false) {
+    if !is_same(told.receipts, told.anew, false) {
         return "the replies are not those to one thread";
     }
     "as it should be"

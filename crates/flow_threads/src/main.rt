@@ -14,20 +14,15 @@ mod submitting;
 mod telling;
 mod words;
 
-use crate::stores::{clear, open_store};
+use crate::stores::clear;
 use crate::telling::tell;
-use crate::words::asked;
+use crate::words::asked_by;
 use std::{env, io};
 
 /// The store and who starts threads are both known here alone: what crosses to a thread is found then to be such as may.
 fn main(rt: HostRuntime) -> io::Result<()> {
     let words = env::args(&rt)?.collect::<Vec<String>>(rt.alloc())?;
-    let told = tell(
-        &rt,
-        &rt,
-        &|is_new, calls| open_store(&rt, is_new, calls),
-        asked(words.as_slice()),
-    );
+    let told = tell(&rt, &rt, &rt, asked_by(words.as_slice()));
     clear(&rt);
     told
 }

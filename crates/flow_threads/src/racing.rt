@@ -1,5 +1,5 @@
 //! An engine that serves a hub to which many threads submit.
-ghost use Rattle.std.specs.Prelude.{◌≡◌, ◌≤◌, [], IfSome};
+ghost use Rattle.std.specs.Prelude.{◌≡◌, ◌≤◌, [], IfOk};
 ghost use Rattle.flow_hub.specs.Seating.{IsRoomOf};
 
 use crate::submitting::{Brought, run_race};
@@ -39,13 +39,13 @@ impl Clock for Still {
     }
 }
 
-/// The engine over a store.
-pub fn open<S: Alter + Drop>(alloc: Global, conn: Connection<S>) -> Option<Engine<S>>
-    ensures { IfSome result (λ e. e.log ≡ []) }
+/// The engine over a store, or the store.
+pub fn open<S: Alter>(alloc: Global, conn: Connection<S>) -> Result<Engine<S>, Connection<S>>
+    ensures { IfOk result (λ e. e.log ≡ []) }
 {
     match Engine::open(alloc, conn, Settings::usual()) {
-        Ok(engine) => Some(engine),
-        Err((_fault, _conn)) => None,
+        Ok(engine) => Ok(engine),
+        Err((_fault, conn)) => Err(conn),
     }
 }
 
@@ -78,7 +78,7 @@ fn number_of(fault: &Fault) -> u8 {
 
 /// Serves on one thread, and submits on the others.
 fn serve_race<
-    S: Alter + Drop + Send + Sync,
+    S: Alter + Send + Sync,
     B: Room + Send + Sync,
     R: Threads + Wait + time::Clock + Sync,
 >(
@@ -104,7 +104,7 @@ fn serve_race<
 
 /// A race over a hub of this name.
 fn race_named<
-    S: Alter + Drop + Send + Sync,
+    S: Alter + Send + Sync,
     B: Room + Send + Sync,
     R: Threads + Wait + time::Clock + Sync,
 >(rt: &R, alloc: Global, engine: &mut Engine<S>, opened: Opened<S>, plan: Plan) -> Option<Raced>
@@ -122,13 +122,31 @@ fn race_named<
     })
 }
 
-/// What the threads of a plan get of an engine over a store, which is let go of then.
-pub fn race<S: Alter + Drop + Send + Sync, R: Threads + Wait + time::Clock + Sync>(
+/// A race over an engine that was opened just now.
+fn race_over<S: Alter + Send + Sync, R: Threads + Wait + time::Clock + Sync>(
+    rt: &R,
+    alloc: Global,
+    engine: &mut Engine<S>,
+    plan: Plan,
+) -> Option<Raced>
+    requires { engine.old.log ≡ [] }
+{
+    race_named::<S, Brand, R>(rt, alloc, engine, Opened::new(alloc).ok()?, plan)
+}
+
+/// What the threads of a plan get of an engine over a store, which comes back.
+pub fn race<S: Alter + Send + Sync, R: Threads + Wait + time::Clock + Sync>(
     rt: &R,
     alloc: Global,
     conn: Connection<S>,
     plan: Plan,
-) -> Option<Raced> {
-    let mut engine = open(alloc, conn)?;
-    race_named::<S, Brand, R>(rt, alloc, &mut engine, Opened::new(alloc).ok()?, plan)
+) -> (Option<Raced>, Connection<S>) {
+    match open(alloc, conn) {
+        Ok(engine) => {
+            let mut engine = engine;
+            let raced = race_over(rt, alloc, &mut engine, plan);
+            (raced, engine.close())
+        }
+        Err(conn) => (None, conn),
+    }
 }

@@ -1,5 +1,5 @@
 //! The one file of all races, which may fail.
-use sqlite::{Connection, File, FileStore, Files, Options};
+use sqlite::{Alter, Connection, File, FileStore, Files, Options};
 use sqlite_disk::{Disk, Fuse};
 use sqlite_std_file::Unknown;
 use std::alloc::Global;
@@ -19,7 +19,15 @@ pub fn clear(host: &HostRuntime) {
     let _ = fs::remove_file(host, LOG);
 }
 
-/// The store over two files, of which the log passes so many calls on.
+/// Where a store is opened and closed.
+pub trait Place<S: Alter> {
+    /// The store, which is made anew if that is asked for. Its log passes so many calls on.
+    fn open(&self, is_new: bool, calls: u64) -> Option<Connection<S>>;
+
+    /// Lets go of the store, and copies nothing before.
+    fn close(&self, conn: Connection<S>);
+}
+
 fn open_over<D: Disk + Drop>(
     alloc: Global,
     files: Files<D>,
@@ -35,15 +43,23 @@ fn open_over<D: Disk + Drop>(
     }
     match Connection::open_files(alloc, files, Options::new(1)) {
         Ok(conn) => Some(conn),
-        Err((_error, _left)) => None,
+        Err((_error, left)) => {
+            let _files = left.into_files();
+            None
+        }
     }
 }
 
-/// The store over the file, which is made anew if that is asked for.
-pub fn open_store(host: &HostRuntime, is_new: bool, calls: u64) -> Option<Connection<Store>> {
-    if is_new {
-        clear(host);
+impl Place<Store> for HostRuntime {
+    fn open(&self, is_new: bool, calls: u64) -> Option<Connection<Store>> {
+        if is_new {
+            clear(self);
+        }
+        let files = sqlite_std_file::open(self, FILE, Unknown).ok()?;
+        open_over(self.alloc(), files, calls)
     }
-    let files = sqlite_std_file::open(host, FILE, Unknown).ok()?;
-    open_over(host.alloc(), files, calls)
+
+    fn close(&self, conn: Connection<Store>) {
+        let _files = conn.into_store().close();
+    }
 }

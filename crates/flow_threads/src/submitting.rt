@@ -86,7 +86,7 @@ fn submit_all<S: Alter, B: Room, R: Wait>(
 }
 
 /// What the thread of this number does.
-fn work<S: Alter + Drop, B: Room, R: Wait>(
+fn work<S: Alter, B: Room, R: Wait>(
     rt: &R,
     alloc: Global,
     hub: &Hub<S, B>,
@@ -108,19 +108,20 @@ fn add_all(notes: &mut Vec<Vec<Note>>, more: Vec<Option<Vec<Note>>>) -> Option<(
 }
 
 /// Registers the text, and then submits and fetches on all threads.
-fn submit_race<
-    S: Alter + Drop + Send + Sync,
-    B: Room + Send + Sync,
-    R: Threads + Wait + Clock + Sync,
->(rt: &R, alloc: Global, hub: &Hub<S, B>, plan: Plan) -> Option<Brought> {
+fn submit_race<S: Alter + Send + Sync, B: Room + Send + Sync, R: Threads + Wait + Clock + Sync>(
+    rt: &R,
+    alloc: Global,
+    hub: &Hub<S, B>,
+    plan: Plan,
+) -> Option<Brought> {
     let mut registrar = hub.submitter(rt).ok()?;
     let mut notes = Vec::new(alloc);
     notes
         .push(submit_all(rt, alloc, &mut registrar, 0, 1, 1)?)
         .ok()?;
     thread::sleep(rt, plan.pause);
-    let work = |at| work(rt, alloc, hub, plan, at as u64);
-    let more = thread::map_indices(rt, alloc, plan.threads as usize, &work).ok()?;
+    let each = |at| work(rt, alloc, hub, plan, at as u64);
+    let more = thread::map_indices(rt, alloc, plan.threads as usize, &each).ok()?;
     add_all(&mut notes, more)?;
     Some(Brought {
         notes,
@@ -129,11 +130,12 @@ fn submit_race<
 }
 
 /// The same, and closes the hub behind all of them.
-pub fn run_race<
-    S: Alter + Drop + Send + Sync,
-    B: Room + Send + Sync,
-    R: Threads + Wait + Clock + Sync,
->(rt: &R, alloc: Global, hub: &Hub<S, B>, plan: Plan) -> Option<Brought> {
+pub fn run_race<S: Alter + Send + Sync, B: Room + Send + Sync, R: Threads + Wait + Clock + Sync>(
+    rt: &R,
+    alloc: Global,
+    hub: &Hub<S, B>,
+    plan: Plan,
+) -> Option<Brought> {
     let brought = submit_race(rt, alloc, hub, plan);
     hub.close(rt);
     brought

@@ -1,10 +1,11 @@
 //! What the program prints.
 use crate::commands::Note;
 use crate::driving::driven;
-use crate::judging::{in_order, numbers_in, verdict};
-use crate::racing::race;
+use crate::judging::{Told, in_order, numbers_in, numbers_of, verdict};
+use crate::racing::{Raced, race};
+use crate::stores::Place;
 use crate::words::{Asked, Plan};
-use sqlite::{Alter, Connection};
+use sqlite::Alter;
 use std::alloc::Global;
 use std::io;
 use std::sync::Wait;
@@ -30,72 +31,83 @@ const EIGHT: Plan = Plan {
 /// The calls of the log that don't fail: those of the opening and of some commits, and far from all.
 const CALLS: u64 = 60;
 
-/// What became of a race: the number for which it has ended, and how many receipts there are where that is always the same.
-fn judged<
-    S: Alter + Drop + Send + Sync,
-    R: Threads + Wait + Clock + Sync,
-    O: Fn(bool, u64) -> Option<Connection<S>>,
->(rt: &R, alloc: Global, open: &O, plan: Plan, calls: u64) -> Option<(u8, &'static str)>
-    requires { O.IsAlwaysCallable open.now }
-{
-    let raced = race(rt, alloc, open(true, calls)?, plan)?;
-    let receipts = in_order(alloc, raced.brought.notes.as_slice())?;
-    let numbers = numbers_in(alloc, receipts.as_slice())?;
-    let again = driven(alloc, open(false, u64::MAX)?, numbers.as_slice(), plan.most)?;
-    let anew = driven(alloc, open(true, u64::MAX)?, numbers.as_slice(), plan.most)?;
-    let verdict = verdict(
-        &raced,
-        plan,
-        receipts.as_slice(),
-        again.as_slice(),
-        anew.as_slice(),
-    );
-    Some((raced.ended, verdict))
+/// What the threads of a plan get over a new store.
+fn race_at<S: Alter + Send + Sync, R: Threads + Wait + Clock + Sync, P: Place<S>>(
+    rt: &R,
+    alloc: Global,
+    place: &P,
+    plan: Plan,
+    calls: u64,
+) -> Option<Raced> {
+    let (raced, conn) = race(rt, alloc, place.open(true, calls)?, plan);
+    place.close(conn);
+    raced
 }
 
-fn tell_race<
-    S: Alter + Drop + Send + Sync,
-    R: Threads + Wait + Clock + Sync,
-    O: Fn(bool, u64) -> Option<Connection<S>>,
->(rt: &R, host: &HostRuntime, open: &O, name: &str, plan: Plan, calls: u64) -> io::Result<()>
-    requires { O.IsAlwaysCallable open.now }
-{
-    match judged(rt, host.alloc(), open, plan, calls) {
+/// What one thread gets for the commands of these numbers.
+fn driven_at<S: Alter, P: Place<S>>(
+    alloc: Global,
+    place: &P,
+    is_new: bool,
+    numbers: &[u64],
+    most: usize,
+) -> Option<Vec<Note>> {
+    let (notes, conn) = driven(alloc, place.open(is_new, u64::MAX)?, numbers, most);
+    place.close(conn);
+    notes
+}
+
+/// What became of a race: the number for which serving has ended, and what is said of the rest.
+fn judged<S: Alter + Send + Sync, R: Threads + Wait + Clock + Sync, P: Place<S>>(
+    rt: &R,
+    alloc: Global,
+    place: &P,
+    plan: Plan,
+    calls: u64,
+) -> Option<(u8, &'static str)> {
+    let raced = race_at(rt, alloc, place, plan, calls)?;
+    let receipts = in_order(alloc, raced.brought.notes.as_slice())?;
+    let numbers = numbers_in(alloc, receipts.as_slice())?;
+    let again = driven_at(alloc, place, false, numbers.as_slice(), plan.most)?;
+    let anew = driven_at(alloc, place, true, numbers.as_slice(), plan.most)?;
+    let told = Told {
+        receipts: receipts.as_slice(),
+        again: again.as_slice(),
+        anew: anew.as_slice(),
+    };
+    Some((raced.ended, verdict(&raced, plan, &told)))
+}
+
+fn tell_race<S: Alter + Send + Sync, R: Threads + Wait + Clock + Sync, P: Place<S>>(
+    rt: &R,
+    host: &HostRuntime,
+    place: &P,
+    name: &str,
+    plan: Plan,
+    calls: u64,
+) -> io::Result<()> {
+    match judged(rt, host.alloc(), place, plan, calls) {
         Some((ended, verdict)) => println!(host; "{name}: ended by {ended}, {verdict}"),
         None => println!(host; "{name}: given up"),
     }
 }
 
-/// The numbers of all commands of a plan.
-fn numbers_of(alloc: Global, plan: Plan) -> Option<Vec<u64>> {
-    let mut numbers = Vec::new(alloc);
-    let end = plan.threads.saturating_mul(plan.each).saturating_add(1);
-    for number in 0..end {
-        numbers.push(number).ok()?;
-    }
-    Some(numbers)
-}
-
-/// How many commands one thread keeps.
-fn count_driven<S: Alter + Drop>(
-    alloc: Global,
-    conn: Option<Connection<S>>,
-    plan: Plan,
-) -> Option<usize> {
+/// How many commands of a plan one thread keeps.
+fn count_driven<S: Alter, P: Place<S>>(alloc: Global, place: &P, plan: Plan) -> Option<usize> {
     let numbers = numbers_of(alloc, plan)?;
-    let notes = driven(alloc, conn?, numbers.as_slice(), plan.most)?;
+    let notes = driven_at(alloc, place, true, numbers.as_slice(), plan.most)?;
     Some(notes.len())
 }
 
-/// How many receipts the threads get.
-fn count_served<S: Alter + Drop + Send + Sync, R: Threads + Wait + Clock + Sync>(
+/// How many receipts its threads get.
+fn count_served<S: Alter + Send + Sync, R: Threads + Wait + Clock + Sync, P: Place<S>>(
     rt: &R,
     alloc: Global,
-    conn: Option<Connection<S>>,
+    place: &P,
     plan: Plan,
 ) -> Option<usize> {
-    let raced = race(rt, alloc, conn?, plan)?;
-    let receipts: Vec<Note> = in_order(alloc, raced.brought.notes.as_slice())?;
+    let raced = race_at(rt, alloc, place, plan, u64::MAX)?;
+    let receipts = in_order(alloc, raced.brought.notes.as_slice())?;
     Some(receipts.len())
 }
 
@@ -106,50 +118,28 @@ fn tell_time(host: &HostRuntime, start: Instant, count: Option<usize>) -> io::Re
     println!(host; "{count} {micros}")
 }
 
-/// Prints what is asked for, over stores that `open` opens: whether it is to be new, and how many calls of its log don't fail.
-pub fn tell<
-    S: Alter + Drop + Send + Sync,
-    R: Threads + Wait + Clock + Sync,
-    O: Fn(bool, u64) -> Option<Connection<S>>,
->(rt: &R, host: &HostRuntime, open: &O, asked: Asked) -> io::Result<()>
-    requires { O.IsAlwaysCallable open.now }
-{
+/// Prints what is asked for, over the stores of a place.
+pub fn tell<S: Alter + Send + Sync, R: Threads + Wait + Clock + Sync, P: Place<S>>(
+    rt: &R,
+    host: &HostRuntime,
+    place: &P,
+    asked: Asked,
+) -> io::Result<()> {
+    let start = Instant::now(host)?;
     match asked {
         Asked::Races => {
+            tell_race(rt, host, place, "two threads", TWO, u64::MAX)?;
+            tell_race(rt, host, place, "eight threads", EIGHT, u64::MAX)?;
             tell_race(
                 rt,
                 host,
-                open,
-                "two threads, 500 starts each",
-                TWO,
-                u64::MAX,
-            )?;
-            tell_race(
-                rt,
-                host,
-                open,
-                "eight threads, 50 starts each",
-                EIGHT,
-                u64::MAX,
-            )?;
-            tell_race(
-                rt,
-                host,
-                open,
-                "eight threads over a file that fails",
+                place,
+                "eight threads, a log that fails",
                 EIGHT,
                 CALLS,
             )
         }
-        Asked::Drive(plan) => {
-            let conn = open(true, u64::MAX);
-            let start = Instant::now(host)?;
-            tell_time(host, start, count_driven(host.alloc(), conn, plan))
-        }
-        Asked::Serve(plan) => {
-            let conn = open(true, u64::MAX);
-            let start = Instant::now(host)?;
-            tell_time(host, start, count_served(rt, host.alloc(), conn, plan))
-        }
+        Asked::Drive(plan) => tell_time(host, start, count_driven(host.alloc(), place, plan)),
+        Asked::Serve(plan) => tell_time(host, start, count_served(rt, host.alloc(), place, plan)),
     }
 }

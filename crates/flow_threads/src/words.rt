@@ -43,7 +43,7 @@ fn plan_of(words: &[String]) -> Option<Plan> {
 }
 
 /// The three races where the words ask for nothing else.
-pub fn asked(words: &[String]) -> Asked {
+pub fn asked_by(words: &[String]) -> Asked {
     match (words.get(1), plan_of(words)) {
         (Some(mode), Some(plan)) if mode.as_str() == "drive" => Asked::Drive(plan),
         (Some(mode), Some(plan)) if mode.as_str() == "serve" => Asked::Serve(plan),
