@@ -20,13 +20,12 @@ use std::{thread, time};
 /// How often `hold` asks whether `mark` has run.
 const ASKED: u64 = 10_000_000;
 
-/// Two activities over one mark.
+/// One of two activities over one mark: `hold` gives 1 once the mark is there, and fails with `alone` where it doesn't come; `mark`
+/// sets it and gives 2.
 #[derive(Drop)]
-enum Pair {
-    /// Gives 1 once the mark is there, and fails with `alone` where it doesn't come.
-    Hold(Arc<AtomicBool, Global>),
-    /// Sets the mark and gives 2.
-    Mark(Arc<AtomicBool, Global>),
+struct OfPair {
+    sets: bool,
+    mark: Arc<AtomicBool, Global>,
 }
 
 fn hold(alloc: Global, mark: &AtomicBool) -> Result<Attempt, AllocError> {
@@ -39,29 +38,23 @@ fn hold(alloc: Global, mark: &AtomicBool) -> Result<Attempt, AllocError> {
     Attempt::failed(alloc, "alone")
 }
 
-impl Activity for Pair {
-    ghost use Rattle.std.specs.Prelude.{List, ℕ};
-    ghost use Rattle.flow_work_tests.specs.Pairs.{pair_name};
+impl Activity for OfPair {
+    ghost use Rattle.std.specs.Prelude.{List, ℕ, codes, cond};
 
-    ghost named = { pair_name };
+    ghost named = { λ p. cond p.sets (codes "mark") (codes "hold") };
 
     ghost gives = { λ _ t a. Unit {0} };
 
     fn name(&self) -> &str {
-        match self {
-            Pair::Hold(_) => "hold",
-            Pair::Mark(_) => "mark",
-        }
+        if self.sets { "mark" } else { "hold" }
     }
 
     fn run(&mut self, alloc: Global, _task: &Task) -> Result<Attempt, AllocError> {
-        match self {
-            Pair::Hold(mark) => hold(alloc, mark),
-            Pair::Mark(mark) => {
-                mark.store(true, Ordering::SeqCst);
-                Ok(Attempt::Done(Value::Int(2)))
-            }
+        if self.sets {
+            self.mark.store(true, Ordering::SeqCst);
+            return Ok(Attempt::Done(Value::Int(2)));
         }
+        hold(alloc, &self.mark)
     }
 }
 
@@ -71,13 +64,15 @@ struct Both {
     mark: Arc<AtomicBool, Global>,
 }
 
-impl Skills<Pair> for Both {
+impl Skills<OfPair> for Both {
     ghost has = { λ _ all. Unit {0} };
 
-    fn of_worker(&self, alloc: Global) -> Result<Vec<Pair>, AllocError> {
+    fn of_worker(&self, alloc: Global) -> Result<Vec<OfPair>, AllocError> {
         let mut both = Vec::with_capacity(alloc, 2)?;
-        both.push(Pair::Hold(Arc::try_clone(&self.mark)?))?;
-        both.push(Pair::Mark(Arc::try_clone(&self.mark)?))?;
+        let mark = Arc::try_clone(&self.mark)?;
+        both.push(OfPair { sets: false, mark })?;
+        let mark = Arc::try_clone(&self.mark)?;
+        both.push(OfPair { sets: true, mark })?;
         Ok(both)
     }
 }
