@@ -129,32 +129,31 @@ fn is_same(receipts: &[Note], others: &[Note], is_again: bool) -> bool {
     true
 }
 
-/// The receipts of a race, and what one thread got for their commands, over the same store and over a new one.
-#[derive(Clone, Copy)]
-pub struct Told<'a> {
-    pub receipts: &'a [Note],
-    pub again: &'a [Note],
-    pub anew: &'a [Note],
-}
-
-/// What isn't as it should be, in words.
-pub fn verdict(raced: &Raced, plan: Plan, told: &Told<'_>) -> &'static str {
+/// What isn't as it should be, in words. Of the receipts' commands `again` is what one thread got over the same store, and `anew` over a
+/// new one.
+pub fn verdict(
+    raced: &Raced,
+    plan: Plan,
+    receipts: &[Note],
+    again: &[Note],
+    anew: &[Note],
+) -> &'static str {
     if !is_told(raced, plan) {
         return "not every command is told what became of it";
     }
-    if !is_one_order(told.receipts) {
+    if !is_one_order(receipts) {
         return "the places are not those of one order";
     }
     if !is_fair(raced.brought.notes.as_slice()) {
         return "a submitter's places do not rise";
     }
-    if raced.brought.published != told.receipts.len() as u64 {
+    if raced.brought.published != receipts.len() as u64 {
         return "not all receipts are published";
     }
-    if !is_same(told.receipts, told.again, true) {
+    if !is_same(receipts, again, true) {
         return "not all that has a receipt is in the store";
     }
-    if !is_same(told.receipts, told.anew, false) {
+    if !is_same(receipts, anew, false) {
         return "the replies are not those to one thread";
     }
     "as it should be"

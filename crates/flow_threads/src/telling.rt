@@ -1,7 +1,7 @@
 //! What the program prints.
 use crate::commands::Note;
 use crate::driving::driven;
-use crate::judging::{Told, in_order, numbers_in, numbers_of, verdict};
+use crate::judging::{in_order, numbers_in, numbers_of, verdict};
 use crate::racing::{Raced, race};
 use crate::stores::Place;
 use crate::words::{Asked, Plan};
@@ -70,12 +70,14 @@ fn judged<S: Alter + Send + Sync, R: Threads + Wait + Clock + Sync, P: Place<S>>
     let numbers = numbers_in(alloc, receipts.as_slice())?;
     let again = driven_at(alloc, place, false, numbers.as_slice(), plan.most)?;
     let anew = driven_at(alloc, place, true, numbers.as_slice(), plan.most)?;
-    let told = Told {
-        receipts: receipts.as_slice(),
-        again: again.as_slice(),
-        anew: anew.as_slice(),
-    };
-    Some((raced.ended, verdict(&raced, plan, &told)))
+    let verdict = verdict(
+        &raced,
+        plan,
+        receipts.as_slice(),
+        again.as_slice(),
+        anew.as_slice(),
+    );
+    Some((raced.ended, verdict))
 }
 
 fn tell_race<S: Alter + Send + Sync, R: Threads + Wait + Clock + Sync, P: Place<S>>(
