@@ -53,7 +53,13 @@ pub fn open<S: Alter>(alloc: Global, conn: Connection<S>) -> Result<Engine<S>, C
 pub fn limited(most: usize) -> usize
     ensures { (1 ≤ result) × (result ≤ 64) }
 {
-    most.max(1).min(64)
+    if most < 1 {
+        1
+    } else if most > 64 {
+        64
+    } else {
+        most
+    }
 }
 
 /// Serves a hub until it is closed and all is answered: for which number it has ended.
@@ -102,24 +108,24 @@ fn serve_race<
     )
 }
 
-/// A race over a hub of this name.
+/// The same over a hub of this name. None: there is no memory for one.
 fn race_named<
     S: Alter + Send + Sync,
     B: Room + Send + Sync,
     R: Threads + Wait + time::Clock + Sync,
->(rt: &R, alloc: Global, engine: &mut Engine<S>, opened: Opened<S>, plan: Plan) -> Option<Raced>
+>(
+    rt: &R,
+    alloc: Global,
+    engine: &mut Engine<S>,
+    opened: Opened<S>,
+    clock: Still,
+    plan: Plan,
+) -> Option<(Option<Brought>, u8)>
     requires room { IsRoomOf opened B.table B.name B.parts }
     requires anew { engine.old.log ≡ [] }
 {
     let (mut publisher, hub) = Hub::<S, B>::new(alloc, opened).ok()?;
-    let clock = Still {
-        now: Moment::new(1000)?,
-    };
-    let (brought, ended) = serve_race(rt, alloc, engine, &mut publisher, &hub, clock, plan);
-    Some(Raced {
-        brought: brought?,
-        ended,
-    })
+    Some(serve_race(rt, alloc, engine, &mut publisher, &hub, clock, plan))
 }
 
 /// A race over an engine that was opened just now.
@@ -131,7 +137,15 @@ fn race_over<S: Alter + Send + Sync, R: Threads + Wait + time::Clock + Sync>(
 ) -> Option<Raced>
     requires { engine.old.log ≡ [] }
 {
-    race_named::<S, Brand, R>(rt, alloc, engine, Opened::new(alloc).ok()?, plan)
+    let clock = Still {
+        now: Moment::new(1000)?,
+    };
+    let opened = Opened::new(alloc).ok()?;
+    let (brought, ended) = race_named::<S, Brand, R>(rt, alloc, engine, opened, clock, plan)?;
+    Some(Raced {
+        brought: brought?,
+        ended,
+    })
 }
 
 /// What the threads of a plan get of an engine over a store, which comes back.
