@@ -5,3 +5,4 @@ pub mod Sound
 pub mod Serving
 pub mod Once
 pub mod Chosen
+pub mod Waking

@@ -7,3 +7,4 @@ pub mod Refusals
 pub mod Publishing
 pub mod Feeding
 pub mod Submitting
+pub mod Waking

@@ -1,5 +1,6 @@
 //! Who waits for an answer, by ticket, so that an answer wakes few beside the one that it is for.
-ghost use Rattle.std.specs.Prelude.{◌<◌};
+ghost use Rattle.std.specs.Prelude.{◌≡◌, ◌%◌, All};
+ghost use Rattle.flow_hub.specs.Waking.{Wakes};
 
 use flow_machine::submission::{Receipt, Taken};
 use std::sync::Condvar;
@@ -18,7 +19,7 @@ pub(crate) struct Waits {
 
 /// Where the condition of a ticket stands.
 fn place_of(ticket: u64) -> usize
-    ensures { result < 16 }
+    ensures { result ≡ ticket % 16 }
 {
     (ticket % CONDITIONS) as usize
 }
@@ -71,7 +72,9 @@ impl Waits {
 }
 
 /// The conditions of these receipts' tickets.
-pub(crate) fn told_by(receipts: &[Receipt]) -> Told {
+pub(crate) fn told_by(receipts: &[Receipt]) -> Told
+    ensures { All (λ r. Wakes result r.ticket) receipts.now }
+{
     let mut told = [false; 16];
     for receipt in receipts {
         told[place_of(receipt.ticket)] = true;
@@ -80,7 +83,9 @@ pub(crate) fn told_by(receipts: &[Receipt]) -> Told {
 }
 
 /// The conditions of what was taken.
-pub(crate) fn told_of(all: &[Taken]) -> Told {
+pub(crate) fn told_of(all: &[Taken]) -> Told
+    ensures { All (λ t. Wakes result t.ticket) all.now }
+{
     let mut told = [false; 16];
     for taken in all {
         told[place_of(taken.ticket)] = true;
