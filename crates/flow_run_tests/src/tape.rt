@@ -227,6 +227,19 @@ pub fn stance_goes_on(
     Ok(stance_goes(alloc, program, stance, at, &input, wanted))
 }
 
+// The same of a plain run.
+fn plain_goes_on(
+    alloc: Global,
+    program: &Program,
+    run: &mut PlainRun,
+    next: Turn,
+) -> Result<bool, Fail> {
+    let (at, comes, wanted) = next;
+    let at = moment(at)?;
+    let input = input(alloc, comes)?;
+    Ok(plain_goes(alloc, program, run, at, &input, wanted))
+}
+
 // Whether the next turn of both does.
 fn goes(
     alloc: Global,
@@ -235,11 +248,8 @@ fn goes(
     stance: &mut Stance,
     next: Turn,
 ) -> Result<bool, Fail> {
-    let (at, comes, wanted) = next;
-    let at = moment(at)?;
-    let input = input(alloc, comes)?;
-    let plain = plain_goes(alloc, program.program(), run, at, &input, wanted);
-    let stance = stance_goes(alloc, program, stance, at, &input, wanted);
+    let plain = plain_goes_on(alloc, program.program(), run, next)?;
+    let stance = stance_goes_on(alloc, program, stance, next)?;
     Ok(plain && stance)
 }
 
@@ -281,19 +291,6 @@ pub struct Left {
     pub state: State,
     pub events: u64,
     pub moment: u64,
-}
-
-// Whether the next turn of a plain run alone asks what is wanted.
-fn plain_goes_on(
-    alloc: Global,
-    program: &Program,
-    run: &mut PlainRun,
-    next: Turn,
-) -> Result<bool, Fail> {
-    let (at, comes, wanted) = next;
-    let at = moment(at)?;
-    let input = input(alloc, comes)?;
-    Ok(plain_goes(alloc, program, run, at, &input, wanted))
 }
 
 fn other_of_plain(
