@@ -4,12 +4,11 @@ ghost use Rattle.flow_hub.specs.Feeding.{HasGiven};
 ghost use Rattle.flow_hub.specs.Knowing.{IsBefore};
 ghost use Rattle.flow_hub.specs.Seating.{IsGivers};
 
-use crate::hub::Shared;
+use crate::hub::{Shared, shared_in};
 use crate::seats::{Pass, Room};
 use flow_machine::task::Task;
 use sqlite::Alter;
 use std::marker::Model;
-use std::mem;
 use std::sync::{Arc, Wait};
 
 /// Gives the tasks out that are posted, in their order. A hub has one. To a contract it is what it knows of the hub: of what was
@@ -47,7 +46,7 @@ fn given<S: Alter, B: Room, R: Wait>(
     ensures grows { IsBefore seat.was result.0.was }
 {
     let mut me = seat;
-    let mut state = shared.state.lock(rt);
+    let mut state = shared.lock(rt);
     for _ in rt.forever() {
         let (seen, task) = state.give(&shared.seats, me);
         me = seen;
@@ -76,8 +75,8 @@ impl<S: Alter, B: Room> Feed<S, B> {
         ensures none { IfNone result (self.new.closed ≡ true) }
         ensures grows { IsBefore self.old self.new }
     {
-        let shared = &*self.shared;
-        let me = mem::replace(&mut self.seat, shared.seats.enter());
+        let shared = shared_in(&self.shared);
+        let me = shared.seats.leave(&mut self.seat);
         let (me, task) = given(rt, shared, me);
         self.seat = me;
         task

@@ -12,7 +12,7 @@ use crate::submitter::Submitter;
 use crate::waits::Waits;
 use sqlite::Alter;
 use std::alloc::{AllocError, Global};
-use std::sync::{Arc, Condvar, Mutex, Wait};
+use std::sync::{Arc, Condvar, Mutex, MutexGuard, Wait};
 
 /// What the threads of a hub share.
 #[derive(Drop)]
@@ -29,7 +29,17 @@ pub(crate) struct Shared<S: Alter, B: Room> {
     pub(crate) turned: Condvar,
 }
 
+/// What is shared, by one who has a part in it.
+pub(crate) fn shared_in<S: Alter, B: Room>(shared: &Arc<Shared<S, B>>) -> &Shared<S, B> {
+    shared
+}
+
 impl<S: Alter, B: Room> Shared<S, B> {
+    /// Waits for the lock.
+    pub(crate) fn lock<R: Wait>(&self, rt: &R) -> MutexGuard<'_, State<S, B>> {
+        self.state.lock(rt)
+    }
+
     /// Wakes all who wait.
     pub(crate) fn wake(&self) {
         self.asked.notify_all();
@@ -80,7 +90,8 @@ impl<S: Alter, B: Room> Hub<S, B> {
         let Ok(shared) = Arc::try_clone(&self.shared) else {
             return Err(Unseated::NoMemory);
         };
-        let Some((id, seat, share)) = self.shared.state.lock(rt).enroll(&self.shared.seats) else {
+        let all = shared_in(&self.shared);
+        let Some((id, seat, share)) = all.lock(rt).enroll(&all.seats) else {
             return Err(Unseated::InboxFull);
         };
         Ok(Submitter::over(shared, id, seat, share))
@@ -91,14 +102,15 @@ impl<S: Alter, B: Room> Hub<S, B> {
         ensures { IfSome result (λ f. f ≡ nothing) }
     {
         let shared = Arc::try_clone(&self.shared).ok()?;
-        let seat = self.shared.state.lock(rt).take_feed()?;
+        let seat = shared_in(&self.shared).lock(rt).take_feed()?;
         Some(Feed::over(shared, seat))
     }
 
     /// Nothing more is taken in, what waits is still taken, and who waits is woken.
     pub fn close<R: Wait>(&self, rt: &R) {
-        let me = self.shared.seats.enter();
-        self.shared.state.lock(rt).close(&self.shared.seats, me);
-        self.shared.wake();
+        let shared = shared_in(&self.shared);
+        let me = shared.seats.enter();
+        shared.lock(rt).close(&shared.seats, me);
+        shared.wake();
     }
 }

@@ -6,7 +6,7 @@ ghost use Rattle.flow_hub.specs.Posting.{HasKeys, IsOnce};
 ghost use Rattle.flow_hub.specs.Publishing.{Answers, HasTaken, HasPublished, HasRefused, HasPosted, HasSkipped, IsFresh, IsDone};
 ghost use Rattle.flow_hub.specs.Seating.{IsPublishers};
 
-use crate::hub::Shared;
+use crate::hub::{Shared, shared_in};
 use crate::posting::Keys;
 use crate::seats::{Pass, Room};
 use crate::waits::{told_by, told_of};
@@ -18,7 +18,6 @@ use sqlite::Alter;
 use std::alloc::{AllocError, Global};
 use std::collections::BTreeSet;
 use std::marker::Model;
-use std::mem;
 use std::sync::{Arc, Wait};
 
 /// Takes what was submitted to a hub, and answers it. A hub has one. To a contract it is what it knows of the hub: of what it
@@ -66,7 +65,7 @@ fn taken<S: Alter, B: Room, R: Wait>(
     ensures grows { IsBefore seat.was result.0.was }
 {
     let mut me = seat;
-    let mut state = shared.state.lock(rt);
+    let mut state = shared.lock(rt);
     for _ in rt.forever() {
         me = state.take(&shared.seats, me, into, most);
         if !into.is_empty() {
@@ -111,8 +110,8 @@ impl<S: Alter, B: Room> Publisher<S, B> {
         ensures none { result ≡ false → (into.new.items ≡ []) × IsDone self.new }
         ensures grows { IsBefore self.old self.new }
     {
-        let shared = &*self.shared;
-        let me = mem::replace(&mut self.seat, shared.seats.enter());
+        let shared = shared_in(&self.shared);
+        let me = shared.seats.leave(&mut self.seat);
         let (me, some) = taken(rt, shared, me, into, most);
         self.seat = me;
         some
@@ -126,12 +125,9 @@ impl<S: Alter, B: Room> Publisher<S, B> {
         ensures grows { IsBefore self.old self.new }
     {
         let told = told_by(receipts.as_slice());
-        let shared = &*self.shared;
-        let me = mem::replace(&mut self.seat, shared.seats.enter());
-        self.seat = shared
-            .state
-            .lock(rt)
-            .publish(&shared.seats, me, receipts, stamp);
+        let shared = shared_in(&self.shared);
+        let me = shared.seats.leave(&mut self.seat);
+        self.seat = shared.lock(rt).publish(&shared.seats, me, receipts, stamp);
         shared.answered.tell(&told);
     }
 
@@ -142,9 +138,9 @@ impl<S: Alter, B: Room> Publisher<S, B> {
         ensures grows { IsBefore self.old self.new }
     {
         let told = told_of(all.as_slice());
-        let shared = &*self.shared;
-        let me = mem::replace(&mut self.seat, shared.seats.enter());
-        self.seat = shared.state.lock(rt).refuse(&shared.seats, me, all, code);
+        let shared = shared_in(&self.shared);
+        let me = shared.seats.leave(&mut self.seat);
+        self.seat = shared.lock(rt).refuse(&shared.seats, me, all, code);
         shared.answered.tell(&told);
     }
 
@@ -161,10 +157,9 @@ impl<S: Alter, B: Room> Publisher<S, B> {
         ensures once { IsOnce self.new.posted }
         ensures grows { IsBefore self.old self.new }
     {
-        let shared = &*self.shared;
-        let me = mem::replace(&mut self.seat, shared.seats.enter());
+        let shared = shared_in(&self.shared);
+        let me = shared.seats.leave(&mut self.seat);
         let (me, answer) = shared
-            .state
             .lock(rt)
             .post(self.alloc, &shared.seats, me, &mut self.keys, board);
         self.seat = me;
@@ -188,9 +183,9 @@ impl<S: Alter, B: Room> Publisher<S, B> {
         ensures skipped { HasSkipped self.old self.new }
         ensures grows { IsBefore self.old self.new }
     {
-        let shared = &*self.shared;
-        let me = mem::replace(&mut self.seat, shared.seats.enter());
-        self.seat = shared.state.lock(rt).skip(&shared.seats, me);
+        let shared = shared_in(&self.shared);
+        let me = shared.seats.leave(&mut self.seat);
+        self.seat = shared.lock(rt).skip(&shared.seats, me);
     }
 
     /// Nothing more is taken in, and what waits is still taken.
@@ -199,9 +194,9 @@ impl<S: Alter, B: Room> Publisher<S, B> {
         ensures part { IsSamePart self.old self.new }
         ensures grows { IsBefore self.old self.new }
     {
-        let shared = &*self.shared;
-        let me = mem::replace(&mut self.seat, shared.seats.enter());
-        self.seat = shared.state.lock(rt).close(&shared.seats, me);
+        let shared = shared_in(&self.shared);
+        let me = shared.seats.leave(&mut self.seat);
+        self.seat = shared.lock(rt).close(&shared.seats, me);
         shared.wake();
     }
 }

@@ -8,6 +8,7 @@ use atomic_table::{Join, Play, Seat, Split, Table, TableRule};
 use sqlite::Alter;
 use std::alloc::{AllocError, Global};
 use std::marker::{Brand, Model, PhantomData};
+use std::mem;
 use std::sync::ledger::{Blank, Book, Ledger, Share};
 
 /// How many parts the ledger of a hub has, one for each submitter that it gives.
@@ -210,6 +211,13 @@ impl<S: Alter, B: Room> Seats<S, B> {
             seat,
             of: PhantomData,
         }
+    }
+
+    /// The seat, in whose place one that has seen nothing is left.
+    pub(crate) fn leave(&self, seat: &mut Pass<S, B>) -> Pass<S, B>
+        ensures { (result ≡ seat.old) × (seat.new ≡ nobody) }
+    {
+        mem::replace(seat, self.enter())
     }
 
     /// The length of the history. What is then seen begins with what was seen.

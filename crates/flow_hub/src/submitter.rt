@@ -7,7 +7,7 @@ ghost use Rattle.flow_hub.specs.Seating.{IsSubmitters};
 ghost use Rattle.flow_hub.specs.Submitting.{IsTicket, IsDenied, IsReceipt, IsNotDone, IsSettled};
 
 use crate::denied::Denied;
-use crate::hub::Shared;
+use crate::hub::{Shared, shared_in};
 use crate::refused::Refused;
 use crate::rested::Rested;
 use crate::seats::{Pass, Room};
@@ -19,7 +19,6 @@ use flow_machine::submission::Receipt;
 use flow_timers::{Clock, tick_due};
 use sqlite::Alter;
 use std::marker::Model;
-use std::mem;
 use std::sync::ledger::Share;
 use std::sync::{Arc, Wait};
 use std::time::{Clock as Timing, Duration};
@@ -65,7 +64,7 @@ fn awaited<S: Alter, B: Room, R: Wait>(
     ensures grows { IsBefore seat.was result.0.was }
 {
     let mut me = seat;
-    let mut state = shared.state.lock(rt);
+    let mut state = shared.lock(rt);
     for _ in rt.forever() {
         let (seen, answer) = state.answer(&shared.seats, me, ticket);
         me = seen;
@@ -113,7 +112,7 @@ fn ticked<S: Alter, B: Room, R: Wait + Timing, C: Clock>(
     ensures grows { IsBefore seat.was result.0.was }
 {
     let mut me = seat;
-    let mut state = shared.state.lock(rt);
+    let mut state = shared.lock(rt);
     let mut paused = false;
     for _ in rt.forever() {
         let (seen, due) = state.due(&shared.seats, me);
@@ -149,7 +148,7 @@ fn rested<S: Alter, B: Room, R: Wait>(
     ensures grows { IsBefore seat.was result.0.was }
 {
     let mut me = seat;
-    let mut state = shared.state.lock(rt);
+    let mut state = shared.lock(rt);
     for _ in rt.forever() {
         let (seen, rest) = state.rest(&shared.seats, me);
         me = seen;
@@ -175,7 +174,7 @@ fn rested_for<S: Alter, B: Room, R: Wait + Timing>(
     ensures seat { IsSubmitters result.0 }
     ensures grows { IsBefore seat.was result.0.was }
 {
-    let mut state = shared.state.lock(rt);
+    let mut state = shared.lock(rt);
     let (me, rest) = state.rest(&shared.seats, seat);
     if let Rested::NotYet(_outlook) = rest {
         let (mut state, _end) = shared.turned.wait_timeout(rt, state, pause);
@@ -228,10 +227,9 @@ impl<S: Alter, B: Room> Submitter<S, B> {
         ensures grows { IsBefore self.old.was self.new.was }
         ensures same { (self.new.id ≡ self.old.id) × (self.new.parts ≡ self.old.parts) }
     {
-        let shared = &*self.shared;
-        let me = mem::replace(&mut self.seat, shared.seats.enter());
+        let shared = shared_in(&self.shared);
+        let me = shared.seats.leave(&mut self.seat);
         let (me, answer) = shared
-            .state
             .lock(rt)
             .submit(&shared.seats, me, &mut self.share, command);
         self.seat = me;
@@ -261,8 +259,8 @@ impl<S: Alter, B: Room> Submitter<S, B> {
                 command: None,
             });
         }
-        let shared = &*self.shared;
-        let me = mem::replace(&mut self.seat, shared.seats.enter());
+        let shared = shared_in(&self.shared);
+        let me = shared.seats.leave(&mut self.seat);
         let (me, answer) = awaited(rt, shared, me, ticket.number);
         self.seat = me;
         match answer {
@@ -290,8 +288,8 @@ impl<S: Alter, B: Room> Submitter<S, B> {
         ensures grows { IsBefore self.old.was self.new.was }
         ensures same { (self.new.id ≡ self.old.id) × (self.new.parts ≡ self.old.parts) × (self.new.amount ≡ self.old.amount) }
     {
-        let shared = &*self.shared;
-        let me = mem::replace(&mut self.seat, shared.seats.enter());
+        let shared = shared_in(&self.shared);
+        let me = shared.seats.leave(&mut self.seat);
         let (me, tick) = ticked(rt, shared, me, clock);
         self.seat = me;
         tick
@@ -306,8 +304,8 @@ impl<S: Alter, B: Room> Submitter<S, B> {
         ensures grows { IsBefore self.old.was self.new.was }
         ensures same { (self.new.id ≡ self.old.id) × (self.new.parts ≡ self.old.parts) × (self.new.amount ≡ self.old.amount) }
     {
-        let shared = &*self.shared;
-        let me = mem::replace(&mut self.seat, shared.seats.enter());
+        let shared = shared_in(&self.shared);
+        let me = shared.seats.leave(&mut self.seat);
         let (me, idle) = rested(rt, shared, me);
         self.seat = me;
         idle
@@ -320,8 +318,8 @@ impl<S: Alter, B: Room> Submitter<S, B> {
         ensures grows { IsBefore self.old.was self.new.was }
         ensures same { (self.new.id ≡ self.old.id) × (self.new.parts ≡ self.old.parts) × (self.new.amount ≡ self.old.amount) }
     {
-        let shared = &*self.shared;
-        let me = mem::replace(&mut self.seat, shared.seats.enter());
+        let shared = shared_in(&self.shared);
+        let me = shared.seats.leave(&mut self.seat);
         let (me, rested) = rested_for(rt, shared, me, pause);
         self.seat = me;
         rested
@@ -350,10 +348,9 @@ impl<S: Alter, B: Room> Submitter<S, B> {
         ensures grows { IsBefore self.old.was self.new.was }
         ensures same { (self.new.id ≡ self.old.id) × (self.new.parts ≡ self.old.parts) × (self.new.amount ≡ self.old.amount) }
     {
-        let shared = &*self.shared;
-        let me = mem::replace(&mut self.seat, shared.seats.enter());
+        let shared = shared_in(&self.shared);
+        let me = shared.seats.leave(&mut self.seat);
         let (me, settled) = shared
-            .state
             .lock(rt)
             .settle(&shared.seats, me, &mut self.share, self.parts);
         self.seat = me;
