@@ -1,5 +1,5 @@
 -- Lines answered one after the other.
-use Rattle.std.proofs.Common.{◌≡◌, ℕ, List, [], ◌∷◌, ◌++◌, max, Option, Some, None, IfSome, refl, sym, ap, ◌∙◌, subst, arith, append_assoc, append-nil, inl, inr}
+use Rattle.std.proofs.Common.{◌≡◌, ℕ, List, [], ◌∷◌, ◌++◌, max, Option, Some, None, IfSome, refl, sym, ap, ◌∙◌, subst, arith, append_assoc, append-nil, inl, inr, Result, Ok, Err, IfErr}
 use Rattle.std.specs.Io.KnownBytes.{Appends, Keeps}
 use Rattle.std.specs.Io.BufRead.{drop_through}
 use Rattle.std.proofs.KnownBytes.{Appends-nil, Appends-trans}
@@ -8,12 +8,17 @@ use Rattle.flow_base.specs.declared.command.Command.{Command}
 use Rattle.flow_model.specs.Apply.{Rules}
 use Rattle.flow_model.specs.Book.{Book}
 use Rattle.flow_cli.specs.Driving.{lines_of, written, answer_status, final_status, WritesBeginning}
-use Rattle.flow_cli.specs.Answering.{IsAnswer, AreAnswers, FirstLine, Answered, AllAnswered, StatusWithin, WritesPart, WritesSome, WritesUntil, LeavesBook, StopsWithin}
+use Rattle.flow_cli.specs.Answering.{IsAnswer, AreAnswers, FirstLine, Answered, AllAnswered, StatusWithin, WritesPart, WritesSome, WritesUntil, FaultBehind, LeavesBook, LeftBehind, StopsWithin}
 use Rattle.flow_cli.specs.Commands.{line_command}
+use Rattle.flow_cli.specs.Faults.{fault_of_stop}
 use Rattle.flow_cli.specs.Replies.{line_text}
+use Rattle.flow_cli.specs.Stopping.{CausedFault, CausedStop}
+use Rattle.flow_machine.specs.declared.answer.Stop.{Stop}
+use Rattle.flow_machine.specs.declared.answer.Stop.TheVariants as stop
 use Rattle.flow_cli.specs.declared.drive.Stopped.{Stopped}
 use Rattle.flow_cli.specs.declared.drive.Stopped.TheVariants as stopped
 use Rattle.flow_base.specs.declared.fault.Fault.{Fault}
+use Rattle.flow_base.specs.declared.fault.Fault.TheVariants as fault
 use Rattle.flow_cli.specs.declared.reply.Line.{Line}
 use Rattle.flow_cli.specs.declared.reply.Line.TheVariants as a_line
 
@@ -25,6 +30,11 @@ written-append (x ∷ xs) ys =
 pub status-append : (xs ys : List Line) → final_status (xs ++ ys) ≡ max (final_status xs) (final_status ys)
 status-append [] ys = omega arith
 status-append (x ∷ xs) ys = let e = status-append xs ys in omega arith
+
+-- of an error two things are known
+pub both_errs : {X : Type 0} (r : Result X Stopped) (P Q R : Stopped → Type 0) → ((e : Stopped) → P e → Q e → R e) → IfErr r P → IfErr r Q → IfErr r R
+both_errs (Ok x) P Q R h p q = tt
+both_errs (Err e) P Q R h p q = h e p q
 
 pub kept_appends : (old new : Option (List ℕ)) → Keeps old new → Appends old new []
 kept_appends None new kept = tt
@@ -58,8 +68,66 @@ module _ (u : Rules) (given_up : Book → List Command → Code → Type 0) wher
   answers-append b b1 b2 (x ∷ xs) ys [] qs f g = absurd f
   answers-append b b1 b2 (x ∷ xs) ys (p ∷ ps) qs f g = (f.0, (f.1.0, answers-append f.0 b1 b2 xs ys ps qs f.1.1 g))
 
-  one : (b b1 : Book) (line : List ℕ) (a : Line) → IsAnswer u given_up b b1 line a → AreAnswers u given_up b b1 (line ∷ []) (a ∷ [])
+  pub one : (b b1 : Book) (line : List ℕ) (a : Line) → IsAnswer u given_up b b1 line a → AreAnswers u given_up b b1 (line ∷ []) (a ∷ [])
   one b b1 line a is = (b1, (is, refl))
+
+  -- ---- what is behind the answers that were written
+
+  pub none_fault : (f : Fault) (b : Book) (later : List (List ℕ)) → FaultBehind u given_up f b b later
+  none_fault fault.NoMemory b later = ([], (later, ([], (refl, refl))))
+  none_fault (fault.Mismatch run place name) b later = tt
+  none_fault fault.NoRun b later = tt
+  none_fault fault.StoreRefused b later = refl
+  none_fault fault.NotOurs b later = tt
+  none_fault fault.BadVersion b later = tt
+  none_fault (fault.Damaged d) b later = tt
+  none_fault fault.Unknown b later = tt
+  none_fault fault.Halted b later = tt
+  none_fault fault.NoFile b later = tt
+  none_fault fault.BadUsage b later = tt
+
+  -- nothing more was answered
+  none_behind : (e : Stopped) (b : Book) (later : List (List ℕ)) → LeavesBook e b b → LeftBehind u given_up e b b later
+  none_behind (stopped.Refused f) b later left = none_fault f b later
+  none_behind (stopped.Input e) b later left = left
+  none_behind (stopped.Output e) b later left = left
+  none_behind stopped.BadSettings b later left = left
+
+  -- these were answered where memory ran out
+  fault_behind : (f : Fault) (b b1 : Book) (later : List (List ℕ)) (answers : List Line) → CausedFault f (λ s. ⊥) ⊥ → AreAnswers u given_up b b1 later answers → FaultBehind u given_up f b b1 later
+  fault_behind fault.NoMemory b b1 later answers cause are = (later, ([], (answers, (sym (append-nil later), are))))
+  fault_behind (fault.Mismatch run place name) b b1 later answers cause are = absurd cause
+  fault_behind fault.NoRun b b1 later answers cause are = absurd cause
+  fault_behind fault.StoreRefused b b1 later answers cause are = absurd cause
+  fault_behind fault.NotOurs b b1 later answers cause are = absurd cause
+  fault_behind fault.BadVersion b b1 later answers cause are = absurd cause
+  fault_behind (fault.Damaged d) b b1 later answers cause are = absurd cause
+  fault_behind fault.Unknown b b1 later answers cause are = absurd cause
+  fault_behind fault.Halted b b1 later answers cause are = absurd cause
+  fault_behind fault.NoFile b b1 later answers cause are = absurd cause
+  fault_behind fault.BadUsage b b1 later answers cause are = absurd cause
+
+  fault_longer : (f : Fault) (b b1 : Book) (later more : List (List ℕ)) → FaultBehind u given_up f b b1 later → FaultBehind u given_up f b b1 (later ++ more)
+  fault_longer fault.NoMemory b b1 later more h = (h.0, (h.1.0 ++ more, (h.1.1.0, (ap (λ l. l ++ more) h.1.1.1.0 ∙ append_assoc h.0 h.1.0 more, h.1.1.1.1))))
+  fault_longer (fault.Mismatch run place name) b b1 later more h = tt
+  fault_longer fault.NoRun b b1 later more h = tt
+  fault_longer fault.StoreRefused b b1 later more h = h
+  fault_longer fault.NotOurs b b1 later more h = tt
+  fault_longer fault.BadVersion b b1 later more h = tt
+  fault_longer (fault.Damaged d) b b1 later more h = tt
+  fault_longer fault.Unknown b b1 later more h = tt
+  fault_longer fault.Halted b b1 later more h = tt
+  fault_longer fault.NoFile b b1 later more h = tt
+  fault_longer fault.BadUsage b b1 later more h = tt
+
+  -- more lines stand behind
+  pub longer_behind : (e : Stopped) (b b1 : Book) (later more : List (List ℕ)) → LeftBehind u given_up e b b1 later → LeftBehind u given_up e b b1 (later ++ more)
+  longer_behind (stopped.Refused f) b b1 later more h = fault_longer f b b1 later more h
+  longer_behind (stopped.Input e) b b1 later more h = h
+  longer_behind (stopped.Output e) b b1 later more h = h
+  longer_behind stopped.BadSettings b b1 later more h = h
+
+  -- ---- lines that were answered
 
   -- nothing is answered yet
   pub begins : (b : Book) (known old : Option (List ℕ)) → IfSome known (λ bytes. Answered u given_up b b bytes known old old 0)
@@ -93,7 +161,7 @@ module _ (u : Rules) (given_up : Book → List Command → Code → Type 0) wher
   pub bad_written : (b : Book) (e : Stopped) (known left old new : Option (List ℕ)) (found line : List ℕ) → IfSome known (λ bytes. FirstLine bytes found left) → line ≡ found → line_command line ≡ None → WritesPart e old new (line_text a_line.Bad ++ 10 ∷ []) → IfSome known (λ bytes. StopsWithin u given_up b b e (lines_of bytes) old new)
   bad_written b e None left old new found line first same bad w = tt
   bad_written b (stopped.Refused f) (Some bytes) left old new found line first same bad w =
-      record { lines = []; later = lines_of bytes; answers = []; book = b; lines_are = refl; answers_are = refl; written_are = kept_appends old new w; book_is = tt }
+      record { lines = []; later = lines_of bytes; answers = []; book = b; lines_are = refl; answers_are = refl; written_are = kept_appends old new w; book_is = none_fault f b (lines_of bytes) }
   bad_written b (stopped.Input f) (Some bytes) left old new found line first same bad w = absurd w
   bad_written b stopped.BadSettings (Some bytes) left old new found line first same bad w = absurd w
   bad_written b (stopped.Output f) (Some bytes) left old new found line first same bad w = record {
@@ -144,39 +212,55 @@ module _ (u : Rules) (given_up : Book → List Command → Code → Type 0) wher
   -- ---- on an early end
 
   -- nothing was answered
-  pub none_answered : (b b1 : Book) (e : Stopped) (whole : List (List ℕ)) (out : Option (List ℕ)) → WritesUntil e out out [] → LeavesBook e b b1 → StopsWithin u given_up b b1 e whole out out
-  none_answered b b1 e whole out w left = record { lines = []; later = whole; answers = []; book = b; lines_are = refl; answers_are = refl; written_are = w; book_is = left }
+  pub none_answered : (b : Book) (e : Stopped) (whole : List (List ℕ)) (out : Option (List ℕ)) → WritesUntil e out out [] → LeavesBook e b b → StopsWithin u given_up b b e whole out out
+  none_answered b e whole out w left = record { lines = []; later = whole; answers = []; book = b; lines_are = refl; answers_are = refl; written_are = w; book_is = none_behind e b whole left }
 
   -- the commands under way have no answer
-  pub none_replied : (b b1 : Book) (whole : List (List ℕ)) (out : Option (List ℕ)) (f : Fault) → StopsWithin u given_up b b1 (stopped.Refused f) whole out out
-  none_replied b b1 whole out f = none_answered b b1 (stopped.Refused f) whole out (Appends-nil out) tt
+  pub none_replied : (b b1 : Book) (whole : List (List ℕ)) (out : Option (List ℕ)) (s : Stop) → StopsWithin u given_up b b1 (stopped.Refused (fault_of_stop s)) whole out out
+  none_replied b b1 whole out stop.Unknown = record { lines = []; later = whole; answers = []; book = b; lines_are = refl; answers_are = refl; written_are = Appends-nil out; book_is = tt }
+  none_replied b b1 whole out stop.Halted = record { lines = []; later = whole; answers = []; book = b; lines_are = refl; answers_are = refl; written_are = Appends-nil out; book_is = tt }
+
+  -- as many lines as can be counted were answered
+  pub all_counted : (b b1 : Book) (known left old new : Option (List ℕ)) (n : ℕ) → IfSome known (λ bytes. Answered u given_up b b1 bytes left old new n) → IfSome known (λ bytes. StopsWithin u given_up b b1 (stopped.Refused fault.StoreRefused) (lines_of bytes) old new)
+  all_counted b b1 None left old new n f = tt
+  all_counted b b1 (Some bytes) left old new n f = record {
+    lines = f.lines;
+    later = lines_of f.rest;
+    answers = f.answers;
+    book = b1;
+    lines_are = f.lines_are;
+    answers_are = f.answers_are;
+    written_are = f.written_are;
+    book_is = refl;
+  }
 
   -- The first answers stand by themselves.
-  record FrontAnswered (b : Book) (ls : List (List ℕ)) (front : List Line) : Type 0 where
+  record FrontAnswered (b b1 : Book) (ls : List (List ℕ)) (front back : List Line) : Type 0 where
     pub lines : List (List ℕ)
     pub later : List (List ℕ)
     pub book : Book
     pub split : ls ≡ lines ++ later
     pub are : AreAnswers u given_up b book lines front
+    pub behind : AreAnswers u given_up book b1 later back
 
-  front_answered : (b b1 : Book) (ls : List (List ℕ)) (front back : List Line) → AreAnswers u given_up b b1 ls (front ++ back) → FrontAnswered b ls front
-  front_answered b b1 ls [] back h = record { lines = []; later = ls; book = b; split = refl; are = refl }
+  front_answered : (b b1 : Book) (ls : List (List ℕ)) (front back : List Line) → AreAnswers u given_up b b1 ls (front ++ back) → FrontAnswered b b1 ls front back
+  front_answered b b1 ls [] back h = record { lines = []; later = ls; book = b; split = refl; are = refl; behind = h }
   front_answered b b1 [] (a ∷ front) back h = absurd h
   front_answered b b1 (l ∷ ls) (a ∷ front) back h =
       let rest = front_answered h.0 b1 ls front back h.1.1 in
-      record { lines = l ∷ rest.lines; later = rest.later; book = rest.book; split = ap (λ x. l ∷ x) rest.split; are = (h.0, (h.1.0, rest.are)) }
+      record { lines = l ∷ rest.lines; later = rest.later; book = rest.book; split = ap (λ x. l ∷ x) rest.split; are = (h.0, (h.1.0, rest.are)); behind = rest.behind }
 
   -- a part of the answers to lines was written
-  pub some_written : (b b1 : Book) (e : Stopped) (ls : List (List ℕ)) (answers : List Line) (old new : Option (List ℕ)) → AreAnswers u given_up b b1 ls answers → WritesSome e old new answers → StopsWithin u given_up b b1 e ls old new
-  some_written b b1 (stopped.Refused f) ls answers old new are w =
+  pub some_written : (b b1 : Book) (e : Stopped) (ls : List (List ℕ)) (answers : List Line) (old new : Option (List ℕ)) → AreAnswers u given_up b b1 ls answers → CausedStop e (λ s. ⊥) ⊥ → WritesSome e old new answers → StopsWithin u given_up b b1 e ls old new
+  some_written b b1 (stopped.Refused f) ls answers old new are cause w =
       let front = front_answered b b1 ls w.0 w.1.0 (subst (AreAnswers u given_up b b1 ls) w.1.1.0 are) in
-      record { lines = front.lines; later = front.later; answers = w.0; book = front.book; lines_are = front.split; answers_are = front.are; written_are = w.1.1.1; book_is = tt }
-  some_written b b1 (stopped.Input f) ls answers old new are w = absurd w
-  some_written b b1 stopped.BadSettings ls answers old new are w = absurd w
-  some_written b b1 (stopped.Output f) ls answers old new are w =
+      record { lines = front.lines; later = front.later; answers = w.0; book = front.book; lines_are = front.split; answers_are = front.are; written_are = w.1.1.1; book_is = fault_behind f front.book b1 front.later w.1.0 cause front.behind }
+  some_written b b1 (stopped.Input f) ls answers old new are cause w = absurd w
+  some_written b b1 stopped.BadSettings ls answers old new are cause w = absurd w
+  some_written b b1 (stopped.Output f) ls answers old new are cause w =
       record { lines = ls; later = []; answers = answers; book = b1; lines_are = sym (append-nil ls); answers_are = are; written_are = w; book_is = refl }
 
-  written_later : (e : Stopped) (old new new1 : Option (List ℕ)) (done later : List Line) → Appends old new (written done) → WritesUntil e new new1 later → WritesUntil e old new1 (done ++ later)
+  pub written_later : (e : Stopped) (old new new1 : Option (List ℕ)) (done later : List Line) → Appends old new (written done) → WritesUntil e new new1 later → WritesUntil e old new1 (done ++ later)
   written_later (stopped.Refused f) old new new1 done later adds w = subst (Appends old new1) (sym (written-append done later)) (Appends-trans old new new1 _ _ adds w)
   written_later (stopped.Input f) old new new1 done later adds w = subst (Appends old new1) (sym (written-append done later)) (Appends-trans old new new1 _ _ adds w)
   written_later stopped.BadSettings old new new1 done later adds w = absurd w

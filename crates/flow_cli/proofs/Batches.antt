@@ -20,7 +20,7 @@ use Rattle.flow_cli.specs.Stopping.{CausedStop, ComeNext, BeginWith, ReadLines, 
 use Rattle.flow_cli.specs.declared.drive.Stopped.{Stopped}
 use Rattle.flow_cli.specs.declared.drive.Stopped.TheVariants as stopped
 use Rattle.flow_cli.specs.declared.reply.Line.{Line}
-use Rattle.flow_cli.proofs.Answering.{kept_appends, none_answered, status-append, written-append}
+use Rattle.flow_cli.proofs.Answering.{kept_appends, longer_behind, none_answered, status-append, written-append}
 use Rattle.flow_cli.proofs.Stopping.{stop_by}
 
 -- what stands behind commands stands behind a batch of them
@@ -28,7 +28,7 @@ pub caused_batch : {X : Type 0} (most : ℕ) (cause : Book → List Command → 
 caused_batch most cause b commands x some few is = (record { some = some; few = few }, is)
 
 -- a first line and those behind it are the batch's
-holds_first : (first : List ℕ) (c : Command) (commands : List Command) (marks : List Bool) (known left : Option (List ℕ)) → (g : Gathered (c ∷ []) commands (true ∷ []) marks known left) → line_command first ≡ Some c → HoldsLines (first ∷ g.lines) commands marks
+pub holds_first : (first : List ℕ) (c : Command) (commands : List Command) (marks : List Bool) (known left : Option (List ℕ)) → (g : Gathered (c ∷ []) commands (true ∷ []) marks known left) → line_command first ≡ Some c → HoldsLines (first ∷ g.lines) commands marks
 holds_first first c commands marks known left g given =
     record { commands_are = g.commands_are ∙ ap (λ o. with_command o (commands_in g.lines)) (sym given); marks_are = g.marks_are ∙ ap (λ o. is_some o ∷ are_commands g.lines) (sym given) }
 
@@ -91,13 +91,13 @@ module _ (u : Rules) (given_up : Book → List Command → Code → Type 0) wher
         lines_are = ap (λ l. first ∷ l) g.read.lines_are ∙ ap (λ l. l ++ lines_of g.read.rest) its.lines_are ∙ append_assoc its.lines its.later (lines_of g.read.rest);
         answers_are = its.answers_are;
         written_are = its.written_are;
-        book_is = its.book_is;
+        book_is = longer_behind u given_up e its.book b1 its.later (lines_of g.read.rest) its.book_is;
       }
 
   -- nothing of a batch is answered that wasn't begun
   pub none_begun : (b : Book) (e : Stopped) (c : Command) (known out : Option (List ℕ)) → WritesUntil e out out [] → LeavesBook e b b → IfSome known (λ bytes. (first : List ℕ) → line_command first ≡ Some c → StopsWithin u given_up b b e (first ∷ lines_of bytes) out out)
   none_begun b e c None out w left = tt
-  none_begun b e c (Some bytes) out w left = λ first given. none_answered u given_up b b e (first ∷ lines_of bytes) out w left
+  none_begun b e c (Some bytes) out w left = λ first given. none_answered u given_up b e (first ∷ lines_of bytes) out w left
 
   -- the batch's lines are the first ones
   pub next_batch : (b b1 : Book) (known left left1 old new : Option (List ℕ)) (found line : List ℕ) (c : Command) (n : ℕ) → IfSome known (λ bytes. FirstLine bytes found left) → line ≡ found → line_command line ≡ Some c → IfSome left (λ bytes. (first : List ℕ) → line_command first ≡ Some c → BatchAnswered u given_up b b1 first bytes left1 old new n)

@@ -9,6 +9,7 @@ pub mod Runs
 pub mod Safeties
 pub mod Answering
 pub mod Batches
+pub mod SomeLines
 pub mod Stopping
 pub mod Histories
 pub mod Works

@@ -19,3 +19,21 @@ caused_here (work.Drive most) (Err e) X Y P C g c = stop_by e (X most) (Y most) 
 caused_here (work.History run) (Err e) X Y P C g c = c
 caused_here (work.Drive most) (Ok n) X Y P C g c = tt
 caused_here (work.History run) (Ok n) X Y P C g c = tt
+
+-- What is told of lines alone is told less exactly.
+pub lines_here : (w : Work) (r : Result ℕ Stopped) (X Y : ℕ → ℕ → Type 0) → ((most n : ℕ) → X most n → Y most n) → IfOk r (λ n. OfWork w (λ most. X most n) (λ run. Unit {0})) → IfOk r (λ n. OfWork w (λ most. Y most n) (λ run. Unit {0}))
+lines_here (work.Drive most) (Ok n) X Y g c = g most n c
+lines_here (work.History run) (Ok n) X Y g c = tt
+lines_here (work.Drive most) (Err e) X Y g c = tt
+lines_here (work.History run) (Err e) X Y g c = tt
+
+pub cut_here : (w : Work) (r : Result ℕ Stopped) (X Y : ℕ → Stopped → Type 0) → ((most : ℕ) (e : Stopped) → X most e → Y most e) → IfErr r (λ e. OfWork w (λ most. X most e) (λ run. Unit {0})) → IfErr r (λ e. OfWork w (λ most. Y most e) (λ run. Unit {0}))
+cut_here (work.Drive most) (Err e) X Y g c = g most e c
+cut_here (work.History run) (Err e) X Y g c = tt
+cut_here (work.Drive most) (Ok n) X Y g c = tt
+cut_here (work.History run) (Ok n) X Y g c = tt
+
+-- nothing was done
+pub none_here : (w : Work) (X : ℕ → Type 0) → ((most : ℕ) → X most) → OfWork w X (λ run. Unit {0})
+none_here (work.Drive most) X h = h most
+none_here (work.History run) X h = tt

@@ -6,6 +6,8 @@ use Rattle.std.specs.Io.BufRead.{drop_through}
 use Rattle.flow_base.specs.declared.code.Code.{Code}
 use Rattle.flow_base.specs.declared.command.Command.{Command}
 use Rattle.flow_base.specs.declared.command.Reply.{Reply}
+use Rattle.flow_base.specs.declared.fault.Fault.{Fault}
+use Rattle.flow_base.specs.declared.fault.Fault.TheVariants as fault
 use Rattle.flow_model.specs.Apply.{Rules, outcome, after_one}
 use Rattle.flow_model.specs.Book.{Book}
 use Rattle.flow_machine.specs.Answers.{IsGivenUp}
@@ -68,6 +70,25 @@ pub record AllAnswered (u : Rules) (given_up : Book → List Command → Code �
   pub written_are : Appends old new (written answers)
   pub status_is : status ≡ final_status answers
 
+-- ---- lines of an input whose bytes may be unknown
+
+-- So many lines at least were answered, from a book to a book, and each answer was written.
+pub record SomeAnswered (u : Rules) (given_up : Book → List Command → Code → Type 0) (b b1 : Book) (least : ℕ) (old new : Option (List ℕ)) (status : ℕ) : Type 0 where
+  pub lines : List (List ℕ)
+  pub answers : List Line
+  pub many : least ≤ length lines
+  pub answers_are : AreAnswers u given_up b b1 lines answers
+  pub written_are : Appends old new (written answers)
+  pub status_is : status ≡ final_status answers
+
+-- and where what is written is no concern
+pub record LeavesAnswered (u : Rules) (given_up : Book → List Command → Code → Type 0) (b b1 : Book) (least : ℕ) (status : ℕ) : Type 0 where
+  pub lines : List (List ℕ)
+  pub answers : List Line
+  pub many : least ≤ length lines
+  pub answers_are : AreAnswers u given_up b b1 lines answers
+  pub status_is : status ≡ final_status answers
+
 -- ---- the status 3
 
 pub record HasGivenUp (given_up : Book → List Command → Code → Type 0) : Type 0 where
@@ -96,12 +117,25 @@ WritesUntil (stopped.Input e) old new answers = Appends old new (written answers
 WritesUntil (stopped.Output e) old new answers = WritesBeginning old new (written answers)
 WritesUntil stopped.BadSettings old new answers = ⊥
 
--- Where reading or writing failed, the book is the one that the answers left. A refusal may stand behind one command more.
+-- Where reading or writing failed, the book is the one that it was.
 abbrev pub LeavesBook : Stopped → Book → Book → Type 0
 LeavesBook (stopped.Refused f) b b1 = Unit {0}
 LeavesBook (stopped.Input e) b b1 = b1 ≡ b
 LeavesBook (stopped.Output e) b b1 = b1 ≡ b
 LeavesBook stopped.BadSettings b b1 = ⊥
+
+-- Behind the answers that were written the next lines may have been answered where memory ran out; of E84 and E85 nothing is
+-- said here.
+abbrev pub FaultBehind : Rules → (Book → List Command → Code → Type 0) → Fault → Book → Book → List (List ℕ) → Type 0
+FaultBehind u given_up fault.NoMemory b b1 later = (next : List (List ℕ)) × ((rest : List (List ℕ)) × ((answers : List Line) × ((later ≡ next ++ rest) × AreAnswers u given_up b b1 next answers)))
+FaultBehind u given_up fault.StoreRefused b b1 later = b1 ≡ b
+FaultBehind u given_up f b b1 later = Unit {0}
+
+abbrev pub LeftBehind : Rules → (Book → List Command → Code → Type 0) → Stopped → Book → Book → List (List ℕ) → Type 0
+LeftBehind u given_up (stopped.Refused f) b b1 later = FaultBehind u given_up f b b1 later
+LeftBehind u given_up (stopped.Input e) b b1 later = b1 ≡ b
+LeftBehind u given_up (stopped.Output e) b b1 later = b1 ≡ b
+LeftBehind u given_up stopped.BadSettings b b1 later = ⊥
 
 -- The first of the lines were answered, from a book to a book, and a beginning of their answers was written.
 pub record StopsWithin (u : Rules) (given_up : Book → List Command → Code → Type 0) (b b1 : Book) (e : Stopped) (whole : List (List ℕ)) (old new : Option (List ℕ)) : Type 0 where
@@ -112,7 +146,21 @@ pub record StopsWithin (u : Rules) (given_up : Book → List Command → Code �
   pub lines_are : whole ≡ lines ++ later
   pub answers_are : AreAnswers u given_up b book lines answers
   pub written_are : WritesUntil e old new answers
-  pub book_is : LeavesBook e book b1
+  pub book_is : LeftBehind u given_up e book b1 later
+
+-- Of some lines the first were answered, from a book to a book, and a beginning of their answers was written.
+pub record StopsAmong (u : Rules) (given_up : Book → List Command → Code → Type 0) (b b1 : Book) (e : Stopped) (old new : Option (List ℕ)) : Type 0 where
+  pub whole : List (List ℕ)
+  pub stops : StopsWithin u given_up b b1 e whole old new
+
+-- and where what is written is no concern
+pub record StopsBehind (u : Rules) (given_up : Book → List Command → Code → Type 0) (b b1 : Book) (e : Stopped) : Type 0 where
+  pub lines : List (List ℕ)
+  pub later : List (List ℕ)
+  pub answers : List Line
+  pub book : Book
+  pub answers_are : AreAnswers u given_up b book lines answers
+  pub book_is : LeftBehind u given_up e book b1 later
 
 -- ---- a batch: the commands among lines, which are applied together
 

@@ -35,6 +35,13 @@ StopsWriting (stopped.Input e) = ⊥
 StopsWriting (stopped.Output e) = Unit {0}
 StopsWriting stopped.BadSettings = ⊥
 
+-- Memory ran out, or a read failed.
+abbrev pub StopsReading : Stopped → Type 0
+StopsReading (stopped.Refused f) = f ≡ fault.NoMemory
+StopsReading (stopped.Input e) = Unit {0}
+StopsReading (stopped.Output e) = ⊥
+StopsReading stopped.BadSettings = ⊥
+
 -- Commands are those of the next lines, over the book that the lines before them left. They are applied together.
 pub record ComeNext (u : Rules) (given_up : Book → List Command → Code → Type 0) (b : Book) (bytes : List ℕ) (book : Book) (commands : List Command) : Type 0 where
   pub lines : List (List ℕ)

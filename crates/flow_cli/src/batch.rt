@@ -3,7 +3,7 @@ ghost use Rattle.std.specs.Prelude.{◌≡◌, ◌≤◌, ◌↔◌, ◌++◌, �
 ghost use Rattle.flow_model.specs.Book.{Book};
 ghost use Rattle.flow_cli.specs.Answering.{Gathered, HasOneMore, WritesUntil, LeavesBook, commands_in, are_commands};
 ghost use Rattle.flow_cli.specs.Driving.{stopped_status};
-ghost use Rattle.flow_cli.specs.Stopping.{CausedStop};
+ghost use Rattle.flow_cli.specs.Stopping.{CausedStop, StopsReading};
 
 use crate::command::{LineFault, command_of};
 use crate::drive::{Stopped, next_line, stopped_reading};
@@ -101,6 +101,7 @@ fn put_next<R: BufRead>(alloc: Global, reader: &mut R, begun: &mut Begun) -> Res
     ensures book { IfErr result (λ e. (b : Book) → LeavesBook e b b) }
     ensures status { IfErr result (λ e. stopped_status e ≡ 3) }
     ensures cause { IfErr result (λ e. CausedStop e (λ s. ⊥) ⊥) }
+    ensures reading { IfErr result (λ e. StopsReading e) }
 {
     let line = match next_line(alloc, reader) {
         Ok(Some(line)) => line,
@@ -130,6 +131,7 @@ pub(crate) fn gather<R: BufRead>(
     ensures book { IfErr result (λ e. (b : Book) → LeavesBook e b b) }
     ensures status { IfErr result (λ e. stopped_status e ≡ 3) }
     ensures cause { IfErr result (λ e. CausedStop e (λ s. ⊥) ⊥) }
+    ensures reading { IfErr result (λ e. StopsReading e) }
 {
     let mut begun = begin(alloc, first)?;
     for _ in 0..u64::MAX {

@@ -235,6 +235,7 @@ fn matched_call<'a>(found: &ArgMatches<'a>) -> Option<Call<'a>>
 fn fault_of_kind(kind: ErrorKind) -> Fault
     ensures memory { kind ≡ OutOfMemory → result ≡ Fault.NoMemory }
     ensures usage { (result ≡ Fault.NoMemory) ⊎ (result ≡ Fault.BadUsage) }
+    ensures other { (result ≡ Fault.BadUsage) ⊎ (kind ≡ OutOfMemory) }
 {
     match kind {
         ErrorKind::OutOfMemory => Fault::NoMemory,

@@ -1,8 +1,8 @@
 //! What is done over an open store.
-ghost use Rattle.std.specs.Prelude.{◌≡◌, ◌≤◌, ◌⊎◌, ◌+◌, ◌^◌, ◌∷◌, [], length, IfOk, IfErr, IfSome};
+ghost use Rattle.std.specs.Prelude.{◌≡◌, ◌≤◌, ◌⊎◌, ◌+◌, ◌-◌, ◌^◌, ◌∷◌, [], ℕ, length, IfOk, IfErr, IfSome};
 ghost use Rattle.flow_base.specs.declared.code.Code.TheVariants as codes;
 ghost use Rattle.flow_base.specs.declared.command.Command.TheVariants as commands;
-ghost use Rattle.flow_cli.specs.Answering.{AllAnswered, OfBatch, StatusWithin, StopsWithin};
+ghost use Rattle.flow_cli.specs.Answering.{AllAnswered, LeavesAnswered, OfBatch, SomeAnswered, StatusWithin, StopsAmong, StopsBehind, StopsWithin};
 ghost use Rattle.flow_cli.specs.Driving.{lines_of, stopped_status};
 ghost use Rattle.flow_cli.specs.Histories.{TellsHistory, BeginsHistory, HasHistory, HasNoRun, CausedUnwritten};
 ghost use Rattle.flow_cli.specs.Stopping.{CausedHere, CausedStop, StoppedBy};
@@ -47,6 +47,15 @@ pub fn perform<R: BufRead, W: Write, E: Answering>(
         (λ most. E.is_sure engine.new → IfSome (R.remaining reader.old) (λ bytes. StopsWithin E.rules (OfBatch most E.gives_up) (E.book engine.old) (E.book engine.new) e (lines_of bytes) (W.contents writer.old) (W.contents writer.new)))
         (λ run. (writer.new ≡ writer.old) ⊎ (E.is_sure engine.new → BeginsHistory E.rules (E.book engine.old) (E.book engine.new) run (W.contents writer.old) (W.contents writer.new)))) }
     ensures early { IfErr result (λ e. OfWork work.now (λ most. stopped_status e ≡ 3) (λ run. (e ≡ Refused Fault.NoRun) ⊎ (stopped_status e ≡ 3))) }
+    ensures lines { IfOk result (λ n. OfWork work.now
+        (λ most. E.is_sure engine.new → SomeAnswered E.rules (OfBatch most E.gives_up) (E.book engine.old) (E.book engine.new) 0 (W.contents writer.old) (W.contents writer.new) n)
+        (λ run. Unit {0})) }
+    ensures cut { IfErr result (λ e. OfWork work.now
+        (λ most. E.is_sure engine.new → StopsAmong E.rules (OfBatch most E.gives_up) (E.book engine.old) (E.book engine.new) e (W.contents writer.old) (W.contents writer.new))
+        (λ run. Unit {0})) }
+    ensures endless { IfErr result (λ e. OfWork work.now
+        (λ most. e ≡ Refused Fault.StoreRefused → E.is_sure engine.new → (n : ℕ) × SomeAnswered E.rules (OfBatch most E.gives_up) (E.book engine.old) (E.book engine.new) (2 ^ 64 - 1) (W.contents writer.old) (W.contents writer.new) n)
+        (λ run. Unit {0})) }
     ensures cause { IfErr result (λ e. OfWork work.now
         (λ most. CausedStop e (StoppedBy E.rules (OfBatch most E.gives_up) (OfBatch most (E.stops engine.new)) (E.is_sure engine.new) (E.book engine.old) (R.remaining reader.old)) (IfSome (R.remaining reader.old) (λ bytes. 2 ^ 64 ≤ length (lines_of bytes) + 1)))
         (λ run. CausedUnwritten e (E.is_sure engine.new → HasNoRun E.rules (E.book engine.old) (E.book engine.new) run) (E.is_sure engine.new → E.gives_up (E.book engine.old) (commands.History run ∷ []) codes.StoreRefused) (E.stops engine.new (E.book engine.old) (commands.History run ∷ [])))) }
@@ -70,6 +79,16 @@ pub fn perform_here<E: Answering>(
 ) -> Result<u8, Stopped>
     ensures done { IfOk result (λ n. OfWork work.now (λ most. StatusWithin (OfBatch most E.gives_up) n) (λ run. (n ≡ 0) × (E.is_sure engine.new → HasHistory E.rules (E.book engine.old) (E.book engine.new) run))) }
     ensures early { IfErr result (λ e. OfWork work.now (λ most. stopped_status e ≡ 3) (λ run. (e ≡ Refused Fault.NoRun) ⊎ (stopped_status e ≡ 3))) }
+    // Of standard input no byte is known: the book is the one that the answers to some lines left.
+    ensures lines { IfOk result (λ n. OfWork work.now
+        (λ most. E.is_sure engine.new → LeavesAnswered E.rules (OfBatch most E.gives_up) (E.book engine.old) (E.book engine.new) 0 n)
+        (λ run. Unit {0})) }
+    ensures cut { IfErr result (λ e. OfWork work.now
+        (λ most. E.is_sure engine.new → StopsBehind E.rules (OfBatch most E.gives_up) (E.book engine.old) (E.book engine.new) e)
+        (λ run. Unit {0})) }
+    ensures endless { IfErr result (λ e. OfWork work.now
+        (λ most. e ≡ Refused Fault.StoreRefused → E.is_sure engine.new → (n : ℕ) × LeavesAnswered E.rules (OfBatch most E.gives_up) (E.book engine.old) (E.book engine.new) (2 ^ 64 - 1) n)
+        (λ run. Unit {0})) }
     ensures cause { IfErr result (λ e. OfWork work.now
         (λ most. CausedHere e (OfBatch most (E.stops engine.new)))
         (λ run. CausedUnwritten e (E.is_sure engine.new → HasNoRun E.rules (E.book engine.old) (E.book engine.new) run) (E.is_sure engine.new → E.gives_up (E.book engine.old) (commands.History run ∷ []) codes.StoreRefused) (E.stops engine.new (E.book engine.old) (commands.History run ∷ [])))) }

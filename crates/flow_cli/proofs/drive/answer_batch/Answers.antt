@@ -1,5 +1,6 @@
 use Rattle.std.proofs.lemmas.Result.{IfOk-weaker, IfErr-weaker}
 use Rattle.flow_cli.proofs.Batches.{batch_counted, batch_marked, begin_cause, begins_batch, none_begun, stops_batch}
+use Rattle.flow_cli.proofs.SomeLines.{none_among, some_batch, some_batch_stops}
 use Rattle.flow_cli.proofs.drive.answer_batch.Goals as goal
 
 pub answer_begun-requires-clause-marked : goal.answer_begun-requires-clause-marked
@@ -26,3 +27,14 @@ returns-in-Ok-clause-counted g c =
 
 pub returns-in-Err-clause-stopped : goal.returns-in-Err-clause-stopped
 returns-in-Err-clause-stopped g c sure = none_begun _ _ _ c.in-Err.stopped c.args.first _ _ (c.in-Err.ensures.nothing _) (c.in-Err.ensures.book _)
+
+pub returns-in-Ok-clause-lines : goal.returns-in-Ok-clause-lines
+returns-in-Ok-clause-lines g c =
+    IfOk-weaker c.answer_begun.result _ _ (λ n h sure. some_batch _ _ _ _ _ _ _ _ _ _ _ n c.in-Ok.ensures.gathered (h sure c.args.most c.in-Ok.ensures.few)) c.answer_begun.ensures.answered
+
+pub returns-in-Ok-clause-cut : goal.returns-in-Ok-clause-cut
+returns-in-Ok-clause-cut g c =
+    IfErr-weaker c.answer_begun.result _ _ (λ e h sure. some_batch_stops _ _ _ _ e _ _ _ _ _ _ _ c.in-Ok.ensures.gathered (h sure c.args.most c.in-Ok.ensures.few)) c.answer_begun.ensures.stopped
+
+pub returns-in-Err-clause-cut : goal.returns-in-Err-clause-cut
+returns-in-Err-clause-cut g c sure line given = none_among _ _ _ c.in-Err.stopped _ (c.in-Err.ensures.nothing _) (c.in-Err.ensures.book _)

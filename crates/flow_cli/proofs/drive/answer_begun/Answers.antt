@@ -1,7 +1,8 @@
-use Rattle.std.proofs.Common.{sym, ◌∙◌}
-use Rattle.std.proofs.lemmas.Result.{IfOk-weaker, IfErr-weaker}
-use Rattle.flow_cli.specs.Answering.{OfBatch}
-use Rattle.flow_cli.proofs.Answering.{none_replied, some_written}
+use Rattle.std.proofs.Common.{subst, sym, ◌∙◌}
+use Rattle.std.proofs.lemmas.Result.{IfOk-weaker}
+use Rattle.flow_cli.specs.Answering.{OfBatch, StopsWithin}
+use Rattle.flow_cli.specs.declared.drive.Stopped.TheVariants.{Refused}
+use Rattle.flow_cli.proofs.Answering.{both_errs, none_replied, some_written}
 use Rattle.flow_cli.proofs.Batches.{batch_answered, batch_given_up, batch_replied, caused_batch, given_up_within, replied_within}
 use Rattle.flow_cli.proofs.drive.answer_begun.Goals as goal
 
@@ -20,9 +21,9 @@ returns-in-Ok-Replied-clause-within g c =
 pub returns-in-Ok-Replied-clause-stopped : goal.returns-in-Ok-Replied-clause-stopped
 returns-in-Ok-Replied-clause-stopped g c =
     let told = rw c.in-Ok-Replied.field-0-is at c.in-Ok-Replied.ensures.answers in
-    IfErr-weaker c.write_answers.result _ _
-    (λ e w sure most few lines holds. some_written _ _ _ _ e lines _ _ _ (batch_replied g.E.Answering.rules (OfBatch most g.E.Answering.gives_up) _ _ lines _ _ holds _ _ (told sure)) w)
-    c.write_answers.ensures.stopped
+    both_errs c.write_answers.result _ _ _
+    (λ e why w sure most few lines holds. some_written _ _ _ _ e lines _ _ _ (batch_replied g.E.Answering.rules (OfBatch most g.E.Answering.gives_up) _ _ lines _ _ holds _ _ (told sure)) why w)
+    c.write_answers.ensures.cause c.write_answers.ensures.stopped
 
 pub returns-in-Ok-NotApplied-clause-answered : goal.returns-in-Ok-NotApplied-clause-answered
 returns-in-Ok-NotApplied-clause-answered g c =
@@ -41,9 +42,10 @@ pub returns-in-Ok-NotApplied-clause-stopped : goal.returns-in-Ok-NotApplied-clau
 returns-in-Ok-NotApplied-clause-stopped g c =
     let told = rw c.in-Ok-NotApplied.field-0-is at c.in-Ok-NotApplied.ensures.answers in
     let cause = rw c.in-Ok-NotApplied.field-0-is at c.in-Ok-NotApplied.ensures.cause in
-    IfErr-weaker c.write_answers-in-Ok-NotApplied.result _ _
-    (λ e w sure most few lines holds. some_written _ _ _ _ e lines _ _ _ (batch_given_up g.E.Answering.rules (OfBatch most g.E.Answering.gives_up) _ _ lines _ _ holds _ _ c.new.ensures.items (cause.0, caused_batch most g.E.Answering.gives_up _ _ _ c.requires.some few cause.1) (told sure)) w)
-    c.write_answers-in-Ok-NotApplied.ensures.stopped
+    both_errs c.write_answers-in-Ok-NotApplied.result _ _ _
+    (λ e why w sure most few lines holds. some_written _ _ _ _ e lines _ _ _ (batch_given_up g.E.Answering.rules (OfBatch most g.E.Answering.gives_up) _ _ lines _ _ holds _ _ c.new.ensures.items (cause.0, caused_batch most g.E.Answering.gives_up _ _ _ c.requires.some few cause.1) (told sure)) why w)
+    c.write_answers-in-Ok-NotApplied.ensures.cause c.write_answers-in-Ok-NotApplied.ensures.stopped
 
 pub returns-in-Err-clause-stopped : goal.returns-in-Err-clause-stopped
-returns-in-Err-clause-stopped g c sure most few lines holds = none_replied _ _ _ _ lines _ _
+returns-in-Err-clause-stopped g c sure most few lines holds =
+    subst (λ f. StopsWithin g.E.Answering.rules (OfBatch most g.E.Answering.gives_up) (g.E.Answering.book c.args.engine.now) (g.E.Answering.book c.answer_together.new.self) (Refused f) lines (g.W.Write.contents c.args.writer.now) (g.W.Write.contents c.args.writer.now)) (sym c.fault_of_stop.ensures) (none_replied _ _ _ _ lines _ c.in-Err.stop)

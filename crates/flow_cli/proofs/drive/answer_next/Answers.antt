@@ -1,11 +1,12 @@
 use Rattle.flow_cli.specs.Answering.{OfBatch}
-use Rattle.flow_cli.proofs.Answering.{bad_answered, bad_written, each, none_answered, none_replied}
+use Rattle.flow_cli.proofs.Answering.{bad_answered, bad_written, each, none_answered, none_written}
 use Rattle.flow_cli.proofs.Batches.{next_batch, next_cause, next_stops}
+use Rattle.flow_cli.proofs.SomeLines.{none_among, some_bad, some_bad_stops}
 use Rattle.flow_cli.proofs.drive.answer_next.Goals as goal
 
 pub returns-in-Err-clause-stopped : goal.returns-in-Err-clause-stopped
 returns-in-Err-clause-stopped g c sure =
-    each _ _ (λ bytes. none_answered _ _ _ _ c.stopped_reading.result _ _ (c.stopped_reading.ensures.nothing _) (c.stopped_reading.ensures.book _))
+    each _ _ (λ bytes. none_answered _ _ _ c.stopped_reading.result _ _ (c.stopped_reading.ensures.nothing _) (c.stopped_reading.ensures.book _))
 
 pub returns-in-Ok-answer_batch-clause-answered : goal.returns-in-Ok-answer_batch-clause-answered
 returns-in-Ok-answer_batch-clause-answered g c sure =
@@ -35,4 +36,26 @@ returns-in-Err-NotACommand-clause-stopped g c sure =
     bad_written _ _ _ c.in-Err-write_told.stopped _ _ _ _ _ c.as_slice.result.now first c.as_slice.ensures.value bad c.in-Err-write_told.ensures.stopped
 
 pub returns-clause-stopped : goal.returns-clause-stopped
-returns-clause-stopped g c sure = each _ _ (λ bytes. none_replied _ _ _ _ _ _ _)
+returns-clause-stopped g c sure = each _ _ (λ bytes. none_answered _ _ _ _ _ _ (none_written _) tt)
+
+pub returns-in-Err-clause-cut : goal.returns-in-Err-clause-cut
+returns-in-Err-clause-cut g c sure = none_among _ _ _ c.stopped_reading.result _ (c.stopped_reading.ensures.nothing _) (c.stopped_reading.ensures.book _)
+
+pub returns-in-Ok-answer_batch-clause-lines : goal.returns-in-Ok-answer_batch-clause-lines
+returns-in-Ok-answer_batch-clause-lines g c sure = c.in-Ok-answer_batch.ensures.lines sure c.as_slice.result.now c.in-Ok.ensures.exact
+
+pub returns-in-Ok-clause-cut : goal.returns-in-Ok-clause-cut
+returns-in-Ok-clause-cut g c sure = c.in-Err-answer_batch.ensures.cut sure c.as_slice.result.now c.in-Ok.ensures.exact
+
+pub returns-in-Ok-write_told-clause-lines : goal.returns-in-Ok-write_told-clause-lines
+returns-in-Ok-write_told-clause-lines g c sure =
+    let bad = rw c.in-Err-NotACommand.field-0-is at c.in-Err-NotACommand.ensures.exact in
+    some_bad _ _ _ _ _ c.as_slice.result.now _ bad c.in-Ok-write_told.ensures.all c.in-Ok-write_told.ensures.told
+
+pub returns-in-Err-NotACommand-clause-cut : goal.returns-in-Err-NotACommand-clause-cut
+returns-in-Err-NotACommand-clause-cut g c sure =
+    let bad = rw c.in-Err-NotACommand.field-0-is at c.in-Err-NotACommand.ensures.exact in
+    some_bad_stops _ _ _ c.in-Err-write_told.stopped _ _ c.as_slice.result.now bad c.in-Err-write_told.ensures.stopped
+
+pub returns-clause-cut : goal.returns-clause-cut
+returns-clause-cut g c sure = none_among _ _ _ _ _ (none_written _) tt
