@@ -12,9 +12,15 @@ mod keys;
 #[cfg(test)]
 mod opening;
 #[cfg(test)]
+mod puts;
+#[cfg(test)]
 mod reads;
 #[cfg(test)]
 mod rows;
+#[cfg(test)]
+mod statements;
+#[cfg(test)]
+mod steps;
 #[cfg(test)]
 mod tables;
 #[cfg(test)]

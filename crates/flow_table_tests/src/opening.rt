@@ -1,9 +1,7 @@
 //! Opening over the rows of a small history, and over each table damaged by one statement.
+use crate::statements::{Failure, Statement, are_so, are_so_behind, fault};
 use flow_base::code::Code;
 use flow_base::fault::{Damage, Fault, Table};
-use flow_tables::create::create;
-use flow_tables::open::open;
-use sqlite::{Connection, Error, MemStore};
 use std::alloc::Global;
 use std::test::Fail;
 
@@ -16,118 +14,94 @@ INSERT INTO event (run, id, kind, body) VALUES (1, 3, 8, '{\"at\":1000,\"due\":1
 INSERT INTO timer (run, id, due) VALUES (1, 3, 1100); \
 INSERT INTO outbox (run, id, attempt, ready) VALUES (1, 2, 1, 1000)";
 
-fn filled(alloc: Global) -> Result<Connection<MemStore>, Error> {
-    let mut conn = Connection::open_in_memory(alloc)?;
-    create(&mut conn)?;
-    conn.execute_batch(ROWS)?;
-    Ok(conn)
+const FILLED: &[Statement] = &[Statement::Makes, Statement::Sql(ROWS)];
+
+const WHOLE: &[Statement] = &[
+    Statement::Opens(1, 1),
+    Statement::IsFree,
+    Statement::Opens(1, 1),
+];
+
+#[test]
+fn rows_of_a_book_are_opened(rt: HostRuntime) -> Result<(), Fail> {
+    assert!(rt; are_so_behind(rt.alloc(), FILLED, WHOLE));
+    Ok(())
 }
 
-fn opens(alloc: Global, conn: &mut Connection<MemStore>) -> Result<(), Fault> {
-    match open(alloc, conn) {
-        Ok(_book) => Ok(()),
-        Err(fault) => Err(fault),
-    }
+/// Whether opening fails so after a change of the rows.
+fn fails_after(alloc: Global, change: &'static str, failure: Failure) -> bool {
+    let then = [Statement::Sql(change), Statement::Fails(failure)];
+    are_so_behind(alloc, FILLED, &then)
 }
 
-/// How many texts and runs the book has that opening gives.
-fn book_opened(alloc: Global, conn: &mut Connection<MemStore>) -> Option<(usize, usize)> {
-    match open(alloc, conn) {
-        Ok(book) => Some((book.texts.as_slice().len(), book.runs.as_slice().len())),
-        Err(_) => None,
-    }
-}
-
-/// What opening answers after a change of the rows.
-fn opened_after(alloc: Global, change: &str) -> Result<Result<(), Fault>, Error> {
-    let mut conn = filled(alloc)?;
-    conn.execute_batch(change)?;
-    Ok(opens(alloc, &mut conn))
-}
-
-fn damaged(table: Table, run: i64, place: i64, cause: Option<Code>) -> Result<(), Fault> {
-    Err(Fault::Damaged(Damage {
+fn damaged(table: Table, run: i64, place: i64, cause: Option<Code>) -> Failure {
+    Failure::Damaged(Damage {
         table,
         run,
         place,
         cause,
-    }))
-}
-
-#[test]
-fn rows_of_a_book_are_opened(rt: HostRuntime) -> Result<(), Fail> {
-    let mut conn = filled(rt.alloc())?;
-    assert_eq!(rt; book_opened(rt.alloc(), &mut conn), Some((1, 1)));
-    assert!(rt; conn.is_autocommit());
-    assert_eq!(rt; opens(rt.alloc(), &mut conn), Ok(()));
-    Ok(())
+    })
 }
 
 #[test]
 fn a_text_that_is_no_program(rt: HostRuntime) -> Result<(), Fail> {
-    let answer = opened_after(rt.alloc(), "UPDATE text SET body = 'workflow'")?;
-    assert_eq!(rt; answer, damaged(Table::Text, 0, 1, None));
+    let failure = damaged(Table::Text, 0, 1, None);
+    assert!(rt; fails_after(rt.alloc(), "UPDATE text SET body = 'workflow'", failure));
     Ok(())
 }
 
 #[test]
 fn a_wrong_mark(rt: HostRuntime) -> Result<(), Fail> {
-    let answer = opened_after(rt.alloc(), "UPDATE run SET isopen = 0")?;
-    assert_eq!(rt; answer, damaged(Table::Run, 1, 0, None));
+    let failure = damaged(Table::Run, 1, 0, None);
+    assert!(rt; fails_after(rt.alloc(), "UPDATE run SET isopen = 0", failure));
     Ok(())
 }
 
 #[test]
 fn a_missing_event(rt: HostRuntime) -> Result<(), Fail> {
-    let answer = opened_after(rt.alloc(), "DELETE FROM event WHERE id = 2")?;
-    assert_eq!(rt; answer, damaged(Table::Event, 1, 2, None));
+    let failure = damaged(Table::Event, 1, 2, None);
+    assert!(rt; fails_after(rt.alloc(), "DELETE FROM event WHERE id = 2", failure));
     Ok(())
 }
 
 #[test]
 fn an_event_spelled_otherwise(rt: HostRuntime) -> Result<(), Fail> {
-    let answer = opened_after(
-        rt.alloc(),
-        "UPDATE event SET body = '{\"args\": [],\"at\":1000}' WHERE id = 1",
-    )?;
-    assert_eq!(rt;
-        answer,
-        damaged(Table::Event, 1, 1, Some(Code::SecondSpelling))
-    );
+    let change = "UPDATE event SET body = '{\"args\": [],\"at\":1000}' WHERE id = 1";
+    let failure = damaged(Table::Event, 1, 1, Some(Code::SecondSpelling));
+    assert!(rt; fails_after(rt.alloc(), change, failure));
     Ok(())
 }
 
 #[test]
 fn a_timer_of_another_moment(rt: HostRuntime) -> Result<(), Fail> {
-    let answer = opened_after(rt.alloc(), "UPDATE timer SET due = 1101")?;
-    assert_eq!(rt; answer, damaged(Table::Timer, 1, 3, None));
+    let failure = damaged(Table::Timer, 1, 3, None);
+    assert!(rt; fails_after(rt.alloc(), "UPDATE timer SET due = 1101", failure));
     Ok(())
 }
 
 #[test]
 fn a_missing_task(rt: HostRuntime) -> Result<(), Fail> {
-    let answer = opened_after(rt.alloc(), "DELETE FROM outbox")?;
-    assert_eq!(rt; answer, damaged(Table::Outbox, 1, 2, None));
+    let failure = damaged(Table::Outbox, 1, 2, None);
+    assert!(rt; fails_after(rt.alloc(), "DELETE FROM outbox", failure));
     Ok(())
 }
 
 #[test]
 fn a_missing_table(rt: HostRuntime) -> Result<(), Fail> {
-    let answer = opened_after(rt.alloc(), "DROP TABLE outbox")?;
-    assert_eq!(rt; answer, Err(Fault::NotOurs));
+    assert!(rt; fails_after(rt.alloc(), "DROP TABLE outbox", Failure::NotOurs));
     Ok(())
 }
 
+/// A table that isn't ours keeps its row, and ours come beside it.
+const NOTE: &[Statement] = &[
+    Statement::Sql("CREATE TABLE note (said TEXT) STRICT; INSERT INTO note (said) VALUES ('a')"),
+    Statement::Opens(0, 0),
+    Statement::Counts("SELECT count(*) FROM note, meta", 1),
+];
+
 #[test]
 fn a_table_of_others_stays(rt: HostRuntime) -> Result<(), Fail> {
-    let mut conn = Connection::open_in_memory(rt.alloc())?;
-    conn.execute_batch(
-        "CREATE TABLE note (said TEXT) STRICT; INSERT INTO note (said) VALUES ('a')",
-    )?;
-    assert_eq!(rt; book_opened(rt.alloc(), &mut conn), Some((0, 0)));
-    let row = conn.query_row("SELECT count(*) FROM note, meta", &[])?;
-    let rows: i64 = row.get(0)?;
-    assert_eq!(rt; rows, 1);
+    assert!(rt; are_so(rt.alloc(), NOTE));
     Ok(())
 }
 
@@ -136,7 +110,8 @@ fn each_refusal_has_its_number(rt: HostRuntime) -> Result<(), Fail> {
     assert_eq!(rt; Fault::StoreRefused.code().number(), 80);
     assert_eq!(rt; Fault::NotOurs.code().number(), 81);
     assert_eq!(rt; Fault::BadVersion.code().number(), 82);
-    let answer = opened_after(rt.alloc(), "DELETE FROM outbox")?;
-    assert!(rt; matches!(answer, Err(fault) if fault.code() == Code::Damaged));
+    let failure = damaged(Table::Outbox, 1, 2, None);
+    assert!(rt; fails_after(rt.alloc(), "DELETE FROM outbox", failure));
+    assert!(rt; fault(failure).code() == Code::Damaged);
     Ok(())
 }

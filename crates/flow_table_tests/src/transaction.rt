@@ -1,105 +1,80 @@
 //! Opening, transactions, and what others left in the file.
-use flow_base::fault::Fault;
-use flow_tables::create::create;
-use flow_tables::open::open;
-use flow_tables::transaction::{begin, commit, rollback, undo};
-use sqlite::{Connection, MemStore};
-use std::alloc::Global;
+use crate::statements::{Failure, Statement, are_so};
 use std::test::Fail;
 
-type Memory = Connection<MemStore>;
-
-// Each call in a function without clauses, so that no test carries those of all.
-
-fn opens(alloc: Global, conn: &mut Memory) -> Result<(), Fault> {
-    match open(alloc, conn) {
-        Ok(_book) => Ok(()),
-        Err(fault) => Err(fault),
-    }
-}
-
-fn makes(conn: &mut Memory) -> bool {
-    create(conn).is_ok()
-}
-
-fn begins(conn: &mut Memory) -> bool {
-    begin(conn).is_ok()
-}
-
-fn commits(conn: &mut Memory) -> bool {
-    commit(conn).is_ok()
-}
-
-fn rolls_back(conn: &mut Memory) -> bool {
-    rollback(conn).is_ok()
-}
-
-fn ends(conn: &mut Memory) -> bool {
-    undo(conn).is_ok()
-}
-
-fn change(conn: &mut Memory, sql: &str) -> bool {
-    conn.execute(sql, &[]).is_ok()
-}
-
-fn put(conn: &mut Memory) -> bool {
-    change(conn, "INSERT INTO text (num, body) VALUES (1, 'a')")
-}
-
-fn texts(conn: &mut Memory) -> usize {
-    match conn.query_all("SELECT num FROM text", &[]) {
-        Ok(rows) => rows.len(),
-        Err(_) => 99,
-    }
-}
+const TWICE: &[Statement] = &[
+    Statement::Opens(0, 0),
+    Statement::Opens(0, 0),
+    Statement::MakesNothing,
+    Statement::IsFree,
+];
 
 #[test]
 fn opens_twice(rt: HostRuntime) -> Result<(), Fail> {
-    let mut conn = Connection::open_in_memory(rt.alloc())?;
-    assert_eq!(rt; opens(rt.alloc(), &mut conn), Ok(()));
-    assert_eq!(rt; opens(rt.alloc(), &mut conn), Ok(()));
-    assert!(rt; !makes(&mut conn));
-    assert!(rt; conn.is_autocommit());
+    assert!(rt; are_so(rt.alloc(), TWICE));
     Ok(())
 }
+
+const PUT: Statement = Statement::Sql("INSERT INTO text (num, body) VALUES (1, 'a')");
+
+const TEXTS: &str = "SELECT count(num) FROM text";
+
+const KEPT: &[Statement] = &[
+    Statement::Makes,
+    Statement::Begins,
+    PUT,
+    Statement::RollsBack,
+    Statement::Counts(TEXTS, 0),
+    Statement::Begins,
+    PUT,
+    Statement::Commits,
+    Statement::Counts(TEXTS, 1),
+];
 
 #[test]
 fn keeps_what_was_committed(rt: HostRuntime) -> Result<(), Fail> {
-    let mut conn = Connection::open_in_memory(rt.alloc())?;
-    assert!(rt; makes(&mut conn) && begins(&mut conn) && put(&mut conn) && rolls_back(&mut conn));
-    assert_eq!(rt; texts(&mut conn), 0);
-    assert!(rt; begins(&mut conn) && put(&mut conn) && commits(&mut conn));
-    assert_eq!(rt; texts(&mut conn), 1);
+    assert!(rt; are_so(rt.alloc(), KEPT));
     Ok(())
 }
+
+const ENDED: &[Statement] = &[
+    Statement::Makes,
+    Statement::Begins,
+    PUT,
+    Statement::Opens(0, 0),
+    Statement::Counts(TEXTS, 0),
+    Statement::Undoes,
+];
 
 #[test]
 fn opening_ends_a_transaction(rt: HostRuntime) -> Result<(), Fail> {
-    let mut conn = Connection::open_in_memory(rt.alloc())?;
-    assert!(rt; makes(&mut conn) && begins(&mut conn) && put(&mut conn));
-    assert_eq!(rt; opens(rt.alloc(), &mut conn), Ok(()));
-    assert_eq!(rt; texts(&mut conn), 0);
-    assert!(rt; ends(&mut conn));
+    assert!(rt; are_so(rt.alloc(), ENDED));
     Ok(())
 }
+
+const OTHERS: &[Statement] = &[
+    Statement::Sql("CREATE TABLE meta (name TEXT) STRICT"),
+    Statement::Fails(Failure::NotOurs),
+    Statement::IsFree,
+    Statement::CountsNothing(TEXTS),
+];
 
 #[test]
 fn leaves_tables_of_others(rt: HostRuntime) -> Result<(), Fail> {
-    let mut conn = Connection::open_in_memory(rt.alloc())?;
-    assert!(rt; change(&mut conn, "CREATE TABLE meta (name TEXT) STRICT"));
-    assert_eq!(rt; opens(rt.alloc(), &mut conn), Err(Fault::NotOurs));
-    assert!(rt; conn.is_autocommit());
-    assert_eq!(rt; texts(&mut conn), 99);
+    assert!(rt; are_so(rt.alloc(), OTHERS));
     Ok(())
 }
 
+const OTHER_FORMAT: &[Statement] = &[
+    Statement::Opens(0, 0),
+    Statement::Sql("UPDATE meta SET value = 3"),
+    Statement::Fails(Failure::BadVersion),
+    Statement::Sql("DELETE FROM meta"),
+    Statement::Fails(Failure::NotOurs),
+];
+
 #[test]
 fn tells_another_format(rt: HostRuntime) -> Result<(), Fail> {
-    let mut conn = Connection::open_in_memory(rt.alloc())?;
-    assert_eq!(rt; opens(rt.alloc(), &mut conn), Ok(()));
-    assert!(rt; change(&mut conn, "UPDATE meta SET value = 3"));
-    assert_eq!(rt; opens(rt.alloc(), &mut conn), Err(Fault::BadVersion));
-    assert!(rt; change(&mut conn, "DELETE FROM meta"));
-    assert_eq!(rt; opens(rt.alloc(), &mut conn), Err(Fault::NotOurs));
+    assert!(rt; are_so(rt.alloc(), OTHER_FORMAT));
     Ok(())
 }

@@ -1,128 +1,146 @@
 //! Replays of a text: read, checked, and run over a recorded history.
-use flow_base::event::{Cmd, Event, Input, State, What, Wrong};
-use flow_base::number::{EventId, Moment};
-use flow_base::sequence::Sequence;
-use flow_base::text::{Key, Text};
+use crate::recorded::{Row, Said, history, program};
+use flow_base::event::{Event, State, Wrong};
 use flow_base::value::{Kind, Value};
-use flow_check::check::check;
 use flow_check::checked::Checked;
 use flow_match::fault::ReplayFault;
 use flow_match::replay::replay;
 use flow_run::rest::OpenWait;
 use flow_run::stance::Stance;
-use flow_syntax::parse::parse;
+use std::alloc::Global;
 use std::test::Fail;
 
 const A: &str =
     "workflow a(n: int) { activity c(int, text) -> int; let r = 0; r = call c(n, \"eur\"); return r + 1; }";
 
-fn program(rt: &HostRuntime) -> Result<Checked, Fail> {
-    let program = parse(rt.alloc(), A)?;
-    Ok(check(rt.alloc(), program)?)
-}
+/// Where a replay leaves a run: how many events it has, its state, and whether its variable `n` is 7.
+type Left = (u64, State, bool);
 
-fn event(id: u64, at: u64, what: What) -> Result<Event, Fail> {
-    let id = EventId::new(id).ok_or("an id")?;
-    let at = Moment::new(at).ok_or("a moment")?;
-    Ok(Event { id, at, what })
-}
-
-fn started(rt: &HostRuntime) -> Result<Event, Fail> {
-    let arguments = Sequence::from_vec(vec![in rt.alloc(); Value::Int(7)]?);
-    event(1, 1000, What::Came(Input::Started(arguments)))
-}
-
-fn scheduled(rt: &HostRuntime, id: u64, currency: &str) -> Result<Event, Fail> {
-    let currency = Value::Text(Text::new(rt.alloc(), currency)?);
-    let arguments = Sequence::from_vec(vec![in rt.alloc(); Value::Int(7), currency]?);
-    let activity = Key::new(rt.alloc(), "c")?;
-    event(
-        id,
-        1000,
-        What::Asked(Cmd::Schedule(activity, arguments, 1, 0, Kind::Int)),
-    )
-}
-
-fn completed() -> Result<Event, Fail> {
-    let of = EventId::new(2).ok_or("an id")?;
-    event(
-        3,
-        1500,
-        What::Came(Input::ActivityCompleted(of, Value::Int(41))),
-    )
-}
-
-fn closed() -> Result<Event, Fail> {
-    event(4, 1500, What::Asked(Cmd::Complete(Value::Int(42))))
-}
-
-fn whole(rt: &HostRuntime) -> Result<Vec<Event>, Fail> {
-    let second = scheduled(rt, 2, "eur")?;
-    Ok(vec![in rt.alloc(); started(rt)?, second, completed()?, closed()?]?)
-}
-
-/// Whether a replay of the events first goes wrong there and so.
-fn is_wrong(rt: &HostRuntime, events: &[Event], place: usize, name: Wrong) -> Result<bool, Fail> {
-    match replay(rt.alloc(), &program(rt)?, events) {
-        Err(ReplayFault::Mismatch { event, name: wrong }) => Ok(event == place && wrong == name),
-        Ok(_) => Ok(false),
-        Err(ReplayFault::NoMemory) => Ok(false),
+fn has_seven(program: &Checked, stance: &Stance) -> bool {
+    match stance.variable(program, "n") {
+        Some(value) => value.is(&Value::Int(7)),
+        None => false,
     }
 }
 
+fn left(program: &Checked, stance: &Stance) -> Left {
+    (stance.events(), stance.state(), has_seven(program, stance))
+}
+
+/// Where a replay of the events leaves the run, or where it first goes wrong, and how.
+fn replayed(
+    alloc: Global,
+    program: &Checked,
+    events: &[Event],
+) -> Option<Result<Left, (usize, Wrong)>> {
+    match replay(alloc, program, events) {
+        Ok(stance) => Some(Ok(left(program, &stance))),
+        Err(ReplayFault::Mismatch { event, name }) => Some(Err((event, name))),
+        Err(ReplayFault::NoMemory) => None,
+    }
+}
+
+fn replayed_of(alloc: Global, rows: &[Row]) -> Option<Result<Left, (usize, Wrong)>> {
+    let events = history(alloc, rows)?;
+    let program = program(alloc, A)?;
+    replayed(alloc, &program, events.as_slice())
+}
+
+fn leaves(alloc: Global, rows: &[Row], events: u64, state: State) -> bool {
+    match replayed_of(alloc, rows) {
+        Some(Ok(left)) => left.0 == events && left.1 == state,
+        _ => false,
+    }
+}
+
+fn leaves_seven(alloc: Global, rows: &[Row]) -> bool {
+    match replayed_of(alloc, rows) {
+        Some(Ok(left)) => left.2,
+        _ => false,
+    }
+}
+
+fn goes_wrong(alloc: Global, rows: &[Row], place: usize, name: Wrong) -> bool {
+    match replayed_of(alloc, rows) {
+        Some(Err((found, wrong))) => found == place && wrong == name,
+        _ => false,
+    }
+}
+
+const WHOLE: &[Row] = &[
+    (1, 1000, Said::Starts(7)),
+    (2, 1000, Said::Calls("eur")),
+    (3, 1500, Said::Gives(41)),
+    (4, 1500, Said::Ends(42)),
+];
+
 #[test]
 fn the_whole_history_stands(rt: HostRuntime) -> Result<(), Fail> {
-    let program = program(&rt)?;
-    let stance = replay(rt.alloc(), &program, whole(&rt)?.as_slice())?;
-    assert!(rt; stance.events() == 4);
-    assert!(rt; stance.state() == State::Completed);
+    assert!(rt; leaves(rt.alloc(), WHOLE, 4, State::Completed));
     Ok(())
 }
+
+/// The run waits on its activity.
+const OPEN: &[Row] = &[(1, 1000, Said::Starts(7)), (2, 1000, Said::Calls("eur"))];
 
 #[test]
 fn an_open_history_waits_on_its_activity(rt: HostRuntime) -> Result<(), Fail> {
-    let program = program(&rt)?;
-    let events = vec![in rt.alloc(); started(&rt)?, scheduled(&rt, 2, "eur")?]?;
-    let stance = replay(rt.alloc(), &program, events.as_slice())?;
-    assert!(rt; stance.events() == 2);
-    assert!(rt; stance.state() == State::Open);
-    let seven = match stance.variable(&program, "n") {
-        Some(value) => value.is(&Value::Int(7)),
-        None => false,
-    };
-    assert!(rt; seven);
+    assert!(rt; leaves(rt.alloc(), OPEN, 2, State::Open) && leaves_seven(rt.alloc(), OPEN));
     Ok(())
 }
+
+const OTHER_ARGUMENT: &[Row] = &[
+    (1, 1000, Said::Starts(7)),
+    (2, 1000, Said::Calls("usd")),
+    (3, 1500, Said::Gives(41)),
+    (4, 1500, Said::Ends(42)),
+];
 
 #[test]
 fn another_argument_is_other_content(rt: HostRuntime) -> Result<(), Fail> {
-    let events = vec![in rt.alloc();
-        started(&rt)?,
-        scheduled(&rt, 2, "usd")?,
-        completed()?,
-        closed()?,
-    ]?;
-    assert!(rt; is_wrong(&rt, events.as_slice(), 2, Wrong::OtherContent)?);
+    assert!(rt; goes_wrong(rt.alloc(), OTHER_ARGUMENT, 2, Wrong::OtherContent));
     Ok(())
 }
 
-/// A run that waits on its activity.
-fn waiting(rt: &HostRuntime, program: &Checked) -> Result<Stance, Fail> {
-    let events = vec![in rt.alloc(); started(rt)?, scheduled(rt, 2, "eur")?]?;
-    Ok(replay(rt.alloc(), program, events.as_slice())?)
+fn is_wait(waits: &[OpenWait]) -> bool {
+    match waits {
+        [OpenWait::Activity(2, into, Kind::Int)] => into.as_str() == "r",
+        _ => false,
+    }
+}
+
+fn waits(alloc: Global, program: &Checked, stance: &Stance) -> bool {
+    match stance.waits(alloc, program) {
+        Ok(waits) => is_wait(waits.as_slice()),
+        Err(_) => false,
+    }
+}
+
+// Whether a copy of the run is open and waits on its activity.
+fn is_copied(alloc: Global, program: &Checked, stance: &Stance) -> bool {
+    match stance.copy(alloc) {
+        Ok(copied) => copied.events() == 2
+            && copied.state() == State::Open
+            && waits(alloc, program, &copied),
+        Err(_) => false,
+    }
+}
+
+fn is_replayed_and_copied(alloc: Global, program: &Checked, events: &[Event]) -> bool {
+    match replay(alloc, program, events) {
+        Ok(stance) => is_copied(alloc, program, &stance),
+        Err(_) => false,
+    }
+}
+
+fn copies(alloc: Global, rows: &[Row]) -> Option<bool> {
+    let events = history(alloc, rows)?;
+    let program = program(alloc, A)?;
+    Some(is_replayed_and_copied(alloc, &program, events.as_slice()))
 }
 
 #[test]
 fn a_copy_waits_on_the_same_activity(rt: HostRuntime) -> Result<(), Fail> {
-    let program = program(&rt)?;
-    let stance = waiting(&rt, &program)?;
-    let copied = stance.copy(rt.alloc())?;
-    assert!(rt; copied.events() == 2 && copied.state() == State::Open);
-    let waits = copied.waits(rt.alloc(), &program)?;
-    let is_told = match waits.as_slice() {
-        [OpenWait::Activity(2, into, Kind::Int)] => into.as_str() == "r",
-        _ => false,
-    };
-    assert!(rt; is_told);
+    assert!(rt; copies(rt.alloc(), OPEN) == Some(true));
     Ok(())
 }

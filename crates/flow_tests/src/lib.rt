@@ -12,6 +12,8 @@ mod histories;
 #[cfg(test)]
 mod lines;
 #[cfg(test)]
+mod recorded;
+#[cfg(test)]
 mod runs;
 #[cfg(test)]
 mod same;
