@@ -1,11 +1,9 @@
 //! Programs that are kept: a text is read once while its program is kept, and those that were asked for last are.
 ghost use Rattle.flow_check.specs.Language.{meaning_of};
 
+use crate::words::{Call, command};
 use flow_base::command::{Command, TextFault};
-use flow_base::number::{EventId, Moment, RunId, TextNo};
-use flow_base::sequence::Sequence;
-use flow_base::text::{Key, RawText};
-use flow_base::value::Value;
+use flow_base::text::RawText;
 use flow_check::checked::Checked;
 use flow_check::language::Language;
 use flow_check::texts::Texts;
@@ -39,61 +37,66 @@ impl<'a> Texts for Counted<'a> {
 const CALLS: &str =
     "workflow a(n: int) { activity c(int, text) -> int; let r = 0; r = call c(n, \"eur\"); return r + 1; }";
 
-fn register(alloc: Global, body: &str) -> Option<Command> {
-    Some(Command::Register(RawText::new(alloc, body).ok()?))
-}
-
-fn start(alloc: Global, flow: &str) -> Option<Command> {
-    let request = Key::new(alloc, flow).ok()?;
-    let flow = Key::new(alloc, flow).ok()?;
-    let values = vec![in alloc; Value::Int(7)].ok()?;
-    Some(Command::Start(
-        request,
-        flow,
-        TextNo::new(1)?,
-        Sequence::from_vec(values),
-        Moment::new(1000)?,
-    ))
-}
-
-fn complete(run: u64) -> Option<Command> {
-    let run = RunId::new(run)?;
-    let event = EventId::new(2)?;
-    Some(Command::Complete(run, event, 1, Value::Int(41), Moment::new(1500)?))
+/// Whether a command is decided.
+fn is_put<'a>(
+    alloc: Global,
+    programs: &mut Kept<Counted<'a>>,
+    book: &mut Lists,
+    command: &Command,
+) -> bool {
+    match Seats::new(alloc, 1) {
+        Ok(seats) => {
+            let mut seats = seats;
+            decide(alloc, programs, book, &mut seats, command).is_ok()
+        }
+        Err(_) => false,
+    }
 }
 
 fn is_decided<'a>(
     alloc: Global,
     programs: &mut Kept<Counted<'a>>,
     book: &mut Lists,
-    command: Option<Command>,
+    call: Call,
 ) -> bool {
-    match command {
-        Some(command) => match Seats::new(alloc, 1) {
-            Ok(mut seats) => decide(alloc, programs, book, &mut seats, &command).is_ok(),
-            Err(_) => false,
-        },
+    match &command(alloc, call) {
+        Some(command) => is_put(alloc, programs, book, command),
         None => false,
     }
 }
 
-fn are_decided<'a>(alloc: Global, programs: &mut Kept<Counted<'a>>, book: &mut Lists) -> bool {
-    is_decided(alloc, programs, book, register(alloc, CALLS))
-        && is_decided(alloc, programs, book, start(alloc, "f"))
-        && is_decided(alloc, programs, book, complete(1))
-        && is_decided(alloc, programs, book, start(alloc, "g"))
-        && is_decided(alloc, programs, book, register(alloc, CALLS))
+fn are_all_decided<'a>(
+    alloc: Global,
+    programs: &mut Kept<Counted<'a>>,
+    book: &mut Lists,
+    calls: &[Call],
+) -> bool {
+    let mut are = true;
+    for call in calls {
+        are = are && is_decided(alloc, programs, book, *call);
+    }
+    are
+}
+
+/// Whether these are decided over a new book, and how many texts are read for it.
+fn read_for(alloc: Global, calls: &[Call]) -> (bool, u64) {
+    let count = Cell::new(0);
+    let mut book = Lists::new(alloc);
+    let mut programs = Kept::new(alloc, Counted { count: &count });
+    let are = are_all_decided(alloc, &mut programs, &mut book, calls);
+    (are, count.get())
 }
 
 #[test]
 fn a_text_is_read_once_for_many_commands(rt: HostRuntime) -> Result<(), Fail> {
-    let alloc = rt.alloc();
-    let count = Cell::new(0);
-    let mut book = Lists::new(alloc);
-    let mut programs = Kept::new(alloc, Counted { count: &count });
-    let decided = are_decided(alloc, &mut programs, &mut book);
-    assert!(rt; decided);
-    assert_eq!(rt; count.get(), 1);
+    let calls = [
+        Call::Text(CALLS),
+        Call::StartWith("f", 7, 1000),
+        Call::Complete(2, 1, 41, 1500),
+        Call::StartWith("g", 7, 1000),
+        Call::Text(CALLS),
+    ];
+    assert!(rt; read_for(rt.alloc(), &calls) == (true, 1));
     Ok(())
 }
 
@@ -126,12 +129,11 @@ fn are_read<'a>(
     names: &[&str],
     size: usize,
 ) -> bool {
+    let mut are = true;
     for name in names {
-        if is_read(alloc, programs, name, size) != Some(true) {
-            return false;
-        }
+        are = are && is_read(alloc, programs, name, size) == Some(true);
     }
-    true
+    are
 }
 
 // Sixteen of this size, each with the 1,024 that it counts for beside its bytes, fill what is kept to the last byte.
@@ -141,37 +143,50 @@ const NAMES: [&str; 16] = [
     "a0", "a1", "a2", "a3", "a4", "a5", "a6", "a7", "a8", "a9", "b0", "b1", "b2", "b3", "b4", "b5",
 ];
 
-#[test]
-fn those_that_were_asked_for_last_are_kept(rt: HostRuntime) -> Result<(), Fail> {
-    let alloc = rt.alloc();
+/// Whether texts are read in four steps, and how many had been read behind each.
+type Steps = ([bool; 4], [u64; 4]);
+
+fn read_in_steps<'a>(alloc: Global, programs: &mut Kept<Counted<'a>>, count: &Cell<u64>) -> Steps {
+    // All sixteen fit, and are found again.
+    let all = are_read(alloc, programs, &NAMES, SIZE);
+    let first = count.get();
+    let again = are_read(alloc, programs, &NAMES, SIZE);
+    let second = count.get();
+    // The first is asked for, then one more is read: the second goes, the first stays.
+    let more = are_read(alloc, programs, &["a0", "more", "a0"], SIZE);
+    let third = count.get();
+    let gone = are_read(alloc, programs, &["a1"], SIZE);
+    (
+        [all, again, more, gone],
+        [first, second, third, count.get()],
+    )
+}
+
+fn kept_last(alloc: Global) -> Steps {
     let count = Cell::new(0);
     let mut programs = Kept::new(alloc, Counted { count: &count });
-    // All sixteen fit, and are found again.
-    let all = are_read(alloc, &mut programs, &NAMES, SIZE);
-    assert!(rt; all);
-    assert_eq!(rt; count.get(), 16);
-    let again = are_read(alloc, &mut programs, &NAMES, SIZE);
-    assert!(rt; again);
-    assert_eq!(rt; count.get(), 16);
-    // The first is asked for, then one more is read: the second goes, the first stays.
-    let more = are_read(alloc, &mut programs, &["a0", "more", "a0"], SIZE);
-    assert!(rt; more);
-    assert_eq!(rt; count.get(), 17);
-    let gone = are_read(alloc, &mut programs, &["a1"], SIZE);
-    assert!(rt; gone);
-    assert_eq!(rt; count.get(), 18);
-    Ok(())
+    read_in_steps(alloc, &mut programs, &count)
 }
 
 #[test]
-fn what_is_no_program_is_told_each_time(rt: HostRuntime) -> Result<(), Fail> {
-    let alloc = rt.alloc();
+fn those_that_were_asked_for_last_are_kept(rt: HostRuntime) -> Result<(), Fail> {
+    let (are_read, counts) = kept_last(rt.alloc());
+    assert!(rt; are_read == [true, true, true, true]);
+    assert!(rt; counts == [16, 16, 17, 18]);
+    Ok(())
+}
+
+/// What is told twice of a text that is no program, and how many were read.
+fn told_twice(alloc: Global) -> (Option<bool>, Option<bool>, u64) {
     let count = Cell::new(0);
     let mut programs = Kept::new(alloc, Counted { count: &count });
     let first = is_read(alloc, &mut programs, "1", 0);
     let second = is_read(alloc, &mut programs, "1", 0);
-    assert!(rt; first == Some(false));
-    assert!(rt; second == Some(false));
-    assert_eq!(rt; count.get(), 2);
+    (first, second, count.get())
+}
+
+#[test]
+fn what_is_no_program_is_told_each_time(rt: HostRuntime) -> Result<(), Fail> {
+    assert!(rt; told_twice(rt.alloc()) == (Some(false), Some(false), 2));
     Ok(())
 }
