@@ -1,11 +1,10 @@
 //! Batches of many commands committed over a store in memory, with ample memory.
-use crate::calls::{Call, Named, Told, are_all_kept, command, is_told, let_go, named_by};
+use crate::calls::{Call, Named, Told, are_kept, command, let_go};
+use crate::keeping::commit;
 use flow_commit::batch::Batch;
 use flow_commit::keeper::Keeper;
-use flow_commit::outcome::Outcome;
-use flow_machine::submission::{Receipt, Taken};
+use flow_machine::submission::Taken;
 use flow_tables::tables::Tables;
-use flow_view::fault::ViewFault;
 use sqlite::{Alter, Connection};
 use std::alloc::Global;
 use std::test::Fail;
@@ -27,96 +26,83 @@ fn batch(alloc: Global, calls: &[(u64, Call)]) -> Option<Batch> {
     Some(Batch::of(list))
 }
 
-/// Puts what each receipt tells behind what was told before.
-fn add_receipts(list: &mut Vec<Told>, receipts: &[Receipt]) -> bool {
-    let mut is = true;
-    for receipt in receipts {
-        let told = Told::Kept(receipt.ticket, receipt.place, named_by(&receipt.reply));
-        is = is && list.push(told).is_ok();
-    }
-    is
-}
-
-/// The same of what became of a batch. One that isn't kept is told once, whatever it has.
-fn add_outcome<S: Alter>(list: &mut Vec<Told>, outcome: Outcome<S>, is_halted: bool) -> bool {
-    match outcome {
-        Outcome::Kept(receipts, stamp) => {
-            stamp.discard();
-            add_receipts(list, receipts.as_slice())
-        }
-        Outcome::NotApplied(_, ViewFault::NoMemory) => {
-            list.push(Told::Refused(1, is_halted)).is_ok()
-        }
-        Outcome::NotApplied(_, ViewFault::StoreRefused) => {
-            list.push(Told::Refused(80, is_halted)).is_ok()
-        }
-        Outcome::Unknown(_, ViewFault::NoMemory) => {
-            list.push(Told::Refused(1, is_halted)).is_ok()
-        }
-        Outcome::Unknown(_, ViewFault::StoreRefused) => {
-            list.push(Told::Refused(84, is_halted)).is_ok()
-        }
-        Outcome::Halted(_) => list.push(Told::Refused(85, is_halted)).is_ok(),
-    }
-}
-
-fn commit<S: Alter>(list: &mut Vec<Told>, keeper: &mut Keeper<S>, batch: Batch) -> bool {
-    let outcome = keeper.commit(batch);
-    add_outcome(list, outcome, keeper.is_halted())
-}
-
-/// What a keeper tells of calls in batches of so many.
-fn all_committed<S: Alter>(
+/// Whether there is room for what a keeper tells of calls in batches of so many.
+fn commit_all<S: Alter>(
     alloc: Global,
+    list: &mut Vec<Told>,
     keeper: &mut Keeper<S>,
     calls: &[(u64, Call)],
     most: usize,
-) -> Option<Vec<Told>> {
+) -> bool {
     if most == 0 {
-        return None;
+        return false;
     }
-    let mut list = Vec::new(alloc);
+    let mut are = true;
     for part in calls.chunks(most) {
-        if !commit(&mut list, keeper, batch(alloc, part)?) {
-            return None;
-        }
+        are = match batch(alloc, part) {
+            Some(batch) => commit(list, keeper, batch) && are,
+            None => false,
+        };
     }
-    Some(list)
+    are
 }
 
-/// What a keeper that is opened for these calls alone tells of them, and the store behind them.
+/// Commits calls by a keeper that is opened for these alone. Gives the store behind them.
 fn keep<S: Alter>(
     alloc: Global,
     conn: Connection<S>,
+    list: &mut Vec<Told>,
     calls: &[(u64, Call)],
     most: usize,
-) -> (Option<Vec<Told>>, Connection<S>) {
+) -> (bool, Connection<S>) {
     match Tables::open(alloc, conn) {
         Ok((tables, _)) => match Keeper::anew(alloc, tables, 2) {
             Ok(keeper) => {
                 let mut keeper = keeper;
-                let told = all_committed(alloc, &mut keeper, calls, most);
-                (told, keeper.into_tables().into_connection())
+                let are = commit_all(alloc, list, &mut keeper, calls, most);
+                (are, keeper.into_tables().into_connection())
             }
-            Err((_, tables)) => (None, tables.into_connection()),
+            Err((_, tables)) => (false, tables.into_connection()),
         },
-        Err((_, conn)) => (None, conn),
+        Err((_, conn)) => (false, conn),
     }
 }
 
+/// Commits calls over a store. False where there is no room for what is told of them.
 fn keep_over<S: Alter + Drop>(
     alloc: Global,
     conn: Connection<S>,
+    list: &mut Vec<Told>,
     calls: &[(u64, Call)],
     most: usize,
-) -> Option<Vec<Told>> {
-    let (told, conn) = keep(alloc, conn, calls, most);
+) -> bool {
+    let (are, conn) = keep(alloc, conn, list, calls, most);
     let_go(conn);
-    told
+    are
 }
 
-fn keep_in_memory(alloc: Global, calls: &[(u64, Call)], most: usize) -> Option<Vec<Told>> {
-    keep_over(alloc, Connection::open_in_memory(alloc).ok()?, calls, most)
+/// The same over one in memory, where each statement may take so many steps.
+fn keep_in_memory(
+    alloc: Global,
+    steps: Option<u64>,
+    list: &mut Vec<Told>,
+    calls: &[(u64, Call)],
+    most: usize,
+) -> bool {
+    match Connection::open_in_memory(alloc) {
+        Ok(conn) => {
+            let mut conn = conn;
+            conn.set_step_limit(steps);
+            keep_over(alloc, conn, list, calls, most)
+        }
+        Err(_) => false,
+    }
+}
+
+/// Whether this is told of them, and no more.
+fn tells(alloc: Global, calls: &[(u64, Call)], most: usize, wanted: &[Told]) -> bool {
+    let mut list = Vec::new(alloc);
+    keep_in_memory(alloc, None, &mut list, calls, most) && list.as_slice() == wanted
 }
 
 // The batch is the second one: a request that starts a run, and the same request for another flow.
@@ -128,14 +114,13 @@ fn a_request_counts_within_its_batch(rt: HostRuntime) -> Result<(), Fail> {
         (3, Call::StartEmpty),
         (4, Call::StartEmptyAgain),
     ];
-    let told = keep_in_memory(rt.alloc(), &calls, 2);
     let wanted = [
         Told::Kept(1, 1, Named::Text(1)),
         Told::Kept(2, 2, Named::Code(70)),
         Told::Kept(3, 3, Named::Run(1)),
         Told::Kept(4, 4, Named::Duplicate(1)),
     ];
-    assert!(rt; is_told(&told, &wanted));
+    assert!(rt; tells(rt.alloc(), &calls, 2, &wanted));
     Ok(())
 }
 
@@ -156,39 +141,33 @@ fn is_worked(alloc: Global, most: usize) -> bool {
         Told::Kept(3, 4, Named::Events(4, false)),
         Told::Kept(1, 5, Named::Described(4, true)),
     ];
-    is_told(&keep_in_memory(alloc, &WORKED, most), &wanted)
+    tells(alloc, &WORKED, most, &wanted)
 }
 
 #[test]
 fn batches_of_any_length_answer_the_same(rt: HostRuntime) -> Result<(), Fail> {
     let alloc = rt.alloc();
-    assert!(rt;
-        is_worked(alloc, 1) && is_worked(alloc, 2) && is_worked(alloc, 3) && is_worked(alloc, 64)
-    );
+    let are = is_worked(alloc, 1) && is_worked(alloc, 2) && is_worked(alloc, 3);
+    assert!(rt; are && is_worked(alloc, 64));
     Ok(())
 }
 
-/// The last that is told, and how many there are.
-fn last_told(told: &Option<Vec<Told>>) -> Option<(usize, Told)> {
-    match told {
-        Some(told) => Some((told.len(), *told.as_slice().last()?)),
-        None => None,
+/// How many calls are told of, and the last one.
+fn last_told(alloc: Global, calls: &[(u64, Call)], most: usize) -> Option<(usize, Told)> {
+    let mut list = Vec::new(alloc);
+    if keep_in_memory(alloc, None, &mut list, calls, most) {
+        let last = *list.as_slice().last()?;
+        return Some((list.len(), last));
     }
+    None
 }
 
 // 64 commands in one batch, and one in a batch behind it. All but the first find the text that it registered.
 #[test]
 fn a_batch_has_64_commands(rt: HostRuntime) -> Result<(), Fail> {
-    let last = last_told(&keep_in_memory(rt.alloc(), &[(8, Call::RegisterEmpty); 65], 64));
+    let last = last_told(rt.alloc(), &[(8, Call::RegisterEmpty); 65], 64);
     assert!(rt; last == Some((65, Told::Kept(8, 65, Named::Text(1)))));
     Ok(())
-}
-
-/// What is told of calls in batches of three, where each statement may take so many steps.
-fn keep_limited(alloc: Global, steps: u64, calls: &[(u64, Call)]) -> Option<Vec<Told>> {
-    let mut conn = Connection::open_in_memory(alloc).ok()?;
-    conn.set_step_limit(Some(steps));
-    keep_over(alloc, conn, calls, 3)
 }
 
 /// A batch of two, of which both are decided.
@@ -205,13 +184,23 @@ const THREE: [(u64, Call); 4] = [
 /// Each statement of the first two commands may visit so few rows, and one of the third may not.
 const STEPS: u64 = 3;
 
+/// Whether the batch of two is kept where statements may take no more steps.
+fn are_two_kept(alloc: Global) -> bool {
+    let mut list = Vec::new(alloc);
+    keep_in_memory(alloc, Some(STEPS), &mut list, &TWO, 3) && are_kept(list.as_slice(), 2)
+}
+
+/// Whether this is told then of the batch with one more.
+fn is_third_told(alloc: Global, wanted: &[Told]) -> bool {
+    let mut list = Vec::new(alloc);
+    keep_in_memory(alloc, Some(STEPS), &mut list, &THREE, 3) && list.as_slice() == wanted
+}
+
 // Only the third command needs a statement of more steps. Nothing stays of the two before it: the next batch, which is kept,
 // has the first place and registers the first text.
 #[test]
 fn a_refused_command_refuses_its_batch(rt: HostRuntime) -> Result<(), Fail> {
-    let two = keep_limited(rt.alloc(), STEPS, &TWO);
-    let three = keep_limited(rt.alloc(), STEPS, &THREE);
     let wanted = [Told::Refused(80, false), Told::Kept(4, 1, Named::Text(1))];
-    assert!(rt; are_all_kept(&two) && is_told(&three, &wanted));
+    assert!(rt; are_two_kept(rt.alloc()) && is_third_told(rt.alloc(), &wanted));
     Ok(())
 }

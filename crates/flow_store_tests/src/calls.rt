@@ -9,7 +9,9 @@ use flow_base::sequence::Sequence;
 use flow_base::text::{Key, RawText};
 use flow_base::value::Value;
 use flow_commit::batch::Batch;
+use flow_commit::outcome::Outcome;
 use flow_machine::submission::{Receipt, Taken};
+use flow_view::fault::ViewFault;
 use sqlite::{Alter, Connection};
 use std::alloc::Global;
 
@@ -162,40 +164,58 @@ pub fn named_by(reply: &Reply) -> Named {
     }
 }
 
-/// What is told by the receipts of a batch of one.
-pub fn told_by(receipts: &[Receipt], is_halted: bool) -> Told {
-    match receipts {
-        [receipt] => {
-            if is_halted {
-                return Told::Refused(0, true);
-            }
-            Told::Kept(receipt.ticket, receipt.place, named_by(&receipt.reply))
-        }
-        _ => Told::Refused(0, is_halted),
+fn told_by(receipt: &Receipt, is_halted: bool) -> Told {
+    if is_halted {
+        return Told::Refused(0, true);
+    }
+    Told::Kept(receipt.ticket, receipt.place, named_by(&receipt.reply))
+}
+
+/// Puts what each of these receipts tells behind what was told before.
+pub fn add_receipts(list: &mut Vec<Told>, receipts: &[Receipt], is_halted: bool) -> bool {
+    let mut is = true;
+    for receipt in receipts {
+        is = is && list.push(told_by(receipt, is_halted)).is_ok();
+    }
+    is
+}
+
+/// The code of a commit that has changed nothing.
+pub fn code_of(fault: &ViewFault) -> u8 {
+    match fault {
+        ViewFault::NoMemory => 1,
+        ViewFault::StoreRefused => 80,
     }
 }
 
-fn are_kept(told: &[Told]) -> bool {
-    let mut are = true;
+/// The code of a commit of which nobody knows.
+fn code_of_end(fault: &ViewFault) -> u8 {
+    match fault {
+        ViewFault::NoMemory => 1,
+        ViewFault::StoreRefused => 84,
+    }
+}
+
+/// The receipts of a batch that is kept, or the code of its refusal.
+pub fn ended<S: Alter>(outcome: Outcome<S>) -> Result<Vec<Receipt>, u8> {
+    match outcome {
+        Outcome::Kept(receipts, stamp) => {
+            stamp.discard();
+            Ok(receipts)
+        }
+        Outcome::NotApplied(_batch, fault) => Err(code_of(&fault)),
+        Outcome::Unknown(_batch, fault) => Err(code_of_end(&fault)),
+        Outcome::Halted(_batch) => Err(85),
+    }
+}
+
+/// Whether so many are told, all of them kept.
+pub fn are_kept(told: &[Told], count: usize) -> bool {
+    let mut are = told.len() == count;
     for one in told {
         are = are && matches!(one, Told::Kept(_, _, _));
     }
     are
-}
-
-pub fn are_all_kept(told: &Option<Vec<Told>>) -> bool {
-    match told {
-        Some(told) => are_kept(told.as_slice()),
-        None => false,
-    }
-}
-
-/// Whether this is told, and no more.
-pub fn is_told(told: &Option<Vec<Told>>, wanted: &[Told]) -> bool {
-    match told {
-        Some(told) => told.as_slice() == wanted,
-        None => false,
-    }
 }
 
 /// Lets a connection go.

@@ -1,9 +1,11 @@
 //! Replies of engines that keep where one run stands, where a few stand, and where all do.
+use crate::calls::let_go;
+use crate::worked_rows::ROWS;
 use flow_cli::batch::BatchSize;
 use flow_cli::drive::{drive_lines, end_status};
 use flow_engine::engine::Engine;
 use flow_settings::settings::Settings;
-use sqlite::{Connection, MemStore};
+use sqlite::{Alter, Connection};
 use std::alloc::Global;
 use std::test::Fail;
 
@@ -25,32 +27,171 @@ const ENDED: &[u8] =
     b"{\"activities\":[],\"events\":6,\"flow\":\"g\",\"reply\":\"run\",\"state\":\"completed\",\"text\":1,\"timers\":[]}
 ";
 
-/// What is written where every line is a command.
-fn written(alloc: Global, engine: &mut Engine<MemStore>) -> Option<Vec<u8>> {
-    let mut reader = IN_TURN;
-    let mut writer = Vec::new(alloc);
-    let outcome = drive_lines(alloc, engine, &mut reader, &mut writer, BatchSize::new(1)?);
-    if end_status(&outcome) == 0 {
-        Some(writer)
-    } else {
-        None
+// Run 2 has 33 events; no other statement of these lines visits so many rows.
+const STEPS: u64 = 30;
+
+// In batches of two: the third is rolled back, since the events of its second command are more than a statement may visit here.
+// What its report led to is forgotten with it, so the next report is the third event, and its value is what the activity is called
+// with again.
+const ROLLED_BACK: &[u8] =
+    b"{\"do\":\"register\",\"src\":\"workflow w() { activity c(int) -> int; let v = 0; v = call c(v); v = call c(v); return v; }\"}
+{\"do\":\"register\",\"src\":\"workflow p() { parallel { { parallel { { sleep 5; } { sleep 5; } { sleep 5; } { sleep 5; } { sleep 5; } { sleep 5; } { sleep 5; } { sleep 5; } } } { parallel { { sleep 5; } { sleep 5; } { sleep 5; } { sleep 5; } { sleep 5; } { sleep 5; } { sleep 5; } { sleep 5; } } } { parallel { { sleep 5; } { sleep 5; } { sleep 5; } { sleep 5; } { sleep 5; } { sleep 5; } { sleep 5; } { sleep 5; } } } { parallel { { sleep 5; } { sleep 5; } { sleep 5; } { sleep 5; } { sleep 5; } { sleep 5; } { sleep 5; } { sleep 5; } } } } }\"}
+{\"args\":[],\"at\":0,\"do\":\"start\",\"flow\":\"f\",\"req\":\"q1\",\"text\":1}
+{\"args\":[],\"at\":0,\"do\":\"start\",\"flow\":\"g\",\"req\":\"q2\",\"text\":2}
+{\"at\":1,\"attempt\":1,\"do\":\"complete\",\"event\":2,\"run\":1,\"value\":5}
+{\"do\":\"history\",\"run\":2}
+{\"at\":2,\"attempt\":1,\"do\":\"complete\",\"event\":2,\"run\":1,\"value\":6}
+{\"do\":\"history\",\"run\":1}
+";
+
+const NOT_APPLIED: &[u8] = b"{\"reply\":\"registered\",\"text\":1}
+{\"reply\":\"registered\",\"text\":2}
+{\"reply\":\"started\",\"run\":1}
+{\"reply\":\"started\",\"run\":2}
+{\"code\":\"E80\",\"reply\":\"not applied\"}
+{\"code\":\"E80\",\"reply\":\"not applied\"}
+{\"event\":3,\"reply\":\"recorded\",\"run\":1}
+{\"events\":[[1,\"WorkflowExecutionStarted\",{\"args\":[],\"at\":0}],[2,\"ActivityTaskScheduled\",{\"activity\":\"c\",\"args\":[0],\"at\":0,\"every\":0,\"gives\":\"int\",\"tries\":1}],[3,\"ActivityTaskCompleted\",{\"at\":2,\"of\":2,\"value\":6}],[4,\"ActivityTaskScheduled\",{\"activity\":\"c\",\"args\":[6],\"at\":2,\"every\":0,\"gives\":\"int\",\"tries\":1}]],\"reply\":\"history\"}
+";
+
+/// How lines are driven: so many commands in a batch, so many positions kept, so many rows that a statement may visit.
+#[derive(Clone, Copy)]
+struct How {
+    size: u64,
+    capacity: usize,
+    steps: Option<u64>,
+}
+
+// Command by command, with no limit.
+const WITH_ONE: How = How {
+    size: 1,
+    capacity: 1,
+    steps: None,
+};
+
+const WITH_ALL: How = How {
+    size: 1,
+    capacity: 4096,
+    steps: None,
+};
+
+// In batches of two.
+const LIMITED_WITH_ONE: How = How {
+    size: 2,
+    capacity: 1,
+    steps: Some(STEPS),
+};
+
+const LIMITED_WITH_ALL: How = How {
+    size: 2,
+    capacity: 4096,
+    steps: Some(STEPS),
+};
+
+// No status of the program.
+const NOT_DRIVEN: u8 = 99;
+
+/// The status that the lines end with; their answers are written.
+fn write<S: Alter>(
+    alloc: Global,
+    engine: &mut Engine<S>,
+    lines: &[u8],
+    size: u64,
+    writer: &mut Vec<u8>,
+) -> u8 {
+    let mut reader = lines;
+    match BatchSize::new(size) {
+        Some(size) => {
+            let outcome = drive_lines(alloc, engine, &mut reader, writer, size);
+            end_status(&outcome)
+        }
+        None => NOT_DRIVEN,
     }
 }
 
-/// The same, where so many positions are kept.
-fn written_with(alloc: Global, capacity: usize) -> Option<Vec<u8>> {
-    let conn = Connection::open_in_memory(alloc).ok()?;
-    match Engine::open(alloc, conn, Settings::new(16, 4, capacity)?) {
-        Ok(mut engine) => written(alloc, &mut engine),
-        Err((_, _)) => None,
+/// The same over a store, with these settings.
+fn write_over<S: Alter + Drop>(
+    alloc: Global,
+    conn: Connection<S>,
+    settings: Settings,
+    lines: &[u8],
+    size: u64,
+    writer: &mut Vec<u8>,
+) -> u8 {
+    match Engine::open(alloc, conn, settings) {
+        Ok(engine) => {
+            let mut engine = engine;
+            let status = write(alloc, &mut engine, lines, size, writer);
+            let_go(engine.close());
+            status
+        }
+        Err((_, conn)) => {
+            let_go(conn);
+            NOT_DRIVEN
+        }
     }
+}
+
+/// The same over a store in memory.
+fn write_in_memory(alloc: Global, lines: &[u8], how: How, writer: &mut Vec<u8>) -> u8 {
+    match Settings::new(16, 4, how.capacity) {
+        Some(settings) => match Connection::open_in_memory(alloc) {
+            Ok(conn) => {
+                let mut conn = conn;
+                conn.set_step_limit(how.steps);
+                write_over(alloc, conn, settings, lines, how.size, writer)
+            }
+            Err(_) => NOT_DRIVEN,
+        },
+        None => NOT_DRIVEN,
+    }
+}
+
+/// The status that lines end with, whether one position and all of them give the same, and whether that ends so.
+fn compared(alloc: Global, lines: &[u8], one: How, all: How, end: &[u8]) -> (u8, bool, bool) {
+    let mut some = Vec::new(alloc);
+    let mut most = Vec::new(alloc);
+    let status = write_in_memory(alloc, lines, one, &mut some);
+    let is_same = write_in_memory(alloc, lines, all, &mut most) == status;
+    (
+        status,
+        is_same && some.as_slice() == most.as_slice(),
+        some.as_slice().ends_with(end),
+    )
+}
+
+/// The place of the first of these lists of lines that isn't answered to its end, or not the same by one position and by all.
+fn first_other(alloc: Global, rows: &[&[u8]]) -> Option<usize> {
+    for at in 0..rows.len() {
+        if compared(alloc, rows[at], WITH_ONE, WITH_ALL, b"}\n") != (0, true, true) {
+            return Some(at);
+        }
+    }
+    None
 }
 
 #[test]
 fn one_position_and_all_positions_give_the_same_replies(rt: HostRuntime) -> Result<(), Fail> {
-    let one = written_with(rt.alloc(), 1).ok_or("not driven")?;
-    let all = written_with(rt.alloc(), 4096).ok_or("not driven")?;
-    assert!(rt; one.as_slice() == all.as_slice());
-    assert!(rt; one.as_slice().ends_with(ENDED));
+    let told = compared(rt.alloc(), IN_TURN, WITH_ONE, WITH_ALL, ENDED);
+    assert!(rt; told == (0, true, true));
+    Ok(())
+}
+
+#[test]
+fn worked_rows_are_the_same_with_one_position_and_with_all(rt: HostRuntime) -> Result<(), Fail> {
+    assert!(rt; first_other(rt.alloc(), ROWS) == None);
+    Ok(())
+}
+
+#[test]
+fn a_batch_that_is_rolled_back_leaves_no_position(rt: HostRuntime) -> Result<(), Fail> {
+    let told = compared(
+        rt.alloc(),
+        ROLLED_BACK,
+        LIMITED_WITH_ONE,
+        LIMITED_WITH_ALL,
+        NOT_APPLIED,
+    );
+    assert!(rt; told == (3, true, true));
     Ok(())
 }

@@ -1,32 +1,31 @@
 //! Lists of batches over a store in memory, with ample memory.
-use crate::calls::{Call, Named, Told, are_all_kept, batch, is_told, let_go, told_by};
+use crate::calls::{Call, Named, Told, add_receipts, are_kept, batch, code_of, let_go};
 use flow_base::code::Code;
 use flow_commit::batch::Batch;
 use flow_engine::done::Done;
 use flow_engine::drive::drive;
 use flow_engine::engine::Engine;
 use flow_settings::settings::Settings;
-use flow_view::fault::ViewFault;
 use sqlite::{Alter, Connection};
 use std::alloc::Global;
 use std::test::Fail;
 
-fn told(done: &Done, is_halted: bool) -> Told {
+/// Puts what is told of a batch behind what was told before.
+fn add(list: &mut Vec<Told>, done: &Done, is_halted: bool) -> bool {
     match done {
-        Done::Kept(receipts) => told_by(receipts.as_slice(), is_halted),
-        Done::NotApplied(ViewFault::NoMemory) => Told::Refused(1, is_halted),
-        Done::NotApplied(ViewFault::StoreRefused) => Told::Refused(80, is_halted),
-        Done::Unknown => Told::Refused(84, is_halted),
-        Done::Halted => Told::Refused(85, is_halted),
+        Done::Kept(receipts) => add_receipts(list, receipts.as_slice(), is_halted),
+        Done::NotApplied(fault) => list.push(Told::Refused(code_of(fault), is_halted)).is_ok(),
+        Done::Unknown => list.push(Told::Refused(84, is_halted)).is_ok(),
+        Done::Halted => list.push(Told::Refused(85, is_halted)).is_ok(),
     }
 }
 
-fn all_told(alloc: Global, dones: &[Done], is_halted: bool) -> Option<Vec<Told>> {
-    let mut list = Vec::new(alloc);
+fn add_all(list: &mut Vec<Told>, dones: &[Done], is_halted: bool) -> bool {
+    let mut are = true;
     for done in dones {
-        list.push(told(done, is_halted)).ok()?;
+        are = add(list, done, is_halted) && are;
     }
-    Some(list)
+    are
 }
 
 fn batches(alloc: Global, calls: &[(u64, Call)]) -> Option<Vec<Batch>> {
@@ -38,135 +37,175 @@ fn batches(alloc: Global, calls: &[(u64, Call)]) -> Option<Vec<Batch>> {
 }
 
 fn drive_batches<S: Alter>(
-    alloc: Global,
+    list: &mut Vec<Told>,
     engine: &mut Engine<S>,
     batches: Vec<Batch>,
-) -> Option<Vec<Told>> {
+) -> bool {
     match drive(engine, batches) {
-        Ok(dones) => all_told(alloc, dones.as_slice(), engine.is_halted()),
-        Err((_, _)) => None,
+        Ok(dones) => add_all(list, dones.as_slice(), engine.is_halted()),
+        Err((_, _)) => false,
     }
 }
 
-/// What an engine tells of these calls, each with its ticket, as one list of batches.
+/// Puts what an engine tells of these calls, each with its ticket, as one list of batches, behind what was told before.
 fn drive_calls<S: Alter>(
     alloc: Global,
+    list: &mut Vec<Told>,
     engine: &mut Engine<S>,
     calls: &[(u64, Call)],
-) -> Option<Vec<Told>> {
-    drive_batches(alloc, engine, batches(alloc, calls)?)
+) -> bool {
+    match batches(alloc, calls) {
+        Some(batches) => drive_batches(list, engine, batches),
+        None => false,
+    }
 }
 
-type Answers = (Option<Vec<Told>>, Option<Vec<Told>>);
-
-/// What one engine tells of two lists of calls, and the store that it leaves.
+/// The same of two lists of calls, by an engine that is opened for them. Gives the store that it leaves.
 fn drive_two<S: Alter>(
     alloc: Global,
     conn: Connection<S>,
+    list: &mut Vec<Told>,
     calls: &[(u64, Call)],
     more: &[(u64, Call)],
-) -> (Answers, Connection<S>) {
+) -> (bool, Connection<S>) {
     match Engine::open(alloc, conn, Settings::usual()) {
         Ok(engine) => {
             let mut engine = engine;
-            let first = drive_calls(alloc, &mut engine, calls);
-            let second = drive_calls(alloc, &mut engine, more);
-            ((first, second), engine.close())
+            let first = drive_calls(alloc, list, &mut engine, calls);
+            let second = drive_calls(alloc, list, &mut engine, more);
+            (first && second, engine.close())
         }
-        Err((_, conn)) => ((None, None), conn),
+        Err((_, conn)) => (false, conn),
     }
 }
 
-/// The same of one list.
-fn drive_one<S: Alter>(
+/// The same of one list in each life of a store.
+fn drive_lives<S: Alter>(
     alloc: Global,
     conn: Connection<S>,
-    calls: &[(u64, Call)],
-) -> (Option<Vec<Told>>, Connection<S>) {
-    let (answers, conn) = drive_two(alloc, conn, calls, &[]);
-    let (first, _) = answers;
-    (first, conn)
+    list: &mut Vec<Told>,
+    lives: &[&[(u64, Call)]],
+) -> (bool, Connection<S>) {
+    let mut conn = conn;
+    let mut are = true;
+    for calls in lives {
+        let (is, next) = drive_two(alloc, conn, list, *calls, &[]);
+        conn = next;
+        are = are && is;
+    }
+    (are, conn)
 }
 
-fn drive_new(alloc: Global, calls: &[(u64, Call)], more: &[(u64, Call)]) -> Result<Answers, Fail> {
-    Ok(drive_over(alloc, Connection::open_in_memory(alloc)?, calls, more))
+/// Whether this is told in these lives of a store, and no more.
+fn lives_tell<S: Alter + Drop>(
+    alloc: Global,
+    conn: Connection<S>,
+    lives: &[&[(u64, Call)]],
+    wanted: &[Told],
+) -> bool {
+    let mut list = Vec::new(alloc);
+    let (are, conn) = drive_lives(alloc, conn, &mut list, lives);
+    let_go(conn);
+    are && list.as_slice() == wanted
 }
 
-fn drive_over<S: Alter + Drop>(
+/// The same over a store in memory.
+fn lives_tell_in_memory(alloc: Global, lives: &[&[(u64, Call)]], wanted: &[Told]) -> bool {
+    match Connection::open_in_memory(alloc) {
+        Ok(conn) => lives_tell(alloc, conn, lives, wanted),
+        Err(_) => false,
+    }
+}
+
+/// Whether one engine tells this of two lists, and no more.
+fn tells<S: Alter + Drop>(
     alloc: Global,
     conn: Connection<S>,
     calls: &[(u64, Call)],
     more: &[(u64, Call)],
-) -> Answers {
-    let (answers, conn) = drive_two(alloc, conn, calls, more);
+    wanted: &[Told],
+) -> bool {
+    let mut list = Vec::new(alloc);
+    let (are, conn) = drive_two(alloc, conn, &mut list, calls, more);
     let_go(conn);
-    answers
+    are && list.as_slice() == wanted
 }
 
-const BEGUN: [(u64, Call); 2] = [(7, Call::Register), (5, Call::Start)];
-
-/// What is told in three lives of one store: of the start of a run that waits on its activity, and of these calls.
-fn drive_on<S: Alter + Drop>(
+/// The same over a store in memory.
+fn tells_in_memory(
     alloc: Global,
-    conn: Connection<S>,
     calls: &[(u64, Call)],
-    last: &[(u64, Call)],
-) -> (Option<Vec<Told>>, Option<Vec<Told>>, Option<Vec<Told>>) {
-    let (begun, conn) = drive_one(alloc, conn, &BEGUN);
-    let (second, conn) = drive_one(alloc, conn, calls);
-    let (third, conn) = drive_one(alloc, conn, last);
-    let_go(conn);
-    (begun, second, third)
+    more: &[(u64, Call)],
+    wanted: &[Told],
+) -> bool {
+    match Connection::open_in_memory(alloc) {
+        Ok(conn) => tells(alloc, conn, calls, more, wanted),
+        Err(_) => false,
+    }
 }
+
+/// The start of a run that waits on its activity.
+const BEGUN: [(u64, Call); 2] = [(7, Call::Register), (5, Call::Start)];
 
 #[test]
 fn batches_of_one_are_kept(rt: HostRuntime) -> Result<(), Fail> {
     let reported = [(3, Call::Complete), (1, Call::Complete)];
-    let (first, second) = drive_new(rt.alloc(), &BEGUN, &reported)?;
-    let begun = [
+    let wanted = [
         Told::Kept(7, 1, Named::Text(1)),
         Told::Kept(5, 2, Named::Run(1)),
+        Told::Kept(3, 3, Named::Event(3)),
+        Told::Kept(1, 4, Named::Code(Code::NotOpen.number())),
     ];
-    let refused = Named::Code(Code::NotOpen.number());
-    let ended = [Told::Kept(3, 3, Named::Event(3)), Told::Kept(1, 4, refused)];
-    assert!(rt; is_told(&first, &begun) && is_told(&second, &ended));
+    assert!(rt; tells_in_memory(rt.alloc(), &BEGUN, &reported, &wanted));
     Ok(())
 }
 
 #[test]
 fn no_batch_has_no_answer(rt: HostRuntime) -> Result<(), Fail> {
-    let (first, _) = drive_new(rt.alloc(), &[], &[])?;
-    assert!(rt; is_told(&first, &[]));
+    assert!(rt; tells_in_memory(rt.alloc(), &[], &[], &[]));
     Ok(())
 }
 
 #[test]
 fn an_open_run_is_there_again(rt: HostRuntime) -> Result<(), Fail> {
-    let conn = Connection::open_in_memory(rt.alloc())?;
-    let (begun, found, _) = drive_on(rt.alloc(), conn, &[(2, Call::History)], &[]);
-    let wanted = [Told::Kept(2, 1, Named::Events(2, false))];
-    assert!(rt; are_all_kept(&begun) && is_told(&found, &wanted));
+    let asked = [(2, Call::History)];
+    let wanted = [
+        Told::Kept(7, 1, Named::Text(1)),
+        Told::Kept(5, 2, Named::Run(1)),
+        Told::Kept(2, 1, Named::Events(2, false)),
+    ];
+    let begun = BEGUN;
+    let lives = [begun.as_slice(), asked.as_slice()];
+    assert!(rt; lives_tell_in_memory(rt.alloc(), &lives, &wanted));
     Ok(())
 }
 
 #[test]
 fn a_report_is_there_again(rt: HostRuntime) -> Result<(), Fail> {
-    let conn = Connection::open_in_memory(rt.alloc())?;
     let reported = [(3, Call::Complete), (1, Call::Complete)];
-    let (begun, ended, found) = drive_on(rt.alloc(), conn, &reported, &[(2, Call::History)]);
-    let refused = Named::Code(Code::NotOpen.number());
-    let wanted = [Told::Kept(3, 1, Named::Event(3)), Told::Kept(1, 2, refused)];
-    let history = [Told::Kept(2, 1, Named::Events(4, false))];
-    assert!(rt; are_all_kept(&begun) && is_told(&ended, &wanted) && is_told(&found, &history));
+    let asked = [(2, Call::History)];
+    let wanted = [
+        Told::Kept(7, 1, Named::Text(1)),
+        Told::Kept(5, 2, Named::Run(1)),
+        Told::Kept(3, 1, Named::Event(3)),
+        Told::Kept(1, 2, Named::Code(Code::NotOpen.number())),
+        Told::Kept(2, 1, Named::Events(4, false)),
+    ];
+    let begun = BEGUN;
+    let lives = [begun.as_slice(), reported.as_slice(), asked.as_slice()];
+    assert!(rt; lives_tell_in_memory(rt.alloc(), &lives, &wanted));
     Ok(())
 }
 
 #[test]
 fn a_flow_with_nothing_to_do_ends(rt: HostRuntime) -> Result<(), Fail> {
     let calls = [(1, Call::RegisterEmpty), (2, Call::StartEmpty)];
-    let (_, found) = drive_new(rt.alloc(), &calls, &[(2, Call::History)])?;
-    let wanted = [Told::Kept(2, 3, Named::Events(2, true))];
-    assert!(rt; is_told(&found, &wanted));
+    let wanted = [
+        Told::Kept(1, 1, Named::Text(1)),
+        Told::Kept(2, 2, Named::Run(1)),
+        Told::Kept(2, 3, Named::Events(2, true)),
+    ];
+    assert!(rt; tells_in_memory(rt.alloc(), &calls, &[(2, Call::History)], &wanted));
     Ok(())
 }
 
@@ -184,31 +223,35 @@ fn open_code<S: Alter + Drop>(alloc: Global, conn: Connection<S>) -> u8 {
     }
 }
 
-/// The same, over the store of a run that waits on its activity, changed by a statement.
-fn changed_code<S: Alter + Drop>(
-    alloc: Global,
-    conn: Connection<S>,
-    sql: &str,
-) -> Result<u8, Fail> {
-    let (begun, conn) = drive_one(alloc, conn, &BEGUN);
+/// The same, over the store of a run that waits on its activity, changed by a statement. 0 too where it isn't changed.
+fn changed_code<S: Alter + Drop>(alloc: Global, conn: Connection<S>, sql: &str) -> u8 {
+    let mut list = Vec::new(alloc);
+    let (is_told, conn) = drive_two(alloc, conn, &mut list, &BEGUN, &[]);
     let mut conn = conn;
     let is_changed = conn.execute_batch(sql).is_ok();
     let code = open_code(alloc, conn);
-    if is_changed && are_all_kept(&begun) {
-        Ok(code)
+    if is_told && is_changed && are_kept(list.as_slice(), 2) {
+        code
     } else {
-        Err(Fail::from("not changed"))
+        0
+    }
+}
+
+/// The same over a store in memory.
+fn changed_code_in_memory(alloc: Global, sql: &str) -> u8 {
+    match Connection::open_in_memory(alloc) {
+        Ok(conn) => changed_code(alloc, conn, sql),
+        Err(_) => 0,
     }
 }
 
 // Its rows tell a book, but the program asks for another argument than its second event has.
 #[test]
 fn a_run_that_does_not_replay_is_refused(rt: HostRuntime) -> Result<(), Fail> {
-    let code = changed_code(
-        rt.alloc(),
-        Connection::open_in_memory(rt.alloc())?,
-        "UPDATE event SET body = replace(body, 'eur', 'usd') WHERE id = 2",
-    )?;
-    assert_eq!(rt; code, Code::Mismatch.number());
+    let sql = "UPDATE event SET body = replace(body, 'eur', 'usd') WHERE id = 2";
+    assert_eq!(rt;
+        changed_code_in_memory(rt.alloc(), sql),
+        Code::Mismatch.number()
+    );
     Ok(())
 }

@@ -52,6 +52,7 @@ fn finds<S: Alter>(
     }
 }
 
+/// What a new store tells twice: that nothing is open, and that the second and the third run are.
 fn finds_again<S: Alter + Drop>(alloc: Global, conn: Connection<S>) -> (bool, bool) {
     let calls = [
         Call::Register,
@@ -66,10 +67,16 @@ fn finds_again<S: Alter + Drop>(alloc: Global, conn: Connection<S>) -> (bool, bo
     (first, second)
 }
 
+fn finds_in_memory(alloc: Global) -> (bool, bool) {
+    match Connection::open_in_memory(alloc) {
+        Ok(conn) => finds_again(alloc, conn),
+        Err(_) => (false, false),
+    }
+}
+
 // The first of three runs has completed, the others wait. An engine over an empty store found none, whatever it answered.
 #[test]
 fn each_open_run_is_found(rt: HostRuntime) -> Result<(), Fail> {
-    let conn = Connection::open_in_memory(rt.alloc())?;
-    assert!(rt; finds_again(rt.alloc(), conn) == (true, true));
+    assert!(rt; finds_in_memory(rt.alloc()) == (true, true));
     Ok(())
 }

@@ -25,3 +25,5 @@ mod lists;
 mod opening;
 #[cfg(test)]
 mod positions;
+#[cfg(test)]
+mod worked_rows;

@@ -1,6 +1,6 @@
 //! Lists of commands answered by an engine, with ample memory.
-use crate::answering::{Heard, is_heard, what_was_heard};
-use crate::calls::{Call, Named, command, let_go};
+use crate::answering::{Heard, commands, heard_of, hears_in_memory};
+use crate::calls::{Call, Named, let_go};
 use crate::keeping::failing;
 use flow_base::command::Command;
 use flow_cli::command::command_of;
@@ -39,99 +39,99 @@ fn payment(alloc: Global) -> Option<Vec<Command>> {
     commands_in(alloc, &[REGISTER, START, COMPLETE, HISTORY, DESCRIBE])
 }
 
-fn commands(alloc: Global, calls: &[Call]) -> Option<Vec<Command>> {
-    let mut list = Vec::new(alloc);
-    for call in calls {
-        list.push(command(alloc, *call)?).ok()?;
+/// Puts what is told of the answers, and of the stop behind them if there is one, behind what was heard before.
+fn hear_all(list: &mut Vec<Heard>, answers: Vec<Answer>, stop: Option<Stop>) -> bool {
+    let mut are = true;
+    for answer in answers.as_slice() {
+        are = list.push(heard_of(answer)).is_ok() && are;
     }
-    Some(list)
+    match stop {
+        Some(stop) => list.push(Heard::Stopped(stop)).is_ok() && are,
+        None => are,
+    }
 }
 
-/// What is told of the answers, and of the stop behind them if there is one.
-fn heard_of(alloc: Global, answers: Vec<Answer>, stop: Option<Stop>) -> Option<Vec<Heard>> {
-    let mut list = Vec::new(alloc);
-    for answer in answers {
-        list.push(what_was_heard(&Ok(answer))).ok()?;
+fn hear<S: Alter>(list: &mut Vec<Heard>, engine: &mut Engine<S>, commands: Vec<Command>) -> bool {
+    match engine.answer_all(commands) {
+        Ok(answers) => hear_all(list, answers, None),
+        Err(Unanswered::Stopped(answers, stop)) => hear_all(list, answers, Some(stop)),
+        Err(Unanswered::NoMemory) => false,
     }
-    if let Some(stop) = stop {
-        list.push(Heard::Stopped(stop)).ok()?;
-    }
-    Some(list)
 }
 
-fn heard_at_once<S: Alter>(
-    alloc: Global,
+fn hear_some<S: Alter>(
+    list: &mut Vec<Heard>,
     engine: &mut Engine<S>,
     commands: Option<Vec<Command>>,
-) -> Option<Vec<Heard>> {
-    match engine.answer_all(commands?) {
-        Ok(answers) => heard_of(alloc, answers, None),
-        Err(Unanswered::Stopped(answers, stop)) => heard_of(alloc, answers, Some(stop)),
-        Err(Unanswered::NoMemory) => None,
+) -> bool {
+    match commands {
+        Some(commands) => hear(list, engine, commands),
+        None => false,
     }
 }
 
-fn heard_singly<S: Alter>(
+/// What is heard of two lists of commands.
+#[derive(Drop)]
+struct Two {
+    first: Vec<Heard>,
+    second: Vec<Heard>,
+}
+
+/// Has an engine that is opened for it answer two lists of commands. Gives the store behind them.
+fn hear_both<S: Alter>(
     alloc: Global,
-    engine: &mut Engine<S>,
-    commands: Option<Vec<Command>>,
-) -> Option<Vec<Heard>> {
-    let mut list = Vec::new(alloc);
-    for command in commands? {
-        list.push(what_was_heard(&engine.answer(command))).ok()?;
+    conn: Connection<S>,
+    two: &mut Two,
+    first: Option<Vec<Command>>,
+    second: Option<Vec<Command>>,
+) -> (bool, Connection<S>) {
+    match Engine::open(alloc, conn, Settings::usual()) {
+        Ok(engine) => {
+            let mut engine = engine;
+            let one = hear_some(&mut two.first, &mut engine, first);
+            let other = hear_some(&mut two.second, &mut engine, second);
+            (one && other, engine.close())
+        }
+        Err((_, conn)) => (false, conn),
     }
-    Some(list)
 }
 
-/// What an engine that is opened for it answers to two lists of commands.
-fn heard_twice<S: Alter + Drop>(
+/// Whether this is heard of the first list, and that of the second one.
+fn hears_both<S: Alter + Drop>(
     alloc: Global,
     conn: Connection<S>,
     first: Option<Vec<Command>>,
     second: Option<Vec<Command>>,
-) -> (Option<Vec<Heard>>, Option<Vec<Heard>>) {
-    match Engine::open(alloc, conn, Settings::usual()) {
-        Ok(engine) => {
-            let mut engine = engine;
-            let one = heard_at_once(alloc, &mut engine, first);
-            let two = heard_at_once(alloc, &mut engine, second);
-            let_go(engine.close());
-            (one, two)
-        }
-        Err((_, conn)) => {
-            let_go(conn);
-            (None, None)
-        }
-    }
+    wanted: &[Heard],
+    then: &[Heard],
+) -> bool {
+    let mut two = Two {
+        first: Vec::new(alloc),
+        second: Vec::new(alloc),
+    };
+    let (are, conn) = hear_both(alloc, conn, &mut two, first, second);
+    let_go(conn);
+    are && two.first.as_slice() == wanted && two.second.as_slice() == then
 }
 
-/// What an engine that is opened for it answers to commands one by one.
-fn heard_one_by_one<S: Alter + Drop>(
+/// The same over a store, if it is there.
+fn hears_over<S: Alter + Drop>(
     alloc: Global,
-    conn: Connection<S>,
-    commands: Option<Vec<Command>>,
-) -> Option<Vec<Heard>> {
-    match Engine::open(alloc, conn, Settings::usual()) {
-        Ok(engine) => {
-            let mut engine = engine;
-            let heard = heard_singly(alloc, &mut engine, commands);
-            let_go(engine.close());
-            heard
-        }
-        Err((_, conn)) => {
-            let_go(conn);
-            None
-        }
+    conn: Option<Connection<S>>,
+    first: Option<Vec<Command>>,
+    second: Option<Vec<Command>>,
+    wanted: &[Heard],
+    then: &[Heard],
+) -> bool {
+    match conn {
+        Some(conn) => hears_both(alloc, conn, first, second, wanted, then),
+        None => false,
     }
 }
 
 #[test]
 fn a_list_is_answered_as_one_by_one(rt: HostRuntime) -> Result<(), Fail> {
     let alloc = rt.alloc();
-    let conn = Connection::open_in_memory(alloc)?;
-    let (heard, nothing) = heard_twice(alloc, conn, payment(alloc), Some(Vec::new(alloc)));
-    let other = Connection::open_in_memory(alloc)?;
-    let singly = heard_one_by_one(alloc, other, payment(alloc));
     let wanted = [
         Heard::Replied(Named::Text(1)),
         Heard::Replied(Named::Run(1)),
@@ -139,7 +139,11 @@ fn a_list_is_answered_as_one_by_one(rt: HostRuntime) -> Result<(), Fail> {
         Heard::Replied(Named::Events(4, false)),
         Heard::Replied(Named::Described(4, true)),
     ];
-    assert!(rt; is_heard(&heard, &wanted) && is_heard(&singly, &wanted) && is_heard(&nothing, &[]));
+    let conn = Connection::open_in_memory(alloc).ok();
+    let none = Some(Vec::new(alloc));
+    let at_once = hears_over(alloc, conn, payment(alloc), none, &wanted, &[]);
+    let singly = hears_in_memory(alloc, payment(alloc), &wanted);
+    assert!(rt; at_once && singly);
     Ok(())
 }
 
@@ -149,11 +153,19 @@ fn a_stop_gives_back_the_answers_before_it(rt: HostRuntime) -> Result<(), Fail> 
     let alloc = rt.alloc();
     let begun = commands(alloc, &[Call::Register, Call::Start, Call::Complete]);
     let more = commands(alloc, &[Call::Complete]);
-    let (heard, later) = heard_twice(alloc, failing(alloc, 30, 2000)?, begun, more);
     let wanted = [
         Heard::Replied(Named::Text(1)),
         Heard::Stopped(Stop::Unknown),
     ];
-    assert!(rt; is_heard(&heard, &wanted) && is_heard(&later, &[Heard::Stopped(Stop::Halted)]));
+    let halted = [Heard::Stopped(Stop::Halted)];
+    let are = hears_over(
+        alloc,
+        failing(alloc, 30, 2000),
+        begun,
+        more,
+        &wanted,
+        &halted,
+    );
+    assert!(rt; are);
     Ok(())
 }

@@ -47,15 +47,6 @@ fn is_begun(alloc: Global, book: &mut Lists) -> bool {
         && is_decided(alloc, book, complete(1))
 }
 
-fn begun(alloc: Global) -> Result<Lists, Fail> {
-    let mut book = Lists::new(alloc);
-    if is_begun(alloc, &mut book) {
-        Ok(book)
-    } else {
-        Err(Fail::from("not begun"))
-    }
-}
-
 fn texts_of(alloc: Global, book: &mut Lists) -> Option<Sequence<RawText>> {
     let mut texts = Vec::new(alloc);
     for i in 0..book.text_count().ok()? {
@@ -82,11 +73,6 @@ fn whole(alloc: Global, book: &mut Lists) -> Option<WholeBook> {
 fn answer(alloc: Global, book: &mut Lists) -> Option<Result<Vec<Position>, Fault>> {
     let whole = whole(alloc, book)?;
     Some(positions(alloc, &mut Kept::new(alloc, Language), &whole))
-}
-
-fn found(alloc: Global, book: &mut Lists) -> Result<Vec<Position>, Fail> {
-    let whole = whole(alloc, book).ok_or("no book")?;
-    Ok(positions(alloc, &mut Kept::new(alloc, Language), &whole)?)
 }
 
 // The first turn of a run, with no command behind the start.
@@ -148,66 +134,133 @@ pub fn is_waiting(position: &Position, run: u64) -> bool {
     }
 }
 
+fn count(answer: &Option<Result<Vec<Position>, Fault>>) -> Option<usize> {
+    match answer {
+        Some(Ok(list)) => Some(list.len()),
+        _ => None,
+    }
+}
+
+fn are_later_two(list: &[Position]) -> bool {
+    match list {
+        [first, second] => is_waiting(first, 2) && is_waiting(second, 3),
+        _ => false,
+    }
+}
+
+fn are_positions(answer: &Option<Result<Vec<Position>, Fault>>) -> bool {
+    match answer {
+        Some(Ok(list)) => are_later_two(list.as_slice()),
+        _ => false,
+    }
+}
+
+// Where the first position stands: whether it is open, its events and its moment.
+fn stands(list: &[Position]) -> Option<(bool, u64, u64)> {
+    let stance = &list.first()?.stance;
+    Some((
+        stance.state() == State::Open,
+        stance.events(),
+        stance.moment().get(),
+    ))
+}
+
+fn is_replayed(answer: &Option<Result<Vec<Position>, Fault>>) -> bool {
+    match answer {
+        Some(Ok(list)) => stands(list.as_slice()) == Some((true, 2, 1000)),
+        _ => false,
+    }
+}
+
+/// What is put into a book, and seen of its positions.
+#[derive(Clone, Copy)]
+enum Case {
+    /// Of an empty book there is none.
+    Empty,
+    /// Each open run has one.
+    Open,
+    /// It is where replay leads.
+    Replayed,
+    /// Two runs that don't replay are put behind, and the first of them is named.
+    Unreplayable,
+    /// A run without a text is put behind, and it is refused.
+    NoText,
+}
+
+fn is_begun_as(alloc: Global, book: &mut Lists, case: Case) -> bool {
+    match case {
+        Case::Empty => true,
+        Case::Open | Case::Replayed => is_begun(alloc, book),
+        Case::Unreplayable => {
+            is_begun(alloc, book) && is_added(alloc, book, 1) && is_added(alloc, book, 1)
+        }
+        Case::NoText => is_begun(alloc, book) && is_added(alloc, book, 2),
+    }
+}
+
+fn is_as(answer: &Option<Result<Vec<Position>, Fault>>, case: Case) -> bool {
+    match case {
+        Case::Empty => count(answer) == Some(0),
+        Case::Open => are_positions(answer),
+        Case::Replayed => is_replayed(answer),
+        Case::Unreplayable => is_unreplayable(answer, 4),
+        Case::NoText => is_refused(answer),
+    }
+}
+
+fn is_answered(alloc: Global, book: &mut Lists, case: Case) -> bool {
+    is_as(&answer(alloc, book), case)
+}
+
+/// The one owner of a book in these tests.
+fn is_so(alloc: Global, case: Case) -> bool {
+    let mut book = Lists::new(alloc);
+    is_begun_as(alloc, &mut book, case) && is_answered(alloc, &mut book, case)
+}
+
 #[test]
 fn an_empty_book_has_no_position(rt: HostRuntime) -> Result<(), Fail> {
-    let alloc = rt.alloc();
-    let mut book = Lists::new(alloc);
-    assert!(rt; found(alloc, &mut book)?.is_empty());
+    assert!(rt; is_so(rt.alloc(), Case::Empty));
     Ok(())
 }
 
 #[test]
 fn each_open_run_has_a_position(rt: HostRuntime) -> Result<(), Fail> {
-    let alloc = rt.alloc();
-    let mut book = begun(alloc)?;
-    let list = found(alloc, &mut book)?;
-    match list.as_slice() {
-        [first, second] => assert!(rt; is_waiting(first, 2) && is_waiting(second, 3)),
-        _ => return Err(Fail::from("not two positions")),
-    }
+    assert!(rt; is_so(rt.alloc(), Case::Open));
     Ok(())
 }
 
 #[test]
 fn a_position_is_that_of_replay(rt: HostRuntime) -> Result<(), Fail> {
-    let alloc = rt.alloc();
-    let mut book = begun(alloc)?;
-    let list = found(alloc, &mut book)?;
-    let stance = &list.as_slice().first().ok_or("no position")?.stance;
-    assert!(rt; stance.state() == State::Open && stance.events() == 2);
-    assert!(rt; stance.moment().get() == 1000);
+    assert!(rt; is_so(rt.alloc(), Case::Replayed));
     Ok(())
 }
 
 #[test]
 fn the_least_run_that_does_not_replay_is_named(rt: HostRuntime) -> Result<(), Fail> {
-    let alloc = rt.alloc();
-    let mut book = begun(alloc)?;
-    let are_added = is_added(alloc, &mut book, 1) && is_added(alloc, &mut book, 1);
-    let answer = answer(alloc, &mut book);
-    assert!(rt; are_added && is_unreplayable(&answer, 4));
+    assert!(rt; is_so(rt.alloc(), Case::Unreplayable));
     Ok(())
 }
 
-#[test]
-fn a_mismatch_is_told(rt: HostRuntime) -> Result<(), Fail> {
-    let alloc = rt.alloc();
-    let run = RunId::new(4).ok_or("no run")?;
+fn is_mismatch_told(alloc: Global) -> Option<bool> {
+    let run = RunId::new(4)?;
     let fault = Fault::Mismatch {
         run,
         place: 2,
         name: Wrong::MissingEvent,
     };
-    assert!(rt; fault.to_string(alloc)?.as_str() == "E68 run 4 doesn't replay: E52 at 2");
+    let text = fault.to_string(alloc).ok()?;
+    Some(text.as_str() == "E68 run 4 doesn't replay: E52 at 2")
+}
+
+#[test]
+fn a_mismatch_is_told(rt: HostRuntime) -> Result<(), Fail> {
+    assert!(rt; is_mismatch_told(rt.alloc()) == Some(true));
     Ok(())
 }
 
 #[test]
 fn a_run_without_a_text_is_refused(rt: HostRuntime) -> Result<(), Fail> {
-    let alloc = rt.alloc();
-    let mut book = begun(alloc)?;
-    let was_added = is_added(alloc, &mut book, 2);
-    let answer = answer(alloc, &mut book);
-    assert!(rt; was_added && is_refused(&answer));
+    assert!(rt; is_so(rt.alloc(), Case::NoText));
     Ok(())
 }
