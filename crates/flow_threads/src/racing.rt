@@ -83,11 +83,7 @@ fn number_of(fault: &Fault) -> u8 {
 }
 
 /// Serves on one thread, and submits on the others.
-fn serve_race<
-    S: Alter + Send,
-    B: Room + Send + Sync,
-    R: Threads + Wait + time::Clock + Sync,
->(
+fn serve_race<S: Alter + Send, B: Room + Send + Sync, R: Threads + Wait + time::Clock + Sync>(
     rt: &R,
     alloc: Global,
     engine: &mut Engine<S>,
@@ -109,11 +105,7 @@ fn serve_race<
 }
 
 /// The same over a hub of this name. None: there is no memory for one.
-fn race_named<
-    S: Alter + Send,
-    B: Room + Send + Sync,
-    R: Threads + Wait + time::Clock + Sync,
->(
+fn race_named<S: Alter + Send, B: Room + Send + Sync, R: Threads + Wait + time::Clock + Sync>(
     rt: &R,
     alloc: Global,
     engine: &mut Engine<S>,
