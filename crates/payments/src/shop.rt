@@ -1,6 +1,6 @@
 //! What the shop does outside of its workflows.
 use flow_base::text::Text;
-use flow_base::value::Value;
+use flow_base::value::{Value, ValueFault};
 use flow_machine::task::Task;
 use flow_pool::activity::{Activity, Attempt};
 use flow_work::skills::Skills;
@@ -67,10 +67,11 @@ fn ship(alloc: Global, task: &Task) -> Result<Attempt, AllocError> {
     }
 }
 
-/// An attempt that gave this text.
+/// An attempt that gave this text. Only where memory is missing is it made again; a text that is none would be none again.
 fn done(alloc: Global, text: &str) -> Result<Attempt, AllocError> {
     match Text::new(alloc, text) {
         Ok(text) => Ok(Attempt::Done(Value::Text(text))),
-        Err(_) => Err(AllocError),
+        Err(ValueFault::NoMemory) => Err(AllocError),
+        Err(_) => Attempt::failed(alloc, "no text"),
     }
 }
