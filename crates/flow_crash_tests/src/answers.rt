@@ -117,14 +117,18 @@ fn answer_all<S: Alter>(
     alloc: Global,
     engine: &mut Engine<S>,
     batches: &[[Call; 3]],
-) -> Option<Answers> {
-    let mut answers = Answers::none(alloc);
+    answers: &mut Answers,
+) -> bool {
+    let mut are = true;
     for batch in batches {
-        if !answer_batch(alloc, engine, batch, &mut answers) {
-            return None;
-        }
+        are = answer_batch(alloc, engine, batch, answers) && are;
     }
-    Some(answers)
+    are
+}
+
+/// The answers, if there was room for all of them.
+fn whole(answers: Answers, are_all: bool) -> Option<Answers> {
+    if are_all { Some(answers) } else { None }
 }
 
 /// What an engine that is opened for these batches alone answers, and the store behind them.
@@ -136,8 +140,9 @@ pub fn answers_over<S: Alter>(
     match Engine::open(alloc, conn, Settings::usual()) {
         Ok(engine) => {
             let mut engine = engine;
-            let answers = answer_all(alloc, &mut engine, batches);
-            (answers, engine.close())
+            let mut answers = Answers::none(alloc);
+            let are_all = answer_all(alloc, &mut engine, batches, &mut answers);
+            (whole(answers, are_all), engine.close())
         }
         Err((_, conn)) => (Some(Answers::none(alloc)), conn),
     }
@@ -146,10 +151,20 @@ pub fn answers_over<S: Alter>(
 /// Lets a connection go.
 fn let_go<S: Alter + Drop>(_conn: Connection<S>) {}
 
-/// What is answered by a store that nothing disturbs.
-pub fn undisturbed(alloc: Global, batches: &[[Call; 3]]) -> Option<Answers> {
-    let conn = Connection::open_in_memory(alloc).ok()?;
+fn answers_and_end<S: Alter + Drop>(
+    alloc: Global,
+    conn: Connection<S>,
+    batches: &[[Call; 3]],
+) -> Option<Answers> {
     let (answers, conn) = answers_over(alloc, conn, batches);
     let_go(conn);
     answers
+}
+
+/// What is answered by a store that nothing disturbs.
+pub fn undisturbed(alloc: Global, batches: &[[Call; 3]]) -> Option<Answers> {
+    match Connection::open_in_memory(alloc) {
+        Ok(conn) => answers_and_end(alloc, conn, batches),
+        Err(_) => None,
+    }
 }

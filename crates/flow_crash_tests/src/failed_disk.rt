@@ -190,31 +190,38 @@ fn tested(alloc: Global) -> Option<([Answer; 3], u64)> {
     None
 }
 
-/// Two files of one store, of which the first one's second call fails, the third of all.
-fn two_files(alloc: Global) -> Option<([Answer; 5], [u64; 5])> {
-    let calls = Calls::new(alloc).ok()?;
-    let mut log = FailAt::new(six_bytes(alloc)?, calls.share().ok()?, 3);
-    let mut db = FailAt::new(six_bytes(alloc)?, calls.share().ok()?, 3);
+/// A file of six bytes that shares a count, whose third call fails.
+fn sharing(alloc: Global, calls: &Calls) -> Option<FailAt<Memory>> {
+    let calls = calls.share().ok()?;
+    Some(FailAt::new(six_bytes(alloc)?, calls, 3))
+}
+
+/// What two files are answered, and what they have counted.
+fn asked(log: &mut FailAt<Memory>, db: &mut FailAt<Memory>) -> ([Answer; 5], [u64; 4]) {
     let answers = [
-        answer_to(&mut log, Ask::Write(0, "x")),
-        answer_to(&mut db, Ask::Write(0, "y")),
-        answer_to(&mut log, Ask::Write(1, "z")),
-        answer_to(&mut db, Ask::Len),
-        answer_to(&mut log, Ask::Len),
+        answer_to(log, Ask::Write(0, "x")),
+        answer_to(db, Ask::Write(0, "y")),
+        answer_to(log, Ask::Write(1, "z")),
+        answer_to(db, Ask::Len),
+        answer_to(log, Ask::Len),
     ];
-    let counts = [
-        log.last(),
-        db.last(),
-        log.refusals(),
-        db.refusals(),
-        calls.count(),
-    ];
-    let is = is_left(log.into_inner(), "xbcdef", "abcd")
-        && is_left(db.into_inner(), "ybcdef", "abcd");
-    if is {
-        return Some((answers, counts));
-    }
-    None
+    (
+        answers,
+        [log.last(), db.last(), log.refusals(), db.refusals()],
+    )
+}
+
+/// Two files of one store, of which the first one's second call fails, the third of all: what they are answered, what they and
+/// their common count have counted, and whether they are left as they are to be.
+fn two_files(alloc: Global) -> Option<([Answer; 5], [u64; 4], u64, bool)> {
+    let calls = Calls::new(alloc).ok()?;
+    let mut log = sharing(alloc, &calls)?;
+    let mut db = sharing(alloc, &calls)?;
+    let (answers, counts) = asked(&mut log, &mut db);
+    let count = calls.count();
+    let is_log = is_left(log.into_inner(), "xbcdef", "abcd");
+    let is_db = is_left(db.into_inner(), "ybcdef", "abcd");
+    Some((answers, counts, count, is_log && is_db))
 }
 
 /// What a read past the end is answered, as a call that passes and as the one that fails.
@@ -250,7 +257,7 @@ fn two_files_have_one_count(rt: HostRuntime) -> Result<(), Fail> {
         Answer::Len(6),
         Answer::Len(6),
     ];
-    assert!(rt; two_files(rt.alloc()) == Some((answers, [5, 4, 1, 0, 5])));
+    assert!(rt; two_files(rt.alloc()) == Some((answers, [5, 4, 1, 0], 5, true)));
     Ok(())
 }
 

@@ -87,6 +87,36 @@ fn judge(answers: &Answers, found: &Answers) -> Course {
     if is { course } else { Course::Other }
 }
 
+/// The same, where all was answered.
+fn judge_all(answers: &Option<Answers>, found: &Option<Answers>) -> Course {
+    match answers {
+        Some(answers) => match found {
+            Some(found) => judge(answers, found),
+            None => Course::Other,
+        },
+        None => Course::Other,
+    }
+}
+
+/// What has become of the two batches, and whether a call failed.
+fn course_behind(alloc: Global, disturbed: Disturbed) -> (Course, bool) {
+    let Disturbed {
+        answers,
+        files,
+        is_reached,
+    } = disturbed;
+    let (found, _files) = answers_of(alloc, files, &[QUESTIONS]);
+    (judge_all(&answers, &found), is_reached)
+}
+
+/// The same where this call fails, if there is one. Where there isn't, the run is over.
+fn course_at(alloc: Global, at: u64) -> (Course, bool) {
+    match failed(alloc, at, &BATCHES) {
+        Some(disturbed) => course_behind(alloc, disturbed),
+        None => (Course::Other, true),
+    }
+}
+
 impl Fails {
     fn note(&mut self, course: Course) {
         let count = match course {
@@ -98,20 +128,6 @@ impl Fails {
             Course::Other => &mut self.wrong,
         };
         *count = count.saturating_add(1);
-    }
-
-    fn look(&mut self, alloc: Global, disturbed: Disturbed) {
-        let Disturbed {
-            answers,
-            files,
-            is_reached,
-        } = disturbed;
-        let (found, _files) = answers_of(alloc, files, &[QUESTIONS]);
-        match found {
-            Some(found) => self.note(judge(&answers, &found)),
-            None => self.note(Course::Other),
-        }
-        self.is_over = !is_reached;
     }
 }
 
@@ -127,10 +143,9 @@ fn fail_at_each(alloc: Global) -> Fails {
         is_over: false,
     };
     for at in 1..1000 {
-        match failed(alloc, at, &BATCHES) {
-            Some(disturbed) => fails.look(alloc, disturbed),
-            None => fails.note(Course::Other),
-        }
+        let (course, is_reached) = course_at(alloc, at);
+        fails.note(course);
+        fails.is_over = !is_reached;
         if fails.is_over {
             break;
         }

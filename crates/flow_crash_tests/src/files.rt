@@ -58,46 +58,70 @@ pub fn answers_of<D: Disk + Drop>(
 /// What was answered over files of which one call was refused, or none, and what is left of them.
 #[derive(Drop)]
 pub struct Disturbed {
-    pub answers: Answers,
+    pub answers: Option<Answers>,
     pub files: Files<Memory>,
     /// Whether a call was refused.
     pub is_reached: bool,
 }
 
-/// Over two new files that stop.
-pub fn stopped(alloc: Global, stop: Stop, batches: &[[Call; 3]]) -> Option<Disturbed> {
+/// Two new files that stop.
+fn stopping(alloc: Global, stop: Stop) -> Option<Files<StopAt<Memory>>> {
     let calls = Calls::new(alloc).ok()?;
-    let (log, db) = (calls.share().ok()?, calls.share().ok()?);
-    let files = Files {
+    let log = calls.share().ok()?;
+    let db = calls.share().ok()?;
+    Some(Files {
         log: StopAt::new(Memory::new(alloc), log, stop),
         db: StopAt::new(Memory::new(alloc), db, stop),
-    };
-    let (answers, files) = answers_of(alloc, files, batches);
-    Some(Disturbed {
-        answers: answers?,
-        is_reached: files.log.refusals() > 0 || files.db.refusals() > 0,
-        files: Files {
-            log: files.log.into_inner(),
-            db: files.db.into_inner(),
-        },
     })
+}
+
+fn behind_stop(answers: Option<Answers>, files: Files<StopAt<Memory>>) -> Disturbed {
+    let is_reached = files.log.refusals() > 0 || files.db.refusals() > 0;
+    let Files { log, db } = files;
+    Disturbed {
+        answers,
+        is_reached,
+        files: Files {
+            log: log.into_inner(),
+            db: db.into_inner(),
+        },
+    }
+}
+
+/// Over two new files that stop.
+pub fn stopped(alloc: Global, stop: Stop, batches: &[[Call; 3]]) -> Option<Disturbed> {
+    let files = stopping(alloc, stop)?;
+    let (answers, files) = answers_of(alloc, files, batches);
+    Some(behind_stop(answers, files))
+}
+
+/// Two new files of which one call fails.
+fn failing(alloc: Global, at: u64) -> Option<Files<FailAt<Memory>>> {
+    let calls = Calls::new(alloc).ok()?;
+    let log = calls.share().ok()?;
+    let db = calls.share().ok()?;
+    Some(Files {
+        log: FailAt::new(Memory::new(alloc), log, at),
+        db: FailAt::new(Memory::new(alloc), db, at),
+    })
+}
+
+fn behind_failure(answers: Option<Answers>, files: Files<FailAt<Memory>>) -> Disturbed {
+    let is_reached = files.log.refusals() > 0 || files.db.refusals() > 0;
+    let Files { log, db } = files;
+    Disturbed {
+        answers,
+        is_reached,
+        files: Files {
+            log: log.into_inner(),
+            db: db.into_inner(),
+        },
+    }
 }
 
 /// Over two new files of which one call fails.
 pub fn failed(alloc: Global, at: u64, batches: &[[Call; 3]]) -> Option<Disturbed> {
-    let calls = Calls::new(alloc).ok()?;
-    let (log, db) = (calls.share().ok()?, calls.share().ok()?);
-    let files = Files {
-        log: FailAt::new(Memory::new(alloc), log, at),
-        db: FailAt::new(Memory::new(alloc), db, at),
-    };
+    let files = failing(alloc, at)?;
     let (answers, files) = answers_of(alloc, files, batches);
-    Some(Disturbed {
-        answers: answers?,
-        is_reached: files.log.refusals() > 0 || files.db.refusals() > 0,
-        files: Files {
-            log: files.log.into_inner(),
-            db: files.db.into_inner(),
-        },
-    })
+    Some(behind_failure(answers, files))
 }

@@ -123,35 +123,42 @@ fn is_stopped_at_once(alloc: Global, at: u64) -> bool {
     }
 }
 
-/// Two files of one store, of which the second one meets the stop.
-fn two_files(alloc: Global) -> Option<([Answer; 5], [u64; 5])> {
-    let calls = Calls::new(alloc).ok()?;
+/// A file of six bytes that shares a count.
+fn sharing(alloc: Global, calls: &Calls) -> Option<StopAt<Memory>> {
+    let calls = calls.share().ok()?;
     let stop = Stop {
         at: 2,
         part: Part::After,
     };
-    let mut log = StopAt::new(six_bytes(alloc)?, calls.share().ok()?, stop);
-    let mut db = StopAt::new(six_bytes(alloc)?, calls.share().ok()?, stop);
+    Some(StopAt::new(six_bytes(alloc)?, calls, stop))
+}
+
+/// What two files are answered, and what they have counted.
+fn asked(log: &mut StopAt<Memory>, db: &mut StopAt<Memory>) -> ([Answer; 5], [u64; 4]) {
     let answers = [
-        answer_to(&mut log, Ask::Write(0, "x")),
-        answer_to(&mut db, Ask::Write(0, "y")),
-        answer_to(&mut log, Ask::Write(0, "z")),
-        answer_to(&mut log, Ask::Len),
-        answer_to(&mut db, Ask::Len),
+        answer_to(log, Ask::Write(0, "x")),
+        answer_to(db, Ask::Write(0, "y")),
+        answer_to(log, Ask::Write(0, "z")),
+        answer_to(log, Ask::Len),
+        answer_to(db, Ask::Len),
     ];
-    let counts = [
-        log.last(),
-        db.last(),
-        log.refusals(),
-        db.refusals(),
-        calls.count(),
-    ];
-    let is = is_left(log.into_inner(), "xbcdef", "abcd")
-        && is_left(db.into_inner(), "ybcdef", "abcd");
-    if is {
-        return Some((answers, counts));
-    }
-    None
+    (
+        answers,
+        [log.last(), db.last(), log.refusals(), db.refusals()],
+    )
+}
+
+/// Two files of one store, of which the second one meets the stop: what they are answered, what they and their common count have
+/// counted, and whether they are left as they are to be.
+fn two_files(alloc: Global) -> Option<([Answer; 5], [u64; 4], u64, bool)> {
+    let calls = Calls::new(alloc).ok()?;
+    let mut log = sharing(alloc, &calls)?;
+    let mut db = sharing(alloc, &calls)?;
+    let (answers, counts) = asked(&mut log, &mut db);
+    let count = calls.count();
+    let is_log = is_left(log.into_inner(), "xbcdef", "abcd");
+    let is_db = is_left(db.into_inner(), "ybcdef", "abcd");
+    Some((answers, counts, count, is_log && is_db))
 }
 
 #[test]
@@ -194,6 +201,6 @@ fn a_stop_is_of_both_files(rt: HostRuntime) -> Result<(), Fail> {
         Answer::Refused,
         Answer::Refused,
     ];
-    assert!(rt; two_files(rt.alloc()) == Some((answers, [3, 2, 2, 2, 3])));
+    assert!(rt; two_files(rt.alloc()) == Some((answers, [3, 2, 2, 2], 3, true)));
     Ok(())
 }

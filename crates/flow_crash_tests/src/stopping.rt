@@ -63,6 +63,23 @@ fn judge(answers: &Answers, found: &Answers) -> Seen {
     book_of(kept, answers.has(Ended::Unknown), found.replies.as_slice())
 }
 
+/// The same, where all was answered. A run of which no call was refused, and of which both batches are found, was the last one.
+fn judge_all(answers: &Option<Answers>, found: &Option<Answers>, is_reached: bool) -> Seen {
+    match answers {
+        Some(answers) => match found {
+            Some(found) => {
+                let seen = judge(answers, found);
+                if is_reached || seen != Seen::Left(2) {
+                    return seen;
+                }
+                Seen::Over
+            }
+            None => Seen::Wrong,
+        },
+        None => Seen::Wrong,
+    }
+}
+
 fn look_at(alloc: Global, disturbed: Disturbed, is_machine: bool) -> Seen {
     let Disturbed {
         answers,
@@ -71,16 +88,7 @@ fn look_at(alloc: Global, disturbed: Disturbed, is_machine: bool) -> Seen {
     } = disturbed;
     let files = if is_machine { crashed(files) } else { files };
     let (found, _files) = answers_of(alloc, files, &[QUESTIONS]);
-    match found {
-        Some(found) => {
-            let seen = judge(&answers, &found);
-            if is_reached || seen != Seen::Left(2) {
-                return seen;
-            }
-            Seen::Over
-        }
-        None => Seen::Wrong,
-    }
+    judge_all(&answers, &found, is_reached)
 }
 
 fn look(alloc: Global, stop: Stop, is_machine: bool) -> Seen {
@@ -126,8 +134,9 @@ fn are_whole(stops: Stops) -> bool {
     stops.is_over && stops.wrong == 0 && stops.none > 0 && stops.first > 0
 }
 
-fn is_told(answers: &Option<Answers>, first: &[Named], then: &[Named]) -> bool {
-    match answers {
+/// Whether a store that nothing disturbs answers batches so.
+fn is_told(alloc: Global, batches: &[[Call; 3]], first: &[Named], then: &[Named]) -> bool {
+    match &undisturbed(alloc, batches) {
         Some(answers) => answers.is_told(first, then),
         None => false,
     }
@@ -136,12 +145,9 @@ fn is_told(answers: &Option<Answers>, first: &[Named], then: &[Named]) -> bool {
 #[test]
 fn an_undisturbed_store_answers_so(rt: HostRuntime) -> Result<(), Fail> {
     let alloc = rt.alloc();
-    let none = undisturbed(alloc, &[QUESTIONS]);
-    let first = undisturbed(alloc, &[FIRST, QUESTIONS]);
-    let both = undisturbed(alloc, &[FIRST, SECOND, QUESTIONS]);
-    assert!(rt; is_told(&none, &[], &FOUND[0]));
-    assert!(rt; is_told(&first, &BEGUN[..3], &FOUND[1]));
-    assert!(rt; is_told(&both, &BEGUN, &FOUND[2]));
+    assert!(rt; is_told(alloc, &[QUESTIONS], &[], &FOUND[0]));
+    assert!(rt; is_told(alloc, &[FIRST, QUESTIONS], &BEGUN[..3], &FOUND[1]));
+    assert!(rt; is_told(alloc, &[FIRST, SECOND, QUESTIONS], &BEGUN, &FOUND[2]));
     Ok(())
 }
 
