@@ -31,7 +31,15 @@ pub struct Told {
 /// A clock that stands.
 #[derive(Clone, Copy)]
 pub struct Still {
-    pub now: Moment,
+    now: Moment,
+}
+
+impl Still {
+    /// A clock that stands at this moment.
+    pub fn at(now: u64) -> Option<Still> {
+        let now = Moment::new(now)?;
+        Some(Still { now })
+    }
 }
 
 impl Clock for Still {
@@ -87,6 +95,29 @@ pub fn fetched<S: Alter, B: Room, R: Wait>(
     }
 }
 
+/// Serves what was submitted by an engine over this store. Whether it ended with all answered; and the store behind it.
+fn serve_over<S: Alter, B: Room, R: Wait>(
+    rt: &R,
+    alloc: Global,
+    conn: Connection<S>,
+    publisher: &mut Publisher<S, B>,
+    clock: Still,
+) -> (Option<bool>, Connection<S>)
+    requires { (publisher.old.history ≡ []) × (publisher.old.last ≡ []) × (publisher.old.held ≡ []) }
+{
+    match Engine::open(alloc, conn, Settings::usual()) {
+        Ok(engine) => {
+            let mut engine = engine;
+            let is = engine.serve(rt, publisher, &clock, 16).is_ok();
+            (Some(is), engine.close())
+        }
+        Err((_fault, conn)) => (None, conn),
+    }
+}
+
+/// Lets a connection go.
+fn let_go<S: Alter + Drop>(_conn: Connection<S>) {}
+
 /// Opens an engine over memory, and serves what was submitted. Whether it ended with all answered.
 pub fn serve<B: Room, R: Wait>(
     rt: &R,
@@ -96,45 +127,90 @@ pub fn serve<B: Room, R: Wait>(
 ) -> Option<bool>
     requires { (publisher.old.history ≡ []) × (publisher.old.last ≡ []) × (publisher.old.held ≡ []) }
 {
-    let conn = Connection::open_in_memory(alloc).ok()?;
-    match Engine::open(alloc, conn, Settings::usual()) {
-        Ok(engine) => {
-            let mut engine = engine;
-            let ended = engine.serve(rt, publisher, &clock, 16);
-            Some(ended.is_ok())
+    match Connection::open_in_memory(alloc) {
+        Ok(conn) => {
+            let (ended, conn) = serve_over(rt, alloc, conn, publisher, clock);
+            let_go(conn);
+            ended
         }
-        Err((_fault, _conn)) => None,
+        Err(_) => None,
     }
 }
 
-/// What is told of the two commands, and how many are published at the end.
+/// Submits the two commands.
+fn submit_both<S: Alter, B: Room, R: Wait>(
+    rt: &R,
+    alloc: Global,
+    submitter: &mut Submitter<S, B>,
+) -> Option<(Ticket, Ticket)> {
+    let first = submitted(rt, submitter, register(alloc)?)?;
+    let second = submitted(rt, submitter, start(alloc)?)?;
+    Some((first, second))
+}
+
+/// What is told of them, and how many are published at the end.
+fn fetch_both<S: Alter, B: Room, R: Wait>(
+    rt: &R,
+    submitter: &mut Submitter<S, B>,
+    tickets: (Ticket, Ticket),
+) -> (Told, Told, u64) {
+    let (first, second) = tickets;
+    let first = fetched(rt, submitter, first);
+    let second = fetched(rt, submitter, second);
+    (first, second, submitter.published())
+}
+
+/// What is told of them where they are submitted to this hub, it is closed, and then served.
+fn told_behind<B: Room, R: Wait>(
+    rt: &R,
+    alloc: Global,
+    publisher: &mut Publisher<MemStore, B>,
+    hub: &Hub<MemStore, B>,
+    submitter: &mut Submitter<MemStore, B>,
+    clock: Still,
+) -> Option<(Told, Told, u64)>
+    requires { (publisher.old.history ≡ []) × (publisher.old.last ≡ []) × (publisher.old.held ≡ []) }
+{
+    let tickets = submit_both(rt, alloc, submitter)?;
+    hub.close(rt);
+    match serve(rt, alloc, publisher, clock) {
+        Some(true) => Some(fetch_both(rt, submitter, tickets)),
+        _ => None,
+    }
+}
+
+/// The same by a submitter of its own.
+fn told_to_one<B: Room, R: Wait>(
+    rt: &R,
+    alloc: Global,
+    publisher: &mut Publisher<MemStore, B>,
+    hub: &Hub<MemStore, B>,
+    clock: Still,
+) -> Option<(Told, Told, u64)>
+    requires { (publisher.old.history ≡ []) × (publisher.old.last ≡ []) × (publisher.old.held ≡ []) }
+{
+    let mut submitter = hub.submitter(rt).ok()?;
+    told_behind(rt, alloc, publisher, hub, &mut submitter, clock)
+}
+
+/// The same of a new hub.
 fn served<B: Room, R: Wait>(
     rt: &R,
     alloc: Global,
     opened: Opened<MemStore>,
+    clock: Still,
 ) -> Option<(Told, Told, u64)>
     requires { IsRoomOf opened B.table B.name B.parts }
 {
     let (mut publisher, hub) = Hub::<MemStore, B>::new(alloc, opened).ok()?;
-    let clock = Still {
-        now: Moment::new(1000)?,
-    };
-    let mut submitter = hub.submitter(rt).ok()?;
-    let first = submitted(rt, &mut submitter, register(alloc)?)?;
-    let second = submitted(rt, &mut submitter, start(alloc)?)?;
-    hub.close(rt);
-    if !serve(rt, alloc, &mut publisher, clock)? {
-        return None;
-    }
-    let first = fetched(rt, &mut submitter, first);
-    let second = fetched(rt, &mut submitter, second);
-    Some((first, second, submitter.published()))
+    told_to_one(rt, alloc, &mut publisher, &hub, clock)
 }
 
 #[test]
 fn what_was_submitted_is_served(rt: HostRuntime) -> Result<(), Fail> {
     let alloc = rt.alloc();
-    let all = served::<Brand, HostRuntime>(&rt, alloc, Opened::new(alloc)?);
+    let clock = Still::at(1000).ok_or("no moment")?;
+    let all = served::<Brand, HostRuntime>(&rt, alloc, Opened::new(alloc)?, clock);
     let first = Told { place: 1, named: 1 };
     let second = Told { place: 2, named: 1 };
     assert!(rt; all == Some((first, second, 2)));

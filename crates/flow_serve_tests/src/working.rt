@@ -11,6 +11,7 @@ use flow_base::text::{Key, RawText};
 use flow_base::value::Value;
 use flow_hub::feed::Feed;
 use flow_hub::hub::Hub;
+use flow_hub::publisher::Publisher;
 use flow_hub::seats::{Opened, Room};
 use flow_hub::submitter::Submitter;
 use flow_machine::task::Task;
@@ -94,42 +95,73 @@ fn worked<S: Alter, B: Room, R: Wait + Timing>(
 }
 
 /// The same over an engine on a thread of its own, by whose clock the task is ready and the timer isn't due.
-fn served<B: Room + Send + Sync, R: Threads + Wait + Timing + Sync>(
+fn worked_beside<B: Room + Send + Sync, R: Threads + Wait + Timing + Sync>(
     rt: &R,
     alloc: Global,
-    opened: Opened<MemStore>,
+    publisher: &mut Publisher<MemStore, B>,
+    hub: &Hub<MemStore, B>,
+    feed: &mut Feed<MemStore, B>,
+    submitter: &mut Submitter<MemStore, B>,
+    clocks: (Still, Still),
 ) -> Option<Seen>
-    requires { IsRoomOf opened B.table B.name B.parts }
+    requires { (publisher.old.history ≡ []) × (publisher.old.last ≡ []) × (publisher.old.held ≡ []) }
 {
-    let (mut publisher, hub) = Hub::<MemStore, B>::new(alloc, opened).ok()?;
-    let early = Still {
-        now: Moment::new(1000)?,
-    };
-    let late = Still {
-        now: Moment::new(1500)?,
-    };
-    let mut feed = hub.feed(rt)?;
-    let mut submitter = hub.submitter(rt).ok()?;
-    let hub = &hub;
+    let (early, late) = clocks;
     let (seen, ended) = join(
         rt,
         move || {
-            let seen = worked(rt, alloc, &mut feed, &mut submitter, &late);
+            let seen = worked(rt, alloc, feed, submitter, &late);
             hub.close(rt);
             seen
         },
         move ||
-            requires { (publisher.history ≡ []) × (publisher.last ≡ []) × (publisher.held ≡ []) }
-        { serve(rt, alloc, &mut publisher, early) },
+            requires { (publisher.now.history ≡ []) × (publisher.now.last ≡ []) × (publisher.now.held ≡ []) }
+        { serve(rt, alloc, publisher, early) },
     );
     if ended? { seen } else { None }
+}
+
+/// The same by a feed and a submitter of its own.
+fn seen_of<B: Room + Send + Sync, R: Threads + Wait + Timing + Sync>(
+    rt: &R,
+    alloc: Global,
+    publisher: &mut Publisher<MemStore, B>,
+    hub: &Hub<MemStore, B>,
+    clocks: (Still, Still),
+) -> Option<Seen>
+    requires { (publisher.old.history ≡ []) × (publisher.old.last ≡ []) × (publisher.old.held ≡ []) }
+{
+    let mut feed = hub.feed(rt)?;
+    let mut submitter = hub.submitter(rt).ok()?;
+    worked_beside(rt, alloc, publisher, hub, &mut feed, &mut submitter, clocks)
+}
+
+/// The same of a new hub.
+fn served<B: Room + Send + Sync, R: Threads + Wait + Timing + Sync>(
+    rt: &R,
+    alloc: Global,
+    opened: Opened<MemStore>,
+    clocks: (Still, Still),
+) -> Option<Seen>
+    requires { IsRoomOf opened B.table B.name B.parts }
+{
+    let (mut publisher, hub) = Hub::<MemStore, B>::new(alloc, opened).ok()?;
+    seen_of(rt, alloc, &mut publisher, &hub, clocks)
+}
+
+/// The engine's clock, and that of whoever works for the hub.
+fn clocks() -> Option<(Still, Still)> {
+    let early = Still::at(1000)?;
+    let late = Still::at(1500)?;
+    Some((early, late))
 }
 
 // The tick by the clock at 1500 fires the timer that is due from 1500 on, by the fourth command of the history.
 #[test]
 fn what_is_to_be_done_is_given_out(rt: HostRuntime) -> Result<(), Fail> {
     let alloc = rt.alloc();
-    let seen = served::<Brand, HostRuntime>(&rt, alloc, Opened::new(alloc)?);
+    let clocks = clocks().ok_or("no moment")?;
+    let seen = served::<Brand, HostRuntime>(&rt, alloc, Opened::new(alloc)?, clocks);
     let wanted = Seen {
         task: (1, 2, 1),
         fired: Told { place: 4, named: 1 },
