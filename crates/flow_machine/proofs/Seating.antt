@@ -1,13 +1,15 @@
 -- What is known of positions that deciding may use stays known.
 use Rattle.std.proofs.Common.{◌≡◌, ◌≤◌, ℕ, suc, arith, List, [], ◌∷◌, refl, sym, ap, ◌∙◌, subst, Option, Some, None, Contains, inl, inr}
-use Rattle.std.specs.Prelude.{◌⊎◌, length, max, IfSome}
+use Rattle.std.specs.Prelude.{◌⊎◌, ◌+◌, length, max, IfSome}
 use Rattle.std.proofs.Math.Nat.{le-max_right}
 use Rattle.std.proofs.lemmas.Option.{none-some, same_Some}
-use Rattle.flow_base.specs.Syntax.{Program}
+use Rattle.flow_base.specs.Syntax.{Bytes, Program}
 use Rattle.flow_base.specs.declared.event.Cmd.{Cmd}
 use Rattle.flow_base.specs.declared.event.Input.{Input}
+use Rattle.flow_base.specs.declared.event.Input.TheVariants.{Started}
+use Rattle.flow_base.specs.declared.value.Value.{Value}
 use Rattle.flow_base.specs.declared.book.Change.{Change}
-use Rattle.flow_base.specs.declared.book.Change.TheVariants.{AddTurn}
+use Rattle.flow_base.specs.declared.book.Change.TheVariants.{AddRun, AddTurn}
 use Rattle.flow_base.specs.declared.book.Run.{Run}
 use Rattle.flow_base.specs.declared.book.Turn.{Turn}
 use Rattle.flow_model.specs.Configuration.{Configuration}
@@ -24,11 +26,11 @@ use Rattle.flow_cache.specs.Entries.{Entries, Kept, HasEvents, used}
 use Rattle.flow_cache.proofs.Entries.{found_has_it, used_have_it, kept_have_it}
 use Rattle.flow_view.specs.Heads.{head_of, head_if, head_at}
 use Rattle.flow_view.specs.declared.head.Head.{Head}
-use Rattle.flow_machine.proofs.GoingOn.{reached_stands, reached_stays, turn_reaches}
+use Rattle.flow_machine.proofs.GoingOn.{first_turn_reaches, reached_stands, reached_stays, turn_reaches}
 use Rattle.flow_machine.proofs.Standing.{stands_moment}
 use Rattle.flow_machine.specs.ByHead.{history_if, history_at}
 use Rattle.flow_machine.specs.Reached.{Meaning, HasReached}
-use Rattle.flow_machine.specs.Seated.{ReachedIn, FitSeats, HasNone, IsWithin, KeepsNoMore, IsSame, IsCopy, IsCopyAhead, IsPlace, Grows, KeepsOne, WasThere, Settles, LeadsTo}
+use Rattle.flow_machine.specs.Seated.{ReachedIn, FitSeats, HasNone, IsWithin, KeepsNoMore, IsSame, IsCopy, IsCopyAhead, IsPlace, Grows, KeepsOne, WasThere, Settles, LeadsTo, IsFirstLed}
 use Rattle.flow_machine.specs.declared.seats.Led.{Led}
 use Rattle.flow_machine.specs.declared.seats.Seats.{Seats}
 
@@ -203,3 +205,19 @@ module _ (m : Meaning) (b : Book) (run : ℕ) (h : Head) (s : Stance) (p : Progr
       let over : HasReached m (changed_by b changes) run h.text l.stance = subst (λ (ds : List Change). HasReached m (changed_by b ds) run h.text l.stance) (sym made) later in
       let with_text : HasReached m (changed_by b changes) run l.text l.stance = subst (λ n. HasReached m (changed_by b changes) run n l.stance) (sym its_text) over in
       subst (λ n. HasReached m (changed_by b changes) n l.text l.stance) (sym its_run) with_text
+
+-- a run that begins with its first turn
+pub first_leads : (m : Meaning) (b : Book) (flow : Bytes) (request : Option Bytes) (text at : ℕ) (vs : List Value) (p : Program) (t : Turn) (s : Stance) (l : Led) (changes : List Change) → program_at m b text ≡ Some p → IsFirstLed p at vs t s
+    → changes ≡ AddRun flow request text t ∷ [] → l ≡ record { run = length b.runs + 1; text = text; stance = s } → LeadsTo m b changes l
+first_leads m b flow request text at vs p t s l changes reads led listed is =
+    let turn : Turn = record { at = at; input = Started vs; commands = led.commands } in
+    let reached : HasReached m (changed b (AddRun flow request text turn)) (length b.runs + 1) text s = first_turn_reaches m b flow request text s p at vs led.commands reads led.leads in
+    let over : HasReached m (changed b (AddRun flow request text t)) (length b.runs + 1) text s = subst (λ (x : Turn). HasReached m (changed b (AddRun flow request text x)) (length b.runs + 1) text s) (sym led.made) reached in
+    let here : HasReached m (changed_by b changes) (length b.runs + 1) text s = subst (λ (cs : List Change). HasReached m (changed_by b cs) (length b.runs + 1) text s) (sym listed) over in
+    subst (λ (x : Led). HasReached m (changed_by b changes) x.run x.text x.stance) (sym is) here
+
+pub begun_leads : (m : Meaning) (b : Book) (flow : Bytes) (request : Option Bytes) (text at number : ℕ) (vs : List Value) (p : Program) (t : Turn) (s : Stance) (o : Option Led) (changes : List Change) → program_at m b text ≡ Some p → IsFirstLed p at vs t s
+    → changes ≡ AddRun flow request text t ∷ [] → number ≡ length b.runs + 1 → IfSome o (λ l. l ≡ record { run = number; text = text; stance = s }) → IfSome o (LeadsTo m b changes)
+begun_leads m b flow request text at number vs p t s None changes reads led listed count is = tt
+begun_leads m b flow request text at number vs p t s (Some l) changes reads led listed count is =
+    first_leads m b flow request text at vs p t s l changes reads led listed (is ∙ ap (λ n. record { run = n; text = text; stance = s }) count)

@@ -3,8 +3,12 @@ use Rattle.std.specs.Prelude.{◌≡◌, ◌⊎◌, ℕ, List, [], ◌∷◌, Co
 use Rattle.flow_base.specs.Syntax.{Program}
 use Rattle.flow_base.specs.declared.event.Cmd.{Cmd}
 use Rattle.flow_base.specs.declared.event.Input.{Input}
+use Rattle.flow_base.specs.declared.event.Input.TheVariants.{Started}
+use Rattle.flow_base.specs.declared.value.Value.{Value}
 use Rattle.flow_base.specs.declared.book.Change.{Change}
+use Rattle.flow_base.specs.declared.book.Turn.{Turn}
 use Rattle.flow_base.specs.declared.book.Change.TheVariants.{AddTurn}
+use Rattle.flow_model.specs.Configuration.{first_configuration}
 use Rattle.flow_model.specs.Turn.{Fresh}
 use Rattle.flow_model.specs.Turned.{turned}
 use Rattle.flow_view.specs.declared.head.Head.{Head}
@@ -84,6 +88,12 @@ Settles old new = KeepsAll old.kept old.ahead.items new.kept
 -- Once these changes are made, the run has reached where its turn leads.
 abbrev pub LeadsTo : Meaning → Book → List Change → Led → Type 0
 LeadsTo m b cs l = HasReached m (changed_by b cs) l.run l.text l.stance
+
+-- This is the first turn of a run of the program, and where it leads.
+pub record IsFirstLed (p : Program) (at : ℕ) (vs : List Value) (t : Turn) (s : Stance) : Type 0 where
+  pub commands : List Cmd
+  pub leads : turned p Fresh first_configuration at (Started vs) ≡ Some (commands, config_of p s)
+  pub made : t ≡ record { at = at; input = Started vs; commands = commands }
 
 -- A turn of a run with this head, which stood at s, leads to the position, and is the first of the changes.
 pub record IsLedBy (p : Program) (h : Head) (s : Stance) (run at : ℕ) (i : Input) (changes : List Change) (l : Led) : Type 0 where

@@ -288,7 +288,8 @@ pub fn are_answered(alloc: Global, rows: &[Row]) -> bool {
     are_rows(alloc, &mut book, rows)
 }
 
-fn commands(alloc: Global, calls: &[Call]) -> Option<Vec<Command>> {
+/// These commands, if each can be made.
+pub fn commands(alloc: Global, calls: &[Call]) -> Option<Vec<Command>> {
     let mut list = Vec::new(alloc);
     for call in calls {
         list.push(command(alloc, *call)?).ok()?;
