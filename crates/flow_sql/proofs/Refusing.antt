@@ -1,5 +1,5 @@
 -- Why a statement of ours is refused: the store failed, or its database declines what is asked.
-use Rattle.flow_sql.proofs.Names.{schema, Write, write_sql, Read, read_sql, IsRead, write_takes, IsPlain, timed, Command, Database, Row, overlay, Query, Executes, RunsCommand, State, shows_rows, Trees, Error, Compiled, CompileError, IsTrue, List, false, true, ℕ, [], refl, Ok, None, Err, Result, length, Some, reads_listing, Fails, IsMisplaced, sym, ap, ◌∙◌, subst, inl, inr, arith, true≢false, append-nil}
+use Rattle.flow_sql.proofs.Names.{schema, Write, write_sql, Read, read_sql, IsRead, write_takes, IsPlain, timed, Command, Does, Database, Row, overlay, Query, Executes, RunsCommand, State, mode_of, shows_rows, text_of, Trees, Error, Compiled, CompileError, IsTrue, List, false, true, ℕ, [], refl, Ok, None, Err, Result, length, Some, reads_listing, Fails, IsMisplaced, sym, ap, ◌∙◌, subst, inl, inr, arith, true≢false, append-nil}
 use Rattle.std.specs.Prelude.{IsSome, Any, ◌≡◌, ◌⊎◌, ◌≢◌, ◌≤◌}
 use Rattle.sqlite_disk.specs.Disk.{MoreFaults}
 use Rattle.sqlite_trees.specs.declared.error.StoreError.{StoreError}
@@ -14,7 +14,7 @@ use Rattle.sqlite.specs.Listing.{understood, IsSourceOf}
 use Rattle.sqlite_schema.specs.declared.schema.Schema.{Schema}
 use Rattle.sqlite.specs.declared.error.ErrorCode.TheVariants.{OutOfMemory}
 use Rattle.sqlite.specs.declared.error.Error.TheVariants.{SqliteFailure}
-use Rattle.sqlite.specs.State.{HasCause, store_error, FailsToQuery, IsNotRun, IsNoStatement, ExecutesIn}
+use Rattle.sqlite.specs.State.{HasCause, store_error, FailsToQuery, IsNotRun, IsNoStatement, ExecutesIn, IsStatement}
 use Rattle.flow_sql.specs.Meaning.{command_of, IsOurRead, IsOurWrite, IsDeclined, read_takes}
 
 -- a query over one table has no sum
@@ -120,6 +120,11 @@ never_misplaced s k e writes (inl (_, inr (inr rollback, _))) = absurd (rw rollb
 never_misplaced s k e writes (inr (_, name, inl release, _)) = absurd (rw release at writes)
 never_misplaced s k e writes (inr (_, name, inr back, _)) = absurd (rw back at writes)
 
+-- A row of the statement is too big to be stored.
+abbrev pub IsTooBig : List ℕ → Row → State → Type 0
+IsTooBig sql params s =
+    (c : Compiled) × (it : IsStatement s sql params c) × Does s.step_limit (mode_of s) (timed params c.formats it.now) s.now (text_of sql c) c.returning c.command (Err None)
+
 -- A change: the store failed, or its database declines it.
 module _ (old new : State) (e : Error) (other : e ≢ SqliteFailure OutOfMemory) (up : IsTrue old.is_open) (s : Schema) (laid : old.now.schema ≡ s) (sql : List ℕ) (params : Row) (k : Command) (is : command_of (understood s sql) ≡ k) (writes : IsWrite k)
     (plain : IsPlain (understood s sql)) (whole : IsWhole sql (length params) (understood s sql)) where
@@ -140,4 +145,21 @@ module _ (old new : State) (e : Error) (other : e ≢ SqliteFailure OutOfMemory)
       ran (inr fails) = elim (failed old new e other up _ fails) [
         | inl more ↦ inl more
         | inr big ↦ inr (None, h.0, h.1, big)
+      ]
+
+  -- One that has ended the transaction: the store failed, or a row of it is too big to be stored.
+  pub change_ended : old.in_transaction ≡ true → new.in_transaction ≡ false → Executes sql params old new (Err e) → MoreFaults old.faults new.faults ⊎ IsTooBig sql params old
+  unfolding ExecutesIn
+  change_ended inside outside (inl none) = inl (never_run old new e other up s laid sql params whole plain none)
+  change_ended inside outside (inr h) =
+      let known = sym h.1.is ∙ ap (λ t. understood t sql) laid in
+      let bare = subst IsPlain (sym known) plain in
+      let write = subst IsWrite (sym (ap command_of known ∙ is)) writes in
+      ran (rw (shows_no_rows h.0 write bare.0) at h.2)
+    where
+      ran : RunsCommand old new sql h.0 (timed params h.0.formats h.1.now) (Err e) → MoreFaults old.faults new.faults ⊎ IsTooBig sql params old
+      ran (inl refused) = absurd (true≢false (sym inside ∙ sym refused.1.0.mode ∙ outside))
+      ran (inr fails) = elim (failed old new e other up _ fails) [
+        | inl more ↦ inl more
+        | inr big ↦ inr (h.0, h.1, big)
       ]
