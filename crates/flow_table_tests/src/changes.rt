@@ -47,6 +47,23 @@ fn an_event_comes(rt: HostRuntime) -> Result<(), Fail> {
     Ok(())
 }
 
+/// Two come in order. Where one of two is there already, neither comes.
+const TWO_EVENTS: &[Statement] = &[
+    Statement::Changes(Row::Events(2, 5, 6, "b")),
+    Statement::Counts(
+        "SELECT sum(10 * rowid + id) FROM event WHERE run = 2 AND kind = 7 AND body = 'b'",
+        41,
+    ),
+    Statement::Refuses(Row::Events(2, 7, 6, "b")),
+    Statement::Counts("SELECT count(*) FROM event", 2),
+];
+
+#[test]
+fn two_events_come(rt: HostRuntime) -> Result<(), Fail> {
+    assert!(rt; behind_two_runs(rt.alloc(), TWO_EVENTS));
+    Ok(())
+}
+
 const TIMER_AND_TASK: &[Statement] = &[
     Statement::Changes(Row::Timer(2, 5)),
     Statement::Changes(Row::Task(1, 6)),

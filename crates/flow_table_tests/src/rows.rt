@@ -4,7 +4,8 @@ use flow_base::text::{Key, RawText};
 use flow_rows::rows::{EventRow, OutboxRow, RunRow, TextRow, TimerRow};
 use flow_tables::ask::change;
 use flow_tables::row_changes::{
-    Mark, NewEvent, NewRun, NewTask, NewText, NewTimer, TaskGone, TasksGone, TimerGone, TimersGone,
+    Mark, NewEvent, NewEvents, NewRun, NewTask, NewText, NewTimer, TaskGone, TasksGone, TimerGone,
+    TimersGone,
 };
 use sqlite::{Connection, MemStore};
 use std::alloc::Global;
@@ -20,6 +21,8 @@ pub enum Row {
     Run(i64, &'static str, &'static str, i64, i64),
     /// An event of a run, of kind 7.
     Event(i64, i64, &'static str),
+    /// Two such events of a run, with one body.
+    Events(i64, i64, i64, &'static str),
     /// A timer of a run, due at moment 8.
     Timer(i64, i64),
     /// An activity of a run, whose third attempt is ready at moment 9.
@@ -67,18 +70,27 @@ fn add_run(conn: &mut Memory, row: Option<RunRow>) -> bool {
     }
 }
 
+fn event_row(alloc: Global, run: i64, id: i64, body: &str) -> Option<EventRow> {
+    let body = RawText::new(alloc, body).ok()?;
+    Some(EventRow {
+        run,
+        id,
+        kind: 7,
+        body,
+    })
+}
+
 fn add_event(alloc: Global, conn: &mut Memory, run: i64, id: i64, body: &str) -> bool {
-    match RawText::new(alloc, body) {
-        Ok(body) => {
-            let row = EventRow {
-                run,
-                id,
-                kind: 7,
-                body,
-            };
-            change(conn, &NewEvent(&row)).is_ok()
-        }
-        Err(_) => false,
+    match event_row(alloc, run, id, body) {
+        Some(row) => change(conn, &NewEvent(&row)).is_ok(),
+        None => false,
+    }
+}
+
+fn add_both(conn: &mut Memory, first: Option<EventRow>, second: Option<EventRow>) -> bool {
+    match (first, second) {
+        (Some(first), Some(second)) => change(conn, &NewEvents(&first, &second)).is_ok(),
+        _ => false,
     }
 }
 
@@ -150,6 +162,11 @@ pub fn is_changed(alloc: Global, conn: &mut Memory, row: Row) -> bool {
             add_run(conn, run_row(alloc, num, flow, req, textnum, isopen))
         }
         Row::Event(run, id, body) => add_event(alloc, conn, run, id, body),
+        Row::Events(run, first, second, body) => add_both(
+            conn,
+            event_row(alloc, run, first, body),
+            event_row(alloc, run, second, body),
+        ),
         Row::Timer(run, id) => add_timer(conn, run, id),
         Row::Task(run, id) => add_task(conn, run, id),
         other => is_taken(conn, other),

@@ -1,6 +1,6 @@
 -- What stands behind a refused statement.
 use Rattle.std.specs.Prelude.{◌≡◌, ◌∷◌, ◌+◌, ◌≤◌, ◌^◌, ◌<◌, ◌↔◌}
-use Rattle.flow_tables.proofs.Names.{Turn, Cmd, Event, Came, Bool, IfErr, IsTrue, List, false, ℕ, Refusal, Err, Ok, length, Result, Asked, subst, ◌∙◌, sym, inl, inr, arith, Because, true≢false, IsUnfitTurn, AreUnfit, AreWithin}
+use Rattle.flow_tables.proofs.Names.{Turn, Cmd, Event, Came, Bool, IfErr, IsTrue, List, false, ℕ, Refusal, Err, Ok, length, Result, Asked, subst, ◌∙◌, sym, inl, inr, arith, Because, true≢false, IsUnfitTurn, AreUnfit, IsUnfitInput, AreWithin, ap}
 use Rattle.flow_events.specs.Row.{IsCommandWithinLimits, IsWithinLimits}
 use Rattle.flow_tables.specs.declared.fault.Refusal.TheVariants.{NoMemory, Stopped, Unfit}
 
@@ -40,18 +40,42 @@ pub came_stops : (W : Type 0) (count : ℕ) (turn : Turn) (f : Refusal) → Beca
 came_stops W count turn f h =
     because_on ⊥ W (1 ≤ count + 1 → 2 ^ 63 ≤ count + 1) (IsUnfitTurn count turn) f (λ none. absurd none) (λ past. let it = past (omega arith) in inr (omega (arith, it))) h
 
-pub input_stops : (W : Type 0) (count : ℕ) (turn : Turn) (e : Event) (f : Refusal) → e ≡ record { id = count + 1; at = turn.at; what = Came turn.input } → Because f W (IsWithinLimits e → ⊥)
-    → Because f W (IsUnfitTurn count turn)
-input_stops W count turn e f event h =
-    because_on W W (IsWithinLimits e → ⊥) (IsUnfitTurn count turn) f (λ w. w) (λ past. inl (λ all. past (subst IsWithinLimits (sym event) all.0))) h
+---- An input, and commands behind it
 
-commands_unfit : (count : ℕ) (turn : Turn) → AreUnfit (count + 2) turn.commands → IsUnfitTurn count turn
-commands_unfit count turn (inl past) = inl (λ all. past all.1)
-commands_unfit count turn (inr past) = inr past
+module _ (W : Type 0) (input : Event) (from : ℕ) (cs : List Cmd) where
+  -- which is past its limits
+  pub input_stops : {A : Type 0} (r : Result A Refusal) → IfErr r (λ f. Because f W (IsWithinLimits input → ⊥)) → IfErr r (λ f. Because f W (IsUnfitInput input from cs))
+  input_stops (Ok u) h = tt
+  input_stops (Err f) h = because_on W W (IsWithinLimits input → ⊥) (IsUnfitInput input from cs) f (λ w. w) (λ past. inl (λ within all. past within)) h
 
-pub commands_stop : (W : Type 0) (count : ℕ) (turn : Turn) (cs : List Cmd) (r : Result Unit Refusal) → cs ≡ turn.commands
-    → IfErr r (λ f. Because f W (1 ≤ count + 2 → AreUnfit (count + 2) cs)) → IfErr r (λ f. Because f W (IsUnfitTurn count turn))
-commands_stop W count turn cs (Ok u) same h = tt
-commands_stop W count turn cs (Err f) same h =
-    because_on W W (1 ≤ count + 2 → AreUnfit (count + 2) cs) (IsUnfitTurn count turn) f (λ w. w)
-    (λ unfit. commands_unfit count turn (subst (AreUnfit (count + 2)) same (unfit (omega arith)))) h
+  module _ (c : Cmd) (rest : List Cmd) (is : cs ≡ c ∷ rest) where
+    -- a number past the last one
+    pub first_stops : (f : Refusal) → from ≡ input.id + 1 → Because f ⊥ (1 ≤ from → 2 ^ 63 ≤ from) → Because f W (IsUnfitInput input from cs)
+    first_stops f counts h =
+        because_on ⊥ W (1 ≤ from → 2 ^ 63 ≤ from) (IsUnfitInput input from cs) f (λ none. absurd none) (λ past. let it = past (omega (arith, counts)) in inr (omega (arith, it))) h
+
+    -- the input or the first command
+    pub two_stop : (e : Event) (f : Refusal) → e ≡ record { id = from; at = input.at; what = Asked c } → Because f W (IsWithinLimits input → IsWithinLimits e → ⊥) → Because f W (IsUnfitInput input from cs)
+    two_stop e f event h =
+        because_on W W (IsWithinLimits input → IsWithinLimits e → ⊥) (IsUnfitInput input from cs) f (λ w. w)
+        (λ past. inl (λ within all. past within (subst IsWithinLimits (sym event) (first_within cs rest c is all)))) h
+
+    -- a later one
+    pub rest_stop : {A : Type 0} (r : Result A Refusal) → IfErr r (λ f. Because f W (1 ≤ from + 1 → AreUnfit (from + 1) rest)) → IfErr r (λ f. Because f W (IsUnfitInput input from cs))
+    rest_stop (Ok u) h = tt
+    rest_stop (Err f) h =
+        because_on W W (1 ≤ from + 1 → AreUnfit (from + 1) rest) (IsUnfitInput input from cs) f (λ w. w) (λ unfit. unfit_behind (unfit (omega arith))) h
+      where
+        unfit_behind : AreUnfit (from + 1) rest → IsUnfitInput input from cs
+        unfit_behind (inl past) = inl (λ within all. past (rest_within cs rest c is all))
+        unfit_behind (inr past) = inr (let longer = ap (λ (l : List Cmd). length l) is in omega (arith, longer, past))
+
+pub turn_stops : {A : Type 0} (W : Type 0) (count : ℕ) (turn : Turn) (cs : List Cmd) (e : Event) (r : Result A Refusal) → cs ≡ turn.commands → e ≡ record { id = count + 1; at = turn.at; what = Came turn.input }
+    → IfErr r (λ f. Because f W (IsUnfitInput e (count + 2) cs)) → IfErr r (λ f. Because f W (IsUnfitTurn count turn))
+turn_stops W count turn cs e (Ok u) same event h = tt
+turn_stops W count turn cs e (Err f) same event h =
+    because_on W W (IsUnfitInput e (count + 2) cs) (IsUnfitTurn count turn) f (λ w. w) (λ unfit. unfit_turn (subst (IsUnfitInput e (count + 2)) same unfit)) h
+  where
+    unfit_turn : IsUnfitInput e (count + 2) turn.commands → IsUnfitTurn count turn
+    unfit_turn (inl past) = inl (λ all. past (subst IsWithinLimits (sym event) all.0) all.1)
+    unfit_turn (inr past) = inr past

@@ -20,5 +20,6 @@ pub mod run_changes;
 pub mod tables;
 pub mod transaction;
 pub mod turn_changes;
+mod two_events;
 mod utf8;
 mod whole_run;
