@@ -74,7 +74,7 @@ fn plan_of(words: &[String]) -> Option<Plan> {
 }
 
 /// The three races that are told of.
-fn race_at(at: u64) -> Option<Plan> {
+pub fn race_at(at: u64) -> Option<Plan> {
     if at == 0 {
         Some(TWO)
     } else if at == 1 {
@@ -83,15 +83,6 @@ fn race_at(at: u64) -> Option<Plan> {
         Some(FAILING)
     } else {
         None
-    }
-}
-
-/// The plan of the race at this number, where there is one.
-pub fn plan_at(asked: Asked, at: u64) -> Option<Plan> {
-    match asked {
-        Asked::Races => race_at(at),
-        Asked::Serve(plan) if at == 0 => Some(plan),
-        _ => None,
     }
 }
 

@@ -1,13 +1,14 @@
 //! What one thread gets for the same commands.
 use crate::commands::{command, note_of};
-use crate::racing::{limited, open};
+use crate::racing::limited;
 use flow_commit::batch::Batch;
 use flow_engine::done::Done;
 use flow_engine::drive::drive;
 use flow_engine::engine::Engine;
 use flow_machine::submission::Taken;
-use flow_races::note::Note;
-use sqlite::{Alter, Connection};
+use flow_races::course::alone;
+use flow_races::note::{Note, Raced};
+use sqlite::Alter;
 use std::alloc::Global;
 
 fn batch_of(alloc: Global, numbers: &[u64]) -> Option<Batch> {
@@ -48,32 +49,15 @@ fn notes_of(alloc: Global, dones: &[Done]) -> Option<Vec<Note>> {
     Some(notes)
 }
 
-/// Commits the commands of these numbers.
-fn driven_by<S: Alter>(
+/// Commits the commands of these numbers in batches of at most so many.
+pub fn driven<S: Alter>(
     alloc: Global,
     engine: &mut Engine<S>,
     numbers: &[u64],
     most: usize,
-) -> Option<Vec<Note>> {
+) -> Option<Raced> {
     match drive(engine, batches_of(alloc, numbers, most)?) {
-        Ok(dones) => notes_of(alloc, dones.as_slice()),
+        Ok(dones) => alone(alloc, notes_of(alloc, dones.as_slice())?),
         Err((_batches, _error)) => None,
-    }
-}
-
-/// The same in batches of at most so many, over a store, which comes back.
-pub fn driven<S: Alter>(
-    alloc: Global,
-    conn: Connection<S>,
-    numbers: &[u64],
-    most: usize,
-) -> (Option<Vec<Note>>, Connection<S>) {
-    match open(alloc, conn) {
-        Ok(engine) => {
-            let mut engine = engine;
-            let notes = driven_by(alloc, &mut engine, numbers, most);
-            (notes, engine.close())
-        }
-        Err(conn) => (None, conn),
     }
 }

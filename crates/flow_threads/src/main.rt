@@ -12,10 +12,11 @@ mod stores;
 mod submitting;
 mod telling;
 
-use crate::racing::race;
+use crate::racing::play;
 use crate::stores::{clear, close, open};
-use crate::telling::{tell, tell_driven};
-use flow_races::plan::{asked_by, plan_at};
+use crate::telling::tell;
+use flow_races::course::{Course, turn_at};
+use flow_races::plan::asked_by;
 use std::time::Instant;
 use std::{env, io};
 
@@ -25,20 +26,22 @@ fn main(rt: HostRuntime) -> io::Result<()> {
     let words = env::args(&rt)?.collect::<Vec<String>>(rt.alloc())?;
     let asked = asked_by(words.as_slice());
     drop(words);
-    tell_driven(&rt, asked)?;
-    for at in 0..3 {
-        if let Some(plan) = plan_at(asked, at) {
-            let start = Instant::now(&rt)?;
-            clear(&rt);
-            let raced = match open(&rt, plan.calls) {
+    let start = Instant::now(&rt)?;
+    let mut course = Course::new();
+    for at in 0..9 {
+        if let Some(turn) = turn_at(asked, at) {
+            if turn.is_anew() {
+                clear(&rt);
+            }
+            let made = match open(&rt, turn.calls()) {
                 Some(conn) => {
-                    let (raced, conn) = race(&rt, rt.alloc(), conn, plan);
+                    let (made, conn) = play(&rt, rt.alloc(), conn, turn, &course);
                     close(conn);
-                    raced
+                    made
                 }
                 None => None,
             };
-            tell(&rt, asked, at, plan, start, raced)?;
+            tell(&rt, asked, at, turn, start, &mut course, made)?;
         }
     }
     clear(&rt);

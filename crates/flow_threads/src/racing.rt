@@ -1,7 +1,8 @@
 //! An engine that serves a hub to which many threads submit.
-ghost use Rattle.std.specs.Prelude.{◌≡◌, ◌≤◌, [], IfOk};
+ghost use Rattle.std.specs.Prelude.{◌≡◌, ◌≤◌, []};
 ghost use Rattle.flow_hub.specs.Seating.{IsRoomOf};
 
+use crate::driving::driven;
 use crate::submitting::{Brought, run_race};
 use flow_base::fault::Fault;
 use flow_base::number::Moment;
@@ -9,6 +10,7 @@ use flow_engine::engine::Engine;
 use flow_hub::hub::Hub;
 use flow_hub::publisher::Publisher;
 use flow_hub::seats::{Opened, Room};
+use flow_races::course::{Course, Turn};
 use flow_races::note::Raced;
 use flow_races::plan::Plan;
 use flow_settings::settings::Settings;
@@ -29,16 +31,6 @@ struct Still {
 impl Clock for Still {
     fn now(&self) -> Moment {
         self.now
-    }
-}
-
-/// The engine over a store, or the store.
-pub fn open<S: Alter>(alloc: Global, conn: Connection<S>) -> Result<Engine<S>, Connection<S>>
-    ensures { IfOk result (λ e. e.log ≡ []) }
-{
-    match Engine::open(alloc, conn, Settings::usual()) {
-        Ok(engine) => Ok(engine),
-        Err((_fault, conn)) => Err(conn),
     }
 }
 
@@ -116,8 +108,8 @@ fn race_named<S: Alter + Send, B: Room + Send + Sync, R: Threads + Wait + time::
     Some(raced)
 }
 
-/// A race over an engine that was opened just now.
-fn race_over<S: Alter + Send, R: Threads + Wait + time::Clock + Sync>(
+/// A race over an engine that was opened just now. None: memory was refused.
+fn race<S: Alter + Send, R: Threads + Wait + time::Clock + Sync>(
     rt: &R,
     alloc: Global,
     engine: &mut Engine<S>,
@@ -138,19 +130,39 @@ fn race_over<S: Alter + Send, R: Threads + Wait + time::Clock + Sync>(
     })
 }
 
-/// What the threads of a plan get of an engine over a store, which comes back.
-pub fn race<S: Alter + Send, R: Threads + Wait + time::Clock + Sync>(
+/// What comes of a turn over an engine that was opened just now.
+fn played<S: Alter + Send, R: Threads + Wait + time::Clock + Sync>(
+    rt: &R,
+    alloc: Global,
+    engine: &mut Engine<S>,
+    turn: Turn,
+    course: &Course,
+) -> Option<Raced>
+    requires { engine.old.log ≡ [] }
+{
+    match turn {
+        Turn::Race(plan) => race(rt, alloc, engine, plan),
+        Turn::Again(plan) | Turn::Anew(plan) => {
+            let numbers = course.numbers(alloc, plan)?;
+            driven(alloc, engine, numbers.as_slice(), plan.most)
+        }
+    }
+}
+
+/// What comes of a turn over a store, which comes back.
+pub fn play<S: Alter + Send, R: Threads + Wait + time::Clock + Sync>(
     rt: &R,
     alloc: Global,
     conn: Connection<S>,
-    plan: Plan,
+    turn: Turn,
+    course: &Course,
 ) -> (Option<Raced>, Connection<S>) {
-    match open(alloc, conn) {
+    match Engine::open(alloc, conn, Settings::usual()) {
         Ok(engine) => {
             let mut engine = engine;
-            let raced = race_over(rt, alloc, &mut engine, plan);
-            (raced, engine.close())
+            let made = played(rt, alloc, &mut engine, turn, course);
+            (made, engine.close())
         }
-        Err(conn) => (None, conn),
+        Err((_fault, conn)) => (None, conn),
     }
 }

@@ -47,7 +47,7 @@ pub fn open(host: &HostRuntime, calls: u64) -> Option<Connection<Store>> {
     open_over(host.alloc(), files, calls)
 }
 
-/// Lets go of the store, and copies nothing before.
+/// Lets go of the store. What the log holds is copied into the file, where the log doesn't fail.
 pub fn close(conn: Connection<Store>) {
-    let _files = conn.into_store().close();
+    let _ = conn.close();
 }

@@ -3,7 +3,8 @@ use crate::commands::{command, note_of, refused_by};
 use flow_hub::hub::Hub;
 use flow_hub::seats::Room;
 use flow_hub::submitter::Submitter;
-use flow_hub::ticket::Ticket;
+use flow_hub::ticket::{NotDone, Ticket};
+use flow_machine::submission::Receipt;
 use flow_races::note::Note;
 use flow_races::plan::Plan;
 use sqlite::Alter;
@@ -23,6 +24,14 @@ pub struct Brought {
     pub published: u64,
 }
 
+/// What is noted of the answer to a ticket.
+fn noted(answer: Result<Receipt, NotDone>) -> Note {
+    match answer {
+        Ok(receipt) => note_of(&receipt),
+        Err(instead) => refused_by(instead.code.number()),
+    }
+}
+
 /// Waits with the first ticket. None: there is none, or memory was refused.
 fn fetch_first<S: Alter, B: Room, R: Wait>(
     rt: &R,
@@ -30,11 +39,8 @@ fn fetch_first<S: Alter, B: Room, R: Wait>(
     open: &mut VecDeque<Ticket>,
     notes: &mut Vec<Note>,
 ) -> Option<()> {
-    let note = match submitter.wait(rt, open.pop_front()?) {
-        Ok(receipt) => note_of(&receipt),
-        Err(instead) => refused_by(instead.code.number()),
-    };
-    notes.push(note).ok()
+    let ticket = open.pop_front()?;
+    notes.push(noted(submitter.wait(rt, ticket))).ok()
 }
 
 /// Submits a command, and puts its ticket behind the others. None: memory was refused.

@@ -1,4 +1,4 @@
-use Rattle.flow_threads.proofs.racing.race_over.Given as goal
+use Rattle.flow_threads.proofs.racing.race.Given as goal
 
 abbrev pub ghosts-race_named-B-Room : goal.ghosts-race_named-B-Room
 ghosts-race_named-B-Room g a = record { table = a.opened.table }
