@@ -113,4 +113,7 @@ impl<S: Alter, B: Room> Hub<S, B> {
         shared.lock(rt).close(&shared.seats, me);
         shared.wake();
     }
+
+    /// Lets go of it. The proof of how all its parts are let go of is here, and not in the crate of who calls.
+    pub fn leave(self) {}
 }

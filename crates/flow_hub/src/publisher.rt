@@ -199,4 +199,7 @@ impl<S: Alter, B: Room> Publisher<S, B> {
         self.seat = shared.lock(rt).close(&shared.seats, me);
         shared.wake();
     }
+
+    /// Lets go of it, and closes nothing: what waits then is answered by nobody.
+    pub fn leave(self) {}
 }

@@ -341,6 +341,9 @@ impl<S: Alter, B: Room> Submitter<S, B> {
         self.parts += parts;
     }
 
+    /// Lets go of it. The answers to its tickets are fetched by nobody then, and keep their places.
+    pub fn leave(self) {}
+
     /// Where it has gathered all others of its hub: the tickets given, which are the sum of all shares, by what became of them.
     pub fn settle<R: Wait>(&mut self, rt: &R) -> Option<Settled>
         ensures settled { IfSome result (λ s. (s.given ≡ self.new.amount) × IsSettled self.new.was s) }
