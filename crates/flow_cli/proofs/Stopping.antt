@@ -43,8 +43,8 @@ fault_by fault.BadUsage X Y P Q g h c = absurd c
 -- An early end has every cause that follows from its cause.
 pub stop_by : (e : Stopped) (X Y : Stop → Type 0) (P Q : Type 0) → ((s : Stop) → X s → Y s) → (P → Q) → CausedStop e X P → CausedStop e Y Q
 stop_by (stopped.Refused f) X Y P Q g h c = fault_by f X Y P Q g h c
-stop_by (stopped.Input e) X Y P Q g h c = tt
-stop_by (stopped.Output e) X Y P Q g h c = tt
+stop_by (stopped.Input e) X Y P Q g h c = c
+stop_by (stopped.Output e) X Y P Q g h c = c
 stop_by stopped.BadSettings X Y P Q g h c = absurd c
 
 pub uncaused : (e : Stopped) (Y : Stop → Type 0) (Q : Type 0) → CausedStop e (λ s. ⊥) ⊥ → CausedStop e Y Q

@@ -1,5 +1,8 @@
 -- What stands behind a fault that ends answering before the input does.
-use Rattle.std.specs.Prelude.{◌≡◌, ◌+◌, ◌≤◌, ℕ, List, ◌∷◌, ◌++◌, length, Option, Some, IfSome}
+use Rattle.std.specs.Prelude.{◌≡◌, ◌≢◌, ◌+◌, ◌≤◌, ℕ, List, ◌∷◌, ◌++◌, length, Option, Some, IfSome}
+use Rattle.std.specs.IoError.{error_kind}
+use Rattle.std.specs.declared.io.Error.{Error}
+use Rattle.std.specs.declared.io.ErrorKind.TheVariants as kind
 use Rattle.flow_base.specs.declared.code.Code.{Code}
 use Rattle.flow_base.specs.declared.command.Command.{Command}
 use Rattle.flow_model.specs.Apply.{Rules}
@@ -14,6 +17,15 @@ use Rattle.flow_base.specs.declared.fault.Fault.{Fault}
 use Rattle.flow_base.specs.declared.fault.Fault.TheVariants as fault
 use Rattle.flow_cli.specs.declared.reply.Line.{Line}
 
+-- A write failed: a signal that breaks one off fails none.
+abbrev pub IsFailedWrite : Error → Type 0
+IsFailedWrite e = error_kind e ≢ kind.Interrupted
+
+-- A read failed: neither by a signal that broke it off, nor for want of memory, which is E01.
+pub record IsFailedRead (e : Error) : Type 0 where
+  pub unbroken : error_kind e ≢ kind.Interrupted
+  pub had_memory : error_kind e ≢ kind.OutOfMemory
+
 -- E80 comes where there are too many lines; E84 and E85 have their stop's cause. No other fault but E01 is met.
 abbrev pub CausedFault : Fault → (Stop → Type 0) → Type 0 → Type 0
 CausedFault fault.NoMemory cause too_many = Unit {0}
@@ -24,21 +36,21 @@ CausedFault f cause too_many = ⊥
 
 abbrev pub CausedStop : Stopped → (Stop → Type 0) → Type 0 → Type 0
 CausedStop (stopped.Refused f) cause too_many = CausedFault f cause too_many
-CausedStop (stopped.Input e) cause too_many = Unit {0}
-CausedStop (stopped.Output e) cause too_many = Unit {0}
+CausedStop (stopped.Input e) cause too_many = IsFailedRead e
+CausedStop (stopped.Output e) cause too_many = IsFailedWrite e
 CausedStop stopped.BadSettings cause too_many = ⊥
 
 -- Memory ran out, or a write failed.
 abbrev pub StopsWriting : Stopped → Type 0
 StopsWriting (stopped.Refused f) = f ≡ fault.NoMemory
 StopsWriting (stopped.Input e) = ⊥
-StopsWriting (stopped.Output e) = Unit {0}
+StopsWriting (stopped.Output e) = IsFailedWrite e
 StopsWriting stopped.BadSettings = ⊥
 
 -- Memory ran out, or a read failed.
 abbrev pub StopsReading : Stopped → Type 0
 StopsReading (stopped.Refused f) = f ≡ fault.NoMemory
-StopsReading (stopped.Input e) = Unit {0}
+StopsReading (stopped.Input e) = IsFailedRead e
 StopsReading (stopped.Output e) = ⊥
 StopsReading stopped.BadSettings = ⊥
 
