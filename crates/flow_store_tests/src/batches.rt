@@ -173,11 +173,11 @@ fn a_batch_has_64_commands(rt: HostRuntime) -> Result<(), Fail> {
 /// A batch of two, of which both are decided.
 const TWO: [(u64, Call); 2] = [(1, Call::Register), (2, Call::Start)];
 
-/// A batch with one more, and a batch behind it.
+/// A batch with one more, which reads the run whole, and a batch behind it.
 const THREE: [(u64, Call); 4] = [
     (1, Call::Register),
     (2, Call::Start),
-    (3, Call::Complete),
+    (3, Call::Describe),
     (4, Call::RegisterEmpty),
 ];
 
