@@ -12,6 +12,7 @@ use std::test::Fail;
 
 const CALLS: &str =
     "workflow a(n: int) { activity c(int, text) -> int; let r = 0; r = call c(n, \"eur\"); return r + 1; }";
+
 const ENDS: &str = "workflow b(n: int) { return n; }";
 
 /// Whether the position of run 1 under text 1 is known behind so many events.
