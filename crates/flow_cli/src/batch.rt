@@ -97,9 +97,10 @@ fn put_line(alloc: Global, line: &[u8], begun: &mut Begun) -> Result<(), Fault>
 fn put_next<R: BufRead>(alloc: Global, reader: &mut R, begun: &mut Begun) -> Result<bool, Stopped>
     ensures gathered { IfOk result (λ found. Gathered begun.old.commands.items begun.new.commands.items begun.old.marks.items begun.new.marks.items (R.remaining reader.old) (R.remaining reader.new)) }
     ensures more { IfOk result (λ found. HasOneMore begun.old.commands.items begun.new.commands.items) }
-    // Yes is one line more, and no is none.
+    // Yes is one line more, and no is none, where nothing is left to read.
     ensures found { IfOk result (λ found. found ≡ true → length begun.new.marks.items ≡ length begun.old.marks.items + 1) }
     ensures ended { IfOk result (λ found. found ≡ false → begun.new.marks.items ≡ begun.old.marks.items) }
+    ensures end { IfOk result (λ found. found ≡ false → IfSome (R.remaining reader.old) (λ bytes. bytes ≡ [])) }
     ensures nothing { IfErr result (λ e. (out : Option (List ℕ)) → WritesUntil e out out []) }
     ensures book { IfErr result (λ e. (b : Book) → LeavesBook e b b) }
     ensures status { IfErr result (λ e. stopped_status e ≡ 3) }
