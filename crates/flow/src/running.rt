@@ -37,8 +37,9 @@ pub fn run<S: Alter + Send + 'static, T: Threads + Wait + Clock + Copy + Send + 
     requires { engine.old.log ≡ [] }
     ensures { IfOk result (λ n. n ≤ 3) }
 {
-    let Ok(reader) = BufReader::new(rt.alloc(), rt.reader()) else {
-        return Err(Fault::NoMemory);
+    let reader = match BufReader::new(rt.alloc(), rt.reader()) {
+        Ok(reader) => reader,
+        Err(error) => return Err(fault_of_error(error.kind(), Fault::NoFile)),
     };
     let stderr = rt.stderr();
     let terminal = if stderr.is_terminal() {
@@ -119,7 +120,7 @@ pub fn keep_running<T: Threads + Wait + Clock + Copy + Send + Drop + 'static>(
             "-" => done(run_in_memory(rt, threads, settings)),
             _ => Ok(Next::Keep(String::from_str(rt.alloc(), base)?, settings)),
         },
-        Err(SettingsFault::NoMemory) => Err(Stopped::Refused(Fault::NoMemory)),
+        Err(SettingsFault::NoMemory(no_memory)) => Err(Stopped::Refused(Fault::NoMemory(no_memory))),
         Err(SettingsFault::BadSettings) => Err(Stopped::BadSettings),
     }
 }

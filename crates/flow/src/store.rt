@@ -8,6 +8,7 @@ ghost use Rattle.flow_engine.specs.Opening.{IsOpened};
 ghost use Rattle.flow.specs.Openings.{IsHandedOn};
 
 use flow_base::fault::Fault;
+use flow_base::memory::NoMemory;
 use flow_cli::drive::Stopped;
 use flow_engine::engine::Engine;
 use flow_settings::settings::Settings;
@@ -42,7 +43,7 @@ pub fn open_file(
 {
     match Connection::open(rt, file) {
         Ok(conn) => open(rt, conn, settings),
-        Err(Error::SqliteFailure(ErrorCode::OutOfMemory)) => Err(Stopped::Refused(Fault::NoMemory)),
+        Err(Error::SqliteFailure(ErrorCode::OutOfMemory)) => Err(Stopped::Refused(Fault::NoMemory(NoMemory::told()))),
         Err(_) => Err(Stopped::Refused(Fault::StoreRefused)),
     }
 }

@@ -76,7 +76,7 @@ wrong_code wrong.BadNumbering = c.BadNumbering
 
 -- the number of a fault
 abbrev pub fault_code : Fault → Code
-fault_code fault.NoMemory = c.NoMemory
+fault_code (fault.NoMemory _) = c.NoMemory
 fault_code (fault.Mismatch run place name) = c.Mismatch
 fault_code fault.NoRun = c.NoRun
 fault_code fault.StoreRefused = c.StoreRefused

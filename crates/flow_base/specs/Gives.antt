@@ -7,7 +7,7 @@ use Rattle.flow_base.specs.declared.value.ValueFault.TheVariants as fault
 
 -- the refusal is the given one
 abbrev pub FailsAsGiven : {Y : Type 0} → ValueFault → Result Y ValueFault → Type 0
-FailsAsGiven fault.NoMemory given = Unit {0}
+FailsAsGiven (fault.NoMemory _) given = Unit {0}
 FailsAsGiven fault.NotAValue given = given ≡ Err fault.NotAValue
 FailsAsGiven fault.TooLong given = given ≡ Err fault.TooLong
 
@@ -18,7 +18,7 @@ GivesValue (Err f) given = FailsAsGiven f given
 
 -- nothing is given, or memory ran out
 abbrev pub GivesNone : {Y : Type 0} → Refused → Option Y → Type 0
-GivesNone refused.Memory given = Unit {0}
+GivesNone (refused.Memory _) given = Unit {0}
 GivesNone refused.Unfit given = given ≡ None
 
 -- Ok exactly where the definition gives a value, and that value
@@ -28,6 +28,6 @@ Gives shown (Err e) given = GivesNone e given
 
 -- a reader of members stops for want of memory, or since a value isn't one of those that are read
 abbrev pub refusal_of : ValueFault → Refused
-refusal_of fault.NoMemory = refused.Memory
+refusal_of (fault.NoMemory _) = refused.Memory _
 refusal_of fault.NotAValue = refused.Unfit
 refusal_of fault.TooLong = refused.Unfit

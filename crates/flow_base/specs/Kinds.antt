@@ -13,6 +13,6 @@ kind_of_value (value.Int z) = kind.Int
 kind_of_value (value.Text t) = kind.Text
 
 abbrev pub value_fault_code : ValueFault → Code
-value_fault_code fault.NoMemory = code.NoMemory
+value_fault_code (fault.NoMemory _) = code.NoMemory
 value_fault_code fault.NotAValue = code.NotAValue
 value_fault_code fault.TooLong = code.TooLong

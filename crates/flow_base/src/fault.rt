@@ -4,6 +4,7 @@ ghost use Rattle.flow_base.specs.Codes.{fault_code, table_name};
 
 use crate::code::Code;
 use crate::event::Wrong;
+use crate::memory::NoMemory;
 use crate::number::RunId;
 use std::alloc::{AllocError, AllocFailed};
 
@@ -48,7 +49,7 @@ pub struct Damage {
 #[derive(Clone, Copy, Debug, PartialEq, Eq, thiserror::Error)]
 pub enum Fault {
     #[error("{} out of memory", self.code())]
-    NoMemory,
+    NoMemory(NoMemory),
     /// An open run that doesn't replay, with its first mismatch: the place of an event in its history, from 1, and what is
     /// wrong there.
     #[error("{} run {} doesn't replay: {} at {place}", self.code(), run.get(), name.code())]
@@ -86,7 +87,7 @@ impl Fault {
         ensures { result ≡ fault_code self }
     {
         match self {
-            Fault::NoMemory => Code::NoMemory,
+            Fault::NoMemory(no_memory) => no_memory.code(),
             Fault::Mismatch { .. } => Code::Mismatch,
             Fault::NoRun => Code::NoRun,
             Fault::StoreRefused => Code::StoreRefused,
@@ -105,10 +106,10 @@ impl From<AllocError> for Fault {
     ghost use Rattle.std.specs.Prelude.{◌≡◌};
     ghost use Rattle.flow_base.specs.declared.fault.Fault.TheVariants.{NoMemory};
 
-    ghost from_gives = { λ _ e. e ≡ NoMemory };
+    ghost from_gives = { λ _ e. e ≡ NoMemory _ };
 
-    fn from(_error: AllocError) -> Fault {
-        Fault::NoMemory
+    fn from(refused: AllocError) -> Fault {
+        Fault::NoMemory(NoMemory::from(refused))
     }
 }
 
@@ -116,9 +117,9 @@ impl<T: Drop> From<AllocFailed<T>> for Fault {
     ghost use Rattle.std.specs.Prelude.{◌≡◌};
     ghost use Rattle.flow_base.specs.declared.fault.Fault.TheVariants.{NoMemory};
 
-    ghost from_gives = { λ _ e. e ≡ NoMemory };
+    ghost from_gives = { λ _ e. e ≡ NoMemory _ };
 
-    fn from(_error: AllocFailed<T>) -> Fault {
-        Fault::NoMemory
+    fn from(refused: AllocFailed<T>) -> Fault {
+        Fault::NoMemory(NoMemory::from(refused))
     }
 }

@@ -9,6 +9,7 @@ ghost use Rattle.flow_base.specs.Fields.{left};
 
 use crate::encoding::{any_values_of_json, values_of_json};
 use crate::event::Cause;
+use crate::memory::NoMemory;
 use crate::number::{EventId, LAST_MOMENT, LAST_NUMBER, Moment, RunId, TextNo};
 use crate::sequence::Sequence;
 use crate::text::{Key, RawText, Text};
@@ -20,7 +21,7 @@ use std::alloc::{AllocError, AllocFailed, Global};
 #[derive(Clone, Copy, Debug, PartialEq, Eq)]
 pub enum Refused {
     /// A growth of memory was refused.
-    Memory,
+    Memory(NoMemory),
     /// The JSON isn't what is read.
     Unfit,
 }
@@ -29,10 +30,10 @@ impl From<AllocError> for Refused {
     ghost use Rattle.std.specs.Prelude.{◌≡◌};
     ghost use Rattle.flow_base.specs.declared.fields.Refused.TheVariants.{Memory};
 
-    ghost from_gives = { λ _ e. e ≡ Memory };
+    ghost from_gives = { λ _ e. e ≡ Memory _ };
 
-    fn from(_error: AllocError) -> Refused {
-        Refused::Memory
+    fn from(refused: AllocError) -> Refused {
+        Refused::Memory(NoMemory::from(refused))
     }
 }
 
@@ -40,10 +41,10 @@ impl<T: Drop> From<AllocFailed<T>> for Refused {
     ghost use Rattle.std.specs.Prelude.{◌≡◌};
     ghost use Rattle.flow_base.specs.declared.fields.Refused.TheVariants.{Memory};
 
-    ghost from_gives = { λ _ e. e ≡ Memory };
+    ghost from_gives = { λ _ e. e ≡ Memory _ };
 
-    fn from(_error: AllocFailed<T>) -> Refused {
-        Refused::Memory
+    fn from(refused: AllocFailed<T>) -> Refused {
+        Refused::Memory(NoMemory::from(refused))
     }
 }
 
@@ -55,7 +56,7 @@ impl From<ValueFault> for Refused {
 
     fn from(fault: ValueFault) -> Refused {
         match fault {
-            ValueFault::NoMemory => Refused::Memory,
+            ValueFault::NoMemory(no_memory) => Refused::Memory(no_memory),
             ValueFault::NotAValue => Refused::Unfit,
             ValueFault::TooLong => Refused::Unfit,
         }

@@ -9,6 +9,7 @@ pub mod encoding;
 pub mod event;
 pub mod fault;
 pub mod fields;
+pub mod memory;
 mod names;
 pub mod number;
 pub mod sequence;

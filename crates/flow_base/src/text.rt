@@ -45,6 +45,15 @@ impl Text {
         Ok(Text { text })
     }
 
+    /// The text of characters that are known to be few enough, so that nothing but memory can be wanting.
+    pub fn fitting(alloc: Global, text: &str) -> Result<Text, AllocError>
+        requires { length text.now ≤ TEXT_LIMIT }
+        ensures { IfOk result (λ t. t ≡ text.now) }
+    {
+        let text = String::from_str(alloc, text)?;
+        Ok(Text { text })
+    }
+
     /// No text at all.
     pub fn empty(alloc: Global) -> Text
         ensures { result ≡ [] }
@@ -138,6 +147,16 @@ impl Key {
         if text.len() > KEY_LIMIT {
             return Err(ValueFault::TooLong);
         }
+        let text = String::from_str(alloc, text)?;
+        Ok(Key { text })
+    }
+
+    /// The key of characters that are known to be one, so that nothing but memory can be wanting.
+    pub fn fitting(alloc: Global, text: &str) -> Result<Key, AllocError>
+        requires some { 1 ≤ length text.now }
+        requires few { length text.now ≤ KEY_LIMIT }
+        ensures { IfOk result (λ k. k ≡ text.now) }
+    {
         let text = String::from_str(alloc, text)?;
         Ok(Key { text })
     }

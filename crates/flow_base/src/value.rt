@@ -2,6 +2,7 @@ ghost use Rattle.std.specs.Prelude.{◌≡◌, IsTrue, ◌↔◌, IfOk};
 ghost use Rattle.flow_base.specs.Kinds.{kind_of_value, value_fault_code};
 
 use crate::code::Code;
+use crate::memory::NoMemory;
 use crate::text::Text;
 use std::alloc::{AllocError, AllocFailed, Global};
 
@@ -56,7 +57,7 @@ impl Value {
 #[derive(Debug, Drop, thiserror::Error)]
 pub enum ValueFault {
     #[error("E01 out of memory")]
-    NoMemory,
+    NoMemory(NoMemory),
     #[error("E02 not a value")]
     NotAValue,
     #[error("E03 too long")]
@@ -69,7 +70,7 @@ impl ValueFault {
         ensures { result ≡ value_fault_code self.now }
     {
         match self {
-            ValueFault::NoMemory => Code::NoMemory,
+            ValueFault::NoMemory(no_memory) => no_memory.code(),
             ValueFault::NotAValue => Code::NotAValue,
             ValueFault::TooLong => Code::TooLong,
         }
@@ -80,10 +81,10 @@ impl From<AllocError> for ValueFault {
     ghost use Rattle.std.specs.Prelude.{◌≡◌};
     ghost use Rattle.flow_base.specs.declared.value.ValueFault.TheVariants.{NoMemory};
 
-    ghost from_gives = { λ _ e. e ≡ NoMemory };
+    ghost from_gives = { λ _ e. e ≡ NoMemory _ };
 
-    fn from(_error: AllocError) -> ValueFault {
-        ValueFault::NoMemory
+    fn from(refused: AllocError) -> ValueFault {
+        ValueFault::NoMemory(NoMemory::from(refused))
     }
 }
 
@@ -91,9 +92,9 @@ impl<T: Drop> From<AllocFailed<T>> for ValueFault {
     ghost use Rattle.std.specs.Prelude.{◌≡◌};
     ghost use Rattle.flow_base.specs.declared.value.ValueFault.TheVariants.{NoMemory};
 
-    ghost from_gives = { λ _ e. e ≡ NoMemory };
+    ghost from_gives = { λ _ e. e ≡ NoMemory _ };
 
-    fn from(_error: AllocFailed<T>) -> ValueFault {
-        ValueFault::NoMemory
+    fn from(refused: AllocFailed<T>) -> ValueFault {
+        ValueFault::NoMemory(NoMemory::from(refused))
     }
 }

@@ -59,7 +59,7 @@ impl Positions {
         requires last { capacity ≤ 4096 }
         ensures empty { IfOk result (λ p. p.entries ≡ []) }
         ensures capacity { IfOk result (λ p. p.capacity ≡ capacity) }
-        ensures memory { IfErr result (λ e. e ≡ Fault.NoMemory) }
+        ensures memory { IfErr result (λ e. e ≡ Fault.NoMemory _) }
     {
         let capacity = NonZeroUsize::new(capacity).unwrap();
         let cache = LruCache::new(alloc, capacity)?;

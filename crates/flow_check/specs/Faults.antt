@@ -8,14 +8,14 @@ use Rattle.flow_check.specs.declared.fault.CheckFault.{CheckFault}
 use Rattle.flow_check.specs.declared.fault.CheckFault.TheVariants as fault
 
 abbrev pub check_fault_code : CheckFault → Code
-check_fault_code fault.NoMemory = code.NoMemory
+check_fault_code (fault.NoMemory _) = code.NoMemory
 check_fault_code (fault.Rule f) = f.code
 
 abbrev pub check_fault_place : CheckFault → Option ℕ
-check_fault_place fault.NoMemory = None
+check_fault_place (fault.NoMemory _) = None
 check_fault_place (fault.Rule f) = Some f.at
 
 -- what `check` answers for a program that it refuses
 abbrev pub IsCheckFault : Program → CheckFault → Type 0
-IsCheckFault p fault.NoMemory = Unit {0}
+IsCheckFault p (fault.NoMemory _) = Unit {0}
 IsCheckFault p (fault.Rule f) = IsFirstFault p f × (first_fault p ≡ Some f)

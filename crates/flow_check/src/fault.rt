@@ -3,13 +3,14 @@ ghost use Rattle.flow_check.specs.Faults.{check_fault_code, check_fault_place};
 
 use flow_base::code::Code;
 use flow_base::command::TextFault;
+use flow_base::memory::NoMemory;
 use std::alloc::AllocError;
 
 /// Why a program isn't checked.
 #[derive(Debug, Drop, thiserror::Error)]
 pub enum CheckFault {
     #[error("E01 out of memory")]
-    NoMemory,
+    NoMemory(NoMemory),
     /// E20 to E29: the rule that is broken at the least place, and of those there the one with the lowest number.
     #[error("a checking rule is broken: {0:?}")]
     Rule(TextFault),
@@ -21,7 +22,7 @@ impl CheckFault {
         ensures { result ≡ check_fault_code self.now }
     {
         match self {
-            CheckFault::NoMemory => Code::NoMemory,
+            CheckFault::NoMemory(no_memory) => no_memory.code(),
             CheckFault::Rule(fault) => fault.code,
         }
     }
@@ -31,7 +32,7 @@ impl CheckFault {
         ensures { result ≡ check_fault_place self.now }
     {
         match self {
-            CheckFault::NoMemory => None,
+            CheckFault::NoMemory(_) => None,
             CheckFault::Rule(fault) => Some(fault.at),
         }
     }
@@ -41,9 +42,9 @@ impl From<AllocError> for CheckFault {
     ghost use Rattle.std.specs.Prelude.{◌≡◌};
     ghost use Rattle.flow_check.specs.declared.fault.CheckFault.TheVariants.{NoMemory};
 
-    ghost from_gives = { λ _ e. e ≡ NoMemory };
+    ghost from_gives = { λ _ e. e ≡ NoMemory _ };
 
-    fn from(_error: AllocError) -> CheckFault {
-        CheckFault::NoMemory
+    fn from(refused: AllocError) -> CheckFault {
+        CheckFault::NoMemory(NoMemory::from(refused))
     }
 }

@@ -29,14 +29,14 @@ impl Texts for Language {
             Ok(program) => match check(alloc, program) {
                 Ok(checked) => Ok(Ok(checked)),
                 Err(CheckFault::Rule(fault)) => Ok(Err(fault)),
-                Err(CheckFault::NoMemory) => Err(AllocError),
+                Err(CheckFault::NoMemory(no_memory)) => Err(no_memory.error()),
             },
-            Err(fault) => match fault.at() {
-                Some(at) => Ok(Err(TextFault {
+            Err(fault) => match fault.place() {
+                Ok(at) => Ok(Err(TextFault {
                     code: fault.code(),
                     at,
                 })),
-                None => Err(AllocError),
+                Err(no_memory) => Err(no_memory.error()),
             },
         }
     }

@@ -74,7 +74,7 @@ module _ (u : Rules) (given_up : Book → List Command → Code → Type 0) wher
   -- ---- what is behind the answers that were written
 
   pub none_fault : (f : Fault) (b : Book) (later : List (List ℕ)) → FaultBehind u given_up f b b later
-  none_fault fault.NoMemory b later = ([], (later, ([], (refl, refl))))
+  none_fault (fault.NoMemory _) b later = ([], (later, ([], (refl, refl))))
   none_fault (fault.Mismatch run place name) b later = tt
   none_fault fault.NoRun b later = tt
   none_fault fault.StoreRefused b later = refl
@@ -95,7 +95,7 @@ module _ (u : Rules) (given_up : Book → List Command → Code → Type 0) wher
 
   -- these were answered where memory ran out
   fault_behind : (f : Fault) (b b1 : Book) (later : List (List ℕ)) (answers : List Line) → CausedFault f (λ s. ⊥) ⊥ → AreAnswers u given_up b b1 later answers → FaultBehind u given_up f b b1 later
-  fault_behind fault.NoMemory b b1 later answers cause are = (later, ([], (answers, (sym (append-nil later), are))))
+  fault_behind (fault.NoMemory _) b b1 later answers cause are = (later, ([], (answers, (sym (append-nil later), are))))
   fault_behind (fault.Mismatch run place name) b b1 later answers cause are = absurd cause
   fault_behind fault.NoRun b b1 later answers cause are = absurd cause
   fault_behind fault.StoreRefused b b1 later answers cause are = absurd cause
@@ -108,7 +108,7 @@ module _ (u : Rules) (given_up : Book → List Command → Code → Type 0) wher
   fault_behind fault.BadUsage b b1 later answers cause are = absurd cause
 
   fault_longer : (f : Fault) (b b1 : Book) (later more : List (List ℕ)) → FaultBehind u given_up f b b1 later → FaultBehind u given_up f b b1 (later ++ more)
-  fault_longer fault.NoMemory b b1 later more h = (h.0, (h.1.0 ++ more, (h.1.1.0, (ap (λ l. l ++ more) h.1.1.1.0 ∙ append_assoc h.0 h.1.0 more, h.1.1.1.1))))
+  fault_longer (fault.NoMemory _) b b1 later more h = (h.0, (h.1.0 ++ more, (h.1.1.0, (ap (λ l. l ++ more) h.1.1.1.0 ∙ append_assoc h.0 h.1.0 more, h.1.1.1.1))))
   fault_longer (fault.Mismatch run place name) b b1 later more h = tt
   fault_longer fault.NoRun b b1 later more h = tt
   fault_longer fault.StoreRefused b b1 later more h = h

@@ -113,7 +113,7 @@ pub only : (r : Result Command LineFault) (line : List ℕ) → IfOk r (λ c. Is
     → (r ≡ Err fault.NotACommand → IsUtf8 line → option_and_then command_in (read line) ≡ None)
     → (c : Command) → IsCommand c → IsUtf8 line → read line ≡ Some (command_out c) → GivesCommand r c
 only (Ok x) line ok unfit c fits utf8 reads = let e : Some x ≡ Some c = sym ok.1 ∙ line_there line c fits reads in cc
-only (Err fault.NoMemory) line ok unfit c fits utf8 reads = refl
+only (Err (fault.NoMemory _)) line ok unfit c fits utf8 reads = refl
 only (Err fault.NotACommand) line ok unfit c fits utf8 reads = let e : None ≡ Some c = sym (unfit refl utf8) ∙ line_there line c fits reads in absurd (cc)
 
 none_given : (b : Bool) (line : List ℕ) → is_utf8 line ≡ b → (IsUtf8 line → option_and_then command_in (read line) ≡ None) → line_command line ≡ None
@@ -124,5 +124,5 @@ none_given false line is h = rw is refl
 pub exactly : (r : Result Command LineFault) (line : List ℕ) → IfOk r (λ c. IsUtf8 line × (option_and_then command_in (read line) ≡ Some c))
     → (r ≡ Err fault.NotACommand → IsUtf8 line → option_and_then command_in (read line) ≡ None) → GivesLine r (line_command line)
 exactly (Ok c) line ok unfit = rw (is_utf8-from_IsUtf8 line ok.0) ok.1
-exactly (Err fault.NoMemory) line ok unfit = tt
+exactly (Err (fault.NoMemory _)) line ok unfit = tt
 exactly (Err fault.NotACommand) line ok unfit = none_given (is_utf8 line) line refl (unfit refl)

@@ -8,7 +8,7 @@ use Rattle.flow_base.specs.declared.fault.Fault.TheVariants as fault
 use Rattle.flow_cli.specs.Faults.{short_text}
 
 pub two_digits : (f : Fault) → code_number (fault_code f) < 100
-two_digits fault.NoMemory = omega arith
+two_digits (fault.NoMemory _) = omega arith
 two_digits (fault.Mismatch run place name) = omega arith
 two_digits fault.NoRun = omega arith
 two_digits fault.StoreRefused = omega arith

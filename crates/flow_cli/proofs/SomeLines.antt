@@ -130,7 +130,7 @@ module _ (u : Rules) (given_up : Book → List Command → Code → Type 0) wher
 
   -- ---- whatever was written
 
-  pub nothing_left : (b : Book) → StopsBehind u given_up b b (stopped.Refused fault.NoMemory)
+  pub nothing_left : (b : Book) → StopsBehind u given_up b b (stopped.Refused (fault.NoMemory _))
   nothing_left b = record { lines = []; later = []; answers = []; book = b; answers_are = refl; book_is = ([], ([], ([], (refl, refl)))) }
 
   pub leaves_answered : (b b1 : Book) (least n : ℕ) (old new : Option (List ℕ)) → SomeAnswered u given_up b b1 least old new n → LeavesAnswered u given_up b b1 least n

@@ -28,7 +28,7 @@ stop_caused stop.Unknown X P h = h
 stop_caused stop.Halted X P h = h
 
 fault_by : (f : Fault) (X Y : Stop → Type 0) (P Q : Type 0) → ((s : Stop) → X s → Y s) → (P → Q) → CausedFault f X P → CausedFault f Y Q
-fault_by fault.NoMemory X Y P Q g h c = tt
+fault_by (fault.NoMemory _) X Y P Q g h c = tt
 fault_by (fault.Mismatch run place name) X Y P Q g h c = absurd c
 fault_by fault.NoRun X Y P Q g h c = absurd c
 fault_by fault.StoreRefused X Y P Q g h c = h c

@@ -127,7 +127,7 @@ LeavesBook stopped.BadSettings b b1 = ⊥
 -- Behind the answers that were written the next lines may have been answered where memory ran out; of E84 and E85 nothing is
 -- said here.
 abbrev pub FaultBehind : Rules → (Book → List Command → Code → Type 0) → Fault → Book → Book → List (List ℕ) → Type 0
-FaultBehind u given_up fault.NoMemory b b1 later = (next : List (List ℕ)) × ((rest : List (List ℕ)) × ((answers : List Line) × ((later ≡ next ++ rest) × AreAnswers u given_up b b1 next answers)))
+FaultBehind u given_up (fault.NoMemory _) b b1 later = (next : List (List ℕ)) × ((rest : List (List ℕ)) × ((answers : List Line) × ((later ≡ next ++ rest) × AreAnswers u given_up b b1 next answers)))
 FaultBehind u given_up fault.StoreRefused b b1 later = b1 ≡ b
 FaultBehind u given_up f b b1 later = Unit {0}
 

@@ -50,16 +50,16 @@ fault_status f = 3
 -- ---- lines
 
 abbrev pub line_fault_code : LineFault → Code
-line_fault_code line_fault.NoMemory = code.NoMemory
+line_fault_code (line_fault.NoMemory _) = code.NoMemory
 line_fault_code line_fault.NotACommand = code.NotAValue
 
 abbrev pub line_fault_of : Refused → LineFault
-line_fault_of refused.Memory = line_fault.NoMemory
+line_fault_of (refused.Memory _) = line_fault.NoMemory _
 line_fault_of refused.Unfit = line_fault.NotACommand
 
 -- no command is given, or memory ran out
 abbrev pub GivesNoLine : LineFault → Option Command → Type 0
-GivesNoLine line_fault.NoMemory given = Unit {0}
+GivesNoLine (line_fault.NoMemory _) given = Unit {0}
 GivesNoLine line_fault.NotACommand given = given ≡ None
 
 -- Ok exactly where a command is given, and that one
@@ -70,4 +70,4 @@ GivesLine (Err f) given = GivesNoLine f given
 -- the reader gave this command, or memory ran out
 abbrev pub GivesCommand : Result Command LineFault → Command → Type 0
 GivesCommand (Ok c) given = c ≡ given
-GivesCommand (Err f) given = f ≡ line_fault.NoMemory
+GivesCommand (Err f) given = f ≡ line_fault.NoMemory _

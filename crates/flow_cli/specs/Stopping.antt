@@ -16,7 +16,7 @@ use Rattle.flow_cli.specs.declared.reply.Line.{Line}
 
 -- E80 comes where there are too many lines; E84 and E85 have their stop's cause. No other fault but E01 is met.
 abbrev pub CausedFault : Fault → (Stop → Type 0) → Type 0 → Type 0
-CausedFault fault.NoMemory cause too_many = Unit {0}
+CausedFault (fault.NoMemory _) cause too_many = Unit {0}
 CausedFault fault.StoreRefused cause too_many = too_many
 CausedFault fault.Unknown cause too_many = cause stop.Unknown
 CausedFault fault.Halted cause too_many = cause stop.Halted
@@ -30,14 +30,14 @@ CausedStop stopped.BadSettings cause too_many = ⊥
 
 -- Memory ran out, or a write failed.
 abbrev pub StopsWriting : Stopped → Type 0
-StopsWriting (stopped.Refused f) = f ≡ fault.NoMemory
+StopsWriting (stopped.Refused f) = f ≡ fault.NoMemory _
 StopsWriting (stopped.Input e) = ⊥
 StopsWriting (stopped.Output e) = Unit {0}
 StopsWriting stopped.BadSettings = ⊥
 
 -- Memory ran out, or a read failed.
 abbrev pub StopsReading : Stopped → Type 0
-StopsReading (stopped.Refused f) = f ≡ fault.NoMemory
+StopsReading (stopped.Refused f) = f ≡ fault.NoMemory _
 StopsReading (stopped.Input e) = Unit {0}
 StopsReading (stopped.Output e) = ⊥
 StopsReading stopped.BadSettings = ⊥

@@ -79,7 +79,7 @@ fn begin(alloc: Global, command: Command) -> Result<Begun, AllocError>
 fn put_line(alloc: Global, line: &[u8], begun: &mut Begun) -> Result<(), Fault>
     ensures commands { OnOk result (begun.new.commands.items ≡ begun.old.commands.items ++ commands_in (line.now ∷ [])) }
     ensures marks { OnOk result (begun.new.marks.items ≡ begun.old.marks.items ++ are_commands (line.now ∷ [])) }
-    ensures memory { IfErr result (λ f. f ≡ Fault.NoMemory) }
+    ensures memory { IfErr result (λ f. f ≡ Fault.NoMemory _) }
 {
     let is_command = match command_of(alloc, line) {
         Ok(command) => {
@@ -87,7 +87,7 @@ fn put_line(alloc: Global, line: &[u8], begun: &mut Begun) -> Result<(), Fault>
             true
         }
         Err(LineFault::NotACommand) => false,
-        Err(LineFault::NoMemory) => return Err(Fault::NoMemory),
+        Err(LineFault::NoMemory(no_memory)) => return Err(Fault::NoMemory(no_memory)),
     };
     begun.marks.push(is_command)?;
     Ok(())

@@ -12,6 +12,7 @@ use crate::work::Work;
 use clap::error::ErrorKind;
 use clap::{Arg, ArgAction, ArgMatches, Command};
 use flow_base::fault::Fault;
+use flow_base::memory::NoMemory;
 use flow_base::number::RunId;
 use std::alloc::{AllocError, Global};
 use std::convert::AsStr;
@@ -233,12 +234,12 @@ fn matched_call<'a>(found: &ArgMatches<'a>) -> Option<Call<'a>>
 }
 
 fn fault_of_kind(kind: ErrorKind) -> Fault
-    ensures memory { kind ≡ OutOfMemory → result ≡ Fault.NoMemory }
-    ensures usage { (result ≡ Fault.NoMemory) ⊎ (result ≡ Fault.BadUsage) }
+    ensures memory { kind ≡ OutOfMemory → result ≡ Fault.NoMemory _ }
+    ensures usage { (result ≡ Fault.NoMemory _) ⊎ (result ≡ Fault.BadUsage) }
     ensures other { (result ≡ Fault.BadUsage) ⊎ (kind ≡ OutOfMemory) }
 {
     match kind {
-        ErrorKind::OutOfMemory => Fault::NoMemory,
+        ErrorKind::OutOfMemory => Fault::NoMemory(NoMemory::told()),
         _ => Fault::BadUsage,
     }
 }
@@ -251,11 +252,12 @@ pub fn call_of<'a, S: AsStr>(alloc: Global, words: &'a [S]) -> Result<Call<'a>, 
     // clap takes the words, and they are that call.
     ensures found { IfOk result (λ c. IsCall (map S.text words.entry.now) (shown c)) }
     // Words that clap takes as a call are answered by it, unless memory runs out.
-    ensures only { (c : Pure) → IsCall (map S.text words.entry.now) c → IfErr result (λ e. e ≡ Fault.NoMemory) }
-    ensures usage { IfErr result (λ e. (e ≡ Fault.NoMemory) ⊎ (e ≡ Fault.BadUsage)) }
+    ensures only { (c : Pure) → IsCall (map S.text words.entry.now) c → IfErr result (λ e. e ≡ Fault.NoMemory _) }
+    ensures usage { IfErr result (λ e. (e ≡ Fault.NoMemory _) ⊎ (e ≡ Fault.BadUsage)) }
 {
-    let Ok(command) = flow_command(alloc) else {
-        return Err(Fault::NoMemory);
+    let command = match flow_command(alloc) {
+        Ok(command) => command,
+        Err(refused) => return Err(Fault::from(refused)),
     };
     match command.try_get_matches_from(words) {
         Ok(found) => match matched_call(&found) {

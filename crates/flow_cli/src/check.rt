@@ -48,7 +48,7 @@ impl Verdict {
 /// Checks a text by what reads texts.
 pub fn check_text<T: Texts>(alloc: Global, texts: &T, text: &str) -> Result<Verdict, Fault>
     ensures verdict { IfOk result (λ v. v ≡ verdict_of (T.meaning text.now)) }
-    ensures memory { IfErr result (λ e. e ≡ Fault.NoMemory) }
+    ensures memory { IfErr result (λ e. e ≡ Fault.NoMemory _) }
 {
     let text = RawText::new(alloc, text)?;
     match texts.read(alloc, &text)? {

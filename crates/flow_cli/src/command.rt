@@ -14,6 +14,7 @@ ghost use Rattle.flow_cli.specs.declared.command.Verb.TheVariants as verb;
 use flow_base::code::Code;
 use flow_base::command::Command;
 use flow_base::fields::{Fields, Refused};
+use flow_base::memory::NoMemory;
 use flow_base::number::LAST_NUMBER;
 use serde_json::Value as Json;
 use std::alloc::Global;
@@ -58,7 +59,7 @@ impl Verb {
 #[derive(Clone, Copy, Debug, PartialEq, Eq, thiserror::Error)]
 pub enum LineFault {
     #[error("E01 out of memory")]
-    NoMemory,
+    NoMemory(NoMemory),
     #[error("E02 not a command")]
     NotACommand,
 }
@@ -69,7 +70,7 @@ impl LineFault {
         ensures { result ≡ line_fault_code self }
     {
         match self {
-            LineFault::NoMemory => Code::NoMemory,
+            LineFault::NoMemory(no_memory) => no_memory.code(),
             LineFault::NotACommand => Code::NotAValue,
         }
     }
@@ -83,7 +84,7 @@ impl From<Refused> for LineFault {
 
     fn from(refused: Refused) -> LineFault {
         match refused {
-            Refused::Memory => LineFault::NoMemory,
+            Refused::Memory(no_memory) => LineFault::NoMemory(no_memory),
             Refused::Unfit => LineFault::NotACommand,
         }
     }
@@ -234,7 +235,7 @@ fn read_line(alloc: Global, line: &[u8]) -> Result<Command, LineFault>
 {
     match Json::from_slice(alloc, line) {
         Ok(json) => Ok(of_json(alloc, json)?),
-        Err(e) if e.is_memory() => Err(LineFault::NoMemory),
+        Err(e) if e.is_memory() => Err(LineFault::NoMemory(NoMemory::told())),
         Err(_) => Err(LineFault::NotACommand),
     }
 }

@@ -6,6 +6,7 @@ ghost use Rattle.flow_cli.specs.Faults.{fault_details, fault_text, short_text, f
 ghost use Rattle.flow_base.specs.declared.fault.Fault.TheVariants.{Damaged};
 
 use flow_base::fault::{Damage, Fault};
+use flow_base::memory::NoMemory;
 use flow_machine::answer::Stop;
 use std::alloc::{AllocError, Global};
 use std::io::ErrorKind;
@@ -63,7 +64,7 @@ pub fn status(fault: &Fault) -> u8
     match fault {
         Fault::Mismatch { .. } | Fault::NoRun => 1,
         Fault::NoFile | Fault::BadUsage => 2,
-        Fault::NoMemory
+        Fault::NoMemory(_)
         | Fault::StoreRefused
         | Fault::NotOurs
         | Fault::BadVersion
@@ -85,11 +86,11 @@ pub fn fault_of_stop(stop: Stop) -> Fault
 
 /// The fault of a file or of words that can't be read: E01 where memory ran out, and else the other one.
 pub fn fault_of_error(kind: ErrorKind, other: Fault) -> Fault
-    ensures memory { kind ≡ OutOfMemory → result ≡ Fault.NoMemory }
+    ensures memory { kind ≡ OutOfMemory → result ≡ Fault.NoMemory _ }
     ensures other { (result ≡ other) ⊎ (kind ≡ OutOfMemory) }
 {
     match kind {
-        ErrorKind::OutOfMemory => Fault::NoMemory,
+        ErrorKind::OutOfMemory => Fault::NoMemory(NoMemory::told()),
         _ => other,
     }
 }

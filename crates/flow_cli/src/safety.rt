@@ -92,7 +92,7 @@ pub fn compare_texts<T: Texts>(
     new: &str,
 ) -> Result<Safety, Fault>
     ensures safety { IfOk result (λ s. s ≡ safety_of (T.meaning old.now) (T.meaning new.now)) }
-    ensures memory { IfErr result (λ e. e ≡ Fault.NoMemory) }
+    ensures memory { IfErr result (λ e. e ≡ Fault.NoMemory _) }
 {
     let old = RawText::new(alloc, old)?;
     let new = RawText::new(alloc, new)?;

@@ -95,8 +95,9 @@ pub fn perform_here<E: Answering>(
     ensures sure { E.is_sure engine.new → E.is_sure engine.old }
     ensures follows { (a : E) → E.follows a engine.old → E.follows a engine.new }
 {
-    let Ok(mut reader) = BufReader::new(rt.alloc(), rt.reader()) else {
-        return Err(Stopped::Refused(Fault::NoMemory));
+    let mut reader = match BufReader::new(rt.alloc(), rt.reader()) {
+        Ok(reader) => reader,
+        Err(error) => return Err(stopped_reading(error)),
     };
     let mut writer = io::writer(rt);
     perform(rt.alloc(), engine, &mut reader, &mut writer, work)

@@ -51,7 +51,7 @@ kept_all g old new b batch rs receipts ends told counts goes = record {
 ---- Why it ends so
 
 pub caused_so : (C : Type 0) (f : ViewFault) → (f ≡ fault.StoreRefused → C) → Caused {A = Unit} (Err f) C
-caused_so C fault.NoMemory h = tt
+caused_so C (fault.NoMemory _) h = tt
 caused_so C fault.StoreRefused h = h refl
 
 pub failed_down : {S : Type 0} (g : Ghosts S) (old new : Stored S) → HasFailed (state_of g old) (state_of g new) → IsDown g old new
@@ -80,11 +80,11 @@ done_on G T (Err f) on h = tt
 
 pub caused_on : {A : Type 0} (C D : Type 0) (r : Result A ViewFault) → (C → D) → Caused r C → Caused r D
 caused_on C D (Ok v) on h = tt
-caused_on C D (Err fault.NoMemory) on h = tt
+caused_on C D (Err (fault.NoMemory _)) on h = tt
 caused_on C D (Err fault.StoreRefused) on h = on h
 
 pub fault_on : (C D : Type 0) (f : ViewFault) → (C → D) → Caused {A = Unit} (Err f) C → Caused {A = Unit} (Err f) D
-fault_on C D fault.NoMemory on h = tt
+fault_on C D (fault.NoMemory _) on h = tt
 fault_on C D fault.StoreRefused on h = on h
 
 -- the cause of a fault that is E80
@@ -93,17 +93,17 @@ cause_of C f is h = subst (λ x. Caused {A = Unit} (Err x) C) is h
 
 pub ends_on : (W V : Type 0) (U T : ViewFault → Type 0) (e : End) → (W → V) → ((f : ViewFault) → U f → T f) → EndsFor W U e → EndsFor V T e
 ends_on W V U T (end.Kept reply) stop cut h = tt
-ends_on W V U T (end.Refused fault.NoMemory) stop cut h = tt
+ends_on W V U T (end.Refused (fault.NoMemory _)) stop cut h = tt
 ends_on W V U T (end.Refused fault.StoreRefused) stop cut h = stop h
 ends_on W V U T (end.Unknown f) stop cut h = cut f h
 
 pub refused_for : (W : Type 0) (U : ViewFault → Type 0) (f : ViewFault) → (f ≡ fault.StoreRefused → W) → EndsFor W U (end.Refused f)
-refused_for W U fault.NoMemory h = tt
+refused_for W U (fault.NoMemory _) h = tt
 refused_for W U fault.StoreRefused h = h refl
 
 pub not_applied_for : {S : Type 0} (g : Ghosts S) (old new : Keeping S) (b : Book) (batch back : List Taken) (f : ViewFault) (U : ViewFault → Type 0)
     → EndsFor (CantBeApplied b (commands_of batch) ⊎ WasGivenUp g old.stored new.stored) U (end.Refused f) → IsFor g old new b batch (outcomes.NotApplied back f)
-not_applied_for g old new b batch back fault.NoMemory U h = tt
+not_applied_for g old new b batch back (fault.NoMemory _) U h = tt
 not_applied_for g old new b batch back fault.StoreRefused U h = inr h
 
 -- what refused the end of a transaction, behind what was done in it

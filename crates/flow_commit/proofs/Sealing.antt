@@ -67,5 +67,5 @@ kept_either g new sure b b' same written still = record {
 
 -- the cause of E80, where a refusal of the tables is told
 pub told_cause : (C : Type 0) (v : ViewFault) (f : Fault) → f ≡ board_fault v → Caused {A = Unit} (Err v) C → f ≡ faults.StoreRefused → C
-told_cause C view.NoMemory f is why e = absurd (let clash = sym is ∙ e in cc)
+told_cause C (view.NoMemory _) f is why e = absurd (let clash = sym is ∙ e in cc)
 told_cause C view.StoreRefused f is why e = why

@@ -119,7 +119,7 @@ pub record IsBoardOf (b : Book) (posted : List Key) (at : ℕ) (it : Boarded) : 
 
 -- why there may be no board: E85 only where the keeper has halted
 abbrev pub IsOfBoard : Bool → Fault → Type 0
-IsOfBoard halted fault.NoMemory = Unit {0}
+IsOfBoard halted (fault.NoMemory _) = Unit {0}
 IsOfBoard halted fault.StoreRefused = Unit {0}
 IsOfBoard halted fault.Halted = halted ≡ true
 IsOfBoard halted _ = ⊥
@@ -130,5 +130,5 @@ draft_of posted at b = record { tasks = ready_tasks posted at b; due = next_due 
 
 -- how a refusal of the tables is told
 abbrev pub board_fault : ViewFault → Fault
-board_fault view.NoMemory = fault.NoMemory
+board_fault (view.NoMemory _) = fault.NoMemory _
 board_fault view.StoreRefused = fault.StoreRefused

@@ -35,8 +35,8 @@ impl Batch {
         ensures back { IfErr result (λ e. e.0 ≡ taken) }
     {
         let mut list = Vec::new(alloc);
-        if list.reserve(1).is_err() {
-            return Err((taken, AllocError));
+        if let Err(refused) = list.reserve(1) {
+            return Err((taken, refused));
         }
         list.push_reserved(taken);
         Ok(Batch { taken: list })

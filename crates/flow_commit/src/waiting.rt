@@ -152,7 +152,7 @@ fn call_at<V: View>(
     let event = view.event(entry.0, entry.1.event)?;
     match called_by(alloc, &event) {
         Ok(call) => Ok(call),
-        Err(_) => Err(ViewFault::NoMemory),
+        Err(refused) => Err(ViewFault::from(refused)),
     }
 }
 
@@ -192,7 +192,7 @@ fn add_ready<V: View>(
     let call = call_at(alloc, view, entry)?;
     match add_task(list, entry, call) {
         Ok(()) => Ok(()),
-        Err(_) => Err(ViewFault::NoMemory),
+        Err(refused) => Err(ViewFault::from(refused)),
     }
 }
 

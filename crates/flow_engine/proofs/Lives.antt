@@ -133,7 +133,7 @@ module _ {S : Type 0} (g : Ghosts S) where
   -- why a batch has ended so, over a book such as commands make
   only_for : (old new : Keeping S) (b : Book) (batch : List Taken) (d : Done) → IsWell b → IsDoneFor g old new b batch d → IsDoneOnlyFor g old new b batch d
   only_for old new b batch (done.Kept receipts) well h = tt
-  only_for old new b batch (done.NotApplied fault.NoMemory) well h = tt
+  only_for old new b batch (done.NotApplied (fault.NoMemory _)) well h = tt
   only_for old new b batch (done.NotApplied fault.StoreRefused) well (inl room) = inl room
   only_for old new b batch (done.NotApplied fault.StoreRefused) well (inr (inl cant)) = inr (inl (only_numbers b (commands_of batch) well cant))
   only_for old new b batch (done.NotApplied fault.StoreRefused) well (inr (inr given_up)) = inr (inr given_up)

@@ -25,7 +25,7 @@ pub gives_none : (old new : List Refused) → new ≡ old → GivesUp old new
 gives_none old new e = record { more = []; are = e ∙ sym (append-nil old); codes = All-nil IsGivenUp }
 
 given_up : (f : ViewFault) (t : Taken) → IsGivenUp (refused_by (view_fault_code f) t)
-given_up view_fault.NoMemory t = inr refl
+given_up (view_fault.NoMemory _) t = inr refl
 given_up view_fault.StoreRefused t = inl refl
 
 all_given_up : (f : ViewFault) (ts : List Taken) → All IsGivenUp (map (refused_by (view_fault_code f)) ts)

@@ -87,7 +87,7 @@ given_fewer (done.Unknown ∷ ds) s h e = omega arith
 given_fewer (done.Halted ∷ ds) s h e = omega arith
 
 pub given_up_by : (f : ViewFault) → IsGivenUp (view_fault_code f)
-given_up_by fault.NoMemory = inr refl
+given_up_by (fault.NoMemory _) = inr refl
 given_up_by fault.StoreRefused = inl refl
 
 replied_caused : (rs : List Receipt) (rest : List Answer) → AreCaused rest → AreCaused (map replied rs ++ rest)
@@ -431,11 +431,11 @@ module _ {S : Type 0} (g : Ghosts S) (old new : Keeping S) (ts : List Taken) (ds
   all_caused l is = subst AreCaused (sym (from_none l is)) (given_caused ds)
 
   pub ends_early : (u : Unanswered) → TellsStop before ds u → EndsEarly old new (commands_of ts) u
-  ends_early unanswered.NoMemory h = absurd h
+  ends_early (unanswered.NoMemory _) h = absurd h
   ends_early (unanswered.Stopped l s) h = subst (λ x. IsStopped old new (commands_of ts) x s) (sym (from_none l.items h.0)) (is_stopped g old new ts ds driven s h.1)
 
   pub leaves_early : (u : Unanswered) → TellsStop before ds u → IsFit g new → (b : Book) → KeepsBook g old b → LeavesBehind g new b (commands_of ts) u
-  leaves_early unanswered.NoMemory h fit b keeps = absurd h
+  leaves_early (unanswered.NoMemory _) h fit b keeps = absurd h
   leaves_early (unanswered.Stopped l s) h fit b keeps = subst (StopsBehind g new b (commands_of ts)) (sym (from_none l.items h.0)) (stops_behind g old new ts ds driven fit b keeps s h.1)
 
 ---- A part of a life
@@ -454,7 +454,7 @@ module _ {S : Type 0} (g : Ghosts S) (old new : Keeping S) (bs : List (List Take
   one_part (Err s) none h = part_of [] (Some s) h.0 h.1
 
   pub early_part : (before : List Answer) → before ≡ [] → (u : Unanswered) → TellsStop before ds u → IsPartUpTo g old new commands u
-  early_part before none unanswered.NoMemory h = absurd h
+  early_part before none (unanswered.NoMemory _) h = absurd h
   early_part before none (unanswered.Stopped l s) h = part_of l.items (Some s) (sym (h.0 ∙ ap (λ x. x ++ given ds) none)) h.1
 
   pub both_parts : {V : Type 0} (items : V → List Answer) (before : List Answer) → before ≡ [] → (r : Result V Unanswered) → IfOk r (λ all. (items all ≡ before ++ given ds) × (first_stop ds ≡ None)) → IfErr r (TellsStop before ds)

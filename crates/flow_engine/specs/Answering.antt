@@ -89,12 +89,12 @@ pub record IsStopped {S : Type 0} (old new : Keeping S) (commands : List Command
 
 -- Why not all commands of a list were answered. Where memory was wanting nothing has changed.
 abbrev pub EndsEarly : {S : Type 0} → Keeping S → Keeping S → List Command → Unanswered → Type 0
-EndsEarly old new commands unanswered.NoMemory = new ≡ old
+EndsEarly old new commands (unanswered.NoMemory _) = new ≡ old
 EndsEarly old new commands (unanswered.Stopped answers s) = IsStopped old new commands answers.items s
 
 -- and what that leaves of a book that was kept
 abbrev pub LeavesBehind : {S : Type 0} → Ghosts S → Keeping S → Book → List Command → Unanswered → Type 0
-LeavesBehind g new b commands unanswered.NoMemory = KeepsBook g new b
+LeavesBehind g new b commands (unanswered.NoMemory _) = KeepsBook g new b
 LeavesBehind g new b commands (unanswered.Stopped answers s) = StopsBehind g new b commands answers.items
 
 ---- Batches of one
@@ -142,7 +142,7 @@ first_stop (done.Halted ∷ ds) = Some stop.Halted
 
 -- what is told where answering ended early, behind answers that were there
 abbrev pub TellsStop : List Answer → List Done → Unanswered → Type 0
-TellsStop before ds unanswered.NoMemory = ⊥
+TellsStop before ds (unanswered.NoMemory _) = ⊥
 TellsStop before ds (unanswered.Stopped answers s) = (answers.items ≡ before ++ given ds) × (first_stop ds ≡ Some s)
 
 ---- A part of a life
@@ -167,5 +167,5 @@ abbrev pub IsPart : {S : Type 0} → Ghosts S → Keeping S → Keeping S → Li
 IsPart g old new commands answers stops = HasRun g old new commands answers stops ⊎ HasNoMemory old new commands answers stops
 
 abbrev pub IsPartUpTo : {S : Type 0} → Ghosts S → Keeping S → Keeping S → List Command → Unanswered → Type 0
-IsPartUpTo g old new commands unanswered.NoMemory = new ≡ old
+IsPartUpTo g old new commands (unanswered.NoMemory _) = new ≡ old
 IsPartUpTo g old new commands (unanswered.Stopped answers s) = IsPart g old new commands answers.items (Some s)

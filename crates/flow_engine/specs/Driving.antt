@@ -35,7 +35,7 @@ IsDoneFor g old new b batch done.Halted = Unit {0}
 -- The same over a book such as commands make, where a batch can't be applied only where the numbers run out.
 abbrev pub IsDoneOnlyFor : {S : Type 0} → Ghosts S → Keeping S → Keeping S → Book → List Taken → Done → Type 0
 IsDoneOnlyFor g old new b batch (done.Kept receipts) = Unit {0}
-IsDoneOnlyFor g old new b batch (done.NotApplied fault.NoMemory) = Unit {0}
+IsDoneOnlyFor g old new b batch (done.NotApplied (fault.NoMemory _)) = Unit {0}
 IsDoneOnlyFor g old new b batch (done.NotApplied fault.StoreRefused) = HasNoRoom old.kept batch ⊎ (NumbersRunOut b (commands_of batch) ⊎ WasGivenUp g old.stored new.stored)
 IsDoneOnlyFor g old new b batch done.Unknown = (f : ViewFault) × WasCutOff g old.stored new.stored f
 IsDoneOnlyFor g old new b batch done.Halted = Unit {0}

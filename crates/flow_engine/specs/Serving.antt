@@ -56,4 +56,4 @@ StopsFor old new was now waiting f = ((f ≡ fault.Unknown) × EndsInDoubt old n
 
 -- why an engine serves no more, and what has answered the submissions
 abbrev pub EndsFor : {S : Type 0} → Keeping S → Keeping S → List Refused → List Refused → List Taken → Fault → Type 0
-EndsFor old new was now waiting f = StopsFor old new was now waiting f ⊎ ((f ≡ fault.NoMemory) × EndsUnserved old new was now waiting)
+EndsFor old new was now waiting f = StopsFor old new was now waiting f ⊎ ((f ≡ fault.NoMemory _) × EndsUnserved old new was now waiting)

@@ -12,6 +12,7 @@ use crate::drive::drive;
 use crate::engine::Engine;
 use flow_base::code::Code;
 use flow_base::command::{Command, Reply};
+use flow_base::memory::NoMemory;
 use flow_commit::batch::Batch;
 use flow_machine::answer::{Answer, Answering, Stop, Together};
 use flow_machine::submission::{Receipt, Taken};
@@ -126,7 +127,7 @@ fn answered<S: Alter>(engine: &mut Engine<S>, batches: Vec<Batch>) -> Result<Ans
 {
     match drive(engine, batches) {
         Ok(dones) => one_answer(dones),
-        Err((_, _)) => Ok(Answer::NotApplied(Code::NoMemory)),
+        Err((_, refused)) => Ok(Answer::NotApplied(NoMemory::from(refused).code())),
     }
 }
 
@@ -152,7 +153,7 @@ fn all_answered<S: Alter>(
 {
     match drive(engine, batches) {
         Ok(dones) => all_answers(answers, dones),
-        Err((_, _)) => Err(Unanswered::NoMemory),
+        Err((_, refused)) => Err(Unanswered::NoMemory(NoMemory::from(refused))),
     }
 }
 
@@ -175,7 +176,7 @@ impl<S: Alter> Engine<S> {
         let ticket = self.tickets(1);
         match one_batch(self.alloc(), Taken { ticket, command }) {
             Ok(batches) => answered(self, batches),
-            Err(_) => Ok(Answer::NotApplied(Code::NoMemory)),
+            Err(refused) => Ok(Answer::NotApplied(NoMemory::from(refused).code())),
         }
     }
 
@@ -203,11 +204,11 @@ impl<S: Alter> Engine<S> {
         let first = self.tickets(commands.len() as u64);
         let answers = match room_for(self.alloc(), commands.as_slice()) {
             Ok(answers) => answers,
-            Err(_) => return Err(Unanswered::NoMemory),
+            Err(refused) => return Err(Unanswered::NoMemory(NoMemory::from(refused))),
         };
         match cut(self.alloc(), first, commands) {
             Ok(batches) => all_answered(self, batches, answers),
-            Err(_) => Err(Unanswered::NoMemory),
+            Err(refused) => Err(Unanswered::from(refused)),
         }
     }
 }

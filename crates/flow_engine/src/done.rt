@@ -1,4 +1,5 @@
 //! What becomes of batches, and of lists of commands.
+use flow_base::memory::NoMemory;
 use flow_machine::answer::{Answer, Stop};
 use flow_machine::submission::Receipt;
 use flow_view::fault::ViewFault;
@@ -20,7 +21,7 @@ pub enum Done {
 #[derive(Drop)]
 pub enum Unanswered {
     /// E01, before the first command: nothing has changed.
-    NoMemory,
+    NoMemory(NoMemory),
     /// E84 or E85, behind the answers to the first commands. None after these was applied, but perhaps the one at which the
     /// stop came.
     Stopped(Vec<Answer>, Stop),

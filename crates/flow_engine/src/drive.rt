@@ -70,8 +70,8 @@ pub fn drive<S: Alter>(
     ensures same { IfErr result (λ _. engine.new ≡ engine.old) }
 {
     let mut dones = Vec::new(engine.alloc());
-    if dones.reserve(batches.len()).is_err() {
-        return Err((batches, AllocError));
+    if let Err(refused) = dones.reserve(batches.len()) {
+        return Err((batches, refused));
     }
     for batch in batches {
         dones.push_reserved(done_with(engine, batch));

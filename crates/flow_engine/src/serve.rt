@@ -12,6 +12,7 @@ ghost use Rattle.flow_engine.specs.Serving.{EndsFor, GivesUp, StopsAt, StopsFor,
 use crate::engine::Engine;
 use flow_base::code::Code;
 use flow_base::fault::Fault;
+use flow_base::memory::NoMemory;
 use flow_commit::batch::Batch;
 use flow_commit::outcome::Outcome;
 use flow_hub::publisher::Publisher;
@@ -90,7 +91,7 @@ fn try_board<S: Alter, B: Room, R: Wait, C: Clock>(
     match engine.board(publisher.posted(), clock.now()) {
         Ok(board) => match publisher.post(rt, board) {
             Ok(()) => Ok(()),
-            Err((_board, _no_memory)) => Err(Code::NoMemory),
+            Err((_board, refused)) => Err(NoMemory::from(refused).code()),
         },
         Err(fault) => Err(fault.code()),
     }
@@ -231,9 +232,15 @@ impl<S: Alter> Engine<S> {
                     Err(fault)
                 }
             },
-            Err(_) => {
-                turn_away(rt, self.alloc(), publisher, most, Code::NoMemory);
-                Err(Fault::NoMemory)
+            Err(refused) => {
+                turn_away(
+                    rt,
+                    self.alloc(),
+                    publisher,
+                    most,
+                    NoMemory::from(refused).code(),
+                );
+                Err(Fault::from(refused))
             }
         }
     }

@@ -15,6 +15,7 @@ use crate::drive::drive;
 use crate::engine::Engine;
 use flow_base::code::Code;
 use flow_base::command::{Command, Reply};
+use flow_base::memory::NoMemory;
 use flow_commit::batch::Batch;
 use flow_machine::answer::{Stop, Together};
 use flow_machine::submission::{Receipt, Taken};
@@ -103,7 +104,7 @@ fn answered<S: Alter>(
 {
     match drive(engine, batches) {
         Ok(mut dones) => told_of(dones.remove(0), replies),
-        Err((_, _)) => Ok(Together::NotApplied(Code::NoMemory)),
+        Err((_, refused)) => Ok(Together::NotApplied(NoMemory::from(refused).code())),
     }
 }
 
@@ -133,15 +134,15 @@ impl<S: Alter> Engine<S> {
         let first = self.tickets(commands.len() as u64);
         let replies = match room_for(self.alloc(), commands.len()) {
             Ok(replies) => replies,
-            Err(_) => return Ok(Together::NotApplied(Code::NoMemory)),
+            Err(refused) => return Ok(Together::NotApplied(NoMemory::from(refused).code())),
         };
         let taken = match taken_of(self.alloc(), first, commands) {
             Ok(taken) => taken,
-            Err(_) => return Ok(Together::NotApplied(Code::NoMemory)),
+            Err(refused) => return Ok(Together::NotApplied(NoMemory::from(refused).code())),
         };
         match one_batch(self.alloc(), taken) {
             Ok(batches) => answered(self, batches, replies),
-            Err(_) => Ok(Together::NotApplied(Code::NoMemory)),
+            Err(refused) => Ok(Together::NotApplied(NoMemory::from(refused).code())),
         }
     }
 }

@@ -13,7 +13,7 @@ denied_number denied.InboxFull = 90
 denied_number denied.HubClosed = 91
 
 abbrev pub unseated_number : Unseated → ℕ
-unseated_number unseated.NoMemory = 1
+unseated_number (unseated.NoMemory _) = 1
 unseated_number unseated.InboxFull = 90
 
 abbrev pub why_number : Why → ℕ

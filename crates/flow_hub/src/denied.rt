@@ -2,6 +2,8 @@
 ghost use Rattle.std.specs.Prelude.{◌≡◌};
 ghost use Rattle.flow_hub.specs.Refusals.{denied_number, unseated_number};
 
+use flow_base::memory::NoMemory;
+
 /// Why a command isn't taken in. It comes back.
 #[derive(Clone, Copy, Debug, PartialEq, Eq, thiserror::Error)]
 pub enum Denied {
@@ -27,7 +29,7 @@ impl Denied {
 #[derive(Clone, Copy, Debug, PartialEq, Eq, thiserror::Error)]
 pub enum Unseated {
     #[error("E01 out of memory")]
-    NoMemory,
+    NoMemory(NoMemory),
     #[error("E90 inbox full")]
     InboxFull,
 }
@@ -38,7 +40,7 @@ impl Unseated {
         ensures { result ≡ unseated_number self }
     {
         match self {
-            Unseated::NoMemory => 1,
+            Unseated::NoMemory(_) => 1,
             Unseated::InboxFull => 90,
         }
     }

@@ -10,6 +10,7 @@ use crate::seats::{Opened, Room, Seats};
 use crate::state::State;
 use crate::submitter::Submitter;
 use crate::waits::Waits;
+use flow_base::memory::NoMemory;
 use sqlite::Alter;
 use std::alloc::{AllocError, Global};
 use std::sync::{Arc, Condvar, Mutex, MutexGuard, Wait};
@@ -87,8 +88,9 @@ impl<S: Alter, B: Room> Hub<S, B> {
         ensures id { IfOk result (λ m. m.was.members ≡ m.id + 1) }
         ensures share { IfOk result (λ m. (m.parts ≡ 1) × (m.amount ≡ 0)) }
     {
-        let Ok(shared) = Arc::try_clone(&self.shared) else {
-            return Err(Unseated::NoMemory);
+        let shared = match Arc::try_clone(&self.shared) {
+            Ok(shared) => shared,
+            Err(refused) => return Err(Unseated::NoMemory(NoMemory::from(refused))),
         };
         let all = shared_in(&self.shared);
         let Some((id, seat, share)) = all.lock(rt).enroll(&all.seats) else {
@@ -98,12 +100,14 @@ impl<S: Alter, B: Room> Hub<S, B> {
     }
 
     /// Who gives the tasks out that are posted. None where it was asked for before, or there is no memory.
-    pub fn feed<R: Wait>(&self, rt: &R) -> Option<Feed<S, B>>
-        ensures { IfSome result (λ f. f ≡ nothing) }
+    pub fn feed<R: Wait>(&self, rt: &R) -> Result<Option<Feed<S, B>>, AllocError>
+        ensures { IfOk result (λ o. IfSome o (λ f. f ≡ nothing)) }
     {
-        let shared = Arc::try_clone(&self.shared).ok()?;
-        let seat = shared_in(&self.shared).lock(rt).take_feed()?;
-        Some(Feed::over(shared, seat))
+        let shared = Arc::try_clone(&self.shared)?;
+        match shared_in(&self.shared).lock(rt).take_feed() {
+            Some(seat) => Ok(Some(Feed::over(shared, seat))),
+            None => Ok(None),
+        }
     }
 
     /// Nothing more is taken in, what waits is still taken, and who waits is woken.

@@ -28,7 +28,7 @@ fn add(keys: &mut Keys, task: &Task) -> Result<bool, AllocError>
 {
     match keys.insert(key_of(task)) {
         Ok(new) => Ok(new),
-        Err(_) => Err(AllocError),
+        Err(refused) => Err(AllocError::from(refused)),
     }
 }
 

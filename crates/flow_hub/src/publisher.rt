@@ -163,8 +163,8 @@ impl<S: Alter, B: Room> Publisher<S, B> {
             .lock(rt)
             .post(self.alloc, &shared.seats, me, &mut self.keys, board);
         self.seat = me;
-        if let Err(board) = answer {
-            return Err((board, AllocError));
+        if let Err(refused) = answer {
+            return Err(refused);
         }
         shared.posted.notify_all();
         shared.turned.notify_all();

@@ -49,8 +49,8 @@ fn closed<B: Room, R: Wait + Timing>(
     let clock = Still {
         now: Moment::new(1000)?,
     };
-    let mut feed = hub.feed(rt)?;
-    let second = hub.feed(rt).is_some();
+    let mut feed = hub.feed(rt).ok()??;
+    let second = hub.feed(rt).ok()?.is_some();
     let mut submitter = hub.submitter(rt).ok()?;
     hub.close(rt);
     Some((second, asked_all(rt, &mut feed, &mut submitter, &clock)))

@@ -9,7 +9,7 @@ use std::test::Fail;
 fn code_of(alloc: Global, line: &[u8]) -> u8 {
     match command_of(alloc, line) {
         Ok(_) => 0,
-        Err(LineFault::NoMemory) => 1,
+        Err(LineFault::NoMemory(_)) => 1,
         Err(LineFault::NotACommand) => 2,
     }
 }

@@ -2,6 +2,7 @@
 use flow_base::code::Code;
 use flow_base::event::Wrong;
 use flow_base::fault::{Damage, Fault, Table};
+use flow_base::memory::NoMemory;
 use flow_base::number::RunId;
 use flow_cli::fault::{fault_line, status};
 use std::alloc::Global;
@@ -17,7 +18,7 @@ fn is_written(alloc: Global, fault: &Fault, line: &str) -> bool {
 #[test]
 fn faults(rt: HostRuntime) -> Result<(), Fail> {
     let rows = [
-        (Fault::NoMemory, "flow: E01", 3),
+        (Fault::NoMemory(NoMemory::told()), "flow: E01", 3),
         (Fault::NoRun, "flow: E70", 1),
         (Fault::StoreRefused, "flow: E80", 3),
         (Fault::NotOurs, "flow: E81", 3),

@@ -7,7 +7,7 @@ use Rattle.flow_view.specs.declared.fault.ViewFault.TheVariants as fault
 
 -- A refusal that is handed on has every cause that follows from its cause, whatever its result would have been.
 pub caused_by : (f : ViewFault) (X Y : Type 0) → (X → Y) → Caused {A = Unit {0}} (Err f) X → Caused {A = Unit {0}} (Err f) Y
-caused_by fault.NoMemory X Y g h = tt
+caused_by (fault.NoMemory _) X Y g h = tt
 caused_by fault.StoreRefused X Y g h = g h
 
 -- the second side is another

@@ -35,7 +35,7 @@ sticks_as (Err f) sure b X Y on h = h
 
 pub caused_as : {A : Type 0} (r : Result A ViewFault) (R X Y : Type 0) → (X → Y) → Caused r (R ⊎ X) → Caused r (R ⊎ Y)
 caused_as (Ok x) R X Y on h = tt
-caused_as (Err fault.NoMemory) R X Y on h = tt
+caused_as (Err (fault.NoMemory _)) R X Y on h = tt
 caused_as (Err fault.StoreRefused) R X Y on (inl x) = inl x
 caused_as (Err fault.StoreRefused) R X Y on (inr x) = inr (on x)
 

@@ -52,7 +52,7 @@ impl Seats {
         ensures none { IfOk result (λ s. HasNone s) }
         // So they are fit for every book.
         ensures fit { IfOk result (λ s. (m : Meaning) (b : Book) → FitSeats m b s) }
-        ensures memory { IfErr result (λ e. e ≡ Fault.NoMemory) }
+        ensures memory { IfErr result (λ e. e ≡ Fault.NoMemory _) }
     {
         let kept = Positions::new(alloc, capacity)?;
         Ok(Seats {
@@ -73,7 +73,7 @@ impl Seats {
         events: u64,
     ) -> Result<Option<Stance>, ViewFault>
         ensures found { IfOk result (λ o. IfSome o (λ s. IsPlace self.old run text events s)) }
-        ensures memory { IfErr result (λ e. e ≡ ViewFault.NoMemory) }
+        ensures memory { IfErr result (λ e. e ≡ ViewFault.NoMemory _) }
         ensures no_more { KeepsNoMore self.old self.new }
         ensures ahead { self.new.ahead.items ≡ self.old.ahead.items }
     {
@@ -135,7 +135,7 @@ fn ahead_at(
     events: u64,
 ) -> Result<Option<Stance>, ViewFault>
     ensures found { IfOk result (λ o. IfSome o (IsCopyAhead ahead.now run text events)) }
-    ensures memory { IfErr result (λ e. e ≡ ViewFault.NoMemory) }
+    ensures memory { IfErr result (λ e. e ≡ ViewFault.NoMemory _) }
 {
     for led in ahead {
         if led.is_at(run, text, events) {
@@ -147,11 +147,11 @@ fn ahead_at(
 
 fn copied(alloc: Global, stance: &Stance) -> Result<Stance, ViewFault>
     ensures same { IfOk result (λ s. (p : Tree) → config_of p s ≡ config_of p stance.now) }
-    ensures memory { IfErr result (λ e. e ≡ ViewFault.NoMemory) }
+    ensures memory { IfErr result (λ e. e ≡ ViewFault.NoMemory _) }
 {
     match stance.copy(alloc) {
         Ok(copy) => Ok(copy),
-        Err(_) => Err(ViewFault::NoMemory),
+        Err(refused) => Err(ViewFault::from(refused)),
     }
 }
 
@@ -164,7 +164,7 @@ fn kept_at(
     events: u64,
 ) -> Result<Option<Stance>, ViewFault>
     ensures found { IfOk result (λ o. IfSome o (λ s. IsCopy kept.old.entries run text events s)) }
-    ensures memory { IfErr result (λ e. e ≡ ViewFault.NoMemory) }
+    ensures memory { IfErr result (λ e. e ≡ ViewFault.NoMemory _) }
     ensures no_more { IsWithin kept.old.entries kept.new.entries }
 {
     match kept.find(run, text, events) {

@@ -14,7 +14,7 @@ use flow_base::value::{Kind, Value};
 use flow_check::checked::Checked;
 use flow_model::kinds::has_kind;
 use flow_view::fault::ViewFault;
-use std::alloc::Global;
+use std::alloc::{AllocError, Global};
 
 fn is_name(signal: &Key, name: &RawText) -> bool
     ensures { result ≡ bytes_eq signal.now name.now }
@@ -22,15 +22,16 @@ fn is_name(signal: &Key, name: &RawText) -> bool
     signal.as_str() == name.as_str()
 }
 
-/// What the signal of a name carries; none where no such signal is declared.
-fn signal_of(declarations: &[Declaration], name: &RawText) -> Option<Kind>
-    ensures { result ≡ declared.signal_of (map shown_declaration declarations.now) name.now }
+/// The signal of a name as it is declared, and what it carries; none where no such signal is declared.
+fn signal_of<'a>(declarations: &'a [Declaration], name: &RawText) -> Option<(&'a Key, Kind)>
+    ensures kind { MatchOption result (declared.signal_of (map shown_declaration declarations.now) name.now ≡ None) (λ s. declared.signal_of (map shown_declaration declarations.now) name.now ≡ Some s.1) }
+    ensures name { IfSome result (λ s. s.0.now ≡ name.now) }
 {
     for declaration in declarations {
         match declaration {
             Declaration::Signal(_, _, signal, kind) => {
                 if is_name(signal, name) {
-                    return Some(*kind);
+                    return Some((signal, *kind));
                 }
             }
             Declaration::Activity(_, _, _, _, _) => {}
@@ -39,43 +40,49 @@ fn signal_of(declarations: &[Declaration], name: &RawText) -> Option<Kind>
     None
 }
 
-fn carries(program: &Checked, name: &RawText) -> Option<Kind>
-    ensures { result ≡ declared.signal_of (shown_checked program.now).declarations name.now }
+fn declared_as<'a>(program: &'a Checked, name: &RawText) -> Option<(&'a Key, Kind)>
+    ensures kind { MatchOption result (declared.signal_of (shown_checked program.now).declarations name.now ≡ None) (λ s. declared.signal_of (shown_checked program.now).declarations name.now ≡ Some s.1) }
+    ensures name { IfSome result (λ s. s.0.now ≡ name.now) }
 {
     signal_of(&program.program().declarations, name)
 }
 
-/// The input of a signal.
-pub fn input_of(
+fn signaled(
     alloc: Global,
     request: &Key,
-    name: &RawText,
+    name: &Key,
     value: &Value,
-) -> Result<Input, ViewFault>
-    ensures input { IfOk result (λ i. i ≡ Input.Signaled name.now request.now value.now) }
-    ensures cause { Caused result ⊥ }
+) -> Result<Input, AllocError>
+    ensures { IfOk result (λ i. i ≡ Input.Signaled name.now request.now value.now) }
 {
-    // A signal that is declared has a key for its name, so memory alone can be wanting.
-    let Ok(name) = Key::new(alloc, name.as_str()) else {
-        return Err(ViewFault::NoMemory);
-    };
+    let name = name.copy(alloc)?;
     let request = request.copy(alloc)?;
     let value = value.copy(alloc)?;
     Ok(Input::Signaled(name, request, value))
 }
 
-/// The first refusal of a signal by the program of the run that is to take it.
+/// The input of a signal; or its first refusal by the program of the run that is to take it.
 #[tactic(auto, unfolding(crate::specs::ByHead::signal_refused))]
-pub fn signal_refused(program: &Checked, name: &RawText, value: &Value) -> Option<Code>
-    ensures { result ≡ by_head.signal_refused (shown_checked program.now) name.now value.now }
+pub fn input_of(
+    alloc: Global,
+    program: &Checked,
+    request: &Key,
+    name: &RawText,
+    value: &Value,
+) -> Result<Result<Input, Code>, AllocError>
+    ensures taken { IfOk result (λ r. IfOk r (λ i. (by_head.signal_refused (shown_checked program.now) name.now value.now ≡ None) × (i ≡ Input.Signaled name.now request.now value.now))) }
+    ensures refused { IfOk result (λ r. IfErr r (λ c. by_head.signal_refused (shown_checked program.now) name.now value.now ≡ Some c)) }
 {
-    match carries(program, name) {
-        None => Some(Code::NoSuchSignal),
-        Some(kind) => {
+    match declared_as(program, name) {
+        None => Ok(Err(Code::NoSuchSignal)),
+        Some((declared, kind)) => {
             if has_kind(kind, value) {
-                None
+                match signaled(alloc, request, declared, value) {
+                    Ok(input) => Ok(Ok(input)),
+                    Err(refused) => Err(refused),
+                }
             } else {
-                Some(Code::WrongType)
+                Ok(Err(Code::WrongType))
             }
         }
     }

@@ -35,7 +35,7 @@ pub fn upgraded(
             let changes = one(alloc, Change::SetText(number, text))?;
             Ok((Reply::Upgraded(number, text), changes))
         }
-        Err(ReplayFault::NoMemory) => Err(ViewFault::NoMemory),
+        Err(ReplayFault::NoMemory(no_memory)) => Err(ViewFault::NoMemory(no_memory)),
         Err(ReplayFault::Mismatch { event, name }) => {
             Ok((Reply::Mismatch(event, name), Vec::new(alloc)))
         }

@@ -21,9 +21,9 @@ impl Attempt {
         requires { length reason.now ≤ 4096 }
         ensures { IfOk result (λ a. a ≡ failed_with reason.now) }
     {
-        match Text::new(alloc, reason) {
+        match Text::fitting(alloc, reason) {
             Ok(text) => Ok(Attempt::Failed(text)),
-            Err(_) => Err(AllocError),
+            Err(refused) => Err(refused),
         }
     }
 }

@@ -173,7 +173,7 @@ NamesIn b f = Names {A = Unit {0}} (Err f) (IsLeastMismatch meaning_of b)
 
 -- of tables
 pub tables_among : (f : Fault) → IsOfOpening f → IsOfRecovery f
-tables_among fault.NoMemory of = tt
+tables_among (fault.NoMemory _) of = tt
 tables_among fault.StoreRefused of = tt
 tables_among fault.NotOurs of = tt
 tables_among fault.BadVersion of = tt
@@ -181,38 +181,38 @@ tables_among (fault.Damaged d) of = tt
 tables_among _ of = absurd of
 
 pub tables_left : (from to : State) (f : Fault) → IsOfOpening f → HasEnded from to → IsLeft from to f
-tables_left from to fault.NoMemory of ended = inl ended
+tables_left from to (fault.NoMemory _) of ended = inl ended
 tables_left from to (fault.Mismatch run place name) of ended = absurd of
 tables_left from to _ of ended = ended
 
 -- of positions
 pub past_among : (f : Fault) → IsPastTables f → IsOfRecovery f
-past_among fault.NoMemory of = tt
+past_among (fault.NoMemory _) of = tt
 past_among (fault.Mismatch run place name) of = tt
 past_among _ of = absurd of
 
 pub past_damage : (t : Tables) (f : Fault) → IsPastTables f → IsFirstDamage t f
-past_damage t fault.NoMemory of = tt
+past_damage t (fault.NoMemory _) of = tt
 past_damage t (fault.Mismatch run place name) of = tt
 past_damage t _ of = absurd of
 
 pub past_cause : {S : Type 0} (g : Ghosts S) (f : Fault) → IsPastTables f → HasCause g f
-past_cause g fault.NoMemory of = tt
+past_cause g (fault.NoMemory _) of = tt
 past_cause g (fault.Mismatch run place name) of = tt
 past_cause g _ of = absurd of
 
 pub past_why : {S : Type 0} (g : Ghosts S) (from to : State) (f : Fault) → IsPastTables f → StopsOpening g from to f
-past_why g from to fault.NoMemory of = tt
+past_why g from to (fault.NoMemory _) of = tt
 past_why g from to (fault.Mismatch run place name) of = tt
 past_why g from to _ of = absurd of
 
 pub past_left : (from to : State) (b : Book) (f : Fault) → IsPastTables f → NamesIn b f → (IsOurs from → IsFound from b × Keeps to b) → IsLeft from to f
-past_left from to b fault.NoMemory of named its = inr (λ ours. record { book = b; found = (its ours).0; kept = (its ours).1; mismatch = tt })
+past_left from to b (fault.NoMemory _) of named its = inr (λ ours. record { book = b; found = (its ours).0; kept = (its ours).1; mismatch = tt })
 past_left from to b (fault.Mismatch run place name) of named its = λ ours. record { book = b; found = (its ours).0; kept = (its ours).1; mismatch = named }
 past_left from to b _ of named its = absurd of
 
 pub memory_own : (f : Fault) → OnlyMemory {A = Unit {0}} (Err f) → IsOfStore f
-memory_own fault.NoMemory of = tt
+memory_own (fault.NoMemory _) of = tt
 memory_own _ of = absurd of
 
 -- what is kept is what a stop leaves

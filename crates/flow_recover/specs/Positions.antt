@@ -83,7 +83,7 @@ pub record IsLeastMismatch (u : Meaning) (b : Book) (n place : ℕ) (name : Wron
 
 -- E80 has this cause, and beside it E01 and E68 alone are told.
 abbrev pub Caused : {A : Type 0} → Result A Fault → Type 0 → Type 0
-Caused (Err fault.NoMemory) cause = Unit {0}
+Caused (Err (fault.NoMemory _)) cause = Unit {0}
 Caused (Err fault.StoreRefused) cause = cause
 Caused (Err (fault.Mismatch run place name)) cause = Unit {0}
 Caused (Err f) cause = ⊥
@@ -96,13 +96,13 @@ Names _ is = Unit {0}
 
 -- What is told of positions at all: E01, E68 and E80.
 abbrev pub IsOfPositions : Fault → Type 0
-IsOfPositions fault.NoMemory = Unit {0}
+IsOfPositions (fault.NoMemory _) = Unit {0}
 IsOfPositions fault.StoreRefused = Unit {0}
 IsOfPositions (fault.Mismatch run place name) = Unit {0}
 IsOfPositions f = ⊥
 
 -- Nothing is refused but for want of memory.
 abbrev pub OnlyMemory : {A : Type 0} → Result A Fault → Type 0
-OnlyMemory (Err fault.NoMemory) = Unit {0}
+OnlyMemory (Err (fault.NoMemory _)) = Unit {0}
 OnlyMemory (Err f) = ⊥
 OnlyMemory (Ok x) = Unit {0}

@@ -71,7 +71,7 @@ pub record StillHolds (from to : State) (b : Book) : Type 0 where
 
 -- What is told at all: E01, E68, E80 to E83.
 abbrev pub IsOfRecovery : Fault → Type 0
-IsOfRecovery fault.NoMemory = Unit {0}
+IsOfRecovery (fault.NoMemory _) = Unit {0}
 IsOfRecovery (fault.Mismatch run place name) = Unit {0}
 IsOfRecovery fault.StoreRefused = Unit {0}
 IsOfRecovery fault.NotOurs = Unit {0}
@@ -81,7 +81,7 @@ IsOfRecovery f = ⊥
 
 -- What is told once the tables were opened: E01 and E68.
 abbrev pub IsPastTables : Fault → Type 0
-IsPastTables fault.NoMemory = Unit {0}
+IsPastTables (fault.NoMemory _) = Unit {0}
 IsPastTables (fault.Mismatch run place name) = Unit {0}
 IsPastTables f = ⊥
 
@@ -96,6 +96,6 @@ pub record IsKeptOn (from to : State) (f : Fault) : Type 0 where
 -- What a refusal leaves. E80 to E83 are of the tables, and the store is as it was; E68 is of the positions, and the book that
 -- was found is kept. Memory may be wanting for either.
 abbrev pub IsLeft : State → State → Fault → Type 0
-IsLeft from to fault.NoMemory = HasEnded from to ⊎ (IsOurs from → IsKeptOn from to fault.NoMemory)
+IsLeft from to (fault.NoMemory _) = HasEnded from to ⊎ (IsOurs from → IsKeptOn from to (fault.NoMemory _))
 IsLeft from to (fault.Mismatch run place name) = IsOurs from → IsKeptOn from to (fault.Mismatch run place name)
 IsLeft from to f = HasEnded from to

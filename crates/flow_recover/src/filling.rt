@@ -25,7 +25,7 @@ fn count_of(positions: &[Position], capacity: usize) -> usize
 
 fn led_to(alloc: Global, position: &Position) -> Result<Led, Fault>
     ensures led { IfOk result (λ l. IsLedTo position.now l) }
-    ensures memory { IfErr result (λ f. f ≡ NoMemory) }
+    ensures memory { IfErr result (λ f. f ≡ NoMemory _) }
 {
     match position.stance.copy(alloc) {
         Ok(stance) => Ok(Led {
@@ -33,7 +33,7 @@ fn led_to(alloc: Global, position: &Position) -> Result<Led, Fault>
             text: position.text,
             stance,
         }),
-        Err(_) => Err(Fault::NoMemory),
+        Err(refused) => Err(Fault::from(refused)),
     }
 }
 
@@ -50,7 +50,7 @@ pub(crate) fn seats_of(
     requires last { capacity ≤ 4096 }
     ensures none { IfOk result (λ s. s.ahead.items ≡ []) }
     ensures reached { IfOk result (λ s. (b : Book) → ArePositions meaning_of b positions.now → AllHave (ReachedIn meaning_of b) s.kept.entries) }
-    ensures memory { IfErr result (λ f. f ≡ NoMemory) }
+    ensures memory { IfErr result (λ f. f ≡ NoMemory _) }
 {
     let mut seats = Seats::new(alloc, capacity)?;
     for i in 0..count_of(positions, capacity) {

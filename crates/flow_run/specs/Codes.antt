@@ -7,12 +7,12 @@ use Rattle.flow_run.specs.declared.fault.RunFault.{RunFault}
 use Rattle.flow_run.specs.declared.fault.RunFault.TheVariants as fault
 
 abbrev pub run_fault_code : RunFault → Code
-run_fault_code fault.NoMemory = code.NoMemory
+run_fault_code (fault.NoMemory _) = code.NoMemory
 run_fault_code fault.NotAwaited = code.NotAwaited
 run_fault_code fault.Closed = code.Closed
 
 -- the same refusal of the plain run
 abbrev pub run_fault_of : TurnFault → RunFault
-run_fault_of plain.NoMemory = fault.NoMemory
+run_fault_of (plain.NoMemory _) = fault.NoMemory _
 run_fault_of plain.NotAwaited = fault.NotAwaited
 run_fault_of plain.Closed = fault.Closed

@@ -160,6 +160,6 @@ started_with r vars buffer decided st =
     record { rest = r; store = record { variables = vars; buffer = buffer; decided = decided; tests = 0 }; asked = []; state = st }
 
 abbrev pub turn_fault_code : TurnFault → Code
-turn_fault_code fault.NoMemory = code.NoMemory
+turn_fault_code (fault.NoMemory _) = code.NoMemory
 turn_fault_code fault.NotAwaited = code.NotAwaited
 turn_fault_code fault.Closed = code.Closed

@@ -3,13 +3,14 @@ ghost use Rattle.flow_run.specs.Codes.{run_fault_code};
 
 use crate::plain::TurnFault;
 use flow_base::code::Code;
+use flow_base::memory::NoMemory;
 use std::alloc::AllocError;
 
 /// Why a run did not go on.
 #[derive(Debug, Drop, thiserror::Error)]
 pub enum RunFault {
     #[error("E01 out of memory")]
-    NoMemory,
+    NoMemory(NoMemory),
     /// The run is open, or hasn't begun, and can't take this input.
     #[error("E40 not awaited")]
     NotAwaited,
@@ -23,7 +24,7 @@ impl RunFault {
         ensures { result ≡ run_fault_code self.now }
     {
         match self {
-            RunFault::NoMemory => Code::NoMemory,
+            RunFault::NoMemory(no_memory) => no_memory.code(),
             RunFault::NotAwaited => Code::NotAwaited,
             RunFault::Closed => Code::Closed,
         }
@@ -34,10 +35,10 @@ impl From<AllocError> for RunFault {
     ghost use Rattle.std.specs.Prelude.{◌≡◌};
     ghost use Rattle.flow_run.specs.declared.fault.RunFault.TheVariants.{NoMemory};
 
-    ghost from_gives = { λ _ e. e ≡ NoMemory };
+    ghost from_gives = { λ _ e. e ≡ NoMemory _ };
 
-    fn from(_error: AllocError) -> RunFault {
-        RunFault::NoMemory
+    fn from(refused: AllocError) -> RunFault {
+        RunFault::NoMemory(NoMemory::from(refused))
     }
 }
 
@@ -49,7 +50,7 @@ impl From<TurnFault> for RunFault {
 
     fn from(fault: TurnFault) -> RunFault {
         match fault {
-            TurnFault::NoMemory => RunFault::NoMemory,
+            TurnFault::NoMemory(no_memory) => RunFault::NoMemory(no_memory),
             TurnFault::NotAwaited => RunFault::NotAwaited,
             TurnFault::Closed => RunFault::Closed,
         }

@@ -12,6 +12,7 @@ use crate::rest::{OpenWait, Rest};
 use crate::turn::{is_closed, made};
 use flow_base::code::Code;
 use flow_base::event::{Cmd, Event, Input, State};
+use flow_base::memory::NoMemory;
 use flow_base::number::Moment;
 use flow_base::syntax::Program;
 use flow_base::text::Key;
@@ -45,7 +46,7 @@ pub enum Answers<'a> {
 #[derive(Debug, Drop, thiserror::Error)]
 pub enum TurnFault {
     #[error("E01 out of memory")]
-    NoMemory,
+    NoMemory(NoMemory),
     #[error("E40 the run doesn't wait for this")]
     NotAwaited,
     #[error("E41 the run is closed")]
@@ -58,7 +59,7 @@ impl TurnFault {
         ensures { result ≡ turn_fault_code self.now }
     {
         match self {
-            TurnFault::NoMemory => Code::NoMemory,
+            TurnFault::NoMemory(no_memory) => no_memory.code(),
             TurnFault::NotAwaited => Code::NotAwaited,
             TurnFault::Closed => Code::Closed,
         }
@@ -69,10 +70,10 @@ impl From<AllocError> for TurnFault {
     ghost use Rattle.std.specs.Prelude.{◌≡◌};
     ghost use Rattle.flow_run.specs.declared.plain.TurnFault.TheVariants.{NoMemory};
 
-    ghost from_gives = { λ _ e. e ≡ NoMemory };
+    ghost from_gives = { λ _ e. e ≡ NoMemory _ };
 
-    fn from(_error: AllocError) -> TurnFault {
-        TurnFault::NoMemory
+    fn from(refused: AllocError) -> TurnFault {
+        TurnFault::NoMemory(NoMemory::from(refused))
     }
 }
 
@@ -188,6 +189,6 @@ pub fn plain_turn(
             Ok(commands)
         }
         Ok(None) => Err(TurnFault::NotAwaited),
-        Err(_) => Err(TurnFault::NoMemory),
+        Err(refused) => Err(TurnFault::from(refused)),
     }
 }

@@ -69,7 +69,7 @@ impl Stance {
     /// E01.
     pub fn copy(&self, alloc: Global) -> Result<Stance, RunFault>
         ensures same { IfOk result (λ s. (p : Tree) → config_of p s ≡ config_of p self.now) }
-        ensures refused { OnErr result (result ≡ Err RunFault.NoMemory) }
+        ensures refused { OnErr result (result ≡ Err (RunFault.NoMemory _)) }
     {
         let run = self.run.copy(alloc)?;
         Ok(Stance { run })
@@ -116,7 +116,7 @@ impl Stance {
     /// E01.
     pub fn waits(&self, alloc: Global, _program: &Checked) -> Result<Vec<OpenWait>, RunFault>
         ensures list { IfOk result (λ ws. ws.items ≡ waits_of (config_of (shown_checked _program.now) self.now).rest) }
-        ensures refused { OnErr result (result ≡ Err RunFault.NoMemory) }
+        ensures refused { OnErr result (result ≡ Err (RunFault.NoMemory _)) }
     {
         let waits = self.run.waits(alloc)?;
         Ok(waits)

@@ -108,7 +108,7 @@ fn served<B: Room + Send + Sync, R: Threads + Wait + Timing + Sync>(
     let late = Still {
         now: Moment::new(1500)?,
     };
-    let mut feed = hub.feed(rt)?;
+    let mut feed = hub.feed(rt).ok()??;
     let mut submitter = hub.submitter(rt).ok()?;
     let hub = &hub;
     let (seen, ended) = join(

@@ -59,5 +59,5 @@ settings_in text = option_and_then settings_of (parse_document text)
 
 -- the number of a fault
 abbrev pub fault_number : SettingsFault → ℕ
-fault_number fault.NoMemory = 1
+fault_number (fault.NoMemory _) = 1
 fault_number fault.BadSettings = 96

@@ -1,11 +1,13 @@
 ghost use Rattle.std.specs.Prelude.{◌≡◌};
 ghost use Rattle.flow_settings.specs.Allowed.{fault_number};
 
+use flow_base::memory::NoMemory;
+
 /// Why a text gives no settings.
 #[derive(Clone, Copy, Debug, PartialEq, Eq, thiserror::Error)]
 pub enum SettingsFault {
     #[error("E01 out of memory")]
-    NoMemory,
+    NoMemory(NoMemory),
     /// The text is no TOML table, a key isn't known, or a value is no whole number in its range.
     #[error("E96 bad settings")]
     BadSettings,
@@ -17,7 +19,7 @@ impl SettingsFault {
         ensures { result ≡ fault_number self }
     {
         match self {
-            SettingsFault::NoMemory => 1,
+            SettingsFault::NoMemory(_) => 1,
             SettingsFault::BadSettings => 96,
         }
     }

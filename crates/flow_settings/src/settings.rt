@@ -4,6 +4,7 @@ ghost use Rattle.toml.specs.View.{view, table_view};
 ghost use Rattle.flow_settings.specs.Allowed.{Chosen, chosen, IsInRange, whole_to, setting, is_known, knows_all, settings_of, settings_in, is_within};
 
 use crate::fault::SettingsFault;
+use flow_base::memory::NoMemory;
 use std::alloc::Global;
 use std::marker::Model;
 use toml::{Table, Value};
@@ -78,7 +79,7 @@ impl Settings {
     pub fn read(alloc: Global, text: &str) -> Result<Settings, SettingsFault>
         ensures ok { IfOk result (λ s. settings_in text.now ≡ Some s) }
         ensures bad { IfErr result (λ e. e ≡ SettingsFault.BadSettings → settings_in text.now ≡ None) }
-        ensures memory { IfErr result (λ e. e ≡ SettingsFault.NoMemory → ¬ IsBlank text.now) }
+        ensures memory { IfErr result (λ e. e ≡ SettingsFault.NoMemory _ → ¬ IsBlank text.now) }
     {
         match toml::table_from_str(alloc, text) {
             Ok(table) => match settings_from(&table) {
@@ -87,7 +88,7 @@ impl Settings {
             },
             Err(error) => {
                 if error.is_memory() {
-                    Err(SettingsFault::NoMemory)
+                    Err(SettingsFault::NoMemory(NoMemory::told()))
                 } else {
                     Err(SettingsFault::BadSettings)
                 }

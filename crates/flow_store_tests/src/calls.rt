@@ -183,7 +183,7 @@ pub fn add_receipts(list: &mut Vec<Told>, receipts: &[Receipt], is_halted: bool)
 /// The code of a commit that has changed nothing.
 pub fn code_of(fault: &ViewFault) -> u8 {
     match fault {
-        ViewFault::NoMemory => 1,
+        ViewFault::NoMemory(_) => 1,
         ViewFault::StoreRefused => 80,
     }
 }
@@ -191,7 +191,7 @@ pub fn code_of(fault: &ViewFault) -> u8 {
 /// The code of a commit of which nobody knows.
 fn code_of_end(fault: &ViewFault) -> u8 {
     match fault {
-        ViewFault::NoMemory => 1,
+        ViewFault::NoMemory(_) => 1,
         ViewFault::StoreRefused => 84,
     }
 }

@@ -55,7 +55,7 @@ fn hear<S: Alter>(list: &mut Vec<Heard>, engine: &mut Engine<S>, commands: Vec<C
     match engine.answer_all(commands) {
         Ok(answers) => hear_all(list, answers, None),
         Err(Unanswered::Stopped(answers, stop)) => hear_all(list, answers, Some(stop)),
-        Err(Unanswered::NoMemory) => false,
+        Err(Unanswered::NoMemory(_)) => false,
     }
 }
 

@@ -109,13 +109,13 @@ fault_at_cut ts before t after f e w n (inr (inl h)) =
 fault_at_cut ts before t after f e w n (inr (inr h)) = rw h.0 (before, t, after, e, w, n, h.1, refl)
 
 pub deep_is_fault : (ts : List Lexeme) (end : ℕ) (f : ParseFault) → IsDeepFault ts f → IsFault ts end f
-deep_is_fault ts end NoMemory h = tt
+deep_is_fault ts end (NoMemory _) h = tt
 deep_is_fault ts end (Unexpected at) h = inl h
 deep_is_fault ts end (TooDeep at) h = h
 deep_is_fault ts end _ h = absurd h
 
 pub deep_is_before : (ts : List Lexeme) (bad : ℕ) (f : ParseFault) → IsDeepFault ts f → IsFaultBefore ts bad f
-deep_is_before ts bad NoMemory h = tt
+deep_is_before ts bad (NoMemory _) h = tt
 deep_is_before ts bad (Unexpected at) h = h
 deep_is_before ts bad (TooDeep at) h = h
 deep_is_before ts bad _ h = absurd h
@@ -153,7 +153,7 @@ pub stop_left : (ts : List Token) (left : ℕ) → fault (m.program ∷ []) (lex
 stop_left ts left e = omega (arith, left_bound (lexemes ts) left e, length-map ts lexeme)
 
 -- tokens that are a program have no fault but the want of memory
-pub memory_alone : (ts : List Lexeme) (p : tree.Program) (behind f : ParseFault) → Reads ts p → IsFaultOf ts behind f → f ≡ NoMemory
+pub memory_alone : (ts : List Lexeme) (p : tree.Program) (behind f : ParseFault) → Reads ts p → IsFaultOf ts behind f → f ≡ NoMemory _
 memory_alone ts p behind f r (inl h) = h
 memory_alone ts p behind f r (inr (inl h)) = absurd (h.2.5 (r.0, h.2.2, r.1 ∙ h.2.3 ∙ sym (append_assoc h.2.0 (h.2.1 ∷ []) h.2.2)))
 memory_alone ts p behind f r (inr (inr h)) = absurd (h.2 p r)

@@ -11,12 +11,12 @@ use Rattle.flow_syntax.specs.Parsing.{Parsed, SoFar, StopsOwing, StopsAt, IsNoMa
 
 -- A stop in a part is a stop of the whole.
 pub stops_in : (s s' : Symbol) (ts ts' : List Lexeme) (owes : List Symbol → List Symbol) → ((owed : List Symbol) → fault (s ∷ owed) ts ≡ fault (s' ∷ owes owed) ts') → (stop : Stop) → StopsAt s' ts' stop → StopsAt s ts stop
-stops_in s s' ts ts' owes h NoMemory g = tt
+stops_in s s' ts ts' owes h (NoMemory _) g = tt
 stops_in s s' ts ts' owes h (Unexpected left) g = λ owed. h owed ∙ g (owes owed)
 
 -- The same for a part where more than one symbol is owed first, and for such a whole.
 pub stops_from : (s : Symbol) (now : List Symbol) (ts ts' : List Lexeme) (owes : List Symbol → List Symbol) → ((owed : List Symbol) → fault (s ∷ owed) ts ≡ fault (now ++ owes owed) ts') → (stop : Stop) → StopsOwing now ts' stop → StopsAt s ts stop
-stops_from s now ts ts' owes h NoMemory g = tt
+stops_from s now ts ts' owes h (NoMemory _) g = tt
 stops_from s now ts ts' owes h (Unexpected left) g = λ owed. h owed ∙ g (owes owed)
 
 pub so_begins : {R P M X Y : Type 0} (s : Symbol) (part : P → List Lexeme) (part_of : P → Y) (tokens : R → List Lexeme) (more_tokens : M → List Lexeme) (of : R → X) (with : Y → M → X) (build : P → M → R) → ((p : P) (more : M) → tokens (build p more) ≡ part p ++ more_tokens more) → ((p : P) (more : M) → of (build p more) ≡ with (part_of p) more) → (ts rest : List Lexeme) (x : Y) → Parsed s part part_of ts x rest → SoFar tokens more_tokens of (with x) ts rest

@@ -466,7 +466,7 @@ program_parsed at name_at paren brace close end x ts r1 r2 r3 r4 r5 r6 xs ds b p
 
 -- a stop at the first token
 pub program_stops : (ts : List Lexeme) (e : Stop) → StopsAt (m.sign mark.Workflow) ts e → StopsProgram ts e
-program_stops ts NoMemory h = tt
+program_stops ts (NoMemory _) h = tt
 program_stops ts (Unexpected left) h = program_is ts ∙ h (m.name ∷ m.sign mark.Open ∷ m.parameters ∷ m.sign mark.BraceOpen ∷ m.body ∷ [])
 
 -- the machine along a program

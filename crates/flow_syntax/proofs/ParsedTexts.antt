@@ -14,7 +14,7 @@ use Rattle.flow_tokens.proofs.Relation.{tokens_once}
 use Rattle.flow_syntax.specs.Faults.{IsFault, IsFaultBefore, IsParseFault}
 use Rattle.flow_model.specs.Meaning.{IsProgramOf, IsTextFault, unfit, ends_early, too_deep, bad_token}
 
-no_place : (text : Bytes) → IsParseFault text NoMemory
+no_place : (text : Bytes) → IsParseFault text (NoMemory _)
 no_place text = λ at h. absurd (cc)
 
 at_place : (text : Bytes) (c : Code) (place at : ℕ) → Some place ≡ Some at → IsTextFault text (record { code = c; at = place }) → IsTextFault text (record { code = c; at = at })
@@ -27,14 +27,14 @@ pub too_long : (text : Bytes) → 65536 < length text → IsParseFault text Text
 too_long text l = λ at h. at_place text code.TextTooLong 65536 at h (inl (l, refl))
 
 pub fault_of_whole : (text : Bytes) (ts : List Token) (fault : ParseFault) → length text ≤ 65536 → TokensOf text ts None → IsFault (lexemes ts) (length text) fault → IsParseFault text fault
-fault_of_whole text ts NoMemory l t f = no_place text
+fault_of_whole text ts (NoMemory _) l t f = no_place text
 fault_of_whole text ts (Unexpected place) l t (inl f) = λ at h. at_place text code.Unexpected place at h (inr (l, ts, None, t, unfit refl f))
 fault_of_whole text ts (Unexpected place) l t (inr f) = λ at h. at_place text code.Unexpected place at h (inr (l, ts, None, t, ends_early refl refl f.0 f.1))
 fault_of_whole text ts (TooDeep place) l t f = λ at h. at_place text code.TooDeep place at h (inr (l, ts, None, t, too_deep refl f))
 fault_of_whole text ts _ l t f = absurd f
 
 pub fault_of_front : (text : Bytes) (ts : List Token) (bad : ℕ) (fault : ParseFault) → length text ≤ 65536 → TokensOf text ts (Some bad) → IsFaultBefore (lexemes ts) bad fault → IsParseFault text fault
-fault_of_front text ts bad NoMemory l t f = no_place text
+fault_of_front text ts bad (NoMemory _) l t f = no_place text
 fault_of_front text ts bad (Unexpected place) l t f = λ at h. at_place text code.Unexpected place at h (inr (l, ts, Some bad, t, unfit refl f))
 fault_of_front text ts bad (TooDeep place) l t f = λ at h. at_place text code.TooDeep place at h (inr (l, ts, Some bad, t, too_deep refl f))
 fault_of_front text ts bad (BadToken place) l t f =

@@ -13,14 +13,14 @@ use Rattle.flow_model.specs.Parse.{IsFirstUnfit, EndsEarly, IsFirstDeep}
 use Rattle.flow_model.specs.Meaning.{IsTextFault}
 
 abbrev pub fault_code : ParseFault → Code
-fault_code NoMemory = code.NoMemory
+fault_code (NoMemory _) = code.NoMemory
 fault_code (BadToken at) = code.BadToken
 fault_code (Unexpected at) = code.Unexpected
 fault_code TextTooLong = code.TextTooLong
 fault_code (TooDeep at) = code.TooDeep
 
 abbrev pub fault_place : ParseFault → Option ℕ
-fault_place NoMemory = None
+fault_place (NoMemory _) = None
 fault_place (BadToken at) = Some at
 fault_place (Unexpected at) = Some at
 fault_place TextTooLong = Some 65536
@@ -32,7 +32,7 @@ IsParseFault text fault = (at : ℕ) → fault_place fault ≡ Some at → IsTex
 
 -- the first fault of the tokens of a text that ends at this place
 abbrev pub IsFault : List Lexeme → ℕ → ParseFault → Type 0
-IsFault ts end NoMemory = Unit {0}
+IsFault ts end (NoMemory _) = Unit {0}
 IsFault ts end (Unexpected at) = IsFirstUnfit ts at ⊎ (EndsEarly ts × (at ≡ end))
 IsFault ts end (TooDeep at) = IsFirstDeep ts at
 IsFault ts end (BadToken at) = ⊥
@@ -40,7 +40,7 @@ IsFault ts end TextTooLong = ⊥
 
 -- the first fault of the tokens before this place, at which no token begins
 abbrev pub IsFaultBefore : List Lexeme → ℕ → ParseFault → Type 0
-IsFaultBefore ts bad NoMemory = Unit {0}
+IsFaultBefore ts bad (NoMemory _) = Unit {0}
 IsFaultBefore ts bad (Unexpected at) = IsFirstUnfit ts at
 IsFaultBefore ts bad (TooDeep at) = IsFirstDeep ts at
 IsFaultBefore ts bad (BadToken at) = Within ts × Begins ts × (at ≡ bad)
@@ -52,11 +52,11 @@ IsUnfit ts at = (before : List Lexeme) × (t : Lexeme) × (after : List Lexeme) 
 
 -- what the tokens answer where they are no program, and this stands behind them
 abbrev pub IsFaultOf : List Lexeme → ParseFault → ParseFault → Type 0
-IsFaultOf ts behind fault = (fault ≡ NoMemory) ⊎ (((at : ℕ) × (fault ≡ Unexpected at) × IsUnfit ts at) ⊎ ((fault ≡ behind) × Begins ts × ((p : tree.Program) → Reads ts p → ⊥)))
+IsFaultOf ts behind fault = (fault ≡ NoMemory _) ⊎ (((at : ℕ) × (fault ≡ Unexpected at) × IsUnfit ts at) ⊎ ((fault ≡ behind) × Begins ts × ((p : tree.Program) → Reads ts p → ⊥)))
 
 -- the same where a fault stands behind them, whether or not they are a program
 abbrev pub IsFirstOf : List Lexeme → ParseFault → ParseFault → Type 0
-IsFirstOf ts behind fault = (fault ≡ NoMemory) ⊎ (((at : ℕ) × (fault ≡ Unexpected at) × IsUnfit ts at) ⊎ ((fault ≡ behind) × Begins ts))
+IsFirstOf ts behind fault = (fault ≡ NoMemory _) ⊎ (((at : ℕ) × (fault ≡ Unexpected at) × IsUnfit ts at) ⊎ ((fault ≡ behind) × Begins ts))
 
 -- the first token that passes a limit has this place, and so many are behind it
 abbrev pub IsCut : List Lexeme → ℕ → ℕ → Type 0
@@ -68,7 +68,7 @@ WithinSoFar ts b o rest = (before : List Lexeme) × (ts ≡ before ++ rest) × (
 
 -- the first fault of tokens of which one passes a limit
 abbrev pub IsDeepFault : List Lexeme → ParseFault → Type 0
-IsDeepFault ts NoMemory = Unit {0}
+IsDeepFault ts (NoMemory _) = Unit {0}
 IsDeepFault ts (Unexpected at) = IsFirstUnfit ts at
 IsDeepFault ts (TooDeep at) = IsFirstDeep ts at
 IsDeepFault ts _ = ⊥

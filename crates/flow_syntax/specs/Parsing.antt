@@ -26,12 +26,12 @@ SoFar {R} {M} tokens more_tokens of with ts rest = (more : M) (end : List Lexeme
 
 -- where this is owed first, the machine stops with so many tokens left
 abbrev pub StopsOwing : List Symbol → List Lexeme → Stop → Type 0
-StopsOwing now ts NoMemory = Unit {0}
+StopsOwing now ts (NoMemory _) = Unit {0}
 StopsOwing now ts (Unexpected left) = (owed : List Symbol) → fault (now ++ owed) ts ≡ Some left
 
 -- the machine stops with so many tokens left
 abbrev pub StopsAt : Symbol → List Lexeme → Stop → Type 0
-StopsAt s ts NoMemory = Unit {0}
+StopsAt s ts (NoMemory _) = Unit {0}
 StopsAt s ts (Unexpected left) = (owed : List Symbol) → fault (s ∷ owed) ts ≡ Some left
 
 -- the tokens begin with none that the symbol takes
@@ -77,7 +77,7 @@ place_of end [] = end
 place_of end (t ∷ ts) = t.at
 
 abbrev pub StopsProgram : List Lexeme → Stop → Type 0
-StopsProgram ts NoMemory = Unit {0}
+StopsProgram ts (NoMemory _) = Unit {0}
 StopsProgram ts (Unexpected left) = fault (m.program ∷ []) ts ≡ Some left
 
 -- The tokens of a body begin with a declaration that stands for d; what follows is rest, and the machine of a body goes to

@@ -112,7 +112,7 @@ fn as_patch_id(alloc: Global, text: &Text) -> Result<Option<Key>, AllocError>
 {
     match Key::new(alloc, text.as_str()) {
         Ok(id) => Ok(Some(id)),
-        Err(ValueFault::NoMemory) => Err(AllocError),
+        Err(ValueFault::NoMemory(no_memory)) => Err(no_memory.error()),
         Err(ValueFault::NotAValue) => Ok(None),
         Err(ValueFault::TooLong) => Ok(None),
     }

@@ -2,6 +2,7 @@ ghost use Rattle.std.specs.Prelude.{◌≡◌};
 ghost use Rattle.flow_syntax.specs.Faults.{fault_code, fault_place};
 
 use flow_base::code::Code;
+use flow_base::memory::NoMemory;
 use flow_tokens::TokensFault;
 use std::alloc::{AllocError, AllocFailed};
 
@@ -9,7 +10,7 @@ use std::alloc::{AllocError, AllocFailed};
 #[derive(Debug, Drop, thiserror::Error)]
 pub enum ParseFault {
     #[error("E01 out of memory")]
-    NoMemory,
+    NoMemory(NoMemory),
     /// No token begins here.
     #[error("E10 at {0}")]
     BadToken(usize),
@@ -30,11 +31,24 @@ impl ParseFault {
         ensures { result ≡ fault_code self.now }
     {
         match self {
-            ParseFault::NoMemory => Code::NoMemory,
+            ParseFault::NoMemory(no_memory) => no_memory.code(),
             ParseFault::BadToken(_) => Code::BadToken,
             ParseFault::Unexpected(_) => Code::Unexpected,
             ParseFault::TextTooLong => Code::TextTooLong,
             ParseFault::TooDeep(_) => Code::TooDeep,
+        }
+    }
+
+    /// The place of the fault; the want of memory where it is none of the text.
+    pub fn place(&self) -> Result<usize, NoMemory>
+        ensures { MatchResult result (λ at. fault_place self.now ≡ Some at) (λ _. fault_place self.now ≡ None) }
+    {
+        match self {
+            ParseFault::NoMemory(no_memory) => Err(*no_memory),
+            ParseFault::BadToken(at) => Ok(*at),
+            ParseFault::Unexpected(at) => Ok(*at),
+            ParseFault::TextTooLong => Ok(65536),
+            ParseFault::TooDeep(at) => Ok(*at),
         }
     }
 
@@ -43,7 +57,7 @@ impl ParseFault {
         ensures { result ≡ fault_place self.now }
     {
         match self {
-            ParseFault::NoMemory => None,
+            ParseFault::NoMemory(_) => None,
             ParseFault::BadToken(at) => Some(*at),
             ParseFault::Unexpected(at) => Some(*at),
             ParseFault::TextTooLong => Some(65536),
@@ -56,10 +70,10 @@ impl From<AllocError> for ParseFault {
     ghost use Rattle.std.specs.Prelude.{◌≡◌};
     ghost use Rattle.flow_syntax.specs.declared.fault.ParseFault.TheVariants.{NoMemory};
 
-    ghost from_gives = { λ _ e. e ≡ NoMemory };
+    ghost from_gives = { λ _ e. e ≡ NoMemory _ };
 
-    fn from(_: AllocError) -> ParseFault {
-        ParseFault::NoMemory
+    fn from(refused: AllocError) -> ParseFault {
+        ParseFault::NoMemory(NoMemory::from(refused))
     }
 }
 
@@ -67,17 +81,19 @@ impl From<TokensFault> for ParseFault {
     ghost use Rattle.std.specs.Prelude.{◌≡◌};
     ghost use Rattle.flow_syntax.specs.declared.fault.ParseFault.TheVariants.{NoMemory};
 
-    ghost from_gives = { λ _ e. e ≡ NoMemory };
+    ghost from_gives = { λ _ e. e ≡ NoMemory _ };
 
-    fn from(_: TokensFault) -> ParseFault {
-        ParseFault::NoMemory
+    fn from(fault: TokensFault) -> ParseFault {
+        match fault {
+            TokensFault::NoMemory(no_memory) => ParseFault::NoMemory(no_memory),
+        }
     }
 }
 
 /// Why tokens weren't read: no memory, or a token doesn't fit with so many left, itself among them.
 #[derive(Debug, Drop)]
 pub(crate) enum Stop {
-    NoMemory,
+    NoMemory(NoMemory),
     Unexpected(usize),
 }
 
@@ -85,10 +101,10 @@ impl From<AllocError> for Stop {
     ghost use Rattle.std.specs.Prelude.{◌≡◌};
     ghost use Rattle.flow_syntax.specs.declared.fault.Stop.TheVariants.{NoMemory};
 
-    ghost from_gives = { λ _ e. e ≡ NoMemory };
+    ghost from_gives = { λ _ e. e ≡ NoMemory _ };
 
-    fn from(_: AllocError) -> Stop {
-        Stop::NoMemory
+    fn from(refused: AllocError) -> Stop {
+        Stop::NoMemory(NoMemory::from(refused))
     }
 }
 
@@ -96,9 +112,9 @@ impl<T: Drop> From<AllocFailed<T>> for Stop {
     ghost use Rattle.std.specs.Prelude.{◌≡◌};
     ghost use Rattle.flow_syntax.specs.declared.fault.Stop.TheVariants.{NoMemory};
 
-    ghost from_gives = { λ _ e. e ≡ NoMemory };
+    ghost from_gives = { λ _ e. e ≡ NoMemory _ };
 
-    fn from(_error: AllocFailed<T>) -> Stop {
-        Stop::NoMemory
+    fn from(refused: AllocFailed<T>) -> Stop {
+        Stop::NoMemory(NoMemory::from(refused))
     }
 }

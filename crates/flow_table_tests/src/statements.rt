@@ -124,7 +124,7 @@ fn puts_whole_turn(alloc: Global, conn: &mut Memory, number: u64) -> bool {
 fn put(alloc: Global, conn: &mut Memory, put: Put) -> Result<(), Refusal> {
     match change(alloc, put) {
         Ok(change) => put_change(alloc, conn, &nothing_known(), &change),
-        Err(_) => Err(Refusal::NoMemory),
+        Err(refused) => Err(Refusal::from(refused)),
     }
 }
 

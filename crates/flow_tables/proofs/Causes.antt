@@ -21,7 +21,7 @@ rest_within rest more c is all = let both = subst AreWithin is all in both.1
 ---- Why a turn is refused
 
 pub because_on : (W V U T : Type 0) (f : Refusal) → (W → V) → (U → T) → Because f W U → Because f V T
-because_on W V U T NoMemory stop unfit h = h
+because_on W V U T (NoMemory _) stop unfit h = h
 because_on W V U T Stopped stop unfit h = stop h
 because_on W V U T Unfit stop unfit h = unfit h
 

@@ -24,7 +24,7 @@ pub caused : {S : Type 0} (g : Ghosts S) (e : Error) → IsMet g e → HasCause 
 caused g e met = by_fault (opening_fault e) refl
   where
     by_fault : (f : Fault) → opening_fault e ≡ f → HasCause g f
-    by_fault NoMemory is = tt
+    by_fault (NoMemory _) is = tt
     by_fault StoreRefused is = (e, met, is)
     by_fault NotOurs is = (e, met, is)
     by_fault _ is = tt
@@ -41,7 +41,7 @@ pub refusal_met : {S : Type 0} (g : Ghosts S) (e : Error) → IsRefusal g e → 
 refusal_met g e h = (h.0, h.1, h.2, inl h.3)
 
 pub read_caused : {S : Type 0} (g : Ghosts S) (f : StoreFault) → IsRowsFault g f → HasCause g (read_fault_of f)
-read_caused g read.NoMemory h = tt
+read_caused g (read.NoMemory _) h = tt
 read_caused g (read.Refused e) h = caused g e (h.0, h.1, _, inr (inr (inl (h.2, refl, h.3))))
 
 ---- Reading the format
@@ -95,7 +95,7 @@ not_version f of is = subst IsOfStore is of
 
 -- what the store refuses is told by opening
 pub store_among : (f : Fault) → IsOfStore f → IsOfOpening f
-store_among NoMemory of = tt
+store_among (NoMemory _) of = tt
 store_among StoreRefused of = tt
 store_among NotOurs of = tt
 store_among _ of = absurd of
@@ -106,7 +106,7 @@ format_among f (inr of) = store_among f of
 
 -- an error of the store, too, of whichever kind
 pub read_among : (f : StoreFault) → IsOfOpening (read_fault_of f)
-read_among read.NoMemory = tt
+read_among (read.NoMemory _) = tt
 read_among (read.Refused e) = store_among (opening_fault e) (of_store e)
 
 -- what the store refuses is no damage
@@ -116,7 +116,7 @@ harmless t _ of = tt
 
 -- tables that stand for a book have none
 pub undamaged : (t : Tables) (b : Book) → StandFor t b → (f : Fault) → IsOfOpening f → f ≢ BadVersion → IsFirstDamage t f → IsOfStore f
-undamaged t b stand NoMemory among other first = tt
+undamaged t b stand (NoMemory _) among other first = tt
 undamaged t b stand StoreRefused among other first = tt
 undamaged t b stand NotOurs among other first = tt
 undamaged t b stand BadVersion among other first = other refl

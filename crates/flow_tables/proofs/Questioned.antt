@@ -26,8 +26,8 @@ use Rattle.flow_sql.proofs.Compiling.{commits_none, failed, answered}
 
 module _ (kinds : List Kind) (sql : List ℕ) (reading : FirstIs IsReading (first_statement sql)) (params : Row) (old new : State) where
   fault_leaves : (f : StoreFault) → IsReadFault kinds sql params old new f → IsUnchanged old new ⊎ IsRolledBack old new
-  fault_leaves NoMemory (inl it) = failed sql reading params old new it.0 it.1
-  fault_leaves NoMemory (inr it) = inl (answered sql reading params old new it.0 it.1)
+  fault_leaves (NoMemory _) (inl it) = failed sql reading params old new it.0 it.1
+  fault_leaves (NoMemory _) (inr it) = inl (answered sql reading params old new it.0 it.1)
   fault_leaves (Refused e) (inl it) = failed sql reading params old new e it.1
   fault_leaves (Refused e) (inr it) = inl (answered sql reading params old new it.0 it.1)
 
@@ -69,7 +69,7 @@ module _ {Q A : Type 0} (said : Row → A) (kinds : List Kind) (asks : Q → Ask
     where
       stops_so : (inside : Bool) → IsOver inside old → (r : Result V StoreFault) → IfErr r (IsReadFault kinds (asks q).sql (asks q).params old new) → IfErr r (StopsAsk inside old new)
       stops_so inside over (Ok v) h = tt
-      stops_so inside over (Err NoMemory) h = tt
+      stops_so inside over (Err (NoMemory _)) h = tt
       stops_so inside over (Err (Refused e)) (inl fails) =
           inl (question_refused old new e fails.0 over.is_open over.now.laid_out (asks q).sql it.query it.names (it.is q) (asks q).params (whole_read (asks q).sql (asks q).params (it.listed q)) (it.typed q) (it.summed q) fails.1)
       stops_so inside over (Err (Refused e)) (inr rows) =

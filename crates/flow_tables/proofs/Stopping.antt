@@ -74,13 +74,13 @@ module _ {S : Type 0} (g : Ghosts S) where
   module _ (old new : Held S) where
     -- one that failed by more than the want of memory
     pub read_stopped : (f : StoreFault) → StopsAsk true (state g old) (state g new) f → view_fault f ≡ view.StoreRefused → IsStopped g (state g old) (state g new)
-    read_stopped NoMemory h same = absurd (let clash = same in cc)
+    read_stopped (NoMemory _) h same = absurd (let clash = same in cc)
     read_stopped (Refused e) (inl (inl more)) same = inl (inl more)
     read_stopped (Refused e) (inl (inr limit)) same = inl (inr (inl limit))
     read_stopped (Refused e) (inr odd) same = inr (odd.0.0, subst (λ (d : Database). HasOddText (tables_in d.trees)) (sym odd.0.1) odd.1)
 
     read_so : (f : StoreFault) (U : Type 0) → StopsAsk true (state g old) (state g new) f → Because (read_refusal f) (IsStopped g (state g old) (state g new)) U
-    read_so NoMemory U h = tt
+    read_so (NoMemory _) U h = tt
     read_so (Refused e) U h = read_stopped (Refused e) h refl
 
     pub read_because : (f : StoreFault) (x : Refusal) (U : Type 0) → x ≡ read_refusal f → StopsAsk true (state g old) (state g new) f → Because x (IsStopped g (state g old) (state g new)) U
@@ -132,7 +132,7 @@ module _ (old new : State) (e : Error) (f : ViewFault) (told : f ≡ told_fault 
   ])
     where
       caused_so : (f : ViewFault) → (f ≡ view.StoreRefused → IsKeptOut old new) → Caused {A = Unit} (Err f) (IsKeptOut old new)
-      caused_so view.NoMemory h = tt
+      caused_so (view.NoMemory _) h = tt
       caused_so view.StoreRefused h = h refl
 
 ---- Opening
@@ -148,14 +148,14 @@ module _ {S : Type 0} (g : Ghosts S) where
 
   -- a question that was refused, behind others that left the tables as they were
   pub rows_stopped : (old mid new : Held S) (f : StoreFault) → Since (state g old) (state g mid) → (state g mid).now ≡ (state g old).now → IsOver false (state g mid) → StopsAsk false (state g mid) (state g new) f → StopsRows g old new f
-  rows_stopped old mid new NoMemory since same over h = tt
+  rows_stopped old mid new (NoMemory _) since same over h = tt
   rows_stopped old mid new (Refused e) since same over (inl (inl more)) = inl (more_after (state g old).faults (state g mid).faults (state g new).faults since.0 more)
   rows_stopped old mid new (Refused e) since same over (inl (inr limit)) = inr (inl (subst (λ (o : Option ℕ). IsSome o) since.1 limit))
   rows_stopped old mid new (Refused e) since same over (inr odd) = inr (inr (subst (λ (db : Database). HasTables db × HasOddText (tables_in db.trees)) same (over.now, odd.1)))
 
   pub rows_after : {V : Type 0} (a b c : Held S) (r : Result V StoreFault) → Since (state g a) (state g b) → (state g b).now ≡ (state g a).now → IfErr r (StopsRows g b c) → IfErr r (StopsRows g a c)
   rows_after a b c (Ok v) since same h = tt
-  rows_after a b c (Err NoMemory) since same h = tt
+  rows_after a b c (Err (NoMemory _)) since same h = tt
   rows_after a b c (Err (Refused e)) since same h = cut_after (state g a).now (state g b).now (state g a) (state g b) (state g c) same since h
 
   -- the statements that make the tables, behind others and before others
@@ -191,7 +191,7 @@ module _ {S : Type 0} (g : Ghosts S) where
       by_fault _ is = tt
 
   pub rows_held : (old new : Held S) (f : Fault) (r : StoreFault) → f ≡ read_fault_of r → (state g old).now ≡ (state g old).committed → StopsRows g old new r → StopsOpening g (state g old) (state g new) f
-  rows_held old new f NoMemory is rest h = subst (StopsOpening g (state g old) (state g new)) (sym is) tt
+  rows_held old new f (NoMemory _) is rest h = subst (StopsOpening g (state g old) (state g new)) (sym is) tt
   rows_held old new f (Refused e) is rest h =
       error_held (state g old) (state g new) f e is (λ other. inr (subst (λ (db : Database). IsCutShort db (state g old) (state g new)) rest h))
 

@@ -12,7 +12,7 @@ use Rattle.flow_tables.specs.Owned.{ReadsBook, StopsRead}
 -- Why a question to our tables is not answered: memory ran out, the disk has failed, a limit is set on the steps of a query, or the
 -- tables hold a text that isn't UTF-8; then they are as they were.
 abbrev pub StopsAsk : Bool → State → State → StoreFault → Type 0
-StopsAsk inside old new NoMemory = Unit {0}
+StopsAsk inside old new (NoMemory _) = Unit {0}
 StopsAsk inside old new (Refused e) = (MoreFaults old.faults new.faults ⊎ IsSome old.step_limit) ⊎ (IsStill inside old new × HasOddText (tables_in old.now.trees))
 
 -- What becomes of a question: it is answered so, and the tables are as they were, or it was refused, and the transaction may

@@ -11,7 +11,7 @@ use Rattle.flow_sql.specs.Stored.{HasOddText}
 pub use Rattle.flow_sql.specs.States.{Since}
 
 abbrev pub fault_of : Error → StoreFault
-fault_of (SqliteFailure OutOfMemory) = NoMemory
+fault_of (SqliteFailure OutOfMemory) = NoMemory _
 fault_of e = Refused e
 
 -- This statement was refused, not for want of memory, and led from the one state to the other.
@@ -45,17 +45,17 @@ StopsWith g old new e = e ≢ SqliteFailure OutOfMemory → IsStopped g (state g
 
 -- An error of a statement stops the change.
 abbrev pub refusal_of : Error → Refusal
-refusal_of (SqliteFailure OutOfMemory) = refusal.NoMemory
+refusal_of (SqliteFailure OutOfMemory) = refusal.NoMemory _
 refusal_of e = refusal.Stopped
 
 -- and so does a fault of a read
 abbrev pub read_refusal : StoreFault → Refusal
-read_refusal NoMemory = refusal.NoMemory
+read_refusal (NoMemory _) = refusal.NoMemory _
 read_refusal (Refused e) = refusal.Stopped
 
 -- what a view tells of a refusal
 abbrev pub told_fault : Refusal → ViewFault
-told_fault refusal.NoMemory = view.NoMemory
+told_fault (refusal.NoMemory _) = view.NoMemory _
 told_fault refusal.Stopped = view.StoreRefused
 told_fault refusal.Unfit = view.StoreRefused
 
@@ -69,12 +69,12 @@ told_answer (Err r) = Err (told_fault r)
 
 -- what is noted of a read that failed so
 abbrev pub noted_fault : ViewFault → Refusal
-noted_fault view.NoMemory = refusal.NoMemory
+noted_fault (view.NoMemory _) = refusal.NoMemory _
 noted_fault view.StoreRefused = refusal.Stopped
 
 -- What stands behind a refusal: the one where the store stopped the change, the other where it doesn't fit.
 abbrev pub Because : Refusal → Type 0 → Type 0 → Type 0
-Because refusal.NoMemory stopped unfit = Unit {0}
+Because (refusal.NoMemory _) stopped unfit = Unit {0}
 Because refusal.Stopped stopped unfit = stopped
 Because refusal.Unfit stopped unfit = unfit
 

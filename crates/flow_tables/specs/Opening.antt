@@ -19,7 +19,7 @@ HasOtherFormat {S} g new = (old : Held S) × (row : Row) × (n : ℤ) × Queries
 
 -- E80 for memory, disk and size, E81 for all else; the want of memory by itself
 abbrev pub opening_fault : Error → Fault
-opening_fault (SqliteFailure code.OutOfMemory) = NoMemory
+opening_fault (SqliteFailure code.OutOfMemory) = NoMemory _
 opening_fault (SqliteFailure code.SystemIoFailure) = StoreRefused
 opening_fault (SqliteFailure code.DatabaseCorrupt) = StoreRefused
 opening_fault (SqliteFailure code.DiskFull) = StoreRefused
@@ -28,7 +28,7 @@ opening_fault (SqliteFailure code.Closed) = StoreRefused
 opening_fault _ = NotOurs
 
 abbrev pub read_fault_of : StoreFault → Fault
-read_fault_of read.NoMemory = NoMemory
+read_fault_of (read.NoMemory _) = NoMemory _
 read_fault_of (read.Refused e) = opening_fault e
 
 -- What reading the format answers where it is our number, or else where there is no such table.
@@ -62,14 +62,14 @@ IsFirstDamage t _ = ⊤
 
 -- The rows and the format are as they should be.
 abbrev pub IsOfStore : Fault → Type 0
-IsOfStore NoMemory = ⊤
+IsOfStore (NoMemory _) = ⊤
 IsOfStore StoreRefused = ⊤
 IsOfStore NotOurs = ⊤
 IsOfStore _ = ⊥
 
 -- What opening tells at all: E01, E80 to E83.
 abbrev pub IsOfOpening : Fault → Type 0
-IsOfOpening NoMemory = ⊤
+IsOfOpening (NoMemory _) = ⊤
 IsOfOpening StoreRefused = ⊤
 IsOfOpening NotOurs = ⊤
 IsOfOpening BadVersion = ⊤
@@ -101,7 +101,7 @@ abbrev pub IsCutShort : Database → State → State → Type 0
 IsCutShort db first new = MoreFaults first.faults new.faults ⊎ (IsSome first.step_limit ⊎ (HasTables db × HasOddText (tables_in db.trees)))
 
 abbrev pub StopsRows : {S : Type 0} → Ghosts S → Held S → Held S → StoreFault → Type 0
-StopsRows g first new read.NoMemory = ⊤
+StopsRows g first new (read.NoMemory _) = ⊤
 StopsRows g first new (read.Refused e) = IsCutShort (state g first).now (state g first) (state g new)
 
 -- Making the tables stopped: the disk has failed, or a limit is set on the steps of a query. The database declines none of the statements.

@@ -8,6 +8,7 @@ ghost use Rattle.flow_sql.specs.Stored.{number_kinds, text_kinds, text_row_kinds
 ghost use Rattle.flow_tables.specs.Reads.{IsMisread, AreMisread};
 
 use crate::fault::StoreFault;
+use flow_base::memory::NoMemory;
 use flow_base::text::RawText;
 use flow_rows::rows::{EventRow, OutboxRow, RunRow, TextRow, TimerRow};
 use sqlite::Row;
@@ -31,7 +32,7 @@ fn text_at(alloc: Global, row: &Row, at: usize) -> Result<RawText, StoreFault>
     match found {
         Ok(text) => match RawText::new(alloc, text.as_str()) {
             Ok(text) => Ok(text),
-            Err(_) => Err(StoreFault::NoMemory),
+            Err(refused) => Err(StoreFault::from(refused)),
         },
         Err(error) => Err(StoreFault::from(error)),
     }
@@ -150,8 +151,8 @@ pub(crate) fn read_all<T: Said + Drop>(alloc: Global, rows: &[Row]) -> Result<Ve
     let mut list = Vec::new(alloc);
     for row in rows {
         let value = T::read(alloc, row)?;
-        if list.push(value).is_err() {
-            return Err(StoreFault::NoMemory);
+        if let Err(refused) = list.push(value) {
+            return Err(StoreFault::NoMemory(NoMemory::from(refused)));
         }
     }
     Ok(list)

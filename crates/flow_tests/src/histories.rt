@@ -36,7 +36,7 @@ fn replayed(
     match replay(alloc, program, events) {
         Ok(stance) => Some(Ok(left(program, &stance))),
         Err(ReplayFault::Mismatch { event, name }) => Some(Err((event, name))),
-        Err(ReplayFault::NoMemory) => None,
+        Err(ReplayFault::NoMemory(_)) => None,
     }
 }
 

@@ -1,6 +1,7 @@
 ghost use Rattle.std.specs.Prelude.{◌≡◌};
 
 use flow_base::code::Code;
+use flow_base::memory::NoMemory;
 use flow_base::token::Token;
 use std::alloc::{AllocError, AllocFailed};
 
@@ -17,7 +18,7 @@ pub struct Tokens {
 #[derive(Debug, Drop, thiserror::Error)]
 pub enum TokensFault {
     #[error("E01 out of memory")]
-    NoMemory,
+    NoMemory(NoMemory),
 }
 
 impl TokensFault {
@@ -26,7 +27,7 @@ impl TokensFault {
         ensures { result ≡ Code.NoMemory }
     {
         match self {
-            TokensFault::NoMemory => Code::NoMemory,
+            TokensFault::NoMemory(no_memory) => no_memory.code(),
         }
     }
 }
@@ -35,10 +36,10 @@ impl From<AllocError> for TokensFault {
     ghost use Rattle.std.specs.Prelude.{◌≡◌};
     ghost use Rattle.flow_tokens.specs.declared.token_list.TokensFault.TheVariants.{NoMemory};
 
-    ghost from_gives = { λ _ e. e ≡ NoMemory };
+    ghost from_gives = { λ _ e. e ≡ NoMemory _ };
 
-    fn from(_error: AllocError) -> TokensFault {
-        TokensFault::NoMemory
+    fn from(refused: AllocError) -> TokensFault {
+        TokensFault::NoMemory(NoMemory::from(refused))
     }
 }
 
@@ -46,9 +47,9 @@ impl<T: Drop> From<AllocFailed<T>> for TokensFault {
     ghost use Rattle.std.specs.Prelude.{◌≡◌};
     ghost use Rattle.flow_tokens.specs.declared.token_list.TokensFault.TheVariants.{NoMemory};
 
-    ghost from_gives = { λ _ e. e ≡ NoMemory };
+    ghost from_gives = { λ _ e. e ≡ NoMemory _ };
 
-    fn from(_error: AllocFailed<T>) -> TokensFault {
-        TokensFault::NoMemory
+    fn from(refused: AllocFailed<T>) -> TokensFault {
+        TokensFault::NoMemory(NoMemory::from(refused))
     }
 }

@@ -25,7 +25,7 @@ pub fn word(alloc: Global, letters: &str) -> Result<Option<Word>, TokensFault>
     }
     match Key::new(alloc, letters) {
         Ok(key) => Ok(Some(Word::Name(key))),
-        Err(ValueFault::NoMemory) => Err(TokensFault::NoMemory),
+        Err(ValueFault::NoMemory(no_memory)) => Err(TokensFault::NoMemory(no_memory)),
         Err(ValueFault::TooLong) => Ok(None),
         Err(ValueFault::NotAValue) => Ok(None),
     }
@@ -117,7 +117,7 @@ pub fn text(alloc: Global, rest: &str) -> Result<Option<(Word, &str)>, TokensFau
     };
     match Text::new(alloc, value.as_str()) {
         Ok(text) => Ok(Some((Word::Text(text), after))),
-        Err(ValueFault::NoMemory) => Err(TokensFault::NoMemory),
+        Err(ValueFault::NoMemory(no_memory)) => Err(TokensFault::NoMemory(no_memory)),
         Err(_) => Ok(None),
     }
 }

@@ -1,13 +1,14 @@
 ghost use Rattle.std.specs.Prelude.{◌≡◌};
 
 use flow_base::code::Code;
+use flow_base::memory::NoMemory;
 use std::alloc::{AllocError, AllocFailed};
 
 /// Why no value was computed.
 #[derive(Debug, Drop, thiserror::Error)]
 pub enum Fault {
     #[error("E01 out of memory")]
-    NoMemory,
+    NoMemory(NoMemory),
 }
 
 impl Fault {
@@ -16,19 +17,19 @@ impl Fault {
         ensures { result ≡ Code.NoMemory }
     {
         match self {
-            Fault::NoMemory => Code::NoMemory,
+            Fault::NoMemory(no_memory) => no_memory.code(),
         }
     }
 }
 
 impl From<AllocError> for Fault {
-    fn from(_error: AllocError) -> Fault {
-        Fault::NoMemory
+    fn from(refused: AllocError) -> Fault {
+        Fault::NoMemory(NoMemory::from(refused))
     }
 }
 
 impl<T: Drop> From<AllocFailed<T>> for Fault {
-    fn from(_error: AllocFailed<T>) -> Fault {
-        Fault::NoMemory
+    fn from(refused: AllocFailed<T>) -> Fault {
+        Fault::NoMemory(NoMemory::from(refused))
     }
 }

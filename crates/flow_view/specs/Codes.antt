@@ -5,5 +5,5 @@ use Rattle.flow_view.specs.declared.fault.ViewFault.{ViewFault}
 use Rattle.flow_view.specs.declared.fault.ViewFault.TheVariants as fault
 
 abbrev pub view_fault_code : ViewFault → Code
-view_fault_code fault.NoMemory = code.NoMemory
+view_fault_code (fault.NoMemory _) = code.NoMemory
 view_fault_code fault.StoreRefused = code.StoreRefused

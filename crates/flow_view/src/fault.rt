@@ -2,13 +2,14 @@ ghost use Rattle.std.specs.Prelude.{◌≡◌};
 ghost use Rattle.flow_view.specs.Codes.{view_fault_code};
 
 use flow_base::code::Code;
+use flow_base::memory::NoMemory;
 use std::alloc::{AllocError, AllocFailed};
 
 /// Why a view gave no answer. What it then holds of the changes that were under way isn't said: the caller rolls back.
 #[derive(Debug, Drop, thiserror::Error)]
 pub enum ViewFault {
     #[error("E01 out of memory")]
-    NoMemory,
+    NoMemory(NoMemory),
     /// The store refused a statement, or a number has passed the last one.
     #[error("E80 store refused")]
     StoreRefused,
@@ -20,7 +21,7 @@ impl ViewFault {
         ensures { result ≡ view_fault_code self.now }
     {
         match self {
-            ViewFault::NoMemory => Code::NoMemory,
+            ViewFault::NoMemory(no_memory) => no_memory.code(),
             ViewFault::StoreRefused => Code::StoreRefused,
         }
     }
@@ -30,10 +31,10 @@ impl From<AllocError> for ViewFault {
     ghost use Rattle.std.specs.Prelude.{◌≡◌};
     ghost use Rattle.flow_view.specs.declared.fault.ViewFault.TheVariants.{NoMemory};
 
-    ghost from_gives = { λ _ e. e ≡ NoMemory };
+    ghost from_gives = { λ _ e. e ≡ NoMemory _ };
 
-    fn from(_error: AllocError) -> ViewFault {
-        ViewFault::NoMemory
+    fn from(refused: AllocError) -> ViewFault {
+        ViewFault::NoMemory(NoMemory::from(refused))
     }
 }
 
@@ -41,9 +42,9 @@ impl<T: Drop> From<AllocFailed<T>> for ViewFault {
     ghost use Rattle.std.specs.Prelude.{◌≡◌};
     ghost use Rattle.flow_view.specs.declared.fault.ViewFault.TheVariants.{NoMemory};
 
-    ghost from_gives = { λ _ e. e ≡ NoMemory };
+    ghost from_gives = { λ _ e. e ≡ NoMemory _ };
 
-    fn from(_error: AllocFailed<T>) -> ViewFault {
-        ViewFault::NoMemory
+    fn from(refused: AllocFailed<T>) -> ViewFault {
+        ViewFault::NoMemory(NoMemory::from(refused))
     }
 }

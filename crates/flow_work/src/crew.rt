@@ -19,7 +19,7 @@ use flow_pool::ends::{TaskReceiver, TaskSender};
 use flow_pool::worker::worker;
 use flow_timers::Clock;
 use sqlite::Alter;
-use std::alloc::Global;
+use std::alloc::{AllocError, Global};
 use std::io::{BufRead, Write};
 use std::sync::{Arc, Wait};
 use std::thread::{JoinHandle, Threads};
@@ -92,7 +92,7 @@ where
     R: Threads + Wait + Copy + Send + Drop + 'static,
     A: Activity + Drop + Send + 'static,
     C: Clock + Copy + Send + Drop + 'static,
-    ensures { IfErr result (λ f. f ≡ Fault.NoMemory) }
+    ensures { IfErr result (λ f. f ≡ Fault.NoMemory _) }
 {
     let its = *rt;
     match thread::spawn(
@@ -100,7 +100,7 @@ where
         move || run_worker(&its, alloc, activities, receiver, reports, &clock, group),
     ) {
         Ok(_thread) => Ok(()),
-        Err(_) => Err(Fault::NoMemory),
+        Err(refused) => Err(Fault::from(AllocError::from(refused))),
     }
 }
 
@@ -115,12 +115,12 @@ where
     S: Alter + Send + 'static,
     B: Room + Send + Sync + 'static,
     R: Threads + Wait + Copy + Send + Drop + 'static,
-    ensures { IfErr result (λ f. f ≡ Fault.NoMemory) }
+    ensures { IfErr result (λ f. f ≡ Fault.NoMemory _) }
 {
     let its = *rt;
     match thread::spawn(rt, move || run_dispatcher(&its, tasks, sender, group)) {
         Ok(_thread) => Ok(()),
-        Err(_) => Err(Fault::NoMemory),
+        Err(refused) => Err(Fault::from(AllocError::from(refused))),
     }
 }
 
@@ -136,12 +136,12 @@ where
     B: Room + Send + Sync + 'static,
     R: Threads + Wait + time::Clock + Copy + Send + Drop + 'static,
     C: Clock + Copy + Send + Drop + 'static,
-    ensures { IfErr result (λ f. f ≡ Fault.NoMemory) }
+    ensures { IfErr result (λ f. f ≡ Fault.NoMemory _) }
 {
     let its = *rt;
     match thread::spawn(rt, move || run_timer(&its, reports, &clock, group)) {
         Ok(_thread) => Ok(()),
-        Err(_) => Err(Fault::NoMemory),
+        Err(refused) => Err(Fault::from(AllocError::from(refused))),
     }
 }
 
@@ -155,12 +155,12 @@ pub(crate) fn start_reader<R, I>(
 where
     R: Threads + Wait + Copy + Send + Drop + 'static,
     I: BufRead + Drop + Send + 'static,
-    ensures { IfErr result (λ f. f ≡ Fault.NoMemory) }
+    ensures { IfErr result (λ f. f ≡ Fault.NoMemory _) }
 {
     let its = *rt;
     match thread::spawn(rt, move || read_lines(&its, alloc, reader, lines)) {
         Ok(_thread) => Ok(()),
-        Err(_) => Err(Fault::NoMemory),
+        Err(refused) => Err(Fault::from(AllocError::from(refused))),
     }
 }
 
@@ -180,7 +180,7 @@ where
     W: Write + Drop + Send + 'static,
     C: Clock + Copy + Send + Drop + 'static,
     P: Write + Drop + Send + 'static,
-    ensures { IfErr result (λ f. f ≡ Fault.NoMemory) }
+    ensures { IfErr result (λ f. f ≡ Fault.NoMemory _) }
 {
     let its = *rt;
     match thread::spawn(
@@ -188,6 +188,6 @@ where
         move || run_desk(&its, desk, &clock, inputs, hub, progress),
     ) {
         Ok(thread) => Ok(thread),
-        Err(_) => Err(Fault::NoMemory),
+        Err(refused) => Err(Fault::from(AllocError::from(refused))),
     }
 }

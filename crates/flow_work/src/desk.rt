@@ -11,6 +11,7 @@ use crate::status::Status;
 use crossbeam_channel::Receiver;
 use flow_base::code::Code;
 use flow_base::command::Command;
+use flow_base::memory::NoMemory;
 use flow_cli::command::{LineFault, command_of};
 use flow_cli::drive::write_line;
 use flow_cli::reply::Line;
@@ -47,7 +48,7 @@ fn line_instead(why: Why) -> Option<Line>
     ensures { result ≡ line_instead why }
 {
     match why {
-        Why::Refused(Code::NoMemory) => Some(Line::NotApplied(Code::NoMemory)),
+        Why::Refused(Code::NoMemory) => Some(Line::NotApplied(NoMemory::told().code())),
         Why::Refused(Code::StoreRefused) => Some(Line::NotApplied(Code::StoreRefused)),
         _ => None,
     }
@@ -176,7 +177,9 @@ impl<S: Alter, B: Room, W: Write + Drop> Desk<S, B, W> {
                 Some(Pending::Submitted(ticket))
             }
             Err(LineFault::NotACommand) => Some(Pending::Known(Line::Bad)),
-            Err(LineFault::NoMemory) => Some(Pending::Known(Line::NotApplied(Code::NoMemory))),
+            Err(LineFault::NoMemory(no_memory)) => {
+                Some(Pending::Known(Line::NotApplied(no_memory.code())))
+            },
         }
     }
 

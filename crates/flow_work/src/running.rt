@@ -18,7 +18,9 @@ use crate::tasks::Tasks;
 use crossbeam_channel::{Receiver, Sender, bounded};
 use crossbeam_utils::sync::WaitGroup;
 use flow_base::fault::Fault;
+use flow_base::memory::NoMemory;
 use flow_engine::engine::Engine;
+use flow_hub::denied::Unseated;
 use flow_hub::hub::Hub;
 use flow_hub::seats::{Opened, Room};
 use flow_pool::activity::Activity;
@@ -55,17 +57,27 @@ fn open_channel(
     Ok((sender, receivers))
 }
 
+/// Why nobody is seated at a hub. A hub that was just made has numbers left for its few submitters, so memory is what is wanting.
+fn unseated_fault(unseated: Unseated) -> Fault
+    ensures { result ≡ Fault.NoMemory _ }
+{
+    match unseated {
+        Unseated::NoMemory(no_memory) => Fault::NoMemory(no_memory),
+        Unseated::InboxFull => Fault::NoMemory(NoMemory::told()),
+    }
+}
+
 /// One who reports to a hub. E01 where there's no memory for it.
 fn reporter<S: Alter, B: Room, R: Wait>(
     rt: &R,
     hub: &Hub<S, B>,
     tally: Option<Tally>,
 ) -> Result<Reporter<S, B>, Fault>
-    ensures { IfErr result (λ f. f ≡ Fault.NoMemory) }
+    ensures { IfErr result (λ f. f ≡ Fault.NoMemory _) }
 {
     match hub.submitter(rt) {
         Ok(submitter) => Ok(Reporter::new(submitter, tally)),
-        Err(_) => Err(Fault::NoMemory),
+        Err(unseated) => Err(unseated_fault(unseated)),
     }
 }
 
@@ -87,7 +99,7 @@ where
     A: Activity + Drop + Send + 'static,
     K: Skills<A>,
     C: Clock + Copy + Send + Drop + 'static,
-    ensures { IfErr result (λ f. f ≡ Fault.NoMemory) }
+    ensures { IfErr result (λ f. f ≡ Fault.NoMemory _) }
 {
     for receiver in receivers {
         let activities = skills.of_worker(alloc)?;
@@ -123,10 +135,11 @@ where
     A: Activity + Drop + Send + 'static,
     K: Skills<A>,
     C: Clock + Copy + Send + Drop + 'static,
-    ensures { IfErr result (λ f. f ≡ Fault.NoMemory) }
+    ensures { IfErr result (λ f. f ≡ Fault.NoMemory _) }
 {
-    let Some(feed) = hub.feed(rt) else {
-        return Err(Fault::NoMemory);
+    // Nobody has asked this hub for its feed before.
+    let Some(feed) = hub.feed(rt)? else {
+        return Err(Fault::NoMemory(NoMemory::told()));
     };
     let (sender, receivers) = open_channel(alloc, workers)?;
     start_workers(rt, alloc, hub, receivers, skills, clock, tally, group)?;
@@ -151,12 +164,13 @@ where
     W: Write + Drop + Send + 'static,
     C: Clock + Copy + Send + Drop + 'static,
     P: Write + Drop + Send + 'static,
-    ensures { IfErr result (λ f. f ≡ Fault.NoMemory) }
+    ensures { IfErr result (λ f. f ≡ Fault.NoMemory _) }
 {
     let (lines, inputs) = bounded(alloc, MOST_LINES)?;
     let own_lines = lines.clone()?;
-    let Ok(submitter) = hub.submitter(rt) else {
-        return Err(Fault::NoMemory);
+    let submitter = match hub.submitter(rt) {
+        Ok(submitter) => submitter,
+        Err(unseated) => return Err(unseated_fault(unseated)),
     };
     let desk = Desk::new(alloc, submitter, writer)?;
     start_reader(rt, alloc, reader, lines)?;
@@ -187,7 +201,7 @@ where
     K: Skills<A>,
     C: Clock + Copy + Send + Drop + 'static,
     P: Write + Drop + Send + 'static,
-    ensures { IfErr result (λ f. f ≡ Fault.NoMemory) }
+    ensures { IfErr result (λ f. f ≡ Fault.NoMemory _) }
 {
     let tally = Tally::new(alloc)?;
     start_pool(rt, alloc, hub, workers, skills, clock, &tally, group)?;
@@ -225,7 +239,7 @@ where
     requires { engine.old.log ≡ [] }
     ensures served { IfOk result (λ e. IfErr e.served (EndsServing engine.old engine.new)) }
     ensures goes_on { IfOk result (λ e. OnOk e.served (engine.new.halted ≡ engine.old.halted)) }
-    ensures unserved { IfErr result (λ f. (f ≡ Fault.NoMemory) × (engine.new ≡ engine.old)) }
+    ensures unserved { IfErr result (λ f. (f ≡ Fault.NoMemory _) × (engine.new ≡ engine.old)) }
     ensures base { engine.new.base ≡ engine.old.base }
     ensures follows { Follows S.Store engine.old engine.new }
 {
@@ -266,7 +280,7 @@ where
     requires { engine.old.log ≡ [] }
     ensures served { IfOk result (λ e. IfErr e.served (EndsServing engine.old engine.new)) }
     ensures goes_on { IfOk result (λ e. OnOk e.served (engine.new.halted ≡ engine.old.halted)) }
-    ensures unserved { IfErr result (λ f. (f ≡ Fault.NoMemory) × (engine.new ≡ engine.old)) }
+    ensures unserved { IfErr result (λ f. (f ≡ Fault.NoMemory _) × (engine.new ≡ engine.old)) }
     ensures base { engine.new.base ≡ engine.old.base }
     ensures follows { Follows S.Store engine.old engine.new }
 {
@@ -302,7 +316,7 @@ where
     requires fresh { engine.old.log ≡ [] }
     ensures served { IfOk result (λ e. IfErr e.served (EndsServing engine.old engine.new)) }
     ensures goes_on { IfOk result (λ e. OnOk e.served (engine.new.halted ≡ engine.old.halted)) }
-    ensures unserved { IfErr result (λ f. (f ≡ Fault.NoMemory) × (engine.new ≡ engine.old)) }
+    ensures unserved { IfErr result (λ f. (f ≡ Fault.NoMemory _) × (engine.new ≡ engine.old)) }
     ensures base { engine.new.base ≡ engine.old.base }
     ensures follows { Follows S.Store engine.old engine.new }
 {

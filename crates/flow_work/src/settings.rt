@@ -2,6 +2,7 @@
 ghost use Rattle.std.specs.Prelude.{◌≡◌, IfOk, IfErr};
 ghost use Rattle.flow_work.specs.Configured.{GivesSettings, IsNoSettings};
 
+use flow_base::memory::NoMemory;
 use flow_settings::fault::SettingsFault;
 use flow_settings::settings::Settings;
 use std::alloc::Global;
@@ -19,7 +20,7 @@ pub fn settings_of(
     match read {
         Ok(text) => Settings::read(alloc, text.as_str()),
         Err(error) => match error.kind() {
-            ErrorKind::OutOfMemory => Err(SettingsFault::NoMemory),
+            ErrorKind::OutOfMemory => Err(SettingsFault::NoMemory(NoMemory::told())),
             _ => Err(SettingsFault::BadSettings),
         },
     }

@@ -63,8 +63,9 @@ fn keep_running<
 >(rt: &HostRuntime, threads: &T, engine: &mut Engine<S>) -> Result<u8, Fault>
     requires { engine.old.log ≡ [] }
 {
-    let Ok(reader) = BufReader::new(rt.alloc(), rt.reader()) else {
-        return Err(Fault::NoMemory);
+    let reader = match BufReader::new(rt.alloc(), rt.reader()) {
+        Ok(reader) => reader,
+        Err(error) => return Err(fault_of_error(error.kind(), Fault::NoFile)),
     };
     let clock = SystemClock::new(*threads);
     let ended = work(

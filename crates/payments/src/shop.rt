@@ -71,6 +71,7 @@ fn ship(alloc: Global, task: &Task) -> Result<Attempt, AllocError> {
 fn done(alloc: Global, text: &str) -> Result<Attempt, AllocError> {
     match Text::new(alloc, text) {
         Ok(text) => Ok(Attempt::Done(Value::Text(text))),
-        Err(_) => Err(AllocError),
+        Err(ValueFault::NoMemory(no_memory)) => Err(no_memory.error()),
+        Err(_) => Attempt::failed(alloc, "too long"),
     }
 }

@@ -17,7 +17,7 @@ use flow_base::number::Moment;
 use flow_commit::board::Board;
 use flow_machine::task::Task;
 use sqlite::Alter;
-use std::alloc::Global;
+use std::alloc::{AllocError, Global};
 
 impl<S: Alter, B: Room> State<S, B> {
     /// Posts those of the board's tasks that weren't posted before, and joins their keys to those of all that was. Where room for
@@ -29,11 +29,11 @@ impl<S: Alter, B: Room> State<S, B> {
         me: Pass<S, B>,
         keys: &mut Keys,
         board: Board,
-    ) -> (Pass<S, B>, Result<(), Board>)
+    ) -> (Pass<S, B>, Result<(), (Board, AllocError)>)
         requires seat { IsPublishers me }
         requires keys { HasKeys keys.old me.was.posted }
         ensures posted { OnOk result.1 (self.new ≡ posted_on self.old board.tasks (record { due = board.due; open_runs = board.open_runs })) }
-        ensures refused { IfErr result.1 (λ b. (b ≡ board) × (self.new ≡ self.old)) }
+        ensures refused { IfErr result.1 (λ e. (e.0 ≡ board) × (self.new ≡ self.old)) }
         ensures keys { HasKeys keys.new result.0.was.posted }
         ensures seat { result.0 ≡ seeing true false self.new.known }
         ensures seen { OnOk result.1 (HasPosted me.was result.0.was board) }
@@ -42,11 +42,12 @@ impl<S: Alter, B: Room> State<S, B> {
         ensures grows { IsBefore me.was result.0.was }
     {
         let me = self.see(seats, me);
-        if self.tasks.reserve(board.tasks().len()).is_err() {
-            return (me, Err(board));
+        if let Err(refused) = self.tasks.reserve(board.tasks().len()) {
+            return (me, Err((board, refused)));
         }
-        let Ok(marks) = add_all(alloc, keys, board.tasks()) else {
-            return (me, Err(board));
+        let marks = match add_all(alloc, keys, board.tasks()) {
+            Ok(marks) => marks,
+            Err(refused) => return (me, Err((board, refused))),
         };
         let (tasks, due, open_runs) = board.into_parts();
         self.known.post(&tasks, &marks, Outlook { due, open_runs });
