@@ -5,6 +5,7 @@ ghost use Rattle.flow.specs.Nexts.{IsWithin, next_of, stopped_of};
 use crate::store::open_memory;
 use flow_base::fault::Fault;
 use flow_cli::drive::Stopped;
+use flow_cli::fault::fault_of_error;
 use flow_engine::engine::Engine;
 use flow_settings::fault::SettingsFault;
 use flow_settings::settings::Settings;

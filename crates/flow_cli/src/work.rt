@@ -10,7 +10,7 @@ ghost use Rattle.flow_cli.specs.Working.{OfWork};
 ghost use Rattle.flow_cli.specs.declared.drive.Stopped.TheVariants.{Refused};
 
 use crate::batch::BatchSize;
-use crate::drive::{Stopped, drive_lines};
+use crate::drive::{Stopped, drive_lines, stopped_reading};
 use crate::history::tell_history;
 use flow_base::fault::Fault;
 use flow_base::number::RunId;

@@ -208,7 +208,7 @@ impl<S: Alter> Engine<S> {
         };
         match cut(self.alloc(), first, commands) {
             Ok(batches) => all_answered(self, batches, answers),
-            Err(refused) => Err(Unanswered::from(refused)),
+            Err(refused) => Err(Unanswered::NoMemory(NoMemory::from(refused))),
         }
     }
 }

@@ -1,5 +1,5 @@
 //! A signal for a run whose program is known.
-ghost use Rattle.std.specs.Prelude.{◌≡◌, IfOk, bytes_eq, map};
+ghost use Rattle.std.specs.Prelude.{◌≡◌, ◌×◌, IfOk, IfErr, IfSome, MatchOption, None, Some, bytes_eq, map, true};
 ghost use Rattle.flow_base.specs.Shown.{shown_declaration};
 ghost use Rattle.flow_check.specs.Shown.{shown_checked};
 ghost use Rattle.flow_machine.specs.ByHead as by_head;
@@ -18,6 +18,7 @@ use std::alloc::{AllocError, Global};
 
 fn is_name(signal: &Key, name: &RawText) -> bool
     ensures { result ≡ bytes_eq signal.now name.now }
+    ensures same { result ≡ true → signal.now ≡ name.now }
 {
     signal.as_str() == name.as_str()
 }

@@ -17,6 +17,7 @@ use flow_base::number::Moment;
 use flow_base::syntax::Program;
 use flow_base::text::Key;
 use flow_base::value::Value;
+use flow_values::fault;
 use flow_values::named::NamedValues;
 use std::alloc::{AllocError, Global};
 
@@ -189,6 +190,6 @@ pub fn plain_turn(
             Ok(commands)
         }
         Ok(None) => Err(TurnFault::NotAwaited),
-        Err(refused) => Err(TurnFault::from(refused)),
+        Err(fault::Fault::NoMemory(no_memory)) => Err(TurnFault::NoMemory(no_memory)),
     }
 }

@@ -19,7 +19,7 @@ use flow_base::number::Moment;
 use flow_base::text::Key;
 use flow_base::value::Value;
 use flow_check::checked::Checked;
-use std::alloc::Global;
+use std::alloc::{AllocError, Global};
 
 /// The position of a run between two turns. It is used with the program with which it was made, by the caller's
 /// condition.
@@ -67,9 +67,8 @@ impl Stance {
     ///
     /// # Failure
     /// E01.
-    pub fn copy(&self, alloc: Global) -> Result<Stance, RunFault>
-        ensures same { IfOk result (λ s. (p : Tree) → config_of p s ≡ config_of p self.now) }
-        ensures refused { OnErr result (result ≡ Err (RunFault.NoMemory _)) }
+    pub fn copy(&self, alloc: Global) -> Result<Stance, AllocError>
+        ensures { IfOk result (λ s. (p : Tree) → config_of p s ≡ config_of p self.now) }
     {
         let run = self.run.copy(alloc)?;
         Ok(Stance { run })
@@ -114,9 +113,8 @@ impl Stance {
     ///
     /// # Failure
     /// E01.
-    pub fn waits(&self, alloc: Global, _program: &Checked) -> Result<Vec<OpenWait>, RunFault>
-        ensures list { IfOk result (λ ws. ws.items ≡ waits_of (config_of (shown_checked _program.now) self.now).rest) }
-        ensures refused { OnErr result (result ≡ Err (RunFault.NoMemory _)) }
+    pub fn waits(&self, alloc: Global, _program: &Checked) -> Result<Vec<OpenWait>, AllocError>
+        ensures { IfOk result (λ ws. ws.items ≡ waits_of (config_of (shown_checked _program.now) self.now).rest) }
     {
         let waits = self.run.waits(alloc)?;
         Ok(waits)

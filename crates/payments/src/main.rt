@@ -10,6 +10,7 @@ use crate::shop::Shop;
 use flow_base::fault::Fault;
 use flow_cli::drive::Stopped;
 use flow_cli::ending::ended;
+use flow_cli::fault::fault_of_error;
 use flow_engine::engine::Engine;
 use flow_settings::settings::Settings;
 use flow_work::clock::SystemClock;

@@ -20,8 +20,8 @@ returns-in-Err-Rule c =
     let breaks : IsCheckFault p (Rule c.in-Err-Rule.fault) = search rules in
     means_broken c.args.text.now p c.in-Err-Rule.fault is breaks.0
 
-pub returns-in-Some : goal.returns-in-Some
-returns-in-Some c =
-    let place = c.in-Some.at in
-    let is : IsTextFault c.args.text.now (record { code = fault_code c.in-Err.fault; at = place }) = rw c.as_str.ensures at (c.in-Err.ensures.err place (sym c.at.ensures ∙ c.in-Some.is)) in
+pub returns-in-Ok-place : goal.returns-in-Ok-place
+returns-in-Ok-place c =
+    let place = c.in-Ok-place.at in
+    let is : IsTextFault c.args.text.now (record { code = fault_code c.in-Err.fault; at = place }) = rw c.as_str.ensures at (c.in-Err.ensures.err place c.in-Ok-place.ensures) in
     means_fault c.args.text.now _ is ∙ ap (λ v. Err (record { code = v; at = place })) (sym c.code.ensures)
