@@ -56,11 +56,11 @@ impl Value {
 /// Why something is no value, text or key.
 #[derive(Debug, Drop, thiserror::Error)]
 pub enum ValueFault {
-    #[error("E01 out of memory")]
+    #[error("{} out of memory", self.code())]
     NoMemory(NoMemory),
-    #[error("E02 not a value")]
+    #[error("{} not a value", self.code())]
     NotAValue,
-    #[error("E03 too long")]
+    #[error("{} too long", self.code())]
     TooLong,
 }
 

@@ -9,10 +9,10 @@ use std::alloc::AllocError;
 /// Why a program isn't checked.
 #[derive(Debug, Drop, thiserror::Error)]
 pub enum CheckFault {
-    #[error("E01 out of memory")]
+    #[error("{} out of memory", self.code())]
     NoMemory(NoMemory),
     /// E20 to E29: the rule that is broken at the least place, and of those there the one with the lowest number.
-    #[error("a checking rule is broken: {0:?}")]
+    #[error("{} at {}", self.code(), .0.at)]
     Rule(TextFault),
 }
 

@@ -58,9 +58,9 @@ impl Verb {
 /// Why a line gives no command.
 #[derive(Clone, Copy, Debug, PartialEq, Eq, thiserror::Error)]
 pub enum LineFault {
-    #[error("E01 out of memory")]
+    #[error("{} out of memory", self.code())]
     NoMemory(NoMemory),
-    #[error("E02 not a command")]
+    #[error("{} not a command", self.code())]
     NotACommand,
 }
 

@@ -7,9 +7,9 @@ use flow_base::memory::NoMemory;
 /// Why a command isn't taken in. It comes back.
 #[derive(Clone, Copy, Debug, PartialEq, Eq, thiserror::Error)]
 pub enum Denied {
-    #[error("E90 inbox full")]
+    #[error("E{:02} inbox full", self.number())]
     InboxFull,
-    #[error("E91 hub closed")]
+    #[error("E{:02} hub closed", self.number())]
     HubClosed,
 }
 
@@ -28,9 +28,9 @@ impl Denied {
 /// Why a hub gives no further submitter.
 #[derive(Clone, Copy, Debug, PartialEq, Eq, thiserror::Error)]
 pub enum Unseated {
-    #[error("E01 out of memory")]
+    #[error("E{:02} out of memory", self.number())]
     NoMemory(NoMemory),
-    #[error("E90 inbox full")]
+    #[error("E{:02} inbox full", self.number())]
     InboxFull,
 }
 

@@ -1,10 +1,9 @@
 //! A signal for a run whose program is known.
-ghost use Rattle.std.specs.Prelude.{◌≡◌, ◌×◌, IfOk, IfErr, IfSome, MatchOption, None, Some, bytes_eq, map, true};
+ghost use Rattle.std.specs.Prelude.{◌≡◌, IfOk, IfErr, IfSome, MatchOption, None, Some, bytes_eq, map, true};
 ghost use Rattle.flow_base.specs.Shown.{shown_declaration};
 ghost use Rattle.flow_check.specs.Shown.{shown_checked};
 ghost use Rattle.flow_machine.specs.ByHead as by_head;
 ghost use Rattle.flow_model.specs.WellFormed as declared;
-ghost use Rattle.flow_view.specs.Reading.{Caused};
 
 use flow_base::code::Code;
 use flow_base::event::Input;
@@ -13,11 +12,10 @@ use flow_base::text::{Key, RawText};
 use flow_base::value::{Kind, Value};
 use flow_check::checked::Checked;
 use flow_model::kinds::has_kind;
-use flow_view::fault::ViewFault;
 use std::alloc::{AllocError, Global};
 
 fn is_name(signal: &Key, name: &RawText) -> bool
-    ensures { result ≡ bytes_eq signal.now name.now }
+    ensures value { result ≡ bytes_eq signal.now name.now }
     ensures same { result ≡ true → signal.now ≡ name.now }
 {
     signal.as_str() == name.as_str()

@@ -11,17 +11,17 @@ use std::sync::Wait;
 /// Why a report wasn't answered by a reply.
 #[derive(Clone, Copy, Debug, PartialEq, Eq, thiserror::Error)]
 pub enum Unheard {
-    #[error("E01 out of memory")]
+    #[error("E{:02} out of memory", self.number())]
     NoMemory,
-    #[error("E80 the store refused")]
+    #[error("E{:02} the store refused", self.number())]
     StoreRefused,
-    #[error("E84 not known whether it was kept")]
+    #[error("E{:02} not known whether it was kept", self.number())]
     Unknown,
-    #[error("E85 halted")]
+    #[error("E{:02} halted", self.number())]
     Halted,
-    #[error("E90 inbox full")]
+    #[error("E{:02} inbox full", self.number())]
     InboxFull,
-    #[error("E91 hub closed")]
+    #[error("E{:02} hub closed", self.number())]
     HubClosed,
 }
 

@@ -9,12 +9,12 @@ use std::alloc::AllocError;
 /// Why a run did not go on.
 #[derive(Debug, Drop, thiserror::Error)]
 pub enum RunFault {
-    #[error("E01 out of memory")]
+    #[error("{} out of memory", self.code())]
     NoMemory(NoMemory),
     /// The run is open, or hasn't begun, and can't take this input.
-    #[error("E40 not awaited")]
+    #[error("{} not awaited", self.code())]
     NotAwaited,
-    #[error("E41 closed")]
+    #[error("{} closed", self.code())]
     Closed,
 }
 

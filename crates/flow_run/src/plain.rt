@@ -46,11 +46,11 @@ pub enum Answers<'a> {
 /// Why a turn wasn't made.
 #[derive(Debug, Drop, thiserror::Error)]
 pub enum TurnFault {
-    #[error("E01 out of memory")]
+    #[error("{} out of memory", self.code())]
     NoMemory(NoMemory),
-    #[error("E40 the run doesn't wait for this")]
+    #[error("{} the run doesn't wait for this", self.code())]
     NotAwaited,
-    #[error("E41 the run is closed")]
+    #[error("{} the run is closed", self.code())]
     Closed,
 }
 

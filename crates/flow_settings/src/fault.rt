@@ -6,10 +6,10 @@ use flow_base::memory::NoMemory;
 /// Why a text gives no settings.
 #[derive(Clone, Copy, Debug, PartialEq, Eq, thiserror::Error)]
 pub enum SettingsFault {
-    #[error("E01 out of memory")]
+    #[error("E{:02} out of memory", self.number())]
     NoMemory(NoMemory),
     /// The text is no TOML table, a key isn't known, or a value is no whole number in its range.
-    #[error("E96 bad settings")]
+    #[error("E{:02} bad settings", self.number())]
     BadSettings,
 }
 

@@ -9,19 +9,19 @@ use std::alloc::{AllocError, AllocFailed};
 /// Why a text is no program. A place is a byte of the text.
 #[derive(Debug, Drop, thiserror::Error)]
 pub enum ParseFault {
-    #[error("E01 out of memory")]
+    #[error("{} out of memory", self.code())]
     NoMemory(NoMemory),
     /// No token begins here.
-    #[error("E10 at {0}")]
+    #[error("{} at {}", self.code(), .0)]
     BadToken(usize),
     /// The first token that no beginning of a program admits, or the text's length where it ends early.
-    #[error("E11 at {0}")]
+    #[error("{} at {}", self.code(), .0)]
     Unexpected(usize),
     /// The text has more than 65,536 bytes.
-    #[error("E12 at 65536")]
+    #[error("{} at 65536", self.code())]
     TextTooLong,
     /// The bracket with which 65 stand unclosed, or the 65th operator of one outermost expression.
-    #[error("E13 at {0}")]
+    #[error("{} at {}", self.code(), .0)]
     TooDeep(usize),
 }
 

@@ -17,7 +17,7 @@ pub struct Tokens {
 /// Why a text was not cut into tokens.
 #[derive(Debug, Drop, thiserror::Error)]
 pub enum TokensFault {
-    #[error("E01 out of memory")]
+    #[error("{} out of memory", self.code())]
     NoMemory(NoMemory),
 }
 

@@ -7,7 +7,7 @@ use std::alloc::{AllocError, AllocFailed};
 /// Why no value was computed.
 #[derive(Debug, Drop, thiserror::Error)]
 pub enum Fault {
-    #[error("E01 out of memory")]
+    #[error("{} out of memory", self.code())]
     NoMemory(NoMemory),
 }
 

@@ -8,10 +8,10 @@ use std::alloc::{AllocError, AllocFailed};
 /// Why a view gave no answer. What it then holds of the changes that were under way isn't said: the caller rolls back.
 #[derive(Debug, Drop, thiserror::Error)]
 pub enum ViewFault {
-    #[error("E01 out of memory")]
+    #[error("{} out of memory", self.code())]
     NoMemory(NoMemory),
     /// The store refused a statement, or a number has passed the last one.
-    #[error("E80 store refused")]
+    #[error("{} store refused", self.code())]
     StoreRefused,
 }
 
