@@ -43,7 +43,9 @@ pub fn open_file(
 {
     match Connection::open(rt, file) {
         Ok(conn) => open(rt, conn, settings),
-        Err(Error::SqliteFailure(ErrorCode::OutOfMemory)) => Err(Stopped::Refused(Fault::NoMemory(NoMemory::told()))),
+        Err(Error::SqliteFailure(ErrorCode::OutOfMemory)) => {
+            Err(Stopped::Refused(Fault::NoMemory(NoMemory::told())))
+        }
         Err(_) => Err(Stopped::Refused(Fault::StoreRefused)),
     }
 }
