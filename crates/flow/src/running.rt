@@ -121,7 +121,9 @@ pub fn keep_running<T: Threads + Wait + Clock + Copy + Send + Drop + 'static>(
             "-" => done(run_in_memory(rt, threads, settings)),
             _ => Ok(Next::Keep(String::from_str(rt.alloc(), base)?, settings)),
         },
-        Err(SettingsFault::NoMemory(no_memory)) => Err(Stopped::Refused(Fault::NoMemory(no_memory))),
+        Err(SettingsFault::NoMemory(no_memory)) => Err(Stopped::Refused(Fault::NoMemory(
+            no_memory,
+        ))),
         Err(SettingsFault::BadSettings) => Err(Stopped::BadSettings),
     }
 }

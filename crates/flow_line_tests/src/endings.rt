@@ -28,7 +28,10 @@ fn said_of(alloc: Global, fault: Fault, wanted: &[u8]) -> Option<u8> {
 #[test]
 fn an_early_end_is_said(rt: HostRuntime) -> Result<(), Fail> {
     let a = rt.alloc();
-    assert_eq!(rt; said_of(a, Fault::NoMemory(NoMemory::told()), b"flow: E01\n"), Some(3));
+    assert_eq!(rt;
+        said_of(a, Fault::NoMemory(NoMemory::told()), b"flow: E01\n"),
+        Some(3)
+    );
     assert_eq!(rt; said_of(a, Fault::NoRun, b"flow: E70\n"), Some(1));
     assert_eq!(rt; said_of(a, Fault::BadUsage, b"flow: E97\n"), Some(2));
     let settings = Stopped::BadSettings;
@@ -64,7 +67,9 @@ fn of_another_end_nothing_is_said(rt: HostRuntime) -> Result<(), Fail> {
 
 #[test]
 fn a_number_needs_no_memory(rt: HostRuntime) -> Result<(), Fail> {
-    assert!(rt; short_line(&Fault::NoMemory(NoMemory::told())).as_slice() == b"flow: E01".as_slice());
+    assert!(rt;
+        short_line(&Fault::NoMemory(NoMemory::told())).as_slice() == b"flow: E01".as_slice()
+    );
     assert!(rt; short_line(&Fault::StoreRefused).as_slice() == b"flow: E80".as_slice());
     Ok(())
 }
@@ -92,7 +97,9 @@ fn what_cannot_be_said_keeps_its_status(rt: HostRuntime) -> Result<(), Fail> {
 
 #[test]
 fn an_error_without_memory_is_so_told(rt: HostRuntime) -> Result<(), Fail> {
-    assert!(rt; fault_of_error(ErrorKind::OutOfMemory, Fault::NoFile) == Fault::NoMemory(NoMemory::told()));
+    assert!(rt;
+        fault_of_error(ErrorKind::OutOfMemory, Fault::NoFile) == Fault::NoMemory(NoMemory::told())
+    );
     assert!(rt; fault_of_error(ErrorKind::NotFound, Fault::NoFile) == Fault::NoFile);
     Ok(())
 }

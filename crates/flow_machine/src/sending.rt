@@ -46,12 +46,7 @@ fn declared_as<'a>(program: &'a Checked, name: &RawText) -> Option<(&'a Key, Kin
     signal_of(&program.program().declarations, name)
 }
 
-fn signaled(
-    alloc: Global,
-    request: &Key,
-    name: &Key,
-    value: &Value,
-) -> Result<Input, AllocError>
+fn signaled(alloc: Global, request: &Key, name: &Key, value: &Value) -> Result<Input, AllocError>
     ensures { IfOk result (λ i. i ≡ Input.Signaled name.now request.now value.now) }
 {
     let name = name.copy(alloc)?;

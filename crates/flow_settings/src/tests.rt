@@ -60,6 +60,9 @@ fn settings_are_made_within_their_ranges(rt: HostRuntime) -> Result<(), Fail> {
     assert!(rt; Settings::new(0, 4, 256) == None);
     assert!(rt; Settings::new(16, 0, 256) == None);
     assert!(rt; Settings::new(16, 4, 4097) == None);
-    assert!(rt; SettingsFault::BadSettings.number() == 96 && SettingsFault::NoMemory(NoMemory::told()).number() == 1);
+    assert!(rt;
+        SettingsFault::BadSettings.number() == 96
+            && SettingsFault::NoMemory(NoMemory::told()).number() == 1
+    );
     Ok(())
 }
