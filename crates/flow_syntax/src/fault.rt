@@ -1,4 +1,4 @@
-ghost use Rattle.std.specs.Prelude.{◌≡◌};
+ghost use Rattle.std.specs.Prelude.{◌≡◌, MatchResult, None, Some};
 ghost use Rattle.flow_syntax.specs.Faults.{fault_code, fault_place};
 
 use flow_base::code::Code;
