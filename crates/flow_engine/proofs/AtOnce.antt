@@ -183,7 +183,7 @@ module _ {S : Type 0} (g : Ghosts S) (old new : Keeping S) (batch : List Taken) 
     answers = λ sure. ap (kept_book g) same;
     kept = λ fit b keeps. subst (λ k. KeepsBook g k b) (sym same) keeps;
     count = tt;
-    cause = (inr refl, no_memory g old new (kept_book g old) cs);
+    cause = no_memory g old new (kept_book g old) cs code.NoMemory refl;
     stopped = tt;
     leaves = tt;
     sure = λ sure. subst (IsSure g) same sure;

@@ -91,8 +91,9 @@ given_up_then g old mid new b bs ds batch d long first then later same all one =
 
 ---- Answers
 
-pub no_memory : {S : Type 0} (g : Ghosts S) (old new : Keeping S) (b : Book) (cs : List Command) → GivesUp g old new b cs code.NoMemory
-no_memory g old new b cs is = absurd (cc)
+-- E01
+pub no_memory : {S : Type 0} (g : Ghosts S) (old new : Keeping S) (b : Book) (cs : List Command) (k : Code) → k ≡ code.NoMemory → IsGivenUp k × GivesUp g old new b cs k
+no_memory g old new b cs k is = (inr is, λ e. absurd (let clash : code.NoMemory ≡ code.StoreRefused = sym is ∙ e in cc))
 
 -- the cause of a code, by that of the fault
 pub gives_up_by : {S : Type 0} (g : Ghosts S) (old new : Keeping S) (b : Book) (batch : List Taken) (f : ViewFault) → (IsFit g new → IsGivenUpFor (WasRefused g old new) b batch (done.NotApplied f)) → GivesUp g old new b (commands_of batch) (view_fault_code f)

@@ -40,7 +40,7 @@ returns-in-Ok-clause-given_up g c =
     c.one_answer.ensures.given
 
 pub returns-clause-given_up : goal.returns-clause-given_up
-returns-clause-given_up g c t is = (inr refl, no_memory g.S.Store c.args.engine.now c.drive.new.engine (kept_book g.S.Store c.args.engine.now) (t.command ∷ []))
+returns-clause-given_up g c t is = no_memory g.S.Store c.args.engine.now c.drive.new.engine (kept_book g.S.Store c.args.engine.now) (t.command ∷ []) _ c.code.ensures
 
 pub returns-in-Ok-clause-stopped : goal.returns-in-Ok-clause-stopped
 returns-in-Ok-clause-stopped g c =

@@ -25,7 +25,7 @@ returns-in-Ok-clause-cause g c =
     c.answered.ensures.given_up
 
 pub returns-clause-cause : goal.returns-clause-cause
-returns-clause-cause g c = (inr refl, no_memory g.S.Store _ _ _ _)
+returns-clause-cause g c = no_memory g.S.Store _ _ _ _ _ c.code.ensures
 
 pub returns-in-Ok-clause-part : goal.returns-in-Ok-clause-part
 returns-in-Ok-clause-part g c =
