@@ -25,8 +25,8 @@ use Rattle.flow_commit.proofs.Sealing.{shut_on}
 use Rattle.flow_engine.specs.declared.done.Done.{Done}
 use Rattle.flow_engine.specs.declared.done.Done.TheVariants as done
 use Rattle.flow_engine.specs.Answering.{AreCaused, AreSingle, alone, given, replied}
-use Rattle.flow_engine.specs.Driving.{IsNoted, if_kept, kept_of}
-use Rattle.flow_engine.specs.Following.{down_since, refused_since, refused_still}
+use Rattle.flow_engine.specs.Driving.{if_kept, kept_of}
+use Rattle.flow_engine.specs.Following.{refused_since, refused_still}
 use Rattle.flow_engine.specs.GivingUp.{AreGivenUp, GivesUp, IsGivenUpFor, WasRefused}
 
 ---- One batch
@@ -77,15 +77,15 @@ given_up_more P b (x ∷ bs) (y ∷ ds) batch d long h one =
 pub given_up_then : {S : Type 0} (g : Ghosts S) (old mid new : Keeping S) (b : Book) (bs : List (List Taken)) (ds : List Done) (batch : List Taken) (d : Done) → length ds ≡ length bs
     → HasGoneOn g old mid → HasGoneOn g mid new → (mid.halted ≡ true → d ≡ done.Halted) → (mid.halted ≡ false → IsUp g mid → kept_book g mid ≡ after rules b (kept_of bs ds))
     → AreGivenUp (WasRefused g old mid) b bs ds → IsGivenUpFor (WasRefused g mid new) (kept_book g mid) batch d → AreGivenUp (WasRefused g old new) b (bs ++ batch ∷ []) (ds ++ d ∷ [])
-given_up_then g old mid new b bs ds batch d long first then later same all one =
+given_up_then g old mid new b bs ds batch d long before on later same all one =
     let book = after rules b (kept_of bs ds) in
-    let here = given_up_on (WasRefused g mid new) (WasRefused g old new) (λ k cs h. refused_since g old mid new k cs first h) (kept_book g mid) batch d one in
-    given_up_more (WasRefused g old new) b bs ds batch d long (all_given_up_on (WasRefused g old mid) (WasRefused g old new) (λ k cs h. refused_still g old mid new k cs then h) b bs ds all)
+    let here = given_up_on (WasRefused g mid new) (WasRefused g old new) (λ k cs h. refused_since g old mid new k cs before h) (kept_book g mid) batch d one in
+    given_up_more (WasRefused g old new) b bs ds batch d long (all_given_up_on (WasRefused g old mid) (WasRefused g old new) (λ k cs h. refused_still g old mid new k cs on h) b bs ds all)
     (given_up_over (WasRefused g old new) (kept_book g mid) book batch d (λ f is h. elim (cases_Bool mid.halted) [
       | inl halted ↦ absurd (let clash : done.Halted ≡ done.NotApplied f = sym (later halted) ∙ is in cc)
       | inr goes ↦ elim (cases_Bool (state_of g mid.stored).is_open) [
         | inl up ↦ subst (λ k. WasRefused g old new k (commands_of batch)) (same goes up) h
-        | inr shut ↦ inr (inr (inl (shut_on (state_of g mid.stored).is_open (state_of g new.stored).is_open then.up shut)))
+        | inr shut ↦ inr (inr (inl (shut_on (state_of g mid.stored).is_open (state_of g new.stored).is_open on.up shut)))
       ]
     ]) here)
 
@@ -124,10 +124,3 @@ module _ {S : Type 0} (g : Ghosts S) (old new : Keeping S) where
       ((given_up_by f, gives_up_by g old new b (t ∷ []) f (λ fit. (h fit).0)), given_caused b ts ds fewer single.1 (λ fit. (h fit).1))
   given_caused b (t ∷ ts) (done.Unknown ∷ ds) long single h = tt
   given_caused b (t ∷ ts) (done.Halted ∷ ds) long single h = tt
-
--- what is kept of a batch is counted
-pub noted_counts : {S : Type 0} (old new : Keeping S) (batch : List Taken) (d : Done) → IsNoted old new batch d → old.kept ≤ new.kept
-noted_counts old new batch (done.Kept rs) h = let is : new.kept ≡ old.kept + length batch = h.1 in omega (arith, is)
-noted_counts old new batch (done.NotApplied f) h = let is : new.kept ≡ old.kept = h.1 in omega (arith, is)
-noted_counts old new batch done.Unknown h = let is : new.kept ≡ old.kept = h.1 in omega (arith, is)
-noted_counts {S} old new batch done.Halted h = let is : new.kept ≡ old.kept = ap (λ (k : Keeping S). k.kept) h.1 in omega (arith, is)

@@ -26,7 +26,7 @@ returns-in-NotApplied-clause-cause g c fit b keeps =
     subst (λ (batch : List Taken). IsFor g.S.Store c.args.engine.now c.commit.new.self b c.args.batch (NotApplied batch c.in-NotApplied.fault)) h.1 (c.in-NotApplied.ensures.cause fit b keeps)
 
 pub returns-in-NotApplied-clause-why : goal.returns-in-NotApplied-clause-why
-returns-in-NotApplied-clause-why g c fit = refused_done g.S.Store c.args.engine.now c.commit.new.self c.args.batch _ c.in-NotApplied.fault (c.in-NotApplied.ensures.goes_on fit).counts (c.in-NotApplied.ensures.why fit)
+returns-in-NotApplied-clause-why g c fit = refused_done g.S.Store c.args.engine.now c.commit.new.self c.args.batch _ c.in-NotApplied.fault (c.commit.ensures.goes_on fit).counts (c.in-NotApplied.ensures.why fit)
 
 pub returns-in-Unknown-clause-cause : goal.returns-in-Unknown-clause-cause
 returns-in-Unknown-clause-cause g c fit b keeps = (c.in-Unknown._fault, c.in-Unknown.ensures.cause fit b keeps)
