@@ -8,6 +8,7 @@ pub mod Lines
 pub mod Runs
 pub mod Safeties
 pub mod Answering
+pub mod Later
 pub mod Batches
 pub mod SomeLines
 pub mod Stopping

@@ -6,3 +6,4 @@ pub mod Posting
 pub mod Sealing
 pub mod Seating
 pub mod BoardRows
+pub mod Refusing

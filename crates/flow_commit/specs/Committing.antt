@@ -13,14 +13,14 @@ use Rattle.flow_base.specs.declared.book.Change.{Change}
 use Rattle.flow_base.specs.declared.book.Change.TheVariants.{SetAttempt}
 use Rattle.flow_view.specs.declared.fault.ViewFault.{ViewFault}
 use Rattle.flow_view.specs.declared.fault.ViewFault.TheVariants as fault
-use Rattle.flow_tables.specs.Faults.{HasFailed, IsCutOff}
+use Rattle.flow_tables.specs.Faults.{HasFailed, IsCutOff, Since}
 use Rattle.flow_tables.specs.States.{HasGoneBack}
 use Rattle.flow_tables.specs.Owned.{Stored, state_of, IsUp, Keeps, Follows, Refuses, LeavesEither}
 use Rattle.flow_commit.specs.declared.outcome.Outcome.{Outcome}
 use Rattle.flow_commit.specs.declared.outcome.Outcome.TheVariants as outcomes
 use Rattle.flow_commit.specs.declared.transaction.End.{End}
 use Rattle.flow_commit.specs.declared.transaction.End.TheVariants as end
-use Rattle.flow_commit.specs.Keeping.{Keeping, rules, IsWell, commands_of, HasKept, HasRefused, IsUnknown}
+use Rattle.flow_commit.specs.Keeping.{Keeping, rules, IsWell, commands_of, kept_book, HasKept, HasRefused, IsUnknown}
 use Rattle.flow_commit.specs.Stamps.{Stamped}
 
 -- how a transaction has ended that was to apply commands to a book
@@ -84,6 +84,19 @@ abbrev pub IsFor : {S : Type 0} → Ghosts S → Keeping S → Keeping S → Boo
 IsFor g old new b batch (outcomes.NotApplied back fault.StoreRefused) = HasNoRoom old.kept batch ⊎ (CantBeApplied b (commands_of batch) ⊎ WasGivenUp g old.stored new.stored)
 IsFor g old new b batch (outcomes.Unknown back f) = WasCutOff g old.stored new.stored f
 IsFor g old new b batch _ = Unit {0}
+
+-- E80 of a commit in the words of what the keeper is before and behind, over the book that is read off the tables: the last place would
+-- be past the last number, the batch can't be applied, or the connection is shut or the store hindered what was done.
+abbrev pub IsRefusedFor : {S : Type 0} → Ghosts S → Keeping S → Keeping S → List Taken → Outcome S → Type 0
+IsRefusedFor g old new batch (outcomes.NotApplied back fault.StoreRefused) = HasNoRoom old.kept batch ⊎ (CantBeApplied (kept_book g old) (commands_of batch) ⊎ IsDown g old.stored new.stored)
+IsRefusedFor g old new batch _ = Unit {0}
+
+-- What holds from call to call: no failure of the disk is forgotten and the limit on the steps of a query stays, a connection that is
+-- shut stays shut, and each command that is kept is counted.
+pub record HasGoneOn {S : Type 0} (g : Ghosts S) (old new : Keeping S) : Type 0 where
+  pub since : Since (state_of g old.stored) (state_of g new.stored)
+  pub up : IsUp g new.stored → IsUp g old.stored
+  pub counts : old.kept ≤ new.kept
 
 -- what a commit has done, by its outcome
 abbrev pub HasCommitted : {S : Type 0} → Ghosts S → Keeping S → Keeping S → Book → List Taken → Outcome S → Type 0

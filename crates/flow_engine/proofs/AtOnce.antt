@@ -23,7 +23,10 @@ use Rattle.flow_engine.specs.Driving.{NotesAll, Runs, has_unknown, kept_of, in_h
 use Rattle.flow_engine.specs.Together.{HasRunOnce, IsToldOf, IsTogether, are_kept}
 use Rattle.flow_engine.proofs.Committed.{one_book}
 use Rattle.flow_engine.proofs.OneMore.{WasOwn}
-use Rattle.flow_engine.proofs.Singly.{given_up_by}
+use Rattle.flow_engine.specs.GivingUp.{AreGivenUp, GivesUp, WasRefused}
+use Rattle.flow_commit.specs.Committing.{HasGoneOn}
+use Rattle.flow_commit.proofs.Refusing.{gone_on_self}
+use Rattle.flow_engine.proofs.GivingUp.{given_up_by, gives_up_by, no_memory}
 
 -- What the loop tells of one batch.
 pub record HasDrivenOne {S : Type 0} (g : Ghosts S) (old new : Keeping S) (batch : List Taken) (d : Done) : Type 0 where
@@ -32,6 +35,8 @@ pub record HasDrivenOne {S : Type 0} (g : Ghosts S) (old new : Keeping S) (batch
   pub noted : old.halted ≡ false → NotesAll old new (batch ∷ []) (d ∷ [])
   pub up : IsFit g new → IsUp g new → IsUp g old
   pub own : IsFit g new → IsUp g old → WasOwn g old new
+  pub given_up : IsFit g new → AreGivenUp (WasRefused g old new) (kept_book g old) (batch ∷ []) (d ∷ [])
+  pub on : IsFit g new → HasGoneOn g old new
 
 abbrev head_of : Done → List Done → Done
 head_of d [] = d
@@ -115,6 +120,7 @@ module _ {S : Type 0} (g : Ghosts S) (old new : Keeping S) (batch : List Taken) 
         leaves = tt;
         sure = is_sure (done.Kept rs) driven;
         follows = (driven.runs.opened, driven.runs.fit);
+        goes_on = driven.on;
         part = inl (part_of (done.Kept rs) driven (Ok (together.Replied l)) told);
       }
   all_together (done.Kept rs) (Ok (together.NotApplied k)) driven told = absurd told
@@ -126,11 +132,12 @@ module _ {S : Type 0} (g : Ghosts S) (old new : Keeping S) (batch : List Taken) 
         answers = none_sure (done.NotApplied f) driven went refl refl;
         kept = none_kept (done.NotApplied f) driven went refl refl;
         count = tt;
-        cause = (subst IsGivenUp (sym told) (given_up_by f), tt);
+        cause = subst (λ x. IsGivenUp x × GivesUp g old new (kept_book g old) (commands_of batch) x) (sym told) (given_up_by f, gives_up_by g old new (kept_book g old) batch f (λ fit. (driven.given_up fit).0));
         stopped = tt;
         leaves = tt;
         sure = is_sure (done.NotApplied f) driven;
         follows = (driven.runs.opened, driven.runs.fit);
+        goes_on = driven.on;
         part = inl (part_of (done.NotApplied f) driven (Ok (together.NotApplied k)) told);
       }
   all_together (done.NotApplied f) (Err s) driven told = absurd told
@@ -146,6 +153,7 @@ module _ {S : Type 0} (g : Ghosts S) (old new : Keeping S) (batch : List Taken) 
         leaves = hand_left done.Unknown driven went refl (append-nil (commands_of batch));
         sure = is_sure done.Unknown driven;
         follows = (driven.runs.opened, driven.runs.fit);
+        goes_on = driven.on;
         part = inl (part_of done.Unknown driven (Err s) told);
       }
   all_together done.Halted (Ok t) driven told = absurd told
@@ -161,6 +169,7 @@ module _ {S : Type 0} (g : Ghosts S) (old new : Keeping S) (batch : List Taken) 
         leaves = λ fit b keeps db may. inl ((subst (λ k. KeepsBook g k b) (sym same) keeps).stops db may);
         sure = is_sure done.Halted driven;
         follows = (driven.runs.opened, driven.runs.fit);
+        goes_on = driven.on;
         part = inl (part_of done.Halted driven (Err s) told);
       }
     where
@@ -174,11 +183,12 @@ module _ {S : Type 0} (g : Ghosts S) (old new : Keeping S) (batch : List Taken) 
     answers = λ sure. ap (kept_book g) same;
     kept = λ fit b keeps. subst (λ k. KeepsBook g k b) (sym same) keeps;
     count = tt;
-    cause = (inr refl, tt);
+    cause = no_memory g old new (kept_book g old) cs code.NoMemory refl;
     stopped = tt;
     leaves = tt;
     sure = λ sure. subst (IsSure g) same sure;
     follows = (ap (λ (k : Keeping S). k.stored.opened) same, λ fit. subst (IsFit g) same fit);
+    goes_on = λ fit. subst (λ k. HasGoneOn g old k) (sym same) (gone_on_self g old);
     part = inr (same, refl);
   }
 
@@ -201,13 +211,16 @@ first_of (y ∷ []) x one is = ap (λ z. z ∷ []) (sym is)
 first_of (y ∷ (z ∷ xs)) x one is = absurd (omega (arith, one))
 
 pub driven_one : {S : Type 0} (g : Ghosts S) (old new : Keeping S) (bs : List (List Taken)) (ds : List Done) (batch : List Taken) (d : Done) → bs ≡ batch ∷ [] → ds ≡ d ∷ [] → 1 ≤ length batch
-    → Runs g old new bs ds → (old.halted ≡ false → NotesAll old new bs ds) → (IsFit g new → IsUp g new → IsUp g old) → (IsFit g new → IsUp g old → WasOwn g old new) → HasDrivenOne g old new batch d
-driven_one g old new bs ds batch d one_batch one_done some runs noted up own = record {
+    → Runs g old new bs ds → (old.halted ≡ false → NotesAll old new bs ds) → (IsFit g new → IsUp g new → IsUp g old) → (IsFit g new → IsUp g old → WasOwn g old new)
+    → (IsFit g new → AreGivenUp (WasRefused g old new) (kept_book g old) bs ds) → (IsFit g new → HasGoneOn g old new) → HasDrivenOne g old new batch d
+driven_one g old new bs ds batch d one_batch one_done some runs noted up own given_up on = record {
   some = some;
   runs = subst (λ x. Runs g old new x (d ∷ [])) one_batch (subst (λ x. Runs g old new bs x) one_done runs);
   noted = λ goes. subst (λ x. NotesAll old new x (d ∷ [])) one_batch (subst (λ x. NotesAll old new bs x) one_done (noted goes));
   up = up;
   own = own;
+  given_up = λ fit. subst (λ x. AreGivenUp (WasRefused g old new) (kept_book g old) x (d ∷ [])) one_batch (subst (λ x. AreGivenUp (WasRefused g old new) (kept_book g old) bs x) one_done (given_up fit));
+  on = on;
 }
 
 -- a batch has a receipt for each command at most

@@ -13,3 +13,4 @@ pub mod Serving
 pub mod Standing
 pub mod Stopping
 pub mod Walking
+pub mod GivingUp

@@ -1,5 +1,6 @@
 -- One more batch that is committed.
 use Rattle.std.proofs.Common.{◌≡◌, ◌⊎◌, inl, inr, ◌+◌, Bool, true, false, List, [], ◌∷◌, ◌++◌, length, refl, sym, ap, ◌∙◌, subst, arith, append-nil, append_assoc, length-append}
+use Rattle.std.proofs.lemmas.Bool.{cases_Bool}
 use Rattle.std.proofs.lemmas.List.{length-map}
 use Rattle.sqlite_trees.specs.declared.store.Store.{Ghosts}
 use Rattle.flow_base.specs.declared.command.Command.{Command}
@@ -17,6 +18,12 @@ use Rattle.flow_commit.specs.Keeping.{Keeping, rules, IsFit, IsUp, IsWell, Keeps
 use Rattle.flow_engine.specs.declared.done.Done.{Done}
 use Rattle.flow_engine.specs.declared.done.Done.TheVariants as done
 use Rattle.flow_engine.specs.Driving.{HasDone, IsDoneFor, Passes, IsNoted, AreAnswers, NotesAll, LeadsTo, Drives, IsLeft, all_halted, has_unknown, if_kept, if_unknown, kept_of, in_hand}
+use Rattle.flow_engine.specs.Following.{gone_on_then}
+use Rattle.flow_engine.specs.GivingUp.{AreGivenUp, IsGivenUpFor, WasRefused}
+use Rattle.flow_commit.specs.Committing.{HasGoneOn}
+use Rattle.flow_commit.proofs.Refusing.{gone_on_self}
+use Rattle.flow_engine.proofs.Committed.{one_book}
+use Rattle.flow_engine.proofs.GivingUp.{given_up_then}
 use Rattle.flow_engine.proofs.Gathering.{off, same_length, gathered_more, unknown_behind, known_behind, none_in_hand, answers_more, all_halted_more, halted_more, noted_more, noted_halted, replies_told}
 
 -- one batch more, from the engine that the others have led to
@@ -163,6 +170,10 @@ module _ {S : Type 0} (old mid new : Keeping S) (bs : List (List Taken)) (ds : L
 
 ---- The loop
 
+pub none_left : {A : Type 0} (xs : List A) → length xs ≡ 0 → xs ≡ []
+none_left [] e = refl
+none_left (x ∷ xs) e = absurd (omega (arith, e))
+
 -- nothing has changed, or the book read off the tables was kept
 abbrev pub WasOwn : {S : Type 0} → Ghosts S → Keeping S → Keeping S → Type 0
 WasOwn g old new = (new ≡ old) ⊎ KeepsBook g old (kept_book g old)
@@ -184,6 +195,8 @@ pub record Drove {S : Type 0} (g : Ghosts S) (old now : Keeping S) (whole left :
   pub opened : now.stored.opened ≡ old.stored.opened
   pub up : IsFit g now → IsUp g now → IsUp g old
   pub own : IsFit g now → IsUp g old → WasOwn g old now
+  pub on : IsFit g now → HasGoneOn g old now
+  pub given : IsFit g now → AreGivenUp (WasRefused g old now) (kept_book g old) behind ds
 
 pub none_yet : {S : Type 0} (g : Ghosts S) (old : Keeping S) (whole left : List (List Taken)) (ds : List Done) → whole ≡ left → ds ≡ [] → Drove g old old whole left ds
 none_yet {S = S} g old whole left ds all none = record {
@@ -198,13 +211,32 @@ none_yet {S = S} g old whole left ds all none = record {
   opened = refl;
   up = λ _ up. up;
   own = λ _ _. inl refl;
+  on = λ _. gone_on_self g old;
+  given = λ _. tt;
 }
+
+-- while the engine goes on and its connection is open, the book read off the tables is the one that the batches left
+book_here : {S : Type 0} (g : Ghosts S) (old mid : Keeping S) (whole now : List (List Taken)) (ds : List Done) (was : Drove g old mid whole now ds) → IsFit g mid → mid.halted ≡ false → IsUp g mid → kept_book g mid ≡ after rules (kept_book g old) (kept_of was.behind ds)
+book_here {S} g old mid whole now ds was fit goes up =
+    let went : old.halted ≡ false = elim (cases_Bool old.halted) [
+      | inl halted ↦ off (sym (ap (λ (k : Keeping S). k.halted) (was.halted halted) ∙ halted) ∙ goes)
+      | inr on ↦ on
+    ] in
+    elim (was.own fit (was.up fit up)) [
+      | inl same ↦
+          let counts : mid.kept ≡ old.kept + length (kept_of was.behind ds) = (was.noted went).counts in
+          let kept : mid.kept ≡ old.kept = ap (λ (k : Keeping S). k.kept) same in
+          let none = none_left (kept_of was.behind ds) (omega (arith, counts, kept)) in
+          ap (kept_book g) same ∙ sym (ap (after rules (kept_book g old)) none)
+      | inr keeps ↦ one_book g mid _ up ((was.reached fit (kept_book g old) keeps went).1.book (sym (was.noted went).halted ∙ goes))
+    ]
 
 pub drove_more : {S : Type 0} (g : Ghosts S) (old mid new : Keeping S) (whole now left : List (List Taken)) (ds : List Done) (batch : List Taken) (d : Done) → now ≡ batch ∷ left → Drove g old mid whole now ds
     → (IsFit g new → IsFit g mid) → (IsFit g new → (b : Book) → KeepsBook g mid b → HasDone g mid new b batch d) → (IsFit g new → (b : Book) → KeepsBook g mid b → IsDoneFor g mid new b batch d) → (mid.halted ≡ true → new ≡ mid) → (mid.halted ≡ true → d ≡ done.Halted)
     → IsNoted mid new batch d → new.stored.opened ≡ mid.stored.opened → (IsFit g new → IsUp g new → IsUp g mid) → (IsFit g new → IsUp g mid → WasOwn g mid new)
+    → (IsFit g new → HasGoneOn g mid new) → (IsFit g new → IsGivenUpFor (WasRefused g mid new) (kept_book g mid) batch d)
     → Drove g old new whole left (ds ++ d ∷ [])
-drove_more {S = S} g old mid new whole now left ds batch d next was fit does why halted later noted opened up own = record {
+drove_more {S = S} g old mid new whole now left ds batch d next was fit does why halted later noted opened up own on given = record {
   behind = was.behind ++ batch ∷ [];
   split = was.split ∙ ap (λ l. was.behind ++ l) next ∙ sym (append_assoc was.behind (batch ∷ []) left);
   fit = λ h. was.fit (fit h);
@@ -216,6 +248,8 @@ drove_more {S = S} g old mid new whole now left ds batch d next was fit does why
   opened = opened ∙ was.opened;
   up = λ h above. was.up (fit h) (up h above);
   own = λ h above. own_more g old mid new above (was.own (fit h) above) (own h);
+  on = λ h. gone_on_then g old mid new (was.on (fit h)) (on h);
+  given = λ h. given_up_then g old mid new (kept_book g old) was.behind ds batch d was.count (was.on (fit h)) (on h) later (book_here g old mid whole now ds was (fit h)) (was.given (fit h)) (given h);
 }
 
 module _ {S : Type 0} (g : Ghosts S) (old new : Keeping S) (whole left : List (List Taken)) (ds : List Done) (drove : Drove g old new whole left ds) (none : left ≡ []) where
@@ -230,15 +264,14 @@ module _ {S : Type 0} (g : Ghosts S) (old new : Keeping S) (whole left : List (L
   pub all_later : old.halted ≡ true → ds ≡ all_halted whole
   all_later h = drove.later h ∙ ap all_halted all_behind
 
+  pub all_given_up : IsFit g new → AreGivenUp (WasRefused g old new) (kept_book g old) whole ds
+  all_given_up fit = subst (λ bs. AreGivenUp (WasRefused g old new) (kept_book g old) bs ds) all_behind (drove.given fit)
+
   pub all_counted : length ds ≡ length whole
   all_counted = drove.count ∙ ap length all_behind
 
   pub all_noted : old.halted ≡ false → NotesAll old new whole ds
   all_noted goes = subst (λ bs. NotesAll old new bs ds) all_behind (drove.noted goes)
-
-pub none_left : {A : Type 0} (xs : List A) → length xs ≡ 0 → xs ≡ []
-none_left [] e = refl
-none_left (x ∷ xs) e = absurd (omega (arith, e))
 
 ---- Books such as commands make
 

@@ -12,7 +12,7 @@ use Rattle.flow_view.specs.Codes.{view_fault_code}
 use Rattle.flow_model.specs.Book.{Book}
 use Rattle.flow_model.specs.Apply.{after, after_one}
 use Rattle.flow_model.proofs.Logs.{after_cut}
-use Rattle.flow_machine.specs.Answers.{Answers, IsGivenUp}
+use Rattle.flow_machine.specs.Answers.{Answers, CausedAnswer}
 use Rattle.flow_machine.specs.declared.answer.Answer.{Answer}
 use Rattle.flow_machine.specs.declared.answer.Answer.TheVariants as answer
 use Rattle.flow_machine.specs.declared.answer.Stop.{Stop}
@@ -29,6 +29,8 @@ use Rattle.flow_engine.specs.Driving.{AreAnswers, AreNoted, NotesAll, Drives, Ru
 use Rattle.flow_engine.specs.Answering.{IsSure, HasStopped, AnswersAll, AreCaused, KeepsAnswered, StopsBehind, IsStopped, EndsEarly, LeavesBehind, TellsStop, AreAlone, AreCut, AreSingle, alone, replied, given, first_stop, IsPart, IsPartUpTo}
 use Rattle.flow_engine.proofs.Committed.{one_book}
 use Rattle.flow_engine.proofs.Gathering.{no_hand_of_halted, none_kept_of_halted}
+use Rattle.flow_engine.specs.GivingUp.{AreGivenUp, GivesUp, WasRefused}
+use Rattle.flow_engine.proofs.GivingUp.{given_caused}
 use Rattle.flow_engine.proofs.OneMore.{WasOwn}
 
 none_is : {A : Type 0} {x : Stop} → Some x ≡ None → A
@@ -85,21 +87,6 @@ given_fewer (done.Kept rs ∷ ds) s h e =
 given_fewer (done.NotApplied f ∷ ds) s h e = let rest : length (given ds) < length ds = given_fewer ds s h.1 e in omega (arith, rest)
 given_fewer (done.Unknown ∷ ds) s h e = omega arith
 given_fewer (done.Halted ∷ ds) s h e = omega arith
-
-pub given_up_by : (f : ViewFault) → IsGivenUp (view_fault_code f)
-given_up_by (fault.NoMemory _) = inr refl
-given_up_by fault.StoreRefused = inl refl
-
-replied_caused : (rs : List Receipt) (rest : List Answer) → AreCaused rest → AreCaused (map replied rs ++ rest)
-replied_caused [] rest h = h
-replied_caused (r ∷ rs) rest h = (tt, replied_caused rs rest h)
-
-pub given_caused : (ds : List Done) → AreCaused (given ds)
-given_caused [] = tt
-given_caused (done.Kept rs ∷ ds) = replied_caused rs.items (given ds) (given_caused ds)
-given_caused (done.NotApplied f ∷ ds) = ((given_up_by f, tt), given_caused ds)
-given_caused (done.Unknown ∷ ds) = tt
-given_caused (done.Halted ∷ ds) = tt
 
 ---- Stops
 
@@ -197,12 +184,14 @@ pub record HasDriven {S : Type 0} (g : Ghosts S) (old new : Keeping S) (ts : Lis
   pub fit : IsFit g new → IsFit g old
   pub up : IsFit g new → IsUp g new → IsUp g old
   pub own : IsFit g new → IsUp g old → WasOwn g old new
+  pub given_up : IsFit g new → AreGivenUp (WasRefused g old new) (kept_book g old) (map alone ts) ds
 
 pub driven_alone : {S : Type 0} (g : Ghosts S) (old new : Keeping S) (bs : List (List Taken)) (ds : List Done) (ts : List Taken) → bs ≡ map alone ts
     → (IsFit g new → (b : Book) → KeepsBook g old b → old.halted ≡ false → Drives g old new b bs ds) → (old.halted ≡ false → NotesAll old new bs ds)
     → (old.halted ≡ true → new ≡ old) → (old.halted ≡ true → ds ≡ all_halted bs) → length ds ≡ length bs
-    → (IsFit g new → IsFit g old) → (IsFit g new → IsUp g new → IsUp g old) → (IsFit g new → IsUp g old → WasOwn g old new) → HasDriven g old new ts ds
-driven_alone g old new bs ds ts are drives noted halted later count fit up own = record {
+    → (IsFit g new → IsFit g old) → (IsFit g new → IsUp g new → IsUp g old) → (IsFit g new → IsUp g old → WasOwn g old new)
+    → (IsFit g new → AreGivenUp (WasRefused g old new) (kept_book g old) bs ds) → HasDriven g old new ts ds
+driven_alone g old new bs ds ts are drives noted halted later count fit up own given_up = record {
   drives = λ f b keeps goes. subst (λ l. Drives g old new b l ds) are (drives f b keeps goes);
   noted = λ goes. subst (λ l. NotesAll old new l ds) are (noted goes);
   halted = halted;
@@ -211,6 +200,7 @@ driven_alone g old new bs ds ts are drives noted halted later count fit up own =
   fit = fit;
   up = up;
   own = own;
+  given_up = λ f. subst (λ l. AreGivenUp (WasRefused g old new) (kept_book g old) l ds) are (given_up f);
 }
 
 module _ {S : Type 0} (g : Ghosts S) (old new : Keeping S) (ts : List Taken) (ds : List Done) (driven : HasDriven g old new ts ds) where
@@ -223,6 +213,9 @@ module _ {S : Type 0} (g : Ghosts S) (old new : Keeping S) (ts : List Taken) (ds
 
   pub as_many : length ds ≡ length (commands_of ts)
   as_many = driven.count ∙ length-map ts alone ∙ sym (length-map ts command_of)
+
+  pub are_caused : AreCaused (GivesUp g old new) (kept_book g old) (commands_of ts) (given ds)
+  are_caused = given_caused g old new (kept_book g old) ts ds (driven.count ∙ length-map ts alone) are_single driven.given_up
 
   -- an engine that had halted before answers nothing
   answers_none : (b last : Book) → ds ≡ all_halted (map alone ts) → first_stop ds ≡ None → last ≡ b → AnswersAll rules b last (commands_of ts) (given ds)
@@ -320,17 +313,21 @@ module _ {S : Type 0} (g : Ghosts S) (old new : Keeping S) (ts : List Taken) (ds
     pub has_stopped : HasStopped old new s
     has_stopped = (stopped_by old.halted refl).0
 
-    pub is_stopped : IsStopped old new (commands_of ts) (given ds) s
+    pub is_stopped : IsStopped g old new (commands_of ts) (given ds) s
     is_stopped =
         let fewer : length (given ds) < length ds = given_fewer ds s are_single e in
         let many : length ds ≡ length (commands_of ts) = as_many in
-        record { how = has_stopped; fewer = omega (arith, fewer, many); none = (stopped_by old.halted refl).1; caused = given_caused ds }
+        record { how = has_stopped; fewer = omega (arith, fewer, many); none = (stopped_by old.halted refl).1; caused = are_caused }
 
 ---- One command
 
 pub one_answered : (b last : Book) (t : Taken) (a : Answer) → AnswersAll rules b last (t.command ∷ []) (a ∷ []) → Answers rules b last t.command a
 one_answered b last t (answer.Replied r) h = h
 one_answered b last t (answer.NotApplied k) h = h
+
+pub one_caused : {S : Type 0} (g : Ghosts S) (old new : Keeping S) (b : Book) (c : Command) (a : Answer) → AreCaused (GivesUp g old new) b (c ∷ []) (a ∷ []) → CausedAnswer (GivesUp g old new b (c ∷ [])) a
+one_caused g old new b c (answer.Replied r) h = tt
+one_caused g old new b c (answer.NotApplied k) h = h.0
 
 pub one_of : {A : Type 0} (xs : List A) → length xs ≡ 1 → (x : A) × (xs ≡ x ∷ [])
 one_of [] e = absurd (omega (arith, e))
@@ -427,12 +424,12 @@ module _ {S : Type 0} (g : Ghosts S) (old new : Keeping S) (ts : List Taken) (ds
   pub all_there : (l : List Answer) → l ≡ before ++ given ds → first_stop ds ≡ None → length l ≡ length ds
   all_there l is e = ap length (from_none l is) ∙ given_long ds (are_single g old new ts ds driven) e
 
-  pub all_caused : (l : List Answer) → l ≡ before ++ given ds → AreCaused l
-  all_caused l is = subst AreCaused (sym (from_none l is)) (given_caused ds)
+  pub all_caused : (l : List Answer) → l ≡ before ++ given ds → AreCaused (GivesUp g old new) (kept_book g old) (commands_of ts) l
+  all_caused l is = subst (AreCaused (GivesUp g old new) (kept_book g old) (commands_of ts)) (sym (from_none l is)) (are_caused g old new ts ds driven)
 
-  pub ends_early : (u : Unanswered) → TellsStop before ds u → EndsEarly old new (commands_of ts) u
+  pub ends_early : (u : Unanswered) → TellsStop before ds u → EndsEarly g old new (commands_of ts) u
   ends_early (unanswered.NoMemory _) h = absurd h
-  ends_early (unanswered.Stopped l s) h = subst (λ x. IsStopped old new (commands_of ts) x s) (sym (from_none l.items h.0)) (is_stopped g old new ts ds driven s h.1)
+  ends_early (unanswered.Stopped l s) h = subst (λ x. IsStopped g old new (commands_of ts) x s) (sym (from_none l.items h.0)) (is_stopped g old new ts ds driven s h.1)
 
   pub leaves_early : (u : Unanswered) → TellsStop before ds u → IsFit g new → (b : Book) → KeepsBook g old b → LeavesBehind g new b (commands_of ts) u
   leaves_early (unanswered.NoMemory _) h fit b keeps = absurd h

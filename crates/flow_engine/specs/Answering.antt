@@ -4,9 +4,10 @@ use Rattle.sqlite_trees.specs.declared.store.Store.{Ghosts}
 use Rattle.flow_base.specs.declared.command.Command.{Command}
 use Rattle.flow_model.specs.Apply.{Rules, outcome, after, after_one}
 use Rattle.flow_model.specs.Book.{Book}
+use Rattle.flow_base.specs.declared.code.Code.{Code}
 use Rattle.flow_base.specs.declared.code.Code.TheVariants as code
 use Rattle.flow_view.specs.Codes.{view_fault_code}
-use Rattle.flow_machine.specs.Answers.{CausedAnswer}
+use Rattle.flow_machine.specs.Answers.{IsGivenUp}
 use Rattle.flow_machine.specs.declared.answer.Answer.{Answer}
 use Rattle.flow_machine.specs.declared.answer.Answer.TheVariants as answer
 use Rattle.flow_machine.specs.declared.answer.Stop.{Stop}
@@ -14,8 +15,9 @@ use Rattle.flow_machine.specs.declared.answer.Stop.TheVariants as stop
 use Rattle.flow_machine.specs.declared.submission.Taken.{Taken}
 use Rattle.flow_machine.specs.declared.submission.Receipt.{Receipt}
 use Rattle.flow_tables.specs.Owned.{state_of, LeavesEither}
-use Rattle.flow_commit.specs.Keeping.{Keeping, rules, IsFit, IsUp, KeepsBook, commands_of}
+use Rattle.flow_commit.specs.Keeping.{Keeping, rules, IsFit, IsUp, KeepsBook, commands_of, kept_book}
 use Rattle.flow_engine.specs.Driving.{Runs, commands_in}
+use Rattle.flow_engine.specs.GivingUp.{GivesUp}
 use Rattle.flow_engine.specs.declared.done.Done.{Done}
 use Rattle.flow_engine.specs.declared.done.Done.TheVariants as done
 use Rattle.flow_engine.specs.declared.done.Unanswered.{Unanswered}
@@ -51,10 +53,13 @@ AnswersAll u b last (c ∷ cs) [] = ⊥
 AnswersAll u b last (c ∷ cs) (answer.Replied r ∷ rest) = (r ≡ (outcome u b c).reply) × AnswersAll u (after_one u b c) last cs rest
 AnswersAll u b last (c ∷ cs) (answer.NotApplied k ∷ rest) = AnswersAll u b last cs rest
 
--- each that isn't applied is given up with E80 or E01
-abbrev pub AreCaused : List Answer → Type 0
-AreCaused [] = Unit {0}
-AreCaused (a ∷ rest) = CausedAnswer (λ _. Unit {0}) a × AreCaused rest
+-- Each that isn't applied is given up with E80 or E01, and this stands behind it, over the book that those before it have led to.
+abbrev pub AreCaused : (Book → List Command → Code → Type 0) → Book → List Command → List Answer → Type 0
+AreCaused cause b [] [] = Unit {0}
+AreCaused cause b [] (a ∷ rest) = ⊥
+AreCaused cause b (c ∷ cs) [] = Unit {0}
+AreCaused cause b (c ∷ cs) (answer.Replied r ∷ rest) = AreCaused cause (after_one rules b c) cs rest
+AreCaused cause b (c ∷ cs) (answer.NotApplied k ∷ rest) = (IsGivenUp k × cause b (c ∷ []) k) × AreCaused cause b cs rest
 
 -- All commands were answered over this book, and the book behind them is kept.
 pub record KeepsAnswered {S : Type 0} (g : Ghosts S) (new : Keeping S) (b : Book) (commands : List Command) (answers : List Answer) : Type 0 where
@@ -81,16 +86,16 @@ pub record StopsBehind {S : Type 0} (g : Ghosts S) (new : Keeping S) (b : Book) 
 
 -- What is told of a stop whatever the disk tells: at least one command has no answer, and all of them where the engine had halted
 -- before.
-pub record IsStopped {S : Type 0} (old new : Keeping S) (commands : List Command) (answers : List Answer) (s : Stop) : Type 0 where
+pub record IsStopped {S : Type 0} (g : Ghosts S) (old new : Keeping S) (commands : List Command) (answers : List Answer) (s : Stop) : Type 0 where
   pub how : HasStopped old new s
   pub fewer : length answers < length commands
   pub none : s ≡ stop.Halted → answers ≡ []
-  pub caused : AreCaused answers
+  pub caused : AreCaused (GivesUp g old new) (kept_book g old) commands answers
 
 -- Why not all commands of a list were answered. Where memory was wanting nothing has changed.
-abbrev pub EndsEarly : {S : Type 0} → Keeping S → Keeping S → List Command → Unanswered → Type 0
-EndsEarly old new commands (unanswered.NoMemory _) = new ≡ old
-EndsEarly old new commands (unanswered.Stopped answers s) = IsStopped old new commands answers.items s
+abbrev pub EndsEarly : {S : Type 0} → Ghosts S → Keeping S → Keeping S → List Command → Unanswered → Type 0
+EndsEarly g old new commands (unanswered.NoMemory _) = new ≡ old
+EndsEarly g old new commands (unanswered.Stopped answers s) = IsStopped g old new commands answers.items s
 
 -- and what that leaves of a book that was kept
 abbrev pub LeavesBehind : {S : Type 0} → Ghosts S → Keeping S → Book → List Command → Unanswered → Type 0

@@ -7,3 +7,5 @@ pub mod Together
 pub mod Worlds
 pub mod Serving
 pub mod Boarding
+pub mod Following
+pub mod GivingUp

@@ -15,6 +15,8 @@ use Rattle.flow_machine.specs.declared.submission.Taken.{Taken}
 use Rattle.flow_tables.specs.Owned.{state_of, LeavesEither}
 use Rattle.flow_commit.specs.Keeping.{Keeping, rules, IsFit, KeepsBook, commands_of, kept_book}
 use Rattle.flow_engine.specs.Answering.{IsSure, Follows, HasStopped}
+use Rattle.flow_commit.specs.Committing.{HasGoneOn}
+use Rattle.flow_engine.specs.GivingUp.{GivesUp}
 use Rattle.flow_engine.specs.Driving.{Runs, reply_of}
 use Rattle.flow_engine.specs.declared.done.Done.{Done}
 use Rattle.flow_engine.specs.declared.done.Done.TheVariants as done
@@ -61,9 +63,10 @@ pub record IsTogether {S : Type 0} (g : Ghosts S) (old new : Keeping S) (command
   pub answers : IfOk result (λ t. IsSure g new → AnswersTogether rules (kept_book g old) (kept_book g new) commands t)
   pub kept : IfOk result (λ t. IsFit g new → (b : Book) → KeepsBook g old b → KeepsTogether g new b commands t)
   pub count : IfOk result (λ t. CountsTogether commands t)
-  pub cause : IfOk result (λ t. CausedTogether (λ _. Unit {0}) t)
+  pub cause : IfOk result (λ t. CausedTogether (GivesUp g old new (kept_book g old) commands) t)
   pub stopped : IfErr result (λ s. HasStopped old new s)
   pub leaves : IfErr result (λ s. IsFit g new → (b : Book) → KeepsBook g old b → LeavesEither (state_of g new.stored) b (after rules b commands))
   pub sure : IsSure g new → IsSure g old
   pub follows : Follows g old new
+  pub goes_on : IsFit g new → HasGoneOn g old new
   pub part : IsOnePart g old new commands result

@@ -5,6 +5,8 @@ ghost use Rattle.flow_machine.specs.Answers.{Answers, CausedAnswer};
 ghost use Rattle.flow_machine.specs.declared.submission.Receipt.{Receipt as AReceipt};
 ghost use Rattle.flow_machine.specs.declared.submission.Taken.{Taken as ATaken};
 ghost use Rattle.flow_commit.specs.Keeping.{rules, IsFit, KeepsBook, commands_of, kept_book};
+ghost use Rattle.flow_commit.specs.Committing.{HasGoneOn};
+ghost use Rattle.flow_engine.specs.GivingUp.{GivesUp};
 ghost use Rattle.flow_engine.specs.Answering.{IsSure, Follows, HasStopped, AnswersAll, AreCaused, KeepsAnswered, EndsEarly, LeavesBehind, AreAlone, AreCut, IsSingle, AreSingle, alone, given, first_stop, TellsStop, IsPart, IsPartUpTo};
 
 use crate::done::{Done, Unanswered};
@@ -118,10 +120,11 @@ fn answered<S: Alter>(engine: &mut Engine<S>, batches: Vec<Batch>) -> Result<Ans
     requires one { length batches.items ≡ 1 }
     requires alone { AreAlone batches.items }
     ensures answers { IfOk result (λ a. IsSure S.Store engine.new → (t : ATaken) → batches.items ≡ (t ∷ []) ∷ [] → Answers rules (kept_book S.Store engine.old) (kept_book S.Store engine.new) t.command a) }
-    ensures given_up { IfOk result (λ a. CausedAnswer (λ _. Unit {0}) a) }
+    ensures given_up { IfOk result (λ a. (t : ATaken) → batches.items ≡ (t ∷ []) ∷ [] → CausedAnswer (GivesUp S.Store engine.old engine.new (kept_book S.Store engine.old) (t.command ∷ [])) a) }
     ensures stopped { IfErr result (λ s. HasStopped engine.old engine.new s) }
     ensures sure { IsSure S.Store engine.new → IsSure S.Store engine.old }
     ensures follows { Follows S.Store engine.old engine.new }
+    ensures goes_on { IsFit S.Store engine.new → HasGoneOn S.Store engine.old engine.new }
     ensures part { (t : ATaken) → batches.items ≡ (t ∷ []) ∷ []
         → MatchResult result (λ a. IsPart S.Store engine.old engine.new (t.command ∷ []) (a ∷ []) None) (λ s. IsPart S.Store engine.old engine.new (t.command ∷ []) [] (Some s)) }
 {
@@ -143,11 +146,12 @@ fn all_answered<S: Alter>(
     ensures answers { IfOk result (λ all. IsSure S.Store engine.new → (ts : List ATaken) → batches.items ≡ map alone ts → AnswersAll rules (kept_book S.Store engine.old) (kept_book S.Store engine.new) (commands_of ts) all.items) }
     ensures kept { IfOk result (λ all. IsFit S.Store engine.new → (b : Book) → KeepsBook S.Store engine.old b → (ts : List ATaken) → batches.items ≡ map alone ts → KeepsAnswered S.Store engine.new b (commands_of ts) all.items) }
     ensures count { IfOk result (λ all. length all.items ≡ length batches.items) }
-    ensures given_up { IfOk result (λ all. AreCaused all.items) }
-    ensures early { IfErr result (λ u. (ts : List ATaken) → batches.items ≡ map alone ts → EndsEarly engine.old engine.new (commands_of ts) u) }
+    ensures given_up { IfOk result (λ all. (ts : List ATaken) → batches.items ≡ map alone ts → AreCaused (GivesUp S.Store engine.old engine.new) (kept_book S.Store engine.old) (commands_of ts) all.items) }
+    ensures early { IfErr result (λ u. (ts : List ATaken) → batches.items ≡ map alone ts → EndsEarly S.Store engine.old engine.new (commands_of ts) u) }
     ensures leaves { IfErr result (λ u. IsFit S.Store engine.new → (b : Book) → KeepsBook S.Store engine.old b → (ts : List ATaken) → batches.items ≡ map alone ts → LeavesBehind S.Store engine.new b (commands_of ts) u) }
     ensures sure { IsSure S.Store engine.new → IsSure S.Store engine.old }
     ensures follows { Follows S.Store engine.old engine.new }
+    ensures goes_on { IsFit S.Store engine.new → HasGoneOn S.Store engine.old engine.new }
     ensures part { (ts : List ATaken) → batches.items ≡ map alone ts
         → MatchResult result (λ all. IsPart S.Store engine.old engine.new (commands_of ts) all.items None) (λ u. IsPartUpTo S.Store engine.old engine.new (commands_of ts) u) }
 {
@@ -166,10 +170,12 @@ impl<S: Alter> Engine<S> {
         // The book is the one in the tables. It is known on a disk that told no lie, over a file that held our tables or none, and
         // while the connection is open.
         ensures answers { IfOk result (λ a. IsSure S.Store self.new → Answers rules (kept_book S.Store self.old) (kept_book S.Store self.new) command a) }
-        ensures cause { IfOk result (λ a. CausedAnswer (λ _. Unit {0}) a) }
+        // It is given up with E01, or with E80 for a cause in what the engine is before and behind; the book is again the one in the tables.
+        ensures cause { IfOk result (λ a. CausedAnswer (GivesUp S.Store self.old self.new (kept_book S.Store self.old) (command ∷ [])) a) }
         ensures stopped { IfErr result (λ s. HasStopped self.old self.new s) }
         ensures sure { IsSure S.Store self.new → IsSure S.Store self.old }
         ensures follows { Follows S.Store self.old self.new }
+        ensures goes_on { IsFit S.Store self.new → HasGoneOn S.Store self.old self.new }
         // It is a part of a life, as the headline has it.
         ensures part { MatchResult result (λ a. IsPart S.Store self.old self.new (command ∷ []) (a ∷ []) None) (λ s. IsPart S.Store self.old self.new (command ∷ []) [] (Some s)) }
     {
@@ -191,13 +197,14 @@ impl<S: Alter> Engine<S> {
         // Over a book that is kept, the book behind the commands is kept.
         ensures kept { IfOk result (λ all. IsFit S.Store self.new → (b : Book) → KeepsBook S.Store self.old b → KeepsAnswered S.Store self.new b commands.items all.items) }
         ensures count { IfOk result (λ all. length all.items ≡ length commands.items) }
-        ensures cause { IfOk result (λ all. AreCaused all.items) }
-        ensures stopped { IfErr result (λ u. EndsEarly self.old self.new commands.items u) }
+        ensures cause { IfOk result (λ all. AreCaused (GivesUp S.Store self.old self.new) (kept_book S.Store self.old) commands.items all.items) }
+        ensures stopped { IfErr result (λ u. EndsEarly S.Store self.old self.new commands.items u) }
         // The answers before a stop are those of the first commands, and a stop of the process then leaves the book behind them, or
         // that behind the commands in hand.
         ensures leaves { IfErr result (λ u. IsFit S.Store self.new → (b : Book) → KeepsBook S.Store self.old b → LeavesBehind S.Store self.new b commands.items u) }
         ensures sure { IsSure S.Store self.new → IsSure S.Store self.old }
         ensures follows { Follows S.Store self.old self.new }
+        ensures goes_on { IsFit S.Store self.new → HasGoneOn S.Store self.old self.new }
         // They are a part of a life, as the headline has it.
         ensures part { MatchResult result (λ all. IsPart S.Store self.old self.new commands.items all.items None) (λ u. IsPartUpTo S.Store self.old self.new commands.items u) }
     {
@@ -215,7 +222,9 @@ impl<S: Alter> Engine<S> {
 
 impl<S: Alter> Answering for Engine<S> {
     ghost use Rattle.flow_commit.specs.Keeping.{rules, kept_book};
-    ghost use Rattle.flow_engine.specs.Answering.{IsSure, Follows, IsLost};
+    ghost use Rattle.flow_engine.specs.Answering.{IsSure, IsLost};
+    ghost use Rattle.flow_engine.specs.Following.{Succeeds, succeeds_self, gives_up_still, gives_up_since};
+    ghost use Rattle.flow_engine.specs.GivingUp.{GivesUp};
 
     ghost rules = { rules };
 
@@ -223,11 +232,17 @@ impl<S: Alter> Answering for Engine<S> {
 
     ghost is_sure = { λ e. IsSure S.Store e };
 
-    ghost follows = { λ a b. Follows S.Store a b };
+    ghost follows = { λ a b. Succeeds S.Store a b };
 
-    ghost gives_up = { λ b cs k. Unit {0} };
+    ghost gives_up = { λ a e b cs k. GivesUp S.Store a e b cs k };
 
     ghost stops = { λ e b cs stop. IsLost e stop };
+
+    ghost follows_self = { λ a. succeeds_self S.Store a };
+
+    ghost gives_up_still = { λ a b c k cs code. gives_up_still S.Store a b c k cs code };
+
+    ghost gives_up_since = { λ a b c k cs code. gives_up_since S.Store a b c k cs code };
 
     fn answer(&mut self, command: Command) -> Result<Answer, Stop> {
         Engine::answer(self, command)

@@ -7,7 +7,9 @@ ghost use Rattle.flow_machine.specs.declared.submission.Taken.{Taken as ATaken};
 ghost use Rattle.flow_tables.specs.Owned.{state_of, LeavesEither};
 ghost use Rattle.flow_commit.specs.Keeping.{rules, IsFit, KeepsBook, commands_of, kept_book};
 ghost use Rattle.flow_engine.specs.Answering.{IsSure, Follows, HasStopped};
+ghost use Rattle.flow_commit.specs.Committing.{HasGoneOn};
 ghost use Rattle.flow_engine.specs.Driving.{reply_of};
+ghost use Rattle.flow_engine.specs.GivingUp.{GivesUp};
 ghost use Rattle.flow_engine.specs.Together.{KeepsTogether, IsToldOf, IsOnePart, IsTogether, are_kept};
 
 use crate::done::Done;
@@ -122,12 +124,13 @@ impl<S: Alter> Engine<S> {
         // Over a book that is kept, the book behind the commands is kept.
         ensures kept { IfOk result (λ t. IsFit S.Store self.new → (b : Book) → KeepsBook S.Store self.old b → KeepsTogether S.Store self.new b commands.items t) }
         ensures count { IfOk result (λ t. CountsTogether commands.items t) }
-        ensures cause { IfOk result (λ t. CausedTogether (λ _. Unit {0}) t) }
+        ensures cause { IfOk result (λ t. CausedTogether (GivesUp S.Store self.old self.new (kept_book S.Store self.old) commands.items) t) }
         ensures stopped { IfErr result (λ s. HasStopped self.old self.new s) }
         // A stop of the process then leaves the book before all of them, or the book behind them all.
         ensures leaves { IfErr result (λ s. IsFit S.Store self.new → (b : Book) → KeepsBook S.Store self.old b → LeavesEither (state_of S.Store self.new.stored) b (after rules b commands.items)) }
         ensures sure { IsSure S.Store self.new → IsSure S.Store self.old }
         ensures follows { Follows S.Store self.old self.new }
+        ensures goes_on { IsFit S.Store self.new → HasGoneOn S.Store self.old self.new }
         // They are a part of a life, as the headline has it.
         ensures part { IsOnePart S.Store self.old self.new commands.items result }
     {

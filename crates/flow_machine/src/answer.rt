@@ -51,8 +51,8 @@ pub trait Answering {
     /// What answering keeps beside the book: what a stop may leave, and what was committed.
     ghost follows: { Self → Self → Type 0 };
 
-    /// What stands behind commands that are given up together over a book.
-    ghost gives_up: { Book → List Command → Code → Type 0 };
+    /// What stands behind commands that are given up together over a book, since it was the first and now that it is the second.
+    ghost gives_up: { Self → Self → Book → List Command → Code → Type 0 };
 
     /// What stands behind a stop at commands over a book, in the words of what is left of it.
     ghost stops: { Self → Book → List Command → Stop → Type 0 };
@@ -60,7 +60,7 @@ pub trait Answering {
     /// Answers a command.
     fn answer(&mut self, command: Command) -> Result<Answer, Stop>
         ensures answers { IfOk result (λ a. is_sure self.new → Answers rules (book self.old) (book self.new) command a) }
-        ensures cause { IfOk result (λ a. CausedAnswer (gives_up (book self.old) (command ∷ [])) a) }
+        ensures cause { IfOk result (λ a. CausedAnswer (gives_up self.old self.new (book self.old) (command ∷ [])) a) }
         ensures stopped { IfErr result (λ s. stops self.new (book self.old) (command ∷ []) s) }
         ensures sure { is_sure self.new → is_sure self.old }
         ensures follows { (a : Self) → follows a self.old → follows a self.new };
@@ -72,8 +72,17 @@ pub trait Answering {
         ensures answers { IfOk result (λ t. is_sure self.new → AnswersTogether rules (book self.old) (book self.new) commands.items t) }
         // Each has a reply where they are applied.
         ensures count { IfOk result (λ t. CountsTogether commands.items t) }
-        ensures cause { IfOk result (λ t. CausedTogether (gives_up (book self.old) commands.items) t) }
+        ensures cause { IfOk result (λ t. CausedTogether (gives_up self.old self.new (book self.old) commands.items) t) }
         ensures stopped { IfErr result (λ s. stops self.new (book self.old) commands.items s) }
         ensures sure { is_sure self.new → is_sure self.old }
         ensures follows { (a : Self) → follows a self.old → follows a self.new };
+
+    /// It follows itself.
+    ghost follows_self: { (a : Self) → follows a a };
+
+    /// What stood behind commands that were given up stands behind them later too.
+    ghost gives_up_still: { (a b c : Self) (k : Book) (cs : List Command) (code : Code) → follows b c → gives_up a b k cs code → gives_up a c k cs code };
+
+    /// And since an earlier state.
+    ghost gives_up_since: { (a b c : Self) (k : Book) (cs : List Command) (code : Code) → follows a b → follows b c → gives_up b c k cs code → gives_up a c k cs code };
 }

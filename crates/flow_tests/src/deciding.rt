@@ -25,12 +25,18 @@ impl<V: View + Drop, P: Programs + Drop> Answering for Deciding<V, P> {
 
     ghost is_sure = { λ s. V.is_sure s.view };
 
-    ghost follows = { λ a b. V.follows a.view b.view };
+    ghost follows = { λ a b. (v : V) → V.follows v a.view → V.follows v b.view };
 
     // No command is given up.
-    ghost gives_up = { λ b cs k. ⊥ };
+    ghost gives_up = { λ a s b cs k. ⊥ };
 
     ghost stops = { λ s b cs stop. Unit {0} };
+
+    ghost follows_self = { λ a v before. before };
+
+    ghost gives_up_still = { λ a b c k cs code on none. none };
+
+    ghost gives_up_since = { λ a b c k cs code on later none. none };
 
     fn answer(&mut self, command: Command) -> Result<Answer, Stop> {
         // No position is known from one command to the next.

@@ -21,6 +21,9 @@ struct Failing<E> {
 }
 
 impl<E: Answering + Drop> Answering for Failing<E> {
+    ghost use Rattle.std.specs.Prelude.{◌≡◌, ◌⊎◌, inl, inr};
+    ghost use Rattle.flow_base.specs.declared.code.Code.TheVariants.{StoreRefused};
+
     ghost rules = { E.rules };
 
     ghost book = { λ s. E.book s.inner };
@@ -29,9 +32,22 @@ impl<E: Answering + Drop> Answering for Failing<E> {
 
     ghost follows = { λ a b. E.follows a.inner b.inner };
 
-    ghost gives_up = { λ b cs k. Unit {0} };
+    // The other one has given them up, or this one has, with E80.
+    ghost gives_up = { λ a s b cs k. E.gives_up a.inner s.inner b cs k ⊎ (k ≡ StoreRefused) };
 
     ghost stops = { λ s b cs k. Unit {0} };
+
+    ghost follows_self = { λ a. E.follows_self a.inner };
+
+    ghost gives_up_still = { λ a b c k cs code on. elim [
+      | inl inside ↦ inl (E.gives_up_still a.inner b.inner c.inner k cs code on inside)
+      | inr here ↦ inr here
+    ] };
+
+    ghost gives_up_since = { λ a b c k cs code on later. elim [
+      | inl inside ↦ inl (E.gives_up_since a.inner b.inner c.inner k cs code on later inside)
+      | inr here ↦ inr here
+    ] };
 
     fn answer(&mut self, command: Command) -> Result<Answer, Stop> {
         if self.before == 0 {

@@ -10,19 +10,19 @@ pub returns-in-Ok-Replied-clause-answered : goal.returns-in-Ok-Replied-clause-an
 returns-in-Ok-Replied-clause-answered g c =
     let told = rw c.in-Ok-Replied.field-0-is at c.in-Ok-Replied.ensures.answers in
     IfOk-weaker c.write_answers.result _ _
-    (λ n h sure most few lines holds. batch_answered _ _ _ _ lines _ _ _ n (batch_replied g.E.Answering.rules (OfBatch most g.E.Answering.gives_up) _ _ lines _ _ holds _ _ (told sure)) h.0 h.1)
+    (λ n h sure most few lines holds. batch_answered _ _ _ _ lines _ _ _ n (batch_replied g.E.Answering.rules (OfBatch most (g.E.Answering.gives_up c.args.engine.now c.answer_together.new.self)) _ _ lines _ _ holds _ _ (told sure)) h.0 h.1)
     c.write_answers.ensures.told
 
 pub returns-in-Ok-Replied-clause-within : goal.returns-in-Ok-Replied-clause-within
 returns-in-Ok-Replied-clause-within g c =
     let count = rw c.in-Ok-Replied.field-0-is at c.in-Ok-Replied.ensures.count in
-    IfOk-weaker c.write_answers.result _ _ (λ n h most few. replied_within (OfBatch most g.E.Answering.gives_up) _ _ _ n (count ∙ sym c.requires.marked) h.1) c.write_answers.ensures.told
+    IfOk-weaker c.write_answers.result _ _ (λ n h most few. replied_within (OfBatch most (g.E.Answering.gives_up c.args.engine.now c.answer_together.new.self)) _ _ _ n (count ∙ sym c.requires.marked) h.1) c.write_answers.ensures.told
 
 pub returns-in-Ok-Replied-clause-stopped : goal.returns-in-Ok-Replied-clause-stopped
 returns-in-Ok-Replied-clause-stopped g c =
     let told = rw c.in-Ok-Replied.field-0-is at c.in-Ok-Replied.ensures.answers in
     both_errs c.write_answers.result _ _ _
-    (λ e why w sure most few lines holds. some_written _ _ _ _ e lines _ _ _ (batch_replied g.E.Answering.rules (OfBatch most g.E.Answering.gives_up) _ _ lines _ _ holds _ _ (told sure)) why w)
+    (λ e why w sure most few lines holds. some_written _ _ _ _ e lines _ _ _ (batch_replied g.E.Answering.rules (OfBatch most (g.E.Answering.gives_up c.args.engine.now c.answer_together.new.self)) _ _ lines _ _ holds _ _ (told sure)) why w)
     c.write_answers.ensures.cause c.write_answers.ensures.stopped
 
 pub returns-in-Ok-NotApplied-clause-answered : goal.returns-in-Ok-NotApplied-clause-answered
@@ -30,22 +30,22 @@ returns-in-Ok-NotApplied-clause-answered g c =
     let told = rw c.in-Ok-NotApplied.field-0-is at c.in-Ok-NotApplied.ensures.answers in
     let cause = rw c.in-Ok-NotApplied.field-0-is at c.in-Ok-NotApplied.ensures.cause in
     IfOk-weaker c.write_answers-in-Ok-NotApplied.result _ _
-    (λ n h sure most few lines holds. batch_answered _ _ _ _ lines _ _ _ n (batch_given_up g.E.Answering.rules (OfBatch most g.E.Answering.gives_up) _ _ lines _ _ holds _ _ c.new.ensures.items (cause.0, caused_batch most g.E.Answering.gives_up _ _ _ c.requires.some few cause.1) (told sure)) h.0 h.1)
+    (λ n h sure most few lines holds. batch_answered _ _ _ _ lines _ _ _ n (batch_given_up g.E.Answering.rules (OfBatch most (g.E.Answering.gives_up c.args.engine.now c.answer_together.new.self)) _ _ lines _ _ holds _ _ c.new.ensures.items (cause.0, caused_batch most (g.E.Answering.gives_up c.args.engine.now c.answer_together.new.self) _ _ _ c.requires.some few cause.1) (told sure)) h.0 h.1)
     c.write_answers-in-Ok-NotApplied.ensures.told
 
 pub returns-in-Ok-NotApplied-clause-within : goal.returns-in-Ok-NotApplied-clause-within
 returns-in-Ok-NotApplied-clause-within g c =
     let cause = rw c.in-Ok-NotApplied.field-0-is at c.in-Ok-NotApplied.ensures.cause in
-    IfOk-weaker c.write_answers-in-Ok-NotApplied.result _ _ (λ n h most few. given_up_within (OfBatch most g.E.Answering.gives_up) _ _ _ _ _ n c.new.ensures.items (caused_batch most g.E.Answering.gives_up _ _ _ c.requires.some few cause.1) h.1) c.write_answers-in-Ok-NotApplied.ensures.told
+    IfOk-weaker c.write_answers-in-Ok-NotApplied.result _ _ (λ n h most few. given_up_within (OfBatch most (g.E.Answering.gives_up c.args.engine.now c.answer_together.new.self)) _ _ _ _ _ n c.new.ensures.items (caused_batch most (g.E.Answering.gives_up c.args.engine.now c.answer_together.new.self) _ _ _ c.requires.some few cause.1) h.1) c.write_answers-in-Ok-NotApplied.ensures.told
 
 pub returns-in-Ok-NotApplied-clause-stopped : goal.returns-in-Ok-NotApplied-clause-stopped
 returns-in-Ok-NotApplied-clause-stopped g c =
     let told = rw c.in-Ok-NotApplied.field-0-is at c.in-Ok-NotApplied.ensures.answers in
     let cause = rw c.in-Ok-NotApplied.field-0-is at c.in-Ok-NotApplied.ensures.cause in
     both_errs c.write_answers-in-Ok-NotApplied.result _ _ _
-    (λ e why w sure most few lines holds. some_written _ _ _ _ e lines _ _ _ (batch_given_up g.E.Answering.rules (OfBatch most g.E.Answering.gives_up) _ _ lines _ _ holds _ _ c.new.ensures.items (cause.0, caused_batch most g.E.Answering.gives_up _ _ _ c.requires.some few cause.1) (told sure)) why w)
+    (λ e why w sure most few lines holds. some_written _ _ _ _ e lines _ _ _ (batch_given_up g.E.Answering.rules (OfBatch most (g.E.Answering.gives_up c.args.engine.now c.answer_together.new.self)) _ _ lines _ _ holds _ _ c.new.ensures.items (cause.0, caused_batch most (g.E.Answering.gives_up c.args.engine.now c.answer_together.new.self) _ _ _ c.requires.some few cause.1) (told sure)) why w)
     c.write_answers-in-Ok-NotApplied.ensures.cause c.write_answers-in-Ok-NotApplied.ensures.stopped
 
 pub returns-in-Err-clause-stopped : goal.returns-in-Err-clause-stopped
 returns-in-Err-clause-stopped g c sure most few lines holds =
-    subst (λ f. StopsWithin g.E.Answering.rules (OfBatch most g.E.Answering.gives_up) (g.E.Answering.book c.args.engine.now) (g.E.Answering.book c.answer_together.new.self) (Refused f) lines (g.W.Write.contents c.args.writer.now) (g.W.Write.contents c.args.writer.now)) (sym c.fault_of_stop.ensures) (none_replied _ _ _ _ lines _ c.in-Err.stop)
+    subst (λ f. StopsWithin g.E.Answering.rules (OfBatch most (g.E.Answering.gives_up c.args.engine.now c.answer_together.new.self)) (g.E.Answering.book c.args.engine.now) (g.E.Answering.book c.answer_together.new.self) (Refused f) lines (g.W.Write.contents c.args.writer.now) (g.W.Write.contents c.args.writer.now)) (sym c.fault_of_stop.ensures) (none_replied _ _ _ _ lines _ c.in-Err.stop)

@@ -1,6 +1,7 @@
 use Rattle.std.proofs.Common.{arith, rules, inl}
 use Rattle.flow_cli.specs.Answering.{OfBatch}
 use Rattle.flow_cli.proofs.Answering.{all_counted, begins, both_within, goes_on, stops_later}
+use Rattle.flow_cli.proofs.Later.{among_too, answered_too, batch_gives, cause_too, some_too, stops_too, within_too}
 use Rattle.flow_cli.proofs.Stopping.{none_read, one_more_read, stopped_later}
 use Rattle.flow_cli.proofs.SomeLines.{endless_stop, never_full, some_begin, some_end, some_more, some_stop_later}
 use Rattle.flow_cli.proofs.drive.drive_lines.Goals as goal
@@ -10,12 +11,23 @@ loop-init g c = record { answered = λ sure. begins _ _ _ _ _; lines = λ sure. 
 
 pub loop-preserved : goal.loop-preserved
 loop-preserved g c =
+    let old = c.args.engine.now in
+    let mid = c.loop.engine in
+    let new = c.answer_next.new.engine in
+    let on = c.answer_next.ensures.follows mid (g.met.E.Answering.follows_self mid) in
+    let since = c.loop.invariant.follows old (g.met.E.Answering.follows_self old) in
+    let before = OfBatch c.args.most (g.E.Answering.gives_up old mid) in
+    let here = OfBatch c.args.most (g.E.Answering.gives_up mid new) in
+    let all = OfBatch c.args.most (g.E.Answering.gives_up old new) in
+    let still = batch_gives c.args.most (g.E.Answering.gives_up old mid) (g.E.Answering.gives_up old new) (λ b cs k. g.met.E.Answering.gives_up_still old mid new b cs k on) in
+    let too = batch_gives c.args.most (g.E.Answering.gives_up mid new) (g.E.Answering.gives_up old new) (λ b cs k. g.met.E.Answering.gives_up_since old mid new b cs k since on) in
     let more = rw c.in-Ok-Some.field-0-is at c.in-Ok-Some.ensures.answered in
     let some = rw c.in-Ok-Some.field-0-is at c.in-Ok-Some.ensures.lines in
+    let within = rw c.in-Ok-Some.field-0-is at c.in-Ok-Some.ensures.within in
     record {
-      answered = λ sure. goes_on _ _ _ _ _ _ _ _ _ _ _ _ _ _ (c.loop.invariant.answered (c.answer_next.ensures.sure sure)) (more sure) (search rules);
-      lines = λ sure. some_more _ _ _ _ _ _ _ _ _ _ _ _ (c.loop.invariant.lines (c.answer_next.ensures.sure sure)) (some sure) (search rules);
-      within = both_within _ _ _ _ c.loop.invariant.within (rw c.in-Ok-Some.field-0-is at c.in-Ok-Some.ensures.within) (search rules);
+      answered = λ sure. goes_on _ all _ _ _ _ _ _ _ _ _ _ _ _ (answered_too before all still _ _ _ _ _ _ _ _ (c.loop.invariant.answered (c.answer_next.ensures.sure sure))) (answered_too here all too _ _ _ _ _ _ _ _ (more sure)) (search rules);
+      lines = λ sure. some_more _ all _ _ _ _ _ _ _ _ _ _ (some_too before all still _ _ _ _ _ _ _ (c.loop.invariant.lines (c.answer_next.ensures.sure sure))) (some_too here all too _ _ _ _ _ _ _ (some sure)) (search rules);
+      within = both_within all _ _ _ (within_too before all still _ c.loop.invariant.within) (within_too here all too _ within) (search rules);
       counted = one_more_read _ _ _ _ c.loop.invariant.counted (rw c.in-Ok-Some.field-0-is at c.in-Ok-Some.ensures.counted);
       sure = λ s. c.loop.invariant.sure (c.answer_next.ensures.sure s);
       follows = λ a f. c.answer_next.ensures.follows a (c.loop.invariant.follows a f);
@@ -23,15 +35,46 @@ loop-preserved g c =
 
 pub returns-in-Err-clause-stopped : goal.returns-in-Err-clause-stopped
 returns-in-Err-clause-stopped g c sure =
-    stops_later _ _ _ _ _ c.in-Err.stopped _ _ _ _ _ _ (c.loop.invariant.answered (c.answer_next.ensures.sure sure)) (c.in-Err.ensures.stopped sure)
+    let old = c.args.engine.now in
+    let mid = c.loop.engine in
+    let new = c.answer_next.new.engine in
+    let on = c.answer_next.ensures.follows mid (g.met.E.Answering.follows_self mid) in
+    let since = c.loop.invariant.follows old (g.met.E.Answering.follows_self old) in
+    let all = OfBatch c.args.most (g.E.Answering.gives_up old new) in
+    let still = batch_gives c.args.most (g.E.Answering.gives_up old mid) (g.E.Answering.gives_up old new) (λ b cs k. g.met.E.Answering.gives_up_still old mid new b cs k on) in
+    let too = batch_gives c.args.most (g.E.Answering.gives_up mid new) (g.E.Answering.gives_up old new) (λ b cs k. g.met.E.Answering.gives_up_since old mid new b cs k since on) in
+    stops_later _ all _ _ _ c.in-Err.stopped _ _ _ _ _ _
+    (answered_too (OfBatch c.args.most (g.E.Answering.gives_up old mid)) all still _ _ _ _ _ _ _ _ (c.loop.invariant.answered (c.answer_next.ensures.sure sure)))
+    (stops_too (OfBatch c.args.most (g.E.Answering.gives_up mid new)) all too _ _ _ c.in-Err.stopped _ _ _ (c.in-Err.ensures.stopped sure))
 
 pub returns-in-Err-clause-cause : goal.returns-in-Err-clause-cause
 returns-in-Err-clause-cause g c =
-    stopped_later g.E.Answering.rules (OfBatch c.args.most g.E.Answering.gives_up) _ _ c.in-Err.stopped (OfBatch c.args.most (g.E.Answering.stops c.answer_next.new.engine)) (g.E.Answering.is_sure c.answer_next.new.engine) _ _ _ _ _ _ (λ sure. c.loop.invariant.answered (c.answer_next.ensures.sure sure)) c.in-Err.ensures.cause
+    let old = c.args.engine.now in
+    let mid = c.loop.engine in
+    let new = c.answer_next.new.engine in
+    let on = c.answer_next.ensures.follows mid (g.met.E.Answering.follows_self mid) in
+    let since = c.loop.invariant.follows old (g.met.E.Answering.follows_self old) in
+    let all = OfBatch c.args.most (g.E.Answering.gives_up old new) in
+    let still = batch_gives c.args.most (g.E.Answering.gives_up old mid) (g.E.Answering.gives_up old new) (λ b cs k. g.met.E.Answering.gives_up_still old mid new b cs k on) in
+    let too = batch_gives c.args.most (g.E.Answering.gives_up mid new) (g.E.Answering.gives_up old new) (λ b cs k. g.met.E.Answering.gives_up_since old mid new b cs k since on) in
+    let stops = OfBatch c.args.most (g.E.Answering.stops new) in
+    stopped_later g.E.Answering.rules all _ _ c.in-Err.stopped stops (g.E.Answering.is_sure new) _ _ _ _ _ _
+    (λ sure. answered_too (OfBatch c.args.most (g.E.Answering.gives_up old mid)) all still _ _ _ _ _ _ _ _ (c.loop.invariant.answered (c.answer_next.ensures.sure sure)))
+    (cause_too (OfBatch c.args.most (g.E.Answering.gives_up mid new)) all too g.E.Answering.rules c.in-Err.stopped stops (g.E.Answering.is_sure new) _ _ c.in-Err.ensures.cause)
 
 pub returns-in-Err-clause-cut : goal.returns-in-Err-clause-cut
 returns-in-Err-clause-cut g c sure =
-    some_stop_later _ _ _ _ _ c.in-Err.stopped _ _ _ _ _ (c.loop.invariant.lines (c.answer_next.ensures.sure sure)) (c.in-Err.ensures.cut sure)
+    let old = c.args.engine.now in
+    let mid = c.loop.engine in
+    let new = c.answer_next.new.engine in
+    let on = c.answer_next.ensures.follows mid (g.met.E.Answering.follows_self mid) in
+    let since = c.loop.invariant.follows old (g.met.E.Answering.follows_self old) in
+    let all = OfBatch c.args.most (g.E.Answering.gives_up old new) in
+    let still = batch_gives c.args.most (g.E.Answering.gives_up old mid) (g.E.Answering.gives_up old new) (λ b cs k. g.met.E.Answering.gives_up_still old mid new b cs k on) in
+    let too = batch_gives c.args.most (g.E.Answering.gives_up mid new) (g.E.Answering.gives_up old new) (λ b cs k. g.met.E.Answering.gives_up_since old mid new b cs k since on) in
+    some_stop_later _ all _ _ _ c.in-Err.stopped _ _ _ _ _
+    (some_too (OfBatch c.args.most (g.E.Answering.gives_up old mid)) all still _ _ _ _ _ _ _ (c.loop.invariant.lines (c.answer_next.ensures.sure sure)))
+    (among_too (OfBatch c.args.most (g.E.Answering.gives_up mid new)) all too _ _ _ c.in-Err.stopped _ _ (c.in-Err.ensures.cut sure))
 
 pub returns-in-Err-clause-endless : goal.returns-in-Err-clause-endless
 returns-in-Err-clause-endless g c is = never_full c.in-Err.stopped _ _ c.in-Err.ensures.cause is

@@ -5,9 +5,9 @@ use Rattle.flow_cli.proofs.drive.drive_lines.Given as goal
 
 abbrev pub invariant-loop : goal.invariant-loop
 invariant-loop g l = record {
-  answered : g.E.Answering.is_sure l.engine → IfSome (g.R.Read.remaining l.fn.reader) (λ bytes. Answered g.E.Answering.rules (OfBatch l.most g.E.Answering.gives_up) (g.E.Answering.book l.fn.engine) (g.E.Answering.book l.engine) bytes (g.R.Read.remaining l.reader) (g.W.Write.contents l.fn.writer) (g.W.Write.contents l.writer) l.status);
-  lines : g.E.Answering.is_sure l.engine → SomeAnswered g.E.Answering.rules (OfBatch l.most g.E.Answering.gives_up) (g.E.Answering.book l.fn.engine) (g.E.Answering.book l.engine) l.counter (g.W.Write.contents l.fn.writer) (g.W.Write.contents l.writer) l.status;
-  within : StatusWithin (OfBatch l.most g.E.Answering.gives_up) l.status;
+  answered : g.E.Answering.is_sure l.engine → IfSome (g.R.Read.remaining l.fn.reader) (λ bytes. Answered g.E.Answering.rules (OfBatch l.most (g.E.Answering.gives_up l.fn.engine l.engine)) (g.E.Answering.book l.fn.engine) (g.E.Answering.book l.engine) bytes (g.R.Read.remaining l.reader) (g.W.Write.contents l.fn.writer) (g.W.Write.contents l.writer) l.status);
+  lines : g.E.Answering.is_sure l.engine → SomeAnswered g.E.Answering.rules (OfBatch l.most (g.E.Answering.gives_up l.fn.engine l.engine)) (g.E.Answering.book l.fn.engine) (g.E.Answering.book l.engine) l.counter (g.W.Write.contents l.fn.writer) (g.W.Write.contents l.writer) l.status;
+  within : StatusWithin (OfBatch l.most (g.E.Answering.gives_up l.fn.engine l.engine)) l.status;
   counted : IfSome (g.R.Read.remaining l.fn.reader) (λ bytes. ReadLines l.counter bytes (g.R.Read.remaining l.reader));
   sure : g.E.Answering.is_sure l.engine → g.E.Answering.is_sure l.fn.engine;
   follows : (a : g.row.E.Denot) → g.E.Answering.follows a l.fn.engine → g.E.Answering.follows a l.engine;

@@ -15,7 +15,7 @@ all_answers-requires-clause-single g c =
     let d = c.in-Ok.ensures in
     are_single g.S.Store c.args.engine.now c.drive.new.engine c.requires.alone.taken c.in-Ok.dones.items
     (driven_alone g.S.Store c.args.engine.now c.drive.new.engine c.args.batches.items c.in-Ok.dones.items c.requires.alone.taken c.requires.alone.are
-    d.drives d.noted d.halted d.later d.count d.fit d.up d.own)
+    d.drives d.noted d.halted d.later d.count d.fit d.up d.own d.given_up)
 
 pub returns-in-Ok-clause-answers : goal.returns-in-Ok-clause-answers
 returns-in-Ok-clause-answers g c =
@@ -23,7 +23,7 @@ returns-in-Ok-clause-answers g c =
     IfOk-weaker c.all_answers.result _ _
     (λ l h sure ts are. all_sure g.S.Store c.args.engine.now c.drive.new.engine ts c.in-Ok.dones.items
     (driven_alone g.S.Store c.args.engine.now c.drive.new.engine c.args.batches.items c.in-Ok.dones.items ts are
-    d.drives d.noted d.halted d.later d.count d.fit d.up d.own) c.args.answers.items c.requires.none l.items h.0 h.1 sure)
+    d.drives d.noted d.halted d.later d.count d.fit d.up d.own d.given_up) c.args.answers.items c.requires.none l.items h.0 h.1 sure)
     c.all_answers.ensures.given
 
 pub returns-in-Ok-clause-kept : goal.returns-in-Ok-clause-kept
@@ -32,7 +32,7 @@ returns-in-Ok-clause-kept g c =
     IfOk-weaker c.all_answers.result _ _
     (λ l h fit b keeps ts are. all_kept g.S.Store c.args.engine.now c.drive.new.engine ts c.in-Ok.dones.items
     (driven_alone g.S.Store c.args.engine.now c.drive.new.engine c.args.batches.items c.in-Ok.dones.items ts are
-    d.drives d.noted d.halted d.later d.count d.fit d.up d.own) c.args.answers.items c.requires.none l.items h.0 h.1 fit b keeps)
+    d.drives d.noted d.halted d.later d.count d.fit d.up d.own d.given_up) c.args.answers.items c.requires.none l.items h.0 h.1 fit b keeps)
     c.all_answers.ensures.given
 
 pub returns-in-Ok-clause-count : goal.returns-in-Ok-clause-count
@@ -41,16 +41,16 @@ returns-in-Ok-clause-count g c =
     IfOk-weaker c.all_answers.result _ _
     (λ l h. all_there g.S.Store c.args.engine.now c.drive.new.engine c.requires.alone.taken c.in-Ok.dones.items
     (driven_alone g.S.Store c.args.engine.now c.drive.new.engine c.args.batches.items c.in-Ok.dones.items c.requires.alone.taken c.requires.alone.are
-    d.drives d.noted d.halted d.later d.count d.fit d.up d.own) c.args.answers.items c.requires.none l.items h.0 h.1 ∙ d.count)
+    d.drives d.noted d.halted d.later d.count d.fit d.up d.own d.given_up) c.args.answers.items c.requires.none l.items h.0 h.1 ∙ d.count)
     c.all_answers.ensures.given
 
 pub returns-in-Ok-clause-given_up : goal.returns-in-Ok-clause-given_up
 returns-in-Ok-clause-given_up g c =
     let d = c.in-Ok.ensures in
     IfOk-weaker c.all_answers.result _ _
-    (λ l h. all_caused g.S.Store c.args.engine.now c.drive.new.engine c.requires.alone.taken c.in-Ok.dones.items
-    (driven_alone g.S.Store c.args.engine.now c.drive.new.engine c.args.batches.items c.in-Ok.dones.items c.requires.alone.taken c.requires.alone.are
-    d.drives d.noted d.halted d.later d.count d.fit d.up d.own) c.args.answers.items c.requires.none l.items h.0)
+    (λ l h ts are. all_caused g.S.Store c.args.engine.now c.drive.new.engine ts c.in-Ok.dones.items
+    (driven_alone g.S.Store c.args.engine.now c.drive.new.engine c.args.batches.items c.in-Ok.dones.items ts are
+    d.drives d.noted d.halted d.later d.count d.fit d.up d.own d.given_up) c.args.answers.items c.requires.none l.items h.0)
     c.all_answers.ensures.given
 
 pub returns-in-Ok-clause-early : goal.returns-in-Ok-clause-early
@@ -59,7 +59,7 @@ returns-in-Ok-clause-early g c =
     IfErr-weaker c.all_answers.result _ _
     (λ u h ts are. ends_early g.S.Store c.args.engine.now c.drive.new.engine ts c.in-Ok.dones.items
     (driven_alone g.S.Store c.args.engine.now c.drive.new.engine c.args.batches.items c.in-Ok.dones.items ts are
-    d.drives d.noted d.halted d.later d.count d.fit d.up d.own) c.args.answers.items c.requires.none u h)
+    d.drives d.noted d.halted d.later d.count d.fit d.up d.own d.given_up) c.args.answers.items c.requires.none u h)
     c.all_answers.ensures.stops
 
 pub returns-in-Ok-clause-leaves : goal.returns-in-Ok-clause-leaves
@@ -68,7 +68,7 @@ returns-in-Ok-clause-leaves g c =
     IfErr-weaker c.all_answers.result _ _
     (λ u h fit b keeps ts are. leaves_early g.S.Store c.args.engine.now c.drive.new.engine ts c.in-Ok.dones.items
     (driven_alone g.S.Store c.args.engine.now c.drive.new.engine c.args.batches.items c.in-Ok.dones.items ts are
-    d.drives d.noted d.halted d.later d.count d.fit d.up d.own) c.args.answers.items c.requires.none u h fit b keeps)
+    d.drives d.noted d.halted d.later d.count d.fit d.up d.own d.given_up) c.args.answers.items c.requires.none u h fit b keeps)
     c.all_answers.ensures.stops
 
 pub returns-in-Ok-clause-part : goal.returns-in-Ok-clause-part

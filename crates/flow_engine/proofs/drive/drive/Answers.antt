@@ -4,7 +4,7 @@ use Rattle.flow_machine.proofs.Keeps.{after_keeps}
 use Rattle.flow_machine.proofs.Meaning.{reads_well_formed}
 use Rattle.flow_commit.specs.Keeping.{rules}
 use Rattle.flow_engine.proofs.Filling.{room_more}
-use Rattle.flow_engine.proofs.OneMore.{Drove, drove_more, drives, all_later, none_left, after_well, left_well}
+use Rattle.flow_engine.proofs.OneMore.{Drove, drove_more, drives, all_given_up, all_later, none_left, after_well, left_well}
 use Rattle.flow_engine.proofs.drive.drive.Goals as goal
 
 pub loop-batch-preserved : goal.loop-batch-preserved
@@ -20,7 +20,7 @@ loop-batch-preserved g c =
           subst (Drove g.S.Store c.args.engine.now c.done_with.new.engine c.args.batches.items (into_iter_items c.next.new.self)) (sym pushed.items)
           (drove_more g.S.Store c.args.engine.now c.loop-batch.engine c.done_with.new.engine c.args.batches.items (into_iter_items c.loop-batch.batch-iterator) (into_iter_items c.next.new.self) c.loop-batch.dones.items c.in-Some.batch c.done_with.result next.0 was.drove
           c.done_with.ensures.fit c.done_with.ensures.does c.done_with.ensures.cause c.done_with.ensures.halted c.done_with.ensures.later
-          c.done_with.ensures.noted c.done_with.ensures.same c.done_with.ensures.up c.done_with.ensures.own);
+          c.done_with.ensures.noted c.done_with.ensures.same c.done_with.ensures.up c.done_with.ensures.own c.done_with.ensures.goes_on c.done_with.ensures.why);
     }
 
 pub returns-clause-drives : goal.returns-clause-drives
@@ -38,6 +38,11 @@ pub returns-clause-leaves : goal.returns-clause-leaves
 returns-clause-leaves g c fit b well keeps goes_on =
     left_well g.S.Store c.args.engine.now c.loop-batch.engine b c.args.batches.items c.loop-batch.dones.items well
     (returns-clause-drives g c fit b keeps goes_on)
+
+pub returns-clause-given_up : goal.returns-clause-given_up
+returns-clause-given_up g c =
+    all_given_up g.S.Store c.args.engine.now c.loop-batch.engine c.args.batches.items (into_iter_items c.loop-batch.batch-iterator) c.loop-batch.dones.items c.loop-batch.invariant.drove
+    (none_left (into_iter_items c.loop-batch.batch-iterator) (sym c.loop-batch.invariant.left ∙ c.in-None.ensures.steps.0))
 
 -- This is what a life has of these batches.
 pub returns-clause-runs : goal.returns-clause-runs

@@ -3,7 +3,8 @@ use Rattle.std.proofs.lemmas.Result.{IfOk-weaker, IfErr-weaker}
 use Rattle.std.specs.Prelude.{MatchResult}
 use Rattle.flow_base.specs.declared.command.Command.{Command}
 use Rattle.flow_commit.specs.Keeping.{Keeping, KeepsBook, rules, kept_book}
-use Rattle.flow_engine.specs.Answering.{AnswersAll, KeepsAnswered, EndsEarly, LeavesBehind, IsPart, IsPartUpTo}
+use Rattle.flow_engine.specs.Answering.{AnswersAll, AreCaused, KeepsAnswered, EndsEarly, LeavesBehind, IsPart, IsPartUpTo}
+use Rattle.flow_engine.specs.GivingUp.{GivesUp}
 use Rattle.flow_engine.proofs.Singly.{cut_alone, cut_long}
 use Rattle.flow_engine.proofs.engine.Engine.answer_all.Goals as goal
 
@@ -38,12 +39,21 @@ pub returns-in-Ok-cut-clause-count : goal.returns-in-Ok-cut-clause-count
 returns-in-Ok-cut-clause-count g c =
     IfOk-weaker c.all_answered.result _ _ (λ l h. h ∙ cut_long c.args.commands.items c.in-Ok-cut.batches.items c.in-Ok-cut.ensures) c.all_answered.ensures.count
 
+pub returns-in-Ok-cut-clause-cause : goal.returns-in-Ok-cut-clause-cause
+returns-in-Ok-cut-clause-cause g c =
+    let new = c.all_answered.new.engine in
+    IfOk-weaker c.all_answered.result _ _
+    (λ l h.
+    subst (λ (k : Keeping g.row.S.Denot). AreCaused (GivesUp g.S.Store k new) (kept_book g.S.Store k) c.args.commands.items l.items) c.tickets-first.ensures
+    (subst (λ cs. AreCaused (GivesUp g.S.Store c.tickets-first.new.self new) (kept_book g.S.Store c.tickets-first.new.self) cs l.items) c.in-Ok-cut.ensures.same (h c.in-Ok-cut.ensures.taken c.in-Ok-cut.ensures.are)))
+    c.all_answered.ensures.given_up
+
 pub returns-in-Ok-cut-clause-stopped : goal.returns-in-Ok-cut-clause-stopped
 returns-in-Ok-cut-clause-stopped g c =
     IfErr-weaker c.all_answered.result _ _
     (λ u h.
-    subst (λ (k : Keeping g.row.S.Denot). EndsEarly k c.all_answered.new.engine c.args.commands.items u) c.tickets-first.ensures
-    (subst (λ cs. EndsEarly c.tickets-first.new.self c.all_answered.new.engine cs u) c.in-Ok-cut.ensures.same (h c.in-Ok-cut.ensures.taken c.in-Ok-cut.ensures.are)))
+    subst (λ (k : Keeping g.row.S.Denot). EndsEarly g.S.Store k c.all_answered.new.engine c.args.commands.items u) c.tickets-first.ensures
+    (subst (λ cs. EndsEarly g.S.Store c.tickets-first.new.self c.all_answered.new.engine cs u) c.in-Ok-cut.ensures.same (h c.in-Ok-cut.ensures.taken c.in-Ok-cut.ensures.are)))
     c.all_answered.ensures.early
 
 pub returns-in-Ok-cut-clause-leaves : goal.returns-in-Ok-cut-clause-leaves
