@@ -1,12 +1,12 @@
 -- Rows that can't be read.
-use Rattle.std.specs.Prelude.{◌≡◌, ◌≢◌, ◌<◌}
+use Rattle.std.specs.Prelude.{◌≡◌, ◌≢◌, ◌<◌, get_or}
 use Rattle.flow_tables.proofs.Names.{Kind, Row, Error, column, AllByRecursion, List, ℕ, StoreFault, SqliteFailure, OutOfMemory, length, refl, subst, ◌∙◌, sym, ap, inl, inr}
 use Rattle.sqlite.specs.Reading.{IsReadError}
 use Rattle.sqlite_trees.proofs.ListLemmas.{all-get_or}
 use Rattle.flow_sql.specs.Stored.{IsReadAs, AreReadAs}
 use Rattle.flow_sql.proofs.Readable.{read_at, is_there}
 use Rattle.flow_tables.specs.Faults.{fault_of}
-use Rattle.flow_tables.specs.Reads.{IsMisreadAt, AreMisread}
+use Rattle.flow_tables.specs.Reads.{IsMisreadAt, IsMisread, AreMisread}
 use Rattle.flow_tables.specs.declared.fault.StoreFault.TheVariants.{Refused}
 
 -- an error at a column of this kind, told as a fault
@@ -19,6 +19,10 @@ column_misread r at kind e f is named odd = subst (IsMisreadAt at kind r) (sym i
     by_error : (e : Error) → IsReadError at (column r at) e → (e ≢ SqliteFailure OutOfMemory → at < length r → IsReadAs kind (column r at) → ⊥) → IsMisreadAt at kind r (fault_of e)
     by_error (SqliteFailure OutOfMemory) named odd = tt
     by_error e named odd = (named, λ reads. odd (other e refl) (is_there r at kind reads) reads)
+
+-- one row that is misread is enough
+pub misread_at : (kinds : List Kind) (rows : List Row) (i : ℕ) (r : Row) (f : StoreFault) → i < length rows → get_or rows i r ≡ r → IsMisread kinds r f → AreMisread kinds rows f
+misread_at kinds rows i r f inside is why = inr (i, r, inside, is, why)
 
 -- rows that read as their kinds aren't misread
 pub never_misread : (kinds : List Kind) (rows : List Row) (e : Error) → AllByRecursion (AreReadAs kinds) rows → AreMisread kinds rows (Refused e) → ⊥

@@ -32,7 +32,7 @@ fn text_at(alloc: Global, row: &Row, at: usize) -> Result<RawText, StoreFault>
     match found {
         Ok(text) => match RawText::new(alloc, text.as_str()) {
             Ok(text) => Ok(text),
-            Err(refused) => Err(StoreFault::from(refused)),
+            Err(refused) => Err(StoreFault::NoMemory(NoMemory::from(refused))),
         },
         Err(error) => Err(StoreFault::from(error)),
     }
@@ -151,9 +151,7 @@ pub(crate) fn read_all<T: Said + Drop>(alloc: Global, rows: &[Row]) -> Result<Ve
     let mut list = Vec::new(alloc);
     for row in rows {
         let value = T::read(alloc, row)?;
-        if let Err(refused) = list.push(value) {
-            return Err(StoreFault::NoMemory(NoMemory::from(refused)));
-        }
+        list.push(value)?;
     }
     Ok(list)
 }
