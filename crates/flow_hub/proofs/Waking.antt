@@ -15,13 +15,13 @@ stays (t ∷ ts) (suc i) zero h = h
 stays (t ∷ ts) (suc i) (suc j) h = stays ts i j h
 
 -- and one more is
-pub wakes_more : {A : Type 0} (of : A → ℕ) (xs : List A) (i place : ℕ) (d : A) (told : List Bool) → i < length xs → place ≡ of (get_or xs i d) % 16
-    → (length told ≡ 16) × All (λ x. Wakes told (of x)) (take i xs) → (length (slice_set told place true) ≡ 16) × All (λ x. Wakes (slice_set told place true) (of x)) (take (i + 1) xs)
+pub wakes_more : {A : Type 0} (of : A → ℕ) (xs : List A) (i place : ℕ) (d : A) (told : List Bool) → i < length xs → place ≡ of (get_or xs i d) % 128
+    → (length told ≡ 128) × All (λ x. Wakes told (of x)) (take i xs) → (length (slice_set told place true) ≡ 128) × All (λ x. Wakes (slice_set told place true) (of x)) (take (i + 1) xs)
 wakes_more of xs i place d told inside at h =
     let after = slice_set told place true in
-    let small = mod_below (of (get_or xs i d)) 16 (omega arith) in (
+    let small = mod_below (of (get_or xs i d)) 128 (omega arith) in (
       length-set told place true ∙ h.0,
       All-more (λ x. Wakes after (of x)) xs i d inside
-          (All-weaker (λ x. Wakes told (of x)) (λ x. Wakes after (of x)) (λ x woken. stays told place (of x % 16) woken) (take i xs) h.1)
-          (get_or-set_at told place (of (get_or xs i d) % 16) true false (sym at) (omega (arith, at, small, h.0))),
+          (All-weaker (λ x. Wakes told (of x)) (λ x. Wakes after (of x)) (λ x woken. stays told place (of x % 128) woken) (take i xs) h.1)
+          (get_or-set_at told place (of (get_or xs i d) % 128) true false (sym at) (omega (arith, at, small, h.0))),
     )

@@ -3,4 +3,4 @@ use Rattle.std.specs.Prelude.{ℕ, ◌≡◌, ◌%◌, Bool, true, false, List, 
 
 -- who waits at the condition of this ticket is woken
 abbrev pub Wakes : List Bool → ℕ → Type 0
-Wakes told ticket = get_or told (ticket % 16) false ≡ true
+Wakes told ticket = get_or told (ticket % 128) false ≡ true

@@ -3,23 +3,24 @@ ghost use Rattle.std.specs.Prelude.{◌≡◌, ◌%◌, All};
 ghost use Rattle.flow_hub.specs.Waking.{Wakes};
 
 use flow_machine::submission::{Receipt, Taken};
+use std::array;
 use std::sync::Condvar;
 
 /// How many conditions there are.
-const CONDITIONS: u64 = 16;
+const CONDITIONS: u64 = 128;
 
 /// Which of the conditions are to be told.
-pub(crate) type Told = [bool; 16];
+pub(crate) type Told = [bool; 128];
 
-/// Conditions, each for every sixteenth ticket.
+/// Conditions, each for every 128th ticket.
 #[derive(Drop)]
 pub(crate) struct Waits {
-    conditions: [Condvar; 16],
+    conditions: [Condvar; 128],
 }
 
 /// Where the condition of a ticket stands.
 fn place_of(ticket: u64) -> usize
-    ensures { result ≡ ticket % 16 }
+    ensures { result ≡ ticket % 128 }
 {
     (ticket % CONDITIONS) as usize
 }
@@ -28,24 +29,7 @@ impl Waits {
     /// Nobody waits.
     pub(crate) fn new() -> Waits {
         Waits {
-            conditions: [
-                Condvar::new(),
-                Condvar::new(),
-                Condvar::new(),
-                Condvar::new(),
-                Condvar::new(),
-                Condvar::new(),
-                Condvar::new(),
-                Condvar::new(),
-                Condvar::new(),
-                Condvar::new(),
-                Condvar::new(),
-                Condvar::new(),
-                Condvar::new(),
-                Condvar::new(),
-                Condvar::new(),
-                Condvar::new(),
-            ],
+            conditions: array::from_fn(|_| Condvar::new()),
         }
     }
 
@@ -56,7 +40,7 @@ impl Waits {
 
     /// Tells these of the conditions.
     pub(crate) fn tell(&self, told: &Told) {
-        for place in 0..16 {
+        for place in 0..128 {
             if told[place] {
                 self.conditions[place].notify_all();
             }
@@ -75,7 +59,7 @@ impl Waits {
 pub(crate) fn told_by(receipts: &[Receipt]) -> Told
     ensures { All (λ r. Wakes result r.ticket) receipts.now }
 {
-    let mut told = [false; 16];
+    let mut told = [false; 128];
     for receipt in receipts {
         told[place_of(receipt.ticket)] = true;
     }
@@ -86,7 +70,7 @@ pub(crate) fn told_by(receipts: &[Receipt]) -> Told
 pub(crate) fn told_of(all: &[Taken]) -> Told
     ensures { All (λ t. Wakes result t.ticket) all.now }
 {
-    let mut told = [false; 16];
+    let mut told = [false; 128];
     for taken in all {
         told[place_of(taken.ticket)] = true;
     }
