@@ -37,3 +37,8 @@ cut_here (work.History run) (Ok n) X Y g c = tt
 pub none_here : (w : Work) (X : ℕ → Type 0) → ((most : ℕ) → X most) → OfWork w X (λ run. Unit {0})
 none_here (work.Drive most) X h = h most
 none_here (work.History run) X h = tt
+
+-- what holds of either work
+pub both_here : (w : Work) (X Y : ℕ → Type 0) → ((most : ℕ) → X most) → ((run : ℕ) → Y run) → OfWork w X Y
+both_here (work.Drive most) X Y f g = f most
+both_here (work.History run) X Y f g = g run

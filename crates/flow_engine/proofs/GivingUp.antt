@@ -1,5 +1,5 @@
 -- Why batches are given up, one after the other.
-use Rattle.std.proofs.Common.{◌≡◌, ◌⊎◌, inl, inr, ◌+◌, ◌≤◌, ◌^◌, true, false, List, [], ◌∷◌, ◌++◌, length, map, refl, sym, ap, ◌∙◌, subst, arith, true≢false}
+use Rattle.std.proofs.Common.{◌≡◌, inl, inr, ◌+◌, ◌≤◌, ◌^◌, true, false, List, [], ◌∷◌, ◌++◌, length, map, refl, sym, ◌∙◌, subst, arith}
 use Rattle.std.proofs.lemmas.Bool.{cases_Bool}
 use Rattle.std.proofs.lemmas.List.{length-map}
 use Rattle.sqlite_trees.specs.declared.store.Store.{Ghosts}
@@ -11,15 +11,14 @@ use Rattle.flow_model.specs.Apply.{after, after_one}
 use Rattle.flow_model.proofs.Logs.{after_cut}
 use Rattle.flow_machine.specs.Answers.{IsGivenUp}
 use Rattle.flow_machine.specs.declared.answer.Answer.{Answer}
-use Rattle.flow_machine.specs.declared.answer.Answer.TheVariants as answer
 use Rattle.flow_machine.specs.declared.submission.Taken.{Taken}
 use Rattle.flow_machine.specs.declared.submission.Receipt.{Receipt}
 use Rattle.flow_view.specs.Codes.{view_fault_code}
 use Rattle.flow_view.specs.declared.fault.ViewFault.{ViewFault}
 use Rattle.flow_view.specs.declared.fault.ViewFault.TheVariants as fault
 use Rattle.flow_tables.specs.Owned.{state_of}
-use Rattle.flow_commit.specs.Keeping.{Keeping, rules, IsFit, IsUp, KeepsBook, kept_book, command_of, commands_of}
-use Rattle.flow_commit.specs.Committing.{CantBeApplied, HasGoneOn, HasNoRoom, IsDown, IsRefusedFor}
+use Rattle.flow_commit.specs.Keeping.{Keeping, rules, IsFit, IsUp, kept_book, command_of, commands_of}
+use Rattle.flow_commit.specs.Committing.{HasGoneOn, HasNoRoom, IsRefusedFor}
 use Rattle.flow_commit.specs.declared.outcome.Outcome.TheVariants as outcomes
 use Rattle.flow_commit.proofs.Sealing.{shut_on}
 use Rattle.flow_engine.specs.declared.done.Done.{Done}
@@ -97,7 +96,7 @@ no_memory g old new b cs k is = (inr is, λ e. absurd (let clash : code.NoMemory
 
 -- the cause of a code, by that of the fault
 pub gives_up_by : {S : Type 0} (g : Ghosts S) (old new : Keeping S) (b : Book) (batch : List Taken) (f : ViewFault) → (IsFit g new → IsGivenUpFor (WasRefused g old new) b batch (done.NotApplied f)) → GivesUp g old new b (commands_of batch) (view_fault_code f)
-gives_up_by g old new b batch (fault.NoMemory _) h is = absurd (cc)
+gives_up_by g old new b batch (fault.NoMemory _) h is fit = absurd (cc)
 gives_up_by g old new b batch fault.StoreRefused h is fit = h fit
 
 pub given_up_by : (f : ViewFault) → IsGivenUp (view_fault_code f)

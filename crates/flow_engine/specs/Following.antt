@@ -1,12 +1,12 @@
 -- What an engine keeps from call to call, and that the causes of what it gave up stay.
-use Rattle.std.proofs.Common.{◌≡◌, ◌⊎◌, inl, inr, ◌+◌, ◌≤◌, ◌^◌, List, length, refl, ◌∙◌, arith}
+use Rattle.std.proofs.Common.{inl, inr, List, refl, ◌∙◌, arith}
 use Rattle.sqlite_trees.specs.declared.store.Store.{Ghosts}
 use Rattle.flow_base.specs.declared.code.Code.{Code}
 use Rattle.flow_base.specs.declared.command.Command.{Command}
 use Rattle.flow_model.specs.Book.{Book}
 use Rattle.flow_tables.specs.Faults.{IsHindering}
 use Rattle.flow_tables.specs.Owned.{state_of}
-use Rattle.flow_tables.proofs.Stopping.{hindering_after, since_self, since_then}
+use Rattle.flow_tables.proofs.Stopping.{hindering_after, since_then}
 use Rattle.flow_commit.specs.Keeping.{Keeping, IsFit}
 use Rattle.flow_commit.specs.Committing.{HasGoneOn, IsDown}
 use Rattle.flow_commit.proofs.Refusing.{gone_on_self}

@@ -1,7 +1,8 @@
-use Rattle.flow_base.specs.declared.command.Command.TheVariants as command
-use Rattle.std.proofs.Common.{[], ◌∷◌}
-use Rattle.flow_cli.proofs.Works.{caused_here, cut_here, done_here, lines_here, none_here}
-use Rattle.flow_cli.proofs.SomeLines.{leaves_answered, nothing_left, stops_behind_lines}
+use Rattle.std.proofs.Common.{None}
+use Rattle.flow_cli.proofs.Works.{both_here, caused_here, cut_here, done_here, lines_here, none_here}
+use Rattle.flow_cli.proofs.SomeLines.{leaves_answered, none_among, stops_behind_lines}
+use Rattle.flow_cli.proofs.Histories.{unwritten_caused}
+use Rattle.flow_cli.proofs.Stopping.{uncaused}
 use Rattle.flow_cli.proofs.work.perform_here.Goals as goal
 
 pub returns-clause-done : goal.returns-clause-done
@@ -21,5 +22,12 @@ returns-clause-cut g c = cut_here c.args.work.now c.perform.result _ _ (λ most 
 pub returns-clause-endless : goal.returns-clause-endless
 returns-clause-endless g c = cut_here c.args.work.now c.perform.result _ _ (λ most e h is sure. let x = h is sure in (x.0, leaves_answered _ _ _ _ _ _ _ _ x.1)) c.perform.ensures.endless
 
-pub returns-in_default-clause-cut : goal.returns-in_default-clause-cut
-returns-in_default-clause-cut g c = none_here c.args.work.now _ (λ most sure. nothing_left _ _ _)
+pub returns-in-Err-clause-cut : goal.returns-in-Err-clause-cut
+returns-in-Err-clause-cut g c =
+    let e = c.stopped_reading.result in
+    none_here c.args.work.now _ (λ most sure. stops_behind_lines _ _ _ _ e None None (none_among _ _ _ e None (c.stopped_reading.ensures.nothing None) (c.stopped_reading.ensures.book _)))
+
+pub returns-in-Err-clause-cause : goal.returns-in-Err-clause-cause
+returns-in-Err-clause-cause g c =
+    let e = c.stopped_reading.result in
+    both_here c.args.work.now _ _ (λ most. uncaused e _ _ c.stopped_reading.ensures.cause) (λ run. unwritten_caused e _ _ _ (c.stopped_reading.ensures.memory c.in-Err.ensures.err))
