@@ -27,7 +27,7 @@ pub ok_by : {A : Type 0} (P T : A → Type 0) (G : Type 0) (r : Result A ViewFau
 ok_by P T G (Ok v) on p h = on v p h
 ok_by P T G (Err f) on p h = tt
 
-shut_on : (v w : Bool) → (IsTrue w → IsTrue v) → v ≡ false → w ≡ false
+pub shut_on : (v w : Bool) → (IsTrue w → IsTrue v) → v ≡ false → w ≡ false
 shut_on v true on shut = absurd (true≢false (sym (on refl) ∙ shut))
 shut_on v false on shut = refl
 
