@@ -6,7 +6,8 @@ use flow_machine::submission::{Receipt, Taken};
 use std::array;
 use std::sync::Condvar;
 
-/// How many conditions there are.
+/// How many conditions there are. Tickets that lie less than this apart share none; more of them would be more to look through at each
+/// answer.
 const CONDITIONS: u64 = 128;
 
 /// Which of the conditions are to be told.
