@@ -4,6 +4,7 @@ use crate::puts::{Asks, Comes, Put, change, turn};
 use crate::reads::{Read, is_read};
 use crate::rows::{Memory, Row, is_changed, run};
 use flow_base::fault::{Damage, Fault};
+use flow_base::memory::NoMemory;
 use flow_tables::book_changes::put_change;
 use flow_tables::create::create;
 use flow_tables::fault::Refusal;
@@ -124,7 +125,7 @@ fn puts_whole_turn(alloc: Global, conn: &mut Memory, number: u64) -> bool {
 fn put(alloc: Global, conn: &mut Memory, put: Put) -> Result<(), Refusal> {
     match change(alloc, put) {
         Ok(change) => put_change(alloc, conn, &nothing_known(), &change),
-        Err(refused) => Err(Refusal::from(refused)),
+        Err(_) => Err(Refusal::NoMemory(NoMemory::told())),
     }
 }
 
