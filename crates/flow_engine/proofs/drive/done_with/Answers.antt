@@ -1,6 +1,6 @@
 use Rattle.std.proofs.Common.{List, subst}
 use Rattle.flow_machine.specs.declared.submission.Taken.{Taken}
-use Rattle.flow_commit.specs.Committing.{IsFor}
+use Rattle.flow_commit.specs.Committing.{IsFor, IsRefusedFor}
 use Rattle.flow_commit.specs.declared.outcome.Outcome.TheVariants.{NotApplied}
 use Rattle.flow_engine.proofs.GivingUp.{refused_done}
 use Rattle.flow_engine.proofs.drive.done_with.Goals as goal
@@ -26,7 +26,9 @@ returns-in-NotApplied-clause-cause g c fit b keeps =
     subst (λ (batch : List Taken). IsFor g.S.Store c.args.engine.now c.commit.new.self b c.args.batch (NotApplied batch c.in-NotApplied.fault)) h.1 (c.in-NotApplied.ensures.cause fit b keeps)
 
 pub returns-in-NotApplied-clause-why : goal.returns-in-NotApplied-clause-why
-returns-in-NotApplied-clause-why g c fit = refused_done g.S.Store c.args.engine.now c.commit.new.self c.args.batch _ c.in-NotApplied.fault (c.commit.ensures.goes_on fit).counts (c.in-NotApplied.ensures.why fit)
+returns-in-NotApplied-clause-why g c fit =
+    let why = subst (λ (batch : List Taken). IsRefusedFor g.S.Store c.args.engine.now c.commit.new.self c.args.batch (NotApplied batch c.in-NotApplied.fault)) c.in-NotApplied.ensures.noted.3 (c.in-NotApplied.ensures.why fit) in
+    refused_done g.S.Store c.args.engine.now c.commit.new.self c.args.batch c.args.batch c.in-NotApplied.fault (c.commit.ensures.goes_on fit).counts why
 
 pub returns-in-Unknown-clause-cause : goal.returns-in-Unknown-clause-cause
 returns-in-Unknown-clause-cause g c fit b keeps = (c.in-Unknown._fault, c.in-Unknown.ensures.cause fit b keeps)
