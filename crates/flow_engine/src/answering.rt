@@ -238,11 +238,11 @@ impl<S: Alter> Answering for Engine<S> {
 
     ghost stops = { λ e b cs stop. IsLost e stop };
 
-    ghost follows_self = { λ a. succeeds_self S.Store a };
+    ghost follows_self = { λ a. succeeds_self _ a };
 
-    ghost gives_up_still = { λ a b c k cs code. gives_up_still S.Store a b c k cs code };
+    ghost gives_up_still = { λ a b c k cs code. gives_up_still _ a b c k cs code };
 
-    ghost gives_up_since = { λ a b c k cs code. gives_up_since S.Store a b c k cs code };
+    ghost gives_up_since = { λ a b c k cs code. gives_up_since _ a b c k cs code };
 
     fn answer(&mut self, command: Command) -> Result<Answer, Stop> {
         Engine::answer(self, command)

@@ -1,5 +1,6 @@
 use Rattle.std.proofs.Common.{[], ◌∷◌, refl, sym, ap, inr, subst}
 use Rattle.std.proofs.lemmas.Result.{IfOk-weaker, IfErr-weaker}
+use Rattle.flow_machine.specs.declared.answer.Answer.TheVariants as answer
 use Rattle.flow_commit.specs.Keeping.{rules, kept_book}
 use Rattle.flow_engine.specs.Driving.{commands_in}
 use Rattle.flow_engine.specs.Answering.{AnswersAll, AreCaused}
@@ -57,4 +58,4 @@ returns-in-Ok-clause-part g c t is =
     c.one_answer.result c.one_answer.ensures.given c.one_answer.ensures.stops
 
 pub returns-clause-part : goal.returns-clause-part
-returns-clause-part g c t is = inr (record { same = c.in-Err.ensures.same; told = refl; stop = refl })
+returns-clause-part g c t is = inr (record { same = c.in-Err.ensures.same; told = ap (λ k. answer.NotApplied k ∷ []) c.code.ensures; stop = refl })

@@ -1,11 +1,20 @@
-use Rattle.std.proofs.Common.{sym, ◌∙◌, subst}
+use Rattle.std.proofs.Common.{rules, sym, ◌∙◌, subst}
 use Rattle.std.specs.Vec.Iter.{into_iter_items}
 use Rattle.flow_machine.proofs.Keeps.{after_keeps}
 use Rattle.flow_machine.proofs.Meaning.{reads_well_formed}
-use Rattle.flow_commit.specs.Keeping.{rules}
+use Rattle.flow_commit.specs.Keeping as keeping
 use Rattle.flow_engine.proofs.Filling.{room_more}
-use Rattle.flow_engine.proofs.OneMore.{Drove, drove_more, drives, all_given_up, all_later, none_left, after_well, left_well}
+use Rattle.flow_engine.proofs.OneMore.{Drove, none_yet, drove_more, drives, all_given_up, all_later, none_left, after_well, left_well}
 use Rattle.flow_engine.proofs.drive.drive.Goals as goal
+
+pub loop-batch-init : goal.loop-batch-init
+loop-batch-init g c =
+    let gives = c.into_iter-batch-iterator.ensures.into_iter_gives in
+    record {
+      left = search rules;
+      room = search rules;
+      drove = none_yet g.S.Store c.args.engine.now c.args.batches.items (into_iter_items c.into_iter-batch-iterator.result) c.reserve.new.self.items (sym gives.0) (c.reserve.ensures.items ∙ c.new-dones.ensures.items);
+    }
 
 pub loop-batch-preserved : goal.loop-batch-preserved
 loop-batch-preserved g c =
@@ -29,7 +38,7 @@ returns-clause-drives g c =
     (none_left (into_iter_items c.loop-batch.batch-iterator) (sym c.loop-batch.invariant.left ∙ c.in-None.ensures.steps.0))
 
 pub returns-clause-sound : goal.returns-clause-sound
-returns-clause-sound g c b sound l m e = after_keeps rules b l reads_well_formed sound
+returns-clause-sound g c b sound l m e = after_keeps keeping.rules b l reads_well_formed sound
 
 pub returns-clause-well : goal.returns-clause-well
 returns-clause-well g c b well l m e = after_well b l well

@@ -1,6 +1,7 @@
-use Rattle.std.proofs.Common.{◌≡◌, ◌+◌, ◌≤◌, length, arith, vec_len, vec_capacity}
+use Rattle.std.proofs.Common.{◌≡◌, ◌+◌, ◌≤◌, length, arith, vec_len, vec_capacity, Ok, sym, subst}
+use Rattle.flow_machine.specs.declared.answer.Together.TheVariants.{NotApplied}
 use Rattle.flow_commit.specs.Keeping.{commands_of}
-use Rattle.flow_engine.specs.Together.{are_kept}
+use Rattle.flow_engine.specs.Together.{IsTogether, are_kept}
 use Rattle.flow_engine.proofs.AtOnce.{driven_one, few_kept, first_of, none_done, all_together}
 use Rattle.flow_engine.proofs.Singly.{one_of}
 use Rattle.flow_engine.proofs.together.answered.Goals as goal
@@ -28,4 +29,7 @@ returns-in-Ok g c batch is =
     (driven_one g.S.Store c.args.engine.now c.drive.new.engine c.args.batches.items c.in-Ok.dones.items batch c.remove.result is alone (c.requires.some batch is) d.runs d.noted d.up d.own d.given_up d.goes_on) c.told_of.ensures
 
 pub returns-in-Err : goal.returns-in-Err
-returns-in-Err g c batch is = none_done g.S.Store c.args.engine.now c.drive.new.engine batch (commands_of batch) c.in-Err.ensures.same
+returns-in-Err g c batch is =
+    let old = c.args.engine.now in
+    let new = c.drive.new.engine in
+    subst (λ k. IsTogether g.S.Store old new (commands_of batch) (Ok (NotApplied k))) (sym c.code.ensures) (none_done g.S.Store old new batch (commands_of batch) c.in-Err.ensures.same)

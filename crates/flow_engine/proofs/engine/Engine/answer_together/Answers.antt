@@ -1,6 +1,8 @@
 use Rattle.std.proofs.Common.{sym, subst}
 use Rattle.std.proofs.lemmas.Result.{IfOk-weaker}
-use Rattle.flow_commit.specs.Keeping.{Keeping, KeepsBook}
+use Rattle.flow_commit.specs.Keeping.{Keeping, KeepsBook, rules, commands_of, kept_book}
+use Rattle.flow_machine.specs.Answers.{AnswersTogether, CausedTogether}
+use Rattle.flow_engine.specs.GivingUp.{GivesUp}
 use Rattle.flow_engine.specs.Together.{KeepsTogether}
 use Rattle.flow_engine.proofs.engine.Engine.answer_together.Goals as goal
 
@@ -12,3 +14,23 @@ returns-in-Ok-one_batch-clause-kept g c =
     subst (λ cs. KeepsTogether g.S.Store c.answered.new.engine b cs t) c.in-Ok-taken_of.ensures
     (h fit b (subst (λ (k : Keeping g.row.S.Denot). KeepsBook g.S.Store k b) (sym c.tickets-first.ensures) keeps)))
     its.kept
+
+pub returns-in-Ok-one_batch-clause-answers : goal.returns-in-Ok-one_batch-clause-answers
+returns-in-Ok-one_batch-clause-answers g c =
+    let its = c.answered.ensures c.in-Ok-taken_of.taken.items c.in-Ok-one_batch.ensures in
+    let new = c.answered.new.engine in
+    IfOk-weaker c.answered.result _ _
+    (λ t h sure.
+    subst (λ cs. AnswersTogether rules (kept_book g.S.Store c.args.self.now) (kept_book g.S.Store new) cs t) c.in-Ok-taken_of.ensures
+    (subst (λ (k : Keeping g.row.S.Denot). AnswersTogether rules (kept_book g.S.Store k) (kept_book g.S.Store new) (commands_of c.in-Ok-taken_of.taken.items) t) c.tickets-first.ensures (h sure)))
+    its.answers
+
+pub returns-in-Ok-one_batch-clause-cause : goal.returns-in-Ok-one_batch-clause-cause
+returns-in-Ok-one_batch-clause-cause g c =
+    let its = c.answered.ensures c.in-Ok-taken_of.taken.items c.in-Ok-one_batch.ensures in
+    let new = c.answered.new.engine in
+    IfOk-weaker c.answered.result _ _
+    (λ t h.
+    subst (λ cs. CausedTogether (GivesUp g.S.Store c.args.self.now new (kept_book g.S.Store c.args.self.now) cs) t) c.in-Ok-taken_of.ensures
+    (subst (λ (k : Keeping g.row.S.Denot). CausedTogether (GivesUp g.S.Store k new (kept_book g.S.Store k) (commands_of c.in-Ok-taken_of.taken.items)) t) c.tickets-first.ensures h))
+    its.cause
