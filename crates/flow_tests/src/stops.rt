@@ -21,7 +21,8 @@ struct Failing<E> {
 }
 
 impl<E: Answering + Drop> Answering for Failing<E> {
-    ghost use Rattle.std.specs.Prelude.{◌≡◌, ◌⊎◌, inl, inr};
+    ghost use Rattle.std.proofs.Common.{inl, inr};
+    ghost use Rattle.std.specs.Prelude.{◌≡◌, ◌⊎◌};
     ghost use Rattle.flow_base.specs.declared.code.Code.TheVariants.{StoreRefused};
 
     ghost rules = { E.rules };
