@@ -19,18 +19,9 @@ use Rattle.flow_view.specs.Heads.{event_at}
 use Rattle.flow_view.specs.declared.fault.ViewFault.{ViewFault}
 use Rattle.flow_view.specs.declared.fault.ViewFault.TheVariants as view
 use Rattle.flow_commit.specs.declared.waiting.Draft.{Draft}
+use Rattle.flow_machine.specs.Keys.{Key, key_code}
 use Rattle.flow_machine.specs.declared.task.Task.{Task}
 use Rattle.flow_machine.specs.contracts.task.Task as task_row
-
--- a task that was posted, by its run, its event and its attempt
-abbrev pub Key : Type 0
-Key = ℕ × ℕ × ℕ
-
-abbrev pub key_code : Coded Key
-key_code = code_by (ℕ × (ℕ × ℕ)) (coded× coded_ℕ (coded× coded_ℕ coded_ℕ)) (λ k. (k.0, (k.1, k.2))) (λ p. (p.0, p.1.0, p.1.1)) (λ _. refl)
-
-abbrev pub key_of : Task → Key
-key_of t = (t.run, t.event, t.attempt)
 
 -- The tasks in order of run and event, the moment at which more is to be done, and how many runs are open; behind which commands it
 -- was made, by their number, and for contracts alone what was posted then.

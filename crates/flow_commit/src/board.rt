@@ -3,13 +3,10 @@ ghost use Rattle.std.specs.Prelude.{◌≡◌};
 
 use crate::waiting::Draft;
 use flow_base::number::Moment;
-use flow_machine::task::Task;
+use flow_machine::task::{Posted, Task};
 use std::collections::BTreeSet;
 use std::marker::Model;
 use unseen::{Listed, Makes};
-
-/// A task that was posted: the numbers of its run, of its event and of its attempt.
-pub type Posted = (u64, u64, u64);
 
 /// The tasks of a keeper's book that are ready and weren't posted. A keeper alone makes it.
 #[derive(Drop)]

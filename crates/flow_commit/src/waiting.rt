@@ -3,14 +3,13 @@ ghost use Rattle.std.specs.Prelude.{◌≡◌, ◌++◌, IfOk, OnOk, filter};
 ghost use Rattle.flow_view.specs.Reading.{Caused, Reads};
 ghost use Rattle.flow_commit.specs.Boards as rule;
 
-use crate::board::Posted;
 use flow_base::book::Task as OpenTask;
 use flow_base::event::{Cmd, Event, What, copy_values};
 use flow_base::number::{Moment, RunId};
 use flow_base::sequence::Sequence;
 use flow_base::text::Key;
 use flow_base::value::Value;
-use flow_machine::task::Task;
+use flow_machine::task::{Posted, Task};
 use flow_view::fault::ViewFault;
 use flow_view::view::View;
 use std::alloc::{AllocError, Global};

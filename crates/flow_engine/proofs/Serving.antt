@@ -12,8 +12,9 @@ use Rattle.flow_view.specs.declared.fault.ViewFault.{ViewFault}
 use Rattle.flow_view.specs.declared.fault.ViewFault.TheVariants as view_fault
 use Rattle.flow_commit.specs.Keeping.{Keeping}
 use Rattle.flow_hub.specs.declared.known.Known.{Known}
-use Rattle.flow_hub.specs.declared.refused.Refused.{Refused}
-use Rattle.flow_hub.specs.Knowing.{IsOver, refused_by}
+use Rattle.flow_queues.specs.declared.refused.Refused.{Refused}
+use Rattle.flow_queues.specs.Refusing.{refused_by}
+use Rattle.flow_hub.specs.Knowing.{IsOver}
 use Rattle.flow_hub.specs.Publishing.{Together}
 use Rattle.flow_engine.specs.Answering.{Follows}
 use Rattle.flow_engine.specs.Boarding.{IsStill}

@@ -5,8 +5,8 @@ use Rattle.flow_base.specs.declared.fault.Fault.{Fault}
 use Rattle.flow_base.specs.declared.fault.Fault.TheVariants as fault
 use Rattle.flow_machine.specs.declared.submission.Taken.{Taken}
 use Rattle.flow_commit.specs.Keeping.{Keeping}
-use Rattle.flow_hub.specs.declared.refused.Refused.{Refused}
-use Rattle.flow_hub.specs.Knowing.{refused_by}
+use Rattle.flow_queues.specs.declared.refused.Refused.{Refused}
+use Rattle.flow_queues.specs.Refusing.{refused_by}
 
 -- It was in a batch that wasn't applied: E80 or E01.
 abbrev pub IsGivenUp : Refused → Type 0

@@ -9,7 +9,8 @@ use Rattle.flow_commit.specs.Keeping.{Keeping}
 use Rattle.flow_machine.specs.declared.task.Task.{Task}
 use Rattle.flow_hub.specs.declared.known.Known.{Known}
 use Rattle.flow_hub.specs.declared.known.Outlook.{Outlook}
-use Rattle.flow_hub.specs.Knowing.{nothing, refused_by, with_ask, with_taken, with_published, with_refused, with_fetched, with_member, with_closed, with_posted, with_skipped, with_given, IsOver, IsBefore, IsSamePart}
+use Rattle.flow_queues.specs.Refusing.{refused_by}
+use Rattle.flow_hub.specs.Knowing.{nothing, with_ask, with_taken, with_published, with_refused, with_fetched, with_member, with_closed, with_posted, with_skipped, with_given, IsOver, IsBefore, IsSamePart}
 
 pub prefix_self : {A : Type 0} (xs : List A) → IsPrefix xs xs
 prefix_self xs = ([], append-nil xs)

@@ -7,10 +7,11 @@ use Rattle.flow_machine.specs.declared.submission.Taken.{Taken}
 use Rattle.flow_commit.specs.Keeping.{Keeping}
 use Rattle.flow_commit.specs.Committing.{taken_of, IsStampOf}
 use Rattle.flow_commit.specs.Stamps.{Stamped}
-use Rattle.flow_commit.specs.Boards.{Boarded, Key}
+use Rattle.flow_machine.specs.Keys.{Key}
+use Rattle.flow_commit.specs.Boards.{Boarded}
 use Rattle.flow_hub.specs.declared.known.Known.{Known}
 use Rattle.flow_hub.specs.Knowing.{IsOver, IsSamePart}
-use Rattle.flow_hub.specs.Posting.{HasKeys}
+use Rattle.flow_queues.specs.Posting.{HasKeys}
 use Rattle.flow_hub.specs.Publishing.{Together, InHand, HasTaken, Answers, HasPublished, HasRefused, IsFresh, IsSameHistory}
 
 module _ {S : Type 0} where

@@ -15,14 +15,15 @@ use Rattle.flow_commit.specs.Committing.{taken_of}
 use Rattle.flow_commit.specs.Stamps.{Stamped}
 use Rattle.flow_hub.specs.declared.known.Known.{Known}
 use Rattle.flow_hub.specs.declared.known.Outlook.{Outlook}
-use Rattle.flow_hub.specs.declared.refused.Refused.{Refused}
+use Rattle.flow_queues.specs.declared.refused.Refused.{Refused}
 use Rattle.flow_hub.specs.Asks.{Rises, ticket_in, ticket_of, tickets_in, tickets_of, takens_of, IsAsked, IsOwn, IsGone, IsTold, Stands}
-use Rattle.flow_hub.specs.Knowing.{IsSamePart, IsHistory, IsOver, answered_in, nothing, refused_by, with_taken, with_published, with_refused, with_posted, with_skipped, with_given}
+use Rattle.flow_queues.specs.Refusing.{refused_by}
+use Rattle.flow_hub.specs.Knowing.{IsSamePart, IsHistory, IsOver, answered_in, nothing, with_taken, with_published, with_refused, with_posted, with_skipped, with_given}
 use Rattle.flow_hub.specs.Feeding.{HasGiven, IsIdle, given_with}
-use Rattle.flow_hub.specs.Posting.{IsOnce, new_ones}
+use Rattle.flow_queues.specs.Posting.{IsOnce, new_ones}
 use Rattle.flow_hub.specs.Halls.{Hall, IsSound, new_ask, submitted, took, published, refused_all, fetched_receipt, fetched_refusal, enrolled, closed, posted_on, skipped, gave}
 use Rattle.flow_hub.specs.Publishing.{Answers, HasTaken, HasPublished, HasRefused, HasPosted, HasSkipped, IsDone}
-use Rattle.flow_hub.proofs.Once.{still_once}
+use Rattle.flow_queues.proofs.Once.{still_once}
 use Rattle.flow_hub.proofs.Lists.{map-both, length-mapped, from_same, long_same, count_from-next, count_split, rises_count, rises-append, rises_higher, tickets_same, get_front, get_next, stands_on, stand_next}
 
 module _ {S : Type 0} (g : Ghosts S) where

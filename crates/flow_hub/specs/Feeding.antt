@@ -9,7 +9,7 @@ use Rattle.flow_hub.specs.declared.known.Outlook.{Outlook}
 use Rattle.flow_hub.specs.declared.rested.Rested.{Rested}
 use Rattle.flow_hub.specs.declared.rested.Rested.TheVariants as rested
 use Rattle.flow_hub.specs.Knowing.{answered_in}
-use Rattle.flow_hub.specs.Posting.{IsOnce}
+use Rattle.flow_queues.specs.Posting.{IsOnce}
 
 -- the task is the next one behind those that were given out
 abbrev pub given_with : {S : Type 0} → Known S → Known S → Option Task → Type 0

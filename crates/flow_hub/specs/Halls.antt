@@ -10,10 +10,11 @@ use Rattle.flow_machine.specs.declared.task.Task.{Task}
 use Rattle.flow_commit.specs.Keeping.{Keeping, log_code, batch_code, count_from}
 use Rattle.flow_hub.specs.declared.known.Known.{Known}
 use Rattle.flow_hub.specs.declared.known.Outlook.{Outlook}
-use Rattle.flow_hub.specs.declared.refused.Refused.{Refused}
+use Rattle.flow_queues.specs.declared.refused.Refused.{Refused}
 use Rattle.flow_hub.specs.Asks.{tickets_in, IsAsked, IsOwn, IsGone, IsTold, Stands}
-use Rattle.flow_hub.specs.Knowing.{IsHistory, answered_in, known_code, refusals_code, task_list_code, refused_by, with_ask, with_taken, with_published, with_refused, with_fetched, with_member, with_closed, with_posted, with_skipped, with_given}
-use Rattle.flow_hub.specs.Posting.{IsOnce, new_ones}
+use Rattle.flow_queues.specs.Refusing.{refused_by}
+use Rattle.flow_hub.specs.Knowing.{IsHistory, answered_in, known_code, refusals_code, task_list_code, with_ask, with_taken, with_published, with_refused, with_fetched, with_member, with_closed, with_posted, with_skipped, with_given}
+use Rattle.flow_queues.specs.Posting.{IsOnce, new_ones}
 
 -- What is known of the hub, and the four lists that its calls work on: what waits, the answers that were not fetched, and the tasks that
 -- were posted and not given out.

@@ -12,8 +12,9 @@ use Rattle.flow_commit.specs.Keeping.{Keeping, IsLegal, keeping_code, log_code, 
 use Rattle.flow_hub.specs.declared.known.Known.{Known}
 use Rattle.flow_hub.specs.declared.known.Outlook.{Outlook}
 use Rattle.flow_hub.specs.contracts.known.Outlook as outlook_row
-use Rattle.flow_hub.specs.declared.refused.Refused.{Refused}
-use Rattle.flow_hub.specs.contracts.refused.Refused as refused_row
+use Rattle.flow_queues.specs.Refusing.{refused_by}
+use Rattle.flow_queues.specs.declared.refused.Refused.{Refused}
+use Rattle.flow_queues.specs.contracts.refused.Refused as refused_row
 use Rattle.flow_hub.specs.Asks.{Rises, tickets_of}
 
 abbrev pub refusals_code : Coded (List Refused)
@@ -45,9 +46,6 @@ abbrev pub answered_in : {S : Type 0} → Known S → ℕ
 answered_in k = length k.history + length k.refused
 
 ---- How it changes
-
-abbrev pub refused_by : Code → Taken → Refused
-refused_by code t = record { asked = t; code = code }
 
 abbrev pub with_ask : {S : Type 0} → Known S → Taken → Known S
 with_ask k t = record k { asked = k.asked ++ t ∷ [] }

@@ -1,5 +1,4 @@
 pub mod Asks
-pub mod Posting
 pub mod Knowing
 pub mod Seating
 pub mod Halls

@@ -7,9 +7,10 @@ use Rattle.flow_commit.specs.Keeping.{Keeping, count_from}
 use Rattle.flow_commit.specs.Stamps.{Stamped}
 use Rattle.flow_commit.specs.Boards.{Boarded}
 use Rattle.flow_hub.specs.declared.known.Known.{Known}
-use Rattle.flow_hub.specs.Posting.{HasKeys, new_ones}
+use Rattle.flow_queues.specs.Posting.{HasKeys, new_ones}
 use Rattle.flow_hub.specs.Asks.{IsAsked, tickets_in, takens_of}
-use Rattle.flow_hub.specs.Knowing.{IsOver, answered_in, refused_by}
+use Rattle.flow_queues.specs.Refusing.{refused_by}
+use Rattle.flow_hub.specs.Knowing.{IsOver, answered_in}
 
 -- What the keeper has kept is what the publisher has published, over the same tables, and nothing is taken.
 pub record Together {S : Type 0} (keeper : Keeping S) (k : Known S) : Type 0 where

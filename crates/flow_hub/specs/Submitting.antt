@@ -7,7 +7,7 @@ use Rattle.flow_machine.specs.declared.submission.Receipt.{Receipt}
 use Rattle.flow_hub.specs.declared.denied.Denied.{Denied}
 use Rattle.flow_hub.specs.declared.denied.Denied.TheVariants as denied
 use Rattle.flow_hub.specs.declared.known.Known.{Known}
-use Rattle.flow_hub.specs.declared.refused.Refused.{Refused}
+use Rattle.flow_queues.specs.declared.refused.Refused.{Refused}
 use Rattle.flow_hub.specs.declared.settled.Settled.{Settled}
 use Rattle.flow_hub.specs.declared.ticket.NotDone.{NotDone}
 use Rattle.flow_hub.specs.declared.ticket.Ticket.{Ticket}

@@ -1,9 +1,9 @@
 //! What threads know of a hub.
 ghost use Rattle.std.specs.Prelude.{◌≡◌, [], ◌∷◌, ◌++◌, map};
 ghost use Rattle.flow_hub.specs.Knowing.{nothing, with_ask, with_taken, with_published, with_refused, with_posted, with_skipped, with_given};
-ghost use Rattle.flow_hub.specs.Posting.{chosen};
+ghost use Rattle.flow_queues.specs.Posting.{chosen};
 
-use crate::refused::Refused;
+use flow_queues::refused::Refused;
 use flow_base::code::Code;
 use flow_base::number::Moment;
 use flow_commit::keeper::Keeper;
@@ -82,7 +82,7 @@ struct Answered;
 
 impl Makes<(Listed<Refused>, &Vec<Taken>, Code), Refused> for Answered {
     ghost use Rattle.std.specs.Prelude.{◌++◌, map};
-    ghost use Rattle.flow_hub.specs.Knowing.{refused_by};
+    ghost use Rattle.flow_queues.specs.Refusing.{refused_by};
 
     ghost list = { λ p. p.0 ++ map (refused_by p.2) p.1.now.items };
 }
@@ -92,7 +92,7 @@ struct Chosen;
 
 impl Makes<(Listed<Task>, &Vec<Task>, &Vec<bool>), Task> for Chosen {
     ghost use Rattle.std.specs.Prelude.{◌++◌};
-    ghost use Rattle.flow_hub.specs.Posting.{chosen};
+    ghost use Rattle.flow_queues.specs.Posting.{chosen};
 
     ghost list = { λ p. p.0 ++ chosen p.1.now.items p.2.now.items };
 }

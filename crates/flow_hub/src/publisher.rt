@@ -2,12 +2,12 @@
 ghost use Rattle.std.specs.Prelude.{◌≡◌, ◌<◌, ◌≤◌, true, false, [], length, IfErr, OnOk};
 ghost use Rattle.std.specs.Vec.{vec_capacity};
 ghost use Rattle.flow_hub.specs.Knowing.{IsBefore, IsHistory, IsSamePart};
-ghost use Rattle.flow_hub.specs.Posting.{HasKeys, IsOnce};
+ghost use Rattle.flow_queues.specs.Posting.{HasKeys, IsOnce};
 ghost use Rattle.flow_hub.specs.Publishing.{Answers, HasTaken, HasPublished, HasRefused, HasPosted, HasSkipped, IsFresh, IsDone};
 ghost use Rattle.flow_hub.specs.Seating.{IsPublishers};
 
 use crate::hub::{Shared, shared_in};
-use crate::posting::Keys;
+use flow_queues::posting::Keys;
 use crate::seats::{Pass, Room};
 use crate::waits::{told_by, told_of};
 use flow_base::code::Code;
@@ -34,7 +34,7 @@ pub struct Publisher<S: Alter, B: Room> {
 impl<S: Alter, B: Room> Model for Publisher<S, B> {
     ghost use Rattle.flow_hub.specs.declared.known.Known.{Known};
     ghost use Rattle.flow_hub.specs.Knowing.{known_code};
-    ghost use Rattle.flow_hub.specs.Posting.{HasKeys};
+    ghost use Rattle.flow_queues.specs.Posting.{HasKeys};
     ghost use Rattle.flow_hub.specs.Seating.{IsPublishers};
 
     ghost Value = { Known S };

@@ -12,8 +12,6 @@ mod boards;
 
 use crate::denied::Denied;
 use crate::known::Known;
-use crate::queues::{move_front, refuse_all, refused_at, ticket_at};
-use crate::refused::Refused;
 use crate::seats::{Named, PARTS, Pass, Room, Seats};
 use crate::settled::Settled;
 use flow_base::code::Code;
@@ -21,6 +19,10 @@ use flow_base::command::Command;
 use flow_commit::stamp::Stamp;
 use flow_machine::submission::{Receipt, Taken};
 use flow_machine::task::Task;
+use flow_queues::queues::{
+    move_front, push_receipts, refuse_all, refused_at, take_receipt, ticket_at,
+};
+use flow_queues::refused::Refused;
 use sqlite::Alter;
 use std::alloc::{AllocError, Global};
 use std::collections::VecDeque;
@@ -237,7 +239,7 @@ impl<S: Alter, B: Room> State<S, B> {
         &mut self,
         seats: &Seats<S, B>,
         me: Pass<S, B>,
-        mut receipts: Vec<Receipt>,
+        receipts: Vec<Receipt>,
         stamp: Stamp<S>,
     ) -> Pass<S, B>
         requires seat { IsPublishers me }
@@ -256,9 +258,7 @@ impl<S: Alter, B: Room> State<S, B> {
         stamp.spend();
         let me = seats.tell(&mut self.keeper, seen, old, self.places, &self.known);
         self.held = 0;
-        if self.answered.append(&mut receipts).is_err() {
-            unreachable!();
-        }
+        push_receipts(&mut self.answered, receipts);
         me
     }
 
@@ -302,7 +302,7 @@ impl<S: Alter, B: Room> State<S, B> {
         let Some(k) = ticket_at(self.answered.as_slice(), ticket) else {
             return (me, None);
         };
-        let receipt = self.answered.remove(k);
+        let receipt = take_receipt(&mut self.answered, k);
         self.known.fetched += 1;
         let me = seats.tell(&mut self.keeper, me, self.places, self.places, &self.known);
         (me, Some(receipt))

@@ -8,7 +8,7 @@ ghost use Rattle.flow_hub.specs.Submitting.{IsTicket, IsDenied, IsReceipt, IsNot
 
 use crate::denied::Denied;
 use crate::hub::{Shared, shared_in};
-use crate::refused::Refused;
+use flow_queues::refused::Refused;
 use crate::rested::Rested;
 use crate::seats::{Pass, Room};
 use crate::settled::Settled;

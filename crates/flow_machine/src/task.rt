@@ -16,3 +16,6 @@ pub struct Task {
     pub activity: Key,
     pub args: Sequence<Value>,
 }
+
+/// A task that was posted: the numbers of its run, of its event and of its attempt.
+pub type Posted = (u64, u64, u64);

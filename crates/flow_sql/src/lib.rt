@@ -1,2 +1,4 @@
-//! What the texts of SQL mean over the six tables: no code, definitions and lemmas alone.
+//! What the texts of SQL mean over the six tables, as definitions and lemmas, and the statements of a transaction.
 #![tactic(auto)]
+
+pub mod transaction;

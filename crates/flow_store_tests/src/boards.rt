@@ -2,9 +2,9 @@
 use crate::calls::{Call, are_kept, let_go};
 use crate::keeping::commit_each;
 use flow_base::number::Moment;
-use flow_commit::board::{Board, Posted};
+use flow_commit::board::Board;
 use flow_commit::keeper::Keeper;
-use flow_machine::task::Task;
+use flow_machine::task::{Posted, Task};
 use flow_tables::tables::Tables;
 use sqlite::{Alter, Connection};
 use std::alloc::Global;

@@ -18,7 +18,6 @@ pub mod row_changes;
 mod rows;
 pub mod run_changes;
 pub mod tables;
-pub mod transaction;
 pub mod turn_changes;
 mod two_events;
 mod utf8;

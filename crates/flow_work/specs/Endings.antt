@@ -11,7 +11,7 @@ use Rattle.flow_commit.specs.Keeping.{Keeping}
 use Rattle.flow_engine.specs.Serving.{EndsFor}
 use Rattle.flow_hub.specs.declared.denied.Denied.{Denied}
 use Rattle.flow_hub.specs.declared.denied.Denied.TheVariants as denied
-use Rattle.flow_hub.specs.declared.refused.Refused.{Refused}
+use Rattle.flow_queues.specs.declared.refused.Refused.{Refused}
 use Rattle.flow_hub.specs.declared.ticket.NotDone.{NotDone}
 use Rattle.flow_hub.specs.declared.ticket.Ticket.{Ticket}
 use Rattle.flow_hub.specs.declared.ticket.Why.{Why}

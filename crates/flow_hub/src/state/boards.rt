@@ -3,14 +3,14 @@ ghost use Rattle.std.specs.Prelude.{◌≡◌, false, true, ◌∷◌, ◌++◌,
 ghost use mathlib.Core.List.{IsPrefix};
 ghost use Rattle.flow_hub.specs.Halls.{posted_on, skipped, gave};
 ghost use Rattle.flow_hub.specs.Knowing.{IsBefore, IsSamePart, answered_in, nothing};
-ghost use Rattle.flow_hub.specs.Posting.{HasKeys, IsOnce};
+ghost use Rattle.flow_queues.specs.Posting.{HasKeys, IsOnce};
 ghost use Rattle.flow_hub.specs.Publishing.{HasPosted, HasSkipped};
 ghost use Rattle.flow_hub.specs.Feeding.{HasGiven, IsIdle, IsRested, due_in};
 ghost use Rattle.flow_hub.specs.Seating.{seeing, IsGivers, IsPublishers, IsSubmitters};
 
 use super::State;
 use crate::known::Outlook;
-use crate::posting::{Keys, add_all, push_marked};
+use flow_queues::posting::{Keys, add_all, push_marked};
 use crate::rested::Rested;
 use crate::seats::{Pass, Room, Seats};
 use flow_base::number::Moment;

@@ -1,7 +1,7 @@
 use Rattle.std.proofs.Common.{List, sym, ap, ◌∙◌, ◌++◌, map, subst}
 use Rattle.flow_base.specs.declared.code.Code.{Code}
 use Rattle.flow_machine.specs.declared.submission.Taken.{Taken}
-use Rattle.flow_hub.specs.Knowing.{refused_by}
+use Rattle.flow_queues.specs.Refusing.{refused_by}
 use Rattle.flow_hub.specs.Publishing.{InHand}
 use Rattle.flow_hub.proofs.Serving.{receipts_answer, refused_together}
 use Rattle.flow_engine.proofs.Serving.{gives_these}

@@ -1,6 +1,6 @@
 use Rattle.std.proofs.Common.{rules, List, ◌++◌, ◌∙◌, subst}
 use Rattle.flow_hub.proofs.Growing.{before_trans}
-use Rattle.flow_hub.specs.declared.refused.Refused.{Refused}
+use Rattle.flow_queues.specs.declared.refused.Refused.{Refused}
 use Rattle.flow_engine.specs.Serving.{TurnsAway}
 use Rattle.flow_engine.proofs.Serving.{turns_then}
 use Rattle.flow_engine.proofs.serve.turn_away.Goals as goal

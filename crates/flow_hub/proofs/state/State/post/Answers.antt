@@ -2,10 +2,10 @@ use Rattle.std.proofs.Common.{rules, ◌≡◌, ◌++◌, sym, ap, ◌∙◌, su
 use Rattle.flow_machine.specs.declared.task.Task.{Task}
 use Rattle.flow_hub.specs.declared.known.Known.{Known}
 use Rattle.flow_hub.specs.Knowing.{IsSamePart, with_posted}
-use Rattle.flow_hub.specs.Posting.{HasKeys, chosen, marks_of, new_ones}
-use Rattle.flow_hub.proofs.Chosen.{chosen_new}
+use Rattle.flow_queues.specs.Posting.{HasKeys, chosen, marks_of, new_ones}
+use Rattle.flow_queues.proofs.Chosen.{chosen_new}
 use Rattle.flow_hub.proofs.Moves.{was_of}
-use Rattle.flow_hub.proofs.Once.{still_once}
+use Rattle.flow_queues.proofs.Once.{still_once}
 use Rattle.flow_hub.proofs.Sound.{posts, has_posted, posted_by, once_by}
 use Rattle.flow_hub.proofs.state.State.post.Goals as goal
 

@@ -14,9 +14,9 @@ invariant_of-self g c =
     let i = c.self.inside in
     let same : IsSamePart c.args.me.was i.known = search rules in
     let asked : Answers i.known c.args.stamp rs = same_answers g.S.Store c.args.me.was i.known c.args.stamp rs same c.requires.answers in
-    let answered : c.append.new.self.items ≡ i.answered.items ++ rs = search rules in
+    let answered : c.push_receipts.new.answered.items ≡ i.answered.items ++ rs = search rules in
     let count : c.len.result ≡ length rs = search rules in
-    let len : vec_len c.append.new.self ≡ vec_len i.answered + length rs = search rules in
+    let len : vec_len c.push_receipts.new.answered ≡ vec_len i.answered + length rs = search rules in
     let held : length i.known.held ≡ length rs = sym (ap length asked.asked) ∙ length-mapped taken_of rs in
     let longer : length (i.known.history ++ rs) ≡ length i.known.history + length rs = length-append i.known.history rs in (
       rw (c.publish.ensures, answered) (publishes g.S.Store _ c.args.stamp rs c.self.invariant.0 asked c.spend.ensures.lawful),

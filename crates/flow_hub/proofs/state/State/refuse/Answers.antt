@@ -1,5 +1,6 @@
 use Rattle.std.proofs.Common.{rules, ◌≡◌, ◌+◌, ◌++◌, length, ap, sym, ◌∙◌, arith, map, length-append, vec_len}
-use Rattle.flow_hub.specs.Knowing.{IsSamePart, refused_by}
+use Rattle.flow_queues.specs.Refusing.{refused_by}
+use Rattle.flow_hub.specs.Knowing.{IsSamePart}
 use Rattle.flow_hub.proofs.Growing.{refuses_on, grows_by}
 use Rattle.flow_hub.proofs.Lists.{length-mapped}
 use Rattle.flow_hub.proofs.Sound.{refuses}

@@ -1,0 +1,92 @@
+//! The keys of all that was posted, and which tasks of a board are new.
+ghost use Rattle.std.specs.Prelude.{◌≡◌, ◌≤◌, ◌+◌, ◌++◌, ◌&&◌, ◌||◌, cond, not, true, false, List, length, vec_len, IfOk, IfErr, OnErr};
+ghost use Rattle.std.specs.BTreeSet.{contains};
+ghost use Rattle.std.specs.VecDeque.{deque_len, deque_capacity};
+ghost use Rattle.flow_machine.specs.Keys.{Key, key_of as the_key};
+ghost use Rattle.flow_machine.specs.declared.task.Task.{Task as ATask};
+ghost use Rattle.flow_queues.specs.Posting.{HasKeys, chosen, has_key, is_key, key_cmp, marks_of, new_ones};
+
+use flow_machine::task::{Posted, Task};
+use std::alloc::{AllocError, Global};
+use std::collections::{BTreeSet, VecDeque};
+
+/// The keys of all that was posted.
+pub type Keys = BTreeSet<Posted>;
+
+fn key_of(task: &Task) -> Posted
+    ensures { result ≡ the_key task.now }
+{
+    (task.run.get(), task.event.get(), task.attempt)
+}
+
+/// Whether the task's key is new. It is there then.
+fn add(keys: &mut Keys, task: &Task) -> Result<bool, AllocError>
+    ensures new { IfOk result (λ new. new ≡ not (contains key_cmp keys.old (the_key task.now))) }
+    ensures added { IfOk result (λ new. (q : Key) → contains key_cmp keys.new q ≡ cond (is_key (the_key task.now) q) true (contains key_cmp keys.old q)) }
+    ensures refused { OnErr result ((q : Key) → contains key_cmp keys.new q ≡ contains key_cmp keys.old q) }
+{
+    match keys.insert(key_of(task)) {
+        Ok(new) => Ok(new),
+        Err(refused) => Err(AllocError::from(refused)),
+    }
+}
+
+fn remove(keys: &mut Keys, task: &Task)
+    ensures { (q : Key) → contains key_cmp keys.new q ≡ cond (is_key (the_key task.now) q) false (contains key_cmp keys.old q) }
+{
+    keys.remove(&key_of(task));
+}
+
+fn remove_if(keys: &mut Keys, task: &Task, marked: bool)
+    ensures { (q : Key) → contains key_cmp keys.new q ≡ cond (marked && is_key (the_key task.now) q) false (contains key_cmp keys.old q) }
+{
+    if marked {
+        remove(keys, task);
+    }
+}
+
+/// Takes the keys of the tasks that are marked away again.
+fn remove_marked(keys: &mut Keys, tasks: &[Task], marks: &Vec<bool>)
+    requires { vec_len marks.now ≤ length tasks.now }
+    ensures { (q : Key) → contains key_cmp keys.new q ≡ (contains key_cmp keys.old q && not (has_key (chosen tasks.now marks.now.items) q)) }
+{
+    for k in 0..marks.len() {
+        remove_if(keys, &tasks[k], marks[k]);
+    }
+}
+
+/// Joins the keys of these tasks to those of what was posted, and marks the tasks whose key is new. Where memory is refused all is
+/// as before.
+pub fn add_all(
+    alloc: Global,
+    keys: &mut Keys,
+    tasks: &[Task],
+) -> Result<Vec<bool>, AllocError>
+    ensures marked { IfOk result (λ marks. (posted : List ATask) → HasKeys keys.old posted → (marks.items ≡ marks_of posted tasks.now) × HasKeys keys.new (posted ++ new_ones posted tasks.now)) }
+    ensures length { IfOk result (λ marks. vec_len marks ≡ length tasks.now) }
+    ensures refused { OnErr result ((q : Key) → contains key_cmp keys.new q ≡ contains key_cmp keys.old q) }
+{
+    let mut marks = Vec::with_capacity(alloc, tasks.len())?;
+    for task in tasks {
+        match add(keys, task) {
+            Ok(new) => marks.push_reserved(new),
+            Err(refused) => {
+                remove_marked(keys, tasks, &marks);
+                return Err(refused);
+            }
+        }
+    }
+    Ok(marks)
+}
+
+/// Moves the tasks that are marked behind those that wait.
+pub fn push_marked(waiting: &mut VecDeque<Task>, tasks: Vec<Task>, marks: Vec<bool>)
+    requires room { deque_len waiting.old + vec_len tasks ≤ deque_capacity waiting.old }
+    ensures items { waiting.new.items ≡ waiting.old.items ++ chosen tasks.items marks.items }
+{
+    for (task, mark) in tasks.into_iter().zip(marks) {
+        if mark {
+            waiting.push_back_reserved(task);
+        }
+    }
+}
