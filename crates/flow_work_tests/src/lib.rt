@@ -1,4 +1,4 @@
-//! Tests of a running engine.
+//! Tests of a running engine, and of one that serves a hub.
 #![tactic(auto)]
 
 #[cfg(test)]
@@ -8,4 +8,8 @@ mod many;
 #[cfg(test)]
 mod runs;
 #[cfg(test)]
+mod serving;
+#[cfg(test)]
 mod together;
+#[cfg(test)]
+mod working;

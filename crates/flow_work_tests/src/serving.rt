@@ -2,6 +2,7 @@
 ghost use Rattle.std.specs.Prelude.{◌≡◌, []};
 ghost use Rattle.flow_hub.specs.Seating.{IsRoomOf};
 
+use crate::clock::Still;
 use flow_base::command::{Command, Reply};
 use flow_base::number::{Moment, TextNo};
 use flow_base::sequence::Sequence;
@@ -14,7 +15,6 @@ use flow_hub::submitter::Submitter;
 use flow_hub::ticket::Ticket;
 use flow_machine::submission::Receipt;
 use flow_settings::settings::Settings;
-use flow_timers::Clock;
 use sqlite::{Alter, Connection, MemStore};
 use std::alloc::Global;
 use std::marker::Brand;
@@ -26,18 +26,6 @@ use std::test::*;
 pub struct Told {
     pub place: u64,
     pub named: u64,
-}
-
-/// A clock that stands.
-#[derive(Clone, Copy)]
-pub struct Still {
-    pub now: Moment,
-}
-
-impl Clock for Still {
-    fn now(&self) -> Moment {
-        self.now
-    }
 }
 
 fn register(alloc: Global) -> Option<Command> {
@@ -116,9 +104,7 @@ fn served<B: Room, R: Wait>(
     requires { IsRoomOf opened B.table B.name B.parts }
 {
     let (mut publisher, hub) = Hub::<MemStore, B>::new(alloc, opened).ok()?;
-    let clock = Still {
-        now: Moment::new(1000)?,
-    };
+    let clock = Still::at(1000)?;
     let mut submitter = hub.submitter(rt).ok()?;
     let first = submitted(rt, &mut submitter, register(alloc)?)?;
     let second = submitted(rt, &mut submitter, start(alloc)?)?;

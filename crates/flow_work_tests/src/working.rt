@@ -3,7 +3,8 @@
 ghost use Rattle.std.specs.Prelude.{◌≡◌, []};
 ghost use Rattle.flow_hub.specs.Seating.{IsRoomOf};
 
-use crate::serving::{Still, Told, fetched, serve, submitted};
+use crate::clock::Still;
+use crate::serving::{Told, fetched, serve, submitted};
 use flow_base::command::Command;
 use flow_base::number::{Moment, TextNo};
 use flow_base::sequence::Sequence;
@@ -102,12 +103,8 @@ fn served<B: Room + Send + Sync, R: Threads + Wait + Timing + Sync>(
     requires { IsRoomOf opened B.table B.name B.parts }
 {
     let (mut publisher, hub) = Hub::<MemStore, B>::new(alloc, opened).ok()?;
-    let early = Still {
-        now: Moment::new(1000)?,
-    };
-    let late = Still {
-        now: Moment::new(1500)?,
-    };
+    let early = Still::at(1000)?;
+    let late = Still::at(1500)?;
     let mut feed = hub.feed(rt).ok()??;
     let mut submitter = hub.submitter(rt).ok()?;
     let hub = &hub;

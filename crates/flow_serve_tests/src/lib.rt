@@ -1,7 +1,0 @@
-//! Tests of an engine that serves a hub.
-#![tactic(auto)]
-
-#[cfg(test)]
-mod serving;
-#[cfg(test)]
-mod working;
