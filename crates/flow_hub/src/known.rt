@@ -3,13 +3,13 @@ ghost use Rattle.std.specs.Prelude.{◌≡◌, [], ◌∷◌, ◌++◌, map};
 ghost use Rattle.flow_hub.specs.Knowing.{nothing, with_ask, with_taken, with_published, with_refused, with_posted, with_skipped, with_given};
 ghost use Rattle.flow_queues.specs.Posting.{chosen};
 
-use flow_queues::refused::Refused;
 use flow_base::code::Code;
 use flow_base::number::Moment;
 use flow_commit::keeper::Keeper;
 use flow_commit::stamp::Stamp;
 use flow_machine::submission::{Receipt, Taken};
 use flow_machine::task::Task;
+use flow_queues::refused::Refused;
 use sqlite::Alter;
 use unseen::{Listed, Makes};
 

@@ -7,13 +7,14 @@ ghost use Rattle.flow_hub.specs.Publishing.{Answers, HasTaken, HasPublished, Has
 ghost use Rattle.flow_hub.specs.Seating.{IsPublishers};
 
 use crate::hub::{Shared, shared_in};
-use flow_queues::posting::Keys;
 use crate::seats::{Pass, Room};
 use crate::waits::{told_by, told_of};
 use flow_base::code::Code;
-use flow_commit::board::{Board, Posted};
+use flow_commit::board::Board;
 use flow_commit::stamp::Stamp;
 use flow_machine::submission::{Receipt, Taken};
+use flow_machine::task::Posted;
+use flow_queues::posting::Keys;
 use sqlite::Alter;
 use std::alloc::{AllocError, Global};
 use std::collections::BTreeSet;

@@ -8,7 +8,6 @@ ghost use Rattle.flow_hub.specs.Submitting.{IsTicket, IsDenied, IsReceipt, IsNot
 
 use crate::denied::Denied;
 use crate::hub::{Shared, shared_in};
-use flow_queues::refused::Refused;
 use crate::rested::Rested;
 use crate::seats::{Pass, Room};
 use crate::settled::Settled;
@@ -16,6 +15,7 @@ use crate::ticket::{NotDone, Ticket, Why};
 use flow_base::command::Command;
 use flow_base::number::Moment;
 use flow_machine::submission::Receipt;
+use flow_queues::refused::Refused;
 use flow_timers::{Clock, tick_due};
 use sqlite::Alter;
 use std::marker::Model;

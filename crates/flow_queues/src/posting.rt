@@ -57,11 +57,7 @@ fn remove_marked(keys: &mut Keys, tasks: &[Task], marks: &Vec<bool>)
 
 /// Joins the keys of these tasks to those of what was posted, and marks the tasks whose key is new. Where memory is refused all is
 /// as before.
-pub fn add_all(
-    alloc: Global,
-    keys: &mut Keys,
-    tasks: &[Task],
-) -> Result<Vec<bool>, AllocError>
+pub fn add_all(alloc: Global, keys: &mut Keys, tasks: &[Task]) -> Result<Vec<bool>, AllocError>
     ensures marked { IfOk result (λ marks. (posted : List ATask) → HasKeys keys.old posted → (marks.items ≡ marks_of posted tasks.now) × HasKeys keys.new (posted ++ new_ones posted tasks.now)) }
     ensures length { IfOk result (λ marks. vec_len marks ≡ length tasks.now) }
     ensures refused { OnErr result ((q : Key) → contains key_cmp keys.new q ≡ contains key_cmp keys.old q) }

@@ -10,12 +10,12 @@ ghost use Rattle.flow_hub.specs.Seating.{seeing, IsGivers, IsPublishers, IsSubmi
 
 use super::State;
 use crate::known::Outlook;
-use flow_queues::posting::{Keys, add_all, push_marked};
 use crate::rested::Rested;
 use crate::seats::{Pass, Room, Seats};
 use flow_base::number::Moment;
 use flow_commit::board::Board;
 use flow_machine::task::Task;
+use flow_queues::posting::{Keys, add_all, push_marked};
 use sqlite::Alter;
 use std::alloc::{AllocError, Global};
 
