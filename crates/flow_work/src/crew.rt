@@ -60,16 +60,27 @@ fn run_timer<S: Alter, B: Room, R: Wait + time::Clock, C: Clock>(
     drop(group);
 }
 
+/// All that the thread has that answers lines.
+#[derive(Drop)]
+pub(crate) struct Answerer<S: Alter, B: Room, W: Write, P: Write> {
+    pub(crate) desk: Desk<S, B, W>,
+    pub(crate) inputs: Receiver<Input>,
+    pub(crate) hub: Arc<Hub<S, B>, Global>,
+    pub(crate) progress: Option<Progress<P>>,
+}
+
 /// Answers lines until the input has ended and no run is open, and then closes the hub. The greatest status of what was printed.
 fn run_desk<S: Alter, B: Room, W: Write + Drop, R: Wait + time::Clock, C: Clock, P: Write + Drop>(
     rt: &R,
-    desk: Desk<S, B, W>,
+    answerer: Answerer<S, B, W, P>,
     clock: &C,
-    inputs: Receiver<Input>,
-    hub: Arc<Hub<S, B>, Global>,
-    progress: Option<Progress<P>>,
 ) -> (W, Status) {
-    let mut desk = desk;
+    let Answerer {
+        mut desk,
+        inputs,
+        hub,
+        progress,
+    } = answerer;
     desk.answer_lines(rt, clock, &inputs);
     desk.rest(rt, clock, progress);
     hub.close(rt);
@@ -167,11 +178,8 @@ where
 /// Starts the thread that answers lines. E01 where there is none.
 pub(crate) fn start_desk<S, B, R, W, C, P>(
     rt: &R,
-    desk: Desk<S, B, W>,
+    answerer: Answerer<S, B, W, P>,
     clock: C,
-    inputs: Receiver<Input>,
-    hub: Arc<Hub<S, B>, Global>,
-    progress: Option<Progress<P>>,
 ) -> Result<JoinHandle<(W, Status)>, Fault>
 where
     S: Alter + Send + 'static,
@@ -183,10 +191,7 @@ where
     ensures { IfErr result (λ f. f ≡ Fault.NoMemory _) }
 {
     let its = *rt;
-    match thread::spawn(
-        rt,
-        move || run_desk(&its, desk, &clock, inputs, hub, progress),
-    ) {
+    match thread::spawn(rt, move || run_desk(&its, answerer, &clock)) {
         Ok(thread) => Ok(thread),
         Err(refused) => Err(Fault::from(AllocError::from(refused))),
     }

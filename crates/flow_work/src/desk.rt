@@ -1,5 +1,5 @@
 //! The thread that submits lines and prints their replies, in the order of the lines.
-ghost use Rattle.std.specs.Prelude.{◌≡◌, ◌≤◌, ◌<◌, [], false, length, IfOk, IfSome};
+ghost use Rattle.std.specs.Prelude.{◌≡◌, ◌≤◌, ◌<◌, false, length, IfSome};
 ghost use Rattle.flow_work.specs.Endings.{IsToldOf, line_instead};
 ghost use Rattle.flow_work.specs.Printing.{Prints, status_with};
 
@@ -22,7 +22,7 @@ use flow_hub::submitter::Submitter;
 use flow_hub::ticket::{NotDone, Ticket, Why};
 use flow_timers::Clock;
 use sqlite::Alter;
-use std::alloc::{AllocError, Global};
+use std::alloc::Global;
 use std::io::Write;
 use std::sync::Wait;
 use std::time::Duration;
@@ -69,23 +69,23 @@ fn answer_to<S: Alter, B: Room, R: Wait>(
 }
 
 impl<S: Alter, B: Room, W: Write + Drop> Desk<S, B, W> {
-    /// Submits by this submitter and prints to this writer.
+    /// Submits by this submitter, with these lines to be told of, and prints to this writer.
     pub(crate) fn new(
         alloc: Global,
         submitter: Submitter<S, B>,
+        pending: Queue,
         writer: W,
-    ) -> Result<Desk<S, B, W>, AllocError>
-        ensures { IfOk result (λ d. (d.submitter ≡ submitter) × (d.writer ≡ writer) × (d.pending.lines.items ≡ []) × (d.is_mute ≡ false) × (d.status ≡ 0)) }
+    ) -> Desk<S, B, W>
+        ensures { (result.submitter ≡ submitter) × (result.writer ≡ writer) × (result.pending ≡ pending) × (result.is_mute ≡ false) × (result.status ≡ 0) }
     {
-        let pending = Queue::new(alloc)?;
-        Ok(Desk {
+        Desk {
             alloc,
             submitter,
             pending,
             writer,
             is_mute: false,
             status: Status::done(),
-        })
+        }
     }
 
     /// The writer, and the greatest status of what was printed and of what failed.

@@ -1,15 +1,19 @@
 //! A running engine: the threads around the one that serves.
 ghost use Rattle.std.specs.Prelude.{◌≡◌, [], length, IfOk, IfErr, OnOk};
+ghost use Rattle.flow_hub.specs.Knowing.{nothing};
 ghost use Rattle.flow_hub.specs.Seating.{IsRoomOf};
 ghost use Rattle.flow_hub.specs.Publishing.{Together};
 ghost use Rattle.flow_engine.specs.Answering.{Follows};
 ghost use Rattle.flow_work.specs.Endings.{EndsServing};
 
-use crate::crew::{start_desk, start_dispatcher, start_reader, start_timer, start_worker};
+use crate::crew::{
+    Answerer, start_desk, start_dispatcher, start_reader, start_timer, start_worker,
+};
 use crate::desk::Desk;
 use crate::ended::Ended;
 use crate::input::Input;
 use crate::progress::Progress;
+use crate::queue::Queue;
 use crate::reports::Reporter;
 use crate::skills::Skills;
 use crate::status::Status;
@@ -22,7 +26,9 @@ use flow_base::memory::NoMemory;
 use flow_engine::engine::Engine;
 use flow_hub::denied::Unseated;
 use flow_hub::hub::Hub;
+use flow_hub::publisher::Publisher;
 use flow_hub::seats::{Opened, Room};
+use flow_hub::submitter::Submitter;
 use flow_pool::activity::Activity;
 use flow_pool::channel::opened;
 use flow_pool::ends::{TaskReceiver, TaskSender};
@@ -81,6 +87,33 @@ fn reporter<S: Alter, B: Room, R: Wait>(
     }
 }
 
+/// Starts the thread of one worker.
+fn start_one<S, B, R, A, K, C>(
+    rt: &R,
+    alloc: Global,
+    hub: &Hub<S, B>,
+    receiver: TaskReceiver,
+    skills: &K,
+    clock: C,
+    tally: &Tally,
+    group: &WaitGroup,
+) -> Result<(), Fault>
+where
+    S: Alter + Send + 'static,
+    B: Room + Send + Sync + 'static,
+    R: Threads + Wait + Copy + Send + Drop + 'static,
+    A: Activity + Drop + Send + 'static,
+    K: Skills<A>,
+    C: Clock + Copy + Send + Drop + 'static,
+    ensures { IfErr result (λ f. f ≡ Fault.NoMemory _) }
+{
+    let group = group.clone()?;
+    let tally = tally.share()?;
+    let activities = skills.of_worker(alloc)?;
+    let reports = reporter(rt, hub, Some(tally))?;
+    start_worker(rt, alloc, activities, receiver, reports, clock, group)
+}
+
 /// Starts a thread for each worker.
 fn start_workers<S, B, R, A, K, C>(
     rt: &R,
@@ -102,17 +135,7 @@ where
     ensures { IfErr result (λ f. f ≡ Fault.NoMemory _) }
 {
     for receiver in receivers {
-        let activities = skills.of_worker(alloc)?;
-        let reports = reporter(rt, hub, Some(tally.share()?))?;
-        start_worker(
-            rt,
-            alloc,
-            activities,
-            receiver,
-            reports,
-            clock,
-            group.clone()?,
-        )?;
+        start_one(rt, alloc, hub, receiver, skills, clock, tally, group)?;
     }
     Ok(())
 }
@@ -137,20 +160,57 @@ where
     C: Clock + Copy + Send + Drop + 'static,
     ensures { IfErr result (λ f. f ≡ Fault.NoMemory _) }
 {
+    let (sender, receivers) = open_channel(alloc, workers)?;
+    start_workers(rt, alloc, hub, receivers, skills, clock, tally, group)?;
+    let group = group.clone()?;
+    let tally = tally.share()?;
     // Nobody has asked this hub for its feed before.
     let Some(feed) = hub.feed(rt)? else {
         return Err(Fault::NoMemory(NoMemory::told()));
     };
-    let (sender, receivers) = open_channel(alloc, workers)?;
-    start_workers(rt, alloc, hub, receivers, skills, clock, tally, group)?;
-    start_dispatcher(rt, Tasks::new(feed, tally.share()?), sender, group.clone()?)
+    start_dispatcher(rt, Tasks::new(feed, tally), sender, group)
+}
+
+/// What those who read and answer lines have beside where the lines come from and where the replies go.
+struct Opening<S: Alter, B: Room> {
+    lines: Sender<Input>,
+    own_lines: Sender<Input>,
+    inputs: Receiver<Input>,
+    pending: Queue,
+    submitter: Submitter<S, B>,
+    hub: Arc<Hub<S, B>, Global>,
+}
+
+/// All that may be refused of it is asked for here, where nothing else is held.
+fn open_lines<S: Alter, B: Room, R: Wait>(
+    rt: &R,
+    alloc: Global,
+    hub: &Arc<Hub<S, B>, Global>,
+) -> Result<Opening<S, B>, Fault>
+    ensures { IfErr result (λ f. f ≡ Fault.NoMemory _) }
+{
+    let pending = Queue::new(alloc)?;
+    let (lines, inputs) = bounded(alloc, MOST_LINES)?;
+    let own_lines = lines.clone()?;
+    let own_hub = Arc::try_clone(hub)?;
+    match hub.submitter(rt) {
+        Ok(submitter) => Ok(Opening {
+            lines,
+            own_lines,
+            inputs,
+            pending,
+            submitter,
+            hub: own_hub,
+        }),
+        Err(unseated) => Err(unseated_fault(unseated)),
+    }
 }
 
 /// Starts who reads lines and who answers them. Who answers gives back where the replies went.
 fn start_lines<S, B, R, I, W, C, P>(
     rt: &R,
     alloc: Global,
-    hub: &Arc<Hub<S, B>, Global>,
+    opening: Opening<S, B>,
     reader: I,
     writer: W,
     clock: C,
@@ -166,16 +226,86 @@ where
     P: Write + Drop + Send + 'static,
     ensures { IfErr result (λ f. f ≡ Fault.NoMemory _) }
 {
-    let (lines, inputs) = bounded(alloc, MOST_LINES)?;
-    let own_lines = lines.clone()?;
-    let submitter = match hub.submitter(rt) {
-        Ok(submitter) => submitter,
-        Err(unseated) => return Err(unseated_fault(unseated)),
+    let Opening {
+        lines,
+        own_lines,
+        inputs,
+        pending,
+        submitter,
+        hub,
+    } = opening;
+    let answerer = Answerer {
+        desk: Desk::new(alloc, submitter, pending, writer),
+        inputs,
+        hub,
+        progress,
     };
-    let desk = Desk::new(alloc, submitter, writer)?;
     start_reader(rt, alloc, reader, lines)?;
-    let answering = start_desk(rt, desk, clock, inputs, Arc::try_clone(hub)?, progress)?;
+    let answering = start_desk(rt, answerer, clock)?;
     Ok((answering, own_lines))
+}
+
+/// Starts those who need no line, and counts the tasks that are with workers.
+fn start_others<S, B, R, A, K, C>(
+    rt: &R,
+    alloc: Global,
+    hub: &Hub<S, B>,
+    workers: usize,
+    skills: &K,
+    clock: C,
+    group: &WaitGroup,
+) -> Result<Tally, Fault>
+where
+    S: Alter + Send + 'static,
+    B: Room + Send + Sync + 'static,
+    R: Threads + Wait + time::Clock + Copy + Send + Drop + 'static,
+    A: Activity + Drop + Send + 'static,
+    K: Skills<A>,
+    C: Clock + Copy + Send + Drop + 'static,
+    ensures { IfErr result (λ f. f ≡ Fault.NoMemory _) }
+{
+    let tally = Tally::new(alloc)?;
+    start_pool(rt, alloc, hub, workers, skills, clock, &tally, group)?;
+    let group = group.clone()?;
+    let reports = reporter(rt, hub, None)?;
+    start_timer(rt, reports, clock, group)?;
+    Ok(tally)
+}
+
+/// A terminal, if there is one, that shows what is left.
+fn progress_on<P: Write + Drop>(
+    alloc: Global,
+    terminal: Option<P>,
+    tally: Tally,
+) -> Option<Progress<P>> {
+    match terminal {
+        Some(terminal) => Some(Progress::new(alloc, terminal, tally)),
+        None => None,
+    }
+}
+
+/// Starts those who need no line, and opens what those need who do.
+fn start_first<S, B, R, A, K, C>(
+    rt: &R,
+    alloc: Global,
+    hub: &Arc<Hub<S, B>, Global>,
+    workers: usize,
+    skills: &K,
+    clock: C,
+    group: &WaitGroup,
+) -> Result<(Opening<S, B>, Tally), Fault>
+where
+    S: Alter + Send + 'static,
+    B: Room + Send + Sync + 'static,
+    R: Threads + Wait + time::Clock + Copy + Send + Drop + 'static,
+    A: Activity + Drop + Send + 'static,
+    K: Skills<A>,
+    C: Clock + Copy + Send + Drop + 'static,
+    ensures { IfErr result (λ f. f ≡ Fault.NoMemory _) }
+{
+    let tally = start_others(rt, alloc, hub, workers, skills, clock, group)?;
+    let opening = open_lines(rt, alloc, hub)?;
+    Ok((opening, tally))
 }
 
 /// Starts all threads but the one that serves.
@@ -203,14 +333,9 @@ where
     P: Write + Drop + Send + 'static,
     ensures { IfErr result (λ f. f ≡ Fault.NoMemory _) }
 {
-    let tally = Tally::new(alloc)?;
-    start_pool(rt, alloc, hub, workers, skills, clock, &tally, group)?;
-    start_timer(rt, reporter(rt, hub, None)?, clock, group.clone()?)?;
-    let progress = match terminal {
-        Some(terminal) => Some(Progress::new(alloc, terminal, tally)),
-        None => None,
-    };
-    start_lines(rt, alloc, hub, reader, writer, clock, progress)
+    let (opening, tally) = start_first(rt, alloc, hub, workers, skills, clock, group)?;
+    let progress = progress_on(alloc, terminal, tally);
+    start_lines(rt, alloc, opening, reader, writer, clock, progress)
 }
 
 /// Runs an engine: serves, runs activities on as many threads as the settings say, fires what is due by the clock, reads lines and
@@ -284,16 +409,36 @@ where
     ensures base { engine.new.base ≡ engine.old.base }
     ensures follows { Follows S.Store engine.old engine.new }
 {
-    let opened = Opened::new(alloc)?;
+    let (group, opened) = begin(alloc)?;
     work_in::<S, Brand, R, I, W, A, K, C, P>(
-        rt, alloc, opened, engine, reader, writer, terminal, settings, skills, clock,
+        rt, alloc, opened, group, engine, reader, writer, terminal, settings, skills, clock,
     )
+}
+
+/// The group of the threads that are waited for, and what a hub is made of.
+fn begin<S: Alter>(alloc: Global) -> Result<(WaitGroup, Opened<S>), AllocError> {
+    let group = WaitGroup::new(alloc)?;
+    let opened = Opened::new(alloc)?;
+    Ok((group, opened))
+}
+
+/// A hub that threads share, and its publisher.
+type Parts<S, B> = (Publisher<S, B>, Arc<Hub<S, B>, Global>);
+
+fn open_hub<S: Alter, B: Room>(alloc: Global, opened: Opened<S>) -> Result<Parts<S, B>, AllocError>
+    requires room { IsRoomOf opened B.table B.name B.parts }
+    ensures { IfOk result (λ p. p.0 ≡ nothing) }
+{
+    let (publisher, hub) = Hub::<S, B>::new(alloc, opened)?;
+    let hub = Arc::new(alloc, hub)?;
+    Ok((publisher, hub))
 }
 
 fn work_in<S, B, R, I, W, A, K, C, P>(
     rt: &R,
     alloc: Global,
     opened: Opened<S>,
+    group: WaitGroup,
     engine: &mut Engine<S>,
     reader: I,
     writer: W,
@@ -320,9 +465,7 @@ where
     ensures base { engine.new.base ≡ engine.old.base }
     ensures follows { Follows S.Store engine.old engine.new }
 {
-    let (mut publisher, hub) = Hub::<S, B>::new(alloc, opened)?;
-    let hub = Arc::new(alloc, hub)?;
-    let group = WaitGroup::new(alloc)?;
+    let (mut publisher, hub) = open_hub::<S, B>(alloc, opened)?;
     let started = start_all(
         rt,
         alloc,
