@@ -153,28 +153,10 @@ abbrev pub ReadsBook : {A : Type 0} → State → State → Result A ViewFault �
 ReadsBook old new result value =
     (b : Book) → Tells (tables_in old.now.trees) b → Holds true old → MatchResult result (λ v. IsStill true old new × (v ≡ value b)) (λ _. IsRefused true old new)
 
--- the same, of the run that has this row and stands at this number
-abbrev pub RecallsRun : State → State → ℕ → RunRow → Result Run ViewFault → Type 0
-RecallsRun old new number row result =
-    (b : Book) (r : Run) → Tells (tables_in old.now.trees) b → nth b.runs number ≡ Some r → row ≡ run_row number r → Holds true old
-    → MatchResult result (λ v. IsStill true old new × (v ≡ r)) (λ _. IsRefused true old new)
-
--- and of what is read of it without its history
-abbrev pub RecallsHead : State → State → ℕ → RunRow → Result Head ViewFault → Type 0
-RecallsHead old new number row result =
-    (b : Book) (r : Run) → Tells (tables_in old.now.trees) b → nth b.runs number ≡ Some r → row ≡ run_row number r → Holds true old
-    → MatchResult result (λ v. IsStill true old new × (v ≡ head_of r)) (λ _. IsRefused true old new)
-
 -- A refusal has this behind it, where the tables tell a book.
 abbrev pub StopsRead : {A : Type 0} → State → Result A ViewFault → Type 0 → Type 0
 StopsRead old result why =
     (b : Book) → Tells (tables_in old.now.trees) b → Holds true old → IfErr result (λ f. f ≡ fault.StoreRefused → why)
-
--- the same, of the run that has this row and stands at this number
-abbrev pub StopsRecall : {A : Type 0} → State → ℕ → RunRow → Result A ViewFault → Type 0 → Type 0
-StopsRecall old number row result why =
-    (b : Book) (r : Run) → Tells (tables_in old.now.trees) b → nth b.runs number ≡ Some r → row ≡ run_row number r → Holds true old
-    → IfErr result (λ f. f ≡ fault.StoreRefused → why)
 
 -- a number that no text and no run has
 abbrev pub IsBelowOne : Option ℤ → Type 0
