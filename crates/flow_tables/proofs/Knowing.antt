@@ -13,7 +13,7 @@ use Rattle.flow_rows.specs.Changes.{at_run, is_other_timer}
 use Rattle.flow_rows.specs.Told.{opened_by, after_event, after_events}
 use Rattle.flow_rows.proofs.BookTables.{nth_is}
 use Rattle.flow_rows.proofs.Finds as found
-use Rattle.flow_rows.proofs.Undamaged.{timer_rows_of, task_rows_of}
+use Rattle.flow_rows.proofs.Undamaged.{timer_rows_of}
 use Rattle.flow_rows.proofs.Behind.{no_rows_yet}
 use Rattle.flow_tables.specs.declared.known.OpenTasks.TheVariants as tasks
 

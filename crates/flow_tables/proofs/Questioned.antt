@@ -1,6 +1,6 @@
 -- What becomes of a question.
 use Rattle.std.specs.Prelude.{IsSome, ◌≡◌, ◌⊎◌}
-use Rattle.flow_tables.proofs.Names.{was_clean, rest_ended, IsStopped, view_fault, StopsWith, Book, first, Tells as TellsBook, schema, Tables, Held, state, Row, Executes, HasCleanDisk, State, Survives, Error, Ghosts, Bool, IfErr, List, MatchResult, Option, map, true, ℕ, Changes, HasEnded, IsAtRest, IsOver, IsRefused, IsStill, tables_in, StoreFault, ViewFault, Err, IfOk, Ok, [], Result, CommitsBy, FirstIs, subst, ◌∙◌, sym, inl, inr, Kind}
+use Rattle.flow_tables.proofs.Names.{was_clean, rest_ended, IsStopped, view_fault, StopsWith, Book, Tells as TellsBook, schema, Tables, Held, state, Row, Executes, HasCleanDisk, State, Survives, Error, Ghosts, Bool, IfErr, List, MatchResult, map, true, ℕ, Changes, HasEnded, IsAtRest, IsOver, IsRefused, IsStill, tables_in, StoreFault, ViewFault, Err, IfOk, Ok, [], Result, CommitsBy, FirstIs, subst, ◌∙◌, sym, inl, inr, Kind}
 use Rattle.sqlite.specs.State.{CommitsShowing, IsUnchanged, IsRolledBack}
 use Rattle.sqlite_resolve.specs.Compile.{first as first_statement}
 use Rattle.sqlite.specs.Query.{Query, IsAnswer}

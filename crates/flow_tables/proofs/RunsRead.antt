@@ -1,5 +1,5 @@
 -- Runs that are read one after another, up to the last.
-use Rattle.std.proofs.Common.{◌≡◌, ◌+◌, ℕ, zero, suc, List, [], ◌∷◌, ◌++◌, take, Option, Some, None, slice_get, refl, sym, ap, subst, ◌∙◌, arith}
+use Rattle.std.proofs.Common.{◌≡◌, ◌+◌, ℕ, zero, suc, List, [], ◌∷◌, ◌++◌, take, Some, None, slice_get, refl, sym, ap, subst, ◌∙◌, arith}
 use Rattle.flow_base.specs.declared.book.Run.{Run}
 use Rattle.flow_model.specs.Book.{Book, nth}
 use Rattle.flow_model.proofs.Logs.{nth_at}

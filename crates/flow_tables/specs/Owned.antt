@@ -1,12 +1,10 @@
 -- Tables as a value of the code: the book that they hold, and what becomes of it.
 use Rattle.std.specs.Prelude.{◌≡◌, ◌⊎◌, ◌<ℤ◌}
-use Rattle.flow_tables.specs.Names.{Bytes, Bool, Run, Book, nth, no_book, last_number, run_row, Tells, book_in, no_schema, RunRow, Held, state, HasCleanDisk, State, Ghosts, IfErr, IsTrue, MatchResult, Option, false, pos, true, ℕ, HasTables, Holds, IsOver, IsRefused, IsStill, AreOurs, tables_in, Refusal, Known, ViewFault, Err, None, Ok, Some, option_map, ℤ, refl, Result}
+use Rattle.flow_tables.specs.Names.{Bytes, Bool, Book, no_book, last_number, Tells, book_in, no_schema, RunRow, Held, state, HasCleanDisk, State, Ghosts, IfErr, IsTrue, MatchResult, Option, false, pos, true, ℕ, HasTables, Holds, IsOver, IsRefused, IsStill, AreOurs, tables_in, Refusal, Known, ViewFault, Err, None, Ok, Some, option_map, ℤ, refl, Result}
 use Rattle.std.specs.Coded.{Coded, code_by, coded×, coded_option}
 use Rattle.sqlite.specs.Tree.{Trees}
 use Rattle.sqlite.specs.Held.{held_code}
-use Rattle.flow_view.specs.Heads.{head_of}
 use Rattle.flow_view.specs.declared.fault.ViewFault.TheVariants as fault
-use Rattle.flow_view.specs.declared.head.Head.{Head}
 use Rattle.flow_tables.specs.contracts.fault.Refusal as refusal_row
 use Rattle.flow_maps.specs.declared.maps.Maps.{Maps}
 use Rattle.flow_maps.specs.Serving.{Serves, Sees, named, key_if}
