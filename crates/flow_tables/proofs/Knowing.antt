@@ -1,7 +1,7 @@
 -- That the statements which are made, where so much is known of the rows, leave what all of them would.
 use Rattle.std.specs.Prelude.{◌≡◌, ◌∷◌, ◌+◌, if◌then◌else◌, ◌++◌}
 use Rattle.std.proofs.Common.{eqb-true}
-use Rattle.flow_tables.proofs.Names.{effect_of, Bytes, Run, Task, Turn, Effect, Cmd, Event, Input, Started, Came, Book, nth, is_open, state_of, traces, turn_events, is_other_task, marked, marked_row, with_event, with_run, with_timer, without_tasks, without_timers, event_row, of_run, task_row, timer_row, IsReadableTurn, Tells, after_effect, after_turn, new_run, Tables, OutboxRow, RunRow, State, ints, AllByRecursion, int_eq, Bool, List, MatchResult, Option, false, filter, int_lt, map, pos, true, ℕ, Changes, tables_in, OpenTasks, Standing, Err, None, Ok, Some, length, ℤ, [], refl, Result, suc, eqb as nat_eq, subst, ◌∙◌, sym, ap, arith, IsCutShort, made_turn, true≢false, Stands, stands_what, made_event, made_events, begins, first_row, first_standing, started_timer, HasOnly, ended, stands_by, tasks_gone, timers_gone, closed_from, made_effect, any_standing, tasks_known, opens_timer, run_standing}
+use Rattle.flow_tables.proofs.Names.{effect_of, Bytes, Run, Task, Turn, Effect, Cmd, Event, Input, Started, Came, Book, nth, is_open, state_of, traces, turn_events, is_other_task, marked, marked_row, with_event, with_run, with_timer, without_tasks, without_timers, event_row, of_run, task_row, timer_row, IsReadableTurn, Tells, after_effect, after_turn, new_run, Tables, OutboxRow, RunRow, State, AllByRecursion, int_eq, Bool, List, MatchResult, Option, false, filter, int_lt, map, pos, true, ℕ, Changes, tables_in, OpenTasks, Standing, Err, None, Ok, Some, length, ℤ, [], refl, Result, suc, eqb as nat_eq, subst, ◌∙◌, sym, ap, arith, IsCutShort, made_turn, true≢false, Stands, stands_what, made_event, made_events, begins, first_row, first_standing, started_timer, HasOnly, ended, stands_by, tasks_gone, timers_gone, closed_from, made_effect, any_standing, tasks_known, opens_timer, run_standing}
 use Rattle.std.proofs.lemmas.Bool.Decides.{Decides-int_eq}
 use Rattle.std.proofs.lemmas.List.{map-append}
 use Rattle.sqlite_catalog.proofs.ListFacts.{filter_swap}
@@ -13,9 +13,10 @@ use Rattle.flow_rows.specs.Changes.{at_run, is_other_timer}
 use Rattle.flow_rows.specs.Told.{opened_by, after_event, after_events}
 use Rattle.flow_rows.proofs.BookTables.{nth_is}
 use Rattle.flow_rows.proofs.Finds as found
-use Rattle.flow_rows.proofs.Undamaged.{timer_rows_of, task_rows_of}
+use Rattle.flow_rows.proofs.Undamaged.{timer_rows_of}
 use Rattle.flow_rows.proofs.Behind.{no_rows_yet}
 use Rattle.flow_tables.specs.declared.known.OpenTasks.TheVariants as tasks
+use Rattle.flow_tables.proofs.Room.{apart_below}
 
 ---- What one run has
 
@@ -139,13 +140,10 @@ begun_is n at (Started vs) cs flow request text t =
     (marked_end (marked_row (pos n) (pos 1)) (first_row n flow request text true) (new_run n flow request text) t.runs alike)
 begun_is n at _ cs flow request text t = refl
 
-other_below : (z n : ℤ) → int_lt z n ≡ true → int_eq z n ≡ false
-other_below z n less = grind (arith, ints)
-
 marked_others : (n : ℕ) (row : RunRow) (xs : List RunRow) → AllByRecursion (λ (x : RunRow). int_lt x.num (pos n) ≡ true) xs → marked_row (pos n) (pos 1) row ≡ row
     → map (marked_row (pos n) (pos 1)) (xs ++ row ∷ []) ≡ xs ++ row ∷ []
 marked_others n row [] below same = ap (λ x. x ∷ []) same
-marked_others n row (x ∷ xs) below same = rw (other_below x.num (pos n) below.0) (ap (λ l. x ∷ l) (marked_others n row xs below.1 same))
+marked_others n row (x ∷ xs) below same = rw (apart_below x.num (pos n) below.0) (ap (λ l. x ∷ l) (marked_others n row xs below.1 same))
 
 first_mark : (n : ℕ) (flow : Bytes) (request : Option Bytes) (text : ℕ) (opened : Bool) (t : Tables) → AllByRecursion (λ (x : RunRow). int_lt x.num (pos n) ≡ true) t.runs
     → opened ≡ true → map (marked_row (pos n) (pos 1)) (t.runs ++ first_row n flow request text opened ∷ []) ≡ t.runs ++ first_row n flow request text opened ∷ []
