@@ -1,8 +1,7 @@
 -- That what our tables hold can be read: a number always, and a text where it is UTF-8.
 use Rattle.std.specs.Prelude.{IsUtf8, ◌≡◌, ◌∷◌, ◌<◌}
 use Rattle.std.proofs.Common.{zero, suc}
-use Rattle.flow_sql.proofs.Names.{event_id, rising, events_of, EventRow, Kind, Integer, Text, Null, Row, overlay, IsAnswer, Output, Term, Trees, rowid, is_int, all-filter, all-permutation, all_both, all_weaker, bytes, column, Key, cases_Bool, Decides-int_eq, IsPermutation-sym, AllByRecursion, int_eq, IsTrue, List, filter, map, slice_get, Some, length, true, ℕ, [], refl, ℤ, take, sym, subst, inl, inr, AreOurs, tables_in, run_in, event_in, text_in, run, text, event, timer, outbox, Read, rows_where, query_of, first_where, IsReadAs, AreReadAs, AreUtf8, kinds_of}
-use Rattle.sqlite_schema.specs.declared.schema.Table.{Table}
+use Rattle.flow_sql.proofs.Names.{event_id, rising, events_of, EventRow, Kind, Integer, Text, Null, Row, overlay, IsAnswer, Output, Term, Trees, rowid, is_int, all-filter, all-permutation, all_both, all_weaker, bytes, column, Key, cases_Bool, Decides-int_eq, IsPermutation-sym, AllByRecursion, int_eq, IsTrue, List, filter, map, slice_get, Some, length, true, ℕ, [], refl, ℤ, take, sym, subst, inl, inr, AreOurs, tables_in, run_in, event_in, text_in, text_table, run_table, event_table, timer_table, task_table, Read, rows_where, query_of, first_where, IsReadAs, AreReadAs, AreUtf8, kinds_of}
 use Rattle.std.proofs.lemmas.Bool.{cases_lt}
 use Rattle.std.proofs.lemmas.List.{get_or_past}
 use Rattle.sqlite_trees.proofs.ListLemmas.{all-map, all_from_map}
@@ -74,12 +73,6 @@ module _ (db : Trees) (ours : AreOurs db) (utf8 : AreUtf8 (tables_in db)) where
 
   ---- The rows of each table
 
-  abbrev text_table : Table
-  text_table = record text { tree = 2 }
-
-  abbrev run_table : Table
-  run_table = record run { tree = 4 }
-
   abbrev ReadsText : Row → Type 0
   ReadsText r = IsReadAs Integer (column r 0) × IsReadAs Text (column r 2)
 
@@ -101,9 +94,6 @@ module _ (db : Trees) (ours : AreOurs db) (utf8 : AreUtf8 (tables_in db)) where
   abbrev ReadsEvent : Row → Type 0
   ReadsEvent r = IsReadAs Integer (column r 1) × IsReadAs Integer (column r 2) × IsReadAs Integer (column r 3) × IsReadAs Text (column r 4)
 
-  abbrev event_table : Table
-  event_table = record event { tree = 5 }
-
   events_read : AllByRecursion ReadsEvent (db 5)
   events_read =
       all_both (AreTyped event_table) (λ r. IsUtf8 (bytes (column r 4))) ReadsEvent
@@ -112,18 +102,12 @@ module _ (db : Trees) (ours : AreOurs db) (utf8 : AreUtf8 (tables_in db)) where
   abbrev ReadsTimer : Row → Type 0
   ReadsTimer r = IsReadAs Integer (column r 1) × IsReadAs Integer (column r 2) × IsReadAs Integer (column r 3)
 
-  abbrev timer_table : Table
-  timer_table = record timer { tree = 7 }
-
   timers_read : AllByRecursion ReadsTimer (db 7)
   timers_read =
       all_weaker (AreTyped timer_table) ReadsTimer (λ r h. ((_, h 0 _ refl refl refl refl), (_, h 1 _ refl refl refl refl), (_, h 2 _ refl refl refl refl))) (db 7) (columns db ours 4 timer_table refl)
 
   abbrev ReadsTask : Row → Type 0
   ReadsTask r = IsReadAs Integer (column r 1) × IsReadAs Integer (column r 2) × IsReadAs Integer (column r 3) × IsReadAs Integer (column r 4)
-
-  abbrev task_table : Table
-  task_table = record outbox { tree = 9 }
 
   tasks_read : AllByRecursion ReadsTask (db 9)
   tasks_read =
