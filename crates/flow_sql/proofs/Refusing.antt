@@ -128,38 +128,28 @@ IsTooBig sql params s =
 -- A change: the store failed, or its database declines it.
 module _ (old new : State) (e : Error) (other : e ≢ SqliteFailure OutOfMemory) (up : IsTrue old.is_open) (s : Schema) (laid : old.now.schema ≡ s) (sql : List ℕ) (params : Row) (k : Command) (is : command_of (understood s sql) ≡ k) (writes : IsWrite k)
     (plain : IsPlain (understood s sql)) (whole : IsWhole sql (length params) (understood s sql)) where
-  pub change_refused : Executes sql params old new (Err e) → MoreFaults old.faults new.faults ⊎ IsDeclined sql params old
+  -- it was not run for the store, or has run as its command
+  ran_or_failed : Executes sql params old new (Err e) → MoreFaults old.faults new.faults ⊎ ((c : Compiled) × (it : IsStatement old sql params c) × IsWrite c.command × RunsCommand old new sql c (timed params c.formats it.now) (Err e))
   unfolding ExecutesIn
-  change_refused (inl none) = inl (never_run old new e other up s laid sql params whole plain none)
-  change_refused (inr h) =
+  ran_or_failed (inl none) = inl (never_run old new e other up s laid sql params whole plain none)
+  ran_or_failed (inr h) =
       let known = sym h.1.is ∙ ap (λ t. understood t sql) laid in
       let bare = subst IsPlain (sym known) plain in
       let write = subst IsWrite (sym (ap command_of known ∙ is)) writes in
-      ran (rw (shows_no_rows h.0 write bare.0) at h.2)
-    where
-      ran : RunsCommand old new sql h.0 (timed params h.0.formats h.1.now) (Err e) → MoreFaults old.faults new.faults ⊎ IsDeclined sql params old
-      ran (inl (inl misplaced, _)) =
-          let known = sym h.1.is ∙ ap (λ t. understood t sql) laid in
-          absurd (never_misplaced old h.0.command e (subst IsWrite (sym (ap command_of known ∙ is)) writes) misplaced)
-      ran (inl (inr declined, _)) = inr (Some e, h.0, h.1, declined.1)
-      ran (inr fails) = elim (failed old new e other up _ fails) [
-        | inl more ↦ inl more
-        | inr big ↦ inr (None, h.0, h.1, big)
-      ]
+      inr (h.0, h.1, write, rw (shows_no_rows h.0 write bare.0) at h.2)
+
+  pub change_refused : Executes sql params old new (Err e) → MoreFaults old.faults new.faults ⊎ IsDeclined sql params old
+  change_refused h = elim (ran_or_failed h) [
+    | inl more ↦ inl more
+    | inr (c, it, write, inl (inl misplaced, _)) ↦ absurd (never_misplaced old c.command e write misplaced)
+    | inr (c, it, write, inl (inr declined, _)) ↦ inr (Some e, c, it, declined.1)
+    | inr (c, it, write, inr fails) ↦ elim (failed old new e other up _ fails) [ inl more ↦ inl more | inr big ↦ inr (None, c, it, big) ]
+  ]
 
   -- One that has ended the transaction: the store failed, or a row of it is too big to be stored.
   pub change_ended : old.in_transaction ≡ true → new.in_transaction ≡ false → Executes sql params old new (Err e) → MoreFaults old.faults new.faults ⊎ IsTooBig sql params old
-  unfolding ExecutesIn
-  change_ended inside outside (inl none) = inl (never_run old new e other up s laid sql params whole plain none)
-  change_ended inside outside (inr h) =
-      let known = sym h.1.is ∙ ap (λ t. understood t sql) laid in
-      let bare = subst IsPlain (sym known) plain in
-      let write = subst IsWrite (sym (ap command_of known ∙ is)) writes in
-      ran (rw (shows_no_rows h.0 write bare.0) at h.2)
-    where
-      ran : RunsCommand old new sql h.0 (timed params h.0.formats h.1.now) (Err e) → MoreFaults old.faults new.faults ⊎ IsTooBig sql params old
-      ran (inl refused) = absurd (true≢false (sym inside ∙ sym refused.1.0.mode ∙ outside))
-      ran (inr fails) = elim (failed old new e other up _ fails) [
-        | inl more ↦ inl more
-        | inr big ↦ inr (h.0, h.1, big)
-      ]
+  change_ended inside outside h = elim (ran_or_failed h) [
+    | inl more ↦ inl more
+    | inr (c, it, write, inl refused) ↦ absurd (true≢false (sym inside ∙ sym refused.1.0.mode ∙ outside))
+    | inr (c, it, write, inr fails) ↦ elim (failed old new e other up _ fails) [ inl more ↦ inl more | inr big ↦ inr (c, it, big) ]
+  ]
