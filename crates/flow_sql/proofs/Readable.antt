@@ -117,33 +117,21 @@ module _ (db : Trees) (ours : AreOurs db) (utf8 : AreUtf8 (tables_in db)) where
   ---- What each read answers
 
   module _ (params : Row) (rows : List Row) where
-    of_texts : (terms project : List Term) (D : Row → Type 0) → ((r : Row) → ReadsText r → D (seen params project r)) → (order : List (Term × Key)) → IsAnswer (rows_where 2 terms project order) (overlay db []) params rows → AllByRecursion D rows
-    of_texts terms project D shows order = rows_hold db params 2 terms project refl ReadsText D shows texts_read order rows
-
-    of_runs : (terms project : List Term) (D : Row → Type 0) → ((r : Row) → ReadsRun r → D (seen params project r)) → (order : List (Term × Key)) → IsAnswer (rows_where 4 terms project order) (overlay db []) params rows → AllByRecursion D rows
-    of_runs terms project D shows order = rows_hold db params 4 terms project refl ReadsRun D shows runs_read order rows
-
-    of_events : (terms project : List Term) (D : Row → Type 0) → ((r : Row) → ReadsEvent r → D (seen params project r)) → (order : List (Term × Key)) → IsAnswer (rows_where 5 terms project order) (overlay db []) params rows → AllByRecursion D rows
-    of_events terms project D shows order = rows_hold db params 5 terms project refl ReadsEvent D shows events_read order rows
-
-    of_tasks : (terms project : List Term) (D : Row → Type 0) → ((r : Row) → ReadsTask r → D (seen params project r)) → (order : List (Term × Key)) → IsAnswer (rows_where 9 terms project order) (overlay db []) params rows → AllByRecursion D rows
-    of_tasks terms project D shows order = rows_hold db params 9 terms project refl ReadsTask D shows tasks_read order rows
-
     pub are_readable : (r : Read) → IsAnswer (query_of r) (overlay db []) params rows → AllByRecursion (AreReadAs (kinds_of r)) rows
-    are_readable Read.all_texts = of_texts _ _ _ (λ r h. (h.0, (h.1, tt))) _
-    are_readable Read.text_body = of_texts _ _ _ (λ r h. (h.1, tt)) _
-    are_readable Read.text_number = of_texts _ _ _ (λ r h. (h.0, tt)) _
+    are_readable Read.all_texts = rows_hold db params 2 _ _ refl ReadsText _ (λ r h. (h.0, (h.1, tt))) texts_read _ rows
+    are_readable Read.text_body = rows_hold db params 2 _ _ refl ReadsText _ (λ r h. (h.1, tt)) texts_read _ rows
+    are_readable Read.text_number = rows_hold db params 2 _ _ refl ReadsText _ (λ r h. (h.0, tt)) texts_read _ rows
     are_readable Read.last_text = first_holds db params 2 _ _ refl ReadsText _ (λ r h. (h.0, tt)) texts_read _ rows
-    are_readable Read.all_runs = of_runs _ _ _ (λ r h. (h.0, (h.1, (h.2, (h.3, (h.4, tt)))))) _
-    are_readable Read.run_row = of_runs _ _ _ (λ r h. (h.0, (h.1, (h.2, (h.3, (h.4, tt)))))) _
+    are_readable Read.all_runs = rows_hold db params 4 _ _ refl ReadsRun _ (λ r h. (h.0, (h.1, (h.2, (h.3, (h.4, tt)))))) runs_read _ rows
+    are_readable Read.run_row = rows_hold db params 4 _ _ refl ReadsRun _ (λ r h. (h.0, (h.1, (h.2, (h.3, (h.4, tt)))))) runs_read _ rows
     are_readable Read.last_run = first_holds db params 4 _ _ refl ReadsRun _ (λ r h. (h.0, tt)) runs_read _ rows
-    are_readable Read.requested = of_runs _ _ _ (λ r h. (h.0, tt)) _
-    are_readable Read.open_run = of_runs _ _ _ (λ r h. (h.0, tt)) _
-    are_readable Read.all_events = of_events _ _ _ (λ r h. (h.0, (h.1, (h.2, (h.3, tt))))) _
-    are_readable Read.run_events = of_events _ _ _ (λ r h. (h.0, (h.1, (h.2, (h.3, tt))))) _
+    are_readable Read.requested = rows_hold db params 4 _ _ refl ReadsRun _ (λ r h. (h.0, tt)) runs_read _ rows
+    are_readable Read.open_run = rows_hold db params 4 _ _ refl ReadsRun _ (λ r h. (h.0, tt)) runs_read _ rows
+    are_readable Read.all_events = rows_hold db params 5 _ _ refl ReadsEvent _ (λ r h. (h.0, (h.1, (h.2, (h.3, tt))))) events_read _ rows
+    are_readable Read.run_events = rows_hold db params 5 _ _ refl ReadsEvent _ (λ r h. (h.0, (h.1, (h.2, (h.3, tt))))) events_read _ rows
     are_readable Read.last_event = first_holds db params 5 _ _ refl ReadsEvent _ (λ r h. (h.1, tt)) events_read _ rows
-    are_readable Read.event_at = of_events _ _ _ (λ r h. (h.0, (h.1, (h.2, (h.3, tt))))) _
+    are_readable Read.event_at = rows_hold db params 5 _ _ refl ReadsEvent _ (λ r h. (h.0, (h.1, (h.2, (h.3, tt))))) events_read _ rows
     are_readable Read.newest_event = first_holds db params 5 _ _ refl ReadsEvent _ (λ r h. (h.0, (h.1, (h.2, (h.3, tt))))) events_read _ rows
     are_readable Read.all_timers = rows_hold db params 7 _ _ refl ReadsTimer _ (λ r h. (h.0, (h.1, (h.2, tt)))) timers_read _ rows
-    are_readable Read.all_tasks = of_tasks _ _ _ (λ r h. (h.0, (h.1, (h.2, (h.3, tt))))) _
-    are_readable Read.run_tasks = of_tasks _ _ _ (λ r h. (h.0, (h.1, (h.2, (h.3, tt))))) _
+    are_readable Read.all_tasks = rows_hold db params 9 _ _ refl ReadsTask _ (λ r h. (h.0, (h.1, (h.2, (h.3, tt))))) tasks_read _ rows
+    are_readable Read.run_tasks = rows_hold db params 9 _ _ refl ReadsTask _ (λ r h. (h.0, (h.1, (h.2, (h.3, tt))))) tasks_read _ rows
