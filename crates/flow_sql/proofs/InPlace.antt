@@ -1,9 +1,9 @@
 -- A row that goes and comes again under its run and number stands in its place.
 use Rattle.std.specs.Prelude.{◌≡◌, ◌∷◌, if◌then◌else◌}
 use Rattle.flow_rows.specs.Changes.{with_task, without_task, in_its_place, with_task_in_place}
-use Rattle.flow_sql.proofs.Names.{put_by, task_id, Tables, OutboxRow, Trees, IsAscending, all_weaker, filter_all, cases_Bool, Decides-int_eq, ints, AllByRecursion, list_any, int_eq, Bool, List, false, filter, int_lt, map, true, [], refl, ℤ, not, sym, ap, ◌∙◌, subst, inl, inr, arith, true≢false, AreOurs, tables_in, task_in}
+use Rattle.flow_sql.proofs.Names.{put_by, task_id, Tables, OutboxRow, Trees, IsAscending, all_weaker, cases_Bool, Decides-int_eq, ints, AllByRecursion, list_any, int_eq, Bool, List, false, filter, int_lt, map, true, [], refl, ℤ, not, sym, ap, ◌∙◌, subst, inl, inr, arith, true≢false, AreOurs, tables_in, task_in}
 use Rattle.flow_sql.proofs.Columns.{of_tasks, keys_differ}
-use Rattle.flow_sql.proofs.Lists.{apart_of_run}
+use Rattle.flow_sql.proofs.Lists.{apart_of_run, none_go, none_change}
 use Rattle.flow_sql.proofs.Rising.{Lower, rising_rises}
 
 above_one : (m n k : ℤ) → int_eq m k ≡ true → int_lt m n ≡ true → int_eq n k ≡ false
@@ -31,13 +31,6 @@ module _ {A : Type 0} (key : A → ℤ) (x : A) where
   abbrev AreOthers : List A → Type 0
   AreOthers ys = AllByRecursion (λ y. int_eq (key y) (key x) ≡ false) ys
 
-  pub all_stay : (ys : List A) → AreOthers ys → map replaced ys ≡ ys
-  all_stay [] others = refl
-  all_stay (y ∷ ys) others = rw others.0 (ap (λ l. y ∷ l) (all_stay ys others.1))
-
-  none_go : (ys : List A) → AreOthers ys → filter other ys ≡ ys
-  none_go ys others = filter_all other ys (all_weaker (λ y. int_eq (key y) (key x) ≡ false) _ (λ y is. ap not is) ys others)
-
   put_first : (ys : List A) → AllByRecursion (λ y. int_lt (key x) (key y) ≡ true) ys → put_by key x ys ≡ x ∷ ys
   put_first [] up = refl
   put_first (y ∷ ys) up = rw up.0 refl
@@ -56,7 +49,7 @@ module _ {A : Type 0} (key : A → ℤ) (x : A) where
     | inl same ↦
         let others : AreOthers ys = all_weaker (Lower key y) (λ z. int_eq (key z) (key x) ≡ false) (λ z low. above_one (key y) (key z) (key x) same (less_so y z low)) ys up.0 in
         let higher = all_weaker (Lower key y) (λ z. int_lt (key x) (key z) ≡ true) (λ z low. above_same (key y) (key z) (key x) same (less_so y z low)) ys up.0 in
-        rw same (ap (put_by key x) (none_go ys others) ∙ put_first ys higher ∙ ap (λ l. x ∷ l) (sym (all_stay ys others)))
+        rw same (ap (put_by key x) (none_go (λ z. int_eq (key z) (key x)) ys others) ∙ put_first ys higher ∙ ap (λ l. x ∷ l) (sym (none_change (λ z. int_eq (key z) (key x)) (λ _. x) ys others)))
     | inr apart ↦ rw (apart, not_first y ys up.0 (rw apart at there)) (ap (λ l. y ∷ l) (put_in_place ys up.1 (rw apart at there)))
   ]
 
@@ -88,7 +81,7 @@ pub no_task_in_place : (t : Tables) (row : OutboxRow) → HasTask row t ≡ fals
 no_task_in_place t row none = λ i. record t { outbox = λ z. of_run z i }
   where
     here : map (in_its_place row) (t.outbox row.run) ≡ t.outbox row.run
-    here = all_stay task_id row (t.outbox row.run) (none_there task_id row (t.outbox row.run) none)
+    here = none_change (λ (x : OutboxRow). int_eq x.id row.id) (λ _. row) (t.outbox row.run) (none_there task_id row (t.outbox row.run) none)
 
     of_run : (z : ℤ) → (with_task_in_place row t).outbox z ≡ t.outbox z
     of_run z = elim (cases_Bool (int_eq z row.run)) [

@@ -1,7 +1,7 @@
 -- That what our tables hold can be read: a number always, and a text where it is UTF-8.
 use Rattle.std.specs.Prelude.{IsUtf8, ◌≡◌, ◌∷◌, ◌<◌}
 use Rattle.std.proofs.Common.{zero, suc}
-use Rattle.flow_sql.proofs.Names.{event_id, rising, events_of, EventRow, Kind, Integer, Text, Null, Row, overlay, IsAnswer, Output, Term, Trees, rowid, is_int, all-filter, all-permutation, all_both, all_weaker, bytes, column, Key, cases_Bool, Decides-int_eq, IsPermutation-sym, AllByRecursion, int_eq, IsTrue, List, filter, map, slice_get, Some, length, true, ℕ, [], refl, ℤ, take, sym, subst, inl, inr, AreOurs, tables_in, run_in, event_in, text_in, text_table, run_table, event_table, timer_table, task_table, Read, rows_where, query_of, first_where, IsReadAs, AreReadAs, AreUtf8, kinds_of}
+use Rattle.flow_sql.proofs.Names.{event_id, rising, events_of, EventRow, Kind, Integer, Text, Null, Row, col, overlay, IsAnswer, Output, Term, Trees, rowid, is_int, all-filter, all-permutation, all_both, all_weaker, bytes, column, Key, cases_Bool, Decides-int_eq, IsPermutation-sym, AllByRecursion, int_eq, IsTrue, List, filter, map, slice_get, Some, length, true, ℕ, [], refl, ℤ, take, sym, subst, inl, inr, AreOurs, tables_in, run_in, event_in, text_in, text_table, run_table, event_table, timer_table, task_table, Read, rows_where, query_of, first_where, IsReadAs, AreReadAs, AreUtf8, kinds_of}
 use Rattle.std.proofs.lemmas.Bool.{cases_lt}
 use Rattle.std.proofs.lemmas.List.{get_or_past}
 use Rattle.sqlite_trees.proofs.ListLemmas.{all-map, all_from_map}
@@ -99,24 +99,12 @@ module _ (db : Trees) (ours : AreOurs db) (utf8 : AreUtf8 (tables_in db)) where
       all_both (AreTyped event_table) (λ r. IsUtf8 (bytes (column r 4))) ReadsEvent
       (λ r h u. ((_, h 0 _ refl refl refl refl), (_, h 1 _ refl refl refl refl), (_, h 2 _ refl refl refl refl), (_, h 3 _ refl refl refl refl, u))) (db 5) (columns db ours 3 event_table refl) event_bodies
 
-  abbrev ReadsTimer : Row → Type 0
-  ReadsTimer r = IsReadAs Integer (column r 1) × IsReadAs Integer (column r 2) × IsReadAs Integer (column r 3)
-
-  timers_read : AllByRecursion ReadsTimer (db 7)
-  timers_read =
-      all_weaker (AreTyped timer_table) ReadsTimer (λ r h. ((_, h 0 _ refl refl refl refl), (_, h 1 _ refl refl refl refl), (_, h 2 _ refl refl refl refl))) (db 7) (columns db ours 4 timer_table refl)
-
-  abbrev ReadsTask : Row → Type 0
-  ReadsTask r = IsReadAs Integer (column r 1) × IsReadAs Integer (column r 2) × IsReadAs Integer (column r 3) × IsReadAs Integer (column r 4)
-
-  tasks_read : AllByRecursion ReadsTask (db 9)
-  tasks_read =
-      all_weaker (AreTyped task_table) ReadsTask (λ r h. ((_, h 0 _ refl refl refl refl), (_, h 1 _ refl refl refl refl), (_, h 2 _ refl refl refl refl), (_, h 3 _ refl refl refl refl))) (db 9)
-      (columns db ours 5 task_table refl)
-
   ---- What each read answers
 
   module _ (params : Row) (rows : List Row) where
+    task_reads : (r : Row) → AreTyped task_table r → AreReadAs (kinds_of Read.all_tasks) (seen params (col 1 1 ∷ col 1 2 ∷ col 1 3 ∷ col 1 4 ∷ []) r)
+    task_reads r h = ((_, h 0 _ refl refl refl refl), ((_, h 1 _ refl refl refl refl), ((_, h 2 _ refl refl refl refl), ((_, h 3 _ refl refl refl refl), tt))))
+
     pub are_readable : (r : Read) → IsAnswer (query_of r) (overlay db []) params rows → AllByRecursion (AreReadAs (kinds_of r)) rows
     are_readable Read.all_texts = rows_hold db params 2 _ _ refl ReadsText _ (λ r h. (h.0, (h.1, tt))) texts_read _ rows
     are_readable Read.text_body = rows_hold db params 2 _ _ refl ReadsText _ (λ r h. (h.1, tt)) texts_read _ rows
@@ -132,6 +120,6 @@ module _ (db : Trees) (ours : AreOurs db) (utf8 : AreUtf8 (tables_in db)) where
     are_readable Read.last_event = first_holds db params 5 _ _ refl ReadsEvent _ (λ r h. (h.1, tt)) events_read _ rows
     are_readable Read.event_at = rows_hold db params 5 _ _ refl ReadsEvent _ (λ r h. (h.0, (h.1, (h.2, (h.3, tt))))) events_read _ rows
     are_readable Read.newest_event = first_holds db params 5 _ _ refl ReadsEvent _ (λ r h. (h.0, (h.1, (h.2, (h.3, tt))))) events_read _ rows
-    are_readable Read.all_timers = rows_hold db params 7 _ _ refl ReadsTimer _ (λ r h. (h.0, (h.1, (h.2, tt)))) timers_read _ rows
-    are_readable Read.all_tasks = rows_hold db params 9 _ _ refl ReadsTask _ (λ r h. (h.0, (h.1, (h.2, (h.3, tt))))) tasks_read _ rows
-    are_readable Read.run_tasks = rows_hold db params 9 _ _ refl ReadsTask _ (λ r h. (h.0, (h.1, (h.2, (h.3, tt))))) tasks_read _ rows
+    are_readable Read.all_timers = rows_hold db params 7 _ _ refl (AreTyped timer_table) _ (λ r h. ((_, h 0 _ refl refl refl refl), ((_, h 1 _ refl refl refl refl), ((_, h 2 _ refl refl refl refl), tt)))) (columns db ours 4 timer_table refl) _ rows
+    are_readable Read.all_tasks = rows_hold db params 9 _ _ refl (AreTyped task_table) _ task_reads (columns db ours 5 task_table refl) _ rows
+    are_readable Read.run_tasks = rows_hold db params 9 _ _ refl (AreTyped task_table) _ task_reads (columns db ours 5 task_table refl) _ rows
