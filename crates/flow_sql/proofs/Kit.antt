@@ -48,3 +48,4 @@ pub use Rattle.std.proofs.lemmas.List.Elements.{All-from_recursion, filter-appen
 pub use Rattle.std.proofs.lemmas.List.Sorted.{IsPermutation-append_right, IsPermutation-cons, IsPermutation-middle, IsPermutation-reverse, length_permutation, list_any-IsPermutation}
 pub use Rattle.std.specs.List.{list_all}
 pub use Rattle.std.specs.Ordering.{on, ordering_reverse, ordering_then}
+pub use Rattle.std.specs.Prelude.{Any, IsAscii, IsSome, IsUtf8, if◌then◌else◌, ltb, nat_lt, negsuc, not, option_map, sum_by, ◌&&◌, ◌*◌, ◌++◌, ◌+◌, ◌<ℤ◌, ◌<◌, ◌==◌, ◌^◌, ◌||◌, ◌∷◌, ◌≢◌, ◌≤◌, ◌⊎◌}
