@@ -1,9 +1,9 @@
 -- A row that goes and comes again under its run and number stands in its place.
-use Rattle.flow_sql.proofs.Kit.{in_its_place, with_task, with_task_in_place, without_task, ◌≡◌, ◌∷◌, if◌then◌else◌}
+use Rattle.flow_sql.proofs.Kit.{in_its_place, with_task, with_task_in_place, without_task, ◌≡◌, ◌∷◌, if◌then◌else◌, all_from, all_has, some_has}
 use Rattle.flow_sql.proofs.Names.{put_by, task_id, Tables, OutboxRow, Trees, IsAscending, all_weaker, cases_Bool, Decides-int_eq, ints, AllByRecursion, list_any, int_eq, Bool, List, false, filter, int_lt, map, true, [], refl, ℤ, not, sym, ap, ◌∙◌, subst, inl, inr, arith, true≢false, AreOurs, tables_in, task_in}
 use Rattle.flow_sql.proofs.Columns.{of_tasks, keys_differ}
 use Rattle.flow_sql.proofs.Lists.{apart_of_run, none_go, none_change}
-use Rattle.flow_sql.proofs.Rising.{Lower, rising_rises}
+use Rattle.flow_sql.proofs.Rising.{Lower, rising_rises, none_is}
 
 above_one : (m n k : ℤ) → int_eq m k ≡ true → int_lt m n ≡ true → int_eq n k ≡ false
 above_one m n k one two = grind (arith, ints)
@@ -36,11 +36,9 @@ module _ {A : Type 0} (key : A → ℤ) (x : A) where
 
   -- the one that has the key lies behind what is lower
   not_first : (y : A) (ys : List A) → AllByRecursion (Lower key y) ys → is_there ys ≡ true → int_lt (key x) (key y) ≡ false
-  not_first y [] up there = absurd (true≢false (sym there))
-  not_first y (z ∷ ys) up there = elim (cases_Bool (int_eq (key z) (key x))) [
-    | inl same ↦ below_one (key y) (key z) (key x) same (less_so y z up.0)
-    | inr other ↦ not_first y ys up.1 (rw other at there)
-  ]
+  not_first y ys up there =
+      let z = some_has (λ z. int_eq (key z) (key x)) ys there in
+      below_one (key y) (key z.0) (key x) z.2 (less_so y z.0 (all_has (Lower key y) ys z.0 up z.1))
 
   pub put_in_place : (ys : List A) → IsAscending (Lower key) ys → is_there ys ≡ true → put_by key x (filter other ys) ≡ map replaced ys
   put_in_place [] up there = absurd (true≢false (sym there))
@@ -53,11 +51,7 @@ module _ {A : Type 0} (key : A → ℤ) (x : A) where
   ]
 
   pub none_there : (ys : List A) → is_there ys ≡ false → AreOthers ys
-  none_there [] none = tt
-  none_there (y ∷ ys) none = elim (cases_Bool (int_eq (key y) (key x))) [
-    | inl same ↦ absurd (true≢false (rw same at none))
-    | inr apart ↦ (apart, none_there ys (rw apart at none))
-  ]
+  none_there ys none = all_from _ ys (none_is (λ y. int_eq (key y) (key x)) ys none)
 
 abbrev pub HasTask : OutboxRow → Tables → Bool
 HasTask row t = is_there task_id row (t.outbox row.run)

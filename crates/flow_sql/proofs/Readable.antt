@@ -1,6 +1,6 @@
 -- That what our tables hold can be read: a number always, and a text where it is UTF-8.
-use Rattle.flow_sql.proofs.Kit.{all-map, all_from_map, cases_lt, get_or_past, suc, zero, IsUtf8, ◌≡◌, ◌∷◌, ◌<◌}
-use Rattle.flow_sql.proofs.Names.{event_id, rising, events_of, EventRow, Kind, Integer, Text, Null, Row, col, overlay, IsAnswer, Output, Term, Trees, rowid, is_int, all-filter, all-permutation, all_both, all_weaker, bytes, column, Key, cases_Bool, Decides-int_eq, IsPermutation-sym, AllByRecursion, int_eq, IsTrue, List, filter, map, slice_get, Some, length, true, ℕ, [], refl, ℤ, take, sym, subst, inl, inr, AreOurs, tables_in, run_in, event_in, text_in, text_table, run_table, event_table, timer_table, task_table, Read, rows_where, query_of, first_where, IsReadAs, AreReadAs, AreUtf8, kinds_of}
+use Rattle.flow_sql.proofs.Kit.{all-map, all_from_map, cases_lt, get_or_past, suc, zero, IsUtf8, ◌≡◌, ◌∷◌, ◌<◌, all_from, all_has, has_kept}
+use Rattle.flow_sql.proofs.Names.{event_id, rising, events_of, EventRow, Kind, Integer, Text, Null, Row, col, overlay, IsAnswer, Output, Term, Trees, rowid, is_int, all-filter, all-permutation, all_both, all_weaker, bytes, column, Key, Decides-int_eq, IsPermutation-sym, AllByRecursion, int_eq, IsTrue, List, filter, map, slice_get, Some, length, ℕ, [], refl, ℤ, take, sym, subst, inl, inr, AreOurs, tables_in, run_in, event_in, text_in, text_table, run_table, event_table, timer_table, task_table, Read, rows_where, query_of, first_where, IsReadAs, AreReadAs, AreUtf8, kinds_of, Bool}
 use Rattle.flow_sql.proofs.Numbered.{number_is}
 use Rattle.flow_sql.proofs.Columns.{AreTyped, columns}
 use Rattle.flow_sql.proofs.Reading.{meets, seen, kept_is, out}
@@ -48,16 +48,9 @@ module _ (db : Trees) (params : Row) (tree : ℕ) (terms project : List Term) (b
 
 -- what holds of the rows of each run holds of all
 all_of_each : {A : Type 0} (P : A → Type 0) (run_of : A → ℤ) (xs : List A) → ((z : ℤ) → AllByRecursion P (filter (λ x. int_eq (run_of x) z) xs)) → AllByRecursion P xs
-all_of_each P run_of [] each = tt
-all_of_each P run_of (x ∷ xs) each =
-    let here : int_eq (run_of x) (run_of x) ≡ true = (Decides-int_eq (run_of x) (run_of x)).1 refl in
-    ((rw here at (each (run_of x))).0, all_of_each P run_of xs (λ z. rest z))
-  where
-    rest : (z : ℤ) → AllByRecursion P (filter (λ y. int_eq (run_of y) z) xs)
-    rest z = elim (cases_Bool (int_eq (run_of x) z)) [
-      | inl same ↦ (rw same at (each z)).1
-      | inr other ↦ rw other at (each z)
-    ]
+all_of_each {A} P run_of xs each = all_from P xs (λ x has.
+    let own : A → Bool = λ y. int_eq (run_of y) (run_of x) in
+    all_has P (filter own xs) x (each (run_of x)) (has_kept own xs x has ((Decides-int_eq (run_of x) (run_of x)).1 refl)))
 
 module _ (db : Trees) (ours : AreOurs db) (utf8 : AreUtf8 (tables_in db)) where
   event_bodies : AllByRecursion (λ r. IsUtf8 (bytes (column r 4))) (db 5)
