@@ -81,11 +81,7 @@ reads_none schema base (written.Select s) reading r h = sym (same_value h)
 reads_none schema base _ reading r h = absurd reading
 
 selected : (r : Checked Compiled) (c : Compiled) → if_select r ≡ Ok c → r ≡ Ok c
-selected (Ok d) c h = by_case (is_select d.command) h
-  where
-    by_case : (b : Bool) → (if b then Ok d else Err NoSuchTable) ≡ Ok c → ◌≡◌ {A = Checked Compiled} (Ok d) (Ok c)
-    by_case true e = e
-    by_case false e = absurd (let never = e in cc)
+selected (Ok d) c h = if_gives (is_select d.command) (Ok d) (Err NoSuchTable) (λ b. ◌≡◌ {A = Checked Compiled} (Ok d) (Ok b)) (λ b is. is) (none_gives NoSuchTable _) c h
 selected (Err e) c h = absurd (let never = h in cc)
 
 -- what is so of the command of such a statement, and of what it shows, is so of what a text becomes that begins with one

@@ -53,14 +53,11 @@ answered old new row h = elim (read_leaves old new (Ok row) h) [
   | inr failed ↦ absurd (let e = failed.1 in cc)
 ]
 
-same_error : {a b : Error} → ◌≡◌ {A = Result Row Error} (Err a) (Err b) → a ≡ b
-same_error e = cc
-
 -- what is no failure of the store changed nothing
 pub refused : (old new : State) (e : Error) → QueriesRow format_sql [] old new (Err e) → ((x : Error) → e ≡ x → ¬ Fails old new ⊥ x) → IsUnchanged old new
 refused old new e h none = elim (read_leaves old new (Err e) h) [
   | inl same ↦ same
-  | inr failed ↦ absurd (none failed.0 (same_error failed.1) failed.2)
+  | inr failed ↦ absurd (none failed.0 (let same = failed.1 in cc) failed.2)
 ]
 
 ---- Without the tables
