@@ -92,17 +92,9 @@ shows_no_rows : (c : Compiled) → IsWrite c.command → c.returning ≡ None �
 shows_no_rows c writes bare = by_command c.command writes
   where
     by_command : (k : Command) → IsWrite k → shows_rows false (record c { command = k }) ≡ false
-    by_command (command.Insert at from) w = rw bare refl
-    by_command (command.InsertOr at way from clauses) w = rw bare refl
-    by_command (command.Update at q) w = rw bare refl
-    by_command (command.Delete at q) w = rw bare refl
-    by_command command.CreateTable w = rw bare refl
-    by_command (command.CreateIndex at) w = rw bare refl
-    by_command (command.DropTable at) w = rw bare refl
-    by_command (command.DropIndex at) w = rw bare refl
-    by_command command.CreateView w = rw bare refl
-    by_command (command.DropView at) w = rw bare refl
-    by_command _ w = absurd w
+    by_command (command.Select q names) w = absurd w
+    by_command (command.Rows values width names) w = absurd w
+    by_command _ w = rw bare refl
 
 never_misplaced : (s : State) (k : Command) (e : Error) → IsWrite k → ¬ IsMisplaced s k e
 never_misplaced s k e writes (inl (_, inl begin)) = absurd (rw begin.0 at writes)
