@@ -1,18 +1,14 @@
 -- What a text of SQL means over our tables: a query and what its answer tells, a change and what it does.
-use Rattle.flow_sql.specs.Names.{Tables, IsPlain, timed, Command, Select, Nothing, Does, Held, state, understood, reads_listing, Row, overlay, IsAnswer, Query, Executes, State, mode_of, text_of, Trees, Error, first, Compiled, CompileError, Ghosts, List, Option, false, map, true, ℕ, [], Ok, Err, Result, length, Kind, AllByRecursion}
-use Rattle.std.specs.Prelude.{Contains, IsSome, ◌≡◌, ◌∷◌, ◌⊎◌}
+use Rattle.flow_sql.specs.Names.{Tables, IsPlain, command_of, timed, Command, Select, Does, Held, state, understood, reads_listing, Row, overlay, IsAnswer, Query, Executes, State, mode_of, text_of, Trees, Error, first, Compiled, Ghosts, List, Option, false, map, true, ℕ, [], Ok, Err, length, Kind, AllByRecursion}
+use Rattle.std.specs.Prelude.{IsSome, ◌≡◌, ◌⊎◌}
 use Rattle.sqlite.specs.Calls.{IsWrite}
 use Rattle.sqlite.specs.State.{IsStatement}
 use Rattle.sqlite_sql.specs.Program.{QueryOverflows}
 use Rattle.sqlite_typing.specs.Types.{accepts_program}
-use Rattle.flow_sql.specs.Layout.{schema, meta_sql, text_sql, run_sql, event_sql, timer_sql, outbox_sql, set_format_sql, Read, read_sql, Write, write_sql}
+use Rattle.flow_sql.specs.Layout.{schema, Read, read_sql, Write, write_sql}
 use Rattle.flow_sql.specs.Stored.{tables_in, AreReadAs, AreUtf8}
 use Rattle.flow_sql.specs.Coming.{IsFull}
-use Rattle.flow_sql.specs.States.{AreOurs, IsOver, Changes, FirstIs, IsReading, Since}
-
-abbrev pub command_of : Result Compiled CompileError → Command
-command_of (Ok c) = c.command
-command_of (Err e) = Nothing
+use Rattle.flow_sql.specs.States.{AreOurs, IsOver, Changes, FirstIs, IsReading}
 
 -- the text is this command, and nothing else
 pub record IsText (sql : List ℕ) (command : Command) : Type 0 where
