@@ -1,5 +1,6 @@
 -- Why a statement of ours is refused: the store failed, or its database declines what is asked.
-use Rattle.flow_sql.proofs.Names.{schema, Write, write_sql, Read, read_sql, IsRead, write_takes, IsPlain, command_of, timed, Command, Does, Database, Row, overlay, Query, Executes, RunsCommand, State, mode_of, shows_rows, text_of, Trees, Error, Compiled, CompileError, IsTrue, List, false, true, ℕ, [], refl, Ok, None, Err, Result, length, Some, reads_listing, Fails, IsMisplaced, sym, ap, ◌∙◌, subst, inl, inr, arith, true≢false, append-nil, Schema}
+use Rattle.flow_sql.proofs.Names.{schema, Write, write_sql, Read, read_sql, IsRead, write_takes, IsPlain, command_of, timed, Command, Does, Database, Row, overlay, Query, Executes, RunsCommand, State, mode_of, shows_rows, text_of, Trees, Error, Compiled, CompileError}
+use Rattle.flow_sql.proofs.Names.{IsTrue, List, false, true, ℕ, [], refl, Ok, None, Err, Result, length, Some, reads_listing, Fails, IsMisplaced, sym, ap, ◌∙◌, subst, inl, inr, arith, true≢false, append-nil, Schema}
 use Rattle.flow_sql.proofs.Kit.{IsDeclined, IsOurRead, IsOurWrite, IsWrite, MoreFaults, OutOfMemory, QueryOverflows, RefusesToRead, SqliteFailure, accepts_program, read_takes, IsSome, Any, ◌≡◌, ◌⊎◌, ◌≢◌, ◌≤◌}
 use Rattle.sqlite_trees.specs.declared.error.StoreError.{StoreError}
 use Rattle.sqlite_trees.specs.declared.error.StoreError.TheVariants as store
