@@ -41,11 +41,9 @@ whole_write sql params it = subst (λ n. IsWhole sql n (understood schema sql)) 
 module _ (old new : State) (e : Error) (other : e ≢ SqliteFailure OutOfMemory) (up : IsTrue old.is_open) where
   failed_for : (W : Type 0) (k : StoreError) → e ≡ store_error k → HasCause old new W k → MoreFaults old.faults new.faults ⊎ W
   failed_for W store.OutOfMemory is why = absurd (other is)
-  failed_for W store.Io is why = inl why
-  failed_for W store.Corrupt is why = inl why
-  failed_for W store.Full is why = inl why
   failed_for W store.Broken is why = absurd (let open_then = up in cc)
   failed_for W store.Unstorable is why = inr why
+  failed_for W _ is why = inl why
 
   pub failed : (W : Type 0) → Fails old new W e → MoreFaults old.faults new.faults ⊎ W
   failed W h = failed_for W h.0 h.1 h.2
