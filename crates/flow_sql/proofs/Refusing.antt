@@ -38,6 +38,17 @@ whole_write sql params it = subst (λ n. IsWhole sql n (understood schema sql)) 
 
 ---- Why one is refused
 
+-- a text of ours that is whole, with as many values as it takes, is a statement
+module _ (old : State) (e : Error) (s : Schema) (laid : old.now.schema ≡ s) (sql : List ℕ) (params : Row) (whole : IsWhole sql (length params) (understood s sql)) (plain : IsPlain (understood s sql)) where
+  known : understood s sql ≡ understood old.now.schema sql
+  known = ap (λ t. understood t sql) (sym laid)
+
+  pub never_no_statement : IsNoStatement old sql params e → ⊥
+  never_no_statement (inl none) = subst IsPlain (known ∙ none.1) plain
+  never_no_statement (inr (c, is, inl long)) = long.0 (subst (IsWhole sql (length params)) (known ∙ is) whole).0
+  never_no_statement (inr (c, is, inr (inl few))) = few.0 (sym (subst (IsWhole sql (length params)) (known ∙ is) whole).1)
+  never_no_statement (inr (c, is, inr (inr timed'))) = timed'.0 (subst IsPlain (known ∙ is) plain).1
+
 module _ (old new : State) (e : Error) (other : e ≢ SqliteFailure OutOfMemory) (up : IsTrue old.is_open) where
   failed_for : (W : Type 0) (k : StoreError) → e ≡ store_error k → HasCause old new W k → MoreFaults old.faults new.faults ⊎ W
   failed_for W store.OutOfMemory is why = absurd (other is)
@@ -55,18 +66,9 @@ module _ (old new : State) (e : Error) (other : e ≢ SqliteFailure OutOfMemory)
   ]
 
   module _ (s : Schema) (laid : old.now.schema ≡ s) (sql : List ℕ) (params : Row) (whole : IsWhole sql (length params) (understood s sql)) (plain : IsPlain (understood s sql)) where
-    known : understood s sql ≡ understood old.now.schema sql
-    known = ap (λ t. understood t sql) (sym laid)
-
-    never_no_statement : IsNoStatement old sql params e → ⊥
-    never_no_statement (inl none) = subst IsPlain (known ∙ none.1) plain
-    never_no_statement (inr (c, is, inl long)) = long.0 (subst (IsWhole sql (length params)) (known ∙ is) whole).0
-    never_no_statement (inr (c, is, inr (inl few))) = few.0 (sym (subst (IsWhole sql (length params)) (known ∙ is) whole).1)
-    never_no_statement (inr (c, is, inr (inr timed'))) = timed'.0 (subst IsPlain (known ∙ is) plain).1
-
     never_run : IsNotRun old new sql params e → MoreFaults old.faults new.faults
     unfolding IsNotRun
-    never_run (inl none) = absurd (never_no_statement none.0)
+    never_run (inl none) = absurd (never_no_statement old e s laid sql params whole plain none.0)
     never_run (inr fails) = only_failed fails
 
 -- A question: the store failed, or a limit is set on the steps of a query.
