@@ -1,5 +1,6 @@
 -- What the statements that make the tables do, whatever tables there are: each keeps the transaction, and none commits.
-use Rattle.flow_sql.proofs.Names.{survives_weaker, timed, Row, Executes, HasCleanDisk, IsRolledBack, IsUnchanged, Runs, Shows, State, Survives, shows_rows, text_of, Trees, Error, Statement, first, Checked, Compiled, CompileError, NoSuchTable, Returning, Parsed, cases_Bool, Bool, IsTrue, List, MatchResult, Option, false, true, ℕ, [], refl, Ok, None, Err, Result, ⊤, length, not, reads_listing, sym, ap, ◌∙◌, subst, inl, inr, true≢false, RunsTo, GoesOn, IsMaking, FirstIs, Schema, Table}
+use Rattle.flow_sql.proofs.Names.{survives_weaker, timed, Row, Executes, HasCleanDisk, IsRolledBack, IsUnchanged, Runs, Shows, State, Survives, shows_rows, text_of, Trees, Error, Statement, first, Checked, Compiled, CompileError, NoSuchTable, Returning, Parsed, cases_Bool, Bool, IsTrue, List}
+use Rattle.flow_sql.proofs.Names.{MatchResult, Option, false, true, ℕ, [], refl, Ok, None, Err, Result, ⊤, length, not, reads_listing, sym, ap, ◌∙◌, subst, inl, inr, true≢false, RunsTo, GoesOn, IsMaking, FirstIs, Schema, Table}
 use Rattle.sqlite_ast.specs.declared.Statement.TheVariants as written
 use Rattle.sqlite_ast.specs.declared.Conflict.TheVariants as conflict
 use Rattle.sqlite_ast.specs.declared.CreateTable.{CreateTable}

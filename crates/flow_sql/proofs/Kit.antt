@@ -1,16 +1,11 @@
 -- The names of the kit, and of the definitions of this crate, that proofs on what the database takes cite, passed on from one place. Declares nothing.
-pub use Rattle.flow_rows.specs.Changes.{in_its_place, marked, marked_row, row_under_text, under_text, with_event, with_run, with_task, with_task_in_place, with_text, with_timer, without_task, without_tasks, without_timer, without_timers}
+pub use Rattle.flow_sql.specs.Names.{Concludes, CreateTable, Edit, Edited, Gives, Inserts, IsPermutation-append_right, IsPermutation-cons, IsPermutation-middle, IsPermutation-reverse, IsStatement, MakesSequence, MakesTable, Outcome, Part, Queried, RefusesToRead, Release, RollbackTo, Rows, Savepoint}
+pub use Rattle.flow_sql.specs.Names.{Shown, Then, WritesRows, alike_right, and_left, and_parts, and_right, cases_eq, cases_lt, edit_error, eqb-true, false_from_ne_true, first_as, get_or_past, id_in, int_ranked, lacks_sequence, length-append, length_permutation, list_all, list_any-IsPermutation}
+pub use Rattle.flow_sql.specs.Names.{ltb-true, not-true, on, on_total, one_step, or_cases, or_left, or_parts, or_right, ordering_reverse, ordering_then, reads_as, reverse-append, reverse-reverse, taken_by, tied_itself, value_cmp-Text, value_cmp_total, value_rows, with_tree, without_all}
 pub use Rattle.flow_sql.specs.Coming.{AreShortRuns, HasNoNumber, HasRun, HasText, IsFull, IsNewOf, IsNewRun, IsNewText, IsShort, IsWelcomeEvent, IsWelcomeRun, IsWelcomeTask, IsWelcomeText, IsWelcomeTimer}
 pub use Rattle.flow_sql.specs.Meaning.{IsDeclined, IsOurRead, IsOurWrite, read_takes}
 pub use Rattle.flow_sql.specs.States.{AreNew, CommitsNothing, HasEmpty, HasMade, Holds, IsReading, IsRefusal, RanThree, Since, StoppedOfThree, half_schema, no_tables}
-pub use Rattle.sqlite.proofs.Callers.{first_as, one_step, reads_as}
 pub use Rattle.sqlite.specs.Calls.{IsWrite}
-pub use Rattle.sqlite.specs.Command.TheVariants.{CreateTable, Release, RollbackTo, Rows, Savepoint}
-pub use Rattle.sqlite.specs.Does.{Concludes, MakesSequence, MakesTable, WritesRows, lacks_sequence}
-pub use Rattle.sqlite.specs.Edit.{Edit, id_in, taken_by, without_all}
-pub use Rattle.sqlite.specs.Effect.{RefusesToRead, edit_error, value_rows}
-pub use Rattle.sqlite.specs.Rows.{Edited, Gives, Inserts, Outcome, Part, Queried, Then}
-pub use Rattle.sqlite.specs.State.{IsStatement, Shown}
 pub use Rattle.sqlite.specs.declared.error.Error.TheVariants.{SqlInputError, SqliteFailure}
 pub use Rattle.sqlite.specs.declared.error.ErrorCode.TheVariants.{OutOfMemory}
 pub use Rattle.sqlite.specs.declared.run.Mode.{Mode}
@@ -34,18 +29,11 @@ pub use Rattle.sqlite_schema.specs.declared.schema.Reference.{Reference}
 pub use Rattle.sqlite_sql.specs.Catalog.{entry_of}
 pub use Rattle.sqlite_sql.specs.Ops.{fits_i64}
 pub use Rattle.sqlite_sql.specs.Program.{ProgramOverflows, QueryOverflows}
-pub use Rattle.sqlite_trees.proofs.ListLemmas.{all-append, all-map, all-slice_get, all_from_map, ascending-append, filter-map}
-pub use Rattle.sqlite_trees.specs.Tree.{with_tree}
 pub use Rattle.sqlite_trees.specs.View.{IsStorable, IsStorableRow}
 pub use Rattle.sqlite_typing.specs.Types.{accepts_program, accepts_terms}
 pub use Rattle.sqlite_value.proofs.KeyLemmas.{first_key-plain}
-pub use Rattle.sqlite_value.proofs.OrderLemmas.{value_cmp-Text, value_cmp_total}
 pub use Rattle.std.proofs.Common.{OnOk, append_assoc, bytes_eq, cond, drop, eq-eqb, flat_map, fold, nat_cmp, ne_eqb, subst₂, suc, zero, ◌+ℤ◌, ◌/◌, ◌≡◌}
-pub use Rattle.std.proofs.lemmas.Bool.{and_left, and_parts, and_right, cases_eq, cases_lt, eqb-true, false_from_ne_true, ltb-true, not-true, or_cases, or_left, or_parts, or_right}
-pub use Rattle.std.proofs.lemmas.Cmp.{alike_right, int_ranked, on_total, tied_itself}
-pub use Rattle.std.proofs.lemmas.List.{get_or_past, length-append, reverse-append, reverse-reverse}
 pub use Rattle.std.proofs.lemmas.List.Elements.{All-from_recursion, filter-append}
-pub use Rattle.std.proofs.lemmas.List.Sorted.{IsPermutation-append_right, IsPermutation-cons, IsPermutation-middle, IsPermutation-reverse, length_permutation, list_any-IsPermutation}
-pub use Rattle.std.specs.List.{list_all}
-pub use Rattle.std.specs.Ordering.{on, ordering_reverse, ordering_then}
 pub use Rattle.std.specs.Prelude.{Any, IsAscii, IsSome, IsUtf8, if◌then◌else◌, ltb, nat_lt, negsuc, not, option_map, sum_by, ◌&&◌, ◌*◌, ◌++◌, ◌+◌, ◌<ℤ◌, ◌<◌, ◌==◌, ◌^◌, ◌||◌, ◌∷◌, ◌≢◌, ◌≤◌, ◌⊎◌}
+pub use Rattle.flow_rows.specs.Changes.{in_its_place, marked, marked_row, row_under_text, under_text, with_event, with_run, with_task, with_task_in_place, with_text, with_timer, without_task, without_tasks, without_timer, without_timers}
+pub use Rattle.sqlite_trees.proofs.ListLemmas.{all-append, all-map, all-slice_get, all_from_map, ascending-append, filter-map}

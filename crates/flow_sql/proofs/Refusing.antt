@@ -1,5 +1,6 @@
 -- Why a statement of ours is refused: the store failed, or its database declines what is asked.
-use Rattle.flow_sql.proofs.Names.{schema, Write, write_sql, Read, read_sql, IsRead, write_takes, IsPlain, command_of, timed, Command, Does, Database, Row, overlay, Query, Executes, RunsCommand, State, mode_of, shows_rows, text_of, Trees, Error, Compiled, CompileError, IsTrue, List, false, true, ℕ, [], refl, Ok, None, Err, Result, length, Some, reads_listing, Fails, IsMisplaced, sym, ap, ◌∙◌, subst, inl, inr, arith, true≢false, append-nil, Schema}
+use Rattle.flow_sql.proofs.Names.{schema, Write, write_sql, Read, read_sql, IsRead, write_takes, IsPlain, command_of, timed, Command, Does, Database, Row, overlay, Query, Executes, RunsCommand, State, mode_of, shows_rows, text_of, Trees, Error, Compiled, CompileError}
+use Rattle.flow_sql.proofs.Names.{IsTrue, List, false, true, ℕ, [], refl, Ok, None, Err, Result, length, Some, reads_listing, Fails, IsMisplaced, sym, ap, ◌∙◌, subst, inl, inr, arith, true≢false, append-nil, Schema}
 use Rattle.flow_sql.proofs.Kit.{IsDeclined, IsOurRead, IsOurWrite, IsWrite, MoreFaults, OutOfMemory, QueryOverflows, RefusesToRead, SqliteFailure, accepts_program, read_takes, IsSome, Any, ◌≡◌, ◌⊎◌, ◌≢◌, ◌≤◌}
 use Rattle.sqlite_trees.specs.declared.error.StoreError.{StoreError}
 use Rattle.sqlite_trees.specs.declared.error.StoreError.TheVariants as store
@@ -37,14 +38,23 @@ whole_write sql params it = subst (λ n. IsWhole sql n (understood schema sql)) 
 
 ---- Why one is refused
 
+-- a text of ours that is whole, with as many values as it takes, is a statement
+module _ (old : State) (e : Error) (s : Schema) (laid : old.now.schema ≡ s) (sql : List ℕ) (params : Row) (whole : IsWhole sql (length params) (understood s sql)) (plain : IsPlain (understood s sql)) where
+  known : understood s sql ≡ understood old.now.schema sql
+  known = ap (λ t. understood t sql) (sym laid)
+
+  pub never_no_statement : IsNoStatement old sql params e → ⊥
+  never_no_statement (inl none) = subst IsPlain (known ∙ none.1) plain
+  never_no_statement (inr (c, is, inl long)) = long.0 (subst (IsWhole sql (length params)) (known ∙ is) whole).0
+  never_no_statement (inr (c, is, inr (inl few))) = few.0 (sym (subst (IsWhole sql (length params)) (known ∙ is) whole).1)
+  never_no_statement (inr (c, is, inr (inr timed'))) = timed'.0 (subst IsPlain (known ∙ is) plain).1
+
 module _ (old new : State) (e : Error) (other : e ≢ SqliteFailure OutOfMemory) (up : IsTrue old.is_open) where
   failed_for : (W : Type 0) (k : StoreError) → e ≡ store_error k → HasCause old new W k → MoreFaults old.faults new.faults ⊎ W
   failed_for W store.OutOfMemory is why = absurd (other is)
-  failed_for W store.Io is why = inl why
-  failed_for W store.Corrupt is why = inl why
-  failed_for W store.Full is why = inl why
   failed_for W store.Broken is why = absurd (let open_then = up in cc)
   failed_for W store.Unstorable is why = inr why
+  failed_for W _ is why = inl why
 
   pub failed : (W : Type 0) → Fails old new W e → MoreFaults old.faults new.faults ⊎ W
   failed W h = failed_for W h.0 h.1 h.2
@@ -56,18 +66,9 @@ module _ (old new : State) (e : Error) (other : e ≢ SqliteFailure OutOfMemory)
   ]
 
   module _ (s : Schema) (laid : old.now.schema ≡ s) (sql : List ℕ) (params : Row) (whole : IsWhole sql (length params) (understood s sql)) (plain : IsPlain (understood s sql)) where
-    known : understood s sql ≡ understood old.now.schema sql
-    known = ap (λ t. understood t sql) (sym laid)
-
-    never_no_statement : IsNoStatement old sql params e → ⊥
-    never_no_statement (inl none) = subst IsPlain (known ∙ none.1) plain
-    never_no_statement (inr (c, is, inl long)) = long.0 (subst (IsWhole sql (length params)) (known ∙ is) whole).0
-    never_no_statement (inr (c, is, inr (inl few))) = few.0 (sym (subst (IsWhole sql (length params)) (known ∙ is) whole).1)
-    never_no_statement (inr (c, is, inr (inr timed'))) = timed'.0 (subst IsPlain (known ∙ is) plain).1
-
     never_run : IsNotRun old new sql params e → MoreFaults old.faults new.faults
     unfolding IsNotRun
-    never_run (inl none) = absurd (never_no_statement none.0)
+    never_run (inl none) = absurd (never_no_statement old e s laid sql params whole plain none.0)
     never_run (inr fails) = only_failed fails
 
 -- A question: the store failed, or a limit is set on the steps of a query.

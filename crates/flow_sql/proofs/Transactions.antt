@@ -4,7 +4,7 @@ use Rattle.flow_sql.proofs.Kit.{Holds, IsWrite, MoreFaults, OnOk, OutOfMemory, R
 use Rattle.sqlite_tied.specs.Compute.{everything}
 use Rattle.sqlite.specs.Listing.{understood}
 use Rattle.sqlite.specs.State.{CommitsBy, MayWrite, ExecutesIn, IsNotRun}
-use Rattle.flow_sql.proofs.Refusing.{IsWhole, failed}
+use Rattle.flow_sql.proofs.Refusing.{IsWhole, failed, never_no_statement}
 use Rattle.flow_sql.proofs.Leaves.{was_clean, over_both, rolled_back_ended, ended_undone, error_refused}
 
 -- the text is this command, and nothing else, whatever tables there are
@@ -108,17 +108,7 @@ module _ (sql : List ℕ) (old new : State) (e : Error) (command : Command) (it 
   -- only a failure of the store refuses it, with nothing that could be too big
   fails_alone : (P : Type 0) → ((W : Type 0) → ¬ W → Fails old new W e → P) → Executes sql [] old new (Err e) → P
   unfolding ExecutesIn IsNotRun
-  fails_alone P so (inl (inl none)) = elim none.0 [
-    | inl broken ↦ absurd (subst IsPlain broken.1 (it.plain old.now.schema))
-    | inr odd ↦
-        let bare = subst IsPlain odd.1 (it.plain old.now.schema) in
-        let all = subst (IsWhole sql 0) odd.1 (it.whole old.now.schema) in
-        absurd (elim odd.2 [
-          | inl cut ↦ cut.0 all.0
-          | inr (inl given) ↦ given.0 (sym all.1)
-          | inr (inr times) ↦ times.0 bare.1
-        ])
-  ]
+  fails_alone P so (inl (inl none)) = absurd (never_no_statement old e old.now.schema refl sql [] (it.whole old.now.schema) (it.plain old.now.schema) none.0)
   fails_alone P so (inl (inr fails)) = so ⊥ (λ none. none) fails
   fails_alone P so (inr h) = elim (cases_Bool (shows_rows false h.0)) [
     | inl shows ↦ absurd (shown h.0 h.1.is shows)

@@ -10,7 +10,7 @@ returns-clause-begun g c was clean =
     begun_or_refused old new c.run.result (c.run.ensures.runs clean) (was (was_clean old new _ c.run.ensures.survives clean))
 
 pub returns-clause-effect : goal.returns-clause-effect
-returns-clause-effect g c clean = 
+returns-clause-effect g c clean =
     let old = state g.S.Store c.args.conn.now in
     let new = state g.S.Store c.run.new.conn in
     ran_to old new (codes "BEGIN") (HasBegun old new) c.run.result (c.run.ensures.runs clean) (begins old new)
