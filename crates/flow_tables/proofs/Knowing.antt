@@ -113,12 +113,9 @@ made_all run (e ∷ es) s t h =
     ∙ ap (λ v. after_events run v es (after_event run s.is_open e t)) (opens_alike s (effect_of e.what))
 
 -- so a turn that was put is the turn
-pub turn_made : {E : Type 0} (old new : State) (run : ℤ) (s : Standing) (count : ℕ) (turn : Turn) (r : Result Unit E) → Stands run s (tables_in old.now.trees)
-    → MatchResult r (λ _. IsReadableTurn count turn × Changes old new (made_turn run s count turn (tables_in old.now.trees))) (λ _. IsCutShort old new)
-    → MatchResult r (λ _. IsReadableTurn count turn × Changes old new (after_turn run s.is_open count turn (tables_in old.now.trees))) (λ _. IsCutShort old new)
-turn_made old new run s count turn (Ok u) h done =
-    (done.0, subst (Changes old new) (made_all run (turn_events (count + 1) turn.at turn.input turn.commands) s (tables_in old.now.trees) h) done.1)
-turn_made old new run s count turn (Err f) h cut = cut
+pub turn_made : (old new : State) (run : ℤ) (s : Standing) (count : ℕ) (turn : Turn) → Stands run s (tables_in old.now.trees) → Changes old new (made_turn run s count turn (tables_in old.now.trees))
+    → Changes old new (after_turn run s.is_open count turn (tables_in old.now.trees))
+turn_made old new run s count turn h done = subst (Changes old new) (made_all run (turn_events (count + 1) turn.at turn.input turn.commands) s (tables_in old.now.trees) h) done
 
 pub any_stands : (run : ℤ) (opened : Bool) (t : Tables) → Stands run (any_standing opened) t
 any_stands run opened t = record { mark = λ is. absurd (true≢false (sym is)); tasks = tt; timers = λ none. absurd (true≢false none) }

@@ -17,7 +17,7 @@ use Rattle.flow_view.specs.Reading.{Reads}
 use Rattle.flow_tables.specs.Faults.{noted_fault}
 use Rattle.flow_rows.proofs.Telling.{told as told_back}
 use Rattle.flow_tables.specs.Owned.{Keeps, IsServing, row_request, row_open}
-use Rattle.flow_tables.proofs.Owning.{read_leaves, holds}
+use Rattle.flow_tables.proofs.Owning.{read_leaves, told_at, still_so}
 
 ---- The keys that rows tell
 
@@ -119,15 +119,11 @@ module _ (old new : State) where
     read_serving owned none inside clean {A} result value reads noted m k serving fit now =
         let was = serving fit (clean now) in
         let left = read_leaves old new ours ro rn owned none inside clean result value reads noted fit now in
+        let told = told_at old new ours ro rn owned none inside clean result value reads fit now in
         record {
           last = λ is up. subst (λ (d : Database). Serves m (book_of d.trees)) (sym (left.same up)) (was.last is (left.was_open up));
-          shown = go result (reads now (book_of old.now.trees) ((owned fit (clean now)).whole inside none).1.tells (holds old new ours ro rn owned none inside clean fit)) noted;
+          shown = λ same _. still_so old new ours ro rn owned none inside clean result (value (book_of old.now.trees)) (λ d. Serves m (book_of d.trees) × Sees m (book_of d.trees)) told noted (was.shown none inside) same;
         }
-      where
-        go : (r : Result A ViewFault) → MatchResult r (λ v. IsStill true old new × (v ≡ value (book_of old.now.trees))) (λ _. IsRefused true old new) → IsNoted noted_fault r ro rn
-            → rn ≡ None → new.in_transaction ≡ true → Serves m (book_of new.now.trees) × Sees m (book_of new.now.trees)
-        go (Ok v) h n = λ _ _. subst (λ (d : Database). Serves m (book_of d.trees) × Sees m (book_of d.trees)) (sym h.0.1) ((serving fit (clean now)).shown none inside)
-        go (Err f) h n = λ same _. absurd (let clash = sym n ∙ same in cc)
 
     -- the book was changed
     pub put_serving : ro ≡ None → old.in_transaction ≡ true → (HasCleanDisk new → HasCleanDisk old) → (m m' : Maps) (c : Change) (k : Bool) → (ours → HasCleanDisk old → IsServing m k old ro)

@@ -20,7 +20,7 @@ use Rattle.flow_tables.specs.Reads.{IsReadFault}
 use Rattle.flow_tables.specs.Faults.{Since, fault_of, read_refusal, told_fault, HasFailed, IsCutOff, IsKeptOut}
 use Rattle.flow_tables.specs.declared.fault.StoreFault.TheVariants.{NoMemory, Refused}
 use Rattle.flow_tables.specs.declared.fault.Refusal.TheVariants as refusal
-use Rattle.flow_tables.proofs.Causes.{because_on}
+use Rattle.flow_tables.proofs.Causes.{because_on, all_because}
 
 pub since_self : (s : State) → Since s s
 since_self s = (omega arith, refl)
@@ -52,11 +52,10 @@ module _ {S : Type 0} (g : Ghosts S) where
 
   module _ (a b c : State) (since : Since a b) (U : Type 0) where
     pub because_after : (f : Refusal) → Because f (IsStopped g b c) U → Because f (IsStopped g a c) U
-    because_after f h = because_on (IsStopped g b c) (IsStopped g a c) U U f (stopped_after a b c since) (λ u. u) h
+    because_after f h = because_on f h (stopped_after a b c since) (λ u. u)
 
     pub all_after : {A : Type 0} (r : Result A Refusal) → IfErr r (λ f. Because f (IsStopped g b c) U) → IfErr r (λ f. Because f (IsStopped g a c) U)
-    all_after (Ok u) h = tt
-    all_after (Err f) h = because_after f h
+    all_after r h = all_because r h (stopped_after a b c since) (λ u. u)
 
   -- an error of a statement, told as a refusal
   error_so : (a b : Held S) (U : Type 0) (e : Error) → StopsWith g a b e → Because (refusal_of e) (IsStopped g (state g a) (state g b)) U
