@@ -126,37 +126,45 @@ IsUncounted (Err f) (Err e) = f ≡ e
 IsUncounted _ _ = ⊥
 
 module _ {S : Type 0} (g : Ghosts S) (does : Alters) (old new : Held S) (it : IsRowChange g does) (keeps : (t : Tables) → AreUtf8 t → AreUtf8 (does.after t)) (h : Survives (state g old) (state g new) (CommitsBy does.sql does.params (state g old))) where
+  abbrev Ran : Error → Type 0
+  Ran e = Executes does.sql does.params (state g old) (state g new) (Err e)
+
+  abbrev Did : Result Unit Error → Type 0
+  Did x = MatchResult x (λ _. (count : ℕ) × Executes does.sql does.params (state g old) (state g new) (Ok count)) Ran
+
   pub changed : (r : Result ℕ Error) → (HasCleanDisk (state g new) → Executes does.sql does.params (state g old) (state g new) r) → (x : Result Unit Error) → IsUncounted r x → IsChanged g does.sql does.params old new x does.fits does.welcome does.after
   changed r ran x same = record {
-    put = λ was fits clean. put (was (was_clean (state g old) (state g new) _ h clean)) fits r (ran clean) x same;
+    put = λ was fits clean. put (was (was_clean (state g old) (state g new) _ h clean)) fits x (did r (ran clean) x same);
     clean = λ clean. was_clean (state g old) (state g new) _ h clean;
-    ran = λ clean. refused r (ran clean) x same;
-    cause = λ was welcome clean. cause (was (was_clean (state g old) (state g new) _ h clean)) welcome r (ran clean) x same;
+    ran = λ clean. refused x (did r (ran clean) x same);
+    cause = λ was welcome clean. cause (was (was_clean (state g old) (state g new) _ h clean)) welcome x (did r (ran clean) x same);
     survives = λ was. write_survives does.sql it.command it.is it.writes (state g old) (state g new) does.params was h;
   }
     where
-      put : IsOver true (state g old) → does.fits (tables_in (state g old).now.trees) → (r : Result ℕ Error) → Executes does.sql does.params (state g old) (state g new) r → (x : Result Unit Error) → IsUncounted r x
-          → MatchResult x (λ _. Changes (state g old) (state g new) (does.after (tables_in (state g old).now.trees))) (λ _. IsRefused true (state g old) (state g new))
-      put was fits (Ok count) ran (Ok done) same =
-          let did = it.put old new count was fits ran in
-          record { over = did.over; tables = did.tables; committed = did.committed; utf8 = λ u. subst AreUtf8 (sym did.tables) (keeps (tables_in (state g old).now.trees) u) }
-      put was fits (Ok count) ran (Err e) same = absurd same
-      put was fits (Err f) ran (Ok done) same = absurd same
-      put was fits (Err f) ran (Err e) same = error_refused (state g old) (state g new) does.sql does.params e true was (subst (λ k. Executes does.sql does.params (state g old) (state g new) (Err k)) same ran)
+      did : (r : Result ℕ Error) → Executes does.sql does.params (state g old) (state g new) r → (x : Result Unit Error) → IsUncounted r x → Did x
+      did (Ok count) ran (Ok done) same = (count, ran)
+      did (Ok count) ran (Err e) same = absurd same
+      did (Err f) ran (Ok done) same = absurd same
+      did (Err f) ran (Err e) same = subst Ran same ran
 
-      refused : (r : Result ℕ Error) → Executes does.sql does.params (state g old) (state g new) r → (x : Result Unit Error) → IsUncounted r x → IfErr x (λ e. Executes does.sql does.params (state g old) (state g new) (Err e))
-      refused r ran (Ok done) same = tt
-      refused (Ok count) ran (Err e) same = absurd same
-      refused (Err f) ran (Err e) same = subst (λ k. Executes does.sql does.params (state g old) (state g new) (Err k)) same ran
+      put : IsOver true (state g old) → does.fits (tables_in (state g old).now.trees) → (x : Result Unit Error) → Did x
+          → MatchResult x (λ _. Changes (state g old) (state g new) (does.after (tables_in (state g old).now.trees))) (λ _. IsRefused true (state g old) (state g new))
+      put was fits (Ok done) ran =
+          let did = it.put old new ran.0 was fits ran.1 in
+          record { over = did.over; tables = did.tables; committed = did.committed; utf8 = λ u. subst AreUtf8 (sym did.tables) (keeps (tables_in (state g old).now.trees) u) }
+      put was fits (Err e) ran = error_refused (state g old) (state g new) does.sql does.params e true was ran
+
+      refused : (x : Result Unit Error) → Did x → IfErr x Ran
+      refused (Ok done) ran = tt
+      refused (Err e) ran = ran
 
       taken : IsOver true (state g old) → does.welcome (tables_in (state g old).now.trees) → MoreFaults (state g old).faults (state g new).faults ⊎ IsDeclined does.sql does.params (state g old)
           → MoreFaults (state g old).faults (state g new).faults ⊎ (IsSome (state g old).step_limit ⊎ IsFull (state g old).now.trees)
       taken was welcome (inl more) = inl more
       taken was welcome (inr declined) = inr (it.taken old was welcome declined)
 
-      cause : IsOver true (state g old) → does.welcome (tables_in (state g old).now.trees) → (r : Result ℕ Error) → Executes does.sql does.params (state g old) (state g new) r → (x : Result Unit Error) → IsUncounted r x → IfErr x (StopsWith g old new)
-      cause was welcome r ran (Ok done) same = tt
-      cause was welcome (Ok count) ran (Err e) same = absurd same
-      cause was welcome (Err f) ran (Err e) same = λ other.
+      cause : IsOver true (state g old) → does.welcome (tables_in (state g old).now.trees) → (x : Result Unit Error) → Did x → IfErr x (StopsWith g old new)
+      cause was welcome (Ok done) ran = tt
+      cause was welcome (Err e) ran = λ other.
           change_stopped g old new was (taken was welcome
-          (change_refused (state g old) (state g new) e other was.is_open schema was.now.laid_out does.sql does.params it.command it.is it.writes it.plain (whole_write does.sql does.params it.listed) (subst (λ k. Executes does.sql does.params (state g old) (state g new) (Err k)) same ran)))
+          (change_refused (state g old) (state g new) e other was.is_open schema was.now.laid_out does.sql does.params it.command it.is it.writes it.plain (whole_write does.sql does.params it.listed) ran))

@@ -16,6 +16,7 @@ use Rattle.flow_rows.specs.Told.{IsTold}
 use Rattle.flow_view.specs.Reading.{Reads}
 use Rattle.flow_tables.specs.Faults.{noted_fault}
 use Rattle.flow_rows.proofs.Telling.{told as told_back}
+use Rattle.flow_rows.proofs.WholeChanges.{mark_read}
 use Rattle.flow_tables.specs.Owned.{Keeps, IsServing, row_request, row_open}
 use Rattle.flow_tables.proofs.Owning.{read_leaves, told_at, still_so}
 
@@ -26,17 +27,13 @@ named_back None h = refl
 named_back (Some []) h = absurd (h refl)
 named_back (Some (c ∷ cs)) h = refl
 
-marked_back : (v : Bool) → int_eq (open_number v) (pos 1) ≡ v
-marked_back true = refl
-marked_back false = refl
-
 requests_back : (n : ℕ) (rs : List Run) → AllByRecursion IsTold rs → map row_request (run_rows n rs) ≡ map request_key rs
 requests_back n [] all = refl
 requests_back n (r ∷ rs) all = ap (λ k. k ∷ map row_request (run_rows (n + 1) rs)) (named_back r.request all.0.request) ∙ ap (λ ks. r.request ∷ ks) (requests_back (n + 1) rs all.1)
 
 opens_back : (n : ℕ) (rs : List Run) → map row_open (run_rows n rs) ≡ map open_key rs
 opens_back n [] = refl
-opens_back n (r ∷ rs) = ap (λ v. key_if v r.flow ∷ map row_open (run_rows (n + 1) rs)) (marked_back (is_open (state_of r.history))) ∙ ap (λ ks. open_key r ∷ ks) (opens_back (n + 1) rs)
+opens_back n (r ∷ rs) = ap (λ v. key_if v r.flow ∷ map row_open (run_rows (n + 1) rs)) (mark_read (is_open (state_of r.history))) ∙ ap (λ ks. open_key r ∷ ks) (opens_back (n + 1) rs)
 
 pub rows_serve : (m : Maps) (rows : List RunRow) (b : Book) → rows ≡ run_rows 1 b.runs → AllByRecursion IsTold b.runs → AreKeys m (map row_request rows) (map row_open rows) → IsOf m.agenda b → HasSignals m b → HasRecords m b → Serves m b
 rows_serve m rows b same told are awaits signals records = record {
@@ -129,17 +126,10 @@ module _ (old new : State) where
     pub put_serving : ro ≡ None → old.in_transaction ≡ true → (HasCleanDisk new → HasCleanDisk old) → (m m' : Maps) (c : Change) (k : Bool) → (ours → HasCleanDisk old → IsServing m k old ro)
         → ((b : Book) → Sees m b → Serves m b → Serves m' (changed b c)) → ((b : Book) → Sees m' b) → (result : Result Unit Refusal) → IsNoted (λ x. x) result ro rn
         → OnOk (told_answer result) (IsSure ours new rn → book_of new.now.trees ≡ changed (book_of old.now.trees) c) → ours → HasCleanDisk new → IsServing m' false new rn
-    put_serving none inside clean m m' c k serving serves sees result noted told fit now = record {
-      last = λ is up. absurd (true≢false (sym is));
-      shown = go result noted told;
-    }
-      where
-        go : (r : Result Unit Refusal) → IsNoted (λ x. x) r ro rn → OnOk (told_answer r) (IsSure ours new rn → book_of new.now.trees ≡ changed (book_of old.now.trees) c)
-            → rn ≡ None → new.in_transaction ≡ true → Serves m' (book_of new.now.trees) × Sees m' (book_of new.now.trees)
-        go (Ok u) n h = λ same mode.
-            let was = (serving fit (clean now)).shown none inside in
-            (subst (λ b. Serves m' b) (sym (h (record { fit = fit; clean = now; mode = mode; none = same }))) (serves (book_of old.now.trees) was.1 was.0), sees (book_of new.now.trees))
-        go (Err f) n h = λ same _. absurd (let clash = sym n ∙ same in cc)
+    put_serving none inside clean m m' c k serving serves sees (Ok u) noted told fit now = learnt_serving m' new rn (λ same mode.
+        let was = (serving fit (clean now)).shown none inside in
+        subst (λ b. Serves m' b) (sym (told (record { fit = fit; clean = now; mode = mode; none = same }))) (serves (book_of old.now.trees) was.1 was.0)) sees
+    put_serving none inside clean m m' c k serving serves sees (Err f) noted told fit now = learnt_serving m' new rn (λ same _. absurd (let clash = sym noted ∙ same in cc)) sees
 
 ---- An answer behind another read
 

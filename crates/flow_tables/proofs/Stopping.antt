@@ -60,10 +60,7 @@ module _ {S : Type 0} (g : Ghosts S) where
   -- an error of a statement, told as a refusal
   error_so : (a b : Held S) (U : Type 0) (e : Error) → StopsWith g a b e → Because (refusal_of e) (IsStopped g (state g a) (state g b)) U
   error_so a b U (SqliteFailure OutOfMemory) h = tt
-  error_so a b U e h = h (other e refl)
-    where
-      other : (e : Error) → refusal.Stopped ≡ refusal_of e → e ≢ SqliteFailure OutOfMemory
-      other e is same = let clash = is ∙ ap refusal_of same in cc
+  error_so a b U e h = h (λ same. let clash = ap refusal_of same in cc)
 
   pub by_error : (a b : Held S) (U : Type 0) (f : Refusal) (e : Error) → f ≡ refusal_of e → StopsWith g a b e → Because f (IsStopped g (state g a) (state g b)) U
   by_error a b U f e is h = subst (λ x. Because x (IsStopped g (state g a) (state g b)) U) (sym is) (error_so a b U e h)
@@ -95,10 +92,7 @@ module _ {S : Type 0} (g : Ghosts S) where
 -- an error of the store, told as a fault of a read
 pub fault_told : (kinds : List Kind) (sql : List ℕ) (params : Row) (old new : State) (e : Error) → FailsToQuery sql params old new e → IsReadFault kinds sql params old new (fault_of e)
 fault_told kinds sql params old new (SqliteFailure OutOfMemory) h = inl (_, h)
-fault_told kinds sql params old new e h = inl (other e refl, h)
-  where
-    other : (e : Error) → Refused e ≡ fault_of e → e ≢ SqliteFailure OutOfMemory
-    other e is same = let clash = is ∙ ap fault_of same in cc
+fault_told kinds sql params old new e h = inl (λ same. let clash = ap fault_of same in cc, h)
 
 ---- Transactions
 
