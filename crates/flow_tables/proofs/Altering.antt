@@ -1,13 +1,8 @@
 -- What changes of a run beside its turns: the text that it goes on under, and the attempt at an activity.
 use Rattle.std.specs.Prelude.{◌≡◌, ◌∷◌}
-use Rattle.std.specs.List.{list_any}
-use Rattle.std.proofs.lemmas.Bool.{cases_Bool}
-use Rattle.std.proofs.lemmas.Bool.Decides.{Decides-int_eq}
-use Rattle.flow_tables.proofs.Names.{Book, Tells, Task, task_row, with_task, without_task, is_other_task, Tables, OutboxRow, State, AllByRecursion, List, MatchResult, Option, false, filter, int_eq, pos, true, ℕ, ℤ, [], refl, Err, Ok, Result, Some, None, Changes, IsRefused, IsStill, tables_in, AreOurs, nth, Run, subst, ◌∙◌, sym, ap, inl, inr, true≢false, IsCutShort}
+use Rattle.flow_tables.proofs.Names.{Book, Tells, Task, task_row, with_task, without_task, is_other_task, Tables, OutboxRow, State, AllByRecursion, List, MatchResult, Option, false, filter, int_eq, pos, true, ℕ, ℤ, [], refl, Err, Ok, Result, Some, None, Changes, IsRefused, IsStill, tables_in, AreOurs, nth, Run, subst, ◌∙◌, sym, ap, inl, inr, true≢false, IsCutShort, list_any, cases_Bool, Decides-int_eq, HasRun, IsWelcomeTask, AreUtf8}
 use Rattle.flow_rows.specs.Changes.{with_task_in_place}
 use Rattle.flow_rows.proofs.Behind.{run_there, no_rows_yet}
-use Rattle.flow_sql.specs.Coming.{HasRun, IsWelcomeTask}
-use Rattle.flow_sql.specs.Stored.{AreUtf8}
 use Rattle.flow_sql.proofs.InPlace.{task_in_place, no_task_in_place}
 use Rattle.flow_tables.specs.Puts.{is_task_at, has_task}
 use Rattle.flow_tables.proofs.Parts.{both, refused_first, cut_later}

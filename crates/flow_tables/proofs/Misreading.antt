@@ -1,11 +1,10 @@
 -- Rows that can't be read.
 use Rattle.std.specs.Prelude.{◌≡◌, ◌≢◌, ◌<◌, get_or}
-use Rattle.flow_tables.proofs.Names.{Kind, Row, Error, column, AllByRecursion, List, ℕ, StoreFault, SqliteFailure, OutOfMemory, length, refl, subst, ◌∙◌, sym, ap, inl, inr}
+use Rattle.flow_tables.proofs.Names.{Kind, Row, Error, column, AllByRecursion, List, ℕ, StoreFault, SqliteFailure, OutOfMemory, length, refl, subst, ◌∙◌, sym, ap, inl, inr, fault_of}
 use Rattle.sqlite.specs.Reading.{IsReadError}
 use Rattle.sqlite_trees.proofs.ListLemmas.{all-get_or}
 use Rattle.flow_sql.specs.Stored.{IsReadAs, AreReadAs}
 use Rattle.flow_sql.proofs.Readable.{read_at, is_there}
-use Rattle.flow_tables.specs.Faults.{fault_of}
 use Rattle.flow_tables.specs.Reads.{IsMisreadAt, IsMisread, AreMisread}
 use Rattle.flow_tables.specs.declared.fault.StoreFault.TheVariants.{Refused}
 

@@ -1,12 +1,9 @@
 -- What the tables keep true of the keys that are known, call by call.
 use Rattle.std.specs.Prelude.{◌≡◌, ◌≢◌, ◌-◌, ◌+◌, ◌<◌, ◌++◌, ◌∷◌, nat_eq, slice_get, if◌then◌else◌}
-use Rattle.flow_tables.proofs.Names.{int_eq, pos, Change, Book, Run, RunRow, AllByRecursion, Bytes, Database, HasCleanDisk, State, Bool, List, MatchResult, Option, false, map, true, ℕ, HasBegun, HasCommitted, HasEnded, IsRefused, IsStill, Refusal, ViewFault, Err, IfOk, None, Ok, OnOk, Some, [], length, refl, Result, changed, is_open, state_of, open_number, subst, ◌∙◌, sym, ap, true≢false, book_of, tables_in, IsOwn, told_answer, IsSure, ReadsBook, IsNoted}
+use Rattle.flow_tables.proofs.Names.{int_eq, pos, Change, Book, Run, RunRow, AllByRecursion, Bytes, Database, HasCleanDisk, State, Bool, List, MatchResult, Option, false, map, true, ℕ, HasBegun, HasCommitted, HasEnded, IsRefused, IsStill, Refusal, ViewFault, Err, IfOk, None, Ok, OnOk, Some, [], length, refl, Result, changed, is_open, state_of, open_number, subst, ◌∙◌, sym, ap, true≢false, book_of, tables_in, IsOwn, told_answer, IsSure, ReadsBook, IsNoted, Maps, Task, nth, noted_fault}
 use Rattle.std.proofs.Common.{take, get_or}
 use Rattle.std.proofs.lemmas.List.{map_more, take_more}
-use Rattle.flow_maps.specs.declared.maps.Maps.{Maps}
-use Rattle.flow_base.specs.declared.book.Task.{Task}
 use Rattle.flow_base.specs.declared.book.Timer.{Timer}
-use Rattle.flow_model.specs.Book.{nth}
 use Rattle.flow_maps.specs.Agenda.{IsOf, Knows, tasks_at, tasks_of}
 use Rattle.flow_maps.specs.Keys.{Lists}
 use Rattle.flow_maps.specs.Timers.{of_run, timers_of}
@@ -14,7 +11,6 @@ use Rattle.flow_maps.specs.Serving.{Serves, Sees, AreKeys, Awaits, HasSignals, H
 use Rattle.flow_rows.specs.Rows.{run_rows, request_text}
 use Rattle.flow_rows.specs.Told.{IsTold}
 use Rattle.flow_view.specs.Reading.{Reads}
-use Rattle.flow_tables.specs.Faults.{noted_fault}
 use Rattle.flow_rows.proofs.Telling.{told as told_back}
 use Rattle.flow_rows.proofs.WholeChanges.{mark_read}
 use Rattle.flow_tables.specs.Owned.{Keeps, IsServing, row_request, row_open}
