@@ -1,7 +1,7 @@
 -- That the statements which are made, where so much is known of the rows, leave what all of them would.
 use Rattle.std.specs.Prelude.{◌≡◌, ◌∷◌, ◌+◌, if◌then◌else◌, ◌++◌}
 use Rattle.std.proofs.Common.{eqb-true}
-use Rattle.flow_tables.proofs.Names.{timers_left, inl, inr, effect_of, Bytes, Run, Task, Turn, Effect, Cmd, Event, Input, Started, Came, Book, nth, is_open, state_of, traces, turn_events, is_other_task, marked, marked_row, with_event, with_run, with_timer, without_tasks, without_timers, event_row, of_run, task_row, timer_row, IsReadableTurn, Tells, after_effect, after_turn, new_run, Tables, OutboxRow, RunRow, State, ints, AllByRecursion, int_eq, Bool, List, MatchResult, Option, false, filter, int_lt, map, pos, true, ℕ, Changes, tables_in, OpenTasks, Standing, Err, None, Ok, Some, length, ℤ, [], refl, Result, suc, eqb as nat_eq, subst, ◌∙◌, sym, ap, arith, IsCutShort, made_turn, true≢false, Stands, stands_what, made_event, made_events, begins, first_row, first_standing, started_timer, HasOnly, ended, stands_by, tasks_gone, timers_gone, closed_from, made_effect, any_standing, tasks_known, opens_timer, run_standing, cases_Bool, Decides-int_eq, TimerRow, head_of}
+use Rattle.flow_tables.proofs.Names.{timers_left, inl, inr, effect_of, Bytes, Run, Task, Turn, Effect, Cmd, Event, Input, Started, Came, Book, nth, is_open, state_of, traces, turn_events, is_other_task, marked, marked_row, with_event, with_run, with_timer, without_tasks, without_timers, event_row, of_run, task_row, timer_row, Tells, after_effect, after_turn, new_run, Tables, OutboxRow, RunRow, State, AllByRecursion, int_eq, Bool, List, Option, false, filter, int_lt, map, pos, true, ℕ, Changes, tables_in, OpenTasks, Standing, None, Some, length, ℤ, [], refl, suc, eqb as nat_eq, subst, ◌∙◌, sym, ap, arith, made_turn, true≢false, Stands, stands_what, made_event, made_events, begins, first_row, first_standing, started_timer, HasOnly, ended, stands_by, tasks_gone, timers_gone, closed_from, made_effect, any_standing, tasks_known, opens_timer, cases_Bool, Decides-int_eq, TimerRow, head_of}
 use Rattle.std.proofs.lemmas.List.{map-append}
 use Rattle.sqlite_catalog.proofs.ListFacts.{filter_swap}
 use Rattle.std.proofs.lemmas.Option.{slice_get_past}
@@ -11,7 +11,7 @@ use Rattle.flow_rows.specs.Changes.{at_run, is_other_timer}
 use Rattle.flow_rows.specs.Told.{opened_by, after_event, after_events}
 use Rattle.flow_rows.proofs.BookTables.{nth_is}
 use Rattle.flow_rows.proofs.Finds as found
-use Rattle.flow_rows.proofs.Undamaged.{timer_rows_of, task_rows_of}
+use Rattle.flow_rows.proofs.Undamaged.{timer_rows_of}
 use Rattle.flow_rows.proofs.Behind.{no_rows_yet}
 use Rattle.flow_tables.specs.declared.known.OpenTasks.TheVariants as tasks
 use Rattle.flow_tables.specs.Known.{head_standing}

@@ -1,6 +1,6 @@
 -- Rows that can't be read.
 use Rattle.std.specs.Prelude.{◌≡◌, ◌≢◌, ◌<◌, get_or}
-use Rattle.flow_tables.proofs.Names.{Kind, Row, Error, column, AllByRecursion, List, ℕ, StoreFault, SqliteFailure, OutOfMemory, length, refl, subst, ◌∙◌, sym, ap, inl, inr, fault_of}
+use Rattle.flow_tables.proofs.Names.{Kind, Row, Error, column, AllByRecursion, List, ℕ, StoreFault, SqliteFailure, OutOfMemory, length, subst, sym, ap, inl, inr, fault_of}
 use Rattle.sqlite.specs.Reading.{IsReadError}
 use Rattle.sqlite_trees.proofs.ListLemmas.{all-get_or}
 use Rattle.flow_sql.specs.Stored.{IsReadAs, AreReadAs}

@@ -1,6 +1,6 @@
 -- What the tables keep true of the keys that are known, call by call.
 use Rattle.std.specs.Prelude.{◌≡◌, ◌≢◌, ◌-◌, ◌+◌, ◌<◌, ◌++◌, ◌∷◌, nat_eq, slice_get, if◌then◌else◌}
-use Rattle.flow_tables.proofs.Names.{int_eq, pos, Change, Book, Run, RunRow, AllByRecursion, Bytes, Database, HasCleanDisk, State, Bool, List, MatchResult, Option, false, map, true, ℕ, HasBegun, HasCommitted, HasEnded, IsRefused, IsStill, Refusal, ViewFault, Err, IfOk, None, Ok, OnOk, Some, [], length, refl, Result, changed, is_open, state_of, open_number, subst, ◌∙◌, sym, ap, true≢false, book_of, tables_in, IsOwn, told_answer, IsSure, ReadsBook, IsNoted, Maps, Task, nth, noted_fault}
+use Rattle.flow_tables.proofs.Names.{Change, Book, Run, RunRow, AllByRecursion, Bytes, Database, HasCleanDisk, State, Bool, List, Option, false, map, true, ℕ, HasBegun, HasCommitted, HasEnded, Refusal, ViewFault, Err, IfOk, None, Ok, OnOk, Some, [], length, refl, Result, changed, is_open, state_of, subst, ◌∙◌, sym, ap, true≢false, book_of, tables_in, IsOwn, told_answer, IsSure, ReadsBook, IsNoted, Maps, Task, nth, noted_fault}
 use Rattle.std.proofs.Common.{take, get_or}
 use Rattle.std.proofs.lemmas.List.{map_more, take_more}
 use Rattle.flow_base.specs.declared.book.Timer.{Timer}

@@ -19,7 +19,6 @@ use Rattle.flow_tables.specs.Asking.{StopsAsk}
 use Rattle.flow_tables.specs.Reads.{IsReadFault}
 use Rattle.flow_tables.specs.Faults.{Since, fault_of, read_refusal, told_fault, HasFailed, IsCutOff, IsKeptOut}
 use Rattle.flow_tables.specs.declared.fault.StoreFault.TheVariants.{NoMemory, Refused}
-use Rattle.flow_tables.specs.declared.fault.Refusal.TheVariants as refusal
 use Rattle.flow_tables.proofs.Causes.{because_on, all_because}
 
 pub since_self : (s : State) → Since s s
