@@ -1,6 +1,7 @@
 -- What changes of a run beside its turns: the text that it goes on under, and the attempt at an activity.
 use Rattle.std.specs.Prelude.{◌≡◌, ◌∷◌}
-use Rattle.flow_tables.proofs.Names.{OrCut, Book, Tells, Task, task_row, with_task, without_task, is_other_task, Tables, OutboxRow, State, AllByRecursion, List, MatchResult, Option, false, filter, int_eq, pos, true, ℕ, ℤ, [], refl, Result, Some, None, Changes, IsRefused, IsStill, tables_in, AreOurs, nth, Run, subst, ◌∙◌, sym, ap, inl, inr, true≢false, list_any, cases_Bool, Decides-int_eq, HasRun, IsWelcomeTask}
+use Rattle.flow_tables.proofs.Names.{Book, Tells, Task, task_row, with_task, without_task, is_other_task, Tables, OutboxRow, State, AllByRecursion, List, MatchResult, Option, false, filter, int_eq, pos, true, ℕ, ℤ, [], refl, Result, Some, None, Changes, IsRefused, IsStill, tables_in, AreOurs, nth, Run, subst, ◌∙◌, sym, ap, inl, inr, true≢false}
+use Rattle.flow_tables.proofs.Names.{OrCut, list_any, cases_Bool, Decides-int_eq, HasRun, IsWelcomeTask}
 use Rattle.flow_rows.specs.Changes.{with_task_in_place}
 use Rattle.flow_rows.proofs.Behind.{run_there, no_rows_yet}
 use Rattle.flow_sql.proofs.InPlace.{task_in_place, no_task_in_place}

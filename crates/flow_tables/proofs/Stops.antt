@@ -1,6 +1,7 @@
 -- What a stop may leave, from call to call.
 use Rattle.std.specs.Prelude.{◌≡◌}
-use Rattle.flow_tables.proofs.Names.{schema, Database, State, Survives, IsTrue, false, HasTables, IsOver, AreOurs, subst, Trees, IsSound}
+use Rattle.flow_tables.proofs.Names.{schema, Database, State, Survives, IsTrue, false, HasTables, IsOver, AreOurs, subst}
+use Rattle.flow_tables.proofs.Names.{Trees, IsSound}
 use Rattle.sqlite.specs.State.{Opens, IsLive}
 use Rattle.sqlite.proofs.StateLemmas.{survives_then}
 use Rattle.sqlite_catalog.proofs.ReadLemmas.{lists_once}

@@ -1,7 +1,8 @@
 -- How an error of the store is told: the want of memory by itself, all else as the store's refusal. And what stands behind
 -- a refusal.
 use Rattle.std.specs.Prelude.{◌≡◌, ◌⊎◌, ◌≢◌}
-use Rattle.flow_tables.specs.Names.{Held, state, Executes, State, Error, Ghosts, List, false, true, ℕ, IsOver, tables_in, Refusal, StoreFault, ViewFault, SqliteFailure, OutOfMemory, Err, Ok, [], Result, IsSome, MoreFaults, HasOddText}
+use Rattle.flow_tables.specs.Names.{Held, state, Executes, State, Error, Ghosts, List, false, true, ℕ, IsOver, tables_in, Refusal, StoreFault, ViewFault, SqliteFailure, OutOfMemory, Err, Ok, [], Result, IsSome}
+use Rattle.flow_tables.specs.Names.{MoreFaults, HasOddText}
 use Rattle.flow_view.specs.declared.fault.ViewFault.TheVariants as view
 use Rattle.flow_tables.specs.declared.fault.StoreFault.TheVariants.{NoMemory, Refused}
 use Rattle.flow_tables.specs.declared.fault.Refusal.TheVariants as refusal
