@@ -6,7 +6,7 @@ use Rattle.flow_rows.specs.Changes.{with_task_in_place}
 use Rattle.flow_rows.proofs.Behind.{run_there, no_rows_yet}
 use Rattle.flow_sql.proofs.InPlace.{task_in_place, no_task_in_place}
 use Rattle.flow_tables.specs.Puts.{is_task_at, has_task}
-use Rattle.flow_tables.proofs.Parts.{row_then, still_changes}
+use Rattle.flow_tables.proofs.Parts.{put_then, as_put, still_changes}
 use Rattle.flow_tables.proofs.Wholes.{still_then}
 
 ---- An activity goes, and comes again
@@ -28,7 +28,7 @@ comes_again run task row t u is left has =
 
 pub put_after : {E : Type 0} (old mid new : State) (run : ℤ) (task : Task) (row : OutboxRow) (t : Tables) (r : Result Unit E) → row ≡ task_row run task → Changes old mid t
     → MatchResult r (λ _. Changes mid new (with_task row (tables_in mid.now.trees))) (λ _. IsRefused true mid new) → OrCut old new r (Changes old new (with_task (task_row run task) t))
-put_after old mid new run task row t r is first second = subst (λ x. OrCut old new r (Changes old new (with_task x t))) is (row_then old mid new t (with_task row) r first second)
+put_after old mid new run task row t r is first second = subst (λ x. OrCut old new r (Changes old new (with_task x t))) is (put_then old mid new t (with_task row) r first (as_put mid new (with_task row (tables_in mid.now.trees)) r second))
 
 ---- An activity that is looked for
 

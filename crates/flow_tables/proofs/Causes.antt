@@ -2,6 +2,7 @@
 use Rattle.std.specs.Prelude.{◌≡◌, ◌∷◌, ◌+◌, ◌≤◌, ◌^◌, ◌<◌, ◌↔◌}
 use Rattle.flow_tables.proofs.Names.{Turn, Cmd, Event, Came, Bool, IfErr, IsTrue, List, false, ℕ, Refusal, Err, Ok, length, Result, Asked, subst, ◌∙◌, sym, inl, inr, arith, Because, true≢false, IsUnfitTurn, AreUnfit, IsUnfitInput, AreWithin, ap}
 use Rattle.flow_events.specs.Row.{IsCommandWithinLimits, IsWithinLimits}
+use Rattle.std.proofs.lemmas.Result.{IfErr-weaker}
 use Rattle.flow_tables.specs.declared.fault.Refusal.TheVariants.{NoMemory, Stopped, Unfit}
 
 -- an event that the test refuses is past the limits of a row
@@ -26,8 +27,7 @@ because_on Stopped h stop unfit = stop h
 because_on Unfit h stop unfit = unfit h
 
 pub all_because : {A W V U T : Type 0} (r : Result A Refusal) → IfErr r (λ f. Because f W U) → (W → V) → (U → T) → IfErr r (λ f. Because f V T)
-all_because (Ok v) h stop unfit = tt
-all_because (Err f) h stop unfit = because_on f h stop unfit
+all_because {A} {W} {V} {U} {T} r h stop unfit = IfErr-weaker r (λ f. Because f W U) (λ f. Because f V T) (λ f why. because_on f why stop unfit) h
 
 -- a number past the last one
 pub asked_stops : (W : Type 0) (from i : ℕ) (cs : List Cmd) (f : Refusal) → i < length cs → Because f ⊥ (1 ≤ from + i → 2 ^ 63 ≤ from + i) → Because f W (1 ≤ from → AreUnfit from cs)
