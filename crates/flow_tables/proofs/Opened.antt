@@ -12,6 +12,7 @@ use Rattle.flow_tables.specs.Reads.{IsRowsFault}
 use Rattle.flow_sql.proofs.Transactions.{ends_again}
 use Rattle.flow_sql.proofs.Finding.{read_leaves, format_answer, at_rest}
 use Rattle.flow_rows.proofs.Laws.{book_undamaged}
+use Rattle.std.proofs.lemmas.Bool.{cases_Bool}
 use Rattle.flow_tables.specs.Opening.{opening_fault, read_fault_of, empty_book, IsOfStore, IsOfOpening, IsOfRows, IsFirstDamage, StandFor, IsMet, HasCause}
 
 ---- The faults of the store
@@ -146,11 +147,7 @@ pub empty_of_rows : (b : Book) → b ≡ empty_book → IsOfRows b
 empty_of_rows b is = subst IsOfRows (sym is) (record { texts = tt; runs = tt; same = refl })
 
 none_there : {A : Type 0} (f : Run → List A) (z : ℤ) → [] ≡ of_run (run_at empty_book z) f
-none_there f (pos n) = either (nat_eq n 0)
-  where
-    either : (b : Bool) → [] ≡ of_run (if b then None else None) f
-    either true = refl
-    either false = refl
+none_there f (pos n) = elim (cases_Bool (nat_eq n 0)) [ inl zeroth ↦ rw zeroth refl | inr other ↦ rw other refl ]
 none_there f (negsuc n) = refl
 
 -- Tables without rows tell the empty book.

@@ -62,23 +62,16 @@ module _ (old new : State) where
   pub ended_leaves : HasEnded old new → LeavesCommit
   ended_leaves h = record { was_open = h.was_open; same = λ up. (h.back up).1 }
 
-  pub left_leaves : IsUnchanged old new ⊎ IsRolledBack old new → LeavesCommit
-  left_leaves (inl same) = shows_leaves old.in_transaction old.now same.0
-  left_leaves (inr undone) = ended_leaves (rolled_back_ended old new undone)
-
   pub error_commits_nothing : (sql : List ℕ) (e : Error) → Executes sql [] old new (Err e) → LeavesCommit
-  error_commits_nothing sql e h = left_leaves (error_leaves old new sql [] e h)
+  error_commits_nothing sql e h = elim (error_leaves old new sql [] e h) [
+    | inl same ↦ shows_leaves old.in_transaction old.now same.0
+    | inr undone ↦ ended_leaves (rolled_back_ended old new undone)
+  ]
 
   -- over an open connection
-  pub undone_leaves : IsTrue old.is_open → IsUndone old new → LeavesCommit
-  undone_leaves up h = record { was_open = λ _. up; same = λ shown. (h.over shown).2 }
-
   pub cut_leaves : IsTrue old.is_open → IsCutShort old new → LeavesCommit
   cut_leaves up (inl part) = record { was_open = λ _. up; same = λ _. part.committed }
-  cut_leaves up (inr undone) = undone_leaves up undone
-
-  pub refused_leaves : IsTrue old.is_open → IsRefused true old new → LeavesCommit
-  refused_leaves up h = cut_leaves up (refused_first old new h)
+  cut_leaves up (inr undone) = record { was_open = λ _. up; same = λ shown. (undone.over shown).2 }
 
   ---- What the tables keep true
 
@@ -111,12 +104,11 @@ module _ (old new : State) where
         tell_on new.committed old.committed back.1 (own.kept (h.was_open up)),
       ))
 
-  pub own_left : (r : Option Refusal) → IsOwn old r → IsUnchanged old new ⊎ IsRolledBack old new → IsOwn new r
-  own_left r own (inl same) = own_same r own same.0
-  own_left r own (inr undone) = own_ended r r own (rolled_back_ended old new undone)
-
   pub own_error : (r : Option Refusal) (sql : List ℕ) (e : Error) → IsOwn old r → Executes sql [] old new (Err e) → IsOwn new r
-  own_error r sql e own h = own_left r own (error_leaves old new sql [] e h)
+  own_error r sql e own h = elim (error_leaves old new sql [] e h) [
+    | inl same ↦ own_same r own same.0
+    | inr undone ↦ own_ended r r own (rolled_back_ended old new undone)
+  ]
 
   -- what was committed is kept
   pub own_committed : (r s : Option Refusal) → r ≡ None → IsOwn old r → HasCommitted old new → IsOwn new s
@@ -214,7 +206,7 @@ module _ (old new : State) (ours : Type 0) (ro rn : Option Refusal) (owned : our
     read_utf8 fit now odd = odd_cut old new (shows fit now).1.utf8 (refused_first old new (refused_at fit now)) odd
 
     pub read_leaves : ours → HasCleanDisk new → LeavesCommit old new
-    read_leaves fit now = refused_leaves old new (shows fit now).0 (refused_at fit now)
+    read_leaves fit now = cut_leaves old new (shows fit now).0 (refused_first old new (refused_at fit now))
 
     pub read_aware : (k : Known) → (ours → HasCleanDisk old → IsAware old ro k) → ours → HasCleanDisk new → IsAware new rn k
     read_aware k aware fit now same _ = still_so r (value (book_of old.now.trees)) (λ d. IsKnown k (tables_in d.trees)) (told_at r value reads fit now) noted (aware fit (clean now) none inside) same

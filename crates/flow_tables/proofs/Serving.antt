@@ -1,6 +1,6 @@
 -- What the tables keep true of the keys that are known, call by call.
 use Rattle.std.specs.Prelude.{◌≡◌, ◌≢◌, ◌-◌, ◌+◌, ◌<◌, ◌++◌, ◌∷◌, nat_eq, slice_get, if◌then◌else◌}
-use Rattle.flow_tables.proofs.Names.{Change, Book, Run, RunRow, AllByRecursion, Bytes, Database, HasCleanDisk, State, Bool, List, Option, false, map, true, ℕ, HasBegun, HasCommitted, HasEnded, Refusal, ViewFault, Err, IfOk, None, Ok, OnOk, Some, [], length, refl, Result, changed, is_open, state_of, subst, ◌∙◌, sym, ap, true≢false, book_of, tables_in, IsOwn, told_answer, IsSure, ReadsBook, IsNoted, Maps, Task, nth, noted_fault}
+use Rattle.flow_tables.proofs.Names.{cases_Bool, inl, inr, Change, Book, Run, RunRow, AllByRecursion, Bytes, Database, HasCleanDisk, State, Bool, List, Option, false, map, true, ℕ, HasBegun, HasCommitted, HasEnded, Refusal, ViewFault, Err, IfOk, None, Ok, OnOk, Some, [], length, refl, Result, changed, is_open, state_of, subst, ◌∙◌, sym, ap, true≢false, book_of, tables_in, IsOwn, told_answer, IsSure, ReadsBook, IsNoted, Maps, Task, nth, noted_fault}
 use Rattle.std.proofs.Common.{take, get_or}
 use Rattle.std.proofs.lemmas.List.{map_more, take_more}
 use Rattle.flow_base.specs.declared.book.Timer.{Timer}
@@ -41,11 +41,7 @@ rows_serve m rows b same told are awaits signals records = record {
 }
 
 no_run : {A : Type 0} (h : Run → List A) (n : ℕ) → of_run h (nth [] n) ≡ []
-no_run {A} h n = go (nat_eq n 0)
-  where
-    go : (v : Bool) → of_run h (if v then None else slice_get [] (n - 1)) ≡ []
-    go true = refl
-    go false = refl
+no_run h n = elim (cases_Bool (nat_eq n 0)) [ inl zeroth ↦ rw zeroth refl | inr other ↦ rw other refl ]
 
 -- where there is no run
 pub none_serve : (m : Maps) (texts : List Bytes) → AreKeys m [] [] → Awaits m 0 0 (λ n. []) (λ n. []) → ((b : Book) → b.runs ≡ [] → HasSignals m b) → ((b : Book) → HasRecords m b) → Serves m (record { texts = texts; runs = [] })
@@ -83,13 +79,12 @@ learnt_serving m s r serves sees = record { last = λ is up. absurd (true≢fals
 module _ (old new : State) where
   -- a transaction begins
   pub begun_serving : (r : Option Refusal) (m m' : Maps) (k : Bool) → IsOwn old r → HasBegun old new → ((b : Book) → (k ≡ true → Serves m b) → Serves m' b) → ((b : Book) → Sees m' b) → IsServing m k old r → IsServing m' true new None
-  begun_serving r m m' k own h serves sees was = record {
-    last = λ is up. subst (λ (d : Database). Serves m' (book_of d.trees)) (sym h.1.committed_is) kept;
-    shown = λ none inside. (subst (λ (d : Database). Serves m' (book_of d.trees)) (sym (h.1.now_is ∙ own.rest h.0 h.1.was_open)) kept, sees (book_of new.now.trees));
-  }
-    where
-      kept : Serves m' (book_of old.committed.trees)
-      kept = serves (book_of old.committed.trees) (λ is. was.last is h.1.was_open)
+  begun_serving r m m' k own h serves sees was =
+      let kept = serves (book_of old.committed.trees) (λ is. was.last is h.1.was_open) in
+      record {
+        last = λ is up. subst (λ (d : Database). Serves m' (book_of d.trees)) (sym h.1.committed_is) kept;
+        shown = λ none inside. (subst (λ (d : Database). Serves m' (book_of d.trees)) (sym (h.1.now_is ∙ own.rest h.0 h.1.was_open)) kept, sees (book_of new.now.trees));
+      }
 
   -- it is committed
   pub committed_serving : (r s : Option Refusal) (m : Maps) (k : Bool) → old.in_transaction ≡ true → r ≡ None → HasCommitted old new → IsServing m k old r → IsServing m true new s
