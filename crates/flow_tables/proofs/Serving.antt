@@ -1,6 +1,6 @@
 -- What the tables keep true of the keys that are known, call by call.
 use Rattle.std.specs.Prelude.{◌≡◌, ◌≢◌, ◌-◌, ◌+◌, ◌<◌, ◌++◌, ◌∷◌, nat_eq, slice_get, if◌then◌else◌}
-use Rattle.flow_tables.proofs.Names.{cases_Bool, inl, inr, Change, Book, Run, RunRow, AllByRecursion, Bytes, Database, HasCleanDisk, State, Bool, List, Option, false, map, true, ℕ, HasBegun, HasCommitted, HasEnded, Refusal, ViewFault, Err, IfOk, None, Ok, OnOk, Some, [], length, refl, Result, changed, is_open, state_of, subst, ◌∙◌, sym, ap, true≢false, book_of, tables_in, IsOwn, told_answer, IsSure, ReadsBook, IsNoted, Maps, Task, nth, noted_fault}
+use Rattle.flow_tables.proofs.Names.{run_row, cases_Bool, inl, inr, Change, Book, Run, RunRow, AllByRecursion, Bytes, Database, HasCleanDisk, State, Bool, List, Option, false, map, true, ℕ, HasBegun, HasCommitted, HasEnded, Refusal, ViewFault, Err, IfOk, None, Ok, OnOk, Some, [], length, refl, Result, changed, is_open, state_of, subst, ◌∙◌, sym, ap, true≢false, book_of, tables_in, IsOwn, told_answer, IsSure, ReadsBook, IsNoted, Maps, Task, nth, noted_fault}
 use Rattle.std.proofs.Common.{take, get_or}
 use Rattle.std.proofs.lemmas.List.{map_more, take_more}
 use Rattle.flow_base.specs.declared.book.Timer.{Timer}
@@ -23,18 +23,15 @@ named_back None h = refl
 named_back (Some []) h = absurd (h refl)
 named_back (Some (c ∷ cs)) h = refl
 
-requests_back : (n : ℕ) (rs : List Run) → AllByRecursion IsTold rs → map row_request (run_rows n rs) ≡ map request_key rs
-requests_back n [] all = refl
-requests_back n (r ∷ rs) all = ap (λ k. k ∷ map row_request (run_rows (n + 1) rs)) (named_back r.request all.0.request) ∙ ap (λ ks. r.request ∷ ks) (requests_back (n + 1) rs all.1)
-
-opens_back : (n : ℕ) (rs : List Run) → map row_open (run_rows n rs) ≡ map open_key rs
-opens_back n [] = refl
-opens_back n (r ∷ rs) = ap (λ v. key_if v r.flow ∷ map row_open (run_rows (n + 1) rs)) (mark_read (is_open (state_of r.history))) ∙ ap (λ ks. open_key r ∷ ks) (opens_back (n + 1) rs)
+-- what the rows of runs tell
+keys_back : {K : Type 0} (f : RunRow → K) (g : Run → K) → ((n : ℕ) (r : Run) → IsTold r → f (run_row n r) ≡ g r) → (n : ℕ) (rs : List Run) → AllByRecursion IsTold rs → map f (run_rows n rs) ≡ map g rs
+keys_back f g is n [] all = refl
+keys_back f g is n (r ∷ rs) all = ap (λ k. k ∷ map f (run_rows (n + 1) rs)) (is n r all.0) ∙ ap (λ ks. g r ∷ ks) (keys_back f g is (n + 1) rs all.1)
 
 pub rows_serve : (m : Maps) (rows : List RunRow) (b : Book) → rows ≡ run_rows 1 b.runs → AllByRecursion IsTold b.runs → AreKeys m (map row_request rows) (map row_open rows) → IsOf m.agenda b → HasSignals m b → HasRecords m b → Serves m b
 rows_serve m rows b same told are awaits signals records = record {
-  requests = subst (λ ks. Lists m.requests ks) (ap (map row_request) same ∙ requests_back 1 b.runs told) are.requests;
-  flows = subst (λ ks. Lists m.flows ks) (ap (map row_open) same ∙ opens_back 1 b.runs) are.flows;
+  requests = subst (λ ks. Lists m.requests ks) (ap (map row_request) same ∙ keys_back row_request request_key (λ n r all. named_back r.request all.request) 1 b.runs told) are.requests;
+  flows = subst (λ ks. Lists m.flows ks) (ap (map row_open) same ∙ keys_back row_open open_key (λ n r all. ap (λ v. key_if v r.flow) (mark_read (is_open (state_of r.history)))) 1 b.runs told) are.flows;
   agenda = awaits;
   signals = signals;
   records = records;

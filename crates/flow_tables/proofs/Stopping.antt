@@ -129,9 +129,6 @@ module _ (old new : State) (e : Error) (f : ViewFault) (told : f ≡ told_fault 
 
 ---- Opening
 
-more_yet : (a b c : ℕ) → MoreFaults a b → b ≤ c → MoreFaults a c
-more_yet a b c more le = omega (arith, more, le)
-
 module _ {S : Type 0} (g : Ghosts S) where
   cut_after : (d e : Database) (a b c : State) → e ≡ d → Since a b → IsCutShort e b c → IsCutShort d a c
   cut_after d e a b c same since (inl more) = inl (more_after a.faults b.faults c.faults since.0 more)
@@ -175,12 +172,9 @@ module _ {S : Type 0} (g : Ghosts S) where
   held_told first new _ h = tt
 
   pub error_held : (first new : State) (f : Fault) (e : Error) → f ≡ opening_fault e → (e ≢ SqliteFailure OutOfMemory → IsHeldUp g first new) → StopsOpening g first new f
-  error_held first new f e is h = by_fault f is
-    where
-      by_fault : (f : Fault) → f ≡ opening_fault e → StopsOpening g first new f
-      by_fault fault.StoreRefused is = h (λ same. let clash = is ∙ ap opening_fault same in cc)
-      by_fault fault.NotOurs is = h (λ same. let clash = is ∙ ap opening_fault same in cc)
-      by_fault _ is = tt
+  error_held first new fault.StoreRefused e is h = h (λ same. let clash = is ∙ ap opening_fault same in cc)
+  error_held first new fault.NotOurs e is h = h (λ same. let clash = is ∙ ap opening_fault same in cc)
+  error_held first new _ e is h = tt
 
   pub rows_held : (old new : Held S) (f : Fault) (r : StoreFault) → f ≡ read_fault_of r → (state g old).now ≡ (state g old).committed → StopsRows g old new r → StopsOpening g (state g old) (state g new) f
   rows_held old new f (NoMemory _) is rest h = subst (StopsOpening g (state g old) (state g new)) (sym is) tt
@@ -205,7 +199,7 @@ module _ {S : Type 0} (g : Ghosts S) where
     was_shut shut = elim (cases_Bool a.is_open) [
       | inl up ↦ inr (inl (elim (survives.closes clean up) [
         | inl still_up ↦ absurd (true≢false (sym still_up ∙ shut))
-        | inr more ↦ more_yet a.faults b.faults c.faults more le
+        | inr more ↦ omega (arith, more, le)
       ]))
       | inr shut_before ↦ inl shut_before
     ]
@@ -219,18 +213,15 @@ module _ {S : Type 0} (g : Ghosts S) where
 
     pub told_after : {V : Type 0} (r : Result V Fault) → IfErr r (StopsOpening g b c) → IfErr r (StopsOpening g a c)
     told_after (Ok v) h = tt
-    told_after (Err f) h = by_fault f h
-      where
-        by_fault : (f : Fault) → StopsOpening g b c f → StopsOpening g a c f
-        by_fault fault.StoreRefused h = held_after h
-        by_fault fault.NotOurs h = held_after h
-        by_fault _ h = tt
+    told_after (Err fault.StoreRefused) h = held_after h
+    told_after (Err fault.NotOurs) h = held_after h
+    told_after (Err _) h = tt
 
   -- what held it up at first, held it up to the end
   pub held_on : {V : Type 0} (a b c : State) (r : Result V Fault) → b.faults ≤ c.faults → IsHeldUp g a b → IfErr r (StopsOpening g a c)
   held_on a b c (Ok v) le h = tt
   held_on a b c (Err f) le (inl shut) = held_told a c f (inl shut)
-  held_on a b c (Err f) le (inr (inl more)) = held_told a c f (inr (inl (more_yet a.faults b.faults c.faults more le)))
+  held_on a b c (Err f) le (inr (inl more)) = held_told a c f (inr (inl (omega (arith, more, le))))
   held_on a b c (Err f) le (inr (inr rest)) = held_told a c f (inr (inr rest))
 
   -- the question for the format: over our tables, and where there are none
