@@ -1,6 +1,6 @@
 -- What becomes of a question.
 use Rattle.std.specs.Prelude.{IsSome, ◌≡◌, ◌⊎◌}
-use Rattle.flow_tables.proofs.Names.{was_clean, rest_ended, IsStopped, view_fault, StopsWith, Book, first, Tells as TellsBook, schema, Tables, Held, state, Row, Executes, HasCleanDisk, State, Survives, Error, Ghosts, Bool, IfErr, List, MatchResult, Option, map, true, ℕ, Changes, HasEnded, IsAtRest, IsOver, IsRefused, IsStill, tables_in, StoreFault, ViewFault, Err, IfOk, Ok, [], Result, CommitsBy, FirstIs, subst, ◌∙◌, sym, inl, inr, Kind}
+use Rattle.flow_tables.proofs.Names.{Holds, was_clean, rest_ended, IsStopped, view_fault, StopsWith, Book, first, Tells as TellsBook, schema, Tables, Held, state, Row, Executes, HasCleanDisk, State, Survives, Error, Ghosts, Bool, IfErr, List, MatchResult, Option, map, true, ℕ, Changes, HasEnded, IsAtRest, IsOver, IsRefused, IsStill, tables_in, StoreFault, ViewFault, Err, IfOk, Ok, [], Result, CommitsBy, FirstIs, subst, ◌∙◌, sym, inl, inr, Kind}
 use Rattle.sqlite.specs.State.{CommitsShowing, IsUnchanged, IsRolledBack}
 use Rattle.sqlite_resolve.specs.Compile.{first as first_statement}
 use Rattle.sqlite.specs.Query.{Query, IsAnswer}
@@ -20,6 +20,7 @@ use Rattle.flow_sql.proofs.Transactions.{write_survives}
 use Rattle.flow_tables.proofs.Stopping.{read_stopped, change_stopped}
 use Rattle.flow_sql.proofs.Refusing.{whole_read, whole_write, question_refused, change_refused}
 use Rattle.flow_sql.proofs.Reading.{answer, still}
+use Rattle.std.proofs.lemmas.Result.{MatchResult-weaker}
 use Rattle.flow_sql.proofs.Compiling.{commits_none, failed, answered}
 
 ---- What a read leaves, over any file
@@ -126,45 +127,32 @@ IsUncounted (Err f) (Err e) = f ≡ e
 IsUncounted _ _ = ⊥
 
 module _ {S : Type 0} (g : Ghosts S) (does : Alters) (old new : Held S) (it : IsRowChange g does) (keeps : (t : Tables) → AreUtf8 t → AreUtf8 (does.after t)) (h : Survives (state g old) (state g new) (CommitsBy does.sql does.params (state g old))) where
-  abbrev Ran : Error → Type 0
-  Ran e = Executes does.sql does.params (state g old) (state g new) (Err e)
-
-  abbrev Did : Result Unit Error → Type 0
-  Did x = MatchResult x (λ _. (count : ℕ) × Executes does.sql does.params (state g old) (state g new) (Ok count)) Ran
+  abbrev Ran : Result ℕ Error → Type 0
+  Ran r = Executes does.sql does.params (state g old) (state g new) r
 
   pub changed : (r : Result ℕ Error) → (HasCleanDisk (state g new) → Executes does.sql does.params (state g old) (state g new) r) → (x : Result Unit Error) → IsUncounted r x → IsChanged g does.sql does.params old new x does.fits does.welcome does.after
   changed r ran x same = record {
-    put = λ was fits clean. put (was (was_clean (state g old) (state g new) _ h clean)) fits x (did r (ran clean) x same);
+    put = λ was fits clean. MatchResult-weaker x (did r (ran clean) x same)
+        (λ _ ran.
+            let done = it.put old new ran.0 (over was clean) fits ran.1 in
+            record { over = done.over; tables = done.tables; committed = done.committed; utf8 = λ u. subst AreUtf8 (sym done.tables) (keeps (tables_in (state g old).now.trees) u) })
+        (λ e ran. error_refused (state g old) (state g new) does.sql does.params e true (over was clean) ran);
     clean = λ clean. was_clean (state g old) (state g new) _ h clean;
-    ran = λ clean. refused x (did r (ran clean) x same);
-    cause = λ was welcome clean. cause (was (was_clean (state g old) (state g new) _ h clean)) welcome x (did r (ran clean) x same);
+    ran = λ clean. MatchResult-weaker x (did r (ran clean) x same) (λ _ _. tt) (λ e ran. ran);
+    cause = λ was welcome clean. MatchResult-weaker x (did r (ran clean) x same) (λ _ _. tt) (λ e ran other.
+        let over = over was clean in
+        change_stopped g old new over (elim (change_refused (state g old) (state g new) e other over.is_open schema over.now.laid_out does.sql does.params it.command it.is it.writes it.plain (whole_write does.sql does.params it.listed) ran) [
+          | inl more ↦ inl more
+          | inr declined ↦ inr (it.taken old over welcome declined)
+        ]));
     survives = λ was. write_survives does.sql it.command it.is it.writes (state g old) (state g new) does.params was h;
   }
     where
-      did : (r : Result ℕ Error) → Executes does.sql does.params (state g old) (state g new) r → (x : Result Unit Error) → IsUncounted r x → Did x
+      over : Holds true (state g old) → HasCleanDisk (state g new) → IsOver true (state g old)
+      over was clean = was (was_clean (state g old) (state g new) _ h clean)
+
+      did : (r : Result ℕ Error) → Ran r → (x : Result Unit Error) → IsUncounted r x → MatchResult x (λ _. (count : ℕ) × Ran (Ok count)) (λ e. Ran (Err e))
       did (Ok count) ran (Ok done) same = (count, ran)
       did (Ok count) ran (Err e) same = absurd same
       did (Err f) ran (Ok done) same = absurd same
-      did (Err f) ran (Err e) same = subst Ran same ran
-
-      put : IsOver true (state g old) → does.fits (tables_in (state g old).now.trees) → (x : Result Unit Error) → Did x
-          → MatchResult x (λ _. Changes (state g old) (state g new) (does.after (tables_in (state g old).now.trees))) (λ _. IsRefused true (state g old) (state g new))
-      put was fits (Ok done) ran =
-          let did = it.put old new ran.0 was fits ran.1 in
-          record { over = did.over; tables = did.tables; committed = did.committed; utf8 = λ u. subst AreUtf8 (sym did.tables) (keeps (tables_in (state g old).now.trees) u) }
-      put was fits (Err e) ran = error_refused (state g old) (state g new) does.sql does.params e true was ran
-
-      refused : (x : Result Unit Error) → Did x → IfErr x Ran
-      refused (Ok done) ran = tt
-      refused (Err e) ran = ran
-
-      taken : IsOver true (state g old) → does.welcome (tables_in (state g old).now.trees) → MoreFaults (state g old).faults (state g new).faults ⊎ IsDeclined does.sql does.params (state g old)
-          → MoreFaults (state g old).faults (state g new).faults ⊎ (IsSome (state g old).step_limit ⊎ IsFull (state g old).now.trees)
-      taken was welcome (inl more) = inl more
-      taken was welcome (inr declined) = inr (it.taken old was welcome declined)
-
-      cause : IsOver true (state g old) → does.welcome (tables_in (state g old).now.trees) → (x : Result Unit Error) → Did x → IfErr x (StopsWith g old new)
-      cause was welcome (Ok done) ran = tt
-      cause was welcome (Err e) ran = λ other.
-          change_stopped g old new was (taken was welcome
-          (change_refused (state g old) (state g new) e other was.is_open schema was.now.laid_out does.sql does.params it.command it.is it.writes it.plain (whole_write does.sql does.params it.listed) ran))
+      did (Err f) ran (Err e) same = subst (λ k. Ran (Err k)) same ran

@@ -20,6 +20,7 @@ use Rattle.flow_tables.specs.Reads.{IsReadFault}
 use Rattle.flow_tables.specs.Faults.{Since, fault_of, read_refusal, told_fault, HasFailed, IsCutOff, IsKeptOut}
 use Rattle.flow_tables.specs.declared.fault.StoreFault.TheVariants.{NoMemory, Refused}
 use Rattle.flow_tables.proofs.Causes.{because_on, all_because}
+use Rattle.std.proofs.lemmas.Result.{MatchResult-weaker}
 
 pub since_self : (s : State) → Since s s
 since_self s = (omega arith, refl)
@@ -46,8 +47,7 @@ module _ {S : Type 0} (g : Ghosts S) where
 
   -- a statement that was refused behind others
   pub with_after : (a b c : Held S) (r : Result Unit Error) → Since (state g a) (state g b) → IfErr r (StopsWith g b c) → IfErr r (StopsWith g a c)
-  with_after a b c (Ok u) since h = tt
-  with_after a b c (Err e) since h = λ other. stopped_after (state g a) (state g b) (state g c) since (h other)
+  with_after a b c r since h = MatchResult-weaker r h (λ _ _. tt) (λ e why other. stopped_after (state g a) (state g b) (state g c) since (why other))
 
   module _ (a b c : State) (since : Since a b) (U : Type 0) where
     pub because_after : (f : Refusal) → Because f (IsStopped g b c) U → Because f (IsStopped g a c) U
@@ -161,8 +161,7 @@ module _ {S : Type 0} (g : Ghosts S) where
 
   pub commit_stopped : (a b c : Held S) (r : Result Unit Error) → Since (state g a) (state g b) → IsTrue (state g b).is_open → (state g b).in_transaction ≡ true
       → MatchResult r (λ _. HasCommitted (state g b) (state g c)) (λ e. Executes (codes "COMMIT") [] (state g b) (state g c) (Err e)) → IfErr r (StopsMaking g a c)
-  commit_stopped a b c (Ok u) since up inside h = tt
-  commit_stopped a b c (Err e) since up inside h = making_stopped a b c c e since (omega arith) (λ other. inl (commit_refused (state g b) (state g c) e other up inside h))
+  commit_stopped a b c r since up inside h = MatchResult-weaker r h (λ _ _. tt) (λ e ran. making_stopped a b c c e since (omega arith) (λ other. inl (commit_refused (state g b) (state g c) e other up inside ran)))
 
   ---- A fault of an opening
 
