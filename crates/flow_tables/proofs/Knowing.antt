@@ -41,15 +41,12 @@ mark_is : (run : ℤ) (v : Bool) (t : Tables) → (v ≡ true → map (marked_ro
 mark_is run true t same = λ i. record t { runs = sym (same refl) i }
 mark_is run false t same = refl
 
-closed_is : (run : ℤ) (s : Standing) (t : Tables) → Stands run s t → closed_from run s t ≡ marked run (pos 0) (without_timers run (without_tasks run t))
-closed_is run s t h =
-    ap (λ u. marked run (pos 0) (timers_gone run s.has_timers u)) (tasks_gone_is run s.tasks t h.tasks)
-    ∙ ap (marked run (pos 0)) (timers_gone_is run s.has_timers (without_tasks run t) h.timers)
-
 -- The statements that are made leave what all of them would.
 effect_is : (run : ℤ) (s : Standing) (id at : ℕ) (e : Effect) (t : Tables) → Stands run s t → made_effect run s id at e t ≡ after_effect run s.is_open id at e t
 effect_is run s id at effect.Begins t h = mark_is run s.is_marked t h.mark
-effect_is run s id at (effect.Closes x) t h = closed_is run s t h
+effect_is run s id at (effect.Closes x) t h =
+    ap (λ u. marked run (pos 0) (timers_gone run s.has_timers u)) (tasks_gone_is run s.tasks t h.tasks)
+    ∙ ap (marked run (pos 0)) (timers_gone_is run s.has_timers (without_tasks run t) h.timers)
 effect_is run s id at _ t h = refl
 
 ---- What is known stays true

@@ -77,13 +77,12 @@ pub any_err : {T E : Type 0} (P : E → Type 0) (r : Result T E) → ((e : E) �
 any_err P (Ok x) f = tt
 any_err P (Err e) f = f e
 
-pub both_err : {T E : Type 0} (P Q : E → Type 0) (r : Result T E) → IfErr r P → IfErr r Q → IfErr r (λ e. P e × Q e)
-both_err P Q (Ok x) p q = tt
-both_err P Q (Err e) p q = (p, q)
-
-pub both_told : {T : Type 0} {P Q R : Fault → Type 0} (r : Result T Fault) → ((f : Fault) → P f → Q f → R f) → IfErr r P → IfErr r Q → IfErr r R
+pub both_told : {T E : Type 0} {P Q R : E → Type 0} (r : Result T E) → ((e : E) → P e → Q e → R e) → IfErr r P → IfErr r Q → IfErr r R
 both_told (Ok x) f p q = tt
 both_told (Err e) f p q = f e p q
+
+pub both_err : {T E : Type 0} (P Q : E → Type 0) (r : Result T E) → IfErr r P → IfErr r Q → IfErr r (λ e. P e × Q e)
+both_err P Q r p q = both_told {P = P} {Q = Q} r (λ e p q. (p, q)) p q
 
 pub never_told : {T : Type 0} (b : Fault) (r : Result T Fault) → IfErr r (λ f. f ≢ b) → r ≢ Err b
 never_told b (Ok x) h is = let e = is in cc

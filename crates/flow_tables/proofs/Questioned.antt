@@ -40,19 +40,13 @@ module _ (kinds : List Kind) (sql : List ℕ) (reading : FirstIs IsReading (firs
 
 ---- What it tells of our tables
 
-match_from : {X E : Type 0} (P Q : X → Type 0) (R S : E → Type 0) (r : Result X E) → IfOk r P → IfErr r R → ((x : X) → P x → Q x) → ((e : E) → R e → S e) → MatchResult r Q S
-match_from P Q R S (Ok x) p q f g = f x p
-match_from P Q R S (Err e) p q f g = g e q
-
 module _ (sql : List ℕ) (q : Query) (names : List (List ℕ)) (it : IsRead sql q names) (params : Row) (kinds : List Kind) (old new : State) (inside : Bool) (over : IsOver inside old) where
   -- what an answer says holds of what is found
   pub reads_what : {V A : Type 0} (said : Row → A) (items : V → List A) (P : List A → Type 0) → ((rows : List Row) → IsAnswer q (overlay old.now.trees []) params rows → P (map said rows))
       → (r : Result V StoreFault) → IfOk r (λ v. Tells said sql params old new (items v)) → IfErr r (IsReadFault kinds sql params old new)
       → MatchResult r (λ v. IsStill inside old new × P (items v)) (λ _. IsRefused inside old new)
-  reads_what said items P found r ok err =
-      match_from (λ v. Tells said sql params old new (items v)) (λ v. IsStill inside old new × P (items v)) (IsReadFault kinds sql params old new) (λ _. IsRefused inside old new) r ok err
-      (λ v h. (still sql q names it params old new inside over h.0 h.1, subst P (sym h.2) (found h.0 (answer sql q names it params old new over.now h.0 h.1))))
-      (λ f h. left_refused old new inside over (fault_leaves kinds sql it.reading params old new f h))
+  reads_what said items P found (Ok v) ok err = (still sql q names it params old new inside over ok.0 ok.1, subst P (sym ok.2) (found ok.0 (answer sql q names it params old new over.now ok.0 ok.1)))
+  reads_what said items P found (Err f) ok err = left_refused old new inside over (fault_leaves kinds sql it.reading params old new f err)
 
 module _ {Q A : Type 0} (said : Row → A) (kinds : List Kind) (asks : Q → Asks A) (it : IsQuestion said kinds asks) (q : Q) (old new : State) where
   pub asked : {V : Type 0} (items : V → List A) (r : Result V StoreFault) → (HasCleanDisk new → IfOk r (λ v. Tells said (asks q).sql (asks q).params old new (items v)))

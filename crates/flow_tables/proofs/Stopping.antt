@@ -57,12 +57,9 @@ module _ {S : Type 0} (g : Ghosts S) where
     all_after r h = all_because r h (stopped_after a b c since) (λ u. u)
 
   -- an error of a statement, told as a refusal
-  error_so : (a b : Held S) (U : Type 0) (e : Error) → StopsWith g a b e → Because (refusal_of e) (IsStopped g (state g a) (state g b)) U
-  error_so a b U (SqliteFailure OutOfMemory) h = tt
-  error_so a b U e h = h (λ same. let clash = ap refusal_of same in cc)
-
   pub by_error : (a b : Held S) (U : Type 0) (f : Refusal) (e : Error) → f ≡ refusal_of e → StopsWith g a b e → Because f (IsStopped g (state g a) (state g b)) U
-  by_error a b U f e is h = subst (λ x. Because x (IsStopped g (state g a) (state g b)) U) (sym is) (error_so a b U e h)
+  by_error a b U f (SqliteFailure OutOfMemory) is h = subst (λ x. Because x (IsStopped g (state g a) (state g b)) U) (sym is) tt
+  by_error a b U f e is h = subst (λ x. Because x (IsStopped g (state g a) (state g b)) U) (sym is) (h (λ same. let clash = ap refusal_of same in cc))
 
   ---- Reads
 
@@ -74,12 +71,9 @@ module _ {S : Type 0} (g : Ghosts S) where
     read_stopped (Refused e) (inl (inr limit)) same = inl (inr (inl limit))
     read_stopped (Refused e) (inr odd) same = inr (odd.0.0, subst (λ (d : Database). HasOddText (tables_in d.trees)) (sym odd.0.1) odd.1)
 
-    read_so : (f : StoreFault) (U : Type 0) → StopsAsk true (state g old) (state g new) f → Because (read_refusal f) (IsStopped g (state g old) (state g new)) U
-    read_so (NoMemory _) U h = tt
-    read_so (Refused e) U h = read_stopped (Refused e) h refl
-
     pub read_because : (f : StoreFault) (x : Refusal) (U : Type 0) → x ≡ read_refusal f → StopsAsk true (state g old) (state g new) f → Because x (IsStopped g (state g old) (state g new)) U
-    read_because f x U is h = subst (λ y. Because y (IsStopped g (state g old) (state g new)) U) (sym is) (read_so f U h)
+    read_because (NoMemory _) x U is h = subst (λ y. Because y (IsStopped g (state g old) (state g new)) U) (sym is) tt
+    read_because (Refused e) x U is h = subst (λ y. Because y (IsStopped g (state g old) (state g new)) U) (sym is) (read_stopped (Refused e) h refl)
 
   -- a change of rows that the store's failure or a limit refused
   pub change_stopped : (old new : Held S) → IsOver true (state g old) → MoreFaults (state g old).faults (state g new).faults ⊎ (IsSome (state g old).step_limit ⊎ IsFull (state g old).now.trees)
