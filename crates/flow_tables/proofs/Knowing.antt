@@ -141,20 +141,13 @@ pub no_run_yet : (b : Book) (n : ℕ) → n ≡ length b.runs + 1 → nth b.runs
 no_run_yet b n next = subst (λ k. nth b.runs k ≡ None) (let it : suc (length b.runs) ≡ n = omega (arith, next) in it) (nth_is b.runs (length b.runs) ∙ slice_get_past b.runs (length b.runs) (omega arith))
 
 -- of a run that comes nothing is there
-pub first_stands : (t : Tables) (b : Book) (n : ℕ) (flow : Bytes) (request : Option Bytes) (text : ℕ) (opened : Bool) → Tells t b → n ≡ length b.runs + 1
-    → AllByRecursion (λ (x : RunRow). int_lt x.num (pos n) ≡ true) t.runs → Stands (pos n) (first_standing opened) (with_run (first_row n flow request text opened) t)
-first_stands t b n flow request text opened tells next below = record {
-  mark = first_mark n flow request text opened t below;
-  tasks = (no_rows_yet t b n tells (no_run_yet b n next)).2;
-  timers = λ _. (no_rows_yet t b n tells (no_run_yet b n next)).1;
-}
-
 pub first_turn_made : (t : Tables) (b : Book) (n : ℕ) (flow : Bytes) (request : Option Bytes) (text : ℕ) (turn : Turn) → Tells t b → n ≡ length b.runs + 1
     → AllByRecursion (λ (x : RunRow). int_lt x.num (pos n) ≡ true) t.runs
     → made_turn (pos n) (first_standing (begins turn.input)) 0 turn (with_run (first_row n flow request text (begins turn.input)) t) ≡ after_turn (pos n) false 0 turn (with_run (new_run n flow request text) t)
 first_turn_made t b n flow request text turn tells next below =
+    let none = no_rows_yet t b n tells (no_run_yet b n next) in
     made_all (pos n) (turn_events 1 turn.at turn.input turn.commands) (first_standing (begins turn.input)) (with_run (first_row n flow request text (begins turn.input)) t)
-    (first_stands t b n flow request text (begins turn.input) tells next below)
+    (record { mark = first_mark n flow request text (begins turn.input) t below; tasks = none.2; timers = λ _. none.1 })
     ∙ begun_is n turn.at turn.input turn.commands flow request text t
 
 ---- What a run that was read tells of its rows
