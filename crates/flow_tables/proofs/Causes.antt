@@ -1,6 +1,6 @@
 -- What stands behind a refused statement.
 use Rattle.std.specs.Prelude.{◌≡◌, ◌∷◌, ◌+◌, ◌≤◌, ◌^◌, ◌<◌, ◌↔◌}
-use Rattle.flow_tables.proofs.Names.{Turn, Cmd, Event, Came, Bool, IfErr, IsTrue, List, false, ℕ, Refusal, Err, Ok, length, Result, Asked, subst, ◌∙◌, sym, inl, inr, arith, Because, true≢false, IsUnfitTurn, AreUnfit, IsUnfitInput, AreWithin, ap}
+use Rattle.flow_tables.proofs.Names.{Turn, Cmd, Event, Came, Bool, IfErr, IsTrue, List, false, ℕ, Refusal, length, Result, Asked, subst, ◌∙◌, sym, inl, inr, arith, Because, true≢false, IsUnfitTurn, AreUnfit, IsUnfitInput, AreWithin, ap}
 use Rattle.flow_events.specs.Row.{IsCommandWithinLimits, IsWithinLimits}
 use Rattle.std.proofs.lemmas.Result.{IfErr-weaker}
 use Rattle.flow_tables.specs.declared.fault.Refusal.TheVariants.{NoMemory, Stopped, Unfit}

@@ -1,12 +1,12 @@
 -- That the statements which are made, where so much is known of the rows, leave what all of them would.
 use Rattle.std.specs.Prelude.{◌≡◌, ◌∷◌, ◌+◌, if◌then◌else◌, ◌++◌}
 use Rattle.std.proofs.Common.{eqb-true}
-use Rattle.flow_tables.proofs.Names.{timers_left, inl, inr, effect_of, Bytes, Run, Task, Turn, Effect, Cmd, Event, Input, Started, Came, Book, nth, is_open, state_of, traces, turn_events, is_other_task, marked, marked_row, with_event, with_run, with_timer, without_tasks, without_timers, event_row, of_run, task_row, timer_row, Tells, after_effect, after_turn, new_run, Tables, OutboxRow, RunRow, State, AllByRecursion, int_eq, Bool, List, Option, false, filter, int_lt, map, pos, true, ℕ, Changes, tables_in, OpenTasks, Standing, None, Some, length, ℤ, [], refl, suc, eqb as nat_eq, subst, ◌∙◌, sym, ap, arith, made_turn, true≢false, Stands, stands_what, made_event, made_events, begins, first_row, first_standing, started_timer, HasOnly, ended, stands_by, tasks_gone, timers_gone, closed_from, made_effect, any_standing, tasks_known, opens_timer, cases_Bool, Decides-int_eq, TimerRow, head_of}
+use Rattle.flow_tables.proofs.Names.{timers_left, inl, inr, effect_of, Bytes, Run, Task, Turn, Effect, Cmd, Event, Input, Started, Came, Book, nth, is_open, state_of, traces, turn_events, is_other_task, marked, marked_row, with_event, with_run, with_timer, without_tasks, without_timers, event_row, of_run, task_row, timer_row, Tells, after_effect, after_turn, new_run, Tables, OutboxRow, RunRow, State, AllByRecursion, int_eq, Bool, List, Option, false, filter, int_lt, map, pos, true, ℕ, Changes, tables_in, OpenTasks, Standing, None, Some, length, ℤ, [], refl, suc, eqb as nat_eq, subst, ◌∙◌, sym, ap, arith, made_turn, true≢false, Stands, stands_what, made_event, made_events, begins, first_row, first_standing, started_timer, HasOnly, ended, stands_by, tasks_gone, timers_gone, made_effect, any_standing, tasks_known, opens_timer, cases_Bool, Decides-int_eq, TimerRow, head_of}
 use Rattle.std.proofs.lemmas.List.{map-append}
 use Rattle.sqlite_catalog.proofs.ListFacts.{filter_swap}
 use Rattle.std.proofs.lemmas.Option.{slice_get_past}
 use Rattle.flow_base.specs.declared.effect.Effect.TheVariants as effect
-use Rattle.flow_model.specs.Open.{timers_by, timers_after, open_timers}
+use Rattle.flow_model.specs.Open.{timers_by, timers_after}
 use Rattle.flow_rows.specs.Changes.{at_run, is_other_timer}
 use Rattle.flow_rows.specs.Told.{opened_by, after_event, after_events}
 use Rattle.flow_rows.proofs.BookTables.{nth_is}
@@ -165,10 +165,6 @@ no_timer : (es : List Event) → started_timer es ≡ false → timers_after [] 
 no_timer [] none = refl
 no_timer (e ∷ es) none = no_timer_more e es (opens_timer (effect_of e.what)) refl (no_timer es) none
 
-no_timer_left : (h : List Event) (v : Bool) → open_timers h ≡ [] → (if v then open_timers h else []) ≡ []
-no_timer_left h true none = none
-no_timer_left h false none = refl
-
 tasks_only : (run : ℤ) (ts : List Task) → HasOnly (tasks_known ts) (map (task_row run) ts)
 tasks_only run [] = refl
 tasks_only run (x ∷ []) = let same : int_eq (pos x.event) (pos x.event) ≡ true = (Decides-int_eq (pos x.event) (pos x.event)).1 refl in rw same refl
@@ -185,4 +181,7 @@ head_stands t b n r v tells there none = record {
 }
 
 pub started_none : (t : Tables) (b : Book) (n : ℕ) (r : Run) → Tells t b → nth b.runs n ≡ Some r → started_timer r.history ≡ false → t.timers (pos n) ≡ []
-started_none t b n r tells there none = no_timer_rows t b n r tells there (no_timer_left r.history (is_open (state_of r.history)) (no_timer r.history none))
+started_none t b n r tells there none = no_timer_rows t b n r tells there (elim (cases_Bool (is_open (state_of r.history))) [
+  | inl opened ↦ rw opened (no_timer r.history none)
+  | inr closed ↦ rw closed refl
+])

@@ -1,6 +1,6 @@
 -- What opening finds, and why it is refused.
-use Rattle.std.specs.Prelude.{◌≡◌, ◌⊎◌, ◌≢◌, if◌then◌else◌}
-use Rattle.flow_tables.proofs.Names.{was_clean, rest_ended, rolled_back_ended, Run, Fault, BadVersion, Damaged, NoMemory, NotOurs, StoreRefused, is_program, Book, event_row, of_run, task_row, timer_row, timers_left, Tells, format_sql, no_schema, Tables, Database, Row, HasCleanDisk, State, Survives, Error, Int, Ghosts, column, Bool, IfErr, IsTrue, List, false, map, pos, true, HasEnded, HasTables, IsAtRest, IsRefusal, no_tables, StoreFault, SqliteFailure, Err, None, Ok, OnOk, ℤ, [], refl, Result, eqb as nat_eq, negsuc, QueriesRow, subst, ◌∙◌, sym, ap, inl, inr}
+use Rattle.std.specs.Prelude.{◌≡◌, ◌⊎◌, ◌≢◌}
+use Rattle.flow_tables.proofs.Names.{was_clean, rest_ended, rolled_back_ended, Run, Fault, BadVersion, Damaged, NoMemory, NotOurs, StoreRefused, is_program, Book, event_row, of_run, task_row, timer_row, timers_left, Tells, format_sql, no_schema, Tables, Database, Row, HasCleanDisk, State, Survives, Error, Int, Ghosts, column, IfErr, IsTrue, List, map, pos, HasEnded, HasTables, IsAtRest, IsRefusal, no_tables, StoreFault, SqliteFailure, Err, Ok, OnOk, ℤ, [], refl, Result, eqb as nat_eq, negsuc, QueriesRow, subst, ◌∙◌, sym, ap, inl, inr}
 use Rattle.sqlite.specs.declared.types.Value.{Value}
 use Rattle.sqlite.specs.declared.error.ErrorCode.TheVariants as code
 use Rattle.sqlite_trees.specs.declared.error.StoreError.{StoreError}

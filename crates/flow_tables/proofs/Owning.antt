@@ -1,7 +1,7 @@
 -- What tables keep true of their connection, call by call.
-use Rattle.std.specs.Prelude.{◌≡◌, ◌⊎◌}
+use Rattle.std.specs.Prelude.{◌≡◌}
 use Rattle.flow_tables.proofs.Names.{Change, Book, FitsTables, Tells, after_change, Database, Executes, HasCleanDisk, State, Survives, Error, Bool, IsTrue, List, MatchResult, Option, false, true, ℕ, Changes, HasBegun, HasCommitted, HasEnded, HasTables, Holds, IsOver, IsRefused, IsStill, IsUndone, tables_in, Refusal, Known, ViewFault, Err, IfOk, None, Ok, OnOk, Some, [], refl, Result, changed, subst, ◌∙◌, sym, ap, inl, inr, true≢false, was_clean, book_of, IsCutShort, IsOwn, Keeps, IsKnown, ShowsBook, rolled_back_ended, told_answer, IsAware, HasCounted, error_leaves, IsFileOf, IsSure, KeepsOn, WasUp, ReadsBook, IsNoted}
-use Rattle.flow_tables.proofs.Names.{OrCut, IsPut, Shows, IsUnchanged, IsRolledBack, AreUtf8, noted_fault, ShowsOddText, IsTypedChange}
+use Rattle.flow_tables.proofs.Names.{OrCut, IsPut, Shows, AreUtf8, noted_fault, ShowsOddText, IsTypedChange}
 use Rattle.flow_rows.proofs.Telling.{told}
 use Rattle.flow_rows.proofs.WholeChanges.{change_told}
 use Rattle.flow_sql.proofs.Leaves.{over_both}

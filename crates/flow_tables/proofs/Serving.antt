@@ -1,6 +1,6 @@
 -- What the tables keep true of the keys that are known, call by call.
-use Rattle.std.specs.Prelude.{◌≡◌, ◌≢◌, ◌-◌, ◌+◌, ◌<◌, ◌++◌, ◌∷◌, nat_eq, slice_get, if◌then◌else◌}
-use Rattle.flow_tables.proofs.Names.{run_row, cases_Bool, inl, inr, Change, Book, Run, RunRow, AllByRecursion, Bytes, Database, HasCleanDisk, State, Bool, List, Option, false, map, true, ℕ, HasBegun, HasCommitted, HasEnded, Refusal, ViewFault, Err, IfOk, None, Ok, OnOk, Some, [], length, refl, Result, changed, is_open, state_of, subst, ◌∙◌, sym, ap, true≢false, book_of, tables_in, IsOwn, told_answer, IsSure, ReadsBook, IsNoted, Maps, Task, nth, noted_fault}
+use Rattle.std.specs.Prelude.{◌≡◌, ◌≢◌, ◌+◌, ◌<◌, ◌++◌, ◌∷◌, nat_eq}
+use Rattle.flow_tables.proofs.Names.{cases_Bool, inl, inr, Change, Book, Run, RunRow, AllByRecursion, Bytes, Database, HasCleanDisk, State, Bool, List, Option, false, map, true, ℕ, HasBegun, HasCommitted, HasEnded, Refusal, ViewFault, Err, IfOk, None, Ok, OnOk, Some, [], length, refl, Result, changed, is_open, state_of, subst, ◌∙◌, sym, ap, true≢false, book_of, tables_in, IsOwn, told_answer, IsSure, ReadsBook, IsNoted, Maps, Task, nth, noted_fault}
 use Rattle.std.proofs.Common.{take, get_or}
 use Rattle.std.proofs.lemmas.List.{map_more, take_more}
 use Rattle.flow_base.specs.declared.book.Timer.{Timer}
@@ -8,7 +8,7 @@ use Rattle.flow_maps.specs.Agenda.{IsOf, Knows, tasks_at, tasks_of}
 use Rattle.flow_maps.specs.Keys.{Lists}
 use Rattle.flow_maps.specs.Timers.{of_run, timers_of}
 use Rattle.flow_maps.specs.Serving.{Serves, Sees, AreKeys, Awaits, HasSignals, HasRecords, named, key_if, request_key, open_key}
-use Rattle.flow_rows.specs.Rows.{run_rows, request_text}
+use Rattle.flow_rows.specs.Rows.{run_rows, request_text, run_row}
 use Rattle.flow_rows.specs.Told.{IsTold}
 use Rattle.flow_view.specs.Reading.{Reads}
 use Rattle.flow_rows.proofs.Telling.{told as told_back}
