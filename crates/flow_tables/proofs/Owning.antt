@@ -1,7 +1,9 @@
 -- What tables keep true of their connection, call by call.
-use Rattle.std.specs.Prelude.{◌≡◌}
-use Rattle.flow_tables.proofs.Names.{Change, Book, FitsTables, Tells, after_change, Database, Executes, HasCleanDisk, State, Survives, Error, Bool, IsTrue, List, MatchResult, Option, false, true, ℕ, Changes, HasBegun, HasCommitted, HasEnded, HasTables, Holds, IsOver, IsRefused, IsStill, IsUndone, tables_in, Refusal, Known, ViewFault, Err, IfOk, None, Ok, OnOk, Some, [], refl, Result, changed, subst, ◌∙◌, sym, ap, inl, inr, true≢false, was_clean, book_of, IsCutShort, IsOwn, Keeps, IsKnown, ShowsBook, rolled_back_ended, told_answer, IsAware, HasCounted, error_leaves, IsFileOf, IsSure, KeepsOn, WasUp, ReadsBook, IsNoted}
+use Rattle.std.specs.Prelude.{◌≡◌, ◌⊎◌}
+use Rattle.flow_tables.proofs.Names.{Change, Book, FitsTables, Tells, after_change, Database, Executes, HasCleanDisk, State, Survives, Error, Bool, IsTrue, List, MatchResult, Option, false, true, ℕ, Changes, HasBegun, HasCommitted, HasEnded, HasTables, Holds, IsOver, IsRefused, IsStill, IsUndone, tables_in, Refusal, Known, ViewFault, Err, IfOk, None, Ok, OnOk, Some, [], refl, Result, changed, subst, ◌∙◌, sym, ap, inl, inr, true≢false, was_clean, book_of, IsCutShort, IsOwn, Keeps, IsKnown, ShowsBook, rolled_back_ended, told_answer, IsAware, HasCounted, error_leaves, IsFileOf, IsSure, KeepsOn, WasUp, ReadsBook, IsNoted, AreOurs, Ghosts, kept_book, IsUp}
 use Rattle.flow_tables.proofs.Names.{OrCut, IsPut, Shows, AreUtf8, noted_fault, ShowsOddText, IsTypedChange}
+use Rattle.flow_tables.specs.Owned.{Stored, state_of}
+use Rattle.sqlite.specs.State.{IsUnchanged, IsRolledBack}
 use Rattle.flow_rows.proofs.Telling.{told}
 use Rattle.flow_rows.proofs.WholeChanges.{change_told}
 use Rattle.flow_sql.proofs.Leaves.{over_both}
@@ -261,6 +263,11 @@ settled_keeps s b law up it = record { kept = λ _. it; stops = λ db may. subst
 -- what is kept is the book that was read off, and each stop leaves it
 pub keeps_now : (s : State) (r : Option Refusal) (b : Book) → IsSettled s → IsOwn s r → IsTrue s.is_open → book_of s.committed.trees ≡ b → Keeps s b
 keeps_now s r b law own up is = settled_keeps s b law up ((own.over up).committed, subst (λ k. Tells (tables_in s.committed.trees) k) is (own.kept up).tells)
+
+-- an open connection keeps a book, in the words of the value
+pub keeps_own : {S : Type 0} (g : Ghosts S) (t u : Stored S) → t ≡ u → IsSettled (state_of g t) → IsOwn (state_of g t) t.refused → IsUp g u → Keeps (state_of g u) (kept_book g u)
+keeps_own g t u same law own up =
+    subst (λ x. Keeps (state_of g x) (kept_book g x)) same (keeps_now (state_of g t) t.refused (kept_book g t) law own (subst (λ x. IsUp g x) (sym same) up) refl)
 
 -- the book that a transaction shows when it begins
 pub begun_book : (old new : State) (r : Option Refusal) (b : Book) → HasBegun old new → IsOwn old r → Keeps old b → book_of new.now.trees ≡ b

@@ -1,14 +1,16 @@
 -- What becomes of a question.
-use Rattle.std.specs.Prelude.{◌≡◌, ◌⊎◌}
-use Rattle.flow_tables.proofs.Names.{Holds, was_clean, rest_ended, IsStopped, view_fault, Book, first, Tells as TellsBook, schema, Tables, Held, state, Row, Executes, HasCleanDisk, State, Survives, Error, Ghosts, Bool, IfErr, List, MatchResult, Option, map, true, ℕ, HasEnded, IsAtRest, IsOver, IsRefused, IsStill, tables_in, StoreFault, ViewFault, Err, IfOk, Ok, [], Result, CommitsBy, FirstIs, subst, ◌∙◌, sym, inl, inr, Kind}
+use Rattle.std.specs.Prelude.{◌≡◌, ◌⊎◌, IsSome}
+use Rattle.flow_tables.proofs.Names.{Holds, was_clean, rest_ended, IsStopped, view_fault, Book, first, Tells as TellsBook, schema, Tables, Held, state, Row, Executes, HasCleanDisk, State, Survives, Error, Ghosts, Bool, IfErr, List, MatchResult, Option, map, true, ℕ, HasEnded, IsAtRest, IsOver, IsRefused, IsStill, tables_in, StoreFault, ViewFault, Err, IfOk, Ok, [], Result, CommitsBy, FirstIs, subst, ◌∙◌, sym, inl, inr, Kind, StopsWith, Changes}
 use Rattle.sqlite.specs.State.{CommitsShowing, IsUnchanged, IsRolledBack}
 use Rattle.sqlite_resolve.specs.Compile.{first as first_statement}
 use Rattle.sqlite.specs.Query.{Query, IsAnswer}
 use Rattle.sqlite.specs.Program.{overlay}
 use Rattle.flow_view.specs.declared.fault.ViewFault.TheVariants as view
 use Rattle.flow_tables.specs.declared.fault.StoreFault.TheVariants.{NoMemory, Refused}
-use Rattle.flow_tables.specs.Asking.{IsAsked, IsFirst, IsValue, IsRecalled, IsChanged, StopsAsk}
-use Rattle.flow_sql.specs.Meaning.{IsRead, Asks, IsQuestion, Alters, IsRowChange}
+use Rattle.flow_tables.specs.Asking.{IsAsked, IsValue, IsRecalled, IsChanged, StopsAsk, AreAsked}
+use Rattle.flow_sql.specs.Meaning.{IsRead, Asks, IsQuestion, Alters, IsRowChange, IsDeclined}
+use Rattle.flow_sql.specs.Coming.{IsFull}
+use Rattle.sqlite_disk.specs.Disk.{MoreFaults}
 use Rattle.flow_sql.specs.States.{IsReading}
 use Rattle.flow_tables.specs.Reads.{Tells, IsReadFault}
 use Rattle.flow_sql.specs.Stored.{AreUtf8}
@@ -69,24 +71,10 @@ module _ {Q A : Type 0} (said : Row → A) (kinds : List Kind) (asks : Q → Ask
           let shown = answer (asks q).sql it.query it.names (it.is q) (asks q).params old new over.now rows.0 rows.1 in
           inr (still (asks q).sql it.query it.names (it.is q) (asks q).params old new inside over rows.0 rows.1, λ utf8. never_misread kinds rows.0 e (it.readable q old.now.trees over.now.ours utf8 rows.0 shown) rows.2)
 
-module _ {A V : Type 0} (sql : List ℕ) (params : Row) (kinds : List Kind) (tells : Tables → List A → Type 0) (old new : State) (items : V → List A) where
-  pub first_asked : (v : V) (o : Option A) → o ≡ first (items v) → IsAsked sql params kinds old new (Ok v) (λ t x. tells t (items x)) → IsAsked sql params kinds old new (Ok o) (IsFirst tells)
-  first_asked v o is it = record {
-    reads = λ inside was clean. let read = it.reads inside was clean in (read.0, (items v, read.1, is));
-    clean = it.clean;
-    cause = it.cause;
-    stops = it.stops;
-    ended = it.ended;
-    survives = it.survives;
-  }
-
-  pub none_asked : (f : StoreFault) → IsAsked sql params kinds old new (Err f) (λ t x. tells t (items x)) → IsAsked sql params kinds old new (Err f) (IsFirst tells)
-  none_asked f it = record { reads = it.reads; clean = it.clean; cause = it.cause; stops = it.stops; ended = it.ended; survives = it.survives }
-
 ---- A value of the book
 
-module _ {S A V : Type 0} (g : Ghosts S) (old new : Held S) (sql : List ℕ) (params : Row) (kinds : List Kind) (tells : Tables → V → Type 0) (value : Book → A) where
-  pub valued : (v : V) (r : Result A ViewFault) → IsAsked sql params kinds (state g old) (state g new) (Ok v) tells → ((t : Tables) (b : Book) → TellsBook t b → tells t v → IsValue r (value b)) → IsRecalled g old new r value
+module _ {S A V : Type 0} (g : Ghosts S) (old new : Held S) {why : StoreFault → Type 0} {tells : Tables → V → Type 0} (value : Book → A) where
+  pub valued : (v : V) (r : Result A ViewFault) → AreAsked why (state g old) (state g new) (Ok v) tells → ((t : Tables) (b : Book) → TellsBook t b → tells t v → IsValue r (value b)) → IsRecalled g old new r value
   valued v r it is = record {
     reads = λ clean b told was. let read = it.reads true was clean in go b r (is (tables_in (state g old).now.trees) b told read.1) read.0;
     clean = it.clean;
@@ -102,7 +90,7 @@ module _ {S A V : Type 0} (g : Ghosts S) (old new : Held S) (sql : List ℕ) (pa
       stops b (Ok x) h = tt
       stops b (Err f) h = λ same. absurd (h same)
 
-  pub unvalued : (f : StoreFault) (k : ViewFault) → k ≡ view_fault f → IsAsked sql params kinds (state g old) (state g new) (Err f) tells → IsRecalled {A = A} g old new (Err k) value
+  pub unvalued : (f : StoreFault) (k : ViewFault) → k ≡ view_fault f → AreAsked why (state g old) (state g new) (Err f) tells → IsRecalled {A = A} g old new (Err k) value
   unvalued f k same it = record {
     reads = λ clean b told was. it.reads true was clean;
     clean = it.clean;

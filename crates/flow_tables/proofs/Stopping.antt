@@ -11,7 +11,7 @@ use Rattle.flow_view.specs.declared.fault.ViewFault.TheVariants as view
 use Rattle.flow_sql.specs.Coming.{IsFull}
 use Rattle.flow_sql.proofs.Finding.{format_refused, blank_refused}
 use Rattle.flow_base.specs.declared.fault.Fault.TheVariants as fault
-use Rattle.flow_tables.specs.Opening.{opening_fault, read_fault_of, IsCutShort, StopsRows, StopsMaking, IsHeldUp, StopsOpening}
+use Rattle.flow_tables.specs.Opening.{opening_fault, read_fault_of, IsCutShort, StopsMaking, IsHeldUp, StopsOpening}
 use Rattle.flow_sql.specs.States.{RunsTo}
 use Rattle.flow_sql.proofs.Transactions.{begin_refused, commit_refused, rollback_refused}
 use Rattle.flow_sql.specs.Stored.{HasOddText}
@@ -32,7 +32,7 @@ since_then a b c one two = (omega (arith, one.0, two.0), two.1 ∙ one.1)
 pub survived : (a b : State) (P : Trees → Type 0) → Survives a b P → Since a b
 survived a b P h = (h.counts, h.limit)
 
-more_after : (a b c : ℕ) → a ≤ b → MoreFaults b c → MoreFaults a c
+pub more_after : (a b c : ℕ) → a ≤ b → MoreFaults b c → MoreFaults a c
 more_after a b c le more = omega (arith, le, more)
 
 module _ {S : Type 0} (g : Ghosts S) where
@@ -129,18 +129,6 @@ module _ {S : Type 0} (g : Ghosts S) where
   cut_after d e a b c same since (inr (inl limit)) = inr (inl (subst (λ (o : Option ℕ). IsSome o) since.1 limit))
   cut_after d e a b c same since (inr (inr odd)) = inr (inr (subst (λ (db : Database). HasTables db × HasOddText (tables_in db.trees)) same odd))
 
-  -- a question that was refused, behind others that left the tables as they were
-  pub rows_stopped : (old mid new : Held S) (f : StoreFault) → Since (state g old) (state g mid) → (state g mid).now ≡ (state g old).now → IsOver false (state g mid) → StopsAsk false (state g mid) (state g new) f → StopsRows g old new f
-  rows_stopped old mid new (NoMemory _) since same over h = tt
-  rows_stopped old mid new (Refused e) since same over (inl (inl more)) = inl (more_after (state g old).faults (state g mid).faults (state g new).faults since.0 more)
-  rows_stopped old mid new (Refused e) since same over (inl (inr limit)) = inr (inl (subst (λ (o : Option ℕ). IsSome o) since.1 limit))
-  rows_stopped old mid new (Refused e) since same over (inr odd) = inr (inr (subst (λ (db : Database). HasTables db × HasOddText (tables_in db.trees)) same (over.now, odd.1)))
-
-  pub rows_after : {V : Type 0} (a b c : Held S) (r : Result V StoreFault) → Since (state g a) (state g b) → (state g b).now ≡ (state g a).now → IfErr r (StopsRows g b c) → IfErr r (StopsRows g a c)
-  rows_after a b c (Ok v) since same h = tt
-  rows_after a b c (Err (NoMemory _)) since same h = tt
-  rows_after a b c (Err (Refused e)) since same h = cut_after (state g a).now (state g b).now (state g a) (state g b) (state g c) same since h
-
   -- the statements that make the tables, behind others and before others
   pub making_stopped : (a b c d : Held S) (e : Error) → Since (state g a) (state g b) → (state g c).faults ≤ (state g d).faults → StopsMaking g b c e → StopsMaking g a d e
   making_stopped a b c d e since le h other = elim (h other) [
@@ -169,10 +157,16 @@ module _ {S : Type 0} (g : Ghosts S) where
   error_held first new fault.NotOurs e is h = h (λ same. let clash = is ∙ ap opening_fault same in cc)
   error_held first new _ e is h = tt
 
-  pub rows_held : (old new : Held S) (f : Fault) (r : StoreFault) → f ≡ read_fault_of r → (state g old).now ≡ (state g old).committed → StopsRows g old new r → StopsOpening g (state g old) (state g new) f
-  rows_held old new f (NoMemory _) is rest h = subst (StopsOpening g (state g old) (state g new)) (sym is) tt
-  rows_held old new f (Refused e) is rest h =
-      error_held (state g old) (state g new) f e is (λ other. inr (subst (λ (db : Database). IsCutShort db (state g old) (state g new)) rest h))
+  pub rows_held : (old new : Held S) (f : Fault) (r : StoreFault) → f ≡ read_fault_of r → IsOver false (state g old) → (state g old).now ≡ (state g old).committed → StopsAsk false (state g old) (state g new) r
+      → StopsOpening g (state g old) (state g new) f
+  rows_held old new f (NoMemory _) is over rest h = subst (StopsOpening g (state g old) (state g new)) (sym is) tt
+  rows_held old new f (Refused e) is over rest h =
+      error_held (state g old) (state g new) f e is (λ other. inr (subst (λ (db : Database). IsCutShort db (state g old) (state g new)) rest (cut h)))
+    where
+      cut : StopsAsk false (state g old) (state g new) (Refused e) → IsCutShort (state g old).now (state g old) (state g new)
+      cut (inl (inl more)) = inl more
+      cut (inl (inr limit)) = inr (inl limit)
+      cut (inr odd) = inr (inr (over.now, odd.1))
 
   pub rollback_held : (old new : State) (f : Fault) (e : Error) → f ≡ opening_fault e → old.in_transaction ≡ true → Executes (codes "ROLLBACK") [] old new (Err e) → StopsOpening g old new f
   rollback_held old new f e is inside h = error_held old new f e is (λ other. elim (cases_Bool old.is_open) [
