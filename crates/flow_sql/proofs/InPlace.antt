@@ -2,8 +2,7 @@
 use Rattle.flow_sql.proofs.Kit.{in_its_place, with_task, with_task_in_place, without_task, ◌≡◌, ◌∷◌, if◌then◌else◌, all_from, all_has, some_has}
 use Rattle.flow_sql.proofs.Names.{put_by, task_id, Tables, OutboxRow, Trees, IsAscending, all_weaker, cases_Bool, Decides-int_eq, ints, AllByRecursion, list_any, int_eq, Bool, List, false, filter, int_lt, map, true, [], refl, ℤ, not, sym, ap, ◌∙◌, subst, inl, inr, arith, true≢false, AreOurs, tables_in, task_in}
 use Rattle.flow_sql.proofs.Columns.{of_tasks, keys_differ}
-use Rattle.flow_sql.proofs.Lists.{apart_of_run, none_go, none_change}
-use Rattle.flow_sql.proofs.Rising.{Lower, rising_rises, none_is}
+use Rattle.flow_sql.proofs.Rising.{apart_of_run, none_go, none_change, Lower, rising_rises, none_is}
 
 above_one : (m n k : ℤ) → int_eq m k ≡ true → int_lt m n ≡ true → int_eq n k ≡ false
 above_one m n k one two = grind (arith, ints)
