@@ -1,11 +1,11 @@
 -- Why a statement of ours is refused: the store failed, or its database declines what is asked.
+use Rattle.sqlite_trees.specs.declared.error.StoreError.TheVariants as store
+use Rattle.sqlite.specs.Command.TheVariants as command
 use Rattle.flow_sql.proofs.Names.{schema, Write, write_sql, Read, read_sql, IsRead, write_takes, IsPlain, command_of, timed, Command, Does, Database, Row, overlay, Query, Executes, RunsCommand, State, mode_of, shows_rows, text_of, Trees, Error, Compiled, CompileError}
 use Rattle.flow_sql.proofs.Names.{IsTrue, List, false, true, ℕ, [], refl, Ok, None, Err, Result, length, Some, reads_listing, Fails, IsMisplaced, sym, ap, ◌∙◌, subst, inl, inr, arith, true≢false, append-nil, Schema}
 use Rattle.flow_sql.proofs.Kit.{IsDeclined, IsOurRead, IsOurWrite, IsWrite, MoreFaults, OutOfMemory, QueryOverflows, RefusesToRead, SqliteFailure, accepts_program, read_takes, IsSome, Any, ◌≡◌, ◌⊎◌, ◌≢◌, ◌≤◌}
 use Rattle.sqlite_trees.specs.declared.error.StoreError.{StoreError}
-use Rattle.sqlite_trees.specs.declared.error.StoreError.TheVariants as store
 use Rattle.sqlite_tied.specs.Compute.{everything}
-use Rattle.sqlite.specs.Command.TheVariants as command
 use Rattle.sqlite.specs.Listing.{understood, IsSourceOf}
 use Rattle.sqlite.specs.State.{HasCause, store_error, FailsToQuery, IsNotRun, IsNoStatement, ExecutesIn, IsStatement}
 
@@ -65,12 +65,6 @@ module _ (old new : State) (e : Error) (other : e ≢ SqliteFailure OutOfMemory)
     | inr none ↦ absurd none
   ]
 
-  module _ (s : Schema) (laid : old.now.schema ≡ s) (sql : List ℕ) (params : Row) (whole : IsWhole sql (length params) (understood s sql)) (plain : IsPlain (understood s sql)) where
-    never_run : IsNotRun old new sql params e → MoreFaults old.faults new.faults
-    unfolding IsNotRun
-    never_run (inl none) = absurd (never_no_statement old e s laid sql params whole plain none.0)
-    never_run (inr fails) = only_failed fails
-
 -- A question: the store failed, or a limit is set on the steps of a query.
 module _ (old new : State) (e : Error) (other : e ≢ SqliteFailure OutOfMemory) (up : IsTrue old.is_open) (laid : old.now.schema ≡ schema) (sql : List ℕ) (q : Query) (names : List (List ℕ)) (it : IsRead sql q names) (params : Row)
     (whole : IsWhole sql (length params) (understood schema sql)) (typed : accepts_program schema [] q params ≡ true) (summed : (db : Trees) → ¬ QueryOverflows q db params) where
@@ -80,8 +74,9 @@ module _ (old new : State) (e : Error) (other : e ≢ SqliteFailure OutOfMemory)
   refuses db is (inr (inr limit)) = limit.1
 
   pub question_refused : FailsToQuery sql params old new e → MoreFaults old.faults new.faults ⊎ IsSome old.step_limit
-  unfolding FailsToQuery
-  question_refused (inl none) = inl (never_run old new e other up schema laid sql params whole it.plain none)
+  unfolding FailsToQuery IsNotRun
+  question_refused (inl (inl none)) = absurd (never_no_statement old e schema laid sql params whole it.plain none.0)
+  question_refused (inl (inr fails)) = inl (only_failed old new e other up fails)
   question_refused (inr h) =
       let known = sym h.1.is ∙ ap (λ s. understood s sql) laid in
       let bare = subst IsPlain (sym known) it.plain in
@@ -89,13 +84,25 @@ module _ (old new : State) (e : Error) (other : e ≢ SqliteFailure OutOfMemory)
       let db : found.0 ≡ old.now = subst (λ b. IsSourceOf b old.now found.0) (ap (λ s. reads_listing s sql) laid ∙ it.unlisted) found.1 in
       inr (refuses found.0 db (subst (λ k. RefusesToRead old.step_limit k found.0 params e) (ap command_of known ∙ it.is) found.2))
 
-shows_no_rows : (c : Compiled) → IsWrite c.command → c.returning ≡ None → shows_rows false c ≡ false
-shows_no_rows c writes bare = by_command c.command writes
-  where
-    by_command : (k : Command) → IsWrite k → shows_rows false (record c { command = k }) ≡ false
-    by_command (command.Select q names) w = absurd w
-    by_command (command.Rows values width names) w = absurd w
-    by_command _ w = rw bare refl
+-- A statement of one command that shows no rows has failed with the store, or has run as that.
+module _ (old new : State) (e : Error) (s : Schema) (laid : old.now.schema ≡ s) (sql : List ℕ) (params : Row) (k : Command) (is : command_of (understood s sql) ≡ k) (plain : IsPlain (understood s sql))
+    (whole : IsWhole sql (length params) (understood s sql)) (hidden : (c : Compiled) → shows_rows false (record c { command = k; returning = None }) ≡ false) where
+  pub fails_or_runs : Executes sql params old new (Err e)
+      → Fails old new ⊥ e ⊎ ((c : Compiled) × (it : IsStatement old sql params c) × (c.command ≡ k) × (c.returning ≡ None) × RunsCommand old new sql c (timed params c.formats it.now) (Err e))
+  unfolding ExecutesIn IsNotRun
+  fails_or_runs (inl (inl none)) = absurd (never_no_statement old e s laid sql params whole plain none.0)
+  fails_or_runs (inl (inr fails)) = inl fails
+  fails_or_runs (inr h) =
+      let known = sym h.1.is ∙ ap (λ t. understood t sql) laid in
+      let same : h.0.command ≡ k = ap command_of known ∙ is in
+      let bare = subst IsPlain (sym known) plain in
+      let shows : shows_rows false h.0 ≡ false = (λ i. shows_rows false (record h.0 { command = same i; returning = bare.0 i })) ∙ hidden h.0 in
+      inr (h.0, h.1, same, bare.0, rw shows at h.2)
+
+hides : (k : Command) → IsWrite k → (c : Compiled) → shows_rows false (record c { command = k; returning = None }) ≡ false
+hides (command.Select q names) w c = absurd w
+hides (command.Rows values width names) w c = absurd w
+hides _ w c = refl
 
 never_misplaced : (s : State) (k : Command) (e : Error) → IsWrite k → ¬ IsMisplaced s k e
 never_misplaced s k e writes (inl (_, inl begin)) = absurd (rw begin.0 at writes)
@@ -112,28 +119,22 @@ IsTooBig sql params s =
 -- A change: the store failed, or its database declines it.
 module _ (old new : State) (e : Error) (other : e ≢ SqliteFailure OutOfMemory) (up : IsTrue old.is_open) (s : Schema) (laid : old.now.schema ≡ s) (sql : List ℕ) (params : Row) (k : Command) (is : command_of (understood s sql) ≡ k) (writes : IsWrite k)
     (plain : IsPlain (understood s sql)) (whole : IsWhole sql (length params) (understood s sql)) where
-  -- it was not run for the store, or has run as its command
-  ran_or_failed : Executes sql params old new (Err e) → MoreFaults old.faults new.faults ⊎ ((c : Compiled) × (it : IsStatement old sql params c) × IsWrite c.command × RunsCommand old new sql c (timed params c.formats it.now) (Err e))
-  unfolding ExecutesIn
-  ran_or_failed (inl none) = inl (never_run old new e other up s laid sql params whole plain none)
-  ran_or_failed (inr h) =
-      let known = sym h.1.is ∙ ap (λ t. understood t sql) laid in
-      let bare = subst IsPlain (sym known) plain in
-      let write = subst IsWrite (sym (ap command_of known ∙ is)) writes in
-      inr (h.0, h.1, write, rw (shows_no_rows h.0 write bare.0) at h.2)
+  abbrev ran : Executes sql params old new (Err e)
+      → Fails old new ⊥ e ⊎ ((c : Compiled) × (it : IsStatement old sql params c) × (c.command ≡ k) × (c.returning ≡ None) × RunsCommand old new sql c (timed params c.formats it.now) (Err e))
+  ran = fails_or_runs old new e s laid sql params k is plain whole (hides k writes)
 
   pub change_refused : Executes sql params old new (Err e) → MoreFaults old.faults new.faults ⊎ IsDeclined sql params old
-  change_refused h = elim (ran_or_failed h) [
-    | inl more ↦ inl more
-    | inr (c, it, write, inl (inl misplaced, _)) ↦ absurd (never_misplaced old c.command e write misplaced)
-    | inr (c, it, write, inl (inr declined, _)) ↦ inr (Some e, c, it, declined.1)
-    | inr (c, it, write, inr fails) ↦ elim (failed old new e other up _ fails) [ inl more ↦ inl more | inr big ↦ inr (None, c, it, big) ]
+  change_refused h = elim (ran h) [
+    | inl fails ↦ inl (only_failed old new e other up fails)
+    | inr (c, it, same, _, inl (inl misplaced, _)) ↦ absurd (never_misplaced old c.command e (subst IsWrite (sym same) writes) misplaced)
+    | inr (c, it, _, _, inl (inr declined, _)) ↦ inr (Some e, c, it, declined.1)
+    | inr (c, it, _, _, inr fails) ↦ elim (failed old new e other up _ fails) [ inl more ↦ inl more | inr big ↦ inr (None, c, it, big) ]
   ]
 
   -- One that has ended the transaction: the store failed, or a row of it is too big to be stored.
   pub change_ended : old.in_transaction ≡ true → new.in_transaction ≡ false → Executes sql params old new (Err e) → MoreFaults old.faults new.faults ⊎ IsTooBig sql params old
-  change_ended inside outside h = elim (ran_or_failed h) [
-    | inl more ↦ inl more
-    | inr (c, it, write, inl refused) ↦ absurd (true≢false (sym inside ∙ sym refused.1.0.mode ∙ outside))
-    | inr (c, it, write, inr fails) ↦ elim (failed old new e other up _ fails) [ inl more ↦ inl more | inr big ↦ inr (c, it, big) ]
+  change_ended inside outside h = elim (ran h) [
+    | inl fails ↦ inl (only_failed old new e other up fails)
+    | inr (c, it, _, _, inl refused) ↦ absurd (true≢false (sym inside ∙ sym refused.1.0.mode ∙ outside))
+    | inr (c, it, _, _, inr fails) ↦ elim (failed old new e other up _ fails) [ inl more ↦ inl more | inr big ↦ inr (c, it, big) ]
   ]

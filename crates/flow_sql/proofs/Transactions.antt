@@ -1,10 +1,10 @@
 -- What BEGIN, COMMIT and ROLLBACK mean, under any schema.
-use Rattle.flow_sql.proofs.Names.{schema, IsPlain, command_of, runs_as, statement_of, survives_weaker, timed, Command, Begin, Commit, Rollback, Does, Row, Schema, Executes, IsRolledBack, Runs, RunsCommand, State, Survives, mode_of, shows_rows, text_of, Trees, Error, Compiled, cases_Bool, Bool, IfErr, IsTrue, List, MatchResult, codes, false, true, ℕ, [], refl, Ok, None, Err, Result, ⊤, Fails, IsMisplaced, IsOver, RunsTo, HasEnded, IsStill, GoesOn, IsUndone, IsRefused, HasBegun, HasCommitted, sym, ap, ◌∙◌, subst, inl, inr, arith, true≢false}
+use Rattle.flow_sql.proofs.Names.{schema, IsPlain, command_of, runs_as, statement_of, survives_weaker, timed, Command, Begin, Commit, Rollback, Does, Row, Schema, Executes, IsRolledBack, Runs, State, Survives, mode_of, shows_rows, text_of, Trees, Error, Compiled, Bool, IfErr, IsTrue, List, MatchResult, codes, false, true, ℕ, [], refl, Ok, None, Err, Result, ⊤, Fails, IsMisplaced, IsOver, RunsTo, HasEnded, IsStill, GoesOn, IsUndone, IsRefused, HasBegun, HasCommitted, sym, ap, ◌∙◌, subst, inl, inr, arith, true≢false}
 use Rattle.flow_sql.proofs.Kit.{Holds, IsWrite, MoreFaults, OnOk, OutOfMemory, Release, RollbackTo, SqliteFailure, ◌≡◌, ◌≢◌}
 use Rattle.sqlite_tied.specs.Compute.{everything}
 use Rattle.sqlite.specs.Listing.{understood}
-use Rattle.sqlite.specs.State.{CommitsBy, MayWrite, ExecutesIn, IsNotRun}
-use Rattle.flow_sql.proofs.Refusing.{IsWhole, failed, never_no_statement}
+use Rattle.sqlite.specs.State.{CommitsBy, MayWrite}
+use Rattle.flow_sql.proofs.Refusing.{IsWhole, failed, fails_or_runs}
 use Rattle.flow_sql.proofs.Leaves.{was_clean, over_both, rolled_back_ended, ended_undone, error_refused}
 
 -- the text is this command, and nothing else, whatever tables there are
@@ -107,34 +107,14 @@ module _ (s : State) (command : Command) (placed : IsPlaced command s.in_transac
 module _ (sql : List ℕ) (old new : State) (e : Error) (command : Command) (it : Controls sql command) (placed : IsPlaced command old.in_transaction) where
   -- only a failure of the store refuses it, with nothing that could be too big
   fails_alone : (P : Type 0) → ((W : Type 0) → ¬ W → Fails old new W e → P) → Executes sql [] old new (Err e) → P
-  unfolding ExecutesIn IsNotRun
-  fails_alone P so (inl (inl none)) = absurd (never_no_statement old e old.now.schema refl sql [] (it.whole old.now.schema) (it.plain old.now.schema) none.0)
-  fails_alone P so (inl (inr fails)) = so ⊥ (λ none. none) fails
-  fails_alone P so (inr h) = elim (cases_Bool (shows_rows false h.0)) [
-    | inl shows ↦ absurd (shown h.0 h.1.is shows)
-    | inr runs ↦ ran h.0 h.1.is (timed [] h.0.formats h.1.now) (rw runs at h.2)
+  fails_alone P so h = elim (fails_or_runs old new e old.now.schema refl sql [] command (it.is old.now.schema) (it.plain old.now.schema) (it.whole old.now.schema) it.hidden h) [
+    | inl fails ↦ so ⊥ (λ none. none) fails
+    | inr (c, _, same, _, inl (inl misplaced, _)) ↦ absurd (never_misplaced old command placed e (subst (λ k. IsMisplaced old k e) same misplaced))
+    | inr (c, _, same, _, inl (inr (inl write, _), _)) ↦ absurd (it.writes (subst IsWrite same write))
+    | inr (c, _, same, bare, inl (inr (inr some, _), _)) ↦ absurd (let e = rw bare at some in true≢false (sym e))
+    | inr (c, at, same, bare, inr fails) ↦
+        so _ (λ big. it.small old (timed [] c.formats at.now) (text_of sql c) (subst (λ k. Does old.step_limit (mode_of old) (timed [] c.formats at.now) old.now (text_of sql c) None k (Err None)) same (rw bare at big))) fails
   ]
-    where
-      shown : (c : Compiled) → understood old.now.schema sql ≡ Ok c → ¬ (shows_rows false c ≡ true)
-      shown c known shows =
-          let same : c.command ≡ command = sym (ap command_of known) ∙ it.is old.now.schema in
-          let bare = subst IsPlain known (it.plain old.now.schema) in
-          true≢false (sym (subst (λ k. shows_rows false (record c { command = k; returning = None }) ≡ true) same (rw bare.0 at shows)) ∙ it.hidden c)
-
-      ran : (c : Compiled) → understood old.now.schema sql ≡ Ok c → (params : Row) → RunsCommand old new sql c params (Err e) → P
-      ran c known params h =
-          let same : c.command ≡ command = sym (ap command_of known) ∙ it.is old.now.schema in
-          let bare = subst IsPlain known (it.plain old.now.schema) in
-          elim h [
-            | inl (inl misplaced, _) ↦ absurd (never_misplaced old command placed e (subst (λ k. IsMisplaced old k e) same misplaced))
-            | inl (inr (inl write, _), _) ↦ absurd (it.writes (subst IsWrite same write))
-            | inl (inr (inr some, _), _) ↦ absurd (let e = rw bare.0 at some in true≢false (sym e))
-            | inr fails ↦ so _ (λ big. it.small old params (text_of sql c) (subst (λ k. Does old.step_limit (mode_of old) params old.now (text_of sql c) None k (Err None)) same (rw bare.0 at big))) fails
-          ]
-
-  -- it ends a transaction that runs
-  ends_anyway : Executes sql [] old new (Err e) → IsRolledBack old new
-  ends_anyway h = fails_alone (IsRolledBack old new) (λ W none fails. fails.3) h
 
   -- but for the want of memory the disk has failed once more
   control_refused : e ≢ SqliteFailure OutOfMemory → IsTrue old.is_open → Executes sql [] old new (Err e) → MoreFaults old.faults new.faults
@@ -170,7 +150,7 @@ module _ (old new : State) where
 
   -- a refusal within a transaction has ended it
   ended_by : (sql : List ℕ) (command : Command) → Controls sql command → IsPlaced command old.in_transaction → (e : Error) → Executes sql [] old new (Err e) → HasEnded old new
-  ended_by sql command it placed e h = rolled_back_ended old new (ends_anyway sql old new e command it placed h)
+  ended_by sql command it placed e h = rolled_back_ended old new (fails_alone sql old new e command it placed (IsRolledBack old new) (λ W none fails. fails.3) h)
 
   pub begun_still : HasBegun old new → IsOver false old → IsStill true old new
   begun_still h was = over_both true new old.now old.committed h.1.is_open h.1.mode h.1.now_is h.1.committed_is was.now was.committed
