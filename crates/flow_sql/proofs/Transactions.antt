@@ -1,14 +1,14 @@
 -- What BEGIN, COMMIT and ROLLBACK mean, under any schema.
-use Rattle.flow_sql.proofs.Names.{schema, IsPlain, command_of, runs_as, statement_of, survives_weaker, timed, Command, Begin, Commit, Rollback, Does, Row, Schema, Executes, IsRolledBack, Runs, State, Survives, mode_of, shows_rows, text_of, Trees, Error, Compiled, Bool, IfErr, IsTrue, List, MatchResult, codes, false, true, ℕ, [], refl, Ok, None, Err, Result, ⊤, Fails, IsMisplaced, IsOver, RunsTo, HasEnded, IsStill, GoesOn, IsUndone, IsRefused, HasBegun, HasCommitted, sym, ap, ◌∙◌, subst, inl, inr, arith, true≢false}
+use Rattle.flow_sql.proofs.Names.{schema, IsPlain, command_of, runs_as, statement_of, survives_weaker, timed, Command, Begin, Commit, Rollback, Does, Row, Schema, Executes, IsRolledBack, Runs, State, Survives, mode_of, shows_rows, text_of, Trees, Error, Compiled, Bool, IfErr, IsTrue, List, MatchResult, codes, false, true, ℕ, [], refl, Ok, None, Err, Result, ⊤, Fails, IsMisplaced, IsOver, RunsTo, HasEnded, IsStill, GoesOn, IsUndone, HasBegun, HasCommitted, sym, ap, ◌∙◌, subst, inl, inr, arith, true≢false}
 use Rattle.flow_sql.proofs.Kit.{Holds, IsWrite, MoreFaults, OnOk, OutOfMemory, Release, RollbackTo, SqliteFailure, ◌≡◌, ◌≢◌}
 use Rattle.sqlite_tied.specs.Compute.{everything}
 use Rattle.sqlite.specs.Listing.{understood}
 use Rattle.sqlite.specs.State.{CommitsBy, MayWrite}
 use Rattle.flow_sql.proofs.Refusing.{IsWhole, failed, fails_or_runs}
-use Rattle.flow_sql.proofs.Leaves.{was_clean, over_both, rolled_back_ended, ended_undone, error_refused}
+use Rattle.flow_sql.proofs.Leaves.{was_clean, over_both, rolled_back_ended, ended_undone}
 
 -- the text is this command, and nothing else, whatever tables there are
-record Controls (sql : List ℕ) (command : Command) : Type 1 where
+pub record Controls (sql : List ℕ) (command : Command) : Type 1 where
   is : (s : Schema) → command_of (understood s sql) ≡ command
   plain : (s : Schema) → IsPlain (understood s sql)
   whole : (s : Schema) → IsWhole sql 0 (understood s sql)
@@ -17,7 +17,7 @@ record Controls (sql : List ℕ) (command : Command) : Type 1 where
   hidden : (c : Compiled) → shows_rows false (record c { command = command; returning = None }) ≡ false
   small : (s : State) (params : Row) (text : List ℕ) → ¬ Does s.step_limit (mode_of s) params s.now text None command (Err None)
 
-begin_text : Controls (codes "BEGIN") Begin
+pub begin_text : Controls (codes "BEGIN") Begin
 unfolding understood everything
 begin_text = record { is = λ s. refl; plain = λ s. (refl, refl); whole = λ s. (omega arith, refl); writes = λ h. h; hidden = λ c. refl; small = λ s params text h. let e = h in cc }
 
@@ -25,7 +25,7 @@ commit_text : Controls (codes "COMMIT") Commit
 unfolding understood everything
 commit_text = record { is = λ s. refl; plain = λ s. (refl, refl); whole = λ s. (omega arith, refl); writes = λ h. h; hidden = λ c. refl; small = λ s params text h. let e = h in cc }
 
-rollback_text : Controls (codes "ROLLBACK") Rollback
+pub rollback_text : Controls (codes "ROLLBACK") Rollback
 unfolding understood everything
 rollback_text = record { is = λ s. refl; plain = λ s. (refl, refl); whole = λ s. (omega arith, refl); writes = λ h. h; hidden = λ c. refl; small = λ s params text h. let e = h in cc }
 
@@ -158,41 +158,30 @@ module _ (old new : State) where
   pub committed_over : HasCommitted old new → IsOver true old → IsOver false new × (new.now ≡ old.now) × (new.committed ≡ old.now)
   committed_over h was = over_both false new old.now old.now h.1.is_open h.1.mode h.1.now_is h.1.committed_is was.now was.now
 
-  pub over_undone : IsOver true old → HasEnded old new → IsUndone old new
-  over_undone was = ended_undone old new was.committed
-
   pub begun_goes_on : HasBegun old new → GoesOn old new
   begun_goes_on h = record { was_open = h.1.was_open; is_open = h.1.is_open; mode = h.1.mode; committed = h.1.committed_is }
 
-  pub begin_survives : Survives old new (CommitsBy (codes "BEGIN") [] old) → Survives old new (λ _. ⊥)
-  begin_survives h = survives_weaker old new _ _ (λ _ db. control_commits_nothing (codes "BEGIN") old Begin begin_text tt db) h
-
-  pub rollback_survives : Survives old new (CommitsBy (codes "ROLLBACK") [] old) → Survives old new (λ _. ⊥)
-  rollback_survives h = survives_weaker old new _ _ (λ _ db. control_commits_nothing (codes "ROLLBACK") old Rollback rollback_text tt db) h
+  pub control_survives : (sql : List ℕ) (command : Command) → Controls sql command → IsControl command → Survives old new (CommitsBy sql [] old) → Survives old new (λ _. ⊥)
+  control_survives sql command it control h = survives_weaker old new _ _ (λ _ db. control_commits_nothing sql old command it control db) h
 
   pub commit_survives : Survives old new (CommitsBy (codes "COMMIT") [] old) → Survives old new (λ db. db ≡ old.now.trees)
   commit_survives h = survives_weaker old new _ _ (λ _ db. commit_commits (codes "COMMIT") old Commit commit_text refl db) h
 
   -- what their results say
-  pub ran_to : (sql : List ℕ) (P : Type 0) (r : Result (Unit {0}) Error) → RunsTo sql old new r → ((count : ℕ) → Executes sql [] old new (Ok count) → P) → MatchResult r (λ _. P) (λ e. Executes sql [] old new (Err e))
-  ran_to sql P (Ok x) h f = f h.0 h.1
-  ran_to sql P (Err e) h f = h
+  pub ran_to : (sql : List ℕ) (P : Type 0) (Q : Error → Type 0) (r : Result (Unit {0}) Error) → RunsTo sql old new r → ((count : ℕ) → Executes sql [] old new (Ok count) → P) → ((e : Error) → Executes sql [] old new (Err e) → Q e) → MatchResult r (λ _. P) Q
+  ran_to sql P Q (Ok x) h f g = f h.0 h.1
+  ran_to sql P Q (Err e) h f g = g e h
 
   pub ran_ok : (sql : List ℕ) (P : Type 0) (r : Result (Unit {0}) Error) → RunsTo sql old new r → ((count : ℕ) → Executes sql [] old new (Ok count) → P) → OnOk r P
   ran_ok sql P (Ok x) h f = f h.0 h.1
   ran_ok sql P (Err e) h f = tt
-
-  pub begun_or_refused : (r : Result (Unit {0}) Error) → RunsTo (codes "BEGIN") old new r → IsOver false old → MatchResult r (λ _. IsStill true old new) (λ _. IsRefused false old new)
-  begun_or_refused (Ok x) h was = begun_still (begins h.0 h.1) was
-  begun_or_refused (Err e) h was = error_refused old new (codes "BEGIN") [] e false was h
 
   pub committed_or_ended : (r : Result (Unit {0}) Error) → RunsTo (codes "COMMIT") old new r → IsTrue old.in_transaction → IfErr r (λ _. HasEnded old new)
   committed_or_ended (Ok x) h inside = tt
   committed_or_ended (Err e) h inside = ended_by (codes "COMMIT") Commit commit_text inside e h
 
   pub committed_or_undone : (r : Result (Unit {0}) Error) → RunsTo (codes "COMMIT") old new r → IsOver true old → MatchResult r (λ _. IsOver false new × (new.now ≡ old.now) × (new.committed ≡ old.now)) (λ _. IsUndone old new)
-  committed_or_undone (Ok x) h was = committed_over (commits h.0 h.1) was
-  committed_or_undone (Err e) h was = over_undone was (ended_by (codes "COMMIT") Commit commit_text was.mode e h)
+  committed_or_undone r h was = ran_to (codes "COMMIT") _ (λ _. IsUndone old new) r h (λ count ran. committed_over (commits count ran) was) (λ e ran. ended_undone old new was.committed (ended_by (codes "COMMIT") Commit commit_text was.mode e ran))
 
   pub rolled_back : (r : Result (Unit {0}) Error) → RunsTo (codes "ROLLBACK") old new r → IsTrue old.in_transaction → HasEnded old new
   rolled_back (Ok x) h inside = (rolls_back h.0 h.1).1
