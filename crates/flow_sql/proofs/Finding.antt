@@ -1,5 +1,5 @@
 -- What reading the format leaves, and what it tells.
-use Rattle.flow_sql.proofs.Names.{schema, format_sql, no_schema, format_query, one_permutation, Database, Row, overlay, IsAnswer, Output, end, inner, output, IsUnchanged, State, Survives, Trees, Error, Int, Null, Compiled, CompileError, NoSuchTable, IsPermutation, IsTrue, List, false, map, pos, [], refl, Ok, None, Err, Result, Fails, IsOver, HasTables, HasEnded, IsAtRest, IsBlank, format_row, sym, ap, ◌∙◌, subst, inl, inr, arith}
+use Rattle.flow_sql.proofs.Names.{schema, format_sql, no_schema, format_query, one_permutation, Database, Row, overlay, IsAnswer, Output, end, inner, output, IsUnchanged, State, Survives, Trees, Error, Int, Null, Compiled, CompileError, IsPermutation, IsTrue, List, false, map, pos, [], refl, Ok, None, Err, Result, Fails, IsOver, HasTables, HasEnded, IsAtRest, IsBlank, format_row, sym, ap, ◌∙◌, subst, inl, inr, arith}
 use Rattle.flow_sql.proofs.Kit.{MoreFaults, OutOfMemory, SqlInputError, SqliteFailure, first_as, IsSome, ◌≡◌, ◌∷◌, ◌⊎◌, ◌≢◌}
 use Rattle.sqlite.specs.Order.{value_cmp}
 use Rattle.sqlite.specs.Ops.{binary}
@@ -63,12 +63,9 @@ refused old new e h none = elim (read_leaves old new (Err e) h) [
 ---- Without the tables
 
 -- without the tables the format can't be read
-unread : understood no_schema format_sql ≡ Err NoSuchTable
-unfolding understood everything listing_schema
-unread = refl
-
 never_understood : (s : State) (c : Compiled) → s.now.schema ≡ no_schema → understood s.now.schema format_sql ≡ Ok c → ⊥
-never_understood s c has is = let e = sym is ∙ ap (λ t. understood t format_sql) has ∙ unread in cc
+unfolding understood everything listing_schema
+never_understood s c has is = let e = sym is ∙ ap (λ t. understood t format_sql) has in cc
 
 pub blank_never_reads : (old new : State) (row : Row) → old.now.schema ≡ no_schema → QueriesRow format_sql [] old new (Ok row) → ⊥
 unfolding QueriesRow Begins Shown

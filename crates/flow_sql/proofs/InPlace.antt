@@ -4,15 +4,6 @@ use Rattle.flow_sql.proofs.Names.{put_by, task_id, Tables, OutboxRow, Trees, IsA
 use Rattle.flow_sql.proofs.Columns.{of_tasks, keys_differ}
 use Rattle.flow_sql.proofs.Rising.{apart_of_run, none_go, none_change, Lower, rising_rises, none_is}
 
-above_one : (m n k : ℤ) → int_eq m k ≡ true → int_lt m n ≡ true → int_eq n k ≡ false
-above_one m n k one two = grind (arith, ints)
-
-below_one : (m n k : ℤ) → int_eq n k ≡ true → int_lt m n ≡ true → int_lt k m ≡ false
-below_one m n k one two = grind (arith, ints)
-
-above_same : (m n k : ℤ) → int_eq m k ≡ true → int_lt m n ≡ true → int_lt k n ≡ true
-above_same m n k one two = grind (arith, ints)
-
 module _ {A : Type 0} (key : A → ℤ) (x : A) where
   abbrev pub is_there : List A → Bool
   is_there ys = list_any (λ y. int_eq (key y) (key x)) ys
@@ -37,20 +28,17 @@ module _ {A : Type 0} (key : A → ℤ) (x : A) where
   not_first : (y : A) (ys : List A) → AllByRecursion (Lower key y) ys → is_there ys ≡ true → int_lt (key x) (key y) ≡ false
   not_first y ys up there =
       let z = some_has (λ z. int_eq (key z) (key x)) ys there in
-      below_one (key y) (key z.0) (key x) z.2 (less_so y z.0 (all_has (Lower key y) ys z.0 up z.1))
+      let its = z.2 in let less = less_so y z.0 (all_has (Lower key y) ys z.0 up z.1) in grind (arith, ints)
 
   pub put_in_place : (ys : List A) → IsAscending (Lower key) ys → is_there ys ≡ true → put_by key x (filter other ys) ≡ map replaced ys
   put_in_place [] up there = absurd (true≢false (sym there))
   put_in_place (y ∷ ys) up there = elim (cases_Bool (int_eq (key y) (key x))) [
     | inl same ↦
-        let others : AreOthers ys = all_weaker (Lower key y) (λ z. int_eq (key z) (key x) ≡ false) (λ z low. above_one (key y) (key z) (key x) same (less_so y z low)) ys up.0 in
-        let higher = all_weaker (Lower key y) (λ z. int_lt (key x) (key z) ≡ true) (λ z low. above_same (key y) (key z) (key x) same (less_so y z low)) ys up.0 in
+        let others : AreOthers ys = all_weaker (Lower key y) (λ z. int_eq (key z) (key x) ≡ false) (λ z low. let less = less_so y z low in grind (arith, ints)) ys up.0 in
+        let higher = all_weaker (Lower key y) (λ z. int_lt (key x) (key z) ≡ true) (λ z low. let less = less_so y z low in grind (arith, ints)) ys up.0 in
         rw same (ap (put_by key x) (none_go (λ z. int_eq (key z) (key x)) ys others) ∙ put_first ys higher ∙ ap (λ l. x ∷ l) (sym (none_change (λ z. int_eq (key z) (key x)) (λ _. x) ys others)))
     | inr apart ↦ rw (apart, not_first y ys up.0 (rw apart at there)) (ap (λ l. y ∷ l) (put_in_place ys up.1 (rw apart at there)))
   ]
-
-  pub none_there : (ys : List A) → is_there ys ≡ false → AreOthers ys
-  none_there ys none = all_from _ ys (none_is (λ y. int_eq (key y) (key x)) ys none)
 
 abbrev pub HasTask : OutboxRow → Tables → Bool
 HasTask row t = is_there task_id row (t.outbox row.run)
@@ -73,7 +61,7 @@ pub no_task_in_place : (t : Tables) (row : OutboxRow) → HasTask row t ≡ fals
 no_task_in_place t row none = λ i. record t { outbox = λ z. of_run z i }
   where
     here : map (in_its_place row) (t.outbox row.run) ≡ t.outbox row.run
-    here = none_change (λ (x : OutboxRow). int_eq x.id row.id) (λ _. row) (t.outbox row.run) (none_there task_id row (t.outbox row.run) none)
+    here = none_change (λ (x : OutboxRow). int_eq x.id row.id) (λ _. row) (t.outbox row.run) (all_from _ (t.outbox row.run) (none_is (λ x. int_eq x.id row.id) (t.outbox row.run) none))
 
     of_run : (z : ℤ) → (with_task_in_place row t).outbox z ≡ t.outbox z
     of_run z = elim (cases_Bool (int_eq z row.run)) [
