@@ -1,8 +1,9 @@
 -- What the statements that make the tables do, whatever tables there are: each keeps the transaction, and none commits.
-use Rattle.flow_sql.proofs.Names.{survives_weaker, timed, Row, Executes, HasCleanDisk, IsRolledBack, IsUnchanged, Runs, Shows, State, Survives, shows_rows, text_of, Trees, Error, Statement, first, Checked, Compiled, CompileError, NoSuchTable, Returning, Parsed, cases_Bool, Bool, IsTrue, List}
-use Rattle.flow_sql.proofs.Names.{MatchResult, Option, false, true, ℕ, [], refl, Ok, None, Err, Result, ⊤, length, not, reads_listing, sym, ap, ◌∙◌, subst, inl, inr, true≢false, RunsTo, GoesOn, IsMaking, FirstIs, Schema, Table}
 use Rattle.sqlite_ast.specs.declared.Statement.TheVariants as written
 use Rattle.sqlite_ast.specs.declared.Conflict.TheVariants as conflict
+use Rattle.sqlite_resolve.specs.Define as define
+use Rattle.flow_sql.proofs.Names.{survives_weaker, timed, Row, Executes, HasCleanDisk, IsRolledBack, IsUnchanged, Runs, Shows, State, Survives, shows_rows, text_of, Trees, Error, Statement, first, Checked, Compiled, CompileError, NoSuchTable, Returning, Parsed, cases_Bool, Bool, IsTrue, List}
+use Rattle.flow_sql.proofs.Names.{MatchResult, Option, false, true, ℕ, [], refl, Ok, None, Err, Result, ⊤, length, not, reads_listing, sym, ap, ◌∙◌, subst, inl, inr, true≢false, RunsTo, GoesOn, IsMaking, FirstIs, Schema, Table}
 use Rattle.sqlite_ast.specs.declared.CreateTable.{CreateTable}
 use Rattle.sqlite_ast.specs.declared.Rows.{Rows}
 use Rattle.flow_sql.proofs.Kit.{CommitsNothing, IsReading, index_named, table_named, view_named, ◌≡◌, ◌⊎◌, if◌then◌else◌, ◌&&◌, ◌==◌, ◌+◌}
@@ -13,7 +14,6 @@ use Rattle.sqlite_resolve.specs.Lowering.{and_then}
 use Rattle.sqlite_resolve.specs.Scope.{Name}
 use Rattle.sqlite_resolve.specs.Compile.{command, returning, shows, planned, meaning, compiled, create_table, creates, is_attached, insert, insert_or_abort, new_rows, target, small, with_command, timed as timed_at}
 use Rattle.sqlite_resolve.specs.Body.{table_at}
-use Rattle.sqlite_resolve.specs.Define as define
 use Rattle.sqlite_schema.specs.declared.command.Source.{Source}
 use Rattle.std.specs.Option.{option_or}
 use Rattle.sqlite.specs.Listing.{understood, if_select, is_select, listing_schema}
@@ -175,7 +175,7 @@ making_survives old new sql params making inside h =
 ---- What a query leaves: it commits nothing, and changes nothing, or fails with the store
 
 module _ (sql : List ℕ) (reading : FirstIs IsReading (first sql)) (params : Row) (old new : State) where
-  bare : (c : Compiled) → understood old.now.schema sql ≡ Ok c → c.returning ≡ None
+  pub bare : (c : Compiled) → understood old.now.schema sql ≡ Ok c → c.returning ≡ None
   bare c is = reading_shows_none old.now.schema sql reading c is
 
   pub commits_none : Survives old new (CommitsShowing sql params old) → Survives old new (λ _. ⊥)

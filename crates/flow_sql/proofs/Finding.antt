@@ -1,5 +1,5 @@
 -- What reading the format leaves, and what it tells.
-use Rattle.flow_sql.proofs.Names.{schema, format_sql, no_schema, format_query, one_permutation, Database, Row, overlay, IsAnswer, Output, end, inner, output, IsUnchanged, State, Survives, Trees, Error, Int, Null, Compiled, CompileError, IsPermutation, IsTrue, List, false, map, pos, [], refl, Ok, None, Err, Result, Fails, IsOver, HasTables, HasEnded, IsAtRest, IsBlank, format_row, sym, ap, ◌∙◌, subst, inl, inr, arith}
+use Rattle.flow_sql.proofs.Names.{schema, format_sql, no_schema, format_query, one_permutation, Database, Row, overlay, IsAnswer, Output, end, inner, output, IsUnchanged, State, Survives, Trees, Error, Int, Null, Compiled, CompileError, IsPermutation, IsTrue, List, false, map, pos, [], refl, Ok, Err, Result, Fails, IsOver, HasTables, HasEnded, IsAtRest, IsBlank, format_row, sym, ap, ◌∙◌, subst, inl, inr, arith}
 use Rattle.flow_sql.proofs.Kit.{MoreFaults, OutOfMemory, SqlInputError, SqliteFailure, first_as, IsSome, ◌≡◌, ◌∷◌, ◌⊎◌, ◌≢◌}
 use Rattle.sqlite.specs.Order.{value_cmp}
 use Rattle.sqlite.specs.Ops.{binary}
@@ -8,15 +8,12 @@ use Rattle.sqlite.specs.Listing.{understood, listing_schema}
 use Rattle.sqlite.specs.State.{CommitsShowing, QueriesRow, FailsToQuery, Shown, Begins, IsNotRun}
 use Rattle.sqlite_tied.specs.Compute.{everything}
 use Rattle.flow_sql.proofs.Leaves.{over_both}
-use Rattle.flow_sql.proofs.Compiling.{reading_shows_none, commits_none}
+use Rattle.flow_sql.proofs.Compiling.{bare, commits_none}
 use Rattle.flow_sql.proofs.Reading.{answer}
-use Rattle.flow_sql.proofs.Refusing.{IsWhole, only_failed, question_refused, never_sums}
-use Rattle.flow_sql.proofs.Texts.{format_read}
+use Rattle.flow_sql.proofs.Refusing.{only_failed, question_refused, never_sums}
+use Rattle.flow_sql.proofs.Texts.{format_read, IsWhole}
 
 ---- Under any schema
-
-bare : (old : State) (c : Compiled) → understood old.now.schema format_sql ≡ Ok c → c.returning ≡ None
-bare old c is = reading_shows_none old.now.schema format_sql format_read.reading c is
 
 pub read_survives : (old new : State) → Survives old new (CommitsShowing format_sql [] old) → Survives old new (λ _. ⊥)
 read_survives old new h = commits_none format_sql format_read.reading [] old new h
@@ -25,11 +22,11 @@ read_survives old new h = commits_none format_sql format_read.reading [] old new
 pub read_leaves : (old new : State) (r : Result Row Error) → QueriesRow format_sql [] old new r → IsUnchanged old new ⊎ ((e : Error) × (r ≡ Err e) × Fails old new ⊥ e)
 unfolding QueriesRow FailsToQuery Shown IsNotRun
 read_leaves old new (Ok row) (inl h) = inl h.1
-read_leaves old new (Ok row) (inr h) = inl (rw (bare old h.1.0 h.1.1.is) at h.1.2).3
+read_leaves old new (Ok row) (inr h) = inl (rw (bare format_sql format_read.reading [] old new h.1.0 h.1.1.is) at h.1.2).3
 read_leaves old new (Err e) (inl (inl (inl refused))) = inl refused.1
 read_leaves old new (Err e) (inl (inl (inr fails))) = inr (e, refl, fails)
-read_leaves old new (Err e) (inl (inr h)) = inl (rw (bare old h.0 h.1.is) at h.2).3
-read_leaves old new (Err e) (inr h) = inl (rw (bare old h.1.0 h.1.1.is) at h.1.2).3
+read_leaves old new (Err e) (inl (inr h)) = inl (rw (bare format_sql format_read.reading [] old new h.0 h.1.is) at h.2).3
+read_leaves old new (Err e) (inr h) = inl (rw (bare format_sql format_read.reading [] old new h.1.0 h.1.1.is) at h.1.2).3
 
 module _ (start old new : State) (ended : HasEnded start old) where
   -- what the last commit left is shown behind a query that was answered

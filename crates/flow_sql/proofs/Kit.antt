@@ -36,4 +36,4 @@ pub use Rattle.std.proofs.Common.{OnOk, append_assoc, bytes_eq, cond, drop, eq-e
 pub use Rattle.std.proofs.lemmas.List.Elements.{All-from_recursion, filter-append}
 pub use Rattle.std.specs.Prelude.{Any, IsAscii, IsSome, IsUtf8, if◌then◌else◌, ltb, nat_lt, negsuc, not, option_map, sum_by, ◌&&◌, ◌*◌, ◌++◌, ◌+◌, ◌<ℤ◌, ◌<◌, ◌==◌, ◌^◌, ◌||◌, ◌∷◌, ◌≢◌, ◌≤◌, ◌⊎◌}
 pub use Rattle.flow_rows.specs.Changes.{in_its_place, marked, marked_row, row_under_text, under_text, with_event, with_run, with_task, with_task_in_place, with_text, with_timer, without_task, without_tasks, without_timer, without_timers}
-pub use Rattle.sqlite_trees.proofs.ListLemmas.{all-append, all-map, all-slice_get, all_from_map, ascending-append, filter-map}
+pub use Rattle.sqlite_trees.proofs.ListLemmas.{all-append, all-map, all-slice_get, all_from_map, ascending-append, filter-filter, filter-map}

@@ -1,13 +1,13 @@
 -- Why a statement of ours is refused: the store failed, or its database declines what is asked.
 use Rattle.sqlite_trees.specs.declared.error.StoreError.TheVariants as store
 use Rattle.sqlite.specs.Command.TheVariants as command
-use Rattle.flow_sql.proofs.Names.{schema, Write, write_sql, Read, read_sql, IsRead, write_takes, IsPlain, command_of, timed, Command, Does, Database, Row, overlay, Query, Executes, RunsCommand, State, mode_of, shows_rows, text_of, Trees, Error, Compiled, CompileError}
-use Rattle.flow_sql.proofs.Names.{IsTrue, List, false, true, ℕ, [], refl, Ok, None, Err, Result, length, Some, reads_listing, Fails, IsMisplaced, sym, ap, ◌∙◌, subst, inl, inr, arith, true≢false, append-nil, Schema}
-use Rattle.flow_sql.proofs.Kit.{IsDeclined, IsOurRead, IsOurWrite, IsWrite, MoreFaults, OutOfMemory, QueryOverflows, RefusesToRead, SqliteFailure, accepts_program, read_takes, IsSome, Any, ◌≡◌, ◌⊎◌, ◌≢◌, ◌≤◌}
+use Rattle.flow_sql.proofs.Names.{schema, IsRead, write_takes, IsPlain, command_of, timed, Command, Does, Database, Row, overlay, Query, Executes, RunsCommand, State, mode_of, shows_rows, text_of, Trees, Error, Compiled, IsTrue, List, false, true, ℕ, [], refl, None}
+use Rattle.flow_sql.proofs.Names.{Err, length, Some, reads_listing, Fails, IsMisplaced, sym, ap, ◌∙◌, subst, inl, inr, true≢false, append-nil, Schema}
+use Rattle.flow_sql.proofs.Kit.{IsDeclined, IsOurRead, IsOurWrite, IsWrite, MoreFaults, OutOfMemory, QueryOverflows, RefusesToRead, SqliteFailure, accepts_program, read_takes, IsSome, Any, ◌≡◌, ◌⊎◌, ◌≢◌}
 use Rattle.sqlite_trees.specs.declared.error.StoreError.{StoreError}
-use Rattle.sqlite_tied.specs.Compute.{everything}
 use Rattle.sqlite.specs.Listing.{understood, IsSourceOf}
 use Rattle.sqlite.specs.State.{HasCause, store_error, FailsToQuery, IsNotRun, IsNoStatement, ExecutesIn, IsStatement}
+use Rattle.flow_sql.proofs.Texts.{IsWhole, read_whole, is_write}
 
 -- a query over one table has no sum
 pub never_sums : (rows : List Row) → ⊥ ⊎ Any (λ r. ⊥) rows → ⊥
@@ -16,25 +16,11 @@ never_sums rows (inr it) = it.4
 
 ---- Our texts are whole, and take so many values
 
-abbrev pub IsWhole : List ℕ → ℕ → Result Compiled CompileError → Type 0
-IsWhole sql count (Ok c) = (length sql ≤ c.tail) × (length c.names ≡ count)
-IsWhole sql count (Err e) = ⊥
-
-read_whole : (r : Read) → IsWhole (read_sql r) (read_takes r) (understood schema (read_sql r))
-unfolding understood everything
-read_whole Read.all_texts = (omega arith, refl)
-read_whole _ = (omega arith, refl)
-
-write_whole : (w : Write) → IsWhole (write_sql w) (write_takes w) (understood schema (write_sql w))
-unfolding understood everything
-write_whole Write.insert_text = (omega arith, refl)
-write_whole _ = (omega arith, refl)
-
 pub whole_read : (sql : List ℕ) (params : Row) → IsOurRead sql params → IsWhole sql (length params) (understood schema sql)
 whole_read sql params it = subst (λ n. IsWhole sql n (understood schema sql)) it.2 (subst (λ s. IsWhole s (read_takes it.0) (understood schema s)) it.1 (read_whole it.0))
 
 pub whole_write : (sql : List ℕ) (params : Row) → IsOurWrite sql params → IsWhole sql (length params) (understood schema sql)
-whole_write sql params it = subst (λ n. IsWhole sql n (understood schema sql)) it.2 (subst (λ s. IsWhole s (write_takes it.0) (understood schema s)) it.1 (write_whole it.0))
+whole_write sql params it = subst (λ n. IsWhole sql n (understood schema sql)) it.2 (subst (λ s. IsWhole s (write_takes it.0) (understood schema s)) it.1 (is_write it.0).1)
 
 ---- Why one is refused
 

@@ -4,8 +4,9 @@ use Rattle.flow_sql.proofs.Kit.{Holds, IsWrite, MoreFaults, OnOk, OutOfMemory, R
 use Rattle.sqlite_tied.specs.Compute.{everything}
 use Rattle.sqlite.specs.Listing.{understood}
 use Rattle.sqlite.specs.State.{CommitsBy, MayWrite}
-use Rattle.flow_sql.proofs.Refusing.{IsWhole, failed, fails_or_runs}
+use Rattle.flow_sql.proofs.Refusing.{failed, fails_or_runs}
 use Rattle.flow_sql.proofs.Leaves.{was_clean, over_both, rolled_back_ended, ended_undone}
+use Rattle.flow_sql.proofs.Texts.{IsWhole}
 
 -- the text is this command, and nothing else, whatever tables there are
 pub record Controls (sql : List ℕ) (command : Command) : Type 1 where
