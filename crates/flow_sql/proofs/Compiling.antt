@@ -3,10 +3,10 @@ use Rattle.sqlite_ast.specs.declared.Statement.TheVariants as written
 use Rattle.sqlite_ast.specs.declared.Conflict.TheVariants as conflict
 use Rattle.sqlite_resolve.specs.Define as define
 use Rattle.flow_sql.proofs.Names.{survives_weaker, timed, Row, Executes, HasCleanDisk, IsRolledBack, IsUnchanged, Runs, Shows, State, Survives, shows_rows, text_of, Trees, Error, Statement, first, Checked, Compiled, CompileError, NoSuchTable, Returning, Parsed, cases_Bool, Bool, IsTrue, List}
-use Rattle.flow_sql.proofs.Names.{MatchResult, Option, false, true, ℕ, [], refl, Ok, None, Err, Result, ⊤, length, not, reads_listing, sym, ap, ◌∙◌, subst, inl, inr, true≢false, RunsTo, GoesOn, IsMaking, FirstIs, Schema, Table}
+use Rattle.flow_sql.proofs.Names.{MatchResult, Option, false, true, ℕ, [], refl, Ok, None, Err, Result, ⊤, length, not, reads_listing, sym, ap, ◌∙◌, subst, inl, inr, true≢false, RunsTo, GoesOn, IsMaking, FirstIs, Schema, Table, CommitsNothing, IsReading, index_named, table_named, view_named}
+use Rattle.flow_sql.proofs.Names.{◌≡◌, ◌⊎◌, if◌then◌else◌, ◌&&◌, ◌==◌, ◌+◌}
 use Rattle.sqlite_ast.specs.declared.CreateTable.{CreateTable}
 use Rattle.sqlite_ast.specs.declared.Rows.{Rows}
-use Rattle.flow_sql.proofs.Kit.{CommitsNothing, IsReading, index_named, table_named, view_named, ◌≡◌, ◌⊎◌, if◌then◌else◌, ◌&&◌, ◌==◌, ◌+◌}
 use Rattle.sqlite_schema.specs.declared.command.Command.{Command}
 use Rattle.sqlite_schema.specs.declared.command.Command.TheVariants.{Insert, CreateTable as MakeTable, Nothing}
 use Rattle.sqlite_resolve.specs.declared.error.CompileError.TheVariants.{Unsupported}

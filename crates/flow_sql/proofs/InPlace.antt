@@ -1,6 +1,6 @@
 -- A row that goes and comes again under its run and number stands in its place.
-use Rattle.flow_sql.proofs.Kit.{in_its_place, with_task, with_task_in_place, without_task, ◌≡◌, ◌∷◌, if◌then◌else◌, all_from, all_has, some_has}
-use Rattle.flow_sql.proofs.Names.{put_by, task_id, Tables, OutboxRow, Trees, IsAscending, all_weaker, cases_Bool, Decides-int_eq, ints, AllByRecursion, list_any, int_eq, Bool, List, false, filter, int_lt, map, true, [], refl, ℤ, not, sym, ap, ◌∙◌, subst, inl, inr, arith, true≢false, AreOurs, tables_in, task_in}
+use Rattle.flow_sql.proofs.Names.{in_its_place, with_task, with_task_in_place, without_task, ◌≡◌, ◌∷◌, if◌then◌else◌, all_from, all_has, some_has, put_by, task_id, Tables, OutboxRow, Trees, IsAscending, all_weaker, cases_Bool, Decides-int_eq, ints, AllByRecursion, list_any, int_eq, Bool, List, false, filter}
+use Rattle.flow_sql.proofs.Names.{int_lt, map, true, [], refl, ℤ, not, sym, ap, ◌∙◌, subst, inl, inr, arith, true≢false, AreOurs, tables_in, task_in}
 use Rattle.flow_sql.proofs.Columns.{of_tasks, keys_differ}
 use Rattle.flow_sql.proofs.Rising.{apart_of_run, none_go, none_change, Lower, rising_rises, none_is}
 

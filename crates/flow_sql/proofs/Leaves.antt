@@ -1,7 +1,7 @@
 -- What a statement leaves that is refused, and that none opens a connection that was shut.
 use Rattle.flow_sql.proofs.Names.{timed, Command, Begin, Commit, Rollback, Select, Database, Row, Executes, HasCleanDisk, IsRolledBack, IsUnchanged, Runs, RunsCommand, State, Survives, shows_rows, text_of, Trees, Error, Returning, cases_Bool, Bool, IsTrue, List, Option, false, ℕ, Ok, Err, Result, Nothing, sym, ◌∙◌, subst, inl, inr, arith, IsOver, HasTables, HasEnded, IsStill, IsAtRest, IsUndone, IsRefused}
+use Rattle.flow_sql.proofs.Names.{Release, RollbackTo, Rows, Savepoint, ◌≡◌, ◌⊎◌}
 use Rattle.sqlite.specs.State.{ExecutesIn, IsNotRun}
-use Rattle.flow_sql.proofs.Kit.{Release, RollbackTo, Rows, Savepoint, ◌≡◌, ◌⊎◌}
 
 ---- What a statement that is refused leaves
 

@@ -1,5 +1,4 @@
 pub mod Names
-pub mod Kit
 pub mod Texts
 pub mod Leaves
 pub mod Numbered

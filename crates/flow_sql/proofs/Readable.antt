@@ -1,7 +1,7 @@
 -- That what our tables hold can be read: a number always, and a text where it is UTF-8.
-use Rattle.flow_sql.proofs.Kit.{all-map, all_from_map, cases_lt, get_or_past, suc, zero, IsUtf8, ◌≡◌, ◌∷◌, ◌<◌, all_from, all_has, has_kept}
-use Rattle.flow_sql.proofs.Names.{event_id, rising, events_of, EventRow, Kind, Integer, Text, Null, Row, col, overlay, IsAnswer, Output, Term, Trees, rowid, is_int, all-filter, all-permutation, all_both, all_weaker, bytes, column, Key, Decides-int_eq, IsPermutation-sym, AllByRecursion, int_eq, IsTrue, List, filter}
-use Rattle.flow_sql.proofs.Names.{map, slice_get, Some, length, ℕ, [], refl, ℤ, take, sym, subst, inl, inr, AreOurs, tables_in, run_in, event_in, text_in, text_table, run_table, event_table, timer_table, task_table, Read, rows_where, query_of, first_where, IsReadAs, AreReadAs, AreUtf8, kinds_of, Bool}
+use Rattle.flow_sql.proofs.Names.{all-map, all_from_map, cases_lt, get_or_past, suc, zero, IsUtf8, ◌≡◌, ◌∷◌, ◌<◌, all_from, all_has, has_kept, event_id, rising, events_of, EventRow, Kind, Integer, Text, Null, Row, col, overlay, IsAnswer, Output, Term, Trees, rowid, is_int, all-filter, all-permutation, all_both}
+use Rattle.flow_sql.proofs.Names.{all_weaker, bytes, column, Key, Decides-int_eq, IsPermutation-sym, AllByRecursion, int_eq, IsTrue, List, filter, map, slice_get, Some, length, ℕ, [], refl, ℤ, take, sym, subst, inl, inr, AreOurs, tables_in, run_in, event_in, text_in, text_table, run_table, event_table, timer_table}
+use Rattle.flow_sql.proofs.Names.{task_table, Read, rows_where, query_of, first_where, IsReadAs, AreReadAs, AreUtf8, kinds_of, Bool}
 use Rattle.flow_sql.proofs.Numbered.{number_is}
 use Rattle.flow_sql.proofs.Columns.{AreTyped, columns}
 use Rattle.flow_sql.proofs.Reading.{meets, seen, kept_is, out}

@@ -2,8 +2,8 @@
 use Rattle.sqlite_trees.specs.declared.error.StoreError.TheVariants as store
 use Rattle.sqlite.specs.Command.TheVariants as command
 use Rattle.flow_sql.proofs.Names.{schema, IsRead, write_takes, IsPlain, command_of, timed, Command, Does, Database, Row, overlay, Query, Executes, RunsCommand, State, mode_of, shows_rows, text_of, Trees, Error, Compiled, IsTrue, List, false, true, ℕ, [], refl, None}
-use Rattle.flow_sql.proofs.Names.{Err, length, Some, reads_listing, Fails, IsMisplaced, sym, ap, ◌∙◌, subst, inl, inr, true≢false, append-nil, Schema}
-use Rattle.flow_sql.proofs.Kit.{IsDeclined, IsOurRead, IsOurWrite, IsWrite, MoreFaults, OutOfMemory, QueryOverflows, RefusesToRead, SqliteFailure, accepts_program, read_takes, IsSome, Any, ◌≡◌, ◌⊎◌, ◌≢◌}
+use Rattle.flow_sql.proofs.Names.{Err, length, Some, reads_listing, Fails, IsMisplaced, sym, ap, ◌∙◌, subst, inl, inr, true≢false, append-nil, Schema, IsDeclined, IsOurRead, IsOurWrite, IsWrite, MoreFaults, OutOfMemory, QueryOverflows, RefusesToRead, SqliteFailure}
+use Rattle.flow_sql.proofs.Names.{accepts_program, read_takes, IsSome, Any, ◌≡◌, ◌⊎◌, ◌≢◌}
 use Rattle.sqlite_trees.specs.declared.error.StoreError.{StoreError}
 use Rattle.sqlite.specs.Listing.{understood, IsSourceOf}
 use Rattle.sqlite.specs.State.{HasCause, store_error, FailsToQuery, IsNotRun, IsNoStatement, ExecutesIn, IsStatement}
