@@ -3,7 +3,7 @@ use Rattle.sqlite_trees.specs.declared.error.StoreError.TheVariants as store
 use Rattle.sqlite.specs.Command.TheVariants as command
 use Rattle.flow_sql.proofs.Names.{schema, IsRead, write_takes, IsPlain, command_of, timed, Command, Does, Database, Row, overlay, Query, Executes, RunsCommand, State, mode_of, shows_rows, text_of, Trees, Error, Compiled, IsTrue, List, false, true, ℕ, [], refl, None}
 use Rattle.flow_sql.proofs.Names.{Err, length, Some, reads_listing, Fails, IsMisplaced, sym, ap, ◌∙◌, subst, inl, inr, true≢false, append-nil, Schema, IsDeclined, IsOurRead, IsOurWrite, IsWrite, MoreFaults, OutOfMemory, QueryOverflows, RefusesToRead, SqliteFailure}
-use Rattle.flow_sql.proofs.Names.{accepts_program, read_takes, IsSome, Any, ◌≡◌, ◌⊎◌, ◌≢◌}
+use Rattle.flow_sql.proofs.Names.{accepts_program, read_takes, IsSome, Any, ◌≡◌, ◌⊎◌, ◌≢◌, Begin, Commit, Rollback, Release, RollbackTo}
 use Rattle.sqlite_trees.specs.declared.error.StoreError.{StoreError}
 use Rattle.sqlite.specs.Listing.{understood, IsSourceOf}
 use Rattle.sqlite.specs.State.{HasCause, store_error, FailsToQuery, IsNotRun, IsNoStatement, ExecutesIn, IsStatement}
@@ -90,12 +90,14 @@ hides (command.Select q names) w c = absurd w
 hides (command.Rows values width names) w c = absurd w
 hides _ w c = refl
 
-never_misplaced : (s : State) (k : Command) (e : Error) → IsWrite k → ¬ IsMisplaced s k e
-never_misplaced s k e writes (inl (_, inl begin)) = absurd (rw begin.0 at writes)
-never_misplaced s k e writes (inl (_, inr (inl commit, _))) = absurd (rw commit at writes)
-never_misplaced s k e writes (inl (_, inr (inr rollback, _))) = absurd (rw rollback at writes)
-never_misplaced s k e writes (inr (_, name, inl release, _)) = absurd (rw release at writes)
-never_misplaced s k e writes (inr (_, name, inr back, _)) = absurd (rw back at writes)
+-- what isn't one of the transaction, or stands where it may, is in its place
+pub never_misplaced : (s : State) (k : Command) (e : Error) (P : Command → Type 0) → P k → (P Begin → s.in_transaction ≡ false) → (P Commit → s.in_transaction ≡ true) → (P Rollback → s.in_transaction ≡ true)
+    → ((name : List ℕ) → ¬ P (Release name)) → ((name : List ℕ) → ¬ P (RollbackTo name)) → ¬ IsMisplaced s k e
+never_misplaced s k e P its begin commit rollback release back (inl (_, inl (is, inside))) = true≢false (sym inside ∙ begin (subst P is its))
+never_misplaced s k e P its begin commit rollback release back (inl (_, inr (inl is, outside))) = true≢false (sym (commit (subst P is its)) ∙ outside)
+never_misplaced s k e P its begin commit rollback release back (inl (_, inr (inr is, outside))) = true≢false (sym (rollback (subst P is its)) ∙ outside)
+never_misplaced s k e P its begin commit rollback release back (inr (_, name, inl is, _)) = release name (subst P is its)
+never_misplaced s k e P its begin commit rollback release back (inr (_, name, inr is, _)) = back name (subst P is its)
 
 -- A row of the statement is too big to be stored.
 abbrev pub IsTooBig : List ℕ → Row → State → Type 0
@@ -112,7 +114,7 @@ module _ (old new : State) (e : Error) (other : e ≢ SqliteFailure OutOfMemory)
   pub change_refused : Executes sql params old new (Err e) → MoreFaults old.faults new.faults ⊎ IsDeclined sql params old
   change_refused h = elim (ran h) [
     | inl fails ↦ inl (only_failed old new e other up fails)
-    | inr (c, it, same, _, inl (inl misplaced, _)) ↦ absurd (never_misplaced old c.command e (subst IsWrite (sym same) writes) misplaced)
+    | inr (c, it, same, _, inl (inl misplaced, _)) ↦ absurd (never_misplaced old c.command e IsWrite (subst IsWrite (sym same) writes) (λ h. absurd h) (λ h. absurd h) (λ h. absurd h) (λ _ h. h) (λ _ h. h) misplaced)
     | inr (c, it, _, _, inl (inr declined, _)) ↦ inr (Some e, c, it, declined.1)
     | inr (c, it, _, _, inr fails) ↦ elim (failed old new e other up _ fails) [ inl more ↦ inl more | inr big ↦ inr (None, c, it, big) ]
   ]

@@ -1,10 +1,10 @@
 -- What BEGIN, COMMIT and ROLLBACK mean, under any schema.
 use Rattle.flow_sql.proofs.Names.{schema, IsPlain, command_of, runs_as, statement_of, survives_weaker, timed, Command, Begin, Commit, Rollback, Does, Row, Schema, Executes, IsRolledBack, Runs, State, Survives, mode_of, shows_rows, text_of, Trees, Error, Compiled, Bool, IfErr, IsTrue, List, MatchResult, codes, false, true, ℕ, [], refl, Ok, None, Err, Result, ⊤, Fails, IsMisplaced, IsOver, RunsTo, HasEnded, IsStill, GoesOn, IsUndone, HasBegun, HasCommitted, sym, ap, ◌∙◌, subst, inl, inr, arith, true≢false}
-use Rattle.flow_sql.proofs.Names.{Holds, IsWrite, MoreFaults, OnOk, OutOfMemory, Release, RollbackTo, SqliteFailure, ◌≡◌, ◌≢◌}
+use Rattle.flow_sql.proofs.Names.{Holds, IsWrite, MoreFaults, OnOk, OutOfMemory, SqliteFailure, ◌≡◌, ◌≢◌}
 use Rattle.sqlite_tied.specs.Compute.{everything}
 use Rattle.sqlite.specs.Listing.{understood}
 use Rattle.sqlite.specs.State.{CommitsBy, MayWrite}
-use Rattle.flow_sql.proofs.Refusing.{failed, fails_or_runs}
+use Rattle.flow_sql.proofs.Refusing.{failed, fails_or_runs, never_misplaced}
 use Rattle.flow_sql.proofs.Leaves.{was_clean, over_both, rolled_back_ended, ended_undone}
 use Rattle.flow_sql.proofs.Texts.{IsWhole}
 
@@ -94,23 +94,12 @@ IsPlaced Commit inside = inside ≡ true
 IsPlaced Rollback inside = inside ≡ true
 IsPlaced _ inside = ⊥
 
-module _ (s : State) (command : Command) (placed : IsPlaced command s.in_transaction) where
-  abbrev placed_as : (k : Command) → command ≡ k → IsPlaced k s.in_transaction
-  placed_as k is = subst (λ c. IsPlaced c s.in_transaction) is placed
-
-  never_misplaced : (e : Error) → ¬ IsMisplaced s command e
-  never_misplaced e (inl (_, inl (is, inside))) = true≢false (sym inside ∙ placed_as Begin is)
-  never_misplaced e (inl (_, inr (inl is, outside))) = true≢false (sym (placed_as Commit is) ∙ outside)
-  never_misplaced e (inl (_, inr (inr is, outside))) = true≢false (sym (placed_as Rollback is) ∙ outside)
-  never_misplaced e (inr (_, name, inl release, _)) = placed_as (Release name) release
-  never_misplaced e (inr (_, name, inr back, _)) = placed_as (RollbackTo name) back
-
 module _ (sql : List ℕ) (old new : State) (e : Error) (command : Command) (it : Controls sql command) (placed : IsPlaced command old.in_transaction) where
   -- only a failure of the store refuses it, with nothing that could be too big
   fails_alone : (P : Type 0) → ((W : Type 0) → ¬ W → Fails old new W e → P) → Executes sql [] old new (Err e) → P
   fails_alone P so h = elim (fails_or_runs old new e old.now.schema refl sql [] command (it.is old.now.schema) (it.plain old.now.schema) (it.whole old.now.schema) it.hidden h) [
     | inl fails ↦ so ⊥ (λ none. none) fails
-    | inr (c, _, same, _, inl (inl misplaced, _)) ↦ absurd (never_misplaced old command placed e (subst (λ k. IsMisplaced old k e) same misplaced))
+    | inr (c, _, same, _, inl (inl misplaced, _)) ↦ absurd (never_misplaced old command e (λ k. IsPlaced k old.in_transaction) placed (λ h. h) (λ h. h) (λ h. h) (λ _ h. h) (λ _ h. h) (subst (λ k. IsMisplaced old k e) same misplaced))
     | inr (c, _, same, _, inl (inr (inl write, _), _)) ↦ absurd (it.writes (subst IsWrite same write))
     | inr (c, _, same, bare, inl (inr (inr some, _), _)) ↦ absurd (let e = rw bare at some in true≢false (sym e))
     | inr (c, at, same, bare, inr fails) ↦
