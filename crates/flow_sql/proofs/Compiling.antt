@@ -94,21 +94,17 @@ module _ (Q : Statement → Type 0) (P : Command × Option Returning → Type 0)
   abbrev IsSo : Compiled → Type 0
   IsSo c = P (c.command, c.returning)
 
-  meaning_so : (schema : Schema) (p : Parsed) (base : ℕ) → Q p.statement → (found : Command × Option Returning) → meaning schema p base ≡ Ok found → P found
-  unfolding meaning
-  meaning_so schema p base it =
-      let last = λ (shown : Option Returning) (c : Command). Ok (c, shown) in
-      let next = λ (shown : Option Returning). and_then (command schema p.formats base p.statement) (last shown) in
-      then_gives (returning schema base p.statement) next P (λ shown shown_is. then_gives (command schema p.formats base p.statement) (last shown) P
-      (λ c c_is. it_gives (c, shown) P (so schema p.formats base p.statement it c c_is shown shown_is)))
-
   plan_so : (schema : Schema) (p : Parsed) → Q p.statement → (plan : List Name × (Command × Option Returning)) → planned schema p ≡ Ok plan → Plans plan
-  unfolding planned
+  unfolding planned meaning
   plan_so schema p it =
       let formats = timed_at schema p.formats p.statement in
       let base = small p.names + small formats in
+      let both = λ (shown : Option Returning) (c : Command). Ok (c, shown) in
+      let next = λ (shown : Option Returning). and_then (command schema p.formats base p.statement) (both shown) in
       let last = λ (found : Command × Option Returning). Ok (formats, found) in
-      then_gives (meaning schema p base) last Plans (λ found found_is. it_gives (formats, found) Plans (meaning_so schema p base it found found_is))
+      then_gives (meaning schema p base) last Plans (λ found found_is. it_gives (formats, found) Plans
+      (then_gives (returning schema base p.statement) next P (λ shown shown_is. then_gives (command schema p.formats base p.statement) (both shown) P
+      (λ c c_is. it_gives (c, shown) P (so schema p.formats base p.statement it c c_is shown shown_is))) found found_is))
 
   compiled_so : (schema : Schema) (sql : List ℕ) → FirstIs Q (first sql) → (c : Compiled) → compiled schema sql ≡ Ok c → IsSo c
   unfolding compiled

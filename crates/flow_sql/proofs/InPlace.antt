@@ -45,26 +45,24 @@ HasTask row t = is_there task_id row (t.outbox row.run)
 
 -- A task of a run that goes and comes again stands in its place.
 pub task_in_place : (db : Trees) → AreOurs db → (row : OutboxRow) → HasTask row (tables_in db) ≡ true → with_task row (without_task row.run row.id (tables_in db)) ≡ with_task_in_place row (tables_in db)
-task_in_place db ours row there = λ i. record (tables_in db) { outbox = λ z. of_run z i }
-  where
-    here : put_by task_id row (filter (other task_id row) ((tables_in db).outbox row.run)) ≡ map (in_its_place row) ((tables_in db).outbox row.run)
-    here = put_in_place task_id row ((tables_in db).outbox row.run) (rising_rises task_id _ (apart_of_run (λ (x : OutboxRow). x.run) task_id row.run (map task_in (db 9)) (keys_differ 5 9 task_in (λ (x : OutboxRow). x.run) task_id of_tasks db ours))) there
-
-    of_run : (z : ℤ) → (with_task row (without_task row.run row.id (tables_in db))).outbox z ≡ (with_task_in_place row (tables_in db)).outbox z
-    of_run z = elim (cases_Bool (int_eq z row.run)) [
+task_in_place db ours row there =
+    let here : put_by task_id row (filter (other task_id row) ((tables_in db).outbox row.run)) ≡ map (in_its_place row) ((tables_in db).outbox row.run) =
+    put_in_place task_id row ((tables_in db).outbox row.run) (rising_rises task_id _ (apart_of_run (λ (x : OutboxRow). x.run) task_id row.run (map task_in (db 9)) (keys_differ 5 9 task_in (λ (x : OutboxRow). x.run) task_id of_tasks db ours))) there in
+    let of_run : (z : ℤ) → (with_task row (without_task row.run row.id (tables_in db))).outbox z ≡ (with_task_in_place row (tables_in db)).outbox z =
+    λ z. elim (cases_Bool (int_eq z row.run)) [
       | inl same ↦ rw same (subst (λ w. put_by task_id row (filter (other task_id row) ((tables_in db).outbox w)) ≡ map (in_its_place row) ((tables_in db).outbox w)) (sym ((Decides-int_eq z row.run).0 same)) here)
       | inr apart ↦ rw apart refl
-    ]
+    ] in
+    λ i. record (tables_in db) { outbox = λ z. of_run z i }
 
 -- One that isn't there changes nothing.
 pub no_task_in_place : (t : Tables) (row : OutboxRow) → HasTask row t ≡ false → with_task_in_place row t ≡ t
-no_task_in_place t row none = λ i. record t { outbox = λ z. of_run z i }
-  where
-    here : map (in_its_place row) (t.outbox row.run) ≡ t.outbox row.run
-    here = none_change (λ (x : OutboxRow). int_eq x.id row.id) (λ _. row) (t.outbox row.run) (all_from _ (t.outbox row.run) (none_is (λ x. int_eq x.id row.id) (t.outbox row.run) none))
-
-    of_run : (z : ℤ) → (with_task_in_place row t).outbox z ≡ t.outbox z
-    of_run z = elim (cases_Bool (int_eq z row.run)) [
+no_task_in_place t row none =
+    let here : map (in_its_place row) (t.outbox row.run) ≡ t.outbox row.run =
+    none_change (λ (x : OutboxRow). int_eq x.id row.id) (λ _. row) (t.outbox row.run) (all_from _ (t.outbox row.run) (none_is (λ x. int_eq x.id row.id) (t.outbox row.run) none)) in
+    let of_run : (z : ℤ) → (with_task_in_place row t).outbox z ≡ t.outbox z =
+    λ z. elim (cases_Bool (int_eq z row.run)) [
       | inl same ↦ rw same (subst (λ w. map (in_its_place row) (t.outbox w) ≡ t.outbox w) (sym ((Decides-int_eq z row.run).0 same)) here)
       | inr apart ↦ rw apart refl
-    ]
+    ] in
+    λ i. record t { outbox = λ z. of_run z i }
