@@ -123,10 +123,6 @@ module _ (Q : Statement → Type 0) (P : Command × Option Returning → Type 0)
 pub understood_inside : (schema : Schema) (sql : List ℕ) → FirstIs IsMaking (first sql) → (c : Compiled) → understood schema sql ≡ Ok c → IsInside c.command × (c.returning ≡ None)
 understood_inside = understood_so IsMaking (λ found. IsInside found.0 × (found.1 ≡ None)) (λ schema formats base st making c c_is shown shown_is. (command_inside schema formats base st making c c_is, shows_none schema base st making shown shown_is))
 
--- a query shows no rows of a write
-pub reading_shows_none : (schema : Schema) (sql : List ℕ) → FirstIs IsReading (first sql) → (c : Compiled) → understood schema sql ≡ Ok c → c.returning ≡ None
-reading_shows_none = understood_so IsReading (λ found. found.1 ≡ None) (λ schema formats base st reading c c_is. reads_none schema base st reading)
-
 ---- What it does within a transaction
 
 module _ (old new : State) (inside : IsTrue old.in_transaction) where
@@ -171,8 +167,9 @@ making_survives old new sql params making inside h =
 ---- What a query leaves: it commits nothing, and changes nothing, or fails with the store
 
 module _ (sql : List ℕ) (reading : FirstIs IsReading (first sql)) (params : Row) (old new : State) where
+  -- a query shows no rows of a write
   pub bare : (c : Compiled) → understood old.now.schema sql ≡ Ok c → c.returning ≡ None
-  bare c is = reading_shows_none old.now.schema sql reading c is
+  bare = understood_so IsReading (λ found. found.1 ≡ None) (λ schema formats base st reads c c_is. reads_none schema base st reads) old.now.schema sql reading
 
   pub commits_none : Survives old new (CommitsShowing sql params old) → Survives old new (λ _. ⊥)
   unfolding CommitsShowing

@@ -17,9 +17,6 @@ module _ {A : Type 0} (key : A → ℤ) (x : A) where
   less_so : (y z : A) → Lower key y z → int_lt (key y) (key z) ≡ true
   less_so y z low = grind (arith, ints)
 
-  abbrev AreOthers : List A → Type 0
-  AreOthers ys = AllByRecursion (λ y. int_eq (key y) (key x) ≡ false) ys
-
   put_first : (ys : List A) → AllByRecursion (λ y. int_lt (key x) (key y) ≡ true) ys → put_by key x ys ≡ x ∷ ys
   put_first [] up = refl
   put_first (y ∷ ys) up = rw up.0 refl
@@ -34,7 +31,7 @@ module _ {A : Type 0} (key : A → ℤ) (x : A) where
   put_in_place [] up there = absurd (true≢false (sym there))
   put_in_place (y ∷ ys) up there = elim (cases_Bool (int_eq (key y) (key x))) [
     | inl same ↦
-        let others : AreOthers ys = all_weaker (Lower key y) (λ z. int_eq (key z) (key x) ≡ false) (λ z low. let less = less_so y z low in grind (arith, ints)) ys up.0 in
+        let others = all_weaker (Lower key y) (λ z. int_eq (key z) (key x) ≡ false) (λ z low. let less = less_so y z low in grind (arith, ints)) ys up.0 in
         let higher = all_weaker (Lower key y) (λ z. int_lt (key x) (key z) ≡ true) (λ z low. let less = less_so y z low in grind (arith, ints)) ys up.0 in
         rw same (ap (put_by key x) (none_go (λ z. int_eq (key z) (key x)) ys others) ∙ put_first ys higher ∙ ap (λ l. x ∷ l) (sym (none_change (λ z. int_eq (key z) (key x)) (λ _. x) ys others)))
     | inr apart ↦ rw (apart, not_first y ys up.0 (rw apart at there)) (ap (λ l. y ∷ l) (put_in_place ys up.1 (rw apart at there)))

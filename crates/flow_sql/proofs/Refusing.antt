@@ -4,9 +4,8 @@ use Rattle.sqlite.specs.Command.TheVariants as command
 use Rattle.flow_sql.proofs.Names.{schema, IsRead, write_takes, IsPlain, command_of, timed, Command, Does, Database, Row, overlay, Query, Executes, RunsCommand, State, mode_of, shows_rows, text_of, Trees, Error, Compiled, IsTrue, List, false, true, ℕ, [], refl, None}
 use Rattle.flow_sql.proofs.Names.{Err, length, Some, reads_listing, Fails, IsMisplaced, sym, ap, ◌∙◌, subst, inl, inr, true≢false, append-nil, Schema, IsDeclined, IsOurRead, IsOurWrite, IsWrite, MoreFaults, OutOfMemory, QueryOverflows, RefusesToRead, SqliteFailure}
 use Rattle.flow_sql.proofs.Names.{accepts_program, read_takes, IsSome, Any, ◌≡◌, ◌⊎◌, ◌≢◌, Begin, Commit, Rollback, Release, RollbackTo}
-use Rattle.sqlite_trees.specs.declared.error.StoreError.{StoreError}
 use Rattle.sqlite.specs.Listing.{understood, IsSourceOf}
-use Rattle.sqlite.specs.State.{HasCause, store_error, FailsToQuery, IsNotRun, IsNoStatement, ExecutesIn, IsStatement}
+use Rattle.sqlite.specs.State.{FailsToQuery, IsNotRun, IsNoStatement, ExecutesIn, IsStatement}
 use Rattle.flow_sql.proofs.Texts.{IsWhole, read_whole, is_write}
 
 -- a query over one table has no sum
@@ -36,14 +35,11 @@ module _ (old : State) (e : Error) (s : Schema) (laid : old.now.schema ≡ s) (s
   never_no_statement (inr (c, is, inr (inr timed'))) = timed'.0 (subst IsPlain (known ∙ is) plain).1
 
 module _ (old new : State) (e : Error) (other : e ≢ SqliteFailure OutOfMemory) (up : IsTrue old.is_open) where
-  failed_for : (W : Type 0) (k : StoreError) → e ≡ store_error k → HasCause old new W k → MoreFaults old.faults new.faults ⊎ W
-  failed_for W store.OutOfMemory is why = absurd (other is)
-  failed_for W store.Broken is why = absurd (let open_then = up in cc)
-  failed_for W store.Unstorable is why = inr why
-  failed_for W _ is why = inl why
-
   pub failed : (W : Type 0) → Fails old new W e → MoreFaults old.faults new.faults ⊎ W
-  failed W h = failed_for W h.0 h.1 h.2
+  failed W (store.OutOfMemory, is, why, _, _) = absurd (other is)
+  failed W (store.Broken, is, why, _, _) = absurd (let open_then = up in cc)
+  failed W (store.Unstorable, is, why, _, _) = inr why
+  failed W (_, is, why, _, _) = inl why
 
   pub only_failed : Fails old new ⊥ e → MoreFaults old.faults new.faults
   only_failed fails = elim (failed ⊥ fails) [
@@ -107,12 +103,8 @@ IsTooBig sql params s =
 -- A change: the store failed, or its database declines it.
 module _ (old new : State) (e : Error) (other : e ≢ SqliteFailure OutOfMemory) (up : IsTrue old.is_open) (s : Schema) (laid : old.now.schema ≡ s) (sql : List ℕ) (params : Row) (k : Command) (is : command_of (understood s sql) ≡ k) (writes : IsWrite k)
     (plain : IsPlain (understood s sql)) (whole : IsWhole sql (length params) (understood s sql)) where
-  abbrev ran : Executes sql params old new (Err e)
-      → Fails old new ⊥ e ⊎ ((c : Compiled) × (it : IsStatement old sql params c) × (c.command ≡ k) × (c.returning ≡ None) × RunsCommand old new sql c (timed params c.formats it.now) (Err e))
-  ran = fails_or_runs old new e s laid sql params k is plain whole (hides k writes)
-
   pub change_refused : Executes sql params old new (Err e) → MoreFaults old.faults new.faults ⊎ IsDeclined sql params old
-  change_refused h = elim (ran h) [
+  change_refused h = elim (fails_or_runs old new e s laid sql params k is plain whole (hides k writes) h) [
     | inl fails ↦ inl (only_failed old new e other up fails)
     | inr (c, it, same, _, inl (inl misplaced, _)) ↦ absurd (never_misplaced old c.command e IsWrite (subst IsWrite (sym same) writes) (λ h. absurd h) (λ h. absurd h) (λ h. absurd h) (λ _ h. h) (λ _ h. h) misplaced)
     | inr (c, it, _, _, inl (inr declined, _)) ↦ inr (Some e, c, it, declined.1)
@@ -121,7 +113,7 @@ module _ (old new : State) (e : Error) (other : e ≢ SqliteFailure OutOfMemory)
 
   -- One that has ended the transaction: the store failed, or a row of it is too big to be stored.
   pub change_ended : old.in_transaction ≡ true → new.in_transaction ≡ false → Executes sql params old new (Err e) → MoreFaults old.faults new.faults ⊎ IsTooBig sql params old
-  change_ended inside outside h = elim (ran h) [
+  change_ended inside outside h = elim (fails_or_runs old new e s laid sql params k is plain whole (hides k writes) h) [
     | inl fails ↦ inl (only_failed old new e other up fails)
     | inr (c, it, _, _, inl refused) ↦ absurd (true≢false (sym inside ∙ sym refused.1.0.mode ∙ outside))
     | inr (c, it, _, _, inr fails) ↦ elim (failed old new e other up _ fails) [ inl more ↦ inl more | inr big ↦ inr (c, it, big) ]

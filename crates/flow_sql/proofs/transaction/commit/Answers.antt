@@ -13,7 +13,8 @@ pub returns-clause-effect : goal.returns-clause-effect
 returns-clause-effect g c clean =
     let old = state g.S.Store c.args.conn.now in
     let new = state g.S.Store c.run.new.conn in
-    ran_to old new (codes "COMMIT") (HasCommitted old new) (λ e. Executes (codes "COMMIT") [] old new (Err e)) c.run.result (c.run.ensures.runs clean) (commits old new) (λ e h. h)
+    ran_to old new (codes "COMMIT") (HasCommitted old new) (λ e. Executes (codes "COMMIT") [] old new (Err e)) c.run.result
+    (c.run.ensures.runs clean) (commits old new) (λ e h. h)
 
 pub returns-clause-ended : goal.returns-clause-ended
 returns-clause-ended g c clean = committed_or_ended (state g.S.Store c.args.conn.now) (state g.S.Store c.run.new.conn) c.run.result (c.run.ensures.runs clean)

@@ -14,7 +14,8 @@ pub returns-clause-cause : goal.returns-clause-cause
 returns-clause-cause g c clean =
     let old = state g.S.Store c.args.conn.now in
     let new = state g.S.Store c.run.new.conn in
-    ran_to old new (codes "ROLLBACK") (IsTrue old.in_transaction) (λ e. Executes (codes "ROLLBACK") [] old new (Err e)) c.run.result (c.run.ensures.runs clean) (λ count h. (rolls_back old new count h).0) (λ e h. h)
+    ran_to old new (codes "ROLLBACK") (IsTrue old.in_transaction) (λ e. Executes (codes "ROLLBACK") [] old new (Err e)) c.run.result (c.run.ensures.runs clean)
+    (λ count h. (rolls_back old new count h).0) (λ e h. h)
 
 pub returns-clause-done : goal.returns-clause-done
 returns-clause-done g c clean = ran_ok (state g.S.Store c.args.conn.now) (state g.S.Store c.run.new.conn) (codes "ROLLBACK") _ c.run.result (c.run.ensures.runs clean) (λ count h. (count, h))

@@ -9,4 +9,4 @@ pub returns-in-Ok-clause-open : goal.returns-in-Ok-clause-open
 returns-in-Ok-clause-open g c clean = was_open (state g.S.Store c.args.conn.now) (state g.S.Store c.execute.new.self) c.args.sql.now [] (Ok _) (c.in-Ok.ensures.runs clean)
 
 pub returns-in-Err-clause-open : goal.returns-in-Err-clause-open
-returns-in-Err-clause-open g c clean = was_open (state g.S.Store c.args.conn.now) (state g.S.Store c.execute.new.self) c.args.sql.now [] (Err c.in-Err.error) (c.in-Err.ensures.runs clean)
+returns-in-Err-clause-open g c h = was_open (state g.S.Store c.args.conn.now) (state g.S.Store c.execute.new.self) c.args.sql.now [] (Err c.in-Err.error) (c.in-Err.ensures.runs h)
