@@ -88,13 +88,10 @@ selected (Err e) c h = absurd (let never = h in cc)
 -- what is so of the command of such a statement, and of what it shows, is so of what a text becomes that begins with one
 module _ (Q : Statement → Type 0) (P : Command × Option Returning → Type 0)
     (so : (schema : Schema) (formats : List Name) (base : ℕ) (st : Statement) → Q st → (c : Command) → command schema formats base st ≡ Ok c → (shown : Option Returning) → returning schema base st ≡ Ok shown → P (c, shown)) where
-  abbrev Plans : List Name × (Command × Option Returning) → Type 0
-  Plans plan = P plan.1
-
   abbrev IsSo : Compiled → Type 0
   IsSo c = P (c.command, c.returning)
 
-  plan_so : (schema : Schema) (p : Parsed) → Q p.statement → (plan : List Name × (Command × Option Returning)) → planned schema p ≡ Ok plan → Plans plan
+  plan_so : (schema : Schema) (p : Parsed) → Q p.statement → (plan : List Name × (Command × Option Returning)) → planned schema p ≡ Ok plan → P plan.1
   unfolding planned meaning
   plan_so schema p it =
       let formats = timed_at schema p.formats p.statement in
@@ -102,7 +99,7 @@ module _ (Q : Statement → Type 0) (P : Command × Option Returning → Type 0)
       let both = λ (shown : Option Returning) (c : Command). Ok (c, shown) in
       let next = λ (shown : Option Returning). and_then (command schema p.formats base p.statement) (both shown) in
       let last = λ (found : Command × Option Returning). Ok (formats, found) in
-      then_gives (meaning schema p base) last Plans (λ found found_is. it_gives (formats, found) Plans
+      then_gives (meaning schema p base) last (λ plan. P plan.1) (λ found found_is. it_gives (formats, found) (λ plan. P plan.1)
       (then_gives (returning schema base p.statement) next P (λ shown shown_is. then_gives (command schema p.formats base p.statement) (both shown) P
       (λ c c_is. it_gives (c, shown) P (so schema p.formats base p.statement it c c_is shown shown_is))) found found_is))
 
