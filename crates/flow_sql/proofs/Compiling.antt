@@ -1,11 +1,12 @@
 -- What the statements that make the tables do, whatever tables there are: each keeps the transaction, and none commits.
-use Rattle.flow_sql.proofs.Names.{survives_weaker, timed, Row, Executes, HasCleanDisk, IsRolledBack, IsUnchanged, Runs, Shows, State, Survives, shows_rows, text_of, Trees, Error, Statement, first, Checked, Compiled, CompileError, NoSuchTable, Returning, Parsed, cases_Bool, Bool, IsTrue, List}
-use Rattle.flow_sql.proofs.Names.{MatchResult, Option, false, true, ℕ, [], refl, Ok, None, Err, Result, ⊤, length, not, reads_listing, sym, ap, ◌∙◌, subst, inl, inr, true≢false, RunsTo, GoesOn, IsMaking, FirstIs, Schema, Table}
 use Rattle.sqlite_ast.specs.declared.Statement.TheVariants as written
 use Rattle.sqlite_ast.specs.declared.Conflict.TheVariants as conflict
+use Rattle.sqlite_resolve.specs.Define as define
+use Rattle.flow_sql.proofs.Names.{survives_weaker, timed, Row, Executes, HasCleanDisk, IsRolledBack, IsUnchanged, Runs, Shows, State, Survives, shows_rows, text_of, Trees, Error, Statement, first, Checked, Compiled, CompileError, NoSuchTable, Returning, Parsed, cases_Bool, Bool, IsTrue, List}
+use Rattle.flow_sql.proofs.Names.{MatchResult, Option, false, true, ℕ, [], refl, Ok, None, Err, Result, ⊤, length, not, reads_listing, sym, ap, ◌∙◌, subst, inl, inr, true≢false, RunsTo, GoesOn, IsMaking, FirstIs, Schema, Table, CommitsNothing, IsReading, index_named, table_named, view_named}
+use Rattle.flow_sql.proofs.Names.{◌≡◌, ◌⊎◌, if◌then◌else◌, ◌&&◌, ◌==◌, ◌+◌}
 use Rattle.sqlite_ast.specs.declared.CreateTable.{CreateTable}
 use Rattle.sqlite_ast.specs.declared.Rows.{Rows}
-use Rattle.flow_sql.proofs.Kit.{CommitsNothing, IsReading, index_named, table_named, view_named, ◌≡◌, ◌⊎◌, if◌then◌else◌, ◌&&◌, ◌==◌, ◌+◌}
 use Rattle.sqlite_schema.specs.declared.command.Command.{Command}
 use Rattle.sqlite_schema.specs.declared.command.Command.TheVariants.{Insert, CreateTable as MakeTable, Nothing}
 use Rattle.sqlite_resolve.specs.declared.error.CompileError.TheVariants.{Unsupported}
@@ -13,7 +14,6 @@ use Rattle.sqlite_resolve.specs.Lowering.{and_then}
 use Rattle.sqlite_resolve.specs.Scope.{Name}
 use Rattle.sqlite_resolve.specs.Compile.{command, returning, shows, planned, meaning, compiled, create_table, creates, is_attached, insert, insert_or_abort, new_rows, target, small, with_command, timed as timed_at}
 use Rattle.sqlite_resolve.specs.Body.{table_at}
-use Rattle.sqlite_resolve.specs.Define as define
 use Rattle.sqlite_schema.specs.declared.command.Source.{Source}
 use Rattle.std.specs.Option.{option_or}
 use Rattle.sqlite.specs.Listing.{understood, if_select, is_select, listing_schema}
@@ -88,27 +88,20 @@ selected (Err e) c h = absurd (let never = h in cc)
 -- what is so of the command of such a statement, and of what it shows, is so of what a text becomes that begins with one
 module _ (Q : Statement → Type 0) (P : Command × Option Returning → Type 0)
     (so : (schema : Schema) (formats : List Name) (base : ℕ) (st : Statement) → Q st → (c : Command) → command schema formats base st ≡ Ok c → (shown : Option Returning) → returning schema base st ≡ Ok shown → P (c, shown)) where
-  abbrev Plans : List Name × (Command × Option Returning) → Type 0
-  Plans plan = P plan.1
-
   abbrev IsSo : Compiled → Type 0
   IsSo c = P (c.command, c.returning)
 
-  meaning_so : (schema : Schema) (p : Parsed) (base : ℕ) → Q p.statement → (found : Command × Option Returning) → meaning schema p base ≡ Ok found → P found
-  unfolding meaning
-  meaning_so schema p base it =
-      let last = λ (shown : Option Returning) (c : Command). Ok (c, shown) in
-      let next = λ (shown : Option Returning). and_then (command schema p.formats base p.statement) (last shown) in
-      then_gives (returning schema base p.statement) next P (λ shown shown_is. then_gives (command schema p.formats base p.statement) (last shown) P
-      (λ c c_is. it_gives (c, shown) P (so schema p.formats base p.statement it c c_is shown shown_is)))
-
-  plan_so : (schema : Schema) (p : Parsed) → Q p.statement → (plan : List Name × (Command × Option Returning)) → planned schema p ≡ Ok plan → Plans plan
-  unfolding planned
+  plan_so : (schema : Schema) (p : Parsed) → Q p.statement → (plan : List Name × (Command × Option Returning)) → planned schema p ≡ Ok plan → P plan.1
+  unfolding planned meaning
   plan_so schema p it =
       let formats = timed_at schema p.formats p.statement in
       let base = small p.names + small formats in
+      let both = λ (shown : Option Returning) (c : Command). Ok (c, shown) in
+      let next = λ (shown : Option Returning). and_then (command schema p.formats base p.statement) (both shown) in
       let last = λ (found : Command × Option Returning). Ok (formats, found) in
-      then_gives (meaning schema p base) last Plans (λ found found_is. it_gives (formats, found) Plans (meaning_so schema p base it found found_is))
+      then_gives (meaning schema p base) last (λ plan. P plan.1) (λ found found_is. it_gives (formats, found) (λ plan. P plan.1)
+      (then_gives (returning schema base p.statement) next P (λ shown shown_is. then_gives (command schema p.formats base p.statement) (both shown) P
+      (λ c c_is. it_gives (c, shown) P (so schema p.formats base p.statement it c c_is shown shown_is))) found found_is))
 
   compiled_so : (schema : Schema) (sql : List ℕ) → FirstIs Q (first sql) → (c : Compiled) → compiled schema sql ≡ Ok c → IsSo c
   unfolding compiled
@@ -126,10 +119,6 @@ module _ (Q : Statement → Type 0) (P : Command × Option Returning → Type 0)
 -- keeps the transaction, and shows no rows
 pub understood_inside : (schema : Schema) (sql : List ℕ) → FirstIs IsMaking (first sql) → (c : Compiled) → understood schema sql ≡ Ok c → IsInside c.command × (c.returning ≡ None)
 understood_inside = understood_so IsMaking (λ found. IsInside found.0 × (found.1 ≡ None)) (λ schema formats base st making c c_is shown shown_is. (command_inside schema formats base st making c c_is, shows_none schema base st making shown shown_is))
-
--- a query shows no rows of a write
-pub reading_shows_none : (schema : Schema) (sql : List ℕ) → FirstIs IsReading (first sql) → (c : Compiled) → understood schema sql ≡ Ok c → c.returning ≡ None
-reading_shows_none = understood_so IsReading (λ found. found.1 ≡ None) (λ schema formats base st reading c c_is. reads_none schema base st reading)
 
 ---- What it does within a transaction
 
@@ -175,8 +164,9 @@ making_survives old new sql params making inside h =
 ---- What a query leaves: it commits nothing, and changes nothing, or fails with the store
 
 module _ (sql : List ℕ) (reading : FirstIs IsReading (first sql)) (params : Row) (old new : State) where
-  bare : (c : Compiled) → understood old.now.schema sql ≡ Ok c → c.returning ≡ None
-  bare c is = reading_shows_none old.now.schema sql reading c is
+  -- a query shows no rows of a write
+  pub bare : (c : Compiled) → understood old.now.schema sql ≡ Ok c → c.returning ≡ None
+  bare = understood_so IsReading (λ found. found.1 ≡ None) (λ schema formats base st reads c c_is. reads_none schema base st reads) old.now.schema sql reading
 
   pub commits_none : Survives old new (CommitsShowing sql params old) → Survives old new (λ _. ⊥)
   unfolding CommitsShowing

@@ -1,6 +1,6 @@
 -- What reading the format leaves, and what it tells.
-use Rattle.flow_sql.proofs.Names.{schema, format_sql, no_schema, format_query, one_permutation, Database, Row, overlay, IsAnswer, Output, end, inner, output, IsUnchanged, State, Survives, Trees, Error, Int, Null, Compiled, CompileError, NoSuchTable, IsPermutation, IsTrue, List, false, map, pos, [], refl, Ok, None, Err, Result, Fails, IsOver, HasTables, HasEnded, IsAtRest, IsBlank, format_row, sym, ap, ◌∙◌, subst, inl, inr, arith}
-use Rattle.flow_sql.proofs.Kit.{MoreFaults, OutOfMemory, SqlInputError, SqliteFailure, first_as, IsSome, ◌≡◌, ◌∷◌, ◌⊎◌, ◌≢◌}
+use Rattle.flow_sql.proofs.Names.{schema, format_sql, no_schema, format_query, one_permutation, Database, Row, overlay, IsAnswer, Output, end, inner, output, IsUnchanged, State, Survives, Trees, Error, Int, Null, Compiled, CompileError, IsPermutation, IsTrue, List, false, map, pos, [], refl, Ok, Err, Result, Fails, IsOver, HasTables, HasEnded, IsAtRest, IsBlank, format_row, sym, ap, ◌∙◌, subst, inl, inr, MoreFaults, OutOfMemory}
+use Rattle.flow_sql.proofs.Names.{SqlInputError, SqliteFailure, first_as, IsSome, ◌≡◌, ◌∷◌, ◌⊎◌, ◌≢◌}
 use Rattle.sqlite.specs.Order.{value_cmp}
 use Rattle.sqlite.specs.Ops.{binary}
 use Rattle.sqlite.specs.Query.{page, matches_as}
@@ -8,28 +8,25 @@ use Rattle.sqlite.specs.Listing.{understood, listing_schema}
 use Rattle.sqlite.specs.State.{CommitsShowing, QueriesRow, FailsToQuery, Shown, Begins, IsNotRun}
 use Rattle.sqlite_tied.specs.Compute.{everything}
 use Rattle.flow_sql.proofs.Leaves.{over_both}
-use Rattle.flow_sql.proofs.Compiling.{reading_shows_none, commits_none}
+use Rattle.flow_sql.proofs.Compiling.{bare, commits_none}
 use Rattle.flow_sql.proofs.Reading.{answer}
-use Rattle.flow_sql.proofs.Refusing.{IsWhole, only_failed, question_refused, never_sums}
+use Rattle.flow_sql.proofs.Refusing.{only_failed, question_refused, never_sums}
 use Rattle.flow_sql.proofs.Texts.{format_read}
 
 ---- Under any schema
 
-bare : (old : State) (c : Compiled) → understood old.now.schema format_sql ≡ Ok c → c.returning ≡ None
-bare old c is = reading_shows_none old.now.schema format_sql format_read.reading c is
-
 pub read_survives : (old new : State) → Survives old new (CommitsShowing format_sql [] old) → Survives old new (λ _. ⊥)
-read_survives old new h = commits_none format_sql format_read.reading [] old new h
+read_survives old new h = commits_none format_sql format_read.0.reading [] old new h
 
 -- a query that is refused changes nothing, or fails with the store
 pub read_leaves : (old new : State) (r : Result Row Error) → QueriesRow format_sql [] old new r → IsUnchanged old new ⊎ ((e : Error) × (r ≡ Err e) × Fails old new ⊥ e)
 unfolding QueriesRow FailsToQuery Shown IsNotRun
 read_leaves old new (Ok row) (inl h) = inl h.1
-read_leaves old new (Ok row) (inr h) = inl (rw (bare old h.1.0 h.1.1.is) at h.1.2).3
+read_leaves old new (Ok row) (inr h) = inl (rw (bare format_sql format_read.0.reading [] old new h.1.0 h.1.1.is) at h.1.2).3
 read_leaves old new (Err e) (inl (inl (inl refused))) = inl refused.1
 read_leaves old new (Err e) (inl (inl (inr fails))) = inr (e, refl, fails)
-read_leaves old new (Err e) (inl (inr h)) = inl (rw (bare old h.0 h.1.is) at h.2).3
-read_leaves old new (Err e) (inr h) = inl (rw (bare old h.1.0 h.1.1.is) at h.1.2).3
+read_leaves old new (Err e) (inl (inr h)) = inl (rw (bare format_sql format_read.0.reading [] old new h.0 h.1.is) at h.2).3
+read_leaves old new (Err e) (inr h) = inl (rw (bare format_sql format_read.0.reading [] old new h.1.0 h.1.1.is) at h.1.2).3
 
 module _ (start old new : State) (ended : HasEnded start old) where
   -- what the last commit left is shown behind a query that was answered
@@ -63,12 +60,9 @@ refused old new e h none = elim (read_leaves old new (Err e) h) [
 ---- Without the tables
 
 -- without the tables the format can't be read
-unread : understood no_schema format_sql ≡ Err NoSuchTable
-unfolding understood everything listing_schema
-unread = refl
-
 never_understood : (s : State) (c : Compiled) → s.now.schema ≡ no_schema → understood s.now.schema format_sql ≡ Ok c → ⊥
-never_understood s c has is = let e = sym is ∙ ap (λ t. understood t format_sql) has ∙ unread in cc
+unfolding understood everything listing_schema
+never_understood s c has is = let e = sym is ∙ ap (λ t. understood t format_sql) has in cc
 
 pub blank_never_reads : (old new : State) (row : Row) → old.now.schema ≡ no_schema → QueriesRow format_sql [] old new (Ok row) → ⊥
 unfolding QueriesRow Begins Shown
@@ -100,18 +94,14 @@ format_rows db format rows a =
 
 pub format_answer : (old new : State) (row : Row) → HasTables old.now → QueriesRow format_sql [] old new (Ok row) → row ≡ Int (pos 1) ∷ []
 format_answer old new row has h =
-    let got = (first_as format_sql [] old new schema has.laid_out _ format_read.is format_read.plain format_read.unlisted row h).1 in
+    let got = (first_as format_sql [] old new schema has.laid_out _ format_read.0.is format_read.0.plain format_read.0.unlisted row h).1 in
     let rows = format_rows old.now.trees has.ours.format (row ∷ got.0) (got.1 Null) in
     cc
-
-format_whole : IsWhole format_sql 0 (understood schema format_sql)
-unfolding understood everything
-format_whole = (omega arith, refl)
 
 -- it is refused by the disk or a limit alone
 pub format_refused : (old new : State) (e : Error) → e ≢ SqliteFailure OutOfMemory → IsTrue old.is_open → HasTables old.now → QueriesRow format_sql [] old new (Err e) → MoreFaults old.faults new.faults ⊎ IsSome old.step_limit
 unfolding QueriesRow
 format_refused old new e other up has (inl fails) =
-    question_refused old new e other up has.laid_out format_sql format_query _ format_read [] format_whole refl (λ db. never_sums (db 0)) fails
+    question_refused old new e other up has.laid_out format_sql format_query _ format_read.0 [] format_read.1 refl (λ db. never_sums (db 0)) fails
 format_refused old new e other up has (inr none) =
-    absurd (let rows = format_rows old.now.trees has.ours.format [] (answer format_sql format_query _ format_read [] old new has [] none.1) in cc)
+    absurd (let rows = format_rows old.now.trees has.ours.format [] (answer format_sql format_query _ format_read.0 [] old new has [] none.1) in cc)

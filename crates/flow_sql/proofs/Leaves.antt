@@ -1,7 +1,7 @@
 -- What a statement leaves that is refused, and that none opens a connection that was shut.
-use Rattle.flow_sql.proofs.Names.{timed, Command, Begin, Commit, Rollback, Select, Database, Row, Executes, HasCleanDisk, IsRolledBack, IsUnchanged, Runs, RunsCommand, State, Survives, shows_rows, text_of, Trees, Error, Returning, cases_Bool, Bool, IsTrue, List, Option, false, ℕ, [], Ok, Err, Result, Nothing, sym, ◌∙◌, subst, inl, inr, arith, IsOver, HasTables, RunsTo, HasEnded, IsStill, IsAtRest, IsUndone, IsRefused}
+use Rattle.flow_sql.proofs.Names.{timed, Command, Begin, Commit, Rollback, Select, Database, Row, Executes, HasCleanDisk, IsRolledBack, IsUnchanged, Runs, RunsCommand, State, Survives, shows_rows, text_of, Trees, Error, Returning, cases_Bool, Bool, IsTrue, List, Option, false, ℕ, Ok, Err, Result, Nothing, sym, ◌∙◌, subst, inl, inr, arith, IsOver, HasTables, HasEnded, IsStill, IsAtRest, IsUndone, IsRefused}
+use Rattle.flow_sql.proofs.Names.{Release, RollbackTo, Rows, Savepoint, ◌≡◌, ◌⊎◌}
 use Rattle.sqlite.specs.State.{ExecutesIn, IsNotRun}
-use Rattle.flow_sql.proofs.Kit.{Release, RollbackTo, Rows, Savepoint, ◌≡◌, ◌⊎◌}
 
 ---- What a statement that is refused leaves
 
@@ -72,7 +72,7 @@ module _ (old new : State) where
   ran_open returning Nothing text params count h up = h.0.0.was_open
   ran_open returning _ text params count h up = h.shown.was_open
 
-  was_open : (sql : List ℕ) (params : Row) (r : Result ℕ Error) → Executes sql params old new r → IsTrue new.is_open → IsTrue old.is_open
+  pub was_open : (sql : List ℕ) (params : Row) (r : Result ℕ Error) → Executes sql params old new r → IsTrue new.is_open → IsTrue old.is_open
   unfolding ExecutesIn
   was_open sql params (Ok count) h up = elim (cases_Bool (shows_rows false h.0)) [
     | inl shows ↦ (rw shows at h.2).1.0.was_open
@@ -82,7 +82,3 @@ module _ (old new : State) where
     | inl same ↦ same.0.was_open
     | inr undone ↦ undone.was_open up
   ]
-
-  pub stays_shut : (sql : List ℕ) (r : Result (Unit {0}) Error) → RunsTo sql old new r → IsTrue new.is_open → IsTrue old.is_open
-  stays_shut sql (Ok x) h up = was_open sql [] (Ok h.0) h.1 up
-  stays_shut sql (Err e) h up = was_open sql [] (Err e) h up

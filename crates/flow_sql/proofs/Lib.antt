@@ -1,10 +1,7 @@
 pub mod Names
-pub mod Kit
 pub mod Texts
 pub mod Leaves
 pub mod Numbered
-pub mod Lists
-pub mod Tables
 pub mod Added
 pub mod Removed
 pub mod Transactions
@@ -22,10 +19,6 @@ pub mod Readable
 pub mod Utf8
 pub mod Refusing
 pub mod RowChanges
-pub mod Declined
 pub mod Coming
-pub mod Leaving
-pub mod Marking
 pub mod Welcome
-pub mod Numbers
 pub mod InPlace

@@ -1,7 +1,7 @@
 -- That what our tables hold can be read: a number always, and a text where it is UTF-8.
-use Rattle.flow_sql.proofs.Kit.{all-map, all_from_map, cases_lt, get_or_past, suc, zero, IsUtf8, ◌≡◌, ◌∷◌, ◌<◌, all_from, all_has, has_kept}
-use Rattle.flow_sql.proofs.Names.{event_id, rising, events_of, EventRow, Kind, Integer, Text, Null, Row, col, overlay, IsAnswer, Output, Term, Trees, rowid, is_int, all-filter, all-permutation, all_both, all_weaker, bytes, column, Key, Decides-int_eq, IsPermutation-sym, AllByRecursion, int_eq, IsTrue, List, filter}
-use Rattle.flow_sql.proofs.Names.{map, slice_get, Some, length, ℕ, [], refl, ℤ, take, sym, subst, inl, inr, AreOurs, tables_in, run_in, event_in, text_in, text_table, run_table, event_table, timer_table, task_table, Read, rows_where, query_of, first_where, IsReadAs, AreReadAs, AreUtf8, kinds_of, Bool}
+use Rattle.flow_sql.proofs.Names.{all-map, all_from_map, cases_lt, get_or_past, suc, zero, IsUtf8, ◌≡◌, ◌∷◌, ◌<◌, all_from, all_has, has_kept, event_id, rising, events_of, EventRow, Kind, Integer, Text, Null, Row, col, overlay, IsAnswer, Output, Term, Trees, rowid, is_int, all-filter, all-permutation, all_both}
+use Rattle.flow_sql.proofs.Names.{all_weaker, bytes, column, Key, Decides-int_eq, IsPermutation-sym, AllByRecursion, int_eq, IsTrue, List, filter, map, slice_get, Some, length, ℕ, [], refl, take, sym, subst, inl, inr, AreOurs, tables_in, run_in, event_in, text_in, text_table, run_table, event_table, timer_table}
+use Rattle.flow_sql.proofs.Names.{task_table, Read, rows_where, query_of, first_where, IsReadAs, AreReadAs, AreUtf8, kinds_of}
 use Rattle.flow_sql.proofs.Numbered.{number_is}
 use Rattle.flow_sql.proofs.Columns.{AreTyped, columns}
 use Rattle.flow_sql.proofs.Reading.{meets, seen, kept_is, out}
@@ -47,19 +47,14 @@ module _ (db : Trees) (params : Row) (tree : ℕ) (terms project : List Term) (b
 
 ---- Texts of whole tables
 
--- what holds of the rows of each run holds of all
-all_of_each : {A : Type 0} (P : A → Type 0) (run_of : A → ℤ) (xs : List A) → ((z : ℤ) → AllByRecursion P (filter (λ x. int_eq (run_of x) z) xs)) → AllByRecursion P xs
-all_of_each {A} P run_of xs each = all_from P xs (λ x has.
-    let own : A → Bool = λ y. int_eq (run_of y) (run_of x) in
-    all_has P (filter own xs) x (each (run_of x)) (has_kept own xs x has ((Decides-int_eq (run_of x) (run_of x)).1 refl)))
-
 module _ (db : Trees) (ours : AreOurs db) (utf8 : AreUtf8 (tables_in db)) where
   event_bodies : AllByRecursion (λ r. IsUtf8 (bytes (column r 4))) (db 5)
   event_bodies =
-      all_from_map (λ (e : EventRow). IsUtf8 e.body) event_in (db 5)
-      (all_of_each (λ (e : EventRow). IsUtf8 e.body) (λ e. e.run) (map event_in (db 5))
-      (λ z. all-permutation (λ (e : EventRow). IsUtf8 e.body) (rising event_id (events_of (map event_in (db 5)) z)) (events_of (map event_in (db 5)) z)
-      (IsPermutation-sym _ _ (rising_moves event_id (events_of (map event_in (db 5)) z))) (utf8.events z)))
+      let all = map event_in (db 5) in
+      all_from_map (λ (e : EventRow). IsUtf8 e.body) event_in (db 5) (all_from (λ (e : EventRow). IsUtf8 e.body) all (λ e has.
+      all_has (λ (x : EventRow). IsUtf8 x.body) (events_of all e.run) e
+      (all-permutation (λ (x : EventRow). IsUtf8 x.body) (rising event_id (events_of all e.run)) (events_of all e.run) (IsPermutation-sym _ _ (rising_moves event_id (events_of all e.run))) (utf8.events e.run))
+      (has_kept (λ x. int_eq x.run e.run) all e has ((Decides-int_eq e.run e.run).1 refl))))
 
   ---- The rows of each table
 

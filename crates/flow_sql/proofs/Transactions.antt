@@ -1,14 +1,15 @@
 -- What BEGIN, COMMIT and ROLLBACK mean, under any schema.
-use Rattle.flow_sql.proofs.Names.{schema, IsPlain, command_of, runs_as, statement_of, survives_weaker, timed, Command, Begin, Commit, Rollback, Does, Row, Schema, Executes, IsRolledBack, Runs, RunsCommand, State, Survives, mode_of, shows_rows, text_of, Trees, Error, Compiled, cases_Bool, Bool, IfErr, IsTrue, List, MatchResult, codes, false, true, ℕ, [], refl, Ok, None, Err, Result, ⊤, Fails, IsMisplaced, IsOver, RunsTo, HasEnded, IsStill, GoesOn, IsUndone, IsRefused, HasBegun, HasCommitted, sym, ap, ◌∙◌, subst, inl, inr, arith, true≢false}
-use Rattle.flow_sql.proofs.Kit.{Holds, IsWrite, MoreFaults, OnOk, OutOfMemory, Release, RollbackTo, SqliteFailure, ◌≡◌, ◌≢◌}
+use Rattle.flow_sql.proofs.Names.{schema, IsPlain, command_of, runs_as, statement_of, survives_weaker, timed, Command, Begin, Commit, Rollback, Does, Row, Schema, Executes, IsRolledBack, Runs, State, Survives, mode_of, shows_rows, text_of, Trees, Error, Compiled, Bool, IfErr, IsTrue, List, MatchResult, codes, false, true, ℕ, [], refl, Ok, None, Err, Result, ⊤, Fails, IsMisplaced, IsOver, RunsTo, HasEnded, IsStill, GoesOn, IsUndone, HasBegun, HasCommitted, sym, ap, ◌∙◌, subst, inl, inr, arith, true≢false}
+use Rattle.flow_sql.proofs.Names.{Holds, IsWrite, MoreFaults, OnOk, OutOfMemory, SqliteFailure, ◌≡◌, ◌≢◌}
 use Rattle.sqlite_tied.specs.Compute.{everything}
 use Rattle.sqlite.specs.Listing.{understood}
-use Rattle.sqlite.specs.State.{CommitsBy, MayWrite, ExecutesIn, IsNotRun}
-use Rattle.flow_sql.proofs.Refusing.{IsWhole, failed, never_no_statement}
-use Rattle.flow_sql.proofs.Leaves.{was_clean, over_both, rolled_back_ended, ended_undone, error_refused}
+use Rattle.sqlite.specs.State.{CommitsBy, MayWrite}
+use Rattle.flow_sql.proofs.Refusing.{failed, fails_or_runs, never_misplaced}
+use Rattle.flow_sql.proofs.Leaves.{was_clean, over_both, rolled_back_ended, ended_undone}
+use Rattle.flow_sql.proofs.Texts.{IsWhole}
 
 -- the text is this command, and nothing else, whatever tables there are
-record Controls (sql : List ℕ) (command : Command) : Type 1 where
+pub record Controls (sql : List ℕ) (command : Command) : Type 1 where
   is : (s : Schema) → command_of (understood s sql) ≡ command
   plain : (s : Schema) → IsPlain (understood s sql)
   whole : (s : Schema) → IsWhole sql 0 (understood s sql)
@@ -17,7 +18,7 @@ record Controls (sql : List ℕ) (command : Command) : Type 1 where
   hidden : (c : Compiled) → shows_rows false (record c { command = command; returning = None }) ≡ false
   small : (s : State) (params : Row) (text : List ℕ) → ¬ Does s.step_limit (mode_of s) params s.now text None command (Err None)
 
-begin_text : Controls (codes "BEGIN") Begin
+pub begin_text : Controls (codes "BEGIN") Begin
 unfolding understood everything
 begin_text = record { is = λ s. refl; plain = λ s. (refl, refl); whole = λ s. (omega arith, refl); writes = λ h. h; hidden = λ c. refl; small = λ s params text h. let e = h in cc }
 
@@ -25,7 +26,7 @@ commit_text : Controls (codes "COMMIT") Commit
 unfolding understood everything
 commit_text = record { is = λ s. refl; plain = λ s. (refl, refl); whole = λ s. (omega arith, refl); writes = λ h. h; hidden = λ c. refl; small = λ s params text h. let e = h in cc }
 
-rollback_text : Controls (codes "ROLLBACK") Rollback
+pub rollback_text : Controls (codes "ROLLBACK") Rollback
 unfolding understood everything
 rollback_text = record { is = λ s. refl; plain = λ s. (refl, refl); whole = λ s. (omega arith, refl); writes = λ h. h; hidden = λ c. refl; small = λ s params text h. let e = h in cc }
 
@@ -93,48 +94,17 @@ IsPlaced Commit inside = inside ≡ true
 IsPlaced Rollback inside = inside ≡ true
 IsPlaced _ inside = ⊥
 
-module _ (s : State) (command : Command) (placed : IsPlaced command s.in_transaction) where
-  abbrev placed_as : (k : Command) → command ≡ k → IsPlaced k s.in_transaction
-  placed_as k is = subst (λ c. IsPlaced c s.in_transaction) is placed
-
-  never_misplaced : (e : Error) → ¬ IsMisplaced s command e
-  never_misplaced e (inl (_, inl (is, inside))) = true≢false (sym inside ∙ placed_as Begin is)
-  never_misplaced e (inl (_, inr (inl is, outside))) = true≢false (sym (placed_as Commit is) ∙ outside)
-  never_misplaced e (inl (_, inr (inr is, outside))) = true≢false (sym (placed_as Rollback is) ∙ outside)
-  never_misplaced e (inr (_, name, inl release, _)) = placed_as (Release name) release
-  never_misplaced e (inr (_, name, inr back, _)) = placed_as (RollbackTo name) back
-
 module _ (sql : List ℕ) (old new : State) (e : Error) (command : Command) (it : Controls sql command) (placed : IsPlaced command old.in_transaction) where
   -- only a failure of the store refuses it, with nothing that could be too big
   fails_alone : (P : Type 0) → ((W : Type 0) → ¬ W → Fails old new W e → P) → Executes sql [] old new (Err e) → P
-  unfolding ExecutesIn IsNotRun
-  fails_alone P so (inl (inl none)) = absurd (never_no_statement old e old.now.schema refl sql [] (it.whole old.now.schema) (it.plain old.now.schema) none.0)
-  fails_alone P so (inl (inr fails)) = so ⊥ (λ none. none) fails
-  fails_alone P so (inr h) = elim (cases_Bool (shows_rows false h.0)) [
-    | inl shows ↦ absurd (shown h.0 h.1.is shows)
-    | inr runs ↦ ran h.0 h.1.is (timed [] h.0.formats h.1.now) (rw runs at h.2)
+  fails_alone P so h = elim (fails_or_runs old new e old.now.schema refl sql [] command (it.is old.now.schema) (it.plain old.now.schema) (it.whole old.now.schema) it.hidden h) [
+    | inl fails ↦ so ⊥ (λ none. none) fails
+    | inr (c, _, same, _, inl (inl misplaced, _)) ↦ absurd (never_misplaced old command e (λ k. IsPlaced k old.in_transaction) placed (λ h. h) (λ h. h) (λ h. h) (λ _ h. h) (λ _ h. h) (subst (λ k. IsMisplaced old k e) same misplaced))
+    | inr (c, _, same, _, inl (inr (inl write, _), _)) ↦ absurd (it.writes (subst IsWrite same write))
+    | inr (c, _, same, bare, inl (inr (inr some, _), _)) ↦ absurd (let e = rw bare at some in true≢false (sym e))
+    | inr (c, at, same, bare, inr fails) ↦
+        so _ (λ big. it.small old (timed [] c.formats at.now) (text_of sql c) (subst (λ k. Does old.step_limit (mode_of old) (timed [] c.formats at.now) old.now (text_of sql c) None k (Err None)) same (rw bare at big))) fails
   ]
-    where
-      shown : (c : Compiled) → understood old.now.schema sql ≡ Ok c → ¬ (shows_rows false c ≡ true)
-      shown c known shows =
-          let same : c.command ≡ command = sym (ap command_of known) ∙ it.is old.now.schema in
-          let bare = subst IsPlain known (it.plain old.now.schema) in
-          true≢false (sym (subst (λ k. shows_rows false (record c { command = k; returning = None }) ≡ true) same (rw bare.0 at shows)) ∙ it.hidden c)
-
-      ran : (c : Compiled) → understood old.now.schema sql ≡ Ok c → (params : Row) → RunsCommand old new sql c params (Err e) → P
-      ran c known params h =
-          let same : c.command ≡ command = sym (ap command_of known) ∙ it.is old.now.schema in
-          let bare = subst IsPlain known (it.plain old.now.schema) in
-          elim h [
-            | inl (inl misplaced, _) ↦ absurd (never_misplaced old command placed e (subst (λ k. IsMisplaced old k e) same misplaced))
-            | inl (inr (inl write, _), _) ↦ absurd (it.writes (subst IsWrite same write))
-            | inl (inr (inr some, _), _) ↦ absurd (let e = rw bare.0 at some in true≢false (sym e))
-            | inr fails ↦ so _ (λ big. it.small old params (text_of sql c) (subst (λ k. Does old.step_limit (mode_of old) params old.now (text_of sql c) None k (Err None)) same (rw bare.0 at big))) fails
-          ]
-
-  -- it ends a transaction that runs
-  ends_anyway : Executes sql [] old new (Err e) → IsRolledBack old new
-  ends_anyway h = fails_alone (IsRolledBack old new) (λ W none fails. fails.3) h
 
   -- but for the want of memory the disk has failed once more
   control_refused : e ≢ SqliteFailure OutOfMemory → IsTrue old.is_open → Executes sql [] old new (Err e) → MoreFaults old.faults new.faults
@@ -170,7 +140,7 @@ module _ (old new : State) where
 
   -- a refusal within a transaction has ended it
   ended_by : (sql : List ℕ) (command : Command) → Controls sql command → IsPlaced command old.in_transaction → (e : Error) → Executes sql [] old new (Err e) → HasEnded old new
-  ended_by sql command it placed e h = rolled_back_ended old new (ends_anyway sql old new e command it placed h)
+  ended_by sql command it placed e h = rolled_back_ended old new (fails_alone sql old new e command it placed (IsRolledBack old new) (λ W none fails. fails.3) h)
 
   pub begun_still : HasBegun old new → IsOver false old → IsStill true old new
   begun_still h was = over_both true new old.now old.committed h.1.is_open h.1.mode h.1.now_is h.1.committed_is was.now was.committed
@@ -178,41 +148,30 @@ module _ (old new : State) where
   pub committed_over : HasCommitted old new → IsOver true old → IsOver false new × (new.now ≡ old.now) × (new.committed ≡ old.now)
   committed_over h was = over_both false new old.now old.now h.1.is_open h.1.mode h.1.now_is h.1.committed_is was.now was.now
 
-  pub over_undone : IsOver true old → HasEnded old new → IsUndone old new
-  over_undone was = ended_undone old new was.committed
-
   pub begun_goes_on : HasBegun old new → GoesOn old new
   begun_goes_on h = record { was_open = h.1.was_open; is_open = h.1.is_open; mode = h.1.mode; committed = h.1.committed_is }
 
-  pub begin_survives : Survives old new (CommitsBy (codes "BEGIN") [] old) → Survives old new (λ _. ⊥)
-  begin_survives h = survives_weaker old new _ _ (λ _ db. control_commits_nothing (codes "BEGIN") old Begin begin_text tt db) h
-
-  pub rollback_survives : Survives old new (CommitsBy (codes "ROLLBACK") [] old) → Survives old new (λ _. ⊥)
-  rollback_survives h = survives_weaker old new _ _ (λ _ db. control_commits_nothing (codes "ROLLBACK") old Rollback rollback_text tt db) h
+  pub control_survives : (sql : List ℕ) (command : Command) → Controls sql command → IsControl command → Survives old new (CommitsBy sql [] old) → Survives old new (λ _. ⊥)
+  control_survives sql command it control h = survives_weaker old new _ _ (λ _ db. control_commits_nothing sql old command it control db) h
 
   pub commit_survives : Survives old new (CommitsBy (codes "COMMIT") [] old) → Survives old new (λ db. db ≡ old.now.trees)
   commit_survives h = survives_weaker old new _ _ (λ _ db. commit_commits (codes "COMMIT") old Commit commit_text refl db) h
 
   -- what their results say
-  pub ran_to : (sql : List ℕ) (P : Type 0) (r : Result (Unit {0}) Error) → RunsTo sql old new r → ((count : ℕ) → Executes sql [] old new (Ok count) → P) → MatchResult r (λ _. P) (λ e. Executes sql [] old new (Err e))
-  ran_to sql P (Ok x) h f = f h.0 h.1
-  ran_to sql P (Err e) h f = h
+  pub ran_to : (sql : List ℕ) (P : Type 0) (Q : Error → Type 0) (r : Result (Unit {0}) Error) → RunsTo sql old new r → ((count : ℕ) → Executes sql [] old new (Ok count) → P) → ((e : Error) → Executes sql [] old new (Err e) → Q e) → MatchResult r (λ _. P) Q
+  ran_to sql P Q (Ok x) h f g = f h.0 h.1
+  ran_to sql P Q (Err e) h f g = g e h
 
   pub ran_ok : (sql : List ℕ) (P : Type 0) (r : Result (Unit {0}) Error) → RunsTo sql old new r → ((count : ℕ) → Executes sql [] old new (Ok count) → P) → OnOk r P
   ran_ok sql P (Ok x) h f = f h.0 h.1
   ran_ok sql P (Err e) h f = tt
-
-  pub begun_or_refused : (r : Result (Unit {0}) Error) → RunsTo (codes "BEGIN") old new r → IsOver false old → MatchResult r (λ _. IsStill true old new) (λ _. IsRefused false old new)
-  begun_or_refused (Ok x) h was = begun_still (begins h.0 h.1) was
-  begun_or_refused (Err e) h was = error_refused old new (codes "BEGIN") [] e false was h
 
   pub committed_or_ended : (r : Result (Unit {0}) Error) → RunsTo (codes "COMMIT") old new r → IsTrue old.in_transaction → IfErr r (λ _. HasEnded old new)
   committed_or_ended (Ok x) h inside = tt
   committed_or_ended (Err e) h inside = ended_by (codes "COMMIT") Commit commit_text inside e h
 
   pub committed_or_undone : (r : Result (Unit {0}) Error) → RunsTo (codes "COMMIT") old new r → IsOver true old → MatchResult r (λ _. IsOver false new × (new.now ≡ old.now) × (new.committed ≡ old.now)) (λ _. IsUndone old new)
-  committed_or_undone (Ok x) h was = committed_over (commits h.0 h.1) was
-  committed_or_undone (Err e) h was = over_undone was (ended_by (codes "COMMIT") Commit commit_text was.mode e h)
+  committed_or_undone r h was = ran_to (codes "COMMIT") _ (λ _. IsUndone old new) r h (λ count ran. committed_over (commits count ran) was) (λ e ran. ended_undone old new was.committed (ended_by (codes "COMMIT") Commit commit_text was.mode e ran))
 
   pub rolled_back : (r : Result (Unit {0}) Error) → RunsTo (codes "ROLLBACK") old new r → IsTrue old.in_transaction → HasEnded old new
   rolled_back (Ok x) h inside = (rolls_back h.0 h.1).1

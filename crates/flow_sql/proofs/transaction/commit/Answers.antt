@@ -1,5 +1,5 @@
 use Rattle.flow_sql.proofs.Leaves.{was_clean}
-use Rattle.flow_sql.proofs.Names.{state, codes, HasCommitted}
+use Rattle.flow_sql.proofs.Names.{state, codes, Err, Executes, HasCommitted, []}
 use Rattle.flow_sql.proofs.Transactions.{ran_to, commits, committed_or_ended, committed_or_undone, commit_survives}
 use Rattle.flow_sql.proofs.transaction.commit.Goals as goal
 
@@ -13,7 +13,8 @@ pub returns-clause-effect : goal.returns-clause-effect
 returns-clause-effect g c clean =
     let old = state g.S.Store c.args.conn.now in
     let new = state g.S.Store c.run.new.conn in
-    ran_to old new (codes "COMMIT") (HasCommitted old new) c.run.result (c.run.ensures.runs clean) (commits old new)
+    ran_to old new (codes "COMMIT") (HasCommitted old new) (λ e. Executes (codes "COMMIT") [] old new (Err e)) c.run.result
+    (c.run.ensures.runs clean) (commits old new) (λ e h. h)
 
 pub returns-clause-ended : goal.returns-clause-ended
 returns-clause-ended g c clean = committed_or_ended (state g.S.Store c.args.conn.now) (state g.S.Store c.run.new.conn) c.run.result (c.run.ensures.runs clean)
