@@ -23,8 +23,7 @@ returns-in-Ok-put_again-clause-put g c b tells holds clean =
 pub returns-in-Err-put_again-clause-cause : goal.returns-in-Err-put_again-clause-cause
 returns-in-Err-put_again-clause-cause g c b tells holds clean =
     let old = state g.S.Store c.args.conn.now in
-    let mid = state g.S.Store c.find_task.new.conn in
     let found = c.in-Ok.ensures.finds holds (c.put_again.ensures.clean clean) in
-    because_after g.S.Store old mid (state g.S.Store c.put_again.new.conn) (survived old mid _ (c.find_task.ensures.survives holds)) _ c.refusal_of.result
+    because_after g.S.Store old (state g.S.Store c.find_task.new.conn) (state g.S.Store c.put_again.new.conn) (survived old _ _ (c.find_task.ensures.survives holds)) _ c.refusal_of.result
     (by_error g.S.Store c.find_task.new.conn c.put_again.new.conn _ c.refusal_of.result c.in-Err-put_again.error c.refusal_of.ensures
-    (c.in-Err-put_again.ensures.cause (λ cm. (c.in-Ok.ensures.finds holds cm).0.0) (run_still old mid (pos c.args.run) found.0 (run_of_task (tables_in old.now.trees) b c.args.run (pos c.args.event) tells (sym c.if-not-is_there.false ∙ found.1))) clean))
+    (c.in-Err-put_again.ensures.cause (λ cm. (c.in-Ok.ensures.finds holds cm).0.0) (run_still old _ (pos c.args.run) found.0 (run_of_task (tables_in old.now.trees) b c.args.run (pos c.args.event) tells (sym c.if-not-is_there.false ∙ found.1))) clean))
