@@ -85,6 +85,10 @@ IsPut g old new result fits after =
     Holds true (state g old) → HasCleanDisk (state g new)
     → MatchResult result (λ _. fits × Changes (state g old) (state g new) (after (tables_in (state g old).now.trees))) (λ _. IsCutShort (state g old) (state g new))
 
+-- They were made on a disk that was clean before, if it still is, and committed nothing.
+abbrev pub IsQuiet : {S : Type 0} → Ghosts S → Held S → Held S → Type 0
+IsQuiet g old new = (HasCleanDisk (state g new) → HasCleanDisk (state g old)) × (Holds true (state g old) → Survives (state g old) (state g new) (λ _. ⊥))
+
 -- The store refused a statement.
 abbrev pub StopsStatement : {S A : Type 0} → Ghosts S → Held S → Held S → Result A Error → Type 0
 StopsStatement g old new result = HasCleanDisk (state g new) → IfErr result (StopsWith g old new)
