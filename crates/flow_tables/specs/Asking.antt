@@ -1,12 +1,14 @@
 -- What is asked of the tables in one statement, and what becomes of it.
 use Rattle.std.specs.Prelude.{◌≡◌, ◌⊎◌}
-use Rattle.flow_tables.specs.Names.{Book, first as list_first, Tables, Held, state, Row, Executes, HasCleanDisk, State, Survives, Error, Ghosts, Bool, IfErr, List, MatchResult, Option, true, ℕ, Kind, Changes, HasEnded, Holds, IsAtRest, IsRefused, IsStill, tables_in, StoreFault, ViewFault, Err, Ok, Result, IsSome}
+use Rattle.flow_tables.specs.Names.{Book, Change, Refusal, first as list_first, Tables, Held, state, Row, Executes, HasCleanDisk, State, Survives, Error, Ghosts, Bool, IfErr, List, MatchResult, Option, true, ℕ, Kind, Changes, HasEnded, Holds, IsAtRest, IsRefused, IsStill, tables_in, StoreFault, ViewFault, Err, Ok, Result, IsSome}
 use Rattle.sqlite_disk.specs.Disk.{MoreFaults}
 use Rattle.flow_view.specs.declared.fault.ViewFault.TheVariants as view
-use Rattle.flow_sql.specs.Stored.{HasOddText}
+use Rattle.flow_sql.specs.Meaning.{Alters, IsRowChange}
+use Rattle.flow_sql.specs.Stored.{AreUtf8, HasOddText}
 use Rattle.flow_tables.specs.declared.fault.StoreFault.TheVariants.{NoMemory, Refused}
 use Rattle.flow_tables.specs.Reads.{IsReadFault}
-use Rattle.flow_tables.specs.Faults.{IsStopped, StopsWith}
+use Rattle.flow_tables.specs.Faults.{IsStopped, StopsWith, Because}
+use Rattle.flow_tables.specs.Puts.{IsCutShort, IsUnwelcome, IsUnfit}
 use Rattle.flow_tables.specs.Owned.{ReadsBook, StopsRead}
 
 -- Why a question to our tables is not answered: memory ran out, the disk has failed, a limit is set on the steps of a query, or the
@@ -49,6 +51,11 @@ pub record IsRecalled {S A : Type 0} (g : Ghosts S) (old new : Held S) (result :
 
 ---- Changes
 
+-- What the statement of a change means, and that it leaves texts UTF-8 that were.
+pub record MeansChange {S : Type 0} (g : Ghosts S) (change : Alters) : Type 0 where
+  pub rows : IsRowChange g change
+  pub utf8 : (t : Tables) → AreUtf8 t → AreUtf8 (change.after t)
+
 -- What becomes of a change of rows, within a transaction: the tables are changed so, or it was refused, and the transaction may
 -- have ended. Nothing is committed.
 pub record IsChanged {S : Type 0} (g : Ghosts S) (sql : List ℕ) (params : Row) (old new : Held S) (result : Result (Unit {0}) Error) (fits welcome : Tables → Type 0) (after : Tables → Tables) : Type 0 where
@@ -60,3 +67,37 @@ pub record IsChanged {S : Type 0} (g : Ghosts S) (sql : List ℕ) (params : Row)
   -- and where the tables take the change, that of the store
   pub cause : Holds true (state g old) → welcome (tables_in (state g old).now.trees) → HasCleanDisk (state g new) → IfErr result (StopsWith g old new)
   pub survives : Holds true (state g old) → Survives (state g old) (state g new) (λ _. ⊥)
+
+-- What becomes of a look at the tables, within a transaction: what was found is so of them, and they are as they were.
+abbrev pub LooksUp : {S A E : Type 0} → Ghosts S → Held S → Held S → Result A E → (A → Type 0) → Type 0
+LooksUp g old new result found =
+    Holds true (state g old) → HasCleanDisk (state g new) → MatchResult result (λ v. IsStill true (state g old) (state g new) × found v) (λ _. IsRefused true (state g old) (state g new))
+
+-- and of several changes of rows: they made this of the tables, or were cut short
+abbrev pub IsAltered : {S E : Type 0} → Ghosts S → Held S → Held S → Result (Unit {0}) E → (Tables → Tables) → Type 0
+IsAltered g old new result after =
+    Holds true (state g old) → HasCleanDisk (state g new)
+    → MatchResult result (λ _. Changes (state g old) (state g new) (after (tables_in (state g old).now.trees))) (λ _. IsCutShort (state g old) (state g new))
+
+-- the same of what fits the tables where it is put into them
+abbrev pub IsPut : {S E : Type 0} → Ghosts S → Held S → Held S → Result (Unit {0}) E → Type 0 → (Tables → Tables) → Type 0
+IsPut g old new result fits after =
+    Holds true (state g old) → HasCleanDisk (state g new)
+    → MatchResult result (λ _. fits × Changes (state g old) (state g new) (after (tables_in (state g old).now.trees))) (λ _. IsCutShort (state g old) (state g new))
+
+-- They were made on a disk that was clean before, if it still is, and committed nothing.
+abbrev pub IsQuiet : {S : Type 0} → Ghosts S → Held S → Held S → Type 0
+IsQuiet g old new = (HasCleanDisk (state g new) → HasCleanDisk (state g old)) × (Holds true (state g old) → Survives (state g old) (state g new) (λ _. ⊥))
+
+-- The store refused a statement.
+abbrev pub StopsStatement : {S A : Type 0} → Ghosts S → Held S → Held S → Result A Error → Type 0
+StopsStatement g old new result = HasCleanDisk (state g new) → IfErr result (StopsWith g old new)
+
+-- It stopped what was done, or that doesn't fit.
+abbrev pub Stops : {S A : Type 0} → Ghosts S → Held S → Held S → Result A Refusal → Type 0 → Type 0
+Stops g old new result unfit = HasCleanDisk (state g new) → IfErr result (λ f. Because f (IsStopped g (state g old) (state g new)) unfit)
+
+-- The same of a change of the book, which it also stops where the tables don't take it.
+abbrev pub StopsChange : {S A : Type 0} → Ghosts S → Held S → Held S → Result A Refusal → Book → Change → Type 0
+StopsChange g old new result b change =
+    HasCleanDisk (state g new) → IfErr result (λ f. Because f (IsStopped g (state g old) (state g new) ⊎ IsUnwelcome b change) (IsUnfit b change))

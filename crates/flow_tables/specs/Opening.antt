@@ -1,7 +1,7 @@
 -- What opening reads and finds, and why it is refused.
 use Rattle.std.specs.Prelude.{◌≡◌, ◌⊎◌, ◌≢◌}
 use Rattle.sqlite_disk.specs.Disk.{MoreFaults}
-use Rattle.flow_tables.specs.Names.{Fault, BadVersion, Damaged, NoMemory, NotOurs, StoreRefused, is_program, Book, first_damage, by_run, StoreRows, format_sql, Read, read_sql, Tables, Database, Held, state, Row, Executes, State, Error, Int, Ghosts, column, AllByRecursion, Bool, List, false, pos, true, ℕ, HasEnded, HasTables, tables_in, StoreFault, IsReadError, QueriesRow, QueryReturnedNoRows, SqliteFailure, Err, Ok, Some, length, ℤ, [], IsSome, ⊤}
+use Rattle.flow_tables.specs.Names.{HasCleanDisk, no_schema, Fault, BadVersion, Damaged, NoMemory, NotOurs, StoreRefused, is_program, Book, first_damage, by_run, StoreRows, format_sql, Read, read_sql, Tables, Database, Held, state, Row, Executes, State, Error, Int, Ghosts, column, AllByRecursion, Bool, List, false, pos, true, ℕ, HasEnded, HasTables, tables_in, StoreFault, IsReadError, QueriesRow, QueryReturnedNoRows, SqliteFailure, Err, Ok, Some, length, ℤ, [], IsSome, ⊤}
 use Rattle.sqlite.specs.declared.error.ErrorCode.TheVariants as code
 use Rattle.flow_rows.specs.Rows.{rows_of}
 use Rattle.flow_rows.specs.Standing.{AreKept}
@@ -39,6 +39,13 @@ IsAnswered false old new = (e : Error) × QueriesRow format_sql [] old new (Err 
 -- The format was read so, of what the last commit left at the start.
 abbrev pub HasFormat : {S : Type 0} → Ghosts S → State → Bool → Type 0
 HasFormat {S} g start is_there = (old new : Held S) × HasEnded start (state g old) × IsAnswered is_there (state g old) (state g new)
+
+-- As far as the disk told no lie, the last commit left our tables, or none.
+abbrev pub HeldTables : State → Type 0
+HeldTables s = HasCleanDisk s → HasTables s.committed
+
+abbrev pub HeldNone : State → Type 0
+HeldNone s = HasCleanDisk s → s.committed.schema ≡ no_schema
 
 ---- What the rows say
 

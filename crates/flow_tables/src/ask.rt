@@ -3,9 +3,8 @@
 ghost use Rattle.flow_tables.specs.Names.{Book, Tells as TellsBook, Tables, state, Executes, HasCleanDisk, Survives, IfErr, CommitsBy, Shown, FailsToQuery, IfOk};
 ghost use Rattle.sqlite.specs.State.{CommitsShowing};
 ghost use Rattle.flow_tables.specs.Reads.{Tells, IsReadFault};
-ghost use Rattle.flow_tables.specs.Asking.{IsAsked, IsFirst, IsValue, IsRecalled, IsChanged};
-ghost use Rattle.flow_sql.specs.Stored.{AreUtf8};
-ghost use Rattle.flow_sql.specs.Meaning.{Asks, IsQuestion, Alters, IsRowChange};
+ghost use Rattle.flow_tables.specs.Asking.{IsAsked, IsFirst, IsValue, IsRecalled, MeansChange, IsChanged};
+ghost use Rattle.flow_sql.specs.Meaning.{Asks, IsQuestion, Alters};
 
 use crate::fault::{StoreFault, view_fault};
 use crate::questions::first_of;
@@ -121,8 +120,7 @@ pub trait RowChange: Sized {
     fn send<S: Alter>(&self, conn: &mut Connection<S>) -> Result<usize, Error>
         ensures runs { HasCleanDisk (state S.Store conn.new) → Executes (does self.now).sql (does self.now).params (state S.Store conn.old) (state S.Store conn.new) result }
         ensures survives { Survives (state S.Store conn.old) (state S.Store conn.new) (CommitsBy (does self.now).sql (does self.now).params (state S.Store conn.old)) }
-        ensures means { IsRowChange S.Store (does self.now) }
-        ensures utf8 { (t : Tables) → AreUtf8 t → AreUtf8 ((does self.now).after t) };
+        ensures means { MeansChange S.Store (does self.now) };
 }
 
 /// Changes the rows so.

@@ -37,10 +37,7 @@ impl BookRead for LeastDue {
 pub(crate) fn moment_of(found: Option<Due>) -> Option<Moment>
     ensures { result ≡ option_map rule.moment_of found }
 {
-    match found {
-        Some(due) => Some(due.due),
-        None => None,
-    }
+    Some(found?.due)
 }
 
 /// The moment at which the first of all open timers is due.

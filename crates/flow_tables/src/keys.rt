@@ -112,28 +112,19 @@ impl ByKey for Of<LastRun> {
 
 impl ByKey for OneRun<NewestEvent> {
     fn find(&self, maps: &Maps) -> Option<Option<Head>> {
-        match maps.head(self.0.0) {
-            Some(head) => Some(Some(head)),
-            None => None,
-        }
+        Some(Some(maps.head(self.0.0)?))
     }
 }
 
 impl ByKey for OneEvent {
     fn find(&self, maps: &Maps) -> Option<Option<Event>> {
-        match maps.event(self.0, self.1) {
-            Some(event) => Some(Some(event)),
-            None => None,
-        }
+        Some(Some(maps.event(self.0, self.1)?))
     }
 }
 
 impl ByKey for Of<TextBody> {
     fn find(&self, maps: &Maps) -> Option<Option<RawText>> {
-        match maps.text(self.0.0) {
-            Some(body) => Some(Some(body)),
-            None => None,
-        }
+        Some(Some(maps.text(self.0.0)?))
     }
 }
 
@@ -145,9 +136,6 @@ impl ByKey for LeastDue {
 
 impl ByKey for NextMoment {
     fn find(&self, maps: &Maps) -> Option<Option<Moment>> {
-        match maps.least_due(Moment::last()) {
-            Some(found) => Some(moment_of(found)),
-            None => None,
-        }
+        Some(moment_of(maps.least_due(Moment::last())?))
     }
 }

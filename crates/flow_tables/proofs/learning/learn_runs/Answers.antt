@@ -34,11 +34,10 @@ loop-count-preserved g c =
 
 pub returns-in-Ok-None-clause-serves : goal.returns-in-Ok-None-clause-serves
 returns-in-Ok-None-clause-serves g c = λ sure.
-    let first = g.V.Runs.book c.args.view.now in
     let mid = g.V.Runs.book c.loop-count.view in
     let was = c.recall.ensures.sure sure in
     let none : nth mid.runs (c.loop-count.count + 1) ≡ None = (let h : g.V.Runs.is_sure c.recall.new.self → nth mid.runs (c.loop-count.count + 1) ≡ None = search rules in h sure) in
-    serves_all c.loop-count.maps first mid c.loop-count.count (c.loop-count.invariant.still was) none (c.loop-count.invariant.serves was)
+    serves_all c.loop-count.maps (g.V.Runs.book c.args.view.now) mid c.loop-count.count (c.loop-count.invariant.still was) none (c.loop-count.invariant.serves was)
 
 pub returns-clause-serves : goal.returns-clause-serves
 returns-clause-serves g c = λ sure. c.unknown.ensures.serves (g.V.Runs.book c.args.view.now)

@@ -16,10 +16,8 @@ returns-in-Ok-clause-version g c clean e =
 
 pub returns-in-Ok-clause-ours : goal.returns-in-Ok-clause-ours
 returns-in-Ok-clause-ours g c clean has =
-    let old = state g.S.Store c.args.conn.now in
-    let new = state g.S.Store c.format_row.new.conn in
     let asked = c.in-Ok.ensures.queries clean in
-    let ours = is_ours old new _ (has (answered old new _ asked).0.was_open) asked in
+    let ours = is_ours _ _ _ (has (answered _ _ _ asked).0.was_open) asked in
     elim c.in-Err-check_format.ensures.cause [
       | inl other ↦ not_other _ ours (c.in-Err-check_format.ensures.version (ap Err other))
       | inr misread ↦ subst IsOfStore (sym misread.2) (of_store misread.0)
@@ -27,10 +25,8 @@ returns-in-Ok-clause-ours g c clean has =
 
 pub returns-in-Ok-clause-blank : goal.returns-in-Ok-clause-blank
 returns-in-Ok-clause-blank g c clean none =
-    let old = state g.S.Store c.args.conn.now in
-    let new = state g.S.Store c.format_row.new.conn in
     let asked = c.in-Ok.ensures.queries clean in
-    absurd (blank_never_reads old new _ (none (answered old new _ asked).0.was_open) asked)
+    absurd (blank_never_reads _ _ _ (none (answered _ _ _ asked).0.was_open) asked)
 
 pub returns-in-Ok-clause-cause : goal.returns-in-Ok-clause-cause
 returns-in-Ok-clause-cause g c clean = elim c.in-Err-check_format.ensures.cause [
@@ -47,18 +43,14 @@ returns-clause-cause g c clean =
 
 pub returns-in-Ok-clause-why : goal.returns-in-Ok-clause-why
 returns-in-Ok-clause-why g c clean ours =
-    let old = state g.S.Store c.args.conn.now in
-    let new = state g.S.Store c.format_row.new.conn in
     let asked = c.in-Ok.ensures.queries clean in
-    elim (ours (answered old new _ asked).0.was_open) [
-      | inl has ↦ subst (StopsOpening g.S.Store old new) (sym (c.in-Err-check_format.ensures.taken (format_answer old new _ has asked))) tt
-      | inr none ↦ absurd (blank_never_reads old new _ none asked)
+    elim (ours (answered _ _ _ asked).0.was_open) [
+      | inl has ↦ subst (StopsOpening g.S.Store (state g.S.Store c.args.conn.now) (state g.S.Store c.format_row.new.conn)) (sym (c.in-Err-check_format.ensures.taken (format_answer _ _ _ has asked))) tt
+      | inr none ↦ absurd (blank_never_reads _ _ _ none asked)
     ]
 
 pub returns-clause-why : goal.returns-clause-why
 returns-clause-why g c clean ours =
-    let old = state g.S.Store c.args.conn.now in
-    let new = state g.S.Store c.format_row.new.conn in
     let e = c.in-Err.error in
     both_told c.no_format.result (λ f told is. format_held g.S.Store c.args.conn.now c.format_row.new.conn e (c.in-Err.ensures.queries clean) ours told f is) c.no_format.ensures.told c.no_format.ensures.fault
 

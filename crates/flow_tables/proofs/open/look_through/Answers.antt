@@ -18,14 +18,12 @@ returns-in-Ok-Ok-clause-tells g c clean was =
 
 pub returns-in-Ok-Ok-clause-read : goal.returns-in-Ok-Ok-clause-read
 returns-in-Ok-Ok-clause-read g c clean was =
-    let rows = c.in-Ok.rows in
-    let book = IfOk-at_ok (λ b. shown_book b ≡ book_in (by_run rows)) c.in-Ok-Ok.field-0-is c.in-Ok-Ok.ensures.book in
+    let book = IfOk-at_ok (λ b. shown_book b ≡ book_in (by_run c.in-Ok.rows)) c.in-Ok-Ok.field-0-is c.in-Ok-Ok.ensures.book in
     book ∙ ap book_in (c.in-Ok.ensures.reads false was clean).1
 
 pub returns-in-Ok-Ok-clause-stands : goal.returns-in-Ok-Ok-clause-stands
 returns-in-Ok-Ok-clause-stands g c =
-    let rows = c.in-Ok.rows in
-    let its = IfOk-at_ok (λ b. StandsFor is_program rows (shown_book b)) c.in-Ok-Ok.field-0-is c.in-Ok-Ok.ensures.stands in
+    let its = IfOk-at_ok (λ b. StandsFor is_program c.in-Ok.rows (shown_book b)) c.in-Ok-Ok.field-0-is c.in-Ok-Ok.ensures.stands in
     record { texts = its.texts; runs = its.runs; same = refl }
 
 pub returns-in-Ok-Ok-clause-utf8 : goal.returns-in-Ok-Ok-clause-utf8

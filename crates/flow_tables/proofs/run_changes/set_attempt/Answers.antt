@@ -13,18 +13,17 @@ returns-then-not-is_there-clause-put g c b tells holds clean =
 
 pub returns-in-Ok-put_again-clause-put : goal.returns-in-Ok-put_again-clause-put
 returns-in-Ok-put_again-clause-put g c b tells holds clean =
-    let cm = c.put_again.ensures.clean clean in
+    let cm = c.put_again.ensures.quiet.0 clean in
     let found = c.in-Ok.ensures.finds holds cm in (
       tt,
       task_set (state g.S.Store c.args.conn.now) (state g.S.Store c.find_task.new.conn) (state g.S.Store c.put_again.new.conn) (pos c.args.run) (record { event = c.args.event; attempt = c.args.attempt; ready = c.args.ready })
-          (holds (c.find_task.ensures.clean cm)).now.ours found.0 (sym c.if-not-is_there.false ∙ found.1) (c.in-Ok-put_again.ensures.put (λ _. found.0.0) clean),
+          (holds (c.find_task.ensures.quiet.0 cm)).now.ours found.0 (sym c.if-not-is_there.false ∙ found.1) (c.in-Ok-put_again.ensures.put (λ _. found.0.0) clean),
     )
 
 pub returns-in-Err-put_again-clause-cause : goal.returns-in-Err-put_again-clause-cause
 returns-in-Err-put_again-clause-cause g c b tells holds clean =
     let old = state g.S.Store c.args.conn.now in
-    let mid = state g.S.Store c.find_task.new.conn in
-    let found = c.in-Ok.ensures.finds holds (c.put_again.ensures.clean clean) in
-    because_after g.S.Store old mid (state g.S.Store c.put_again.new.conn) (survived old mid _ (c.find_task.ensures.survives holds)) _ c.refusal_of.result
+    let found = c.in-Ok.ensures.finds holds (c.put_again.ensures.quiet.0 clean) in
+    because_after g.S.Store old (state g.S.Store c.find_task.new.conn) (state g.S.Store c.put_again.new.conn) (survived old _ _ (c.find_task.ensures.quiet.1 holds)) _ c.refusal_of.result
     (by_error g.S.Store c.find_task.new.conn c.put_again.new.conn _ c.refusal_of.result c.in-Err-put_again.error c.refusal_of.ensures
-    (c.in-Err-put_again.ensures.cause (λ cm. (c.in-Ok.ensures.finds holds cm).0.0) (run_still old mid (pos c.args.run) found.0 (run_of_task (tables_in old.now.trees) b c.args.run (pos c.args.event) tells (sym c.if-not-is_there.false ∙ found.1))) clean))
+    (c.in-Err-put_again.ensures.cause (λ cm. (c.in-Ok.ensures.finds holds cm).0.0) (run_still old _ (pos c.args.run) found.0 (run_of_task (tables_in old.now.trees) b c.args.run (pos c.args.event) tells (sym c.if-not-is_there.false ∙ found.1))) clean))
