@@ -6,4 +6,5 @@ pub returns-in-Ok : goal.returns-in-Ok
 returns-in-Ok g c = changed g.S.Store _ c.args.conn.now c.send.new.conn c.send.ensures.means.rows c.send.ensures.means.utf8 c.send.ensures.survives _ c.in-Ok.ensures.runs (Ok tt) tt
 
 pub returns-in-Err : goal.returns-in-Err
-returns-in-Err g c = changed g.S.Store _ c.args.conn.now c.send.new.conn c.send.ensures.means.rows c.send.ensures.means.utf8 c.send.ensures.survives _ c.in-Err.ensures.runs (Err c.in-Err.error) refl
+returns-in-Err g c =
+    changed g.S.Store _ c.args.conn.now c.send.new.conn c.send.ensures.means.rows c.send.ensures.means.utf8 c.send.ensures.survives _ c.in-Err.ensures.runs (Err c.in-Err.error) refl
