@@ -114,8 +114,8 @@ module _ {S : Type 0} (g : Ghosts S) (does : Alters) (old new : Held S) (it : Is
   changed r ran x same = record {
     put = λ was fits clean. MatchResult-weaker x (did r (ran clean) x same)
         (λ _ ran.
-            let done = it.put old new ran.0 (over was clean) fits ran.1 in
-            record { over = done.over; tables = done.tables; committed = done.committed; utf8 = λ u. subst AreUtf8 (sym done.tables) (keeps (tables_in (state g old).now.trees) u) })
+        let done = it.put old new ran.0 (over was clean) fits ran.1 in
+        record { over = done.over; tables = done.tables; committed = done.committed; utf8 = λ u. subst AreUtf8 (sym done.tables) (keeps (tables_in (state g old).now.trees) u) })
         (λ e ran. error_refused (state g old) (state g new) does.sql does.params e true (over was clean) ran);
     clean = λ clean. was_clean (state g old) (state g new) _ h clean;
     ran = λ clean. MatchResult-weaker x (did r (ran clean) x same) (λ _ _. tt) (λ e ran. ran);
