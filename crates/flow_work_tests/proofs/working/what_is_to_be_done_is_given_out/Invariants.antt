@@ -1,4 +1,4 @@
-use Rattle.flow_engine_tests.proofs.serving.what_was_submitted_is_served.Given as goal
+use Rattle.flow_work_tests.proofs.working.what_is_to_be_done_is_given_out.Given as goal
 
 abbrev pub ghosts-served-B-Room : goal.ghosts-served-B-Room
 ghosts-served-B-Room g a = record { table = a.opened.table }
