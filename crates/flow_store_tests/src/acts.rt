@@ -6,7 +6,7 @@ use crate::opening::{Recovering, recovers};
 use crate::positions::{Case, has_positions};
 use flow_recover::reopen::reopen;
 use flow_settings::settings::Settings;
-use sqlite::{Alter, Connection, Files, MemStore, Options};
+use sqlite::{Alter, Connection, FileStore, Files, MemStore, Options};
 use sqlite_disk::{Disk, Fuse, Memory};
 use std::alloc::Global;
 
@@ -21,8 +21,8 @@ pub enum Act {
     Counts(&'static [(&'static str, usize)]),
     /// A keeper is opened for it, asked and closed.
     Keeps(Keeping),
-    /// It is opened with so many positions at most, after a stop or anew.
-    Recovers(usize, Recovering),
+    /// It is opened, after a stop or anew.
+    Recovers(Recovering),
     /// Its book has these positions.
     Has(Case),
     /// An engine with the usual settings is opened for it, asked and closed.
@@ -95,7 +95,7 @@ fn done<S: Alter>(
 ) -> (bool, Connection<S>) {
     match act {
         Act::Keeps(keeping) => keeps(alloc, conn, keeping),
-        Act::Recovers(most, recovering) => recovers(alloc, conn, most, recovering),
+        Act::Recovers(recovering) => recovers(alloc, conn, recovering),
         Act::Has(case) => has_positions(alloc, conn, case),
         Act::Asks(asking) => answers_so(alloc, conn, Settings::usual(), asking, out),
         Act::AsksWith(most, asking) => {
@@ -121,9 +121,6 @@ fn all_done<S: Alter>(
     }
     (are, conn)
 }
-
-/// Lets a connection go.
-fn let_go<S: Alter + Drop>(_conn: Connection<S>) {}
 
 // What a stop leaves of it, opened anew.
 fn stopped(alloc: Global, conn: Connection<MemStore>) -> Option<Connection<MemStore>> {
@@ -166,7 +163,8 @@ fn all_lived(
         }
         is_first = false;
     }
-    let_go(conn);
+    // A store is let go of, and no connection.
+    let _store = conn.into_store();
     are
 }
 
@@ -194,11 +192,15 @@ pub fn are_so(alloc: Global, acts: &[Act]) -> bool {
     are_so_in_lives(alloc, &[acts])
 }
 
-fn are_so_over<S: Alter + Drop>(alloc: Global, conn: Connection<S>, acts: &[Act]) -> bool {
+/// Whether these acts are done so over a store in files, and the files.
+fn all_done_in_files<D: Disk + Drop>(
+    alloc: Global,
+    conn: Connection<FileStore<D>>,
+    acts: &[Act],
+) -> (bool, Files<D>) {
     let mut out = Vec::new(alloc);
     let (are, conn) = all_done(alloc, conn, acts, &mut out);
-    let_go(conn);
-    are
+    (are, conn.into_store().close())
 }
 
 fn are_so_in_files<D: Disk + Drop>(
@@ -206,15 +208,15 @@ fn are_so_in_files<D: Disk + Drop>(
     files: Files<D>,
     cache_pages: usize,
     acts: &[Act],
-) -> bool {
+) -> (bool, Files<D>) {
     if !files.may_be_used() {
-        return false;
+        return (false, files);
     }
     let mut options = Options::new(1);
     options.cache_pages = cache_pages;
     match Connection::open_files(alloc, files, options) {
-        Ok(conn) => are_so_over(alloc, conn, acts),
-        Err((_, _)) => false,
+        Ok(conn) => all_done_in_files(alloc, conn, acts),
+        Err((_, left)) => (false, left.into_files()),
     }
 }
 
@@ -224,5 +226,6 @@ pub fn are_so_failing(alloc: Global, calls: u64, cache_pages: usize, acts: &[Act
         log: Fuse::new(Memory::new(alloc), calls),
         db: Fuse::new(Memory::new(alloc), u64::MAX),
     };
-    are_so_in_files(alloc, files, cache_pages, acts)
+    let (are, _files) = are_so_in_files(alloc, files, cache_pages, acts);
+    are
 }

@@ -88,14 +88,26 @@ fn register(alloc: Global) -> Option<Command> {
     Some(Command::Register(RawText::new(alloc, A).ok()?))
 }
 
-/// A run of the text, under a flow of this name, which waits on its activity.
-fn start(alloc: Global, name: &str) -> Option<Command> {
+/// A run of text 1.
+fn start(
+    alloc: Global,
+    request: &str,
+    flow: &str,
+    arguments: Vec<Value>,
+    at: u64,
+) -> Option<Command> {
     let text = TextNo::new(1)?;
-    let at = Moment::new(1000)?;
-    let request = Key::new(alloc, name).ok()?;
-    let flow = Key::new(alloc, name).ok()?;
-    let arguments = Sequence::from_vec(vec![in alloc; Value::Int(7)].ok()?);
+    let at = Moment::new(at)?;
+    let request = Key::new(alloc, request).ok()?;
+    let flow = Key::new(alloc, flow).ok()?;
+    let arguments = Sequence::from_vec(arguments);
     Some(Command::Start(request, flow, text, arguments, at))
+}
+
+/// A run of the text A, under a flow of this name, which waits on its activity.
+fn start_waiting(alloc: Global, name: &str) -> Option<Command> {
+    let arguments = vec![in alloc; Value::Int(7)].ok()?;
+    start(alloc, name, name, arguments, 1000)
 }
 
 fn complete() -> Option<Command> {
@@ -110,12 +122,7 @@ fn register_empty(alloc: Global) -> Option<Command> {
 }
 
 fn start_empty(alloc: Global, flow: &str) -> Option<Command> {
-    let text = TextNo::new(1)?;
-    let at = Moment::new(0)?;
-    let request = Key::new(alloc, "q").ok()?;
-    let flow = Key::new(alloc, flow).ok()?;
-    let arguments = Sequence::from_vec(Vec::new(alloc));
-    Some(Command::Start(request, flow, text, arguments, at))
+    start(alloc, "q", flow, Vec::new(alloc), 0)
 }
 
 fn history() -> Option<Command> {
@@ -137,9 +144,9 @@ fn in_line(alloc: Global, line: &[u8]) -> Option<Command> {
 pub fn command(alloc: Global, call: Call) -> Option<Command> {
     match call {
         Call::Register => register(alloc),
-        Call::Start => start(alloc, "f"),
-        Call::StartAnother => start(alloc, "g"),
-        Call::StartThird => start(alloc, "h"),
+        Call::Start => start_waiting(alloc, "f"),
+        Call::StartAnother => start_waiting(alloc, "g"),
+        Call::StartThird => start_waiting(alloc, "h"),
         Call::Complete => complete(),
         Call::RegisterEmpty => register_empty(alloc),
         Call::StartEmpty => start_empty(alloc, "f"),

@@ -36,18 +36,29 @@ pub enum Keeping {
     Boards(Calls, &'static [Posted], u64, Shown),
 }
 
-/// The batch of a call with this ticket.
-pub fn batch(alloc: Global, ticket: u64, call: Call) -> Option<Batch> {
+fn taken(alloc: Global, ticket: u64, call: Call) -> Option<Taken> {
     let command = command(alloc, call)?;
-    match Batch::one(alloc, Taken { ticket, command }) {
+    Some(Taken { ticket, command })
+}
+
+fn one(alloc: Global, taken: Taken) -> Option<Batch> {
+    match Batch::one(alloc, taken) {
         Ok(batch) => Some(batch),
         Err((_, _)) => None,
     }
 }
 
+/// The batch of a call with this ticket.
+pub fn batch(alloc: Global, ticket: u64, call: Call) -> Option<Batch> {
+    match taken(alloc, ticket, call) {
+        Some(taken) => one(alloc, taken),
+        None => None,
+    }
+}
+
 fn add_taken(alloc: Global, list: &mut Vec<Taken>, ticket: u64, call: Call) -> bool {
-    match command(alloc, call) {
-        Some(command) => list.push(Taken { ticket, command }).is_ok(),
+    match taken(alloc, ticket, call) {
+        Some(taken) => list.push(taken).is_ok(),
         None => false,
     }
 }

@@ -1,4 +1,6 @@
 //! Opening a store in memory, after what a keeper has kept in it, with ample memory.
+ghost use Rattle.std.specs.Prelude.{◌≤◌};
+
 use crate::acts::{Act, are_so, are_so_in_lives};
 use crate::calls::{Call, Want, commands};
 use crate::keepers::{Cut, closed, tells};
@@ -111,11 +113,15 @@ fn decides<S: Alter>(alloc: Global, tables: &mut Tables<S>, commands: &[Command]
     }
 }
 
-fn applies<S: Alter>(alloc: Global, tables: &mut Tables<S>, call: Call) -> bool {
+fn decides_call<S: Alter>(alloc: Global, tables: &mut Tables<S>, call: Call) -> bool {
     match &commands(alloc, &[call]) {
-        Some(commands) => tables.begin().is_ok() && decides(alloc, tables, commands.as_slice()),
+        Some(commands) => decides(alloc, tables, commands.as_slice()),
         None => false,
     }
+}
+
+fn applies<S: Alter>(alloc: Global, tables: &mut Tables<S>, call: Call) -> bool {
+    tables.begin().is_ok() && decides_call(alloc, tables, call)
 }
 
 /// Whether the call is applied, and the store within the transaction.
@@ -138,17 +144,25 @@ fn done<S: Alter>(
     }
 }
 
-/// Whether this is done with a store that is opened, of whose runs so many positions are kept at most, and the store behind it.
+/// How many positions are kept at most.
+fn most_of(recovering: Recovering) -> usize
+    ensures first { 1 ≤ result }
+    ensures last { result ≤ 4096 }
+{
+    match recovering {
+        Recovering::Finds(_) => 256,
+        Recovering::Keeps(_) => 1,
+        Recovering::Applies(_) => 2,
+    }
+}
+
+/// Whether this is done with a store that is opened, and the store behind it.
 pub fn recovers<S: Alter>(
     alloc: Global,
     conn: Connection<S>,
-    most: usize,
     recovering: Recovering,
 ) -> (bool, Connection<S>) {
-    if most == 0 || most > 4096 {
-        return (false, conn);
-    }
-    match recover(alloc, conn, most) {
+    match recover(alloc, conn, most_of(recovering)) {
         Ok((keeper, positions)) => {
             let found = found_at(positions.as_slice(), keeper.is_halted());
             drop(positions);
@@ -159,23 +173,23 @@ pub fn recovers<S: Alter>(
 }
 
 // A keeper that is opened for it keeps a call.
-const REGISTER: Act = Act::Recovers(1, Recovering::Keeps(Call::Register));
+const REGISTER: Act = Act::Recovers(Recovering::Keeps(Call::Register));
 
-const START: Act = Act::Recovers(1, Recovering::Keeps(Call::Start));
+const START: Act = Act::Recovers(Recovering::Keeps(Call::Start));
 
-const START_ANOTHER: Act = Act::Recovers(1, Recovering::Keeps(Call::StartAnother));
+const START_ANOTHER: Act = Act::Recovers(Recovering::Keeps(Call::StartAnother));
 
-const COMPLETE: Act = Act::Recovers(1, Recovering::Keeps(Call::Complete));
+const COMPLETE: Act = Act::Recovers(Recovering::Keeps(Call::Complete));
 
 // A transaction that runs on has applied it.
-const APPLY_COMPLETE: Act = Act::Recovers(2, Recovering::Applies(Call::Complete));
+const APPLY_COMPLETE: Act = Act::Recovers(Recovering::Applies(Call::Complete));
 
 // What is found.
-const NOTHING: Act = Act::Recovers(256, Recovering::Finds(Found::Nothing));
+const NOTHING: Act = Act::Recovers(Recovering::Finds(Found::Nothing));
 
-const FIRST_WAITS: Act = Act::Recovers(256, Recovering::Finds(Found::Waiting(1)));
+const FIRST_WAITS: Act = Act::Recovers(Recovering::Finds(Found::Waiting(1)));
 
-const SECOND_WAITS: Act = Act::Recovers(256, Recovering::Finds(Found::Waiting(2)));
+const SECOND_WAITS: Act = Act::Recovers(Recovering::Finds(Found::Waiting(2)));
 
 const EMPTY: &[Act] = &[NOTHING];
 
@@ -237,7 +251,7 @@ const OTHER_ARGUMENT: &[Act] = &[
     REGISTER,
     START,
     Act::Changes("UPDATE event SET body = replace(body, 'eur', 'usd') WHERE id = 2"),
-    Act::Recovers(256, Recovering::Finds(Found::Mismatch)),
+    Act::Recovers(Recovering::Finds(Found::Mismatch)),
 ];
 
 // Its rows tell a book, but the program asks for another argument than its second event has.
@@ -252,7 +266,7 @@ const NO_BOOK: &[Act] = &[
     REGISTER,
     START,
     Act::Changes("DELETE FROM outbox"),
-    Act::Recovers(256, Recovering::Finds(Found::Refused(83))),
+    Act::Recovers(Recovering::Finds(Found::Refused(83))),
 ];
 
 #[test]
