@@ -39,6 +39,7 @@ pub fn take_receipt(answered: &mut Vec<Receipt>, k: usize) -> Receipt
 pub fn push_receipts(answered: &mut Vec<Receipt>, mut receipts: Vec<Receipt>)
     requires { vec_len answered.old + vec_len receipts ≤ vec_capacity answered.old }
     ensures items { answered.new.items ≡ answered.old.items ++ receipts.items }
+    ensures len { vec_len answered.new ≡ vec_len answered.old + vec_len receipts }
     ensures capacity { vec_capacity answered.old ≤ vec_capacity answered.new }
 {
     if answered.append(&mut receipts).is_err() {

@@ -1,11 +1,11 @@
 -- What the statements that make the tables do, whatever tables there are: each keeps the transaction, and none commits.
-use Rattle.std.specs.Prelude.{◌≡◌, ◌⊎◌, if◌then◌else◌, ◌&&◌, ◌==◌, ◌+◌}
-use Rattle.flow_sql.proofs.Names.{survives_weaker, timed, Row, Executes, HasCleanDisk, IsRolledBack, IsUnchanged, Runs, Shows, State, Survives, shows_rows, text_of, Trees, Error, Statement, first, Checked, Compiled, CompileError, NoSuchTable, Returning, Parsed, cases_Bool, Bool, IsTrue, List, MatchResult, Option, false, true, ℕ, [], refl, Ok, None, Err, Result, ⊤, length, not, reads_listing, sym, ap, ◌∙◌, subst, inl, inr, true≢false, RunsTo, GoesOn, IsMaking, FirstIs}
+use Rattle.flow_sql.proofs.Names.{survives_weaker, timed, Row, Executes, HasCleanDisk, IsRolledBack, IsUnchanged, Runs, Shows, State, Survives, shows_rows, text_of, Trees, Error, Statement, first, Checked, Compiled, CompileError, NoSuchTable, Returning, Parsed, cases_Bool, Bool, IsTrue, List}
+use Rattle.flow_sql.proofs.Names.{MatchResult, Option, false, true, ℕ, [], refl, Ok, None, Err, Result, ⊤, length, not, reads_listing, sym, ap, ◌∙◌, subst, inl, inr, true≢false, RunsTo, GoesOn, IsMaking, FirstIs, Schema, Table}
 use Rattle.sqlite_ast.specs.declared.Statement.TheVariants as written
 use Rattle.sqlite_ast.specs.declared.Conflict.TheVariants as conflict
 use Rattle.sqlite_ast.specs.declared.CreateTable.{CreateTable}
 use Rattle.sqlite_ast.specs.declared.Rows.{Rows}
-use Rattle.sqlite_schema.specs.declared.schema.Schema.{Schema}
+use Rattle.flow_sql.proofs.Kit.{CommitsNothing, IsReading, index_named, table_named, view_named, ◌≡◌, ◌⊎◌, if◌then◌else◌, ◌&&◌, ◌==◌, ◌+◌}
 use Rattle.sqlite_schema.specs.declared.command.Command.{Command}
 use Rattle.sqlite_schema.specs.declared.command.Command.TheVariants.{Insert, CreateTable as MakeTable, Nothing}
 use Rattle.sqlite_resolve.specs.declared.error.CompileError.TheVariants.{Unsupported}
@@ -14,13 +14,10 @@ use Rattle.sqlite_resolve.specs.Scope.{Name}
 use Rattle.sqlite_resolve.specs.Compile.{command, returning, shows, planned, meaning, compiled, create_table, creates, is_attached, insert, insert_or_abort, new_rows, target, small, with_command, timed as timed_at}
 use Rattle.sqlite_resolve.specs.Body.{table_at}
 use Rattle.sqlite_resolve.specs.Define as define
-use Rattle.sqlite_schema.specs.Names.{table_named, index_named, view_named}
-use Rattle.sqlite_schema.specs.declared.schema.Table.{Table}
 use Rattle.sqlite_schema.specs.declared.command.Source.{Source}
 use Rattle.std.specs.Option.{option_or}
 use Rattle.sqlite.specs.Listing.{understood, if_select, is_select, listing_schema}
 use Rattle.sqlite.specs.State.{CommitsBy, CommitsShowing, FailsToQuery, Shown, IsNotRun, ExecutesIn}
-use Rattle.flow_sql.specs.States.{CommitsNothing, IsReading}
 use Rattle.flow_sql.proofs.Added.{same_value}
 use Rattle.flow_sql.proofs.Leaves.{was_clean, error_leaves, rolled_back_ended}
 
@@ -85,11 +82,7 @@ reads_none schema base (written.Select s) reading r h = sym (same_value h)
 reads_none schema base _ reading r h = absurd reading
 
 selected : (r : Checked Compiled) (c : Compiled) → if_select r ≡ Ok c → r ≡ Ok c
-selected (Ok d) c h = by_case (is_select d.command) h
-  where
-    by_case : (b : Bool) → (if b then Ok d else Err NoSuchTable) ≡ Ok c → ◌≡◌ {A = Checked Compiled} (Ok d) (Ok c)
-    by_case true e = e
-    by_case false e = absurd (let never = e in cc)
+selected (Ok d) c h = if_gives (is_select d.command) (Ok d) (Err NoSuchTable) (λ b. ◌≡◌ {A = Checked Compiled} (Ok d) (Ok b)) (λ b is. is) (none_gives NoSuchTable _) c h
 selected (Err e) c h = absurd (let never = h in cc)
 
 -- what is so of the command of such a statement, and of what it shows, is so of what a text becomes that begins with one

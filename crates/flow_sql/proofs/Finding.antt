@@ -1,15 +1,11 @@
 -- What reading the format leaves, and what it tells.
 use Rattle.flow_sql.proofs.Names.{schema, format_sql, no_schema, format_query, one_permutation, Database, Row, overlay, IsAnswer, Output, end, inner, output, IsUnchanged, State, Survives, Trees, Error, Int, Null, Compiled, CompileError, NoSuchTable, IsPermutation, IsTrue, List, false, map, pos, [], refl, Ok, None, Err, Result, Fails, IsOver, HasTables, HasEnded, IsAtRest, IsBlank, format_row, sym, ap, ◌∙◌, subst, inl, inr, arith}
-use Rattle.std.specs.Prelude.{IsSome, ◌≡◌, ◌∷◌, ◌⊎◌, ◌≢◌}
-use Rattle.sqlite_disk.specs.Disk.{MoreFaults}
-use Rattle.sqlite.specs.declared.error.ErrorCode.TheVariants.{OutOfMemory}
-use Rattle.sqlite.specs.declared.error.Error.TheVariants.{SqliteFailure, SqlInputError}
+use Rattle.flow_sql.proofs.Kit.{MoreFaults, OutOfMemory, SqlInputError, SqliteFailure, first_as, IsSome, ◌≡◌, ◌∷◌, ◌⊎◌, ◌≢◌}
 use Rattle.sqlite.specs.Order.{value_cmp}
 use Rattle.sqlite.specs.Ops.{binary}
 use Rattle.sqlite.specs.Query.{page, matches_as}
 use Rattle.sqlite.specs.Listing.{understood, listing_schema}
 use Rattle.sqlite.specs.State.{CommitsShowing, QueriesRow, FailsToQuery, Shown, Begins, IsNotRun}
-use Rattle.sqlite.proofs.Callers.{first_as}
 use Rattle.sqlite_tied.specs.Compute.{everything}
 use Rattle.flow_sql.proofs.Leaves.{over_both}
 use Rattle.flow_sql.proofs.Compiling.{reading_shows_none, commits_none}
@@ -57,14 +53,11 @@ answered old new row h = elim (read_leaves old new (Ok row) h) [
   | inr failed ↦ absurd (let e = failed.1 in cc)
 ]
 
-same_error : {a b : Error} → ◌≡◌ {A = Result Row Error} (Err a) (Err b) → a ≡ b
-same_error e = cc
-
 -- what is no failure of the store changed nothing
 pub refused : (old new : State) (e : Error) → QueriesRow format_sql [] old new (Err e) → ((x : Error) → e ≡ x → ¬ Fails old new ⊥ x) → IsUnchanged old new
 refused old new e h none = elim (read_leaves old new (Err e) h) [
   | inl same ↦ same
-  | inr failed ↦ absurd (none failed.0 (same_error failed.1) failed.2)
+  | inr failed ↦ absurd (none failed.0 (let same = failed.1 in cc) failed.2)
 ]
 
 ---- Without the tables

@@ -1,10 +1,9 @@
 -- A row that goes and comes again under its run and number stands in its place.
-use Rattle.std.specs.Prelude.{◌≡◌, ◌∷◌, if◌then◌else◌}
-use Rattle.flow_rows.specs.Changes.{with_task, without_task, in_its_place, with_task_in_place}
-use Rattle.flow_sql.proofs.Names.{put_by, task_id, Tables, OutboxRow, Trees, IsAscending, all_weaker, filter_all, cases_Bool, Decides-int_eq, ints, AllByRecursion, list_any, int_eq, Bool, List, false, filter, int_lt, map, true, [], refl, ℤ, not, sym, ap, ◌∙◌, subst, inl, inr, arith, true≢false, AreOurs, tables_in, task_in}
+use Rattle.flow_sql.proofs.Kit.{in_its_place, with_task, with_task_in_place, without_task, ◌≡◌, ◌∷◌, if◌then◌else◌, all_from, all_has, some_has}
+use Rattle.flow_sql.proofs.Names.{put_by, task_id, Tables, OutboxRow, Trees, IsAscending, all_weaker, cases_Bool, Decides-int_eq, ints, AllByRecursion, list_any, int_eq, Bool, List, false, filter, int_lt, map, true, [], refl, ℤ, not, sym, ap, ◌∙◌, subst, inl, inr, arith, true≢false, AreOurs, tables_in, task_in}
 use Rattle.flow_sql.proofs.Columns.{of_tasks, keys_differ}
-use Rattle.flow_sql.proofs.Lists.{apart_of_run}
-use Rattle.flow_sql.proofs.Rising.{Lower, rising_rises}
+use Rattle.flow_sql.proofs.Lists.{apart_of_run, none_go, none_change}
+use Rattle.flow_sql.proofs.Rising.{Lower, rising_rises, none_is}
 
 above_one : (m n k : ℤ) → int_eq m k ≡ true → int_lt m n ≡ true → int_eq n k ≡ false
 above_one m n k one two = grind (arith, ints)
@@ -31,24 +30,15 @@ module _ {A : Type 0} (key : A → ℤ) (x : A) where
   abbrev AreOthers : List A → Type 0
   AreOthers ys = AllByRecursion (λ y. int_eq (key y) (key x) ≡ false) ys
 
-  pub all_stay : (ys : List A) → AreOthers ys → map replaced ys ≡ ys
-  all_stay [] others = refl
-  all_stay (y ∷ ys) others = rw others.0 (ap (λ l. y ∷ l) (all_stay ys others.1))
-
-  none_go : (ys : List A) → AreOthers ys → filter other ys ≡ ys
-  none_go ys others = filter_all other ys (all_weaker (λ y. int_eq (key y) (key x) ≡ false) _ (λ y is. ap not is) ys others)
-
   put_first : (ys : List A) → AllByRecursion (λ y. int_lt (key x) (key y) ≡ true) ys → put_by key x ys ≡ x ∷ ys
   put_first [] up = refl
   put_first (y ∷ ys) up = rw up.0 refl
 
   -- the one that has the key lies behind what is lower
   not_first : (y : A) (ys : List A) → AllByRecursion (Lower key y) ys → is_there ys ≡ true → int_lt (key x) (key y) ≡ false
-  not_first y [] up there = absurd (true≢false (sym there))
-  not_first y (z ∷ ys) up there = elim (cases_Bool (int_eq (key z) (key x))) [
-    | inl same ↦ below_one (key y) (key z) (key x) same (less_so y z up.0)
-    | inr other ↦ not_first y ys up.1 (rw other at there)
-  ]
+  not_first y ys up there =
+      let z = some_has (λ z. int_eq (key z) (key x)) ys there in
+      below_one (key y) (key z.0) (key x) z.2 (less_so y z.0 (all_has (Lower key y) ys z.0 up z.1))
 
   pub put_in_place : (ys : List A) → IsAscending (Lower key) ys → is_there ys ≡ true → put_by key x (filter other ys) ≡ map replaced ys
   put_in_place [] up there = absurd (true≢false (sym there))
@@ -56,16 +46,12 @@ module _ {A : Type 0} (key : A → ℤ) (x : A) where
     | inl same ↦
         let others : AreOthers ys = all_weaker (Lower key y) (λ z. int_eq (key z) (key x) ≡ false) (λ z low. above_one (key y) (key z) (key x) same (less_so y z low)) ys up.0 in
         let higher = all_weaker (Lower key y) (λ z. int_lt (key x) (key z) ≡ true) (λ z low. above_same (key y) (key z) (key x) same (less_so y z low)) ys up.0 in
-        rw same (ap (put_by key x) (none_go ys others) ∙ put_first ys higher ∙ ap (λ l. x ∷ l) (sym (all_stay ys others)))
+        rw same (ap (put_by key x) (none_go (λ z. int_eq (key z) (key x)) ys others) ∙ put_first ys higher ∙ ap (λ l. x ∷ l) (sym (none_change (λ z. int_eq (key z) (key x)) (λ _. x) ys others)))
     | inr apart ↦ rw (apart, not_first y ys up.0 (rw apart at there)) (ap (λ l. y ∷ l) (put_in_place ys up.1 (rw apart at there)))
   ]
 
   pub none_there : (ys : List A) → is_there ys ≡ false → AreOthers ys
-  none_there [] none = tt
-  none_there (y ∷ ys) none = elim (cases_Bool (int_eq (key y) (key x))) [
-    | inl same ↦ absurd (true≢false (rw same at none))
-    | inr apart ↦ (apart, none_there ys (rw apart at none))
-  ]
+  none_there ys none = all_from _ ys (none_is (λ y. int_eq (key y) (key x)) ys none)
 
 abbrev pub HasTask : OutboxRow → Tables → Bool
 HasTask row t = is_there task_id row (t.outbox row.run)
@@ -88,7 +74,7 @@ pub no_task_in_place : (t : Tables) (row : OutboxRow) → HasTask row t ≡ fals
 no_task_in_place t row none = λ i. record t { outbox = λ z. of_run z i }
   where
     here : map (in_its_place row) (t.outbox row.run) ≡ t.outbox row.run
-    here = all_stay task_id row (t.outbox row.run) (none_there task_id row (t.outbox row.run) none)
+    here = none_change (λ (x : OutboxRow). int_eq x.id row.id) (λ _. row) (t.outbox row.run) (none_there task_id row (t.outbox row.run) none)
 
     of_run : (z : ℤ) → (with_task_in_place row t).outbox z ≡ t.outbox z
     of_run z = elim (cases_Bool (int_eq z row.run)) [

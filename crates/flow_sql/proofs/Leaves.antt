@@ -1,8 +1,7 @@
 -- What a statement leaves that is refused, and that none opens a connection that was shut.
-use Rattle.std.specs.Prelude.{◌≡◌, ◌⊎◌}
 use Rattle.flow_sql.proofs.Names.{timed, Command, Begin, Commit, Rollback, Select, Database, Row, Executes, HasCleanDisk, IsRolledBack, IsUnchanged, Runs, RunsCommand, State, Survives, shows_rows, text_of, Trees, Error, Returning, cases_Bool, Bool, IsTrue, List, Option, false, ℕ, [], Ok, Err, Result, Nothing, sym, ◌∙◌, subst, inl, inr, arith, IsOver, HasTables, RunsTo, HasEnded, IsStill, IsAtRest, IsUndone, IsRefused}
 use Rattle.sqlite.specs.State.{ExecutesIn, IsNotRun}
-use Rattle.sqlite.specs.Command.TheVariants.{Savepoint, Release, RollbackTo, Rows}
+use Rattle.flow_sql.proofs.Kit.{Release, RollbackTo, Rows, Savepoint, ◌≡◌, ◌⊎◌}
 
 ---- What a statement that is refused leaves
 

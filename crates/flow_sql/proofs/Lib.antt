@@ -1,4 +1,5 @@
 pub mod Names
+pub mod Kit
 pub mod Texts
 pub mod Leaves
 pub mod Numbered

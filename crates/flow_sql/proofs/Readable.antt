@@ -1,11 +1,7 @@
 -- That what our tables hold can be read: a number always, and a text where it is UTF-8.
-use Rattle.std.specs.Prelude.{IsUtf8, ◌≡◌, ◌∷◌, ◌<◌}
-use Rattle.std.proofs.Common.{zero, suc}
-use Rattle.flow_sql.proofs.Names.{event_id, rising, events_of, EventRow, Kind, Integer, Text, Null, Row, overlay, IsAnswer, Output, Term, Trees, rowid, is_int, all-filter, all-permutation, all_both, all_weaker, bytes, column, Key, cases_Bool, Decides-int_eq, IsPermutation-sym, AllByRecursion, int_eq, IsTrue, List, filter, map, slice_get, Some, length, true, ℕ, [], refl, ℤ, take, sym, subst, inl, inr, AreOurs, tables_in, run_in, event_in, text_in, run, text, event, timer, outbox, Read, rows_where, query_of, first_where, IsReadAs, AreReadAs, AreUtf8, kinds_of}
-use Rattle.sqlite_schema.specs.declared.schema.Table.{Table}
-use Rattle.std.proofs.lemmas.Bool.{cases_lt}
-use Rattle.std.proofs.lemmas.List.{get_or_past}
-use Rattle.sqlite_trees.proofs.ListLemmas.{all-map, all_from_map}
+use Rattle.flow_sql.proofs.Kit.{all-map, all_from_map, cases_lt, get_or_past, suc, zero, IsUtf8, ◌≡◌, ◌∷◌, ◌<◌, all_from, all_has, has_kept}
+use Rattle.flow_sql.proofs.Names.{event_id, rising, events_of, EventRow, Kind, Integer, Text, Null, Row, col, overlay, IsAnswer, Output, Term, Trees, rowid, is_int, all-filter, all-permutation, all_both, all_weaker, bytes, column, Key, Decides-int_eq, IsPermutation-sym, AllByRecursion, int_eq, IsTrue, List, filter}
+use Rattle.flow_sql.proofs.Names.{map, slice_get, Some, length, ℕ, [], refl, ℤ, take, sym, subst, inl, inr, AreOurs, tables_in, run_in, event_in, text_in, text_table, run_table, event_table, timer_table, task_table, Read, rows_where, query_of, first_where, IsReadAs, AreReadAs, AreUtf8, kinds_of, Bool}
 use Rattle.flow_sql.proofs.Numbered.{number_is}
 use Rattle.flow_sql.proofs.Columns.{AreTyped, columns}
 use Rattle.flow_sql.proofs.Reading.{meets, seen, kept_is, out}
@@ -53,16 +49,9 @@ module _ (db : Trees) (params : Row) (tree : ℕ) (terms project : List Term) (b
 
 -- what holds of the rows of each run holds of all
 all_of_each : {A : Type 0} (P : A → Type 0) (run_of : A → ℤ) (xs : List A) → ((z : ℤ) → AllByRecursion P (filter (λ x. int_eq (run_of x) z) xs)) → AllByRecursion P xs
-all_of_each P run_of [] each = tt
-all_of_each P run_of (x ∷ xs) each =
-    let here : int_eq (run_of x) (run_of x) ≡ true = (Decides-int_eq (run_of x) (run_of x)).1 refl in
-    ((rw here at (each (run_of x))).0, all_of_each P run_of xs (λ z. rest z))
-  where
-    rest : (z : ℤ) → AllByRecursion P (filter (λ y. int_eq (run_of y) z) xs)
-    rest z = elim (cases_Bool (int_eq (run_of x) z)) [
-      | inl same ↦ (rw same at (each z)).1
-      | inr other ↦ rw other at (each z)
-    ]
+all_of_each {A} P run_of xs each = all_from P xs (λ x has.
+    let own : A → Bool = λ y. int_eq (run_of y) (run_of x) in
+    all_has P (filter own xs) x (each (run_of x)) (has_kept own xs x has ((Decides-int_eq (run_of x) (run_of x)).1 refl)))
 
 module _ (db : Trees) (ours : AreOurs db) (utf8 : AreUtf8 (tables_in db)) where
   event_bodies : AllByRecursion (λ r. IsUtf8 (bytes (column r 4))) (db 5)
@@ -73,12 +62,6 @@ module _ (db : Trees) (ours : AreOurs db) (utf8 : AreUtf8 (tables_in db)) where
       (IsPermutation-sym _ _ (rising_moves event_id (events_of (map event_in (db 5)) z))) (utf8.events z)))
 
   ---- The rows of each table
-
-  abbrev text_table : Table
-  text_table = record text { tree = 2 }
-
-  abbrev run_table : Table
-  run_table = record run { tree = 4 }
 
   abbrev ReadsText : Row → Type 0
   ReadsText r = IsReadAs Integer (column r 0) × IsReadAs Text (column r 2)
@@ -101,65 +84,32 @@ module _ (db : Trees) (ours : AreOurs db) (utf8 : AreUtf8 (tables_in db)) where
   abbrev ReadsEvent : Row → Type 0
   ReadsEvent r = IsReadAs Integer (column r 1) × IsReadAs Integer (column r 2) × IsReadAs Integer (column r 3) × IsReadAs Text (column r 4)
 
-  abbrev event_table : Table
-  event_table = record event { tree = 5 }
-
   events_read : AllByRecursion ReadsEvent (db 5)
   events_read =
       all_both (AreTyped event_table) (λ r. IsUtf8 (bytes (column r 4))) ReadsEvent
       (λ r h u. ((_, h 0 _ refl refl refl refl), (_, h 1 _ refl refl refl refl), (_, h 2 _ refl refl refl refl), (_, h 3 _ refl refl refl refl, u))) (db 5) (columns db ours 3 event_table refl) event_bodies
 
-  abbrev ReadsTimer : Row → Type 0
-  ReadsTimer r = IsReadAs Integer (column r 1) × IsReadAs Integer (column r 2) × IsReadAs Integer (column r 3)
-
-  abbrev timer_table : Table
-  timer_table = record timer { tree = 7 }
-
-  timers_read : AllByRecursion ReadsTimer (db 7)
-  timers_read =
-      all_weaker (AreTyped timer_table) ReadsTimer (λ r h. ((_, h 0 _ refl refl refl refl), (_, h 1 _ refl refl refl refl), (_, h 2 _ refl refl refl refl))) (db 7) (columns db ours 4 timer_table refl)
-
-  abbrev ReadsTask : Row → Type 0
-  ReadsTask r = IsReadAs Integer (column r 1) × IsReadAs Integer (column r 2) × IsReadAs Integer (column r 3) × IsReadAs Integer (column r 4)
-
-  abbrev task_table : Table
-  task_table = record outbox { tree = 9 }
-
-  tasks_read : AllByRecursion ReadsTask (db 9)
-  tasks_read =
-      all_weaker (AreTyped task_table) ReadsTask (λ r h. ((_, h 0 _ refl refl refl refl), (_, h 1 _ refl refl refl refl), (_, h 2 _ refl refl refl refl), (_, h 3 _ refl refl refl refl))) (db 9)
-      (columns db ours 5 task_table refl)
-
   ---- What each read answers
 
   module _ (params : Row) (rows : List Row) where
-    of_texts : (terms project : List Term) (D : Row → Type 0) → ((r : Row) → ReadsText r → D (seen params project r)) → (order : List (Term × Key)) → IsAnswer (rows_where 2 terms project order) (overlay db []) params rows → AllByRecursion D rows
-    of_texts terms project D shows order = rows_hold db params 2 terms project refl ReadsText D shows texts_read order rows
-
-    of_runs : (terms project : List Term) (D : Row → Type 0) → ((r : Row) → ReadsRun r → D (seen params project r)) → (order : List (Term × Key)) → IsAnswer (rows_where 4 terms project order) (overlay db []) params rows → AllByRecursion D rows
-    of_runs terms project D shows order = rows_hold db params 4 terms project refl ReadsRun D shows runs_read order rows
-
-    of_events : (terms project : List Term) (D : Row → Type 0) → ((r : Row) → ReadsEvent r → D (seen params project r)) → (order : List (Term × Key)) → IsAnswer (rows_where 5 terms project order) (overlay db []) params rows → AllByRecursion D rows
-    of_events terms project D shows order = rows_hold db params 5 terms project refl ReadsEvent D shows events_read order rows
-
-    of_tasks : (terms project : List Term) (D : Row → Type 0) → ((r : Row) → ReadsTask r → D (seen params project r)) → (order : List (Term × Key)) → IsAnswer (rows_where 9 terms project order) (overlay db []) params rows → AllByRecursion D rows
-    of_tasks terms project D shows order = rows_hold db params 9 terms project refl ReadsTask D shows tasks_read order rows
+    task_reads : (r : Row) → AreTyped task_table r → AreReadAs (kinds_of Read.all_tasks) (seen params (col 1 1 ∷ col 1 2 ∷ col 1 3 ∷ col 1 4 ∷ []) r)
+    task_reads r h = ((_, h 0 _ refl refl refl refl), ((_, h 1 _ refl refl refl refl), ((_, h 2 _ refl refl refl refl), ((_, h 3 _ refl refl refl refl), tt))))
 
     pub are_readable : (r : Read) → IsAnswer (query_of r) (overlay db []) params rows → AllByRecursion (AreReadAs (kinds_of r)) rows
-    are_readable Read.all_texts = of_texts _ _ _ (λ r h. (h.0, (h.1, tt))) _
-    are_readable Read.text_body = of_texts _ _ _ (λ r h. (h.1, tt)) _
-    are_readable Read.text_number = of_texts _ _ _ (λ r h. (h.0, tt)) _
+    are_readable Read.all_texts = rows_hold db params 2 _ _ refl ReadsText _ (λ r h. (h.0, (h.1, tt))) texts_read _ rows
+    are_readable Read.text_body = rows_hold db params 2 _ _ refl ReadsText _ (λ r h. (h.1, tt)) texts_read _ rows
+    are_readable Read.text_number = rows_hold db params 2 _ _ refl ReadsText _ (λ r h. (h.0, tt)) texts_read _ rows
     are_readable Read.last_text = first_holds db params 2 _ _ refl ReadsText _ (λ r h. (h.0, tt)) texts_read _ rows
-    are_readable Read.all_runs = of_runs _ _ _ (λ r h. (h.0, (h.1, (h.2, (h.3, (h.4, tt)))))) _
-    are_readable Read.run_row = of_runs _ _ _ (λ r h. (h.0, (h.1, (h.2, (h.3, (h.4, tt)))))) _
+    are_readable Read.all_runs = rows_hold db params 4 _ _ refl ReadsRun _ (λ r h. (h.0, (h.1, (h.2, (h.3, (h.4, tt)))))) runs_read _ rows
+    are_readable Read.run_row = rows_hold db params 4 _ _ refl ReadsRun _ (λ r h. (h.0, (h.1, (h.2, (h.3, (h.4, tt)))))) runs_read _ rows
     are_readable Read.last_run = first_holds db params 4 _ _ refl ReadsRun _ (λ r h. (h.0, tt)) runs_read _ rows
-    are_readable Read.requested = of_runs _ _ _ (λ r h. (h.0, tt)) _
-    are_readable Read.open_run = of_runs _ _ _ (λ r h. (h.0, tt)) _
-    are_readable Read.all_events = of_events _ _ _ (λ r h. (h.0, (h.1, (h.2, (h.3, tt))))) _
-    are_readable Read.run_events = of_events _ _ _ (λ r h. (h.0, (h.1, (h.2, (h.3, tt))))) _
+    are_readable Read.requested = rows_hold db params 4 _ _ refl ReadsRun _ (λ r h. (h.0, tt)) runs_read _ rows
+    are_readable Read.open_run = rows_hold db params 4 _ _ refl ReadsRun _ (λ r h. (h.0, tt)) runs_read _ rows
+    are_readable Read.all_events = rows_hold db params 5 _ _ refl ReadsEvent _ (λ r h. (h.0, (h.1, (h.2, (h.3, tt))))) events_read _ rows
+    are_readable Read.run_events = rows_hold db params 5 _ _ refl ReadsEvent _ (λ r h. (h.0, (h.1, (h.2, (h.3, tt))))) events_read _ rows
     are_readable Read.last_event = first_holds db params 5 _ _ refl ReadsEvent _ (λ r h. (h.1, tt)) events_read _ rows
-    are_readable Read.event_at = of_events _ _ _ (λ r h. (h.0, (h.1, (h.2, (h.3, tt))))) _
+    are_readable Read.event_at = rows_hold db params 5 _ _ refl ReadsEvent _ (λ r h. (h.0, (h.1, (h.2, (h.3, tt))))) events_read _ rows
     are_readable Read.newest_event = first_holds db params 5 _ _ refl ReadsEvent _ (λ r h. (h.0, (h.1, (h.2, (h.3, tt))))) events_read _ rows
-    are_readable Read.all_timers = rows_hold db params 7 _ _ refl ReadsTimer _ (λ r h. (h.0, (h.1, (h.2, tt)))) timers_read _ rows
-    are_readable Read.all_tasks = of_tasks _ _ _ (λ r h. (h.0, (h.1, (h.2, (h.3, tt))))) _
-    are_readable Read.run_tasks = of_tasks _ _ _ (λ r h. (h.0, (h.1, (h.2, (h.3, tt))))) _
+    are_readable Read.all_timers = rows_hold db params 7 _ _ refl (AreTyped timer_table) _ (λ r h. ((_, h 0 _ refl refl refl refl), ((_, h 1 _ refl refl refl refl), ((_, h 2 _ refl refl refl refl), tt)))) (columns db ours 4 timer_table refl) _ rows
+    are_readable Read.all_tasks = rows_hold db params 9 _ _ refl (AreTyped task_table) _ task_reads (columns db ours 5 task_table refl) _ rows
+    are_readable Read.run_tasks = rows_hold db params 9 _ _ refl (AreTyped task_table) _ task_reads (columns db ours 5 task_table refl) _ rows

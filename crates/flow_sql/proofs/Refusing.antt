@@ -1,21 +1,13 @@
 -- Why a statement of ours is refused: the store failed, or its database declines what is asked.
-use Rattle.flow_sql.proofs.Names.{schema, Write, write_sql, Read, read_sql, IsRead, write_takes, IsPlain, timed, Command, Does, Database, Row, overlay, Query, Executes, RunsCommand, State, mode_of, shows_rows, text_of, Trees, Error, Compiled, CompileError, IsTrue, List, false, true, ℕ, [], refl, Ok, None, Err, Result, length, Some, reads_listing, Fails, IsMisplaced, sym, ap, ◌∙◌, subst, inl, inr, arith, true≢false, append-nil}
-use Rattle.std.specs.Prelude.{IsSome, Any, ◌≡◌, ◌⊎◌, ◌≢◌, ◌≤◌}
-use Rattle.sqlite_disk.specs.Disk.{MoreFaults}
+use Rattle.flow_sql.proofs.Names.{schema, Write, write_sql, Read, read_sql, IsRead, write_takes, IsPlain, command_of, timed, Command, Does, Database, Row, overlay, Query, Executes, RunsCommand, State, mode_of, shows_rows, text_of, Trees, Error, Compiled, CompileError}
+use Rattle.flow_sql.proofs.Names.{IsTrue, List, false, true, ℕ, [], refl, Ok, None, Err, Result, length, Some, reads_listing, Fails, IsMisplaced, sym, ap, ◌∙◌, subst, inl, inr, arith, true≢false, append-nil, Schema}
+use Rattle.flow_sql.proofs.Kit.{IsDeclined, IsOurRead, IsOurWrite, IsWrite, MoreFaults, OutOfMemory, QueryOverflows, RefusesToRead, SqliteFailure, accepts_program, read_takes, IsSome, Any, ◌≡◌, ◌⊎◌, ◌≢◌, ◌≤◌}
 use Rattle.sqlite_trees.specs.declared.error.StoreError.{StoreError}
 use Rattle.sqlite_trees.specs.declared.error.StoreError.TheVariants as store
 use Rattle.sqlite_tied.specs.Compute.{everything}
-use Rattle.sqlite_sql.specs.Program.{QueryOverflows}
-use Rattle.sqlite_typing.specs.Types.{accepts_program}
-use Rattle.sqlite.specs.Calls.{IsWrite}
 use Rattle.sqlite.specs.Command.TheVariants as command
-use Rattle.sqlite.specs.Effect.{RefusesToRead}
 use Rattle.sqlite.specs.Listing.{understood, IsSourceOf}
-use Rattle.sqlite_schema.specs.declared.schema.Schema.{Schema}
-use Rattle.sqlite.specs.declared.error.ErrorCode.TheVariants.{OutOfMemory}
-use Rattle.sqlite.specs.declared.error.Error.TheVariants.{SqliteFailure}
 use Rattle.sqlite.specs.State.{HasCause, store_error, FailsToQuery, IsNotRun, IsNoStatement, ExecutesIn, IsStatement}
-use Rattle.flow_sql.specs.Meaning.{command_of, IsOurRead, IsOurWrite, IsDeclined, read_takes}
 
 -- a query over one table has no sum
 pub never_sums : (rows : List Row) → ⊥ ⊎ Any (λ r. ⊥) rows → ⊥
@@ -46,14 +38,23 @@ whole_write sql params it = subst (λ n. IsWhole sql n (understood schema sql)) 
 
 ---- Why one is refused
 
+-- a text of ours that is whole, with as many values as it takes, is a statement
+module _ (old : State) (e : Error) (s : Schema) (laid : old.now.schema ≡ s) (sql : List ℕ) (params : Row) (whole : IsWhole sql (length params) (understood s sql)) (plain : IsPlain (understood s sql)) where
+  known : understood s sql ≡ understood old.now.schema sql
+  known = ap (λ t. understood t sql) (sym laid)
+
+  pub never_no_statement : IsNoStatement old sql params e → ⊥
+  never_no_statement (inl none) = subst IsPlain (known ∙ none.1) plain
+  never_no_statement (inr (c, is, inl long)) = long.0 (subst (IsWhole sql (length params)) (known ∙ is) whole).0
+  never_no_statement (inr (c, is, inr (inl few))) = few.0 (sym (subst (IsWhole sql (length params)) (known ∙ is) whole).1)
+  never_no_statement (inr (c, is, inr (inr timed'))) = timed'.0 (subst IsPlain (known ∙ is) plain).1
+
 module _ (old new : State) (e : Error) (other : e ≢ SqliteFailure OutOfMemory) (up : IsTrue old.is_open) where
   failed_for : (W : Type 0) (k : StoreError) → e ≡ store_error k → HasCause old new W k → MoreFaults old.faults new.faults ⊎ W
   failed_for W store.OutOfMemory is why = absurd (other is)
-  failed_for W store.Io is why = inl why
-  failed_for W store.Corrupt is why = inl why
-  failed_for W store.Full is why = inl why
   failed_for W store.Broken is why = absurd (let open_then = up in cc)
   failed_for W store.Unstorable is why = inr why
+  failed_for W _ is why = inl why
 
   pub failed : (W : Type 0) → Fails old new W e → MoreFaults old.faults new.faults ⊎ W
   failed W h = failed_for W h.0 h.1 h.2
@@ -65,18 +66,9 @@ module _ (old new : State) (e : Error) (other : e ≢ SqliteFailure OutOfMemory)
   ]
 
   module _ (s : Schema) (laid : old.now.schema ≡ s) (sql : List ℕ) (params : Row) (whole : IsWhole sql (length params) (understood s sql)) (plain : IsPlain (understood s sql)) where
-    known : understood s sql ≡ understood old.now.schema sql
-    known = ap (λ t. understood t sql) (sym laid)
-
-    never_no_statement : IsNoStatement old sql params e → ⊥
-    never_no_statement (inl none) = subst IsPlain (known ∙ none.1) plain
-    never_no_statement (inr (c, is, inl long)) = long.0 (subst (IsWhole sql (length params)) (known ∙ is) whole).0
-    never_no_statement (inr (c, is, inr (inl few))) = few.0 (sym (subst (IsWhole sql (length params)) (known ∙ is) whole).1)
-    never_no_statement (inr (c, is, inr (inr timed'))) = timed'.0 (subst IsPlain (known ∙ is) plain).1
-
     never_run : IsNotRun old new sql params e → MoreFaults old.faults new.faults
     unfolding IsNotRun
-    never_run (inl none) = absurd (never_no_statement none.0)
+    never_run (inl none) = absurd (never_no_statement old e s laid sql params whole plain none.0)
     never_run (inr fails) = only_failed fails
 
 -- A question: the store failed, or a limit is set on the steps of a query.
@@ -101,17 +93,9 @@ shows_no_rows : (c : Compiled) → IsWrite c.command → c.returning ≡ None �
 shows_no_rows c writes bare = by_command c.command writes
   where
     by_command : (k : Command) → IsWrite k → shows_rows false (record c { command = k }) ≡ false
-    by_command (command.Insert at from) w = rw bare refl
-    by_command (command.InsertOr at way from clauses) w = rw bare refl
-    by_command (command.Update at q) w = rw bare refl
-    by_command (command.Delete at q) w = rw bare refl
-    by_command command.CreateTable w = rw bare refl
-    by_command (command.CreateIndex at) w = rw bare refl
-    by_command (command.DropTable at) w = rw bare refl
-    by_command (command.DropIndex at) w = rw bare refl
-    by_command command.CreateView w = rw bare refl
-    by_command (command.DropView at) w = rw bare refl
-    by_command _ w = absurd w
+    by_command (command.Select q names) w = absurd w
+    by_command (command.Rows values width names) w = absurd w
+    by_command _ w = rw bare refl
 
 never_misplaced : (s : State) (k : Command) (e : Error) → IsWrite k → ¬ IsMisplaced s k e
 never_misplaced s k e writes (inl (_, inl begin)) = absurd (rw begin.0 at writes)
@@ -128,38 +112,28 @@ IsTooBig sql params s =
 -- A change: the store failed, or its database declines it.
 module _ (old new : State) (e : Error) (other : e ≢ SqliteFailure OutOfMemory) (up : IsTrue old.is_open) (s : Schema) (laid : old.now.schema ≡ s) (sql : List ℕ) (params : Row) (k : Command) (is : command_of (understood s sql) ≡ k) (writes : IsWrite k)
     (plain : IsPlain (understood s sql)) (whole : IsWhole sql (length params) (understood s sql)) where
-  pub change_refused : Executes sql params old new (Err e) → MoreFaults old.faults new.faults ⊎ IsDeclined sql params old
+  -- it was not run for the store, or has run as its command
+  ran_or_failed : Executes sql params old new (Err e) → MoreFaults old.faults new.faults ⊎ ((c : Compiled) × (it : IsStatement old sql params c) × IsWrite c.command × RunsCommand old new sql c (timed params c.formats it.now) (Err e))
   unfolding ExecutesIn
-  change_refused (inl none) = inl (never_run old new e other up s laid sql params whole plain none)
-  change_refused (inr h) =
+  ran_or_failed (inl none) = inl (never_run old new e other up s laid sql params whole plain none)
+  ran_or_failed (inr h) =
       let known = sym h.1.is ∙ ap (λ t. understood t sql) laid in
       let bare = subst IsPlain (sym known) plain in
       let write = subst IsWrite (sym (ap command_of known ∙ is)) writes in
-      ran (rw (shows_no_rows h.0 write bare.0) at h.2)
-    where
-      ran : RunsCommand old new sql h.0 (timed params h.0.formats h.1.now) (Err e) → MoreFaults old.faults new.faults ⊎ IsDeclined sql params old
-      ran (inl (inl misplaced, _)) =
-          let known = sym h.1.is ∙ ap (λ t. understood t sql) laid in
-          absurd (never_misplaced old h.0.command e (subst IsWrite (sym (ap command_of known ∙ is)) writes) misplaced)
-      ran (inl (inr declined, _)) = inr (Some e, h.0, h.1, declined.1)
-      ran (inr fails) = elim (failed old new e other up _ fails) [
-        | inl more ↦ inl more
-        | inr big ↦ inr (None, h.0, h.1, big)
-      ]
+      inr (h.0, h.1, write, rw (shows_no_rows h.0 write bare.0) at h.2)
+
+  pub change_refused : Executes sql params old new (Err e) → MoreFaults old.faults new.faults ⊎ IsDeclined sql params old
+  change_refused h = elim (ran_or_failed h) [
+    | inl more ↦ inl more
+    | inr (c, it, write, inl (inl misplaced, _)) ↦ absurd (never_misplaced old c.command e write misplaced)
+    | inr (c, it, write, inl (inr declined, _)) ↦ inr (Some e, c, it, declined.1)
+    | inr (c, it, write, inr fails) ↦ elim (failed old new e other up _ fails) [ inl more ↦ inl more | inr big ↦ inr (None, c, it, big) ]
+  ]
 
   -- One that has ended the transaction: the store failed, or a row of it is too big to be stored.
   pub change_ended : old.in_transaction ≡ true → new.in_transaction ≡ false → Executes sql params old new (Err e) → MoreFaults old.faults new.faults ⊎ IsTooBig sql params old
-  unfolding ExecutesIn
-  change_ended inside outside (inl none) = inl (never_run old new e other up s laid sql params whole plain none)
-  change_ended inside outside (inr h) =
-      let known = sym h.1.is ∙ ap (λ t. understood t sql) laid in
-      let bare = subst IsPlain (sym known) plain in
-      let write = subst IsWrite (sym (ap command_of known ∙ is)) writes in
-      ran (rw (shows_no_rows h.0 write bare.0) at h.2)
-    where
-      ran : RunsCommand old new sql h.0 (timed params h.0.formats h.1.now) (Err e) → MoreFaults old.faults new.faults ⊎ IsTooBig sql params old
-      ran (inl refused) = absurd (true≢false (sym inside ∙ sym refused.1.0.mode ∙ outside))
-      ran (inr fails) = elim (failed old new e other up _ fails) [
-        | inl more ↦ inl more
-        | inr big ↦ inr (h.0, h.1, big)
-      ]
+  change_ended inside outside h = elim (ran_or_failed h) [
+    | inl more ↦ inl more
+    | inr (c, it, write, inl refused) ↦ absurd (true≢false (sym inside ∙ sym refused.1.0.mode ∙ outside))
+    | inr (c, it, write, inr fails) ↦ elim (failed old new e other up _ fails) [ inl more ↦ inl more | inr big ↦ inr (c, it, big) ]
+  ]

@@ -1,36 +1,33 @@
 -- What BEGIN, COMMIT and ROLLBACK mean, under any schema.
-use Rattle.std.specs.Prelude.{◌≡◌, ◌≢◌}
 use Rattle.flow_sql.proofs.Names.{schema, IsPlain, command_of, runs_as, statement_of, survives_weaker, timed, Command, Begin, Commit, Rollback, Does, Row, Schema, Executes, IsRolledBack, Runs, RunsCommand, State, Survives, mode_of, shows_rows, text_of, Trees, Error, Compiled, cases_Bool, Bool, IfErr, IsTrue, List, MatchResult, codes, false, true, ℕ, [], refl, Ok, None, Err, Result, ⊤, Fails, IsMisplaced, IsOver, RunsTo, HasEnded, IsStill, GoesOn, IsUndone, IsRefused, HasBegun, HasCommitted, sym, ap, ◌∙◌, subst, inl, inr, arith, true≢false}
-use Rattle.std.proofs.Common.{OnOk}
-use Rattle.sqlite.specs.Calls.{IsWrite}
+use Rattle.flow_sql.proofs.Kit.{Holds, IsWrite, MoreFaults, OnOk, OutOfMemory, Release, RollbackTo, SqliteFailure, ◌≡◌, ◌≢◌}
 use Rattle.sqlite_tied.specs.Compute.{everything}
 use Rattle.sqlite.specs.Listing.{understood}
 use Rattle.sqlite.specs.State.{CommitsBy, MayWrite, ExecutesIn, IsNotRun}
-use Rattle.sqlite.specs.Command.TheVariants.{Release, RollbackTo}
-use Rattle.sqlite.specs.declared.error.ErrorCode.TheVariants.{OutOfMemory}
-use Rattle.sqlite.specs.declared.error.Error.TheVariants.{SqliteFailure}
-use Rattle.sqlite_disk.specs.Disk.{MoreFaults}
-use Rattle.flow_sql.proofs.Refusing.{IsWhole, failed}
-use Rattle.flow_sql.specs.States.{Holds}
+use Rattle.flow_sql.proofs.Refusing.{IsWhole, failed, never_no_statement}
 use Rattle.flow_sql.proofs.Leaves.{was_clean, over_both, rolled_back_ended, ended_undone, error_refused}
 
 -- the text is this command, and nothing else, whatever tables there are
-record Controls (sql : List ℕ) (command : Command) : Type 0 where
+record Controls (sql : List ℕ) (command : Command) : Type 1 where
   is : (s : Schema) → command_of (understood s sql) ≡ command
   plain : (s : Schema) → IsPlain (understood s sql)
   whole : (s : Schema) → IsWhole sql 0 (understood s sql)
+  -- it is no write, shows nothing, and has no row that could be too big
+  writes : ¬ IsWrite command
+  hidden : (c : Compiled) → shows_rows false (record c { command = command; returning = None }) ≡ false
+  small : (s : State) (params : Row) (text : List ℕ) → ¬ Does s.step_limit (mode_of s) params s.now text None command (Err None)
 
 begin_text : Controls (codes "BEGIN") Begin
 unfolding understood everything
-begin_text = record { is = λ s. refl; plain = λ s. (refl, refl); whole = λ s. (omega arith, refl) }
+begin_text = record { is = λ s. refl; plain = λ s. (refl, refl); whole = λ s. (omega arith, refl); writes = λ h. h; hidden = λ c. refl; small = λ s params text h. let e = h in cc }
 
 commit_text : Controls (codes "COMMIT") Commit
 unfolding understood everything
-commit_text = record { is = λ s. refl; plain = λ s. (refl, refl); whole = λ s. (omega arith, refl) }
+commit_text = record { is = λ s. refl; plain = λ s. (refl, refl); whole = λ s. (omega arith, refl); writes = λ h. h; hidden = λ c. refl; small = λ s params text h. let e = h in cc }
 
 rollback_text : Controls (codes "ROLLBACK") Rollback
 unfolding understood everything
-rollback_text = record { is = λ s. refl; plain = λ s. (refl, refl); whole = λ s. (omega arith, refl) }
+rollback_text = record { is = λ s. refl; plain = λ s. (refl, refl); whole = λ s. (omega arith, refl); writes = λ h. h; hidden = λ c. refl; small = λ s params text h. let e = h in cc }
 
 ---- What they may commit
 
@@ -107,66 +104,33 @@ module _ (s : State) (command : Command) (placed : IsPlaced command s.in_transac
   never_misplaced e (inr (_, name, inl release, _)) = placed_as (Release name) release
   never_misplaced e (inr (_, name, inr back, _)) = placed_as (RollbackTo name) back
 
-never_writes : (command : Command) (inside : Bool) → IsPlaced command inside → ¬ IsWrite command
-never_writes Begin inside placed h = h
-never_writes Commit inside placed h = h
-never_writes Rollback inside placed h = h
-never_writes _ inside placed h = placed
-
 module _ (sql : List ℕ) (old new : State) (e : Error) (command : Command) (it : Controls sql command) (placed : IsPlaced command old.in_transaction) where
   -- only a failure of the store refuses it, with nothing that could be too big
   fails_alone : (P : Type 0) → ((W : Type 0) → ¬ W → Fails old new W e → P) → Executes sql [] old new (Err e) → P
   unfolding ExecutesIn IsNotRun
-  fails_alone P so (inl (inl none)) = elim none.0 [
-    | inl broken ↦ absurd (subst IsPlain broken.1 (it.plain old.now.schema))
-    | inr odd ↦
-        let bare = subst IsPlain odd.1 (it.plain old.now.schema) in
-        let all = subst (IsWhole sql 0) odd.1 (it.whole old.now.schema) in
-        absurd (elim odd.2 [
-          | inl cut ↦ cut.0 all.0
-          | inr (inl given) ↦ given.0 (sym all.1)
-          | inr (inr times) ↦ times.0 bare.1
-        ])
-  ]
+  fails_alone P so (inl (inl none)) = absurd (never_no_statement old e old.now.schema refl sql [] (it.whole old.now.schema) (it.plain old.now.schema) none.0)
   fails_alone P so (inl (inr fails)) = so ⊥ (λ none. none) fails
   fails_alone P so (inr h) = elim (cases_Bool (shows_rows false h.0)) [
     | inl shows ↦ absurd (shown h.0 h.1.is shows)
     | inr runs ↦ ran h.0 h.1.is (timed [] h.0.formats h.1.now) (rw runs at h.2)
   ]
     where
-      hidden : (k : Command) (inside : Bool) → IsPlaced k inside → (c : Compiled) → ¬ (shows_rows false (record c { command = k; returning = None }) ≡ true)
-      hidden Begin inside last c h = true≢false (sym h)
-      hidden Commit inside last c h = true≢false (sym h)
-      hidden Rollback inside last c h = true≢false (sym h)
-      hidden _ inside last c h = last
-
-      never_big : (k : Command) (inside : Bool) → IsPlaced k inside → (params : Row) (text : List ℕ) → ¬ Does old.step_limit (mode_of old) params old.now text None k (Err None)
-      never_big Begin inside last params text h = absurd (let e = h in cc)
-      never_big Commit inside last params text h = absurd (let e = h in cc)
-      never_big Rollback inside last params text h = absurd (let e = h in cc)
-      never_big _ inside last params text h = last
-
       shown : (c : Compiled) → understood old.now.schema sql ≡ Ok c → ¬ (shows_rows false c ≡ true)
       shown c known shows =
           let same : c.command ≡ command = sym (ap command_of known) ∙ it.is old.now.schema in
           let bare = subst IsPlain known (it.plain old.now.schema) in
-          hidden command old.in_transaction placed c (subst (λ k. shows_rows false (record c { command = k; returning = None }) ≡ true) same (rw bare.0 at shows))
+          true≢false (sym (subst (λ k. shows_rows false (record c { command = k; returning = None }) ≡ true) same (rw bare.0 at shows)) ∙ it.hidden c)
 
       ran : (c : Compiled) → understood old.now.schema sql ≡ Ok c → (params : Row) → RunsCommand old new sql c params (Err e) → P
-      ran c known params (inl refused) =
-          let same : command ≡ c.command = sym (sym (ap command_of known) ∙ it.is old.now.schema) in
-          let last = subst (λ k. IsPlaced k old.in_transaction) same placed in
+      ran c known params h =
+          let same : c.command ≡ command = sym (ap command_of known) ∙ it.is old.now.schema in
           let bare = subst IsPlain known (it.plain old.now.schema) in
-          absurd (elim refused.0 [
-            | inl misplaced ↦ never_misplaced old c.command last e misplaced
-            | inr (inl write, _) ↦ never_writes c.command old.in_transaction last write
-            | inr (inr some, _) ↦ (let e = rw bare.0 at some in true≢false (sym e))
-          ])
-      ran c known params (inr fails) =
-          let same : command ≡ c.command = sym (sym (ap command_of known) ∙ it.is old.now.schema) in
-          let last = subst (λ k. IsPlaced k old.in_transaction) same placed in
-          let bare = subst IsPlain known (it.plain old.now.schema) in
-          so _ (λ big. never_big c.command old.in_transaction last params (text_of sql c) (rw bare.0 at big)) fails
+          elim h [
+            | inl (inl misplaced, _) ↦ absurd (never_misplaced old command placed e (subst (λ k. IsMisplaced old k e) same misplaced))
+            | inl (inr (inl write, _), _) ↦ absurd (it.writes (subst IsWrite same write))
+            | inl (inr (inr some, _), _) ↦ absurd (let e = rw bare.0 at some in true≢false (sym e))
+            | inr fails ↦ so _ (λ big. it.small old params (text_of sql c) (subst (λ k. Does old.step_limit (mode_of old) params old.now (text_of sql c) None k (Err None)) same (rw bare.0 at big))) fails
+          ]
 
   -- it ends a transaction that runs
   ends_anyway : Executes sql [] old new (Err e) → IsRolledBack old new
@@ -238,15 +202,9 @@ module _ (old new : State) where
   ran_ok sql P (Ok x) h f = f h.0 h.1
   ran_ok sql P (Err e) h f = tt
 
-  pub begun_or_told : (r : Result (Unit {0}) Error) → RunsTo (codes "BEGIN") old new r → MatchResult r (λ _. HasBegun old new) (λ e. Executes (codes "BEGIN") [] old new (Err e))
-  begun_or_told r h = ran_to (codes "BEGIN") (HasBegun old new) r h begins
-
   pub begun_or_refused : (r : Result (Unit {0}) Error) → RunsTo (codes "BEGIN") old new r → IsOver false old → MatchResult r (λ _. IsStill true old new) (λ _. IsRefused false old new)
   begun_or_refused (Ok x) h was = begun_still (begins h.0 h.1) was
   begun_or_refused (Err e) h was = error_refused old new (codes "BEGIN") [] e false was h
-
-  pub committed_or_told : (r : Result (Unit {0}) Error) → RunsTo (codes "COMMIT") old new r → MatchResult r (λ _. HasCommitted old new) (λ e. Executes (codes "COMMIT") [] old new (Err e))
-  committed_or_told r h = ran_to (codes "COMMIT") (HasCommitted old new) r h commits
 
   pub committed_or_ended : (r : Result (Unit {0}) Error) → RunsTo (codes "COMMIT") old new r → IsTrue old.in_transaction → IfErr r (λ _. HasEnded old new)
   committed_or_ended (Ok x) h inside = tt

@@ -1,18 +1,14 @@
 -- What a text of SQL means over our tables: a query and what its answer tells, a change and what it does.
-use Rattle.flow_sql.specs.Names.{Tables, IsPlain, timed, Command, Select, Nothing, Does, Held, state, understood, reads_listing, Row, overlay, IsAnswer, Query, Executes, State, mode_of, text_of, Trees, Error, first, Compiled, CompileError, Ghosts, List, Option, false, map, true, ℕ, [], Ok, Err, Result, length, Kind, AllByRecursion}
-use Rattle.std.specs.Prelude.{Contains, IsSome, ◌≡◌, ◌∷◌, ◌⊎◌}
+use Rattle.flow_sql.specs.Names.{Tables, IsPlain, command_of, timed, Command, Select, Does, Held, state, understood, reads_listing, Row, overlay, IsAnswer, Query, Executes, State, mode_of, text_of, Trees, Error, first, Compiled, Ghosts, List, Option, false, map, true, ℕ, [], Ok, Err, length, Kind, AllByRecursion}
+use Rattle.std.specs.Prelude.{IsSome, ◌≡◌, ◌⊎◌}
 use Rattle.sqlite.specs.Calls.{IsWrite}
 use Rattle.sqlite.specs.State.{IsStatement}
 use Rattle.sqlite_sql.specs.Program.{QueryOverflows}
 use Rattle.sqlite_typing.specs.Types.{accepts_program}
-use Rattle.flow_sql.specs.Layout.{schema, meta_sql, text_sql, run_sql, event_sql, timer_sql, outbox_sql, set_format_sql, Read, read_sql, Write, write_sql}
+use Rattle.flow_sql.specs.Layout.{schema, Read, read_sql, Write, write_sql}
 use Rattle.flow_sql.specs.Stored.{tables_in, AreReadAs, AreUtf8}
 use Rattle.flow_sql.specs.Coming.{IsFull}
-use Rattle.flow_sql.specs.States.{AreOurs, IsOver, Changes, FirstIs, IsReading, Since}
-
-abbrev pub command_of : Result Compiled CompileError → Command
-command_of (Ok c) = c.command
-command_of (Err e) = Nothing
+use Rattle.flow_sql.specs.States.{AreOurs, IsOver, Changes, FirstIs, IsReading}
 
 -- the text is this command, and nothing else
 pub record IsText (sql : List ℕ) (command : Command) : Type 0 where
@@ -30,31 +26,25 @@ pub record IsRead (sql : List ℕ) (q : Query) (names : List (List ℕ)) : Type 
 
 -- how many values are given with a read, and with a change
 abbrev pub read_takes : Read → ℕ
-read_takes Read.text_body = 1
-read_takes Read.text_number = 1
-read_takes Read.run_row = 1
-read_takes Read.requested = 1
-read_takes Read.open_run = 1
-read_takes Read.run_events = 1
-read_takes Read.last_event = 1
+read_takes Read.all_texts = 0
+read_takes Read.last_text = 0
+read_takes Read.all_runs = 0
+read_takes Read.last_run = 0
+read_takes Read.all_events = 0
 read_takes Read.event_at = 2
-read_takes Read.newest_event = 1
-read_takes Read.run_tasks = 1
-read_takes _ = 0
+read_takes Read.all_timers = 0
+read_takes Read.all_tasks = 0
+read_takes _ = 1
 
 abbrev pub write_takes : Write → ℕ
-write_takes Write.insert_text = 2
 write_takes Write.insert_run = 5
 write_takes Write.insert_event = 4
 write_takes Write.insert_events = 8
 write_takes Write.insert_timer = 3
 write_takes Write.insert_task = 4
-write_takes Write.delete_timer = 2
 write_takes Write.delete_timers = 1
-write_takes Write.delete_task = 2
 write_takes Write.delete_tasks = 1
-write_takes Write.mark_run = 2
-write_takes Write.set_text = 2
+write_takes _ = 2
 
 abbrev pub IsOurRead : List ℕ → Row → Type 0
 IsOurRead sql params = (r : Read) × (read_sql r ≡ sql) × (read_takes r ≡ length params)

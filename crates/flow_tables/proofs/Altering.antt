@@ -1,16 +1,12 @@
 -- What changes of a run beside its turns: the text that it goes on under, and the attempt at an activity.
 use Rattle.std.specs.Prelude.{◌≡◌, ◌∷◌}
-use Rattle.std.specs.List.{list_any}
-use Rattle.std.proofs.lemmas.Bool.{cases_Bool}
-use Rattle.std.proofs.lemmas.Bool.Decides.{Decides-int_eq}
-use Rattle.flow_tables.proofs.Names.{Book, Tells, Task, task_row, with_task, without_task, is_other_task, Tables, OutboxRow, State, AllByRecursion, List, MatchResult, Option, false, filter, int_eq, pos, true, ℕ, ℤ, [], refl, Err, Ok, Result, Some, None, Changes, IsRefused, IsStill, tables_in, AreOurs, nth, Run, subst, ◌∙◌, sym, ap, inl, inr, true≢false, IsCutShort}
+use Rattle.flow_tables.proofs.Names.{Book, Tells, Task, task_row, with_task, without_task, is_other_task, Tables, OutboxRow, State, AllByRecursion, List, MatchResult, Option, false, filter, int_eq, pos, true, ℕ, ℤ, [], refl, Result, Some, None, Changes, IsRefused, IsStill, tables_in, AreOurs, nth, Run, subst, ◌∙◌, sym, ap, inl, inr, true≢false}
+use Rattle.flow_tables.proofs.Names.{OrCut, list_any, cases_Bool, Decides-int_eq, HasRun, IsWelcomeTask}
 use Rattle.flow_rows.specs.Changes.{with_task_in_place}
 use Rattle.flow_rows.proofs.Behind.{run_there, no_rows_yet}
-use Rattle.flow_sql.specs.Coming.{HasRun, IsWelcomeTask}
-use Rattle.flow_sql.specs.Stored.{AreUtf8}
 use Rattle.flow_sql.proofs.InPlace.{task_in_place, no_task_in_place}
 use Rattle.flow_tables.specs.Puts.{is_task_at, has_task}
-use Rattle.flow_tables.proofs.Parts.{both, refused_first, cut_later}
+use Rattle.flow_tables.proofs.Parts.{put_then, as_put, still_changes}
 use Rattle.flow_tables.proofs.Wholes.{still_then}
 
 ---- An activity goes, and comes again
@@ -31,9 +27,8 @@ comes_again run task row t u is left has =
     subst (λ x. IsWelcomeTask x u) (sym is) (subst (λ v. IsWelcomeTask (task_row run task) v) (sym left) (record { parent = has; fresh = left_new run (pos task.event) t }))
 
 pub put_after : {E : Type 0} (old mid new : State) (run : ℤ) (task : Task) (row : OutboxRow) (t : Tables) (r : Result Unit E) → row ≡ task_row run task → Changes old mid t
-    → MatchResult r (λ _. Changes mid new (with_task row (tables_in mid.now.trees))) (λ _. IsRefused true mid new) → MatchResult r (λ _. Changes old new (with_task (task_row run task) t)) (λ _. IsCutShort old new)
-put_after old mid new run task row t (Ok u) is first second = subst (λ x. Changes old new (with_task x t)) is (both old mid new t (with_task row) first second)
-put_after old mid new run task row t (Err e) is first second = cut_later old mid new t first (refused_first mid new second)
+    → MatchResult r (λ _. Changes mid new (with_task row (tables_in mid.now.trees))) (λ _. IsRefused true mid new) → OrCut old new r (Changes old new (with_task (task_row run task) t))
+put_after old mid new run task row t r is first second = subst (λ x. OrCut old new r (Changes old new (with_task x t))) is (put_then old mid new t (with_task row) r first (as_put mid new (with_task row (tables_in mid.now.trees)) r second))
 
 ---- An activity that is looked for
 
@@ -50,13 +45,7 @@ run_still old mid run still has = subst (λ d. HasRun run (tables_in d.trees)) (
 
 -- nothing changes where it isn't there
 pub no_task_set : (old mid : State) (run : ℤ) (task : Task) → IsStill true old mid → false ≡ has_task run (pos task.event) (tables_in old.now.trees) → Changes old mid (with_task_in_place (task_row run task) (tables_in old.now.trees))
-no_task_set old mid run task still none =
-    record {
-      over = still.0;
-      tables = ap (λ d. tables_in d.trees) still.1 ∙ sym (no_task_in_place (tables_in old.now.trees) (task_row run task) (sym none));
-      committed = still.2;
-      utf8 = λ utf8. subst (λ d. AreUtf8 (tables_in d.trees)) (sym still.1) utf8;
-    }
+no_task_set old mid run task still none = subst (Changes old mid) (sym (no_task_in_place (tables_in old.now.trees) (task_row run task) (sym none))) (still_changes old mid still)
 
 -- and where it is there, its row is in its place
 pub task_set : (old mid new : State) (run : ℤ) (task : Task) → AreOurs old.now.trees → IsStill true old mid → true ≡ has_task run (pos task.event) (tables_in old.now.trees)

@@ -1,21 +1,21 @@
 -- That the statements which are made, where so much is known of the rows, leave what all of them would.
 use Rattle.std.specs.Prelude.{◌≡◌, ◌∷◌, ◌+◌, if◌then◌else◌, ◌++◌}
 use Rattle.std.proofs.Common.{eqb-true}
-use Rattle.flow_tables.proofs.Names.{effect_of, Bytes, Run, Task, Turn, Effect, Cmd, Event, Input, Started, Came, Book, nth, is_open, state_of, traces, turn_events, is_other_task, marked, marked_row, with_event, with_run, with_timer, without_tasks, without_timers, event_row, of_run, task_row, timer_row, IsReadableTurn, Tells, after_effect, after_turn, new_run, Tables, OutboxRow, RunRow, State, ints, AllByRecursion, int_eq, Bool, List, MatchResult, Option, false, filter, int_lt, map, pos, true, ℕ, Changes, tables_in, OpenTasks, Standing, Err, None, Ok, Some, length, ℤ, [], refl, Result, suc, eqb as nat_eq, subst, ◌∙◌, sym, ap, arith, IsCutShort, made_turn, true≢false, Stands, stands_what, made_event, made_events, begins, first_row, first_standing, started_timer, HasOnly, ended, stands_by, tasks_gone, timers_gone, closed_from, made_effect, any_standing, tasks_known, opens_timer, run_standing}
-use Rattle.std.proofs.lemmas.Bool.Decides.{Decides-int_eq}
+use Rattle.flow_tables.proofs.Names.{timers_left, inl, inr, effect_of, Bytes, Run, Task, Turn, Effect, Cmd, Event, Input, Started, Came, Book, nth, is_open, state_of, traces, turn_events, is_other_task, marked, marked_row, with_event, with_run, with_timer, without_tasks, without_timers, event_row, of_run, task_row, timer_row, Tells, after_effect, after_turn, new_run, Tables, OutboxRow, RunRow, State, AllByRecursion, int_eq, Bool, List, Option, false, filter, int_lt, map, pos, true, ℕ, Changes, tables_in, OpenTasks, Standing, None, Some, length, ℤ, [], refl, suc, eqb as nat_eq, subst, ◌∙◌, sym, ap, arith, made_turn, true≢false, Stands, stands_what, made_event, made_events, begins, first_row, first_standing, started_timer, HasOnly, ended, stands_by, tasks_gone, timers_gone, made_effect, any_standing, tasks_known, opens_timer, cases_Bool, Decides-int_eq, TimerRow, head_of}
 use Rattle.std.proofs.lemmas.List.{map-append}
 use Rattle.sqlite_catalog.proofs.ListFacts.{filter_swap}
 use Rattle.std.proofs.lemmas.Option.{slice_get_past}
 use Rattle.flow_base.specs.declared.effect.Effect.TheVariants as effect
-use Rattle.flow_model.specs.Open.{timers_by, timers_after, open_timers}
-use Rattle.flow_rows.specs.declared.rows.TimerRow.{TimerRow}
+use Rattle.flow_model.specs.Open.{timers_by, timers_after}
 use Rattle.flow_rows.specs.Changes.{at_run, is_other_timer}
 use Rattle.flow_rows.specs.Told.{opened_by, after_event, after_events}
 use Rattle.flow_rows.proofs.BookTables.{nth_is}
 use Rattle.flow_rows.proofs.Finds as found
-use Rattle.flow_rows.proofs.Undamaged.{timer_rows_of, task_rows_of}
+use Rattle.flow_rows.proofs.Undamaged.{timer_rows_of}
 use Rattle.flow_rows.proofs.Behind.{no_rows_yet}
 use Rattle.flow_tables.specs.declared.known.OpenTasks.TheVariants as tasks
+use Rattle.flow_tables.specs.Known.{head_standing}
+use Rattle.flow_tables.proofs.Room.{apart_below}
 
 ---- What one run has
 
@@ -24,11 +24,10 @@ at_here run f rows = let same : int_eq run run ≡ true = (Decides-int_eq run ru
 
 -- what has no rows loses none
 none_to_go : {A : Type 0} (run : ℤ) (rows : ℤ → List A) → rows run ≡ [] → (z : ℤ) → at_run run (λ _. []) rows z ≡ rows z
-none_to_go {A} run rows none z = by_case (int_eq z run) refl
-  where
-    by_case : (v : Bool) → int_eq z run ≡ v → at_run run (λ _. []) rows z ≡ rows z
-    by_case true same = rw same (sym (ap rows ((Decides-int_eq z run).0 same) ∙ none))
-    by_case false other = rw other refl
+none_to_go run rows none z = elim (cases_Bool (int_eq z run)) [
+  | inl same ↦ rw same (sym (ap rows ((Decides-int_eq z run).0 same) ∙ none))
+  | inr other ↦ rw other refl
+]
 
 tasks_gone_is : (run : ℤ) (k : OpenTasks) (t : Tables) → HasOnly k (t.outbox run) → tasks_gone run k t ≡ without_tasks run t
 tasks_gone_is run tasks.Gone t none = λ i. record t { outbox = λ z. sym (none_to_go run t.outbox none z) i }
@@ -42,30 +41,22 @@ mark_is : (run : ℤ) (v : Bool) (t : Tables) → (v ≡ true → map (marked_ro
 mark_is run true t same = λ i. record t { runs = sym (same refl) i }
 mark_is run false t same = refl
 
-closed_is : (run : ℤ) (s : Standing) (t : Tables) → Stands run s t → closed_from run s t ≡ marked run (pos 0) (without_timers run (without_tasks run t))
-closed_is run s t h =
-    ap (λ u. marked run (pos 0) (timers_gone run s.has_timers u)) (tasks_gone_is run s.tasks t h.tasks)
-    ∙ ap (marked run (pos 0)) (timers_gone_is run s.has_timers (without_tasks run t) h.timers)
-
 -- The statements that are made leave what all of them would.
 effect_is : (run : ℤ) (s : Standing) (id at : ℕ) (e : Effect) (t : Tables) → Stands run s t → made_effect run s id at e t ≡ after_effect run s.is_open id at e t
 effect_is run s id at effect.Begins t h = mark_is run s.is_marked t h.mark
-effect_is run s id at (effect.Closes x) t h = closed_is run s t h
+effect_is run s id at (effect.Closes x) t h =
+    ap (λ u. marked run (pos 0) (timers_gone run s.has_timers u)) (tasks_gone_is run s.tasks t h.tasks)
+    ∙ ap (marked run (pos 0)) (timers_gone_is run s.has_timers (without_tasks run t) h.timers)
 effect_is run s id at _ t h = refl
 
 ---- What is known stays true
 
-filter_both : {A : Type 0} (p q : A → Bool) (xs : List A) → filter p xs ≡ [] → filter p (filter q xs) ≡ []
-filter_both p q xs none = filter_swap p q xs ∙ ap (filter q) none
-
-ended_single : (n m : ℕ) (rows : List OutboxRow) (v : Bool) → nat_eq n m ≡ v → filter (is_other_task (pos n)) rows ≡ []
-    → HasOnly (if v then tasks.Gone else tasks.Single n) (filter (is_other_task (pos m)) rows)
-ended_single n m rows true same only = subst (λ k. filter (is_other_task (pos k)) rows ≡ []) (eqb-true n m same) only
-ended_single n m rows false other only = filter_both (is_other_task (pos n)) (is_other_task (pos m)) rows only
-
 ended_only : (k : OpenTasks) (m : ℕ) (rows : List OutboxRow) → HasOnly k rows → HasOnly (ended k m) (filter (is_other_task (pos m)) rows)
 ended_only tasks.Gone m rows none = ap (filter (is_other_task (pos m))) none
-ended_only (tasks.Single n) m rows only = ended_single n m rows (nat_eq n m) refl only
+ended_only (tasks.Single n) m rows only = elim (cases_Bool (nat_eq n m)) [
+  | inl same ↦ rw same (subst (λ k. filter (is_other_task (pos k)) rows ≡ []) (eqb-true n m same) only)
+  | inr other ↦ rw other (filter_swap (is_other_task (pos n)) (is_other_task (pos m)) rows ∙ ap (filter (is_other_task (pos m))) only)
+]
 ended_only tasks.Unsure m rows only = tt
 
 none_only : (k : OpenTasks) → HasOnly k []
@@ -113,12 +104,9 @@ made_all run (e ∷ es) s t h =
     ∙ ap (λ v. after_events run v es (after_event run s.is_open e t)) (opens_alike s (effect_of e.what))
 
 -- so a turn that was put is the turn
-pub turn_made : {E : Type 0} (old new : State) (run : ℤ) (s : Standing) (count : ℕ) (turn : Turn) (r : Result Unit E) → Stands run s (tables_in old.now.trees)
-    → MatchResult r (λ _. IsReadableTurn count turn × Changes old new (made_turn run s count turn (tables_in old.now.trees))) (λ _. IsCutShort old new)
-    → MatchResult r (λ _. IsReadableTurn count turn × Changes old new (after_turn run s.is_open count turn (tables_in old.now.trees))) (λ _. IsCutShort old new)
-turn_made old new run s count turn (Ok u) h done =
-    (done.0, subst (Changes old new) (made_all run (turn_events (count + 1) turn.at turn.input turn.commands) s (tables_in old.now.trees) h) done.1)
-turn_made old new run s count turn (Err f) h cut = cut
+pub turn_made : (old new : State) (run : ℤ) (s : Standing) (count : ℕ) (turn : Turn) → Stands run s (tables_in old.now.trees) → Changes old new (made_turn run s count turn (tables_in old.now.trees))
+    → Changes old new (after_turn run s.is_open count turn (tables_in old.now.trees))
+turn_made old new run s count turn h done = subst (Changes old new) (made_all run (turn_events (count + 1) turn.at turn.input turn.commands) s (tables_in old.now.trees) h) done
 
 pub any_stands : (run : ℤ) (opened : Bool) (t : Tables) → Stands run (any_standing opened) t
 any_stands run opened t = record { mark = λ is. absurd (true≢false (sym is)); tasks = tt; timers = λ none. absurd (true≢false none) }
@@ -139,13 +127,10 @@ begun_is n at (Started vs) cs flow request text t =
     (marked_end (marked_row (pos n) (pos 1)) (first_row n flow request text true) (new_run n flow request text) t.runs alike)
 begun_is n at _ cs flow request text t = refl
 
-other_below : (z n : ℤ) → int_lt z n ≡ true → int_eq z n ≡ false
-other_below z n less = grind (arith, ints)
-
 marked_others : (n : ℕ) (row : RunRow) (xs : List RunRow) → AllByRecursion (λ (x : RunRow). int_lt x.num (pos n) ≡ true) xs → marked_row (pos n) (pos 1) row ≡ row
     → map (marked_row (pos n) (pos 1)) (xs ++ row ∷ []) ≡ xs ++ row ∷ []
 marked_others n row [] below same = ap (λ x. x ∷ []) same
-marked_others n row (x ∷ xs) below same = rw (other_below x.num (pos n) below.0) (ap (λ l. x ∷ l) (marked_others n row xs below.1 same))
+marked_others n row (x ∷ xs) below same = rw (apart_below x.num (pos n) below.0) (ap (λ l. x ∷ l) (marked_others n row xs below.1 same))
 
 first_mark : (n : ℕ) (flow : Bytes) (request : Option Bytes) (text : ℕ) (opened : Bool) (t : Tables) → AllByRecursion (λ (x : RunRow). int_lt x.num (pos n) ≡ true) t.runs
     → opened ≡ true → map (marked_row (pos n) (pos 1)) (t.runs ++ first_row n flow request text opened ∷ []) ≡ t.runs ++ first_row n flow request text opened ∷ []
@@ -156,20 +141,13 @@ pub no_run_yet : (b : Book) (n : ℕ) → n ≡ length b.runs + 1 → nth b.runs
 no_run_yet b n next = subst (λ k. nth b.runs k ≡ None) (let it : suc (length b.runs) ≡ n = omega (arith, next) in it) (nth_is b.runs (length b.runs) ∙ slice_get_past b.runs (length b.runs) (omega arith))
 
 -- of a run that comes nothing is there
-pub first_stands : (t : Tables) (b : Book) (n : ℕ) (flow : Bytes) (request : Option Bytes) (text : ℕ) (opened : Bool) → Tells t b → n ≡ length b.runs + 1
-    → AllByRecursion (λ (x : RunRow). int_lt x.num (pos n) ≡ true) t.runs → Stands (pos n) (first_standing opened) (with_run (first_row n flow request text opened) t)
-first_stands t b n flow request text opened tells next below = record {
-  mark = first_mark n flow request text opened t below;
-  tasks = (no_rows_yet t b n tells (no_run_yet b n next)).2;
-  timers = λ _. (no_rows_yet t b n tells (no_run_yet b n next)).1;
-}
-
 pub first_turn_made : (t : Tables) (b : Book) (n : ℕ) (flow : Bytes) (request : Option Bytes) (text : ℕ) (turn : Turn) → Tells t b → n ≡ length b.runs + 1
     → AllByRecursion (λ (x : RunRow). int_lt x.num (pos n) ≡ true) t.runs
     → made_turn (pos n) (first_standing (begins turn.input)) 0 turn (with_run (first_row n flow request text (begins turn.input)) t) ≡ after_turn (pos n) false 0 turn (with_run (new_run n flow request text) t)
 first_turn_made t b n flow request text turn tells next below =
+    let none = no_rows_yet t b n tells (no_run_yet b n next) in
     made_all (pos n) (turn_events 1 turn.at turn.input turn.commands) (first_standing (begins turn.input)) (with_run (first_row n flow request text (begins turn.input)) t)
-    (first_stands t b n flow request text (begins turn.input) tells next below)
+    (record { mark = first_mark n flow request text (begins turn.input) t below; tasks = none.2; timers = λ _. none.1 })
     ∙ begun_is n turn.at turn.input turn.commands flow request text t
 
 ---- What a run that was read tells of its rows
@@ -187,19 +165,23 @@ no_timer : (es : List Event) → started_timer es ≡ false → timers_after [] 
 no_timer [] none = refl
 no_timer (e ∷ es) none = no_timer_more e es (opens_timer (effect_of e.what)) refl (no_timer es) none
 
-no_timer_left : (h : List Event) (v : Bool) → open_timers h ≡ [] → (if v then open_timers h else []) ≡ []
-no_timer_left h true none = none
-no_timer_left h false none = refl
-
 tasks_only : (run : ℤ) (ts : List Task) → HasOnly (tasks_known ts) (map (task_row run) ts)
 tasks_only run [] = refl
 tasks_only run (x ∷ []) = let same : int_eq (pos x.event) (pos x.event) ≡ true = (Decides-int_eq (pos x.event) (pos x.event)).1 refl in rw same refl
 tasks_only run (x ∷ y ∷ ts) = tt
 
-pub run_stands : (t : Tables) (b : Book) (n : ℕ) (r : Run) → Tells t b → nth b.runs n ≡ Some r → Stands (pos n) (run_standing r) t
-run_stands t b n r tells there = record {
+pub no_timer_rows : (t : Tables) (b : Book) (n : ℕ) (r : Run) → Tells t b → nth b.runs n ≡ Some r → timers_left r.history ≡ [] → t.timers (pos n) ≡ []
+no_timer_rows t b n r tells there none = ap (λ (u : Tables). u.timers (pos n)) tells.same ∙ ap (λ o. of_run o (timer_rows_of (pos n))) there ∙ ap (map (timer_row (pos n))) none
+
+pub head_stands : (t : Tables) (b : Book) (n : ℕ) (r : Run) (v : Bool) → Tells t b → nth b.runs n ≡ Some r → (v ≡ false → t.timers (pos n) ≡ []) → Stands (pos n) (head_standing (head_of r) v) t
+head_stands t b n r v tells there none = record {
   mark = λ is. absurd (true≢false (sym is));
   tasks = subst (HasOnly (tasks_known r.tasks)) (sym (found.task_rows_read t b n r tells there)) (tasks_only (pos n) r.tasks);
-  timers = λ none. ap (λ (u : Tables). u.timers (pos n)) tells.same ∙ ap (λ o. of_run o (timer_rows_of (pos n))) there
-      ∙ ap (map (timer_row (pos n))) (no_timer_left r.history (is_open (state_of r.history)) (no_timer r.history none));
+  timers = none;
 }
+
+pub started_none : (t : Tables) (b : Book) (n : ℕ) (r : Run) → Tells t b → nth b.runs n ≡ Some r → started_timer r.history ≡ false → t.timers (pos n) ≡ []
+started_none t b n r tells there none = no_timer_rows t b n r tells there (elim (cases_Bool (is_open (state_of r.history))) [
+  | inl opened ↦ rw opened (no_timer r.history none)
+  | inr closed ↦ rw closed refl
+])

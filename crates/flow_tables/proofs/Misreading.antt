@@ -1,11 +1,10 @@
 -- Rows that can't be read.
 use Rattle.std.specs.Prelude.{◌≡◌, ◌≢◌, ◌<◌, get_or}
-use Rattle.flow_tables.proofs.Names.{Kind, Row, Error, column, AllByRecursion, List, ℕ, StoreFault, SqliteFailure, OutOfMemory, length, refl, subst, ◌∙◌, sym, ap, inl, inr}
+use Rattle.flow_tables.proofs.Names.{Kind, Row, Error, column, AllByRecursion, List, ℕ, StoreFault, SqliteFailure, OutOfMemory, length, subst, sym, ap, inl, inr, fault_of}
 use Rattle.sqlite.specs.Reading.{IsReadError}
 use Rattle.sqlite_trees.proofs.ListLemmas.{all-get_or}
 use Rattle.flow_sql.specs.Stored.{IsReadAs, AreReadAs}
 use Rattle.flow_sql.proofs.Readable.{read_at, is_there}
-use Rattle.flow_tables.specs.Faults.{fault_of}
 use Rattle.flow_tables.specs.Reads.{IsMisreadAt, IsMisread, AreMisread}
 use Rattle.flow_tables.specs.declared.fault.StoreFault.TheVariants.{Refused}
 
@@ -13,12 +12,9 @@ use Rattle.flow_tables.specs.declared.fault.StoreFault.TheVariants.{Refused}
 pub column_misread : (r : Row) (at : ℕ) (kind : Kind) (e : Error) (f : StoreFault) → f ≡ fault_of e → IsReadError at (column r at) e → (e ≢ SqliteFailure OutOfMemory → at < length r → IsReadAs kind (column r at) → ⊥) → IsMisreadAt at kind r f
 column_misread r at kind e f is named odd = subst (IsMisreadAt at kind r) (sym is) (by_error e named odd)
   where
-    other : (e : Error) → Refused e ≡ fault_of e → e ≢ SqliteFailure OutOfMemory
-    other e is same = let clash = is ∙ ap fault_of same in cc
-
     by_error : (e : Error) → IsReadError at (column r at) e → (e ≢ SqliteFailure OutOfMemory → at < length r → IsReadAs kind (column r at) → ⊥) → IsMisreadAt at kind r (fault_of e)
     by_error (SqliteFailure OutOfMemory) named odd = tt
-    by_error e named odd = (named, λ reads. odd (other e refl) (is_there r at kind reads) reads)
+    by_error e named odd = (named, λ reads. odd (λ same. let clash = ap fault_of same in cc) (is_there r at kind reads) reads)
 
 -- one row that is misread is enough
 pub misread_at : (kinds : List Kind) (rows : List Row) (i : ℕ) (r : Row) (f : StoreFault) → i < length rows → get_or rows i r ≡ r → IsMisread kinds r f → AreMisread kinds rows f

@@ -1,17 +1,18 @@
 -- What opening finds, and why it is refused.
-use Rattle.std.specs.Prelude.{◌≡◌, ◌⊎◌, ◌≢◌, if◌then◌else◌}
-use Rattle.flow_tables.proofs.Names.{was_clean, rest_ended, rolled_back_ended, Run, Fault, BadVersion, Damaged, NoMemory, NotOurs, StoreRefused, is_program, Book, event_row, of_run, task_row, timer_row, timers_left, Tells, format_sql, no_schema, Tables, Database, Row, HasCleanDisk, State, Survives, Error, Int, Ghosts, column, Bool, IfErr, IsTrue, List, false, map, pos, true, HasEnded, HasTables, IsAtRest, IsRefusal, no_tables, StoreFault, SqliteFailure, Err, None, Ok, OnOk, ℤ, [], refl, Result, eqb as nat_eq, negsuc, QueriesRow, subst, ◌∙◌, sym, ap, inl, inr}
+use Rattle.std.specs.Prelude.{◌≡◌, ◌⊎◌, ◌≢◌}
+use Rattle.flow_tables.proofs.Names.{was_clean, rest_ended, rolled_back_ended, Run, Fault, BadVersion, Damaged, NoMemory, NotOurs, StoreRefused, is_program, Book, event_row, of_run, task_row, timer_row, timers_left, Tells, format_sql, no_schema, Tables, Database, Row, HasCleanDisk, State, Survives, Error, Int, Ghosts, column, IfErr, IsTrue, List, map, pos, HasEnded, HasTables, IsAtRest, IsRefusal, no_tables, StoreFault, SqliteFailure, Err, Ok, OnOk, ℤ, [], refl, Result, eqb as nat_eq, negsuc, QueriesRow, subst, ◌∙◌, sym, ap, inl, inr}
+use Rattle.sqlite.specs.declared.types.Value.{Value}
 use Rattle.sqlite.specs.declared.error.ErrorCode.TheVariants as code
 use Rattle.sqlite_trees.specs.declared.error.StoreError.{StoreError}
 use Rattle.sqlite_trees.specs.declared.error.StoreError.TheVariants.{OutOfMemory}
 use Rattle.sqlite.specs.State.{Fails, store_error}
-use Rattle.sqlite.specs.declared.types.Value.{Value}
 use Rattle.flow_rows.specs.Rows.{run_at}
 use Rattle.flow_tables.specs.declared.fault.StoreFault.TheVariants as read
 use Rattle.flow_tables.specs.Reads.{IsRowsFault}
 use Rattle.flow_sql.proofs.Transactions.{ends_again}
 use Rattle.flow_sql.proofs.Finding.{read_leaves, format_answer, at_rest}
 use Rattle.flow_rows.proofs.Laws.{book_undamaged}
+use Rattle.std.proofs.lemmas.Bool.{cases_Bool}
 use Rattle.flow_tables.specs.Opening.{opening_fault, read_fault_of, empty_book, IsOfStore, IsOfOpening, IsOfRows, IsFirstDamage, StandFor, IsMet, HasCause}
 
 ---- The faults of the store
@@ -76,13 +77,12 @@ pub any_err : {T E : Type 0} (P : E → Type 0) (r : Result T E) → ((e : E) �
 any_err P (Ok x) f = tt
 any_err P (Err e) f = f e
 
-pub both_err : {T E : Type 0} (P Q : E → Type 0) (r : Result T E) → IfErr r P → IfErr r Q → IfErr r (λ e. P e × Q e)
-both_err P Q (Ok x) p q = tt
-both_err P Q (Err e) p q = (p, q)
-
-pub both_told : {T : Type 0} {P Q R : Fault → Type 0} (r : Result T Fault) → ((f : Fault) → P f → Q f → R f) → IfErr r P → IfErr r Q → IfErr r R
+pub both_told : {T E : Type 0} {P Q R : E → Type 0} (r : Result T E) → ((e : E) → P e → Q e → R e) → IfErr r P → IfErr r Q → IfErr r R
 both_told (Ok x) f p q = tt
 both_told (Err e) f p q = f e p q
+
+pub both_err : {T E : Type 0} (P Q : E → Type 0) (r : Result T E) → IfErr r P → IfErr r Q → IfErr r (λ e. P e × Q e)
+both_err P Q r p q = both_told {P = P} {Q = Q} r (λ e p q. (p, q)) p q
 
 pub never_told : {T : Type 0} (b : Fault) (r : Result T Fault) → IfErr r (λ f. f ≢ b) → r ≢ Err b
 never_told b (Ok x) h is = let e = is in cc
@@ -146,11 +146,7 @@ pub empty_of_rows : (b : Book) → b ≡ empty_book → IsOfRows b
 empty_of_rows b is = subst IsOfRows (sym is) (record { texts = tt; runs = tt; same = refl })
 
 none_there : {A : Type 0} (f : Run → List A) (z : ℤ) → [] ≡ of_run (run_at empty_book z) f
-none_there f (pos n) = either (nat_eq n 0)
-  where
-    either : (b : Bool) → [] ≡ of_run (if b then None else None) f
-    either true = refl
-    either false = refl
+none_there f (pos n) = elim (cases_Bool (nat_eq n 0)) [ inl zeroth ↦ rw zeroth refl | inr other ↦ rw other refl ]
 none_there f (negsuc n) = refl
 
 -- Tables without rows tell the empty book.

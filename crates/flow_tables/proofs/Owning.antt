@@ -1,10 +1,9 @@
 -- What tables keep true of their connection, call by call.
 use Rattle.std.specs.Prelude.{◌≡◌, ◌⊎◌}
-use Rattle.flow_tables.proofs.Names.{Change, Book, FitsTables, Tells, after_change, Database, Executes, HasCleanDisk, State, Survives, Error, Bool, IsTrue, List, MatchResult, Option, false, true, ℕ, Changes, HasBegun, HasCommitted, HasEnded, HasTables, Holds, IsOver, IsRefused, IsStill, IsUndone, tables_in, Refusal, Known, ViewFault, Err, IfOk, None, Ok, OnOk, Some, [], refl, Result, AreOurs, changed, subst, ◌∙◌, sym, ap, inl, inr, true≢false, was_clean, book_of, IsCutShort, IsOwn, Keeps, IsKnown, ShowsBook, rolled_back_ended, told_answer, IsAware, HasCounted, error_leaves, IsFileOf, IsSure, KeepsOn, WasUp, ReadsBook, IsNoted}
-use Rattle.sqlite.specs.State.{Shows, IsUnchanged, IsRolledBack}
-use Rattle.flow_sql.specs.Stored.{AreUtf8}
-use Rattle.flow_tables.specs.Faults.{noted_fault, ShowsOddText}
-use Rattle.flow_rows.specs.Typed.{IsTypedChange}
+use Rattle.flow_tables.proofs.Names.{Change, Book, FitsTables, Tells, after_change, Database, Executes, HasCleanDisk, State, Survives, Error, Bool, IsTrue, List, MatchResult, Option, false, true, ℕ, Changes, HasBegun, HasCommitted, HasEnded, HasTables, Holds, IsOver, IsRefused, IsStill, IsUndone, tables_in, Refusal, Known, ViewFault, Err, IfOk, None, Ok, OnOk, Some, [], refl, Result, changed, subst, ◌∙◌, sym, ap, inl, inr, true≢false, was_clean, book_of, IsCutShort, IsOwn, Keeps, IsKnown, ShowsBook, rolled_back_ended, told_answer, IsAware, HasCounted, error_leaves, IsFileOf, IsSure, KeepsOn, WasUp, ReadsBook, IsNoted, AreOurs, Ghosts, kept_book, IsUp}
+use Rattle.flow_tables.proofs.Names.{OrCut, IsPut, Shows, AreUtf8, noted_fault, ShowsOddText, IsTypedChange}
+use Rattle.flow_tables.specs.Owned.{Stored, state_of}
+use Rattle.sqlite.specs.State.{IsUnchanged, IsRolledBack}
 use Rattle.flow_rows.proofs.Telling.{told}
 use Rattle.flow_rows.proofs.WholeChanges.{change_told}
 use Rattle.flow_sql.proofs.Leaves.{over_both}
@@ -65,23 +64,16 @@ module _ (old new : State) where
   pub ended_leaves : HasEnded old new → LeavesCommit
   ended_leaves h = record { was_open = h.was_open; same = λ up. (h.back up).1 }
 
-  pub left_leaves : IsUnchanged old new ⊎ IsRolledBack old new → LeavesCommit
-  left_leaves (inl same) = shows_leaves old.in_transaction old.now same.0
-  left_leaves (inr undone) = ended_leaves (rolled_back_ended old new undone)
-
   pub error_commits_nothing : (sql : List ℕ) (e : Error) → Executes sql [] old new (Err e) → LeavesCommit
-  error_commits_nothing sql e h = left_leaves (error_leaves old new sql [] e h)
+  error_commits_nothing sql e h = elim (error_leaves old new sql [] e h) [
+    | inl same ↦ shows_leaves old.in_transaction old.now same.0
+    | inr undone ↦ ended_leaves (rolled_back_ended old new undone)
+  ]
 
   -- over an open connection
-  pub undone_leaves : IsTrue old.is_open → IsUndone old new → LeavesCommit
-  undone_leaves up h = record { was_open = λ _. up; same = λ shown. (h.over shown).2 }
-
   pub cut_leaves : IsTrue old.is_open → IsCutShort old new → LeavesCommit
   cut_leaves up (inl part) = record { was_open = λ _. up; same = λ _. part.committed }
-  cut_leaves up (inr undone) = undone_leaves up undone
-
-  pub refused_leaves : IsTrue old.is_open → IsRefused true old new → LeavesCommit
-  refused_leaves up h = cut_leaves up (refused_first old new h)
+  cut_leaves up (inr undone) = record { was_open = λ _. up; same = λ shown. (undone.over shown).2 }
 
   ---- What the tables keep true
 
@@ -114,12 +106,11 @@ module _ (old new : State) where
         tell_on new.committed old.committed back.1 (own.kept (h.was_open up)),
       ))
 
-  pub own_left : (r : Option Refusal) → IsOwn old r → IsUnchanged old new ⊎ IsRolledBack old new → IsOwn new r
-  own_left r own (inl same) = own_same r own same.0
-  own_left r own (inr undone) = own_ended r r own (rolled_back_ended old new undone)
-
   pub own_error : (r : Option Refusal) (sql : List ℕ) (e : Error) → IsOwn old r → Executes sql [] old new (Err e) → IsOwn new r
-  own_error r sql e own h = own_left r own (error_leaves old new sql [] e h)
+  own_error r sql e own h = elim (error_leaves old new sql [] e h) [
+    | inl same ↦ own_same r own same.0
+    | inr undone ↦ own_ended r r own (rolled_back_ended old new undone)
+  ]
 
   -- what was committed is kept
   pub own_committed : (r s : Option Refusal) → r ≡ None → IsOwn old r → HasCommitted old new → IsOwn new s
@@ -167,11 +158,6 @@ module _ (old new : State) where
 
 ---- A call of the view, once nothing hinders it
 
--- what follows of either
-either : {A E R : Type 0} (P : A → Type 0) (Q : E → Type 0) (r : Result A E) → MatchResult r P Q → ((x : A) → P x → R) → ((e : E) → Q e → R) → R
-either P Q (Ok x) h ok err = ok x h
-either P Q (Err e) h ok err = err e h
-
 -- what was cut short shows no odd text where there was none
 odd_cut : (old new : State) → AreUtf8 (tables_in old.now.trees) → IsCutShort old new → ShowsOddText new → ⊥
 odd_cut old new utf8 (inl part) odd = odd.1 (part.utf8 utf8)
@@ -181,51 +167,51 @@ module _ (old new : State) (ours : Type 0) (ro rn : Option Refusal) (owned : our
   pub holds : ours → Holds true old
   holds fit was = own_over old new ro (owned fit was) inside none
 
-  module _ {A : Type 0} (result : Result A ViewFault) (value : Book → A) (reads : HasCleanDisk new → ReadsBook old new result value) (noted : IsNoted noted_fault result ro rn) where
-    abbrev Told : A → Type 0
-    Told v = IsStill true old new × (v ≡ value (book_of old.now.trees))
+  shows : ours → HasCleanDisk new → IsTrue old.is_open × ShowsBook old.now.trees
+  shows fit now = (owned fit (clean now)).whole inside none
 
-    told_at : ours → (now : HasCleanDisk new) → MatchResult result Told (λ _. IsRefused true old new)
-    told_at fit now = reads now (book_of old.now.trees) ((owned fit (clean now)).whole inside none).1.tells (holds fit)
+  abbrev Read : {A : Type 0} → Result A ViewFault → A → Type 0
+  Read r x = MatchResult r (λ v. IsStill true old new × (v ≡ x)) (λ _. IsRefused true old new)
 
+  pub told_at : {A : Type 0} (r : Result A ViewFault) (value : Book → A) → (HasCleanDisk new → ReadsBook old new r value) → ours → HasCleanDisk new → Read r (value (book_of old.now.trees))
+  told_at r value reads fit now = reads now (book_of old.now.trees) (shows fit now).1.tells (holds fit)
+
+  refused_so : {A : Type 0} (r : Result A ViewFault) (x : A) → Read r x → IsRefused true old new
+  refused_so (Ok v) x h = inl h.0
+  refused_so (Err f) x h = h
+
+  -- the transaction goes on to show a book
+  pub read_sure : {A : Type 0} (r : Result A ViewFault) (value : Book → A) → (HasCleanDisk new → ReadsBook old new r value) → IsNoted noted_fault r ro rn → (X : Type 0) → OnOk r (ours × HasCleanDisk new → X → IsSure ours new rn)
+  read_sure (Ok v) value reads n X = λ fit x. record { fit = fit.0; clean = fit.1; mode = (told_at (Ok v) value reads fit.0 fit.1).0.0.mode; none = n ∙ none }
+  read_sure (Err f) value reads n X = tt
+
+  pub read_told : {A : Type 0} (r : Result A ViewFault) (value : Book → A) → (HasCleanDisk new → ReadsBook old new r value) → IsNoted noted_fault r ro rn
+      → IfOk r (λ v. IsSure ours new rn → (book_of new.now.trees ≡ book_of old.now.trees) × (v ≡ value (book_of old.now.trees)))
+  read_told (Ok v) value reads n = λ sure. let it = told_at (Ok v) value reads sure.fit sure.clean in (ap (λ (d : Database). book_of d.trees) it.0.1, it.1)
+  read_told (Err f) value reads n = tt
+
+  -- what is true of what is shown is true on, where nothing was refused
+  pub still_so : {A : Type 0} (r : Result A ViewFault) (x : A) (P : Database → Type 0) → Read r x → IsNoted noted_fault r ro rn → P old.now → rn ≡ None → P new.now
+  still_so (Ok v) x P h n was same = subst P (sym h.0.1) was
+  still_so (Err f) x P h n was same = absurd (let clash = sym n ∙ same in cc)
+
+  module _ {A : Type 0} (r : Result A ViewFault) (value : Book → A) (reads : HasCleanDisk new → ReadsBook old new r value) (noted : IsNoted noted_fault r ro rn) where
     -- it changed nothing, or was refused
     refused_at : ours → HasCleanDisk new → IsRefused true old new
-    refused_at fit now = either Told (λ _. IsRefused true old new) result (told_at fit now) (λ v h. inl h.0) (λ f h. h)
+    refused_at fit now = refused_so r (value (book_of old.now.trees)) (told_at r value reads fit now)
 
     pub read_own : ours → HasCleanDisk new → IsOwn new rn
     read_own fit now = own_refused old new ro (owned fit (clean now)) inside none rn (refused_at fit now)
 
     -- no text of what it shows then is odd
     pub read_utf8 : ours → HasCleanDisk new → ShowsOddText new → ⊥
-    read_utf8 fit now odd = odd_cut old new ((owned fit (clean now)).whole inside none).1.utf8 (refused_first old new (refused_at fit now)) odd
+    read_utf8 fit now odd = odd_cut old new (shows fit now).1.utf8 (refused_first old new (refused_at fit now)) odd
 
     pub read_leaves : ours → HasCleanDisk new → LeavesCommit old new
-    read_leaves fit now = refused_leaves old new ((owned fit (clean now)).whole inside none).0 (refused_at fit now)
+    read_leaves fit now = cut_leaves old new (shows fit now).0 (refused_first old new (refused_at fit now))
 
-    -- the transaction goes on to show a book
-    pub read_sure : (X : Type 0) → OnOk result (ours × HasCleanDisk new → X → IsSure ours new rn)
-    read_sure X = go result (λ fit now. told_at fit now) noted
-      where
-        go : (r : Result A ViewFault) → (ours → HasCleanDisk new → MatchResult r (λ v. IsStill true old new × (v ≡ value (book_of old.now.trees))) (λ _. IsRefused true old new)) → IsNoted noted_fault r ro rn
-            → OnOk r (ours × HasCleanDisk new → X → IsSure ours new rn)
-        go (Ok v) h n = λ fit x. record { fit = fit.0; clean = fit.1; mode = (h fit.0 fit.1).0.0.mode; none = n ∙ none }
-        go (Err f) h n = tt
-
-    pub read_told : IfOk result (λ v. IsSure ours new rn → (book_of new.now.trees ≡ book_of old.now.trees) × (v ≡ value (book_of old.now.trees)))
-    read_told = go result (λ fit now. told_at fit now)
-      where
-        go : (r : Result A ViewFault) → (ours → HasCleanDisk new → MatchResult r Told (λ _. IsRefused true old new))
-            → IfOk r (λ v. IsSure ours new rn → (book_of new.now.trees ≡ book_of old.now.trees) × (v ≡ value (book_of old.now.trees)))
-        go (Ok v) h = λ sure. let it = h sure.fit sure.clean in (ap (λ (d : Database). book_of d.trees) it.0.1, it.1)
-        go (Err f) h = tt
-
-    -- what is known is known on, where nothing was changed
     pub read_aware : (k : Known) → (ours → HasCleanDisk old → IsAware old ro k) → ours → HasCleanDisk new → IsAware new rn k
-    read_aware k aware fit now = go result (told_at fit now) noted
-      where
-        go : (r : Result A ViewFault) → MatchResult r Told (λ _. IsRefused true old new) → IsNoted noted_fault r ro rn → IsAware new rn k
-        go (Ok v) h n = λ _ _. subst (λ (d : Database). IsKnown k (tables_in d.trees)) (sym h.0.1) (aware fit (clean now) none inside)
-        go (Err f) h n = λ same _. absurd (let clash = sym n ∙ same in cc)
+    read_aware k aware fit now same _ = still_so r (value (book_of old.now.trees)) (λ d. IsKnown k (tables_in d.trees)) (told_at r value reads fit now) noted (aware fit (clean now) none inside) same
 
   pub follows_on : (a : State) → (ours → Holds true old → Survives old new (λ _. ⊥)) → (ours → HasCleanDisk new → LeavesCommit old new) → KeepsOn ours a old → WasUp ours a old → HasCounted ours a old
       → KeepsOn ours a new × WasUp ours a new × HasCounted ours a new
@@ -238,62 +224,50 @@ module _ (old new : State) (ours : Type 0) (ro rn : Option Refusal) (owned : our
     λ fit now. since_then a old new (counted fit (clean now)) (survived old new _ (survives fit (holds fit))),
   )
 
-  module _ (result : Result Unit Refusal) (c : Change) (k : Known) (aware : ours → HasCleanDisk old → IsAware old ro k)
-      (put : (b : Book) → Tells (tables_in old.now.trees) b → IsKnown k (tables_in old.now.trees) → Holds true old → HasCleanDisk new
-      → MatchResult result (λ _. FitsTables b c × Changes old new (after_change c (tables_in old.now.trees))) (λ _. IsCutShort old new)) (noted : IsNoted (λ x. x) result ro rn) where
-    abbrev Put : Type 0
-    Put = FitsTables (book_of old.now.trees) c × Changes old new (after_change c (tables_in old.now.trees))
+  abbrev Aware : Known → Type 0
+  Aware k = ours → HasCleanDisk old → IsAware old ro k
 
-    put_at : ours → HasCleanDisk new → MatchResult result (λ _. Put) (λ _. IsCutShort old new)
-    put_at fit now = put (book_of old.now.trees) ((owned fit (clean now)).whole inside none).1.tells (aware fit (clean now) none inside) (holds fit) now
+  abbrev Puts : Result Unit Refusal → Change → Known → Type 0
+  Puts r c k = (b : Book) → Tells (tables_in old.now.trees) b → IsKnown k (tables_in old.now.trees) → Holds true old → HasCleanDisk new → OrCut old new r (IsPut b c old new)
 
-    pub put_own : IsTypedChange c → ours → HasCleanDisk new → IsOwn new rn
-    put_own typed fit now = go result (put_at fit now) noted
-      where
-        go : (r : Result Unit Refusal) → MatchResult r (λ _. Put) (λ _. IsCutShort old new) → IsNoted (λ x. x) r ro rn → IsOwn new rn
-        go (Ok v) h n = own_put old new ro (owned fit (clean now)) inside none c typed h.0 h.1 rn
-        go (Err f) h n = subst (λ s. IsOwn new s) (sym n) (own_cut old new ro (owned fit (clean now)) inside none f h)
+  put_at : (r : Result Unit Refusal) (c : Change) (k : Known) → Aware k → Puts r c k → ours → HasCleanDisk new → OrCut old new r (IsPut (book_of old.now.trees) c old new)
+  put_at r c k aware put fit now = put (book_of old.now.trees) (shows fit now).1.tells (aware fit (clean now) none inside) (holds fit) now
 
-    pub put_utf8 : ours → HasCleanDisk new → ShowsOddText new → ⊥
-    put_utf8 fit now odd =
-        let utf8 = ((owned fit (clean now)).whole inside none).1.utf8 in
-        either (λ _. Put) (λ _. IsCutShort old new) result (put_at fit now) (λ _ h. odd.1 (h.1.utf8 utf8)) (λ f h. odd_cut old new utf8 h odd)
+  pub put_own : (r : Result Unit Refusal) (c : Change) (k : Known) → Aware k → Puts r c k → IsNoted (λ x. x) r ro rn → IsTypedChange c → ours → HasCleanDisk new → IsOwn new rn
+  put_own (Ok v) c k aware put n typed fit now = let it = put_at (Ok v) c k aware put fit now in own_put old new ro (owned fit (clean now)) inside none c typed it.0 it.1 rn
+  put_own (Err f) c k aware put n typed fit now = subst (λ s. IsOwn new s) (sym n) (own_cut old new ro (owned fit (clean now)) inside none f (put_at (Err f) c k aware put fit now))
 
-    pub put_leaves : ours → HasCleanDisk new → LeavesCommit old new
-    put_leaves fit now =
-        let up = ((owned fit (clean now)).whole inside none).0 in
-        either (λ _. Put) (λ _. IsCutShort old new) result (put_at fit now) (λ _ h. record { was_open = λ _. up; same = λ _. h.1.committed }) (λ f h. cut_leaves old new up h)
+  pub put_utf8 : (r : Result Unit Refusal) (c : Change) (k : Known) → Aware k → Puts r c k → IsNoted (λ x. x) r ro rn → ours → HasCleanDisk new → ShowsOddText new → ⊥
+  put_utf8 (Ok v) c k aware put n fit now odd = odd.1 ((put_at (Ok v) c k aware put fit now).1.utf8 (shows fit now).1.utf8)
+  put_utf8 (Err f) c k aware put n fit now odd = odd_cut old new (shows fit now).1.utf8 (put_at (Err f) c k aware put fit now) odd
 
-    pub put_sure : (X : Type 0) → OnOk (told_answer result) (ours × HasCleanDisk new → X → IsSure ours new rn)
-    put_sure X = go result (λ fit now. put_at fit now) noted
-      where
-        go : (r : Result Unit Refusal) → (ours → (now : HasCleanDisk new) → MatchResult r (λ _. FitsTables (book_of old.now.trees) c × Changes old new (after_change c (tables_in old.now.trees))) (λ _. IsCutShort old new))
-            → IsNoted (λ x. x) r ro rn → OnOk (told_answer r) (ours × HasCleanDisk new → X → IsSure ours new rn)
-        go (Ok v) h n = λ fit x. record { fit = fit.0; clean = fit.1; mode = (h fit.0 fit.1).1.over.mode; none = n ∙ none }
-        go (Err f) h n = tt
+  pub put_leaves : (r : Result Unit Refusal) (c : Change) (k : Known) → Aware k → Puts r c k → IsNoted (λ x. x) r ro rn → ours → HasCleanDisk new → LeavesCommit old new
+  put_leaves (Ok v) c k aware put n fit now = record { was_open = λ _. (shows fit now).0; same = λ _. (put_at (Ok v) c k aware put fit now).1.committed }
+  put_leaves (Err f) c k aware put n fit now = cut_leaves old new (shows fit now).0 (put_at (Err f) c k aware put fit now)
 
-    pub put_told : IsTypedChange c → OnOk (told_answer result) (IsSure ours new rn → book_of new.now.trees ≡ changed (book_of old.now.trees) c)
-    put_told typed = go result (λ fit now. put_at fit now)
-      where
-        go : (r : Result Unit Refusal) → (ours → HasCleanDisk new → MatchResult r (λ _. Put) (λ _. IsCutShort old new))
-            → OnOk (told_answer r) (IsSure ours new rn → book_of new.now.trees ≡ changed (book_of old.now.trees) c)
-        go (Ok v) h = λ sure. let it = h sure.fit sure.clean in put_book old new ro (owned sure.fit (clean sure.clean)) inside none c typed it.0 it.1
-        go (Err f) h = tt
+  pub put_sure : (r : Result Unit Refusal) (c : Change) (k : Known) → Aware k → Puts r c k → IsNoted (λ x. x) r ro rn → (X : Type 0) → OnOk (told_answer r) (ours × HasCleanDisk new → X → IsSure ours new rn)
+  put_sure (Ok v) c k aware put n X = λ fit x. record { fit = fit.0; clean = fit.1; mode = (put_at (Ok v) c k aware put fit.0 fit.1).1.over.mode; none = n ∙ none }
+  put_sure (Err f) c k aware put n X = tt
+
+  pub put_told : (r : Result Unit Refusal) (c : Change) (k : Known) → Aware k → Puts r c k → IsNoted (λ x. x) r ro rn → IsTypedChange c
+      → OnOk (told_answer r) (IsSure ours new rn → book_of new.now.trees ≡ changed (book_of old.now.trees) c)
+  put_told (Ok v) c k aware put n typed = λ sure. let it = put_at (Ok v) c k aware put sure.fit sure.clean in put_book old new ro (owned sure.fit (clean sure.clean)) inside none c typed it.0 it.1
+  put_told (Err f) c k aware put n typed = tt
 
 ---- The ends of a transaction
 
+-- a connection with nothing under way keeps the book that its last commit tells
+settled_keeps : (s : State) (b : Book) → IsSettled s → IsTrue s.is_open → HasTables s.committed × Tells (tables_in s.committed.trees) b → Keeps s b
+settled_keeps s b law up it = record { kept = λ _. it; stops = λ db may. subst (λ d. IsFileOf d b) (sym (law db up may)) (record { ours = it.0.ours; tells = it.1 }) }
+
 -- what is kept is the book that was read off, and each stop leaves it
 pub keeps_now : (s : State) (r : Option Refusal) (b : Book) → IsSettled s → IsOwn s r → IsTrue s.is_open → book_of s.committed.trees ≡ b → Keeps s b
-keeps_now s r b law own up is = record {
-  kept = λ _. it;
-  stops = λ db may. let same = law db up may in record {
-    ours = subst AreOurs (sym same) it.0.ours;
-    tells = subst (λ d. Tells (tables_in d) b) (sym same) it.1;
-  };
-}
-  where
-    it : HasTables s.committed × Tells (tables_in s.committed.trees) b
-    it = ((own.over up).committed, subst (λ k. Tells (tables_in s.committed.trees) k) is (own.kept up).tells)
+keeps_now s r b law own up is = settled_keeps s b law up ((own.over up).committed, subst (λ k. Tells (tables_in s.committed.trees) k) is (own.kept up).tells)
+
+-- an open connection keeps a book, in the words of the value
+pub keeps_own : {S : Type 0} (g : Ghosts S) (t u : Stored S) → t ≡ u → IsSettled (state_of g t) → IsOwn (state_of g t) t.refused → IsUp g u → Keeps (state_of g u) (kept_book g u)
+keeps_own g t u same law own up =
+    subst (λ x. Keeps (state_of g x) (kept_book g x)) same (keeps_now (state_of g t) t.refused (kept_book g t) law own (subst (λ x. IsUp g x) (sym same) up) refl)
 
 -- the book that a transaction shows when it begins
 pub begun_book : (old new : State) (r : Option Refusal) (b : Book) → HasBegun old new → IsOwn old r → Keeps old b → book_of new.now.trees ≡ b
@@ -308,9 +282,4 @@ commit_kept old new r s none law own h =
 -- an open connection whose transaction has ended without a commit keeps what it kept
 pub ended_still : (old new : State) (b : Book) → IsSettled new → HasEnded old new → IsTrue new.is_open → Keeps old b → Keeps new b
 ended_still old new b law ended up keeps =
-    let was = keeps.kept (ended.was_open up) in
-    let same : new.committed ≡ old.committed = (ended.back up).1 in
-    record {
-      kept = λ _. subst (λ (d : Database). HasTables d × Tells (tables_in d.trees) b) (sym same) was;
-      stops = λ db may. subst (λ d. IsFileOf d b) (sym (law db up may ∙ ap (λ (d : Database). d.trees) same)) (record { ours = was.0.ours; tells = was.1 });
-    }
+    settled_keeps new b law up (subst (λ (d : Database). HasTables d × Tells (tables_in d.trees) b) (sym (ended.back up).1) (keeps.kept (ended.was_open up)))

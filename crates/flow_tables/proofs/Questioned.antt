@@ -1,13 +1,13 @@
 -- What becomes of a question.
-use Rattle.std.specs.Prelude.{IsSome, ◌≡◌, ◌⊎◌}
-use Rattle.flow_tables.proofs.Names.{was_clean, rest_ended, IsStopped, view_fault, StopsWith, Book, first, Tells as TellsBook, schema, Tables, Held, state, Row, Executes, HasCleanDisk, State, Survives, Error, Ghosts, Bool, IfErr, List, MatchResult, Option, map, true, ℕ, Changes, HasEnded, IsAtRest, IsOver, IsRefused, IsStill, tables_in, StoreFault, ViewFault, Err, IfOk, Ok, [], Result, CommitsBy, FirstIs, subst, ◌∙◌, sym, inl, inr, Kind}
+use Rattle.std.specs.Prelude.{◌≡◌, ◌⊎◌, IsSome}
+use Rattle.flow_tables.proofs.Names.{Holds, was_clean, rest_ended, IsStopped, view_fault, Book, first, Tells as TellsBook, schema, Tables, Held, state, Row, Executes, HasCleanDisk, State, Survives, Error, Ghosts, Bool, IfErr, List, MatchResult, Option, map, true, ℕ, HasEnded, IsAtRest, IsOver, IsRefused, IsStill, tables_in, StoreFault, ViewFault, Err, IfOk, Ok, [], Result, CommitsBy, FirstIs, subst, ◌∙◌, sym, inl, inr, Kind, StopsWith, Changes}
 use Rattle.sqlite.specs.State.{CommitsShowing, IsUnchanged, IsRolledBack}
 use Rattle.sqlite_resolve.specs.Compile.{first as first_statement}
 use Rattle.sqlite.specs.Query.{Query, IsAnswer}
 use Rattle.sqlite.specs.Program.{overlay}
 use Rattle.flow_view.specs.declared.fault.ViewFault.TheVariants as view
 use Rattle.flow_tables.specs.declared.fault.StoreFault.TheVariants.{NoMemory, Refused}
-use Rattle.flow_tables.specs.Asking.{IsAsked, IsFirst, IsValue, IsRecalled, IsChanged, StopsAsk}
+use Rattle.flow_tables.specs.Asking.{IsAsked, IsValue, IsRecalled, IsChanged, StopsAsk, AreAsked}
 use Rattle.flow_sql.specs.Meaning.{IsRead, Asks, IsQuestion, Alters, IsRowChange, IsDeclined}
 use Rattle.flow_sql.specs.Coming.{IsFull}
 use Rattle.sqlite_disk.specs.Disk.{MoreFaults}
@@ -20,6 +20,7 @@ use Rattle.flow_sql.proofs.Transactions.{write_survives}
 use Rattle.flow_tables.proofs.Stopping.{read_stopped, change_stopped}
 use Rattle.flow_sql.proofs.Refusing.{whole_read, whole_write, question_refused, change_refused}
 use Rattle.flow_sql.proofs.Reading.{answer, still}
+use Rattle.std.proofs.lemmas.Result.{MatchResult-weaker}
 use Rattle.flow_sql.proofs.Compiling.{commits_none, failed, answered}
 
 ---- What a read leaves, over any file
@@ -39,19 +40,13 @@ module _ (kinds : List Kind) (sql : List ℕ) (reading : FirstIs IsReading (firs
 
 ---- What it tells of our tables
 
-match_from : {X E : Type 0} (P Q : X → Type 0) (R S : E → Type 0) (r : Result X E) → IfOk r P → IfErr r R → ((x : X) → P x → Q x) → ((e : E) → R e → S e) → MatchResult r Q S
-match_from P Q R S (Ok x) p q f g = f x p
-match_from P Q R S (Err e) p q f g = g e q
-
 module _ (sql : List ℕ) (q : Query) (names : List (List ℕ)) (it : IsRead sql q names) (params : Row) (kinds : List Kind) (old new : State) (inside : Bool) (over : IsOver inside old) where
   -- what an answer says holds of what is found
   pub reads_what : {V A : Type 0} (said : Row → A) (items : V → List A) (P : List A → Type 0) → ((rows : List Row) → IsAnswer q (overlay old.now.trees []) params rows → P (map said rows))
       → (r : Result V StoreFault) → IfOk r (λ v. Tells said sql params old new (items v)) → IfErr r (IsReadFault kinds sql params old new)
       → MatchResult r (λ v. IsStill inside old new × P (items v)) (λ _. IsRefused inside old new)
-  reads_what said items P found r ok err =
-      match_from (λ v. Tells said sql params old new (items v)) (λ v. IsStill inside old new × P (items v)) (IsReadFault kinds sql params old new) (λ _. IsRefused inside old new) r ok err
-      (λ v h. (still sql q names it params old new inside over h.0 h.1, subst P (sym h.2) (found h.0 (answer sql q names it params old new over.now h.0 h.1))))
-      (λ f h. left_refused old new inside over (fault_leaves kinds sql it.reading params old new f h))
+  reads_what said items P found (Ok v) ok err = (still sql q names it params old new inside over ok.0 ok.1, subst P (sym ok.2) (found ok.0 (answer sql q names it params old new over.now ok.0 ok.1)))
+  reads_what said items P found (Err f) ok err = left_refused old new inside over (fault_leaves kinds sql it.reading params old new f err)
 
 module _ {Q A : Type 0} (said : Row → A) (kinds : List Kind) (asks : Q → Asks A) (it : IsQuestion said kinds asks) (q : Q) (old new : State) where
   pub asked : {V : Type 0} (items : V → List A) (r : Result V StoreFault) → (HasCleanDisk new → IfOk r (λ v. Tells said (asks q).sql (asks q).params old new (items v)))
@@ -76,24 +71,10 @@ module _ {Q A : Type 0} (said : Row → A) (kinds : List Kind) (asks : Q → Ask
           let shown = answer (asks q).sql it.query it.names (it.is q) (asks q).params old new over.now rows.0 rows.1 in
           inr (still (asks q).sql it.query it.names (it.is q) (asks q).params old new inside over rows.0 rows.1, λ utf8. never_misread kinds rows.0 e (it.readable q old.now.trees over.now.ours utf8 rows.0 shown) rows.2)
 
-module _ {A V : Type 0} (sql : List ℕ) (params : Row) (kinds : List Kind) (tells : Tables → List A → Type 0) (old new : State) (items : V → List A) where
-  pub first_asked : (v : V) (o : Option A) → o ≡ first (items v) → IsAsked sql params kinds old new (Ok v) (λ t x. tells t (items x)) → IsAsked sql params kinds old new (Ok o) (IsFirst tells)
-  first_asked v o is it = record {
-    reads = λ inside was clean. let read = it.reads inside was clean in (read.0, (items v, read.1, is));
-    clean = it.clean;
-    cause = it.cause;
-    stops = it.stops;
-    ended = it.ended;
-    survives = it.survives;
-  }
-
-  pub none_asked : (f : StoreFault) → IsAsked sql params kinds old new (Err f) (λ t x. tells t (items x)) → IsAsked sql params kinds old new (Err f) (IsFirst tells)
-  none_asked f it = record { reads = it.reads; clean = it.clean; cause = it.cause; stops = it.stops; ended = it.ended; survives = it.survives }
-
 ---- A value of the book
 
-module _ {S A V : Type 0} (g : Ghosts S) (old new : Held S) (sql : List ℕ) (params : Row) (kinds : List Kind) (tells : Tables → V → Type 0) (value : Book → A) where
-  pub valued : (v : V) (r : Result A ViewFault) → IsAsked sql params kinds (state g old) (state g new) (Ok v) tells → ((t : Tables) (b : Book) → TellsBook t b → tells t v → IsValue r (value b)) → IsRecalled g old new r value
+module _ {S A V : Type 0} (g : Ghosts S) (old new : Held S) {why : StoreFault → Type 0} {tells : Tables → V → Type 0} (value : Book → A) where
+  pub valued : (v : V) (r : Result A ViewFault) → AreAsked why (state g old) (state g new) (Ok v) tells → ((t : Tables) (b : Book) → TellsBook t b → tells t v → IsValue r (value b)) → IsRecalled g old new r value
   valued v r it is = record {
     reads = λ clean b told was. let read = it.reads true was clean in go b r (is (tables_in (state g old).now.trees) b told read.1) read.0;
     clean = it.clean;
@@ -109,7 +90,7 @@ module _ {S A V : Type 0} (g : Ghosts S) (old new : Held S) (sql : List ℕ) (pa
       stops b (Ok x) h = tt
       stops b (Err f) h = λ same. absurd (h same)
 
-  pub unvalued : (f : StoreFault) (k : ViewFault) → k ≡ view_fault f → IsAsked sql params kinds (state g old) (state g new) (Err f) tells → IsRecalled {A = A} g old new (Err k) value
+  pub unvalued : (f : StoreFault) (k : ViewFault) → k ≡ view_fault f → AreAsked why (state g old) (state g new) (Err f) tells → IsRecalled {A = A} g old new (Err k) value
   unvalued f k same it = record {
     reads = λ clean b told was. it.reads true was clean;
     clean = it.clean;
@@ -126,37 +107,32 @@ IsUncounted (Err f) (Err e) = f ≡ e
 IsUncounted _ _ = ⊥
 
 module _ {S : Type 0} (g : Ghosts S) (does : Alters) (old new : Held S) (it : IsRowChange g does) (keeps : (t : Tables) → AreUtf8 t → AreUtf8 (does.after t)) (h : Survives (state g old) (state g new) (CommitsBy does.sql does.params (state g old))) where
+  abbrev Ran : Result ℕ Error → Type 0
+  Ran r = Executes does.sql does.params (state g old) (state g new) r
+
   pub changed : (r : Result ℕ Error) → (HasCleanDisk (state g new) → Executes does.sql does.params (state g old) (state g new) r) → (x : Result Unit Error) → IsUncounted r x → IsChanged g does.sql does.params old new x does.fits does.welcome does.after
   changed r ran x same = record {
-    put = λ was fits clean. put (was (was_clean (state g old) (state g new) _ h clean)) fits r (ran clean) x same;
+    put = λ was fits clean. MatchResult-weaker x (did r (ran clean) x same)
+        (λ _ ran.
+            let done = it.put old new ran.0 (over was clean) fits ran.1 in
+            record { over = done.over; tables = done.tables; committed = done.committed; utf8 = λ u. subst AreUtf8 (sym done.tables) (keeps (tables_in (state g old).now.trees) u) })
+        (λ e ran. error_refused (state g old) (state g new) does.sql does.params e true (over was clean) ran);
     clean = λ clean. was_clean (state g old) (state g new) _ h clean;
-    ran = λ clean. refused r (ran clean) x same;
-    cause = λ was welcome clean. cause (was (was_clean (state g old) (state g new) _ h clean)) welcome r (ran clean) x same;
+    ran = λ clean. MatchResult-weaker x (did r (ran clean) x same) (λ _ _. tt) (λ e ran. ran);
+    cause = λ was welcome clean. MatchResult-weaker x (did r (ran clean) x same) (λ _ _. tt) (λ e ran other.
+        let over = over was clean in
+        change_stopped g old new over (elim (change_refused (state g old) (state g new) e other over.is_open schema over.now.laid_out does.sql does.params it.command it.is it.writes it.plain (whole_write does.sql does.params it.listed) ran) [
+          | inl more ↦ inl more
+          | inr declined ↦ inr (it.taken old over welcome declined)
+        ]));
     survives = λ was. write_survives does.sql it.command it.is it.writes (state g old) (state g new) does.params was h;
   }
     where
-      put : IsOver true (state g old) → does.fits (tables_in (state g old).now.trees) → (r : Result ℕ Error) → Executes does.sql does.params (state g old) (state g new) r → (x : Result Unit Error) → IsUncounted r x
-          → MatchResult x (λ _. Changes (state g old) (state g new) (does.after (tables_in (state g old).now.trees))) (λ _. IsRefused true (state g old) (state g new))
-      put was fits (Ok count) ran (Ok done) same =
-          let did = it.put old new count was fits ran in
-          record { over = did.over; tables = did.tables; committed = did.committed; utf8 = λ u. subst AreUtf8 (sym did.tables) (keeps (tables_in (state g old).now.trees) u) }
-      put was fits (Ok count) ran (Err e) same = absurd same
-      put was fits (Err f) ran (Ok done) same = absurd same
-      put was fits (Err f) ran (Err e) same = error_refused (state g old) (state g new) does.sql does.params e true was (subst (λ k. Executes does.sql does.params (state g old) (state g new) (Err k)) same ran)
+      over : Holds true (state g old) → HasCleanDisk (state g new) → IsOver true (state g old)
+      over was clean = was (was_clean (state g old) (state g new) _ h clean)
 
-      refused : (r : Result ℕ Error) → Executes does.sql does.params (state g old) (state g new) r → (x : Result Unit Error) → IsUncounted r x → IfErr x (λ e. Executes does.sql does.params (state g old) (state g new) (Err e))
-      refused r ran (Ok done) same = tt
-      refused (Ok count) ran (Err e) same = absurd same
-      refused (Err f) ran (Err e) same = subst (λ k. Executes does.sql does.params (state g old) (state g new) (Err k)) same ran
-
-      taken : IsOver true (state g old) → does.welcome (tables_in (state g old).now.trees) → MoreFaults (state g old).faults (state g new).faults ⊎ IsDeclined does.sql does.params (state g old)
-          → MoreFaults (state g old).faults (state g new).faults ⊎ (IsSome (state g old).step_limit ⊎ IsFull (state g old).now.trees)
-      taken was welcome (inl more) = inl more
-      taken was welcome (inr declined) = inr (it.taken old was welcome declined)
-
-      cause : IsOver true (state g old) → does.welcome (tables_in (state g old).now.trees) → (r : Result ℕ Error) → Executes does.sql does.params (state g old) (state g new) r → (x : Result Unit Error) → IsUncounted r x → IfErr x (StopsWith g old new)
-      cause was welcome r ran (Ok done) same = tt
-      cause was welcome (Ok count) ran (Err e) same = absurd same
-      cause was welcome (Err f) ran (Err e) same = λ other.
-          change_stopped g old new was (taken was welcome
-          (change_refused (state g old) (state g new) e other was.is_open schema was.now.laid_out does.sql does.params it.command it.is it.writes it.plain (whole_write does.sql does.params it.listed) (subst (λ k. Executes does.sql does.params (state g old) (state g new) (Err k)) same ran)))
+      did : (r : Result ℕ Error) → Ran r → (x : Result Unit Error) → IsUncounted r x → MatchResult x (λ _. (count : ℕ) × Ran (Ok count)) (λ e. Ran (Err e))
+      did (Ok count) ran (Ok done) same = (count, ran)
+      did (Ok count) ran (Err e) same = absurd same
+      did (Err f) ran (Ok done) same = absurd same
+      did (Err f) ran (Err e) same = subst (λ k. Ran (Err k)) same ran

@@ -1,26 +1,21 @@
 -- Runs that are read one after another, up to the last.
-use Rattle.std.proofs.Common.{◌≡◌, ◌+◌, ℕ, zero, suc, List, [], ◌∷◌, ◌++◌, take, Option, Some, None, slice_get, refl, sym, ap, subst, ◌∙◌, arith}
+use Rattle.std.proofs.Common.{◌≡◌, ◌+◌, ℕ, zero, suc, List, [], ◌∷◌, ◌++◌, take, Some, None, slice_get, refl, sym, ap, subst, ◌∙◌, arith}
 use Rattle.flow_base.specs.declared.book.Run.{Run}
 use Rattle.flow_model.specs.Book.{Book, nth}
 use Rattle.flow_model.proofs.Logs.{nth_at}
 use Rattle.flow_maps.specs.declared.maps.Maps.{Maps}
 use Rattle.flow_maps.specs.Serving.{Serves}
-
-some_is : {A : Type 0} (x y : A) → Some x ≡ Some y → x ≡ y
-some_is x y h = let same = h in cc
-
-none_is : {A : Type 0} (x : A) → None ≡ Some x → ⊥
-none_is x h = let same = h in cc
+use Rattle.flow_rows.proofs.WholeChanges.{some_is, nothing_is}
 
 one_more : {A : Type 0} (xs : List A) (i : ℕ) (x : A) → slice_get xs i ≡ Some x → take i xs ++ x ∷ [] ≡ take (suc i) xs
-one_more [] i x h = absurd (none_is x h)
+one_more [] i x h = absurd (nothing_is x h)
 one_more (y ∷ ys) zero x h = ap (λ z. z ∷ []) (sym (some_is y x h))
 one_more (y ∷ ys) (suc i) x h = ap (λ zs. y ∷ zs) (one_more ys i x h)
 
 all_taken : {A : Type 0} (xs : List A) (i : ℕ) → slice_get xs i ≡ None → take i xs ≡ xs
 all_taken [] zero h = refl
 all_taken [] (suc i) h = refl
-all_taken (y ∷ ys) zero h = absurd (none_is y (sym h))
+all_taken (y ∷ ys) zero h = absurd (nothing_is y (sym h))
 all_taken (y ∷ ys) (suc i) h = ap (λ zs. y ∷ zs) (all_taken ys i h)
 
 -- the first runs of a book

@@ -1,23 +1,20 @@
 -- What the tables keep true of the keys that are known, call by call.
-use Rattle.std.specs.Prelude.{◌≡◌, ◌≢◌, ◌-◌, ◌+◌, ◌<◌, ◌++◌, ◌∷◌, nat_eq, slice_get, if◌then◌else◌}
-use Rattle.flow_tables.proofs.Names.{int_eq, pos, Change, Book, Run, RunRow, AllByRecursion, Bytes, Database, HasCleanDisk, State, Bool, List, MatchResult, Option, false, map, true, ℕ, HasBegun, HasCommitted, HasEnded, IsRefused, IsStill, Refusal, ViewFault, Err, IfOk, None, Ok, OnOk, Some, [], length, refl, Result, changed, is_open, state_of, open_number, subst, ◌∙◌, sym, ap, true≢false, book_of, tables_in, IsOwn, told_answer, IsSure, ReadsBook, IsNoted}
+use Rattle.std.specs.Prelude.{◌≡◌, ◌≢◌, ◌+◌, ◌<◌, ◌++◌, ◌∷◌, nat_eq}
+use Rattle.flow_tables.proofs.Names.{cases_Bool, inl, inr, Change, Book, Run, RunRow, AllByRecursion, Bytes, Database, HasCleanDisk, State, Bool, List, Option, false, map, true, ℕ, HasBegun, HasCommitted, HasEnded, Refusal, ViewFault, Err, IfOk, None, Ok, OnOk, Some, [], length, refl, Result, changed, is_open, state_of, subst, ◌∙◌, sym, ap, true≢false, book_of, tables_in, IsOwn, told_answer, IsSure, ReadsBook, IsNoted, Maps, Task, nth, noted_fault}
 use Rattle.std.proofs.Common.{take, get_or}
 use Rattle.std.proofs.lemmas.List.{map_more, take_more}
-use Rattle.flow_maps.specs.declared.maps.Maps.{Maps}
-use Rattle.flow_base.specs.declared.book.Task.{Task}
 use Rattle.flow_base.specs.declared.book.Timer.{Timer}
-use Rattle.flow_model.specs.Book.{nth}
 use Rattle.flow_maps.specs.Agenda.{IsOf, Knows, tasks_at, tasks_of}
 use Rattle.flow_maps.specs.Keys.{Lists}
 use Rattle.flow_maps.specs.Timers.{of_run, timers_of}
 use Rattle.flow_maps.specs.Serving.{Serves, Sees, AreKeys, Awaits, HasSignals, HasRecords, named, key_if, request_key, open_key}
-use Rattle.flow_rows.specs.Rows.{run_rows, request_text}
+use Rattle.flow_rows.specs.Rows.{run_rows, request_text, run_row}
 use Rattle.flow_rows.specs.Told.{IsTold}
 use Rattle.flow_view.specs.Reading.{Reads}
-use Rattle.flow_tables.specs.Faults.{noted_fault}
 use Rattle.flow_rows.proofs.Telling.{told as told_back}
+use Rattle.flow_rows.proofs.WholeChanges.{mark_read}
 use Rattle.flow_tables.specs.Owned.{Keeps, IsServing, row_request, row_open}
-use Rattle.flow_tables.proofs.Owning.{read_leaves, holds}
+use Rattle.flow_tables.proofs.Owning.{read_leaves, told_at, still_so}
 
 ---- The keys that rows tell
 
@@ -26,33 +23,22 @@ named_back None h = refl
 named_back (Some []) h = absurd (h refl)
 named_back (Some (c ∷ cs)) h = refl
 
-marked_back : (v : Bool) → int_eq (open_number v) (pos 1) ≡ v
-marked_back true = refl
-marked_back false = refl
-
-requests_back : (n : ℕ) (rs : List Run) → AllByRecursion IsTold rs → map row_request (run_rows n rs) ≡ map request_key rs
-requests_back n [] all = refl
-requests_back n (r ∷ rs) all = ap (λ k. k ∷ map row_request (run_rows (n + 1) rs)) (named_back r.request all.0.request) ∙ ap (λ ks. r.request ∷ ks) (requests_back (n + 1) rs all.1)
-
-opens_back : (n : ℕ) (rs : List Run) → map row_open (run_rows n rs) ≡ map open_key rs
-opens_back n [] = refl
-opens_back n (r ∷ rs) = ap (λ v. key_if v r.flow ∷ map row_open (run_rows (n + 1) rs)) (marked_back (is_open (state_of r.history))) ∙ ap (λ ks. open_key r ∷ ks) (opens_back (n + 1) rs)
+-- what the rows of runs tell
+keys_back : {K : Type 0} (f : RunRow → K) (g : Run → K) → ((n : ℕ) (r : Run) → IsTold r → f (run_row n r) ≡ g r) → (n : ℕ) (rs : List Run) → AllByRecursion IsTold rs → map f (run_rows n rs) ≡ map g rs
+keys_back f g is n [] all = refl
+keys_back f g is n (r ∷ rs) all = ap (λ k. k ∷ map f (run_rows (n + 1) rs)) (is n r all.0) ∙ ap (λ ks. g r ∷ ks) (keys_back f g is (n + 1) rs all.1)
 
 pub rows_serve : (m : Maps) (rows : List RunRow) (b : Book) → rows ≡ run_rows 1 b.runs → AllByRecursion IsTold b.runs → AreKeys m (map row_request rows) (map row_open rows) → IsOf m.agenda b → HasSignals m b → HasRecords m b → Serves m b
 rows_serve m rows b same told are awaits signals records = record {
-  requests = subst (λ ks. Lists m.requests ks) (ap (map row_request) same ∙ requests_back 1 b.runs told) are.requests;
-  flows = subst (λ ks. Lists m.flows ks) (ap (map row_open) same ∙ opens_back 1 b.runs) are.flows;
+  requests = subst (λ ks. Lists m.requests ks) (ap (map row_request) same ∙ keys_back row_request request_key (λ n r all. named_back r.request all.request) 1 b.runs told) are.requests;
+  flows = subst (λ ks. Lists m.flows ks) (ap (map row_open) same ∙ keys_back row_open open_key (λ n r all. ap (λ v. key_if v r.flow) (mark_read (is_open (state_of r.history)))) 1 b.runs told) are.flows;
   agenda = awaits;
   signals = signals;
   records = records;
 }
 
 no_run : {A : Type 0} (h : Run → List A) (n : ℕ) → of_run h (nth [] n) ≡ []
-no_run {A} h n = go (nat_eq n 0)
-  where
-    go : (v : Bool) → of_run h (if v then None else slice_get [] (n - 1)) ≡ []
-    go true = refl
-    go false = refl
+no_run h n = elim (cases_Bool (nat_eq n 0)) [ inl zeroth ↦ rw zeroth refl | inr other ↦ rw other refl ]
 
 -- where there is no run
 pub none_serve : (m : Maps) (texts : List Bytes) → AreKeys m [] [] → Awaits m 0 0 (λ n. []) (λ n. []) → ((b : Book) → b.runs ≡ [] → HasSignals m b) → ((b : Book) → HasRecords m b) → Serves m (record { texts = texts; runs = [] })
@@ -90,13 +76,12 @@ learnt_serving m s r serves sees = record { last = λ is up. absurd (true≢fals
 module _ (old new : State) where
   -- a transaction begins
   pub begun_serving : (r : Option Refusal) (m m' : Maps) (k : Bool) → IsOwn old r → HasBegun old new → ((b : Book) → (k ≡ true → Serves m b) → Serves m' b) → ((b : Book) → Sees m' b) → IsServing m k old r → IsServing m' true new None
-  begun_serving r m m' k own h serves sees was = record {
-    last = λ is up. subst (λ (d : Database). Serves m' (book_of d.trees)) (sym h.1.committed_is) kept;
-    shown = λ none inside. (subst (λ (d : Database). Serves m' (book_of d.trees)) (sym (h.1.now_is ∙ own.rest h.0 h.1.was_open)) kept, sees (book_of new.now.trees));
-  }
-    where
-      kept : Serves m' (book_of old.committed.trees)
-      kept = serves (book_of old.committed.trees) (λ is. was.last is h.1.was_open)
+  begun_serving r m m' k own h serves sees was =
+      let kept = serves (book_of old.committed.trees) (λ is. was.last is h.1.was_open) in
+      record {
+        last = λ is up. subst (λ (d : Database). Serves m' (book_of d.trees)) (sym h.1.committed_is) kept;
+        shown = λ none inside. (subst (λ (d : Database). Serves m' (book_of d.trees)) (sym (h.1.now_is ∙ own.rest h.0 h.1.was_open)) kept, sees (book_of new.now.trees));
+      }
 
   -- it is committed
   pub committed_serving : (r s : Option Refusal) (m : Maps) (k : Bool) → old.in_transaction ≡ true → r ≡ None → HasCommitted old new → IsServing m k old r → IsServing m true new s
@@ -119,31 +104,20 @@ module _ (old new : State) where
     read_serving owned none inside clean {A} result value reads noted m k serving fit now =
         let was = serving fit (clean now) in
         let left = read_leaves old new ours ro rn owned none inside clean result value reads noted fit now in
+        let told = told_at old new ours ro rn owned none inside clean result value reads fit now in
         record {
           last = λ is up. subst (λ (d : Database). Serves m (book_of d.trees)) (sym (left.same up)) (was.last is (left.was_open up));
-          shown = go result (reads now (book_of old.now.trees) ((owned fit (clean now)).whole inside none).1.tells (holds old new ours ro rn owned none inside clean fit)) noted;
+          shown = λ same _. still_so old new ours ro rn owned none inside clean result (value (book_of old.now.trees)) (λ d. Serves m (book_of d.trees) × Sees m (book_of d.trees)) told noted (was.shown none inside) same;
         }
-      where
-        go : (r : Result A ViewFault) → MatchResult r (λ v. IsStill true old new × (v ≡ value (book_of old.now.trees))) (λ _. IsRefused true old new) → IsNoted noted_fault r ro rn
-            → rn ≡ None → new.in_transaction ≡ true → Serves m (book_of new.now.trees) × Sees m (book_of new.now.trees)
-        go (Ok v) h n = λ _ _. subst (λ (d : Database). Serves m (book_of d.trees) × Sees m (book_of d.trees)) (sym h.0.1) ((serving fit (clean now)).shown none inside)
-        go (Err f) h n = λ same _. absurd (let clash = sym n ∙ same in cc)
 
     -- the book was changed
     pub put_serving : ro ≡ None → old.in_transaction ≡ true → (HasCleanDisk new → HasCleanDisk old) → (m m' : Maps) (c : Change) (k : Bool) → (ours → HasCleanDisk old → IsServing m k old ro)
         → ((b : Book) → Sees m b → Serves m b → Serves m' (changed b c)) → ((b : Book) → Sees m' b) → (result : Result Unit Refusal) → IsNoted (λ x. x) result ro rn
         → OnOk (told_answer result) (IsSure ours new rn → book_of new.now.trees ≡ changed (book_of old.now.trees) c) → ours → HasCleanDisk new → IsServing m' false new rn
-    put_serving none inside clean m m' c k serving serves sees result noted told fit now = record {
-      last = λ is up. absurd (true≢false (sym is));
-      shown = go result noted told;
-    }
-      where
-        go : (r : Result Unit Refusal) → IsNoted (λ x. x) r ro rn → OnOk (told_answer r) (IsSure ours new rn → book_of new.now.trees ≡ changed (book_of old.now.trees) c)
-            → rn ≡ None → new.in_transaction ≡ true → Serves m' (book_of new.now.trees) × Sees m' (book_of new.now.trees)
-        go (Ok u) n h = λ same mode.
-            let was = (serving fit (clean now)).shown none inside in
-            (subst (λ b. Serves m' b) (sym (h (record { fit = fit; clean = now; mode = mode; none = same }))) (serves (book_of old.now.trees) was.1 was.0), sees (book_of new.now.trees))
-        go (Err f) n h = λ same _. absurd (let clash = sym n ∙ same in cc)
+    put_serving none inside clean m m' c k serving serves sees (Ok u) noted told fit now = learnt_serving m' new rn (λ same mode.
+        let was = (serving fit (clean now)).shown none inside in
+        subst (λ b. Serves m' b) (sym (told (record { fit = fit; clean = now; mode = mode; none = same }))) (serves (book_of old.now.trees) was.1 was.0)) sees
+    put_serving none inside clean m m' c k serving serves sees (Err f) noted told fit now = learnt_serving m' new rn (λ same _. absurd (let clash = sym noted ∙ same in cc)) sees
 
 ---- An answer behind another read
 

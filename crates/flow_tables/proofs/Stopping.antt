@@ -11,7 +11,7 @@ use Rattle.flow_view.specs.declared.fault.ViewFault.TheVariants as view
 use Rattle.flow_sql.specs.Coming.{IsFull}
 use Rattle.flow_sql.proofs.Finding.{format_refused, blank_refused}
 use Rattle.flow_base.specs.declared.fault.Fault.TheVariants as fault
-use Rattle.flow_tables.specs.Opening.{opening_fault, read_fault_of, IsCutShort, StopsRows, StopsMaking, IsHeldUp, StopsOpening}
+use Rattle.flow_tables.specs.Opening.{opening_fault, read_fault_of, IsCutShort, StopsMaking, IsHeldUp, StopsOpening}
 use Rattle.flow_sql.specs.States.{RunsTo}
 use Rattle.flow_sql.proofs.Transactions.{begin_refused, commit_refused, rollback_refused}
 use Rattle.flow_sql.specs.Stored.{HasOddText}
@@ -19,8 +19,8 @@ use Rattle.flow_tables.specs.Asking.{StopsAsk}
 use Rattle.flow_tables.specs.Reads.{IsReadFault}
 use Rattle.flow_tables.specs.Faults.{Since, fault_of, read_refusal, told_fault, HasFailed, IsCutOff, IsKeptOut}
 use Rattle.flow_tables.specs.declared.fault.StoreFault.TheVariants.{NoMemory, Refused}
-use Rattle.flow_tables.specs.declared.fault.Refusal.TheVariants as refusal
-use Rattle.flow_tables.proofs.Causes.{because_on}
+use Rattle.flow_tables.proofs.Causes.{because_on, all_because}
+use Rattle.std.proofs.lemmas.Result.{MatchResult-weaker}
 
 pub since_self : (s : State) → Since s s
 since_self s = (omega arith, refl)
@@ -32,7 +32,7 @@ since_then a b c one two = (omega (arith, one.0, two.0), two.1 ∙ one.1)
 pub survived : (a b : State) (P : Trees → Type 0) → Survives a b P → Since a b
 survived a b P h = (h.counts, h.limit)
 
-more_after : (a b c : ℕ) → a ≤ b → MoreFaults b c → MoreFaults a c
+pub more_after : (a b c : ℕ) → a ≤ b → MoreFaults b c → MoreFaults a c
 more_after a b c le more = omega (arith, le, more)
 
 module _ {S : Type 0} (g : Ghosts S) where
@@ -47,27 +47,19 @@ module _ {S : Type 0} (g : Ghosts S) where
 
   -- a statement that was refused behind others
   pub with_after : (a b c : Held S) (r : Result Unit Error) → Since (state g a) (state g b) → IfErr r (StopsWith g b c) → IfErr r (StopsWith g a c)
-  with_after a b c (Ok u) since h = tt
-  with_after a b c (Err e) since h = λ other. stopped_after (state g a) (state g b) (state g c) since (h other)
+  with_after a b c r since h = MatchResult-weaker r h (λ _ _. tt) (λ e why other. stopped_after (state g a) (state g b) (state g c) since (why other))
 
   module _ (a b c : State) (since : Since a b) (U : Type 0) where
     pub because_after : (f : Refusal) → Because f (IsStopped g b c) U → Because f (IsStopped g a c) U
-    because_after f h = because_on (IsStopped g b c) (IsStopped g a c) U U f (stopped_after a b c since) (λ u. u) h
+    because_after f h = because_on f h (stopped_after a b c since) (λ u. u)
 
     pub all_after : {A : Type 0} (r : Result A Refusal) → IfErr r (λ f. Because f (IsStopped g b c) U) → IfErr r (λ f. Because f (IsStopped g a c) U)
-    all_after (Ok u) h = tt
-    all_after (Err f) h = because_after f h
+    all_after r h = all_because r h (stopped_after a b c since) (λ u. u)
 
   -- an error of a statement, told as a refusal
-  error_so : (a b : Held S) (U : Type 0) (e : Error) → StopsWith g a b e → Because (refusal_of e) (IsStopped g (state g a) (state g b)) U
-  error_so a b U (SqliteFailure OutOfMemory) h = tt
-  error_so a b U e h = h (other e refl)
-    where
-      other : (e : Error) → refusal.Stopped ≡ refusal_of e → e ≢ SqliteFailure OutOfMemory
-      other e is same = let clash = is ∙ ap refusal_of same in cc
-
   pub by_error : (a b : Held S) (U : Type 0) (f : Refusal) (e : Error) → f ≡ refusal_of e → StopsWith g a b e → Because f (IsStopped g (state g a) (state g b)) U
-  by_error a b U f e is h = subst (λ x. Because x (IsStopped g (state g a) (state g b)) U) (sym is) (error_so a b U e h)
+  by_error a b U f (SqliteFailure OutOfMemory) is h = subst (λ x. Because x (IsStopped g (state g a) (state g b)) U) (sym is) tt
+  by_error a b U f e is h = subst (λ x. Because x (IsStopped g (state g a) (state g b)) U) (sym is) (h (λ same. let clash = ap refusal_of same in cc))
 
   ---- Reads
 
@@ -79,12 +71,9 @@ module _ {S : Type 0} (g : Ghosts S) where
     read_stopped (Refused e) (inl (inr limit)) same = inl (inr (inl limit))
     read_stopped (Refused e) (inr odd) same = inr (odd.0.0, subst (λ (d : Database). HasOddText (tables_in d.trees)) (sym odd.0.1) odd.1)
 
-    read_so : (f : StoreFault) (U : Type 0) → StopsAsk true (state g old) (state g new) f → Because (read_refusal f) (IsStopped g (state g old) (state g new)) U
-    read_so (NoMemory _) U h = tt
-    read_so (Refused e) U h = read_stopped (Refused e) h refl
-
     pub read_because : (f : StoreFault) (x : Refusal) (U : Type 0) → x ≡ read_refusal f → StopsAsk true (state g old) (state g new) f → Because x (IsStopped g (state g old) (state g new)) U
-    read_because f x U is h = subst (λ y. Because y (IsStopped g (state g old) (state g new)) U) (sym is) (read_so f U h)
+    read_because (NoMemory _) x U is h = subst (λ y. Because y (IsStopped g (state g old) (state g new)) U) (sym is) tt
+    read_because (Refused e) x U is h = subst (λ y. Because y (IsStopped g (state g old) (state g new)) U) (sym is) (read_stopped (Refused e) h refl)
 
   -- a change of rows that the store's failure or a limit refused
   pub change_stopped : (old new : Held S) → IsOver true (state g old) → MoreFaults (state g old).faults (state g new).faults ⊎ (IsSome (state g old).step_limit ⊎ IsFull (state g old).now.trees)
@@ -96,10 +85,7 @@ module _ {S : Type 0} (g : Ghosts S) where
 -- an error of the store, told as a fault of a read
 pub fault_told : (kinds : List Kind) (sql : List ℕ) (params : Row) (old new : State) (e : Error) → FailsToQuery sql params old new e → IsReadFault kinds sql params old new (fault_of e)
 fault_told kinds sql params old new (SqliteFailure OutOfMemory) h = inl (_, h)
-fault_told kinds sql params old new e h = inl (other e refl, h)
-  where
-    other : (e : Error) → Refused e ≡ fault_of e → e ≢ SqliteFailure OutOfMemory
-    other e is same = let clash = is ∙ ap fault_of same in cc
+fault_told kinds sql params old new e h = inl (λ same. let clash = ap fault_of same in cc, h)
 
 ---- Transactions
 
@@ -137,26 +123,11 @@ module _ (old new : State) (e : Error) (f : ViewFault) (told : f ≡ told_fault 
 
 ---- Opening
 
-more_yet : (a b c : ℕ) → MoreFaults a b → b ≤ c → MoreFaults a c
-more_yet a b c more le = omega (arith, more, le)
-
 module _ {S : Type 0} (g : Ghosts S) where
   cut_after : (d e : Database) (a b c : State) → e ≡ d → Since a b → IsCutShort e b c → IsCutShort d a c
   cut_after d e a b c same since (inl more) = inl (more_after a.faults b.faults c.faults since.0 more)
   cut_after d e a b c same since (inr (inl limit)) = inr (inl (subst (λ (o : Option ℕ). IsSome o) since.1 limit))
   cut_after d e a b c same since (inr (inr odd)) = inr (inr (subst (λ (db : Database). HasTables db × HasOddText (tables_in db.trees)) same odd))
-
-  -- a question that was refused, behind others that left the tables as they were
-  pub rows_stopped : (old mid new : Held S) (f : StoreFault) → Since (state g old) (state g mid) → (state g mid).now ≡ (state g old).now → IsOver false (state g mid) → StopsAsk false (state g mid) (state g new) f → StopsRows g old new f
-  rows_stopped old mid new (NoMemory _) since same over h = tt
-  rows_stopped old mid new (Refused e) since same over (inl (inl more)) = inl (more_after (state g old).faults (state g mid).faults (state g new).faults since.0 more)
-  rows_stopped old mid new (Refused e) since same over (inl (inr limit)) = inr (inl (subst (λ (o : Option ℕ). IsSome o) since.1 limit))
-  rows_stopped old mid new (Refused e) since same over (inr odd) = inr (inr (subst (λ (db : Database). HasTables db × HasOddText (tables_in db.trees)) same (over.now, odd.1)))
-
-  pub rows_after : {V : Type 0} (a b c : Held S) (r : Result V StoreFault) → Since (state g a) (state g b) → (state g b).now ≡ (state g a).now → IfErr r (StopsRows g b c) → IfErr r (StopsRows g a c)
-  rows_after a b c (Ok v) since same h = tt
-  rows_after a b c (Err (NoMemory _)) since same h = tt
-  rows_after a b c (Err (Refused e)) since same h = cut_after (state g a).now (state g b).now (state g a) (state g b) (state g c) same since h
 
   -- the statements that make the tables, behind others and before others
   pub making_stopped : (a b c d : Held S) (e : Error) → Since (state g a) (state g b) → (state g c).faults ≤ (state g d).faults → StopsMaking g b c e → StopsMaking g a d e
@@ -172,8 +143,7 @@ module _ {S : Type 0} (g : Ghosts S) where
 
   pub commit_stopped : (a b c : Held S) (r : Result Unit Error) → Since (state g a) (state g b) → IsTrue (state g b).is_open → (state g b).in_transaction ≡ true
       → MatchResult r (λ _. HasCommitted (state g b) (state g c)) (λ e. Executes (codes "COMMIT") [] (state g b) (state g c) (Err e)) → IfErr r (StopsMaking g a c)
-  commit_stopped a b c (Ok u) since up inside h = tt
-  commit_stopped a b c (Err e) since up inside h = making_stopped a b c c e since (omega arith) (λ other. inl (commit_refused (state g b) (state g c) e other up inside h))
+  commit_stopped a b c r since up inside h = MatchResult-weaker r h (λ _ _. tt) (λ e ran. making_stopped a b c c e since (omega arith) (λ other. inl (commit_refused (state g b) (state g c) e other up inside ran)))
 
   ---- A fault of an opening
 
@@ -183,17 +153,20 @@ module _ {S : Type 0} (g : Ghosts S) where
   held_told first new _ h = tt
 
   pub error_held : (first new : State) (f : Fault) (e : Error) → f ≡ opening_fault e → (e ≢ SqliteFailure OutOfMemory → IsHeldUp g first new) → StopsOpening g first new f
-  error_held first new f e is h = by_fault f is
-    where
-      by_fault : (f : Fault) → f ≡ opening_fault e → StopsOpening g first new f
-      by_fault fault.StoreRefused is = h (λ same. let clash = is ∙ ap opening_fault same in cc)
-      by_fault fault.NotOurs is = h (λ same. let clash = is ∙ ap opening_fault same in cc)
-      by_fault _ is = tt
+  error_held first new fault.StoreRefused e is h = h (λ same. let clash = is ∙ ap opening_fault same in cc)
+  error_held first new fault.NotOurs e is h = h (λ same. let clash = is ∙ ap opening_fault same in cc)
+  error_held first new _ e is h = tt
 
-  pub rows_held : (old new : Held S) (f : Fault) (r : StoreFault) → f ≡ read_fault_of r → (state g old).now ≡ (state g old).committed → StopsRows g old new r → StopsOpening g (state g old) (state g new) f
-  rows_held old new f (NoMemory _) is rest h = subst (StopsOpening g (state g old) (state g new)) (sym is) tt
-  rows_held old new f (Refused e) is rest h =
-      error_held (state g old) (state g new) f e is (λ other. inr (subst (λ (db : Database). IsCutShort db (state g old) (state g new)) rest h))
+  pub rows_held : (old new : Held S) (f : Fault) (r : StoreFault) → f ≡ read_fault_of r → IsOver false (state g old) → (state g old).now ≡ (state g old).committed → StopsAsk false (state g old) (state g new) r
+      → StopsOpening g (state g old) (state g new) f
+  rows_held old new f (NoMemory _) is over rest h = subst (StopsOpening g (state g old) (state g new)) (sym is) tt
+  rows_held old new f (Refused e) is over rest h =
+      error_held (state g old) (state g new) f e is (λ other. inr (subst (λ (db : Database). IsCutShort db (state g old) (state g new)) rest (cut h)))
+    where
+      cut : StopsAsk false (state g old) (state g new) (Refused e) → IsCutShort (state g old).now (state g old) (state g new)
+      cut (inl (inl more)) = inl more
+      cut (inl (inr limit)) = inr (inl limit)
+      cut (inr odd) = inr (inr (over.now, odd.1))
 
   pub rollback_held : (old new : State) (f : Fault) (e : Error) → f ≡ opening_fault e → old.in_transaction ≡ true → Executes (codes "ROLLBACK") [] old new (Err e) → StopsOpening g old new f
   rollback_held old new f e is inside h = error_held old new f e is (λ other. elim (cases_Bool old.is_open) [
@@ -213,7 +186,7 @@ module _ {S : Type 0} (g : Ghosts S) where
     was_shut shut = elim (cases_Bool a.is_open) [
       | inl up ↦ inr (inl (elim (survives.closes clean up) [
         | inl still_up ↦ absurd (true≢false (sym still_up ∙ shut))
-        | inr more ↦ more_yet a.faults b.faults c.faults more le
+        | inr more ↦ omega (arith, more, le)
       ]))
       | inr shut_before ↦ inl shut_before
     ]
@@ -227,18 +200,15 @@ module _ {S : Type 0} (g : Ghosts S) where
 
     pub told_after : {V : Type 0} (r : Result V Fault) → IfErr r (StopsOpening g b c) → IfErr r (StopsOpening g a c)
     told_after (Ok v) h = tt
-    told_after (Err f) h = by_fault f h
-      where
-        by_fault : (f : Fault) → StopsOpening g b c f → StopsOpening g a c f
-        by_fault fault.StoreRefused h = held_after h
-        by_fault fault.NotOurs h = held_after h
-        by_fault _ h = tt
+    told_after (Err fault.StoreRefused) h = held_after h
+    told_after (Err fault.NotOurs) h = held_after h
+    told_after (Err _) h = tt
 
   -- what held it up at first, held it up to the end
   pub held_on : {V : Type 0} (a b c : State) (r : Result V Fault) → b.faults ≤ c.faults → IsHeldUp g a b → IfErr r (StopsOpening g a c)
   held_on a b c (Ok v) le h = tt
   held_on a b c (Err f) le (inl shut) = held_told a c f (inl shut)
-  held_on a b c (Err f) le (inr (inl more)) = held_told a c f (inr (inl (more_yet a.faults b.faults c.faults more le)))
+  held_on a b c (Err f) le (inr (inl more)) = held_told a c f (inr (inl (omega (arith, more, le))))
   held_on a b c (Err f) le (inr (inr rest)) = held_told a c f (inr (inr rest))
 
   -- the question for the format: over our tables, and where there are none

@@ -1,22 +1,17 @@
 -- What a stop may leave, from call to call.
 use Rattle.std.specs.Prelude.{◌≡◌}
-use Rattle.flow_tables.proofs.Names.{schema, Database, State, Survives, IsTrue, false, HasTables, IsOver, AreOurs, subst}
-use Rattle.sqlite.specs.Tree.{Trees}
+use Rattle.flow_tables.proofs.Names.{schema, State, Survives, IsTrue, false, HasTables, IsOver, AreOurs, subst, Trees}
 use Rattle.sqlite.specs.State.{Opens, IsLive}
 use Rattle.sqlite.proofs.StateLemmas.{survives_then}
 use Rattle.sqlite_catalog.proofs.ReadLemmas.{lists_once}
-use Rattle.sqlite_catalog.specs.Listing.{IsSound}
 
 ---- After a stop
 
--- A database whose trees are those of our tables has their schema, so that an open finds them.
-pub found_again : (now : Database) → AreOurs now.trees → IsSound now.schema now.trees → HasTables now
-found_again now ours sound = record { laid_out = lists_once _ now.schema schema sound.lists ours.sound.lists; ours = ours }
-
--- A connection that was just opened over them shows them.
+-- A connection that was just opened over the trees of our tables shows them: it finds their schema.
 pub opened_over : (s : State) → Opens s → IsLive s → AreOurs s.now.trees → IsOver false s
 opened_over s opens live ours =
-    let now = found_again s.now ours (live opens.is_open).0 in
+    let lists = (live opens.is_open).0.lists in
+    let now : HasTables s.now = record { laid_out = lists_once _ _ schema lists ours.sound.lists; ours = ours } in
     record { is_open = opens.is_open; mode = opens.autocommit; now = now; committed = subst HasTables opens.clean now }
 
 ---- Call by call

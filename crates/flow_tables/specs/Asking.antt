@@ -15,17 +15,21 @@ abbrev pub StopsAsk : Bool → State → State → StoreFault → Type 0
 StopsAsk inside old new (NoMemory _) = Unit {0}
 StopsAsk inside old new (Refused e) = (MoreFaults old.faults new.faults ⊎ IsSome old.step_limit) ⊎ (IsStill inside old new × HasOddText (tables_in old.now.trees))
 
--- What becomes of a question: it is answered so, and the tables are as they were, or it was refused, and the transaction may
--- have ended. Nothing is committed.
-pub record IsAsked {A : Type 0} (sql : List ℕ) (params : Row) (kinds : List Kind) (old new : State) (result : Result A StoreFault) (tells : Tables → A → Type 0) : Type 0 where
+-- What becomes of questions: they are answered so, and the tables are as they were, or one was refused, with this cause, and the
+-- transaction may have ended. Nothing is committed.
+pub record AreAsked {A : Type 0} (why : StoreFault → Type 0) (old new : State) (result : Result A StoreFault) (tells : Tables → A → Type 0) : Type 0 where
   pub reads : (inside : Bool) → Holds inside old → HasCleanDisk new
       → MatchResult result (λ v. IsStill inside old new × tells (tables_in old.now.trees) v) (λ _. IsRefused inside old new)
   pub clean : HasCleanDisk new → HasCleanDisk old
-  pub cause : HasCleanDisk new → IfErr result (IsReadFault kinds sql params old new)
+  pub cause : HasCleanDisk new → IfErr result why
   -- of our tables it is refused for the store, or for a text of theirs
   pub stops : (inside : Bool) → Holds inside old → HasCleanDisk new → IfErr result (StopsAsk inside old new)
   pub ended : HasCleanDisk new → IsAtRest old → HasEnded old new
   pub survives : Survives old new (λ _. ⊥)
+
+-- of one of them
+abbrev pub IsAsked : {A : Type 0} → List ℕ → Row → List Kind → State → State → Result A StoreFault → (Tables → A → Type 0) → Type 0
+IsAsked sql params kinds old new result tells = AreAsked (IsReadFault kinds sql params old new) old new result tells
 
 -- it is the first of what tells this
 abbrev pub IsFirst : {A : Type 0} → (Tables → List A → Type 0) → Tables → Option A → Type 0

@@ -2,12 +2,11 @@
 -- a refusal.
 use Rattle.std.specs.Prelude.{◌≡◌, ◌⊎◌, ◌≢◌}
 use Rattle.flow_tables.specs.Names.{Held, state, Executes, State, Error, Ghosts, List, false, true, ℕ, IsOver, tables_in, Refusal, StoreFault, ViewFault, SqliteFailure, OutOfMemory, Err, Ok, [], Result, IsSome}
-use Rattle.sqlite_disk.specs.Disk.{MoreFaults}
+use Rattle.flow_tables.specs.Names.{MoreFaults, HasOddText}
 use Rattle.flow_view.specs.declared.fault.ViewFault.TheVariants as view
 use Rattle.flow_tables.specs.declared.fault.StoreFault.TheVariants.{NoMemory, Refused}
 use Rattle.flow_tables.specs.declared.fault.Refusal.TheVariants as refusal
 use Rattle.flow_sql.specs.Coming.{IsFull}
-use Rattle.flow_sql.specs.Stored.{HasOddText}
 pub use Rattle.flow_sql.specs.States.{Since}
 
 abbrev pub fault_of : Error → StoreFault

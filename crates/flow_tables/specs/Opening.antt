@@ -100,10 +100,6 @@ HasCause g _ = ⊤
 abbrev pub IsCutShort : Database → State → State → Type 0
 IsCutShort db first new = MoreFaults first.faults new.faults ⊎ (IsSome first.step_limit ⊎ (HasTables db × HasOddText (tables_in db.trees)))
 
-abbrev pub StopsRows : {S : Type 0} → Ghosts S → Held S → Held S → StoreFault → Type 0
-StopsRows g first new (read.NoMemory _) = ⊤
-StopsRows g first new (read.Refused e) = IsCutShort (state g first).now (state g first) (state g new)
-
 -- Making the tables stopped: the disk has failed, or a limit is set on the steps of a query. The database declines none of the statements.
 abbrev pub StopsMaking : {S : Type 0} → Ghosts S → Held S → Held S → Error → Type 0
 StopsMaking g first new e = e ≢ SqliteFailure code.OutOfMemory → MoreFaults (state g first).faults (state g new).faults ⊎ IsSome (state g first).step_limit

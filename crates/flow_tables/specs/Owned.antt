@@ -1,12 +1,10 @@
 -- Tables as a value of the code: the book that they hold, and what becomes of it.
 use Rattle.std.specs.Prelude.{◌≡◌, ◌⊎◌, ◌<ℤ◌}
-use Rattle.flow_tables.specs.Names.{Bytes, Bool, Run, Book, nth, no_book, last_number, run_row, Tells, book_in, no_schema, RunRow, Held, state, HasCleanDisk, State, Ghosts, IfErr, IsTrue, MatchResult, Option, false, pos, true, ℕ, HasTables, Holds, IsOver, IsRefused, IsStill, AreOurs, tables_in, Refusal, Known, ViewFault, Err, None, Ok, Some, option_map, ℤ, refl, Result}
+use Rattle.flow_tables.specs.Names.{Bytes, Bool, Book, no_book, last_number, Tells, book_in, no_schema, RunRow, Held, state, HasCleanDisk, State, Ghosts, IfErr, IsTrue, MatchResult, Option, false, pos, true, ℕ, HasTables, Holds, IsOver, IsRefused, IsStill, AreOurs, tables_in, Refusal, Known, ViewFault, Err, None, Ok, Some, option_map, ℤ, refl, Result}
 use Rattle.std.specs.Coded.{Coded, code_by, coded×, coded_option}
 use Rattle.sqlite.specs.Tree.{Trees}
 use Rattle.sqlite.specs.Held.{held_code}
-use Rattle.flow_view.specs.Heads.{head_of}
 use Rattle.flow_view.specs.declared.fault.ViewFault.TheVariants as fault
-use Rattle.flow_view.specs.declared.head.Head.{Head}
 use Rattle.flow_tables.specs.contracts.fault.Refusal as refusal_row
 use Rattle.flow_maps.specs.declared.maps.Maps.{Maps}
 use Rattle.flow_maps.specs.Serving.{Serves, Sees, named, key_if}
@@ -153,28 +151,10 @@ abbrev pub ReadsBook : {A : Type 0} → State → State → Result A ViewFault �
 ReadsBook old new result value =
     (b : Book) → Tells (tables_in old.now.trees) b → Holds true old → MatchResult result (λ v. IsStill true old new × (v ≡ value b)) (λ _. IsRefused true old new)
 
--- the same, of the run that has this row and stands at this number
-abbrev pub RecallsRun : State → State → ℕ → RunRow → Result Run ViewFault → Type 0
-RecallsRun old new number row result =
-    (b : Book) (r : Run) → Tells (tables_in old.now.trees) b → nth b.runs number ≡ Some r → row ≡ run_row number r → Holds true old
-    → MatchResult result (λ v. IsStill true old new × (v ≡ r)) (λ _. IsRefused true old new)
-
--- and of what is read of it without its history
-abbrev pub RecallsHead : State → State → ℕ → RunRow → Result Head ViewFault → Type 0
-RecallsHead old new number row result =
-    (b : Book) (r : Run) → Tells (tables_in old.now.trees) b → nth b.runs number ≡ Some r → row ≡ run_row number r → Holds true old
-    → MatchResult result (λ v. IsStill true old new × (v ≡ head_of r)) (λ _. IsRefused true old new)
-
 -- A refusal has this behind it, where the tables tell a book.
 abbrev pub StopsRead : {A : Type 0} → State → Result A ViewFault → Type 0 → Type 0
 StopsRead old result why =
     (b : Book) → Tells (tables_in old.now.trees) b → Holds true old → IfErr result (λ f. f ≡ fault.StoreRefused → why)
-
--- the same, of the run that has this row and stands at this number
-abbrev pub StopsRecall : {A : Type 0} → State → ℕ → RunRow → Result A ViewFault → Type 0 → Type 0
-StopsRecall old number row result why =
-    (b : Book) (r : Run) → Tells (tables_in old.now.trees) b → nth b.runs number ≡ Some r → row ≡ run_row number r → Holds true old
-    → IfErr result (λ f. f ≡ fault.StoreRefused → why)
 
 -- a number that no text and no run has
 abbrev pub IsBelowOne : Option ℤ → Type 0

@@ -10,9 +10,9 @@ ghost use Rattle.flow_tables.specs.Owned.{row_request, row_open};
 use crate::ask::{BookRead, Of};
 use crate::book_changes::is_marked;
 use crate::first_due::{LeastDue, NextMoment, moment_of};
-use crate::head::HeadOf;
 use crate::one_event::OneEvent;
-use crate::questions::{LastRun, OpenRun, Requested, TextBody};
+use crate::one_run::OneRun;
+use crate::questions::{LastRun, NewestEvent, OpenRun, Requested, TextBody};
 use flow_base::book::{Due, Run, copy_tasks};
 use flow_base::event::Event;
 use flow_base::number::{Moment, RunId};
@@ -110,9 +110,9 @@ impl ByKey for Of<LastRun> {
     }
 }
 
-impl ByKey for HeadOf {
+impl ByKey for OneRun<NewestEvent> {
     fn find(&self, maps: &Maps) -> Option<Option<Head>> {
-        match maps.head(self.0) {
+        match maps.head(self.0.0) {
             Some(head) => Some(Some(head)),
             None => None,
         }

@@ -50,6 +50,21 @@ pub(crate) trait Said: Sized {
         ensures cause { IfErr result (IsMisread kinds row.now) };
 }
 
+impl Said for EventRow {
+    ghost said = { event_row_said };
+
+    ghost kinds = { event_row_kinds };
+
+    fn read(alloc: Global, row: &Row) -> Result<EventRow, StoreFault> {
+        Ok(EventRow {
+            run: number_at(row, 0)?,
+            id: number_at(row, 1)?,
+            kind: number_at(row, 2)?,
+            body: text_at(alloc, row, 3)?,
+        })
+    }
+}
+
 impl Said for i64 {
     ghost said = { number_said };
 
@@ -57,6 +72,20 @@ impl Said for i64 {
 
     fn read(_: Global, row: &Row) -> Result<i64, StoreFault> {
         number_at(row, 0)
+    }
+}
+
+impl Said for TimerRow {
+    ghost said = { timer_row_said };
+
+    ghost kinds = { timer_row_kinds };
+
+    fn read(_: Global, row: &Row) -> Result<TimerRow, StoreFault> {
+        Ok(TimerRow {
+            run: number_at(row, 0)?,
+            id: number_at(row, 1)?,
+            due: number_at(row, 2)?,
+        })
     }
 }
 
@@ -95,35 +124,6 @@ impl Said for RunRow {
             req: text_at(alloc, row, 2)?,
             textnum: number_at(row, 3)?,
             isopen: number_at(row, 4)?,
-        })
-    }
-}
-
-impl Said for EventRow {
-    ghost said = { event_row_said };
-
-    ghost kinds = { event_row_kinds };
-
-    fn read(alloc: Global, row: &Row) -> Result<EventRow, StoreFault> {
-        Ok(EventRow {
-            run: number_at(row, 0)?,
-            id: number_at(row, 1)?,
-            kind: number_at(row, 2)?,
-            body: text_at(alloc, row, 3)?,
-        })
-    }
-}
-
-impl Said for TimerRow {
-    ghost said = { timer_row_said };
-
-    ghost kinds = { timer_row_kinds };
-
-    fn read(_: Global, row: &Row) -> Result<TimerRow, StoreFault> {
-        Ok(TimerRow {
-            run: number_at(row, 0)?,
-            id: number_at(row, 1)?,
-            due: number_at(row, 2)?,
         })
     }
 }

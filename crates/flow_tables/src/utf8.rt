@@ -4,46 +4,44 @@ ghost use Rattle.flow_sql.specs.Stored.{AreUtf8, IsUtf8Text, IsUtf8Run, IsUtf8Ev
 
 use flow_rows::rows::{EventRow, RunRow, StoreRows, TextRow};
 
-pub(crate) fn text_is_utf8(row: &TextRow)
-    ensures { IsUtf8Text row.now }
-{
-    let _body = row.body.as_str().as_bytes();
+/// A row that has texts.
+pub(crate) trait HasTexts {
+    ghost utf8: { Self → Type 0 };
+
+    fn is_utf8(&self)
+        ensures { utf8 self.now };
 }
 
-pub(crate) fn run_is_utf8(row: &RunRow)
-    ensures { IsUtf8Run row.now }
-{
-    let _flow = row.flow.as_str().as_bytes();
-    let _req = row.req.as_str().as_bytes();
-}
+impl HasTexts for TextRow {
+    ghost utf8 = { IsUtf8Text };
 
-pub(crate) fn event_is_utf8(row: &EventRow)
-    ensures { IsUtf8Event row.now }
-{
-    let _body = row.body.as_str().as_bytes();
-}
-
-fn texts_are_utf8(rows: &[TextRow])
-    ensures { AllByRecursion IsUtf8Text rows.now }
-{
-    for row in rows {
-        text_is_utf8(row);
+    fn is_utf8(&self) {
+        let _body = self.body.as_str().as_bytes();
     }
 }
 
-fn runs_are_utf8(rows: &[RunRow])
-    ensures { AllByRecursion IsUtf8Run rows.now }
-{
-    for row in rows {
-        run_is_utf8(row);
+impl HasTexts for RunRow {
+    ghost utf8 = { IsUtf8Run };
+
+    fn is_utf8(&self) {
+        let _flow = self.flow.as_str().as_bytes();
+        let _req = self.req.as_str().as_bytes();
     }
 }
 
-fn events_are_utf8(rows: &[EventRow])
-    ensures { AllByRecursion IsUtf8Event rows.now }
+impl HasTexts for EventRow {
+    ghost utf8 = { IsUtf8Event };
+
+    fn is_utf8(&self) {
+        let _body = self.body.as_str().as_bytes();
+    }
+}
+
+fn all_are_utf8<R: HasTexts>(rows: &[R])
+    ensures { AllByRecursion R.utf8 rows.now }
 {
     for row in rows {
-        event_is_utf8(row);
+        row.is_utf8();
     }
 }
 
@@ -51,7 +49,7 @@ fn events_are_utf8(rows: &[EventRow])
 pub(crate) fn rows_are_utf8(rows: &StoreRows)
     ensures { AreUtf8 (by_run rows.now) }
 {
-    texts_are_utf8(rows.texts.as_slice());
-    runs_are_utf8(rows.runs.as_slice());
-    events_are_utf8(rows.events.as_slice());
+    all_are_utf8(rows.texts.as_slice());
+    all_are_utf8(rows.runs.as_slice());
+    all_are_utf8(rows.events.as_slice());
 }

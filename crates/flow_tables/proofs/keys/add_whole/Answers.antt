@@ -1,4 +1,4 @@
-use Rattle.std.proofs.Common.{◌≡◌, ◌++◌, ◌∷◌, [], refl, rules, sym, ◌∙◌, ap}
+use Rattle.std.proofs.Common.{◌≡◌, ◌++◌, ◌∷◌, [], refl, rules}
 use Rattle.flow_maps.specs.Agenda.{is_open_run}
 use Rattle.flow_maps.specs.Timers.{timers_of}
 use Rattle.flow_tables.proofs.keys.add_whole.Goals as goal

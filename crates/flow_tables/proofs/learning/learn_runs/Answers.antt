@@ -1,6 +1,5 @@
 use Rattle.std.proofs.Common.{rules, refl, ◌≡◌, ◌+◌, None, Some, take}
-use Rattle.flow_base.specs.declared.book.Run.{Run}
-use Rattle.flow_model.specs.Book.{Book, nth}
+use Rattle.flow_model.specs.Book.{nth}
 use Rattle.flow_tables.proofs.Serving.{none_serve}
 use Rattle.flow_tables.proofs.RunsRead.{serves_all, serves_more}
 use Rattle.flow_tables.proofs.learning.learn_runs.Goals as goal

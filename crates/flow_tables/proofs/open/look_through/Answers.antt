@@ -44,5 +44,5 @@ returns-in-Err-clause-among g c = subst IsOfOpening (sym c.read_fault.ensures) (
 
 pub returns-in-Err-clause-why : goal.returns-in-Err-clause-why
 returns-in-Err-clause-why g c clean was rest =
-    let up = (was (c.in-Err.ensures.clean clean)).is_open in
-    rows_held g.S.Store c.args.conn.now c.all_rows.new.conn c.read_fault.result c.in-Err.fault c.read_fault.ensures (rest.1 up) (c.in-Err.ensures.stops clean was)
+    let over = was (c.in-Err.ensures.clean clean) in
+    rows_held g.S.Store c.args.conn.now c.all_rows.new.conn c.read_fault.result c.in-Err.fault c.read_fault.ensures over (rest.1 over.is_open) (c.in-Err.ensures.stops false was clean)

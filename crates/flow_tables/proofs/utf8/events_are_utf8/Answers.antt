@@ -1,6 +1,0 @@
-use Rattle.flow_sql.specs.Stored.{IsUtf8Event}
-use Rattle.flow_tables.proofs.Texts.{all_more}
-use Rattle.flow_tables.proofs.utf8.events_are_utf8.Goals as goal
-
-pub loop-row-preserved : goal.loop-row-preserved
-loop-row-preserved c = all_more IsUtf8Event c.args.rows.now c.loop-row.row-index c.row-item.result c.loop-row-test.true c.row-item.is c.loop-row.invariant c.event_is_utf8.ensures

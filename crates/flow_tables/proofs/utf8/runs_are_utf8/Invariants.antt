@@ -1,8 +1,0 @@
-use Rattle.std.proofs.Common.{take}
-use Rattle.flow_tables.proofs.Names.{AllByRecursion}
-use Rattle.flow_sql.specs.Stored.{IsUtf8Run}
-use Rattle.flow_tables.proofs.utf8.runs_are_utf8.Given as goal
-
--- the rows read so far
-abbrev pub invariant-loop-row : goal.invariant-loop-row
-invariant-loop-row l = AllByRecursion IsUtf8Run (take l.row-index l.rows)
