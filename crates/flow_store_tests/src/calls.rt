@@ -88,26 +88,32 @@ fn register(alloc: Global) -> Option<Command> {
     Some(Command::Register(RawText::new(alloc, A).ok()?))
 }
 
-/// A run of text 1.
+fn arguments(alloc: Global, number: Option<i64>) -> Option<Sequence<Value>> {
+    match number {
+        Some(number) => Some(Sequence::from_vec(vec![in alloc; Value::Int(number)].ok()?)),
+        None => Some(Sequence::new(alloc)),
+    }
+}
+
+/// The start of a run of text 1, with one number or none.
 fn start(
     alloc: Global,
     request: &str,
     flow: &str,
-    arguments: Vec<Value>,
+    number: Option<i64>,
     at: u64,
 ) -> Option<Command> {
     let text = TextNo::new(1)?;
     let at = Moment::new(at)?;
     let request = Key::new(alloc, request).ok()?;
     let flow = Key::new(alloc, flow).ok()?;
-    let arguments = Sequence::from_vec(arguments);
+    let arguments = arguments(alloc, number)?;
     Some(Command::Start(request, flow, text, arguments, at))
 }
 
 /// A run of the text A, under a flow of this name, which waits on its activity.
 fn start_waiting(alloc: Global, name: &str) -> Option<Command> {
-    let arguments = vec![in alloc; Value::Int(7)].ok()?;
-    start(alloc, name, name, arguments, 1000)
+    start(alloc, name, name, Some(7), 1000)
 }
 
 fn complete() -> Option<Command> {
@@ -122,7 +128,7 @@ fn register_empty(alloc: Global) -> Option<Command> {
 }
 
 fn start_empty(alloc: Global, flow: &str) -> Option<Command> {
-    start(alloc, "q", flow, Vec::new(alloc), 0)
+    start(alloc, "q", flow, None, 0)
 }
 
 fn history() -> Option<Command> {
