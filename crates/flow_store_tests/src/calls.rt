@@ -1,18 +1,13 @@
-//! Calls on a store, and what is told of them in plain numbers.
-//!
-//! Whoever owns a keeper, an engine or a connection lets it go at each of its exits, and that is what a proof costs. So the
-//! functions that own one have a single exit each, hand it on where they can, and tests see numbers alone.
+//! Calls on a store as plain rows, what is told of them, and the commands that they stand for.
 use flow_base::command::{Command, Reply};
 use flow_base::event::{Cmd, Event, State, What};
 use flow_base::number::{EventId, Moment, RunId, TextNo};
 use flow_base::sequence::Sequence;
 use flow_base::text::{Key, RawText};
 use flow_base::value::Value;
-use flow_commit::batch::Batch;
-use flow_commit::outcome::Outcome;
-use flow_machine::submission::{Receipt, Taken};
-use flow_view::fault::ViewFault;
-use sqlite::{Alter, Connection};
+use flow_cli::command::command_of;
+use flow_machine::answer::Stop;
+use flow_machine::submission::Receipt;
 use std::alloc::Global;
 
 const A: &str =
@@ -41,7 +36,12 @@ pub enum Call {
     History,
     /// Asks for run 1.
     Describe,
+    /// The command of a line.
+    Line(&'static [u8]),
 }
+
+/// Calls, each with its ticket.
+pub type Calls = &'static [(u64, Call)];
 
 /// What a reply names.
 #[derive(Clone, Copy, PartialEq, Eq)]
@@ -60,31 +60,64 @@ pub enum Named {
     Other,
 }
 
-/// What is told of a call: of one that is kept, and after which more is answered, the ticket, the place, and what the reply
-/// names.
+/// What is told of a call.
 #[derive(Clone, Copy, PartialEq, Eq)]
 pub enum Told {
+    /// Of one in a batch that is kept, and after which more is answered: the ticket, the place, and what the reply names.
     Kept(u64, u64, Named),
-    /// The code (0 of none), and whether nothing is answered any more.
+    /// Of a batch: the code (0 of none), and whether nothing is answered any more.
     Refused(u8, bool),
+    /// By an engine that was given it alone, or in a list: what its reply names, the code where it is given up, the stop.
+    Replied(Named),
+    NotApplied(u8),
+    Stopped(Stop),
 }
 
-pub fn register(alloc: Global) -> Option<Command> {
+/// What is to be told of calls.
+#[derive(Clone, Copy)]
+pub enum Want {
+    /// This, and no more.
+    Told(&'static [Told]),
+    /// That each of them is kept, or has its reply.
+    Kept,
+    /// So many, and this of the last one.
+    Last(usize, Told),
+}
+
+fn register(alloc: Global) -> Option<Command> {
     Some(Command::Register(RawText::new(alloc, A).ok()?))
 }
 
-/// A run of the text, under a flow of this name, which waits on its activity.
-pub fn start(alloc: Global, name: &str) -> Option<Command> {
+fn arguments(alloc: Global, number: Option<i64>) -> Option<Sequence<Value>> {
+    match number {
+        Some(number) => Some(Sequence::from_vec(vec![in alloc; Value::Int(number)].ok()?)),
+        None => Some(Sequence::new(alloc)),
+    }
+}
+
+/// The start of a run of text 1, with one number or none.
+fn start(
+    alloc: Global,
+    request: &str,
+    flow: &str,
+    number: Option<i64>,
+    at: u64,
+) -> Option<Command> {
     let text = TextNo::new(1)?;
-    let at = Moment::new(1000)?;
-    let request = Key::new(alloc, name).ok()?;
-    let flow = Key::new(alloc, name).ok()?;
-    let arguments = Sequence::from_vec(vec![in alloc; Value::Int(7)].ok()?);
+    let at = Moment::new(at)?;
+    let request = Key::new(alloc, request).ok()?;
+    let flow = Key::new(alloc, flow).ok()?;
+    let arguments = arguments(alloc, number)?;
     Some(Command::Start(request, flow, text, arguments, at))
 }
 
-pub fn complete(run: u64) -> Option<Command> {
-    let run = RunId::new(run)?;
+/// A run of the text A, under a flow of this name, which waits on its activity.
+fn start_waiting(alloc: Global, name: &str) -> Option<Command> {
+    start(alloc, name, name, Some(7), 1000)
+}
+
+fn complete() -> Option<Command> {
+    let run = RunId::new(1)?;
     let event = EventId::new(2)?;
     let at = Moment::new(1500)?;
     Some(Command::Complete(run, event, 1, Value::Int(41), at))
@@ -95,12 +128,7 @@ fn register_empty(alloc: Global) -> Option<Command> {
 }
 
 fn start_empty(alloc: Global, flow: &str) -> Option<Command> {
-    let text = TextNo::new(1)?;
-    let at = Moment::new(0)?;
-    let request = Key::new(alloc, "q").ok()?;
-    let flow = Key::new(alloc, flow).ok()?;
-    let arguments = Sequence::from_vec(Vec::new(alloc));
-    Some(Command::Start(request, flow, text, arguments, at))
+    start(alloc, "q", flow, None, 0)
 }
 
 fn history() -> Option<Command> {
@@ -111,28 +139,45 @@ fn describe() -> Option<Command> {
     Some(Command::Describe(RunId::new(1)?))
 }
 
+fn in_line(alloc: Global, line: &[u8]) -> Option<Command> {
+    match command_of(alloc, line) {
+        Ok(command) => Some(command),
+        Err(_) => None,
+    }
+}
+
+/// The command of a call.
 pub fn command(alloc: Global, call: Call) -> Option<Command> {
     match call {
         Call::Register => register(alloc),
-        Call::Start => start(alloc, "f"),
-        Call::StartAnother => start(alloc, "g"),
-        Call::StartThird => start(alloc, "h"),
-        Call::Complete => complete(1),
+        Call::Start => start_waiting(alloc, "f"),
+        Call::StartAnother => start_waiting(alloc, "g"),
+        Call::StartThird => start_waiting(alloc, "h"),
+        Call::Complete => complete(),
         Call::RegisterEmpty => register_empty(alloc),
         Call::StartEmpty => start_empty(alloc, "f"),
         Call::StartEmptyAgain => start_empty(alloc, "g"),
         Call::History => history(),
         Call::Describe => describe(),
+        Call::Line(line) => in_line(alloc, line),
     }
 }
 
-/// The batch of a call with this ticket.
-pub fn batch(alloc: Global, ticket: u64, call: Call) -> Option<Batch> {
-    let command = command(alloc, call)?;
-    match Batch::one(alloc, Taken { ticket, command }) {
-        Ok(batch) => Some(batch),
-        Err((_, _)) => None,
+fn add(alloc: Global, list: &mut Vec<Command>, call: Call) -> bool {
+    match command(alloc, call) {
+        Some(command) => list.push(command).is_ok(),
+        None => false,
     }
+}
+
+/// The commands of these calls.
+pub fn commands(alloc: Global, calls: &[Call]) -> Option<Vec<Command>> {
+    let mut list = Vec::new(alloc);
+    let mut are = true;
+    for call in calls {
+        are = add(alloc, &mut list, *call) && are;
+    }
+    if are { Some(list) } else { None }
 }
 
 fn is_empty_end(event: &Event) -> bool {
@@ -149,6 +194,7 @@ fn ends_empty(events: &[Event]) -> bool {
     }
 }
 
+/// What a reply names.
 pub fn named_by(reply: &Reply) -> Named {
     match reply {
         Reply::Registered(text) => Named::Text(text.get()),
@@ -180,43 +226,27 @@ pub fn add_receipts(list: &mut Vec<Told>, receipts: &[Receipt], is_halted: bool)
     is
 }
 
-/// The code of a commit that has changed nothing.
-pub fn code_of(fault: &ViewFault) -> u8 {
-    match fault {
-        ViewFault::NoMemory(_) => 1,
-        ViewFault::StoreRefused => 80,
-    }
-}
-
-/// The code of a commit of which nobody knows.
-fn code_of_end(fault: &ViewFault) -> u8 {
-    match fault {
-        ViewFault::NoMemory(_) => 1,
-        ViewFault::StoreRefused => 84,
-    }
-}
-
-/// The receipts of a batch that is kept, or the code of its refusal.
-pub fn ended<S: Alter>(outcome: Outcome<S>) -> Result<Vec<Receipt>, u8> {
-    match outcome {
-        Outcome::Kept(receipts, stamp) => {
-            stamp.discard();
-            Ok(receipts)
-        }
-        Outcome::NotApplied(_batch, fault) => Err(code_of(&fault)),
-        Outcome::Unknown(_batch, fault) => Err(code_of_end(&fault)),
-        Outcome::Halted(_batch) => Err(85),
-    }
-}
-
-/// Whether so many are told, all of them kept.
-pub fn are_kept(told: &[Told], count: usize) -> bool {
+/// Whether so many are told, all of them kept or replied.
+fn are_kept(told: &[Told], count: usize) -> bool {
     let mut are = told.len() == count;
     for one in told {
-        are = are && matches!(one, Told::Kept(_, _, _));
+        are = are && matches!(one, Told::Kept(_, _, _) | Told::Replied(_));
     }
     are
 }
 
-/// Lets a connection go.
-pub fn let_go<S: Alter + Drop>(_conn: Connection<S>) {}
+fn is_last(told: &[Told], last: Told) -> bool {
+    match told.last() {
+        Some(found) => *found == last,
+        None => false,
+    }
+}
+
+/// Whether what is told of so many calls is as it is to be.
+pub fn is_as(told: &[Told], count: usize, want: Want) -> bool {
+    match want {
+        Want::Told(wanted) => told == wanted,
+        Want::Kept => are_kept(told, count),
+        Want::Last(count, last) => told.len() == count && is_last(told, last),
+    }
+}

@@ -1,11 +1,7 @@
 //! Replies of engines that keep where one run stands, where a few stand, and where all do.
-use crate::calls::let_go;
+use crate::acts::{Act, are_written};
+use crate::engines::Asking;
 use crate::worked_rows::ROWS;
-use flow_cli::batch::BatchSize;
-use flow_cli::drive::{drive_lines, end_status};
-use flow_engine::engine::Engine;
-use flow_settings::settings::Settings;
-use sqlite::{Alter, Connection};
 use std::alloc::Global;
 use std::test::Fail;
 
@@ -88,82 +84,35 @@ const LIMITED_WITH_ALL: How = How {
     steps: Some(STEPS),
 };
 
-// No status of the program.
-const NOT_DRIVEN: u8 = 99;
+/// Whether lines that are driven so over a new store end with this status. What they are answered is written.
+fn ends(alloc: Global, lines: &'static [u8], how: How, status: u8, out: &mut Vec<u8>) -> bool {
+    let acts = [
+        Act::Limits(how.steps),
+        Act::AsksWith(how.capacity, Asking::Lines(how.size, lines, status)),
+    ];
+    are_written(alloc, &acts, out)
+}
 
-/// The status that the lines end with; their answers are written.
-fn write<S: Alter>(
+/// Whether lines end with this status, and are answered the same, by one position and by all of them, and that ends so.
+fn are_same(
     alloc: Global,
-    engine: &mut Engine<S>,
-    lines: &[u8],
-    size: u64,
-    writer: &mut Vec<u8>,
-) -> u8 {
-    let mut reader = lines;
-    match BatchSize::new(size) {
-        Some(size) => {
-            let outcome = drive_lines(alloc, engine, &mut reader, writer, size);
-            end_status(&outcome)
-        }
-        None => NOT_DRIVEN,
-    }
-}
-
-/// The same over a store, with these settings.
-fn write_over<S: Alter + Drop>(
-    alloc: Global,
-    conn: Connection<S>,
-    settings: Settings,
-    lines: &[u8],
-    size: u64,
-    writer: &mut Vec<u8>,
-) -> u8 {
-    match Engine::open(alloc, conn, settings) {
-        Ok(engine) => {
-            let mut engine = engine;
-            let status = write(alloc, &mut engine, lines, size, writer);
-            let_go(engine.close());
-            status
-        }
-        Err((_, conn)) => {
-            let_go(conn);
-            NOT_DRIVEN
-        }
-    }
-}
-
-/// The same over a store in memory.
-fn write_in_memory(alloc: Global, lines: &[u8], how: How, writer: &mut Vec<u8>) -> u8 {
-    match Settings::new(16, 4, how.capacity) {
-        Some(settings) => match Connection::open_in_memory(alloc) {
-            Ok(conn) => {
-                let mut conn = conn;
-                conn.set_step_limit(how.steps);
-                write_over(alloc, conn, settings, lines, how.size, writer)
-            }
-            Err(_) => NOT_DRIVEN,
-        },
-        None => NOT_DRIVEN,
-    }
-}
-
-/// The status that lines end with, whether one position and all of them give the same, and whether that ends so.
-fn compared(alloc: Global, lines: &[u8], one: How, all: How, end: &[u8]) -> (u8, bool, bool) {
+    lines: &'static [u8],
+    one: How,
+    all: How,
+    status: u8,
+    end: &[u8],
+) -> bool {
     let mut some = Vec::new(alloc);
     let mut most = Vec::new(alloc);
-    let status = write_in_memory(alloc, lines, one, &mut some);
-    let is_same = write_in_memory(alloc, lines, all, &mut most) == status;
-    (
-        status,
-        is_same && some.as_slice() == most.as_slice(),
-        some.as_slice().ends_with(end),
-    )
+    let are = ends(alloc, lines, one, status, &mut some)
+        && ends(alloc, lines, all, status, &mut most);
+    are && some.as_slice() == most.as_slice() && some.as_slice().ends_with(end)
 }
 
 /// The place of the first of these lists of lines that isn't answered to its end, or not the same by one position and by all.
-fn first_other(alloc: Global, rows: &[&[u8]]) -> Option<usize> {
+fn first_other(alloc: Global, rows: &[&'static [u8]]) -> Option<usize> {
     for at in 0..rows.len() {
-        if compared(alloc, rows[at], WITH_ONE, WITH_ALL, b"}\n") != (0, true, true) {
+        if !are_same(alloc, rows[at], WITH_ONE, WITH_ALL, 0, b"}\n") {
             return Some(at);
         }
     }
@@ -172,8 +121,7 @@ fn first_other(alloc: Global, rows: &[&[u8]]) -> Option<usize> {
 
 #[test]
 fn one_position_and_all_positions_give_the_same_replies(rt: HostRuntime) -> Result<(), Fail> {
-    let told = compared(rt.alloc(), IN_TURN, WITH_ONE, WITH_ALL, ENDED);
-    assert!(rt; told == (0, true, true));
+    assert!(rt; are_same(rt.alloc(), IN_TURN, WITH_ONE, WITH_ALL, 0, ENDED));
     Ok(())
 }
 
@@ -183,15 +131,19 @@ fn worked_rows_are_the_same_with_one_position_and_with_all(rt: HostRuntime) -> R
     Ok(())
 }
 
-#[test]
-fn a_batch_that_is_rolled_back_leaves_no_position(rt: HostRuntime) -> Result<(), Fail> {
-    let told = compared(
-        rt.alloc(),
+fn is_left(alloc: Global) -> bool {
+    are_same(
+        alloc,
         ROLLED_BACK,
         LIMITED_WITH_ONE,
         LIMITED_WITH_ALL,
+        3,
         NOT_APPLIED,
-    );
-    assert!(rt; told == (3, true, true));
+    )
+}
+
+#[test]
+fn a_batch_that_is_rolled_back_leaves_no_position(rt: HostRuntime) -> Result<(), Fail> {
+    assert!(rt; is_left(rt.alloc()));
     Ok(())
 }

@@ -2,6 +2,8 @@
 #![tactic(auto)]
 
 #[cfg(test)]
+mod acts;
+#[cfg(test)]
 mod answering;
 #[cfg(test)]
 mod batches;
@@ -14,7 +16,11 @@ mod capacities;
 #[cfg(test)]
 mod driving;
 #[cfg(test)]
+mod engines;
+#[cfg(test)]
 mod found;
+#[cfg(test)]
+mod keepers;
 #[cfg(test)]
 mod keeping;
 #[cfg(test)]

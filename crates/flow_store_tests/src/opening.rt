@@ -1,27 +1,29 @@
 //! Opening a store in memory, after what a keeper has kept in it, with ample memory.
-use crate::calls::{Call, batch, command, ended, let_go};
-use crate::positions::is_waiting;
+ghost use Rattle.std.specs.Prelude.{◌≤◌};
+
+use crate::acts::{Act, are_so, are_so_in_lives};
+use crate::calls::{Call, Want, commands};
+use crate::keepers::{Cut, closed, tells};
+use crate::positions::{is_told, is_waiting};
 use flow_base::code::Code;
+use flow_base::command::Command;
 use flow_base::event::Wrong;
 use flow_base::fault::Fault;
 use flow_check::language::Language;
-use flow_commit::batch::Batch;
 use flow_commit::keeper::Keeper;
-use flow_machine::decide::decide;
+use flow_machine::decide::decide_all;
 use flow_machine::seats::Seats;
 use flow_programs::kept::Kept;
 use flow_recover::positions::Position;
 use flow_recover::recover::recover;
-use flow_recover::reopen::reopen;
 use flow_tables::tables::Tables;
-use sqlite::{Alter, Connection, MemStore};
+use sqlite::{Alter, Connection};
 use std::alloc::Global;
-use std::string::ToString;
 use std::test::Fail;
 
 /// What is found in a store that is opened.
 #[derive(Clone, Copy, PartialEq, Eq)]
-enum Found {
+pub enum Found {
     /// No position, and a keeper that goes on.
     Nothing,
     /// One position, of this run, which waits on its activity.
@@ -30,6 +32,17 @@ enum Found {
     Mismatch,
     Refused(u8),
     Other,
+}
+
+/// What is done with a store that is opened.
+#[derive(Clone, Copy)]
+pub enum Recovering {
+    /// This is found in it.
+    Finds(Found),
+    /// Its keeper keeps a call.
+    Keeps(Call),
+    /// A transaction that runs on has applied a call.
+    Applies(Call),
 }
 
 fn found_at(list: &[Position], is_halted: bool) -> Found {
@@ -66,259 +79,209 @@ fn refused(fault: &Fault) -> Found {
     Found::Refused(fault.code().number())
 }
 
-/// What is found in a store. It is closed again.
-fn look<S: Alter>(alloc: Global, conn: Connection<S>) -> (Found, Connection<S>) {
-    match recover(alloc, conn, 256) {
-        Ok((keeper, positions)) => {
-            let found = found_at(positions.as_slice(), keeper.is_halted());
-            (found, closed(keeper))
-        }
-        Err((fault, conn)) => (refused(&fault), conn),
+fn is_refused_so(fault: &Fault, recovering: Recovering) -> bool {
+    match recovering {
+        Recovering::Finds(wanted) => refused(fault) == wanted,
+        _ => false,
     }
-}
-
-fn closed<S: Alter>(keeper: Keeper<S>) -> Connection<S> {
-    keeper.into_tables().into_connection()
-}
-
-/// What becomes of a store between two openings.
-#[derive(Clone, Copy)]
-enum Step {
-    /// A keeper that is opened for it keeps a call.
-    Keep(Call),
-    /// A transaction that runs on has applied a call.
-    Apply(Call),
-    /// It is changed by a statement.
-    Change(&'static str),
-    /// It is stopped, and opened anew with what the stop left.
-    Stop,
 }
 
 /// Whether the call is kept, and the store behind it.
-fn keep<S: Alter>(alloc: Global, conn: Connection<S>, batch: Batch) -> (bool, Connection<S>) {
-    match recover(alloc, conn, 1) {
-        Ok((keeper, _)) => {
-            let mut keeper = keeper;
-            let is = ended(keeper.commit(batch)).is_ok();
-            (is, closed(keeper))
+fn kept<S: Alter>(alloc: Global, keeper: Keeper<S>, call: Call) -> (bool, Connection<S>) {
+    let mut keeper = keeper;
+    let is = tells(alloc, &mut keeper, &[(1, call)], Cut::Singly, Want::Kept);
+    (is, closed(keeper))
+}
+
+fn decided<S: Alter>(
+    alloc: Global,
+    tables: &mut Tables<S>,
+    seats: &mut Seats,
+    commands: &[Command],
+) -> bool {
+    let mut programs = Kept::new(alloc, Language);
+    decide_all(alloc, &mut programs, tables, seats, commands).is_ok()
+}
+
+fn decides<S: Alter>(alloc: Global, tables: &mut Tables<S>, commands: &[Command]) -> bool {
+    match Seats::new(alloc, 1) {
+        Ok(seats) => {
+            let mut seats = seats;
+            decided(alloc, tables, &mut seats, commands)
         }
-        Err((_, conn)) => (false, conn),
+        Err(_) => false,
     }
 }
 
-fn keep_call<S: Alter>(alloc: Global, conn: Connection<S>, call: Call) -> (bool, Connection<S>) {
-    match batch(alloc, 1, call) {
-        Some(batch) => keep(alloc, conn, batch),
-        None => (false, conn),
-    }
-}
-
-fn decided<S: Alter>(alloc: Global, tables: &mut Tables<S>, call: Call) -> bool {
-    match command(alloc, call) {
-        Some(command) => {
-            tables.begin().is_ok()
-                && match Seats::new(alloc, 1) {
-                    Ok(mut seats) => decide(
-                        alloc,
-                        &mut Kept::new(alloc, Language),
-                        tables,
-                        &mut seats,
-                        &command,
-                    )
-                    .is_ok(),
-                    Err(_) => false,
-                }
-        }
+fn decides_call<S: Alter>(alloc: Global, tables: &mut Tables<S>, call: Call) -> bool {
+    match &commands(alloc, &[call]) {
+        Some(commands) => decides(alloc, tables, commands.as_slice()),
         None => false,
     }
 }
 
+fn applies<S: Alter>(alloc: Global, tables: &mut Tables<S>, call: Call) -> bool {
+    tables.begin().is_ok() && decides_call(alloc, tables, call)
+}
+
 /// Whether the call is applied, and the store within the transaction.
-fn apply<S: Alter>(alloc: Global, conn: Connection<S>, call: Call) -> (bool, Connection<S>) {
-    match recover(alloc, conn, 2) {
-        Ok((keeper, _)) => {
-            let mut tables = keeper.into_tables();
-            let is = decided(alloc, &mut tables, call);
-            (is, tables.into_connection())
-        }
-        Err((_, conn)) => (false, conn),
-    }
+fn applied<S: Alter>(alloc: Global, tables: Tables<S>, call: Call) -> (bool, Connection<S>) {
+    let mut tables = tables;
+    let is = applies(alloc, &mut tables, call);
+    (is, tables.into_connection())
 }
 
-fn change<S: Alter>(conn: Connection<S>, sql: &str) -> (bool, Connection<S>) {
-    let mut conn = conn;
-    let is = conn.execute_batch(sql).is_ok();
-    (is, conn)
-}
-
-// What a stop leaves of it, opened anew.
-fn stopped(alloc: Global, conn: Connection<MemStore>) -> Option<Connection<MemStore>> {
-    match reopen(alloc, conn.into_store()) {
-        Ok(conn) => Some(conn),
-        Err((_, _)) => None,
-    }
-}
-
-fn where_true<S: Alter + Drop>(answer: (bool, Connection<S>)) -> Option<Connection<S>> {
-    let (is, conn) = answer;
-    if is {
-        Some(conn)
-    } else {
-        let_go(conn);
-        None
-    }
-}
-
-fn take_step(
+fn done<S: Alter>(
     alloc: Global,
-    conn: Connection<MemStore>,
-    step: Step,
-) -> Option<Connection<MemStore>> {
-    match step {
-        Step::Keep(call) => where_true(keep_call(alloc, conn, call)),
-        Step::Apply(call) => where_true(apply(alloc, conn, call)),
-        Step::Change(sql) => where_true(change(conn, sql)),
-        Step::Stop => stopped(alloc, conn),
+    keeper: Keeper<S>,
+    found: Found,
+    recovering: Recovering,
+) -> (bool, Connection<S>) {
+    match recovering {
+        Recovering::Finds(wanted) => (found == wanted, closed(keeper)),
+        Recovering::Keeps(call) => kept(alloc, keeper, call),
+        Recovering::Applies(call) => applied(alloc, keeper.into_tables(), call),
     }
 }
 
-fn behind(
+/// How many positions are kept at most.
+fn most_of(recovering: Recovering) -> usize
+    ensures first { 1 ≤ result }
+    ensures last { result ≤ 4096 }
+{
+    match recovering {
+        Recovering::Finds(_) => 256,
+        Recovering::Keeps(_) => 1,
+        Recovering::Applies(_) => 2,
+    }
+}
+
+/// Whether this is done with a store that is opened, and the store behind it.
+pub fn recovers<S: Alter>(
     alloc: Global,
-    conn: Connection<MemStore>,
-    steps: &[Step],
-) -> Option<Connection<MemStore>> {
-    let mut conn = conn;
-    for step in steps {
-        match take_step(alloc, conn, *step) {
-            Some(next) => conn = next,
-            None => return None,
+    conn: Connection<S>,
+    recovering: Recovering,
+) -> (bool, Connection<S>) {
+    match recover(alloc, conn, most_of(recovering)) {
+        Ok((keeper, positions)) => {
+            let found = found_at(positions.as_slice(), keeper.is_halted());
+            drop(positions);
+            done(alloc, keeper, found, recovering)
         }
-    }
-    Some(conn)
-}
-
-fn look_once<S: Alter + Drop>(alloc: Global, conn: Connection<S>) -> Found {
-    let (found, conn) = look(alloc, conn);
-    let_go(conn);
-    found
-}
-
-/// What is found in a new store behind these steps. None: one of them failed.
-fn look_behind(alloc: Global, steps: &[Step]) -> Option<Found> {
-    match Connection::open_in_memory(alloc) {
-        Ok(conn) => match behind(alloc, conn, steps) {
-            Some(conn) => Some(look_once(alloc, conn)),
-            None => None,
-        },
-        Err(_) => None,
+        Err((fault, conn)) => (is_refused_so(&fault, recovering), conn),
     }
 }
+
+// A keeper that is opened for it keeps a call.
+const REGISTER: Act = Act::Recovers(Recovering::Keeps(Call::Register));
+
+const START: Act = Act::Recovers(Recovering::Keeps(Call::Start));
+
+const START_ANOTHER: Act = Act::Recovers(Recovering::Keeps(Call::StartAnother));
+
+const COMPLETE: Act = Act::Recovers(Recovering::Keeps(Call::Complete));
+
+// A transaction that runs on has applied it.
+const APPLY_COMPLETE: Act = Act::Recovers(Recovering::Applies(Call::Complete));
+
+// What is found.
+const NOTHING: Act = Act::Recovers(Recovering::Finds(Found::Nothing));
+
+const FIRST_WAITS: Act = Act::Recovers(Recovering::Finds(Found::Waiting(1)));
+
+const SECOND_WAITS: Act = Act::Recovers(Recovering::Finds(Found::Waiting(2)));
+
+const EMPTY: &[Act] = &[NOTHING];
 
 #[test]
 fn an_empty_store_has_no_position(rt: HostRuntime) -> Result<(), Fail> {
-    assert!(rt; look_behind(rt.alloc(), &[]) == Some(Found::Nothing));
+    assert!(rt; are_so(rt.alloc(), EMPTY));
     Ok(())
 }
+
+const BEGUN: &[Act] = &[REGISTER, START, FIRST_WAITS];
 
 #[test]
 fn a_run_that_waits_has_a_position(rt: HostRuntime) -> Result<(), Fail> {
-    let steps = [Step::Keep(Call::Register), Step::Keep(Call::Start)];
-    assert!(rt; look_behind(rt.alloc(), &steps) == Some(Found::Waiting(1)));
+    assert!(rt; are_so(rt.alloc(), BEGUN));
     Ok(())
 }
+
+const CLOSED: &[Act] = &[REGISTER, START, COMPLETE, NOTHING];
 
 #[test]
 fn a_closed_run_has_none(rt: HostRuntime) -> Result<(), Fail> {
-    let steps = [
-        Step::Keep(Call::Register),
-        Step::Keep(Call::Start),
-        Step::Keep(Call::Complete),
-    ];
-    assert!(rt; look_behind(rt.alloc(), &steps) == Some(Found::Nothing));
+    assert!(rt; are_so(rt.alloc(), CLOSED));
     Ok(())
 }
+
+const ONE_CLOSED: &[&[Act]] = &[&[REGISTER, START, START_ANOTHER, COMPLETE], &[SECOND_WAITS]];
 
 #[test]
 fn an_open_run_has_one_beside_a_closed_one(rt: HostRuntime) -> Result<(), Fail> {
-    let steps = [
-        Step::Keep(Call::Register),
-        Step::Keep(Call::Start),
-        Step::Keep(Call::StartAnother),
-        Step::Keep(Call::Complete),
-        Step::Stop,
-    ];
-    assert!(rt; look_behind(rt.alloc(), &steps) == Some(Found::Waiting(2)));
+    assert!(rt; are_so_in_lives(rt.alloc(), ONE_CLOSED));
     Ok(())
 }
+
+const STOPPED_WITHIN: &[&[Act]] = &[&[REGISTER, START, APPLY_COMPLETE], &[FIRST_WAITS]];
 
 #[test]
 fn a_stop_within_a_transaction_leaves_the_last_commit(rt: HostRuntime) -> Result<(), Fail> {
-    let steps = [
-        Step::Keep(Call::Register),
-        Step::Keep(Call::Start),
-        Step::Apply(Call::Complete),
-        Step::Stop,
-    ];
-    assert!(rt; look_behind(rt.alloc(), &steps) == Some(Found::Waiting(1)));
+    assert!(rt; are_so_in_lives(rt.alloc(), STOPPED_WITHIN));
     Ok(())
 }
+
+const RUNS_ON: &[Act] = &[REGISTER, START, APPLY_COMPLETE, FIRST_WAITS];
 
 #[test]
 fn a_transaction_that_runs_is_rolled_back(rt: HostRuntime) -> Result<(), Fail> {
-    let steps = [
-        Step::Keep(Call::Register),
-        Step::Keep(Call::Start),
-        Step::Apply(Call::Complete),
-    ];
-    assert!(rt; look_behind(rt.alloc(), &steps) == Some(Found::Waiting(1)));
+    assert!(rt; are_so(rt.alloc(), RUNS_ON));
     Ok(())
 }
 
+const THREE_LIVES: &[&[Act]] = &[&[REGISTER, START], &[COMPLETE], &[NOTHING]];
+
 #[test]
 fn what_was_committed_is_there_after_a_stop(rt: HostRuntime) -> Result<(), Fail> {
-    let steps = [
-        Step::Keep(Call::Register),
-        Step::Keep(Call::Start),
-        Step::Stop,
-        Step::Keep(Call::Complete),
-        Step::Stop,
-    ];
-    assert!(rt; look_behind(rt.alloc(), &steps) == Some(Found::Nothing));
+    assert!(rt; are_so_in_lives(rt.alloc(), THREE_LIVES));
     Ok(())
 }
+
+const OTHER_ARGUMENT: &[Act] = &[
+    REGISTER,
+    START,
+    Act::Changes("UPDATE event SET body = replace(body, 'eur', 'usd') WHERE id = 2"),
+    Act::Recovers(Recovering::Finds(Found::Mismatch)),
+];
 
 // Its rows tell a book, but the program asks for another argument than its second event has.
 #[test]
 fn a_run_that_does_not_replay_is_refused(rt: HostRuntime) -> Result<(), Fail> {
-    let steps = [
-        Step::Keep(Call::Register),
-        Step::Keep(Call::Start),
-        Step::Change("UPDATE event SET body = replace(body, 'eur', 'usd') WHERE id = 2"),
-    ];
-    assert!(rt; look_behind(rt.alloc(), &steps) == Some(Found::Mismatch));
+    assert!(rt; are_so(rt.alloc(), OTHER_ARGUMENT));
     Ok(())
 }
+
+// E83.
+const NO_BOOK: &[Act] = &[
+    REGISTER,
+    START,
+    Act::Changes("DELETE FROM outbox"),
+    Act::Recovers(Recovering::Finds(Found::Refused(83))),
+];
 
 #[test]
 fn rows_that_tell_no_book_are_refused(rt: HostRuntime) -> Result<(), Fail> {
-    let steps = [
-        Step::Keep(Call::Register),
-        Step::Keep(Call::Start),
-        Step::Change("DELETE FROM outbox"),
-    ];
-    assert!(rt; look_behind(rt.alloc(), &steps) == Some(Found::Refused(Code::Damaged.number())));
+    assert!(rt; are_so(rt.alloc(), NO_BOOK));
     Ok(())
 }
 
-fn is_number_told(alloc: Global) -> Option<bool> {
+fn is_number_told(alloc: Global) -> bool {
     let fault = Fault::BadVersion;
-    let is_code = fault.code() == Code::BadVersion;
-    let text = fault.to_string(alloc).ok()?;
-    Some(is_code && text.as_str() == "E82 another format")
+    fault.code() == Code::BadVersion && is_told(alloc, &fault, "E82 another format")
 }
 
 #[test]
 fn a_refusal_tells_its_number(rt: HostRuntime) -> Result<(), Fail> {
-    assert!(rt; is_number_told(rt.alloc()) == Some(true));
+    assert!(rt; is_number_told(rt.alloc()));
     Ok(())
 }

@@ -1,102 +1,83 @@
-//! Positions of small books, with ample memory.
-use crate::calls::{complete, register, start};
-use flow_base::book::{Change, Run, Turn};
+//! Positions of small books that are read from a store, with ample memory.
+use crate::acts::{Act, are_so};
+use crate::calls::{Call, Want};
+use crate::keepers::{Cut, Keeping};
+use flow_base::book::Run;
 use flow_base::code::Code;
-use flow_base::command::Command;
-use flow_base::event::{Input, State, Wrong};
+use flow_base::event::{Event, Input, State, What, Wrong};
 use flow_base::fault::Fault;
-use flow_base::number::{Moment, RunId, TextNo};
+use flow_base::number::{EventId, Moment, RunId, TextNo};
 use flow_base::sequence::Sequence;
-use flow_base::text::{Key, RawText};
+use flow_base::text::Key;
 use flow_base::value::Value;
 use flow_check::language::Language;
-use flow_machine::decide::decide;
-use flow_machine::seats::Seats;
 use flow_programs::kept::Kept;
 use flow_recover::positions::{Position, positions};
 use flow_rows::book::WholeBook;
-use flow_view::lists::Lists;
-use flow_view::view::View;
+use flow_tables::tables::Tables;
+use sqlite::{Alter, Connection};
 use std::alloc::Global;
 use std::string::ToString;
 use std::test::Fail;
 
-fn is_decided(alloc: Global, book: &mut Lists, command: Option<Command>) -> bool {
-    match command {
-        Some(command) => match Seats::new(alloc, 1) {
-            Ok(mut seats) => decide(
-                alloc,
-                &mut Kept::new(alloc, Language),
-                book,
-                &mut seats,
-                &command,
-            )
-            .is_ok(),
-            Err(_) => false,
-        },
-        None => false,
-    }
+/// What is put behind the runs of a book, and seen of its positions.
+#[derive(Clone, Copy)]
+pub enum Case {
+    /// Of an empty book there is none.
+    Empty,
+    /// Each open run has one.
+    Open,
+    /// It is where replay leads.
+    Replayed,
+    /// Two runs that don't replay are put behind, and the first of them is named.
+    Unreplayable,
+    /// A run without a text is put behind, and it is refused.
+    NoText,
 }
 
-// The first of three runs has completed, the others wait.
-fn is_begun(alloc: Global, book: &mut Lists) -> bool {
-    is_decided(alloc, book, register(alloc))
-        && is_decided(alloc, book, start(alloc, "f"))
-        && is_decided(alloc, book, start(alloc, "g"))
-        && is_decided(alloc, book, start(alloc, "h"))
-        && is_decided(alloc, book, complete(1))
-}
-
-fn texts_of(alloc: Global, book: &mut Lists) -> Option<Sequence<RawText>> {
-    let mut texts = Vec::new(alloc);
-    for i in 0..book.text_count().ok()? {
-        texts.push(book.text(TextNo::new(i + 1)?).ok()??).ok()?;
-    }
-    Some(Sequence::from_vec(texts))
-}
-
-fn runs_of(alloc: Global, book: &mut Lists) -> Option<Sequence<Run>> {
-    let mut runs = Vec::new(alloc);
-    for i in 0..book.run_count().ok()? {
-        runs.push(book.run(RunId::new(i + 1)?).ok()??).ok()?;
-    }
-    Some(Sequence::from_vec(runs))
-}
-
-// The book, as it is read when a store is opened.
-fn whole(alloc: Global, book: &mut Lists) -> Option<WholeBook> {
-    let texts = texts_of(alloc, book)?;
-    let runs = runs_of(alloc, book)?;
-    Some(WholeBook { texts, runs })
-}
-
-fn answer(alloc: Global, book: &mut Lists) -> Option<Result<Vec<Position>, Fault>> {
-    let whole = whole(alloc, book)?;
-    Some(positions(alloc, &mut Kept::new(alloc, Language), &whole))
-}
-
-// The first turn of a run, with no command behind the start.
-fn idle_turn(alloc: Global) -> Option<Turn> {
+// The start of a run, with no command behind it.
+fn start(alloc: Global) -> Option<Event> {
+    let id = EventId::new(1)?;
     let at = Moment::new(1000)?;
-    let arguments = Sequence::from_vec(vec![in alloc; Value::Int(7)].ok()?);
-    Some(Turn {
+    let arguments = vec![in alloc; Value::Int(7)].ok()?;
+    Some(Event {
+        id,
         at,
-        input: Input::Started(arguments),
-        commands: Sequence::new(alloc),
+        what: What::Came(Input::Started(Sequence::from_vec(arguments))),
     })
 }
 
-// A run whose text is of this number.
-fn idle_run(alloc: Global, text: u64) -> Option<Change> {
-    let text = TextNo::new(text)?;
-    let flow = Key::new(alloc, "i").ok()?;
-    Some(Change::AddRun(flow, None, text, idle_turn(alloc)?))
+fn history(alloc: Global) -> Option<Sequence<Event>> {
+    let list = vec![in alloc; start(alloc)?].ok()?;
+    Some(Sequence::from_vec(list))
 }
 
-fn is_added(alloc: Global, book: &mut Lists, text: u64) -> bool {
+// A run that has only begun, whose text is of this number.
+fn idle_run(alloc: Global, text: u64) -> Option<Run> {
+    let text = TextNo::new(text)?;
+    let flow = Key::new(alloc, "i").ok()?;
+    let history = history(alloc)?;
+    Some(Run {
+        flow,
+        request: None,
+        text,
+        history,
+        tasks: Sequence::new(alloc),
+    })
+}
+
+fn is_added(alloc: Global, book: &mut WholeBook, text: u64) -> bool {
     match idle_run(alloc, text) {
-        Some(run) => book.put(&run).is_ok(),
+        Some(run) => book.runs.push(run).is_ok(),
         None => false,
+    }
+}
+
+fn are_added(alloc: Global, book: &mut WholeBook, case: Case) -> bool {
+    match case {
+        Case::Empty | Case::Open | Case::Replayed => true,
+        Case::Unreplayable => is_added(alloc, book, 1) && is_added(alloc, book, 1),
+        Case::NoText => is_added(alloc, book, 2),
     }
 }
 
@@ -110,22 +91,7 @@ fn lacks_its_second_event(fault: &Fault, number: u64) -> bool {
     }
 }
 
-fn is_unreplayable(answer: &Option<Result<Vec<Position>, Fault>>, number: u64) -> bool {
-    match answer {
-        Some(Err(fault)) => {
-            lacks_its_second_event(fault, number) && fault.code() == Code::Mismatch
-        }
-        _ => false,
-    }
-}
-
-fn is_refused(answer: &Option<Result<Vec<Position>, Fault>>) -> bool {
-    match answer {
-        Some(Err(fault)) => matches!(fault, Fault::StoreRefused),
-        _ => false,
-    }
-}
-
+/// Whether a run waits on its activity, under the first text.
 pub fn is_waiting(position: &Position, run: u64) -> bool {
     let is_named = position.run.get() == run && position.text.get() == 1;
     match position.tasks.as_slice() {
@@ -134,133 +100,143 @@ pub fn is_waiting(position: &Position, run: u64) -> bool {
     }
 }
 
-fn count(answer: &Option<Result<Vec<Position>, Fault>>) -> Option<usize> {
-    match answer {
-        Some(Ok(list)) => Some(list.len()),
-        _ => None,
+/// Whether the runs with these numbers wait, each on its activity, and no other has a position.
+pub fn are_waiting(list: &[Position], runs: &[u64]) -> bool {
+    let mut are = list.len() == runs.len();
+    for (position, run) in list.iter().zip(runs) {
+        are = are && is_waiting(position, *run);
     }
+    are
 }
 
-fn are_later_two(list: &[Position]) -> bool {
-    match list {
-        [first, second] => is_waiting(first, 2) && is_waiting(second, 3),
-        _ => false,
-    }
-}
-
-fn are_positions(answer: &Option<Result<Vec<Position>, Fault>>) -> bool {
-    match answer {
-        Some(Ok(list)) => are_later_two(list.as_slice()),
-        _ => false,
-    }
-}
-
-// Where the first position stands: whether it is open, its events and its moment.
-fn stands(list: &[Position]) -> Option<(bool, u64, u64)> {
-    let stance = &list.first()?.stance;
-    Some((
-        stance.state() == State::Open,
-        stance.events(),
-        stance.moment().get(),
-    ))
-}
-
-fn is_replayed(answer: &Option<Result<Vec<Position>, Fault>>) -> bool {
-    match answer {
-        Some(Ok(list)) => stands(list.as_slice()) == Some((true, 2, 1000)),
-        _ => false,
-    }
-}
-
-/// What is put into a book, and seen of its positions.
-#[derive(Clone, Copy)]
-enum Case {
-    /// Of an empty book there is none.
-    Empty,
-    /// Each open run has one.
-    Open,
-    /// It is where replay leads.
-    Replayed,
-    /// Two runs that don't replay are put behind, and the first of them is named.
-    Unreplayable,
-    /// A run without a text is put behind, and it is refused.
-    NoText,
-}
-
-fn is_begun_as(alloc: Global, book: &mut Lists, case: Case) -> bool {
-    match case {
-        Case::Empty => true,
-        Case::Open | Case::Replayed => is_begun(alloc, book),
-        Case::Unreplayable => {
-            is_begun(alloc, book) && is_added(alloc, book, 1) && is_added(alloc, book, 1)
+// Whether the first position is open behind two events, at its moment.
+fn is_replayed(list: &[Position]) -> bool {
+    match list.first() {
+        Some(position) => {
+            let stance = &position.stance;
+            stance.state() == State::Open && stance.events() == 2 && stance.moment().get() == 1000
         }
-        Case::NoText => is_begun(alloc, book) && is_added(alloc, book, 2),
+        None => false,
     }
 }
 
-fn is_as(answer: &Option<Result<Vec<Position>, Fault>>, case: Case) -> bool {
+fn are_so_in(list: &[Position], case: Case) -> bool {
     match case {
-        Case::Empty => count(answer) == Some(0),
-        Case::Open => are_positions(answer),
-        Case::Replayed => is_replayed(answer),
-        Case::Unreplayable => is_unreplayable(answer, 4),
-        Case::NoText => is_refused(answer),
+        Case::Empty => list.is_empty(),
+        Case::Open => are_waiting(list, &[2, 3]),
+        Case::Replayed => is_replayed(list),
+        _ => false,
     }
 }
 
-fn is_answered(alloc: Global, book: &mut Lists, case: Case) -> bool {
-    is_as(&answer(alloc, book), case)
+fn is_refused_so(fault: &Fault, case: Case) -> bool {
+    match case {
+        Case::Unreplayable => { lacks_its_second_event(fault, 4) && fault.code() == Code::Mismatch }
+        Case::NoText => matches!(fault, Fault::StoreRefused),
+        _ => false,
+    }
 }
 
-/// The one owner of a book in these tests.
-fn is_so(alloc: Global, case: Case) -> bool {
-    let mut book = Lists::new(alloc);
-    is_begun_as(alloc, &mut book, case) && is_answered(alloc, &mut book, case)
+fn has(alloc: Global, book: &WholeBook, case: Case) -> bool {
+    let mut programs = Kept::new(alloc, Language);
+    match positions(alloc, &mut programs, book) {
+        Ok(list) => are_so_in(list.as_slice(), case),
+        Err(fault) => is_refused_so(&fault, case),
+    }
 }
+
+fn is_so(alloc: Global, book: WholeBook, case: Case) -> bool {
+    let mut book = book;
+    are_added(alloc, &mut book, case) && has(alloc, &book, case)
+}
+
+/// Whether the book of a store has these positions, and the store.
+pub fn has_positions<S: Alter>(
+    alloc: Global,
+    conn: Connection<S>,
+    case: Case,
+) -> (bool, Connection<S>) {
+    match Tables::open(alloc, conn) {
+        Ok((tables, book)) => (is_so(alloc, book, case), tables.into_connection()),
+        Err((_, conn)) => (false, conn),
+    }
+}
+
+// The first of three runs has completed, the others wait.
+const BEGUN: Act = Act::Keeps(Keeping::Commits(
+    &[
+        (1, Call::Register),
+        (2, Call::Start),
+        (3, Call::StartAnother),
+        (4, Call::StartThird),
+        (5, Call::Complete),
+    ],
+    Cut::Singly,
+    Want::Kept,
+));
+
+const EMPTY: &[Act] = &[Act::Has(Case::Empty)];
 
 #[test]
 fn an_empty_book_has_no_position(rt: HostRuntime) -> Result<(), Fail> {
-    assert!(rt; is_so(rt.alloc(), Case::Empty));
+    assert!(rt; are_so(rt.alloc(), EMPTY));
     Ok(())
 }
+
+const OPEN: &[Act] = &[BEGUN, Act::Has(Case::Open)];
 
 #[test]
 fn each_open_run_has_a_position(rt: HostRuntime) -> Result<(), Fail> {
-    assert!(rt; is_so(rt.alloc(), Case::Open));
+    assert!(rt; are_so(rt.alloc(), OPEN));
     Ok(())
 }
+
+const REPLAYED: &[Act] = &[BEGUN, Act::Has(Case::Replayed)];
 
 #[test]
 fn a_position_is_that_of_replay(rt: HostRuntime) -> Result<(), Fail> {
-    assert!(rt; is_so(rt.alloc(), Case::Replayed));
+    assert!(rt; are_so(rt.alloc(), REPLAYED));
     Ok(())
 }
+
+const UNREPLAYABLE: &[Act] = &[BEGUN, Act::Has(Case::Unreplayable)];
 
 #[test]
 fn the_least_run_that_does_not_replay_is_named(rt: HostRuntime) -> Result<(), Fail> {
-    assert!(rt; is_so(rt.alloc(), Case::Unreplayable));
+    assert!(rt; are_so(rt.alloc(), UNREPLAYABLE));
     Ok(())
 }
 
-fn is_mismatch_told(alloc: Global) -> Option<bool> {
-    let run = RunId::new(4)?;
+/// Whether a fault is told so.
+pub fn is_told(alloc: Global, fault: &Fault, wanted: &str) -> bool {
+    match fault.to_string(alloc) {
+        Ok(text) => text.as_str() == wanted,
+        Err(_) => false,
+    }
+}
+
+fn is_mismatch_told(alloc: Global) -> bool {
+    let Some(run) = RunId::new(4) else {
+        return false;
+    };
     let fault = Fault::Mismatch {
         run,
         place: 2,
         name: Wrong::MissingEvent,
     };
-    let text = fault.to_string(alloc).ok()?;
-    Some(text.as_str() == "E68 run 4 doesn't replay: E52 at 2")
+    is_told(alloc, &fault, "E68 run 4 doesn't replay: E52 at 2")
 }
 
 #[test]
 fn a_mismatch_is_told(rt: HostRuntime) -> Result<(), Fail> {
-    assert!(rt; is_mismatch_told(rt.alloc()) == Some(true));
+    assert!(rt; is_mismatch_told(rt.alloc()));
     Ok(())
 }
 
+const NO_TEXT: &[Act] = &[BEGUN, Act::Has(Case::NoText)];
+
 #[test]
 fn a_run_without_a_text_is_refused(rt: HostRuntime) -> Result<(), Fail> {
-    assert!(rt; is_so(rt.alloc(), Case::NoText));
+    assert!(rt; are_so(rt.alloc(), NO_TEXT));
     Ok(())
 }

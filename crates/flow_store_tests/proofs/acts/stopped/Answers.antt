@@ -1,5 +1,5 @@
 use Rattle.std.proofs.Common.{refl, sym, ◌∙◌}
-use Rattle.flow_store_tests.proofs.opening.stopped.Goals as goal
+use Rattle.flow_store_tests.proofs.acts.stopped.Goals as goal
 
 -- A store in memory is always open.
 pub reopen-requires : goal.reopen-requires
