@@ -1,6 +1,6 @@
 -- What becomes of a question.
-use Rattle.std.specs.Prelude.{◌≡◌, ◌⊎◌, IsSome}
-use Rattle.flow_tables.proofs.Names.{AllByRecursion, Holds, was_clean, rest_ended, IsStopped, view_fault, Book, first, Tells as TellsBook, schema, Tables, Held, state, Row, Executes, HasCleanDisk, State, Survives, Error, Ghosts, Bool, IfErr, List, MatchResult, Option, map, true, ℕ, HasEnded, IsAtRest, IsOver, IsRefused, IsStill, tables_in, StoreFault, ViewFault, Err, IfOk, Ok, [], Result, CommitsBy, FirstIs, subst, ◌∙◌, sym, inl, inr, Kind, StopsWith, Changes}
+use Rattle.std.specs.Prelude.{◌≡◌, ◌⊎◌}
+use Rattle.flow_tables.proofs.Names.{AllByRecursion, Holds, was_clean, rest_ended, IsStopped, view_fault, Book, Tells as TellsBook, schema, Tables, Held, state, Row, Executes, HasCleanDisk, State, Survives, Error, Ghosts, Bool, IfErr, List, MatchResult, map, true, ℕ, HasEnded, IsAtRest, IsOver, IsRefused, IsStill, tables_in, StoreFault, ViewFault, Err, IfOk, Ok, [], Result, CommitsBy, FirstIs, subst, ◌∙◌, sym, inl, inr, Kind}
 use Rattle.sqlite.specs.State.{CommitsShowing, IsUnchanged, IsRolledBack}
 use Rattle.sqlite_resolve.specs.Compile.{first as first_statement}
 use Rattle.sqlite.specs.Query.{Query, IsAnswer}
@@ -8,10 +8,8 @@ use Rattle.sqlite.specs.Program.{overlay}
 use Rattle.flow_view.specs.declared.fault.ViewFault.TheVariants as view
 use Rattle.flow_tables.specs.declared.fault.StoreFault.TheVariants.{NoMemory, Refused}
 use Rattle.flow_tables.specs.Asking.{IsAsked, IsValue, IsRecalled, IsChanged, StopsAsk, AreAsked}
-use Rattle.flow_sql.specs.Meaning.{IsRead, IsText, Asks, IsReadSo, Alters, IsRowChange, IsDeclined}
+use Rattle.flow_sql.specs.Meaning.{IsRead, IsText, Asks, IsReadSo, Alters, IsRowChange}
 use Rattle.flow_sql.specs.Layout.{query_of, read_sql, write_sql}
-use Rattle.flow_sql.specs.Coming.{IsFull}
-use Rattle.sqlite_disk.specs.Disk.{MoreFaults}
 use Rattle.flow_sql.specs.States.{IsReading}
 use Rattle.flow_tables.specs.Reads.{Tells, IsReadFault}
 use Rattle.flow_sql.specs.Stored.{AreUtf8, AreReadAs}
