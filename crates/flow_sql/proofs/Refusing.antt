@@ -2,7 +2,7 @@
 use Rattle.sqlite_trees.specs.declared.error.StoreError.TheVariants as store
 use Rattle.sqlite.specs.Command.TheVariants as command
 use Rattle.flow_sql.proofs.Names.{schema, IsRead, write_takes, IsPlain, command_of, timed, Command, Does, Database, Row, overlay, Query, Executes, RunsCommand, State, mode_of, shows_rows, text_of, Trees, Error, Compiled, IsTrue, List, false, true, ℕ, [], refl, None}
-use Rattle.flow_sql.proofs.Names.{Err, length, Some, reads_listing, Fails, IsMisplaced, sym, ap, ◌∙◌, subst, inl, inr, true≢false, append-nil, Schema, IsDeclined, IsOurRead, IsOurWrite, IsWrite, MoreFaults, OutOfMemory, QueryOverflows, RefusesToRead, SqliteFailure}
+use Rattle.flow_sql.proofs.Names.{Err, length, Some, reads_listing, Fails, IsMisplaced, sym, ap, ◌∙◌, subst, inl, inr, true≢false, append-nil, Schema, IsDeclined, Read, read_sql, query_of, Write, write_sql, IsWrite, MoreFaults, OutOfMemory, QueryOverflows, RefusesToRead, SqliteFailure}
 use Rattle.flow_sql.proofs.Names.{accepts_program, read_takes, IsSome, Any, ◌≡◌, ◌⊎◌, ◌≢◌, Begin, Commit, Rollback, Release, RollbackTo}
 use Rattle.sqlite.specs.Listing.{understood, IsSourceOf}
 use Rattle.sqlite.specs.State.{FailsToQuery, IsNotRun, IsNoStatement, ExecutesIn, IsStatement}
@@ -13,13 +13,17 @@ pub never_sums : (rows : List Row) → ⊥ ⊎ Any (λ r. ⊥) rows → ⊥
 never_sums rows (inl none) = none
 never_sums rows (inr it) = it.4
 
+pub unsummed : (r : Read) (db : Trees) (params : Row) → ¬ QueryOverflows (query_of r) db params
+unsummed Read.all_texts db params = never_sums _
+unsummed _ db params = never_sums _
+
 ---- Our texts are whole, and take so many values
 
-pub whole_read : (sql : List ℕ) (params : Row) → IsOurRead sql params → IsWhole sql (length params) (understood schema sql)
-whole_read sql params it = subst (λ n. IsWhole sql n (understood schema sql)) it.2 (subst (λ s. IsWhole s (read_takes it.0) (understood schema s)) it.1 (read_whole it.0))
+pub whole_read : (r : Read) (params : Row) → read_takes r ≡ length params → IsWhole (read_sql r) (length params) (understood schema (read_sql r))
+whole_read r params takes = subst (λ n. IsWhole (read_sql r) n (understood schema (read_sql r))) takes (read_whole r)
 
-pub whole_write : (sql : List ℕ) (params : Row) → IsOurWrite sql params → IsWhole sql (length params) (understood schema sql)
-whole_write sql params it = subst (λ n. IsWhole sql n (understood schema sql)) it.2 (subst (λ s. IsWhole s (write_takes it.0) (understood schema s)) it.1 (is_write it.0).1)
+pub whole_write : (w : Write) (params : Row) → write_takes w ≡ length params → IsWhole (write_sql w) (length params) (understood schema (write_sql w))
+whole_write w params takes = subst (λ n. IsWhole (write_sql w) n (understood schema (write_sql w))) takes (is_write w).1
 
 ---- Why one is refused
 

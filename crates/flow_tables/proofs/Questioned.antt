@@ -1,6 +1,6 @@
 -- What becomes of a question.
-use Rattle.std.specs.Prelude.{◌≡◌, ◌⊎◌, IsSome}
-use Rattle.flow_tables.proofs.Names.{Holds, was_clean, rest_ended, IsStopped, view_fault, Book, first, Tells as TellsBook, schema, Tables, Held, state, Row, Executes, HasCleanDisk, State, Survives, Error, Ghosts, Bool, IfErr, List, MatchResult, Option, map, true, ℕ, HasEnded, IsAtRest, IsOver, IsRefused, IsStill, tables_in, StoreFault, ViewFault, Err, IfOk, Ok, [], Result, CommitsBy, FirstIs, subst, ◌∙◌, sym, inl, inr, Kind, StopsWith, Changes}
+use Rattle.std.specs.Prelude.{◌≡◌, ◌⊎◌}
+use Rattle.flow_tables.proofs.Names.{AllByRecursion, Holds, was_clean, rest_ended, IsStopped, view_fault, Book, Tells as TellsBook, schema, Tables, Held, state, Row, Executes, HasCleanDisk, State, Survives, Error, Ghosts, Bool, IfErr, List, MatchResult, map, true, ℕ, HasEnded, IsAtRest, IsOver, IsRefused, IsStill, tables_in, StoreFault, ViewFault, Err, IfOk, Ok, [], Result, CommitsBy, FirstIs, subst, ◌∙◌, sym, inl, inr, Kind}
 use Rattle.sqlite.specs.State.{CommitsShowing, IsUnchanged, IsRolledBack}
 use Rattle.sqlite_resolve.specs.Compile.{first as first_statement}
 use Rattle.sqlite.specs.Query.{Query, IsAnswer}
@@ -8,17 +8,18 @@ use Rattle.sqlite.specs.Program.{overlay}
 use Rattle.flow_view.specs.declared.fault.ViewFault.TheVariants as view
 use Rattle.flow_tables.specs.declared.fault.StoreFault.TheVariants.{NoMemory, Refused}
 use Rattle.flow_tables.specs.Asking.{IsAsked, IsValue, IsRecalled, IsChanged, StopsAsk, AreAsked}
-use Rattle.flow_sql.specs.Meaning.{IsRead, Asks, IsQuestion, Alters, IsRowChange, IsDeclined}
-use Rattle.flow_sql.specs.Coming.{IsFull}
-use Rattle.sqlite_disk.specs.Disk.{MoreFaults}
+use Rattle.flow_sql.specs.Meaning.{IsRead, IsText, Asks, IsReadSo, Alters, IsRowChange}
+use Rattle.flow_sql.specs.Layout.{query_of, read_sql, write_sql}
 use Rattle.flow_sql.specs.States.{IsReading}
 use Rattle.flow_tables.specs.Reads.{Tells, IsReadFault}
-use Rattle.flow_sql.specs.Stored.{AreUtf8}
+use Rattle.flow_sql.specs.Stored.{AreUtf8, AreReadAs}
 use Rattle.flow_tables.proofs.Misreading.{never_misread}
 use Rattle.flow_sql.proofs.Leaves.{error_refused, left_refused}
 use Rattle.flow_sql.proofs.Transactions.{write_survives}
 use Rattle.flow_tables.proofs.Stopping.{read_stopped, change_stopped}
-use Rattle.flow_sql.proofs.Refusing.{whole_read, whole_write, question_refused, change_refused}
+use Rattle.flow_sql.proofs.Texts.{is_read, is_write, writes, write_of}
+use Rattle.flow_sql.proofs.Readable.{are_readable}
+use Rattle.flow_sql.proofs.Refusing.{unsummed, whole_read, whole_write, question_refused, change_refused}
 use Rattle.flow_sql.proofs.Reading.{answer, still}
 use Rattle.std.proofs.lemmas.Result.{MatchResult-weaker}
 use Rattle.flow_sql.proofs.Compiling.{commits_none, failed, answered}
@@ -48,28 +49,38 @@ module _ (sql : List ℕ) (q : Query) (names : List (List ℕ)) (it : IsRead sql
   reads_what said items P found (Ok v) ok err = (still sql q names it params old new inside over ok.0 ok.1, subst P (sym ok.2) (found ok.0 (answer sql q names it params old new over.now ok.0 ok.1)))
   reads_what said items P found (Err f) ok err = left_refused old new inside over (fault_leaves kinds sql it.reading params old new f err)
 
-module _ {Q A : Type 0} (said : Row → A) (kinds : List Kind) (asks : Q → Asks A) (it : IsQuestion said kinds asks) (q : Q) (old new : State) where
-  pub asked : {V : Type 0} (items : V → List A) (r : Result V StoreFault) → (HasCleanDisk new → IfOk r (λ v. Tells said (asks q).sql (asks q).params old new (items v)))
-      → (HasCleanDisk new → IfErr r (IsReadFault kinds (asks q).sql (asks q).params old new)) → Survives old new (CommitsShowing (asks q).sql (asks q).params old) → IsAsked (asks q).sql (asks q).params kinds old new r (λ t v. (asks q).tells t (items v))
+module _ {A : Type 0} (asks : Asks A) (said : Row → A) (kinds : List Kind) (so : IsReadSo asks said kinds) (old new : State) where
+  abbrev sql : List ℕ
+  sql = read_sql asks.read
+
+  is : IsRead sql (query_of asks.read) (is_read asks.read).0
+  is = (is_read asks.read).1
+
+  pub asked : {V : Type 0} (items : V → List A) (r : Result V StoreFault) → (HasCleanDisk new → IfOk r (λ v. Tells said sql asks.params old new (items v)))
+      → (HasCleanDisk new → IfErr r (IsReadFault kinds sql asks.params old new)) → Survives old new (CommitsShowing sql asks.params old) → IsAsked sql asks.params kinds old new r (λ t v. asks.tells t (items v))
   asked {V} items r ok err h = record {
     reads = λ inside was clean.
         let over = was (was_clean old new _ h clean) in
-        reads_what (asks q).sql it.query it.names (it.is q) (asks q).params kinds old new inside over said items ((asks q).tells (tables_in old.now.trees)) (λ rows a. it.found q old.now.trees over.now.ours rows a) r (ok clean) (err clean);
+        reads_what sql (query_of asks.read) (is_read asks.read).0 is asks.params kinds old new inside over said items (asks.tells (tables_in old.now.trees))
+        (λ rows a. subst (λ (f : Row → A). asks.tells (tables_in old.now.trees) (map f rows)) so.0 (asks.found old.now.trees over.now.ours rows a)) r (ok clean) (err clean);
     clean = λ clean. was_clean old new _ h clean;
     cause = err;
     stops = λ inside was clean. stops_so inside (was (was_clean old new _ h clean)) r (err clean);
-    ended = λ clean rest. read_rests kinds (asks q).sql (it.is q).reading (asks q).params old new said items r (ok clean) (err clean) rest;
-    survives = commits_none (asks q).sql (it.is q).reading (asks q).params old new h;
+    ended = λ clean rest. read_rests kinds sql is.reading asks.params old new said items r (ok clean) (err clean) rest;
+    survives = commits_none sql is.reading asks.params old new h;
   }
     where
-      stops_so : (inside : Bool) → IsOver inside old → (r : Result V StoreFault) → IfErr r (IsReadFault kinds (asks q).sql (asks q).params old new) → IfErr r (StopsAsk inside old new)
+      stops_so : (inside : Bool) → IsOver inside old → (r : Result V StoreFault) → IfErr r (IsReadFault kinds sql asks.params old new) → IfErr r (StopsAsk inside old new)
       stops_so inside over (Ok v) h = tt
       stops_so inside over (Err (NoMemory _)) h = tt
       stops_so inside over (Err (Refused e)) (inl fails) =
-          inl (question_refused old new e fails.0 over.is_open over.now.laid_out (asks q).sql it.query it.names (it.is q) (asks q).params (whole_read (asks q).sql (asks q).params (it.listed q)) (it.typed q) (it.summed q) fails.1)
+          inl (question_refused old new e fails.0 over.is_open over.now.laid_out sql (query_of asks.read) (is_read asks.read).0 is asks.params (whole_read asks.read asks.params asks.fits.0) asks.fits.1 (λ db. unsummed asks.read db asks.params) fails.1)
       stops_so inside over (Err (Refused e)) (inr rows) =
-          let shown = answer (asks q).sql it.query it.names (it.is q) (asks q).params old new over.now rows.0 rows.1 in
-          inr (still (asks q).sql it.query it.names (it.is q) (asks q).params old new inside over rows.0 rows.1, λ utf8. never_misread kinds rows.0 e (it.readable q old.now.trees over.now.ours utf8 rows.0 shown) rows.2)
+          let shown = answer sql (query_of asks.read) (is_read asks.read).0 is asks.params old new over.now rows.0 rows.1 in
+          inr (
+            still sql (query_of asks.read) (is_read asks.read).0 is asks.params old new inside over rows.0 rows.1,
+            λ utf8. never_misread kinds rows.0 e (subst (λ ks. AllByRecursion (AreReadAs ks) rows.0) so.1 (are_readable old.now.trees over.now.ours utf8 asks.params rows.0 asks.read shown)) rows.2,
+          )
 
 ---- A value of the book
 
@@ -106,26 +117,32 @@ IsUncounted (Ok count) (Ok done) = Unit {0}
 IsUncounted (Err f) (Err e) = f ≡ e
 IsUncounted _ _ = ⊥
 
-module _ {S : Type 0} (g : Ghosts S) (does : Alters) (old new : Held S) (it : IsRowChange g does) (keeps : (t : Tables) → AreUtf8 t → AreUtf8 (does.after t)) (h : Survives (state g old) (state g new) (CommitsBy does.sql does.params (state g old))) where
-  abbrev Ran : Result ℕ Error → Type 0
-  Ran r = Executes does.sql does.params (state g old) (state g new) r
+module _ {S : Type 0} (g : Ghosts S) (does : Alters) (sure : does.sure) (old new : Held S) (h : Survives (state g old) (state g new) (CommitsBy (write_sql does.write) does.params (state g old))) where
+  it : IsRowChange does.write does.params does.fits does.welcome does.after
+  it = does.means sure
 
-  pub changed : (r : Result ℕ Error) → (HasCleanDisk (state g new) → Executes does.sql does.params (state g old) (state g new) r) → (x : Result Unit Error) → IsUncounted r x → IsChanged g does.sql does.params old new x does.fits does.welcome does.after
+  text : IsText (write_sql does.write) (write_of does.write)
+  text = (is_write does.write).0
+
+  abbrev Ran : Result ℕ Error → Type 0
+  Ran r = Executes (write_sql does.write) does.params (state g old) (state g new) r
+
+  pub changed : (r : Result ℕ Error) → (HasCleanDisk (state g new) → Executes (write_sql does.write) does.params (state g old) (state g new) r) → (x : Result Unit Error) → IsUncounted r x → IsChanged g (write_sql does.write) does.params old new x does.fits does.welcome does.after
   changed r ran x same = record {
     put = λ was fits clean. MatchResult-weaker x (did r (ran clean) x same)
         (λ _ ran.
-        let done = it.put old new ran.0 (over was clean) fits ran.1 in
-        record { over = done.over; tables = done.tables; committed = done.committed; utf8 = λ u. subst AreUtf8 (sym done.tables) (keeps (tables_in (state g old).now.trees) u) })
-        (λ e ran. error_refused (state g old) (state g new) does.sql does.params e true (over was clean) ran);
+        let done = it.put (state g old) (state g new) ran.0 (over was clean) fits ran.1 in
+        record { over = done.over; tables = done.tables; committed = done.committed; utf8 = λ u. subst AreUtf8 (sym done.tables) (it.utf8 (tables_in (state g old).now.trees) u) })
+        (λ e ran. error_refused (state g old) (state g new) (write_sql does.write) does.params e true (over was clean) ran);
     clean = λ clean. was_clean (state g old) (state g new) _ h clean;
     ran = λ clean. MatchResult-weaker x (did r (ran clean) x same) (λ _ _. tt) (λ e ran. ran);
     cause = λ was welcome clean. MatchResult-weaker x (did r (ran clean) x same) (λ _ _. tt) (λ e ran other.
         let over = over was clean in
-        change_stopped g old new over (elim (change_refused (state g old) (state g new) e other over.is_open schema over.now.laid_out does.sql does.params it.command it.is it.writes it.plain (whole_write does.sql does.params it.listed) ran) [
+        change_stopped g old new over (elim (change_refused (state g old) (state g new) e other over.is_open schema over.now.laid_out (write_sql does.write) does.params (write_of does.write) text.is (writes does.write) text.plain (whole_write does.write does.params it.takes) ran) [
           | inl more ↦ inl more
-          | inr declined ↦ inr (it.taken old over welcome declined)
+          | inr declined ↦ inr (it.taken (state g old) over welcome declined)
         ]));
-    survives = λ was. write_survives does.sql it.command it.is it.writes (state g old) (state g new) does.params was h;
+    survives = λ was. write_survives (write_sql does.write) (write_of does.write) text.is (writes does.write) (state g old) (state g new) does.params was h;
   }
     where
       over : Holds true (state g old) → HasCleanDisk (state g new) → IsOver true (state g old)

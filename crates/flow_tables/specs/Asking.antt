@@ -3,8 +3,7 @@ use Rattle.std.specs.Prelude.{◌≡◌, ◌⊎◌}
 use Rattle.flow_tables.specs.Names.{Book, Change, Refusal, first as list_first, Tables, Held, state, Row, Executes, HasCleanDisk, State, Survives, Error, Ghosts, Bool, IfErr, List, MatchResult, Option, true, ℕ, Kind, Changes, HasEnded, Holds, IsAtRest, IsRefused, IsStill, tables_in, StoreFault, ViewFault, Err, Ok, Result, IsSome}
 use Rattle.sqlite_disk.specs.Disk.{MoreFaults}
 use Rattle.flow_view.specs.declared.fault.ViewFault.TheVariants as view
-use Rattle.flow_sql.specs.Meaning.{Alters, IsRowChange}
-use Rattle.flow_sql.specs.Stored.{AreUtf8, HasOddText}
+use Rattle.flow_sql.specs.Stored.{HasOddText}
 use Rattle.flow_tables.specs.declared.fault.StoreFault.TheVariants.{NoMemory, Refused}
 use Rattle.flow_tables.specs.Reads.{IsReadFault}
 use Rattle.flow_tables.specs.Faults.{IsStopped, StopsWith, Because}
@@ -50,11 +49,6 @@ pub record IsRecalled {S A : Type 0} (g : Ghosts S) (old new : Held S) (result :
   pub survives : Survives (state g old) (state g new) (λ _. ⊥)
 
 ---- Changes
-
--- What the statement of a change means, and that it leaves texts UTF-8 that were.
-pub record MeansChange {S : Type 0} (g : Ghosts S) (change : Alters) : Type 0 where
-  pub rows : IsRowChange g change
-  pub utf8 : (t : Tables) → AreUtf8 t → AreUtf8 (change.after t)
 
 -- What becomes of a change of rows, within a transaction: the tables are changed so, or it was refused, and the transaction may
 -- have ended. Nothing is committed.

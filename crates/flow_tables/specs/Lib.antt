@@ -12,3 +12,4 @@ pub mod Puts
 pub mod Known
 pub mod Owned
 pub mod Asking
+pub mod Asked

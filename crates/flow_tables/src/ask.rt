@@ -1,10 +1,10 @@
 //! Questions to the tables and changes of their rows, each one statement. One that is refused has changed nothing, or the
 //! transaction has ended.
-ghost use Rattle.flow_tables.specs.Names.{Book, Tells as TellsBook, Tables, state, Executes, HasCleanDisk, Survives, IfErr, CommitsBy, Shown, FailsToQuery, IfOk};
+ghost use Rattle.flow_tables.specs.Names.{Book, Tells as TellsBook, Tables, read_sql, write_sql, state, Executes, HasCleanDisk, Survives, IfErr, CommitsBy, Shown, FailsToQuery, IfOk};
 ghost use Rattle.sqlite.specs.State.{CommitsShowing};
 ghost use Rattle.flow_tables.specs.Reads.{Tells, IsReadFault};
-ghost use Rattle.flow_tables.specs.Asking.{IsAsked, IsFirst, IsValue, IsRecalled, MeansChange, IsChanged};
-ghost use Rattle.flow_sql.specs.Meaning.{Asks, IsQuestion, Alters};
+ghost use Rattle.flow_tables.specs.Asking.{IsAsked, IsFirst, IsValue, IsRecalled, IsChanged};
+ghost use Rattle.flow_sql.specs.Meaning.{Asks, IsReadSo, Alters};
 
 use crate::fault::{StoreFault, view_fault};
 use crate::questions::first_of;
@@ -21,11 +21,10 @@ pub trait Question: Sized {
     ghost asks: { Self → Asks Self.Item };
 
     fn send<S: Alter>(&self, conn: &mut Connection<S>) -> Result<Vec<Row>, Error>
-        ensures ok { HasCleanDisk (state S.Store conn.new) → IfOk result (λ rows. Shown (asks self.now).sql (asks self.now).params (state S.Store conn.old) (state S.Store conn.new) rows.items) }
-        ensures err { HasCleanDisk (state S.Store conn.new) → IfErr result (FailsToQuery (asks self.now).sql (asks self.now).params (state S.Store conn.old) (state S.Store conn.new)) }
-        ensures survives { Survives (state S.Store conn.old) (state S.Store conn.new) (CommitsShowing (asks self.now).sql (asks self.now).params (state S.Store conn.old)) };
-
-    ghost means: { IsQuestion Self.Item.said Self.Item.kinds asks };
+        ensures ok { HasCleanDisk (state S.Store conn.new) → IfOk result (λ rows. Shown (read_sql (asks self.now).read) (asks self.now).params (state S.Store conn.old) (state S.Store conn.new) rows.items) }
+        ensures err { HasCleanDisk (state S.Store conn.new) → IfErr result (FailsToQuery (read_sql (asks self.now).read) (asks self.now).params (state S.Store conn.old) (state S.Store conn.new)) }
+        ensures survives { Survives (state S.Store conn.old) (state S.Store conn.new) (CommitsShowing (read_sql (asks self.now).read) (asks self.now).params (state S.Store conn.old)) }
+        ensures so { IsReadSo (asks self.now) Self.Item.said Self.Item.kinds };
 }
 
 /// A question whose answer is a value of the book.
@@ -57,9 +56,10 @@ fn ask_rows<Q: Question, S: Alter>(
     conn: &mut Connection<S>,
     question: &Q,
 ) -> Result<Vec<Q::Item>, StoreFault>
-    ensures said { HasCleanDisk (state S.Store conn.new) → IfOk result (λ v. Tells Q.Item.said (Q.asks question.now).sql (Q.asks question.now).params (state S.Store conn.old) (state S.Store conn.new) v.items) }
-    ensures cause { HasCleanDisk (state S.Store conn.new) → IfErr result (IsReadFault Q.Item.kinds (Q.asks question.now).sql (Q.asks question.now).params (state S.Store conn.old) (state S.Store conn.new)) }
-    ensures survives { Survives (state S.Store conn.old) (state S.Store conn.new) (CommitsShowing (Q.asks question.now).sql (Q.asks question.now).params (state S.Store conn.old)) }
+    ensures said { HasCleanDisk (state S.Store conn.new) → IfOk result (λ v. Tells Q.Item.said (read_sql (Q.asks question.now).read) (Q.asks question.now).params (state S.Store conn.old) (state S.Store conn.new) v.items) }
+    ensures cause { HasCleanDisk (state S.Store conn.new) → IfErr result (IsReadFault Q.Item.kinds (read_sql (Q.asks question.now).read) (Q.asks question.now).params (state S.Store conn.old) (state S.Store conn.new)) }
+    ensures survives { Survives (state S.Store conn.old) (state S.Store conn.new) (CommitsShowing (read_sql (Q.asks question.now).read) (Q.asks question.now).params (state S.Store conn.old)) }
+    ensures so { IsReadSo (Q.asks question.now) Q.Item.said Q.Item.kinds }
 {
     match question.send(conn) {
         Ok(rows) => read_all(alloc, rows.as_slice()),
@@ -73,7 +73,7 @@ pub fn ask<Q: Question, S: Alter>(
     conn: &mut Connection<S>,
     question: &Q,
 ) -> Result<Vec<Q::Item>, StoreFault>
-    ensures { IsAsked (Q.asks question.now).sql (Q.asks question.now).params Q.Item.kinds (state S.Store conn.old) (state S.Store conn.new) result (λ t v. (Q.asks question.now).tells t v.items) }
+    ensures { IsAsked (read_sql (Q.asks question.now).read) (Q.asks question.now).params Q.Item.kinds (state S.Store conn.old) (state S.Store conn.new) result (λ t v. (Q.asks question.now).tells t v.items) }
 {
     ask_rows(alloc, conn, question)
 }
@@ -84,7 +84,7 @@ pub fn ask_first<Q: Question, S: Alter>(
     conn: &mut Connection<S>,
     question: &Q,
 ) -> Result<Option<Q::Item>, StoreFault>
-    ensures { IsAsked (Q.asks question.now).sql (Q.asks question.now).params Q.Item.kinds (state S.Store conn.old) (state S.Store conn.new) result (IsFirst (Q.asks question.now).tells) }
+    ensures { IsAsked (read_sql (Q.asks question.now).read) (Q.asks question.now).params Q.Item.kinds (state S.Store conn.old) (state S.Store conn.new) result (IsFirst (Q.asks question.now).tells) }
 {
     match ask(alloc, conn, question) {
         Ok(items) => Ok(first_of(items)),
@@ -118,14 +118,14 @@ pub trait RowChange: Sized {
     ghost does: { Self → Alters };
 
     fn send<S: Alter>(&self, conn: &mut Connection<S>) -> Result<usize, Error>
-        ensures runs { HasCleanDisk (state S.Store conn.new) → Executes (does self.now).sql (does self.now).params (state S.Store conn.old) (state S.Store conn.new) result }
-        ensures survives { Survives (state S.Store conn.old) (state S.Store conn.new) (CommitsBy (does self.now).sql (does self.now).params (state S.Store conn.old)) }
-        ensures means { MeansChange S.Store (does self.now) };
+        ensures runs { HasCleanDisk (state S.Store conn.new) → Executes (write_sql (does self.now).write) (does self.now).params (state S.Store conn.old) (state S.Store conn.new) result }
+        ensures survives { Survives (state S.Store conn.old) (state S.Store conn.new) (CommitsBy (write_sql (does self.now).write) (does self.now).params (state S.Store conn.old)) }
+        ensures sure { (does self.now).sure };
 }
 
 /// Changes the rows so.
 pub fn change<C: RowChange, S: Alter>(conn: &mut Connection<S>, change: &C) -> Result<(), Error>
-    ensures { IsChanged S.Store (C.does change.now).sql (C.does change.now).params conn.old conn.new result (C.does change.now).fits (C.does change.now).welcome (C.does change.now).after }
+    ensures { IsChanged S.Store (write_sql (C.does change.now).write) (C.does change.now).params conn.old conn.new result (C.does change.now).fits (C.does change.now).welcome (C.does change.now).after }
 {
     match change.send(conn) {
         Ok(_) => Ok(()),

@@ -12,7 +12,9 @@ use crate::book_changes::is_marked;
 use crate::first_due::{LeastDue, NextMoment, moment_of};
 use crate::one_event::OneEvent;
 use crate::one_run::OneRun;
-use crate::questions::{LastRun, NewestEvent, OpenRun, Requested, TextBody};
+use crate::questions::{
+    Count, LastRun, LastText, NewestEvent, OpenRun, Requested, RunOf, TextBody,
+};
 use flow_base::book::{Due, Run, copy_tasks};
 use flow_base::event::Event;
 use flow_base::number::{Moment, RunId};
@@ -92,21 +94,21 @@ pub(crate) trait ByKey: BookRead {
         ensures { IfSome result (λ v. (b : Book) → Serves maps.now b → v ≡ Self.value self.now b) };
 }
 
-impl ByKey for Of<Requested<'_>> {
+impl ByKey for Of<RunOf<'_>> {
     fn find(&self, maps: &Maps) -> Option<Option<RunId>> {
-        maps.requested(self.0.0)
+        match &self.0 {
+            Requested(request) => maps.requested(request),
+            OpenRun(flow) => maps.open_run(flow),
+        }
     }
 }
 
-impl ByKey for Of<OpenRun<'_>> {
-    fn find(&self, maps: &Maps) -> Option<Option<RunId>> {
-        maps.open_run(self.0.0)
-    }
-}
-
-impl ByKey for Of<LastRun> {
+impl ByKey for Of<Count> {
     fn find(&self, maps: &Maps) -> Option<u64> {
-        maps.run_count()
+        match &self.0 {
+            LastText => None,
+            LastRun => maps.run_count(),
+        }
     }
 }
 
