@@ -1,13 +1,9 @@
 -- What stands behind a refused statement.
-use Rattle.std.specs.Prelude.{◌≡◌, ◌∷◌, ◌+◌, ◌≤◌, ◌^◌, ◌<◌, ◌↔◌}
-use Rattle.flow_tables.proofs.Names.{Turn, Cmd, Event, Came, Bool, IfErr, IsTrue, List, false, ℕ, Refusal, length, Result, Asked, subst, ◌∙◌, sym, inl, inr, arith, Because, true≢false, IsUnfitTurn, AreUnfit, IsUnfitInput, AreWithin, ap}
+use Rattle.std.specs.Prelude.{◌≡◌, ◌∷◌, ◌+◌, ◌≤◌}
+use Rattle.flow_tables.proofs.Names.{Turn, Cmd, Event, Came, IfErr, List, ℕ, Refusal, length, Result, Asked, subst, sym, inl, inr, arith, Because, IsUnfitTurn, AreUnfit, IsUnfitInput, AreWithin, ap}
 use Rattle.flow_events.specs.Row.{IsCommandWithinLimits, IsWithinLimits}
 use Rattle.std.proofs.lemmas.Result.{IfErr-weaker}
 use Rattle.flow_tables.specs.declared.fault.Refusal.TheVariants.{NoMemory, Stopped, Unfit}
-
--- an event that the test refuses is past the limits of a row
-pub past_limits : (e : Event) (fits : Bool) → (IsTrue fits ↔ IsWithinLimits e) → fits ≡ false → IsWithinLimits e → ⊥
-past_limits e fits so past within = true≢false (sym (so.1 within) ∙ past)
 
 ---- Commands within the limits
 
@@ -29,19 +25,13 @@ because_on Unfit h stop unfit = unfit h
 pub all_because : {A W V U T : Type 0} (r : Result A Refusal) → IfErr r (λ f. Because f W U) → (W → V) → (U → T) → IfErr r (λ f. Because f V T)
 all_because {A} {W} {V} {U} {T} r h stop unfit = IfErr-weaker r (λ f. Because f W U) (λ f. Because f V T) (λ f why. because_on f why stop unfit) h
 
--- A number past the last one, or an event past its limits.
+-- An event past its limits.
 module _ (from : ℕ) (cs : List Cmd) where
-  pub asked_unfit : (i : ℕ) → i < length cs → (1 ≤ from + i → 2 ^ 63 ≤ from + i) → 1 ≤ from → AreUnfit from cs
-  asked_unfit i within past one = let it = past (omega (arith, one)) in inr (omega (arith, within, it))
-
   pub event_unfit : (at k : ℕ) (rest more : List Cmd) (c : Cmd) (e : Event) → rest ≡ c ∷ more → e ≡ record { id = k; at = at; what = Asked c } → (AreWithin cs → AreWithin rest) → (IsWithinLimits e → ⊥) → AreUnfit from cs
   event_unfit at k rest more c e is event left past = inl (λ all. past (subst IsWithinLimits (sym event) (first_within rest more c is (left all))))
 
   -- the same of an input and commands behind it
   module _ (input : Event) (c : Cmd) (rest : List Cmd) (is : cs ≡ c ∷ rest) where
-    pub first_unfit : from ≡ input.id + 1 → (1 ≤ from → 2 ^ 63 ≤ from) → IsUnfitInput input from cs
-    first_unfit counts past = let it = past (omega (arith, counts)) in inr (omega (arith, it))
-
     pub two_unfit : (e : Event) → e ≡ record { id = from; at = input.at; what = Asked c } → (IsWithinLimits input → IsWithinLimits e → ⊥) → IsUnfitInput input from cs
     two_unfit e event past = inl (λ within all. past within (subst IsWithinLimits (sym event) (first_within cs rest c is all)))
 

@@ -1,13 +1,9 @@
 use Rattle.flow_tables.proofs.Names.{state, tables_in, inl, inr}
 use Rattle.flow_rows.proofs.Behind.{runs_short}
-use Rattle.std.proofs.lemmas.Result.{MatchResult-weaker}
 use Rattle.flow_base.specs.declared.book.Change.TheVariants.{SetText}
 use Rattle.flow_tables.proofs.Wholes.{text_or_past, unwelcome}
 use Rattle.flow_tables.proofs.Causes.{all_because}
 use Rattle.flow_tables.proofs.run_changes.set_text.Goals as goal
-
-pub returns-clause-put : goal.returns-clause-put
-returns-clause-put g c b tells holds clean = MatchResult-weaker c.alter.result (c.alter.ensures.put tt holds clean) (λ _ done. (tt, done)) (λ _ cut. cut)
 
 pub returns-clause-cause : goal.returns-clause-cause
 returns-clause-cause g c b tells typed holds clean =
