@@ -1,12 +1,12 @@
 -- What changes of a run beside its turns: the text that it goes on under, and the attempt at an activity.
 use Rattle.std.specs.Prelude.{◌≡◌, ◌∷◌}
-use Rattle.flow_tables.proofs.Names.{Book, Tells, Task, task_row, with_task, without_task, is_other_task, Tables, OutboxRow, State, AllByRecursion, List, MatchResult, Option, false, filter, int_eq, pos, true, ℕ, ℤ, [], refl, Result, Some, None, Changes, IsRefused, IsStill, tables_in, AreOurs, nth, Run, subst, ◌∙◌, sym, ap, inl, inr, true≢false}
+use Rattle.flow_tables.proofs.Names.{Book, Tells, Task, task_row, with_task, without_task, is_other_task, Tables, OutboxRow, State, AllByRecursion, List, Option, false, filter, int_eq, pos, true, ℕ, ℤ, [], refl, Result, Some, None, Changes, IsStill, tables_in, AreOurs, nth, Run, subst, ◌∙◌, sym, ap, inl, inr, true≢false}
 use Rattle.flow_tables.proofs.Names.{OrCut, list_any, cases_Bool, Decides-int_eq, HasRun, IsWelcomeTask}
 use Rattle.flow_rows.specs.Changes.{with_task_in_place}
 use Rattle.flow_rows.proofs.Behind.{run_there, no_rows_yet}
 use Rattle.flow_sql.proofs.InPlace.{task_in_place, no_task_in_place}
 use Rattle.flow_tables.specs.Puts.{is_task_at, has_task}
-use Rattle.flow_tables.proofs.Parts.{put_then, as_put, still_changes}
+use Rattle.flow_tables.proofs.Parts.{behind_put, still_changes}
 use Rattle.flow_tables.proofs.Wholes.{still_then}
 
 ---- An activity goes, and comes again
@@ -26,10 +26,6 @@ pub comes_again : (run : ℤ) (task : Task) (row : OutboxRow) (t u : Tables) →
 comes_again run task row t u is left has =
     subst (λ x. IsWelcomeTask x u) (sym is) (subst (λ v. IsWelcomeTask (task_row run task) v) (sym left) (record { parent = has; fresh = left_new run (pos task.event) t }))
 
-pub put_after : {E : Type 0} (old mid new : State) (run : ℤ) (task : Task) (row : OutboxRow) (t : Tables) (r : Result Unit E) → row ≡ task_row run task → Changes old mid t
-    → MatchResult r (λ _. Changes mid new (with_task row (tables_in mid.now.trees))) (λ _. IsRefused true mid new) → OrCut old new r (Changes old new (with_task (task_row run task) t))
-put_after old mid new run task row t r is first second = subst (λ x. OrCut old new r (Changes old new (with_task x t))) is (put_then old mid new t (with_task row) r first (as_put mid new (with_task row (tables_in mid.now.trees)) r second))
-
 ---- An activity that is looked for
 
 -- the run of an activity is there
@@ -40,16 +36,13 @@ run_of_task t b n id tells there = by_run (nth b.runs n) refl
     by_run (Some r) is = run_there t b n r tells is
     by_run None is = absurd (true≢false (there ∙ ap (λ rows. list_any (is_task_at id) rows) (no_rows_yet t b n tells is).2))
 
-pub run_still : (old mid : State) (run : ℤ) → IsStill true old mid → HasRun run (tables_in old.now.trees) → HasRun run (tables_in mid.now.trees)
-run_still old mid run still has = subst (λ d. HasRun run (tables_in d.trees)) (sym still.1) has
-
 -- nothing changes where it isn't there
 pub no_task_set : (old mid : State) (run : ℤ) (task : Task) → IsStill true old mid → false ≡ has_task run (pos task.event) (tables_in old.now.trees) → Changes old mid (with_task_in_place (task_row run task) (tables_in old.now.trees))
 no_task_set old mid run task still none = subst (Changes old mid) (sym (no_task_in_place (tables_in old.now.trees) (task_row run task) (sym none))) (still_changes old mid still)
 
 -- and where it is there, its row is in its place
-pub task_set : (old mid new : State) (run : ℤ) (task : Task) → AreOurs old.now.trees → IsStill true old mid → true ≡ has_task run (pos task.event) (tables_in old.now.trees)
-    → Changes mid new (with_task (task_row run task) (without_task run (pos task.event) (tables_in mid.now.trees))) → Changes old new (with_task_in_place (task_row run task) (tables_in old.now.trees))
-task_set old mid new run task ours still there done =
+pub task_set : {E : Type 0} (old mid new : State) (run : ℤ) (task : Task) (r : Result Unit E) → AreOurs old.now.trees → IsStill true old mid → true ≡ has_task run (pos task.event) (tables_in old.now.trees)
+    → OrCut mid new r (Changes mid new (with_task (task_row run task) (without_task run (pos task.event) (tables_in mid.now.trees)))) → OrCut old new r (Unit {0} × Changes old new (with_task_in_place (task_row run task) (tables_in old.now.trees)))
+task_set old mid new run task r ours still there = behind_put old mid new _ r (still_changes old mid still) (λ done.
     let whole = still_then old mid new (λ t. with_task (task_row run task) (without_task run (pos task.event) t)) still done in
-    subst (Changes old new) (task_in_place old.now.trees ours (task_row run task) (sym there)) whole
+    (tt, subst (Changes old new) (task_in_place old.now.trees ours (task_row run task) (sym there)) whole))

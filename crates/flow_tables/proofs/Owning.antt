@@ -1,7 +1,7 @@
 -- What tables keep true of their connection, call by call.
 use Rattle.std.specs.Prelude.{◌≡◌, ◌⊎◌}
 use Rattle.flow_tables.proofs.Names.{Change, Book, FitsTables, Tells, after_change, Database, Executes, HasCleanDisk, State, Survives, Error, Bool, IsTrue, List, MatchResult, Option, false, true, ℕ, Changes, HasBegun, HasCommitted, HasEnded, HasTables, Holds, IsOver, IsRefused, IsStill, IsUndone, tables_in, Refusal, Known, ViewFault, Err, IfOk, None, Ok, OnOk, Some, [], refl, Result, changed, subst, ◌∙◌, sym, ap, inl, inr, true≢false, was_clean, book_of, IsCutShort, IsOwn, Keeps, IsKnown, ShowsBook, rolled_back_ended, told_answer, IsAware, HasCounted, error_leaves, IsFileOf, IsSure, KeepsOn, WasUp, ReadsBook, IsNoted, AreOurs, Ghosts, kept_book, IsUp}
-use Rattle.flow_tables.proofs.Names.{OrCut, IsPut, Shows, AreUtf8, noted_fault, ShowsOddText, IsTypedChange}
+use Rattle.flow_tables.proofs.Names.{OrCut, WasPut, Shows, AreUtf8, noted_fault, ShowsOddText, IsTypedChange}
 use Rattle.flow_tables.specs.Owned.{Stored, state_of}
 use Rattle.sqlite.specs.State.{IsUnchanged, IsRolledBack}
 use Rattle.flow_rows.proofs.Telling.{told}
@@ -228,9 +228,9 @@ module _ (old new : State) (ours : Type 0) (ro rn : Option Refusal) (owned : our
   Aware k = ours → HasCleanDisk old → IsAware old ro k
 
   abbrev Puts : Result Unit Refusal → Change → Known → Type 0
-  Puts r c k = (b : Book) → Tells (tables_in old.now.trees) b → IsKnown k (tables_in old.now.trees) → Holds true old → HasCleanDisk new → OrCut old new r (IsPut b c old new)
+  Puts r c k = (b : Book) → Tells (tables_in old.now.trees) b → IsKnown k (tables_in old.now.trees) → Holds true old → HasCleanDisk new → OrCut old new r (WasPut b c old new)
 
-  put_at : (r : Result Unit Refusal) (c : Change) (k : Known) → Aware k → Puts r c k → ours → HasCleanDisk new → OrCut old new r (IsPut (book_of old.now.trees) c old new)
+  put_at : (r : Result Unit Refusal) (c : Change) (k : Known) → Aware k → Puts r c k → ours → HasCleanDisk new → OrCut old new r (WasPut (book_of old.now.trees) c old new)
   put_at r c k aware put fit now = put (book_of old.now.trees) (shows fit now).1.tells (aware fit (clean now) none inside) (holds fit) now
 
   pub put_own : (r : Result Unit Refusal) (c : Change) (k : Known) → Aware k → Puts r c k → IsNoted (λ x. x) r ro rn → IsTypedChange c → ours → HasCleanDisk new → IsOwn new rn

@@ -1,6 +1,6 @@
 -- What stands behind E80, from call to call.
 use Rattle.std.specs.Prelude.{◌≡◌, ◌⊎◌, ◌≢◌, ◌≤◌}
-use Rattle.flow_tables.proofs.Names.{error_leaves, IsStopped, IsHindering, Because, view_fault, StopsWith, refusal_of, Fault, format_sql, no_schema, Database, Held, state, Kind, Row, Executes, HasCleanDisk, State, Survives, Error, Ghosts, IfErr, IsTrue, List, MatchResult, Option, codes, false, true, ℕ, HasCommitted, HasTables, IsOver, tables_in, Refusal, StoreFault, ViewFault, SqliteFailure, Err, Ok, [], refl, Result, OutOfMemory, QueriesRow, IsSome, FailsToQuery, subst, ◌∙◌, sym, ap, inl, inr, arith, true≢false}
+use Rattle.flow_tables.proofs.Names.{error_leaves, IsStopped, IsHindering, Because, view_fault, StopsWith, refusal_of, Fault, format_sql, no_schema, Database, Held, state, Kind, Row, Executes, HasCleanDisk, State, Survives, Error, Ghosts, IfErr, IsTrue, List, MatchResult, Option, codes, false, true, ℕ, HasCommitted, HasTables, Holds, IsOver, tables_in, Refusal, StoreFault, ViewFault, SqliteFailure, Err, Ok, [], refl, Result, OutOfMemory, QueriesRow, IsSome, FailsToQuery, subst, ◌∙◌, sym, ap, inl, inr, arith, true≢false}
 use Rattle.std.proofs.lemmas.Bool.{cases_Bool}
 use Rattle.flow_sql.proofs.Leaves.{left_open}
 use Rattle.sqlite_disk.specs.Disk.{MoreFaults}
@@ -15,11 +15,12 @@ use Rattle.flow_tables.specs.Opening.{opening_fault, read_fault_of, IsCutShort, 
 use Rattle.flow_sql.specs.States.{RunsTo}
 use Rattle.flow_sql.proofs.Transactions.{begin_refused, commit_refused, rollback_refused}
 use Rattle.flow_sql.specs.Stored.{HasOddText}
-use Rattle.flow_tables.specs.Asking.{StopsAsk}
+use Rattle.flow_tables.specs.Asking.{StopsAsk, IsQuiet}
 use Rattle.flow_tables.specs.Reads.{IsReadFault}
 use Rattle.flow_tables.specs.Faults.{Since, fault_of, read_refusal, told_fault, HasFailed, IsCutOff, IsKeptOut}
 use Rattle.flow_tables.specs.declared.fault.StoreFault.TheVariants.{NoMemory, Refused}
-use Rattle.flow_tables.proofs.Causes.{because_on, all_because}
+use Rattle.flow_tables.proofs.Causes.{all_because}
+use Rattle.flow_tables.proofs.Stops.{quiet_then}
 use Rattle.std.proofs.lemmas.Result.{MatchResult-weaker}
 
 pub since_self : (s : State) → Since s s
@@ -45,16 +46,13 @@ module _ {S : Type 0} (g : Ghosts S) where
   stopped_after a b c since (inl hinders) = inl (hindering_after a b c since hinders)
   stopped_after a b c since (inr odd) = inr odd
 
-  -- a statement that was refused behind others
-  pub with_after : (a b c : Held S) (r : Result Unit Error) → Since (state g a) (state g b) → IfErr r (StopsWith g b c) → IfErr r (StopsWith g a c)
-  with_after a b c r since h = MatchResult-weaker r h (λ _ _. tt) (λ e why other. stopped_after (state g a) (state g b) (state g c) since (why other))
+  -- statements behind others, of which the last may be refused
+  module _ (a b c : Held S) (before : IsQuiet g a b) where
+    pub stops_then : {A U V : Type 0} (r : Result A Refusal) → Holds true (state g a) → (U → V) → IfErr r (λ f. Because f (IsStopped g (state g b) (state g c)) U) → IfErr r (λ f. Because f (IsStopped g (state g a) (state g c)) V)
+    stops_then r holds unfit h = all_because r h (stopped_after (state g a) (state g b) (state g c) (survived (state g a) (state g b) _ (before.1 holds))) unfit
 
-  module _ (a b c : State) (since : Since a b) (U : Type 0) where
-    pub because_after : (f : Refusal) → Because f (IsStopped g b c) U → Because f (IsStopped g a c) U
-    because_after f h = because_on f h (stopped_after a b c since) (λ u. u)
-
-    pub all_after : {A : Type 0} (r : Result A Refusal) → IfErr r (λ f. Because f (IsStopped g b c) U) → IfErr r (λ f. Because f (IsStopped g a c) U)
-    all_after r h = all_because r h (stopped_after a b c since) (λ u. u)
+    pub quiet_both : (Holds true (state g a) → Holds true (state g b)) → IsQuiet g b c → IsQuiet g a c
+    quiet_both on after = (λ clean. before.0 (after.0 clean), λ holds. quiet_then (state g a) (state g b) (state g c) (before.1 holds) (after.1 (on holds)))
 
   -- an error of a statement, told as a refusal
   pub by_error : (a b : Held S) (U : Type 0) (f : Refusal) (e : Error) → f ≡ refusal_of e → StopsWith g a b e → Because f (IsStopped g (state g a) (state g b)) U

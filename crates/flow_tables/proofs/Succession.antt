@@ -12,7 +12,7 @@ use Rattle.flow_tables.proofs.Opened.{rests_on}
 pub still_then : (inside : Bool) (a b c : State) → IsStill inside a b → IsStill inside b c → IsStill inside a c
 still_then inside a b c one two = (two.0, two.1 ∙ one.1, two.2 ∙ one.2)
 
-still_refused : (inside : Bool) (a b c : State) → IsStill inside a b → IsRefused inside b c → IsRefused inside a c
+pub still_refused : (inside : Bool) (a b c : State) → IsStill inside a b → IsRefused inside b c → IsRefused inside a c
 still_refused inside a b c one (inl same) = inl (still_then inside a b c one same)
 still_refused inside a b c one (inr undone) =
     inr (record { mode = undone.mode; over = λ up. let u = undone.over up in (u.0, u.1 ∙ one.2, u.2 ∙ one.2) })

@@ -83,11 +83,7 @@ IsPut g old new result fits after =
 abbrev pub IsQuiet : {S : Type 0} → Ghosts S → Held S → Held S → Type 0
 IsQuiet g old new = (HasCleanDisk (state g new) → HasCleanDisk (state g old)) × (Holds true (state g old) → Survives (state g old) (state g new) (λ _. ⊥))
 
--- The store refused a statement.
-abbrev pub StopsStatement : {S A : Type 0} → Ghosts S → Held S → Held S → Result A Error → Type 0
-StopsStatement g old new result = HasCleanDisk (state g new) → IfErr result (StopsWith g old new)
-
--- It stopped what was done, or that doesn't fit.
+-- The store stopped what was done, or that doesn't fit.
 abbrev pub Stops : {S A : Type 0} → Ghosts S → Held S → Held S → Result A Refusal → Type 0 → Type 0
 Stops g old new result unfit = HasCleanDisk (state g new) → IfErr result (λ f. Because f (IsStopped g (state g old) (state g new)) unfit)
 

@@ -19,5 +19,4 @@ mod rows;
 pub mod run_changes;
 pub mod tables;
 pub mod turn_changes;
-mod two_events;
 mod utf8;
