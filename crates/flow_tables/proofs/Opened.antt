@@ -1,20 +1,19 @@
 -- What opening finds, and why it is refused.
 use Rattle.std.specs.Prelude.{◌≡◌, ◌∷◌, ◌⊎◌, ◌≢◌, ◌≤◌}
-use Rattle.flow_tables.proofs.Names.{Run, Fault, BadVersion, Damaged, NoMemory, NotOurs, StoreRefused, is_program, Book, no_book, event_row, of_run, task_row, timer_row, timers_left, Tells, format_sql, no_schema, Database, Held, state, HasCleanDisk, Survives, Row, State, Error, Int, Ghosts, IfErr, IsTrue, List, map, pos, false, true, HasEnded, HasTables, IsAtRest, IsRefusal, no_tables, tables_in, StoreFault, StoreRows, SqliteFailure, Err, Ok, OnOk, ℤ, [], refl, Result, eqb as nat_eq, negsuc, QueriesRow, subst, ◌∙◌, sym, ap, inl, inr}
+use Rattle.flow_tables.proofs.Names.{Run, Fault, Damaged, NoMemory, NotOurs, StoreRefused, is_program, Book, no_book, event_row, of_run, task_row, timer_row, timers_left, Tells, format_sql, no_schema, Database, Held, state, HasCleanDisk, Survives, Row, State, Error, Int, Ghosts, IsTrue, IsUnchanged, List, map, pos, false, true, HasEnded, HasTables, IsAtRest, no_tables, tables_in, SqliteFailure, Err, Ok, ℤ, [], refl, column, eqb as nat_eq, negsuc, QueriesRow, subst, ◌∙◌, sym, ap, inl, inr}
+use Rattle.flow_tables.specs.Names.{QueryReturnedNoRows}
 use Rattle.sqlite.specs.declared.error.ErrorCode.TheVariants as code
 use Rattle.sqlite_trees.specs.declared.error.StoreError.{StoreError}
 use Rattle.sqlite_trees.specs.declared.error.StoreError.TheVariants.{OutOfMemory}
-use Rattle.sqlite.specs.State.{Fails, store_error}
+use Rattle.sqlite.specs.State.{store_error}
 use Rattle.flow_sql.specs.Names.{Schema}
 use Rattle.flow_rows.specs.Rows.{run_at}
-use Rattle.flow_tables.specs.declared.fault.StoreFault.TheVariants as read
-use Rattle.flow_tables.specs.Reads.{IsRowsFault}
 use Rattle.flow_sql.proofs.Transactions.{ends_again}
 use Rattle.flow_sql.proofs.Finding.{answered, blank_never_reads, format_answer, read_over, read_blank, refused, at_rest}
 use Rattle.flow_rows.proofs.Laws.{book_undamaged}
-use Rattle.flow_tables.proofs.Stopping.{held_after, ours_limited}
+use Rattle.flow_tables.proofs.Stopping.{held_after, told_after, format_held, ours_limited}
 use Rattle.std.proofs.lemmas.Bool.{cases_Bool}
-use Rattle.flow_tables.specs.Opening.{opening_fault, read_fault_of, IsOfStore, IsOfOpening, IsOfRows, IsFirstDamage, IsDamageOf, IsToldOf, StandFor, IsMet, HasCause, IsFoundSo}
+use Rattle.flow_tables.specs.Opening.{opening_fault, IsOfStore, IsOfRows, IsFirstDamage, IsToldOf, StandFor, IsMet, HasCause, HasFormat, StopsOpening, IsFoundSo}
 
 ---- The faults of the store
 
@@ -31,62 +30,12 @@ caused g e met = by_fault (opening_fault e) refl
     by_fault NotOurs is = (e, met, is)
     by_fault _ is = tt
 
+-- what is told as E81 is no failure of the store
 told_otherwise : (c : StoreError) → opening_fault (store_error c) ≢ NotOurs
 told_otherwise OutOfMemory is = let e = is in cc
 told_otherwise _ is = let e = is in cc
 
--- what is told as E81 is no failure of the store
-pub no_failure : (old new : State) (e : Error) → opening_fault e ≡ NotOurs → (x : Error) → e ≡ x → ¬ Fails old new ⊥ x
-no_failure old new e is x same fails = told_otherwise fails.0 (subst (λ y. opening_fault y ≡ NotOurs) fails.1 (subst (λ y. opening_fault y ≡ NotOurs) same is))
-
-pub refusal_met : {S : Type 0} (g : Ghosts S) (e : Error) → IsRefusal g e → IsMet g e
-refusal_met g e h = (h.0, h.1, h.2, inl h.3)
-
-pub read_caused : {S : Type 0} (g : Ghosts S) (f : StoreFault) → IsRowsFault g f → HasCause g (read_fault_of f)
-read_caused g (read.NoMemory _) h = tt
-read_caused g (read.Refused e) h = caused g e (h.0, h.1, _, inr (inr (inl (h.2, refl, h.3))))
-
----- Results
-
-pub same_fault : {T : Type 0} {a b : Fault} → ◌≡◌ {A = Result T Fault} (Err a) (Err b) → a ≡ b
-same_fault e = cc
-
-pub any_ok : {T E A : Type 0} (r : Result T E) → A → OnOk r A
-any_ok (Ok x) a = a
-any_ok (Err e) a = tt
-
-pub any_err : {T E : Type 0} (P : E → Type 0) (r : Result T E) → ((e : E) → P e) → IfErr r P
-any_err P (Ok x) f = tt
-any_err P (Err e) f = f e
-
-pub both_told : {T E : Type 0} {P Q R : E → Type 0} (r : Result T E) → ((e : E) → P e → Q e → R e) → IfErr r P → IfErr r Q → IfErr r R
-both_told (Ok x) f p q = tt
-both_told (Err e) f p q = f e p q
-
-pub not_version : (f : Fault) → IsOfStore f → f ≢ BadVersion
-not_version f of is = subst IsOfStore is of
-
 ---- Damages
-
--- what the store refuses is told by opening
-pub store_among : (f : Fault) → IsOfStore f → IsOfOpening f
-store_among (NoMemory _) of = tt
-store_among StoreRefused of = tt
-store_among NotOurs of = tt
-store_among _ of = absurd of
-
-pub format_among : (f : Fault) → (f ≡ BadVersion) ⊎ IsOfStore f → IsOfOpening f
-format_among f (inl other) = subst IsOfOpening (sym other) tt
-format_among f (inr of) = store_among f of
-
--- so is what a read refuses, of whichever kind
-pub of_read : (f : StoreFault) → IsOfStore (read_fault_of f)
-of_read (read.NoMemory _) = tt
-of_read (read.Refused e) = of_store e
-
-pub read_among : {P : StoreRows → Type 0} (f : Fault) → IsOfStore f ⊎ ((rows : StoreRows) × IsDamageOf rows f × P rows) → IsOfOpening f
-read_among f (inl of) = store_among f of
-read_among f (inr damage) = subst IsOfOpening (sym damage.1.1) tt
 
 -- there are our tables, or none
 pub never_both : {A : Type 0} (db : Database) → HasTables db → db.schema ≡ no_schema → A
@@ -116,35 +65,47 @@ module _ (db : Database) (f : Fault) where
 pub rests_on : (a b c : State) → HasEnded a b → (IsAtRest b → HasEnded b c) → HasEnded a c
 rests_on a b c one two = ends_again a b c one (two (at_rest a b one))
 
--- what was there when the format was asked for, and what is found
-module _ (old mid new : State) (ended : HasEnded old mid) where
-  pub had : HasTables old.committed ⊎ (old.committed.schema ≡ no_schema) → IsTrue mid.is_open → HasTables mid.now ⊎ (mid.now.schema ≡ no_schema)
+-- what is found by the question for the format
+module _ {S : Type 0} (g : Ghosts S) (old : State) (mid new : Held S) (ended : HasEnded old (state g mid)) where
+  -- what was there when it was asked
+  pub had : HasTables old.committed ⊎ (old.committed.schema ≡ no_schema) → IsTrue (state g mid).is_open → HasTables (state g mid).now ⊎ ((state g mid).now.schema ≡ no_schema)
   had ours up = subst (λ (db : Database). HasTables db ⊎ (db.schema ≡ no_schema)) (sym (ended.back up).0) ours
 
-  module _ (row : Row) (asked : QueriesRow format_sql [] mid new (Ok row)) where
-    up_then : IsTrue mid.is_open
-    up_then = (answered mid new row asked).0.was_open
+  module _ (row : Row) (asked : QueriesRow format_sql [] (state g mid) (state g new) (Ok row)) where
+    same : IsUnchanged (state g mid) (state g new)
+    same = answered (state g mid) (state g new) row asked
 
-    pub found_there : {S : Type 0} (g : Ghosts S) → IsFoundSo g old new true
-    found_there g = (read_over old mid new ended (answered mid new row asked), λ none. blank_never_reads mid new row (ap (λ (d : Database). d.schema) (ended.back up_then).0 ∙ none) asked)
+    pub found_there : column row 0 ≡ Int (pos 1) → HasFormat g old true × IsFoundSo g old (state g new) true
+    found_there is = (
+      (mid, new, ended, (row, asked, is)),
+      (read_over old (state g mid) (state g new) ended same, λ none. blank_never_reads (state g mid) (state g new) row (ap (λ (d : Database). d.schema) (ended.back same.0.was_open).0 ∙ none) asked),
+    )
 
     pub row_ours : HasTables old.committed ⊎ (old.committed.schema ≡ no_schema) → row ≡ Int (pos 1) ∷ []
-    row_ours ours = elim (had ours up_then) [
-      | inl has ↦ format_answer mid new row has asked
-      | inr none ↦ absurd (blank_never_reads mid new row none asked)
+    row_ours ours = elim (had ours same.0.was_open) [
+      | inl has ↦ format_answer (state g mid) (state g new) row has asked
+      | inr none ↦ absurd (blank_never_reads (state g mid) (state g new) row none asked)
     ]
 
-module _ {S : Type 0} (g : Ghosts S) (old : State) (mid new : Held S) (ended : HasEnded old (state g mid)) (quiet : Survives old (state g mid) (λ _. ⊥)) (clean : HasCleanDisk (state g mid))
-    (le : (state g mid).faults ≤ (state g new).faults) where
-  pub found_missing : (e : Error) → QueriesRow format_sql [] (state g mid) (state g new) (Err e) → opening_fault e ≡ NotOurs → IsFoundSo g old (state g new) false
-  found_missing e asked told =
-      let same = refused (state g mid) (state g new) e asked (no_failure (state g mid) (state g new) e told) in (
-        λ has. (
-          (read_over old (state g mid) (state g new) ended same has).0.now.laid_out,
-          held_after g old (state g mid) (state g new) _ quiet clean le (λ up. (ended.back up).1) (ours_limited g mid new e asked (λ up. subst HasTables (sym (ended.back up).0) has) told),
-        ),
-        read_blank old (state g mid) (state g new) ended same,
-      )
+  module _ (quiet : Survives old (state g mid) (λ _. ⊥)) (clean : HasCleanDisk (state g mid)) (le : (state g mid).faults ≤ (state g new).faults) (e : Error) (asked : QueriesRow format_sql [] (state g mid) (state g new) (Err e)) where
+    pub found_missing : e ≢ QueryReturnedNoRows → opening_fault e ≡ NotOurs → HasFormat g old false × IsFoundSo g old (state g new) false
+    found_missing other told =
+        let same = refused (state g mid) (state g new) e asked (λ x is fails. told_otherwise fails.0 (sym (ap opening_fault (is ∙ fails.1)) ∙ told)) in (
+          (mid, new, ended, (e, asked, other, told)),
+          (
+            λ has. (
+              (read_over old (state g mid) (state g new) ended same has).0.now.laid_out,
+              held_after g old (state g mid) (state g new) _ quiet clean le (λ up. (ended.back up).1) (ours_limited g mid new e asked same.0.was_open (subst HasTables (sym (ended.back same.0.was_open).0) has) told),
+            ),
+            read_blank old (state g mid) (state g new) ended same,
+          ),
+        )
+
+    pub format_stopped : HasTables old.committed ⊎ (old.committed.schema ≡ no_schema) → (f : Fault) → (f ≡ opening_fault e) × ((e ≡ QueryReturnedNoRows) ⊎ (opening_fault e ≢ NotOurs)) → IsOfStore f × StopsOpening g old (state g new) f
+    format_stopped ours f is = (
+      subst IsOfStore (sym is.0) (of_store e),
+      told_after g old (state g mid) (state g new) _ quiet clean le (λ up. (ended.back up).1) {V = Unit {0}} (Err f) (format_held g mid new e asked (had ours) is.1 f is.0),
+    )
 
 ---- No tables
 

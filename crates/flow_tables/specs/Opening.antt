@@ -1,7 +1,7 @@
 -- What opening reads and finds, and why it is refused.
 use Rattle.std.specs.Prelude.{◌≡◌, ◌⊎◌, ◌≢◌}
 use Rattle.sqlite_disk.specs.Disk.{MoreFaults}
-use Rattle.flow_tables.specs.Names.{schema, no_schema, Fault, BadVersion, Damaged, NoMemory, NotOurs, StoreRefused, is_program, Book, first_damage, by_run, StoreRows, format_sql, Read, read_sql, Tables, Database, Held, state, Row, Executes, State, Error, Int, Ghosts, column, AllByRecursion, Bool, List, false, pos, true, ℕ, HasEnded, HasTables, tables_in, StoreFault, IsReadError, QueriesRow, QueryReturnedNoRows, SqliteFailure, Err, Ok, Some, length, ℤ, [], IsSome, ⊤, IsOver, IsBlank, Tells, AreUtf8, AreNew, Trees}
+use Rattle.flow_tables.specs.Names.{schema, no_schema, Fault, BadVersion, Damaged, NoMemory, NotOurs, StoreRefused, is_program, Book, first_damage, by_run, StoreRows, format_sql, Read, read_sql, Tables, Database, Held, state, Row, Executes, State, Error, Int, Ghosts, column, AllByRecursion, Bool, List, false, pos, true, ℕ, HasEnded, HasTables, tables_in, IsReadError, QueriesRow, QueryReturnedNoRows, SqliteFailure, Err, Ok, Some, length, ℤ, [], IsSome, ⊤, IsOver, IsBlank, Tells, AreUtf8, AreNew, Trees}
 use Rattle.flow_base.specs.declared.fault.Damage.{Damage}
 use Rattle.flow_tables.specs.Owned.{IsFound}
 use Rattle.sqlite.specs.declared.error.ErrorCode.TheVariants as code
@@ -28,10 +28,6 @@ opening_fault (SqliteFailure code.DiskFull) = StoreRefused
 opening_fault (SqliteFailure code.TooBig) = StoreRefused
 opening_fault (SqliteFailure code.Closed) = StoreRefused
 opening_fault _ = NotOurs
-
-abbrev pub read_fault_of : StoreFault → Fault
-read_fault_of (read.NoMemory _) = NoMemory _
-read_fault_of (read.Refused e) = opening_fault e
 
 -- What reading the format answers where it is our number, or else where there is no such table.
 abbrev pub IsAnswered : Bool → State → State → Type 0
