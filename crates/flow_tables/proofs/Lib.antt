@@ -13,7 +13,6 @@ pub mod Succession
 pub mod Opened
 pub mod OpenTables
 pub mod Misreading
-pub mod Texts
 pub mod Questioned
 pub mod Altering
 pub mod Serving

@@ -11,8 +11,7 @@ use Rattle.flow_view.specs.declared.fault.ViewFault.TheVariants as view
 use Rattle.flow_sql.specs.Coming.{IsFull}
 use Rattle.flow_sql.proofs.Finding.{format_refused, blank_refused}
 use Rattle.flow_base.specs.declared.fault.Fault.TheVariants as fault
-use Rattle.flow_tables.specs.Opening.{opening_fault, read_fault_of, IsCutShort, StopsMaking, IsHeldUp, StopsOpening}
-use Rattle.flow_sql.specs.States.{RunsTo}
+use Rattle.flow_tables.specs.Opening.{opening_fault, IsCutShort, StopsMaking, IsHeldUp, StopsOpening}
 use Rattle.flow_sql.proofs.Transactions.{begin_refused, commit_refused, rollback_refused}
 use Rattle.flow_sql.specs.Stored.{HasOddText}
 use Rattle.flow_tables.specs.Asking.{StopsAsk, IsQuiet}
@@ -134,11 +133,6 @@ module _ {S : Type 0} (g : Ghosts S) where
     | inr limit ↦ inr (subst (λ (o : Option ℕ). IsSome o) since.1 limit)
   ]
 
-  pub made_stopped : (a b c : Held S) (sql : List ℕ) (r : Result Unit Error) → Since (state g a) (state g b) → RunsTo sql (state g b) (state g c) r → ((e : Error) → e ≢ SqliteFailure OutOfMemory → Executes sql [] (state g b) (state g c) (Err e) → MoreFaults (state g b).faults (state g c).faults ⊎ IsSome (state g b).step_limit)
-      → IfErr r (StopsMaking g a c)
-  made_stopped a b c sql (Ok u) since ran so = tt
-  made_stopped a b c sql (Err e) since ran so = making_stopped a b c c e since (omega arith) (λ other. so e other ran)
-
   pub commit_stopped : (a b c : Held S) (r : Result Unit Error) → Since (state g a) (state g b) → IsTrue (state g b).is_open → (state g b).in_transaction ≡ true
       → MatchResult r (λ _. HasCommitted (state g b) (state g c)) (λ e. Executes (codes "COMMIT") [] (state g b) (state g c) (Err e)) → IfErr r (StopsMaking g a c)
   commit_stopped a b c r since up inside h = MatchResult-weaker r h (λ _ _. tt) (λ e ran. making_stopped a b c c e since (omega arith) (λ other. inl (commit_refused (state g b) (state g c) e other up inside ran)))
@@ -155,10 +149,9 @@ module _ {S : Type 0} (g : Ghosts S) where
   error_held first new fault.NotOurs e is h = h (λ same. let clash = is ∙ ap opening_fault same in cc)
   error_held first new _ e is h = tt
 
-  pub rows_held : (old new : Held S) (f : Fault) (r : StoreFault) → f ≡ read_fault_of r → IsOver false (state g old) → (state g old).now ≡ (state g old).committed → StopsAsk false (state g old) (state g new) r
+  pub rows_held : (old new : Held S) (f : Fault) (e : Error) → f ≡ opening_fault e → IsOver false (state g old) → (state g old).now ≡ (state g old).committed → StopsAsk false (state g old) (state g new) (Refused e)
       → StopsOpening g (state g old) (state g new) f
-  rows_held old new f (NoMemory _) is over rest h = subst (StopsOpening g (state g old) (state g new)) (sym is) tt
-  rows_held old new f (Refused e) is over rest h =
+  rows_held old new f e is over rest h =
       error_held (state g old) (state g new) f e is (λ other. inr (subst (λ (db : Database). IsCutShort db (state g old) (state g new)) rest (cut h)))
     where
       cut : StopsAsk false (state g old) (state g new) (Refused e) → IsCutShort (state g old).now (state g old) (state g new)
@@ -203,45 +196,38 @@ module _ {S : Type 0} (g : Ghosts S) where
     told_after (Err _) h = tt
 
   -- what held it up at first, held it up to the end
-  pub held_on : {V : Type 0} (a b c : State) (r : Result V Fault) → b.faults ≤ c.faults → IsHeldUp g a b → IfErr r (StopsOpening g a c)
-  held_on a b c (Ok v) le h = tt
-  held_on a b c (Err f) le (inl shut) = held_told a c f (inl shut)
-  held_on a b c (Err f) le (inr (inl more)) = held_told a c f (inr (inl (omega (arith, more, le))))
-  held_on a b c (Err f) le (inr (inr rest)) = held_told a c f (inr (inr rest))
+  pub held_on : (a b c : State) (f : Fault) → b.faults ≤ c.faults → IsHeldUp g a b → StopsOpening g a c f
+  held_on a b c f le (inl shut) = held_told a c f (inl shut)
+  held_on a b c f le (inr (inl more)) = held_told a c f (inr (inl (omega (arith, more, le))))
+  held_on a b c f le (inr (inr rest)) = held_told a c f (inr (inr rest))
 
   -- the question for the format: over our tables, and where there are none
-  module _ (old new : Held S) (e : Error) (asked : QueriesRow format_sql [] (state g old) (state g new) (Err e)) where
-    ours_held : (IsTrue (state g old).is_open → HasTables (state g old).now) → e ≢ SqliteFailure OutOfMemory → IsHeldUp g (state g old) (state g new)
-    ours_held has other = elim (cases_Bool (state g old).is_open) [
-      | inl up ↦ inr (elim (format_refused (state g old) (state g new) e other up (has up) asked) [
-        | inl more ↦ inl more
-        | inr limit ↦ inr (inl limit)
-      ])
-      | inr shut ↦ inl shut
+  module _ (old new : Held S) (e : Error) (asked : QueriesRow format_sql [] (state g old) (state g new) (Err e)) (up : IsTrue (state g old).is_open) where
+    ours_held : HasTables (state g old).now → e ≢ SqliteFailure OutOfMemory → IsHeldUp g (state g old) (state g new)
+    ours_held has other = elim (format_refused (state g old) (state g new) e other up has asked) [
+      | inl more ↦ inr (inl more)
+      | inr limit ↦ inr (inr (inl limit))
     ]
 
     -- where it says that there is no such table
-    pub ours_limited : (IsTrue (state g old).is_open → HasTables (state g old).now) → opening_fault e ≡ fault.NotOurs → IsHeldUp g (state g old) (state g new)
+    pub ours_limited : HasTables (state g old).now → opening_fault e ≡ fault.NotOurs → IsHeldUp g (state g old) (state g new)
     ours_limited has told = ours_held has (λ same. let clash = sym told ∙ ap opening_fault same in cc)
 
-    none_held : (IsTrue (state g old).is_open → (state g old).now.schema ≡ no_schema) → (e ≡ QueryReturnedNoRows) ⊎ (opening_fault e ≢ fault.NotOurs) → e ≢ SqliteFailure OutOfMemory → IsHeldUp g (state g old) (state g new)
-    none_held none told other = elim (cases_Bool (state g old).is_open) [
-      | inl up ↦ elim (blank_refused (state g old) (state g new) e other up (none up) asked) [
-        | inl more ↦ inr (inl more)
-        | inr missing ↦ absurd (elim told [
-          | inl no_rows ↦ (let clash = sym no_rows ∙ missing.1 in cc)
-          | inr store ↦ store (ap opening_fault missing.1)
-        ])
-      ]
-      | inr shut ↦ inl shut
+    none_held : (state g old).now.schema ≡ no_schema → (e ≡ QueryReturnedNoRows) ⊎ (opening_fault e ≢ fault.NotOurs) → e ≢ SqliteFailure OutOfMemory → IsHeldUp g (state g old) (state g new)
+    none_held none told other = elim (blank_refused (state g old) (state g new) e other up none asked) [
+      | inl more ↦ inr (inl more)
+      | inr missing ↦ absurd (elim told [
+        | inl no_rows ↦ (let clash = sym no_rows ∙ missing.1 in cc)
+        | inr store ↦ store (ap opening_fault missing.1)
+      ])
     ]
 
-    pub format_held : (IsTrue (state g old).is_open → HasTables (state g old).now ⊎ ((state g old).now.schema ≡ no_schema)) → (e ≡ QueryReturnedNoRows) ⊎ (opening_fault e ≢ fault.NotOurs) → (f : Fault) → f ≡ opening_fault e
-        → StopsOpening g (state g old) (state g new) f
-    format_held ours told f is = error_held (state g old) (state g new) f e is (λ other. elim (cases_Bool (state g old).is_open) [
-      | inl up ↦ elim (ours up) [
-        | inl has ↦ ours_held (λ _. has) other
-        | inr none ↦ none_held (λ _. none) told other
-      ]
-      | inr shut ↦ inl shut
-    ])
+  pub format_held : (old new : Held S) (e : Error) → QueriesRow format_sql [] (state g old) (state g new) (Err e) → (IsTrue (state g old).is_open → HasTables (state g old).now ⊎ ((state g old).now.schema ≡ no_schema))
+      → (e ≡ QueryReturnedNoRows) ⊎ (opening_fault e ≢ fault.NotOurs) → (f : Fault) → f ≡ opening_fault e → StopsOpening g (state g old) (state g new) f
+  format_held old new e asked ours told f is = error_held (state g old) (state g new) f e is (λ other. elim (cases_Bool (state g old).is_open) [
+    | inl up ↦ elim (ours up) [
+      | inl has ↦ ours_held old new e asked up has other
+      | inr none ↦ none_held old new e asked up none told other
+    ]
+    | inr shut ↦ inl shut
+  ])

@@ -1,6 +1,7 @@
 -- How reads follow one another.
-use Rattle.std.specs.Prelude.{◌≡◌}
-use Rattle.flow_tables.proofs.Names.{by_run, StoreRows, Tables, Database, events_of, tasks_of, timers_of, State, Bool, IfErr, IsSome, MatchResult, Option, ℕ, IsRefused, IsStill, tables_in, StoreFault, Err, Ok, Result, subst, ◌∙◌, inl, inr}
+use Rattle.std.specs.Prelude.{◌≡◌, IsErrAnd}
+use Rattle.flow_tables.proofs.Names.{by_run, StoreRows, Tables, Database, events_of, tasks_of, timers_of, State, Bool, IfErr, IsSome, Option, ℕ, IsRefused, IsStill, tables_in, StoreFault, Err, Ok, Result, subst, sym, ◌∙◌, inl, inr}
+use Rattle.std.proofs.lemmas.Result.{MatchResult-weaker}
 use Rattle.flow_sql.specs.Stored.{HasOddText}
 use Rattle.flow_tables.specs.Asking.{AreAsked, StopsAsk}
 use Rattle.flow_tables.specs.Faults.{Since}
@@ -17,11 +18,6 @@ still_refused inside a b c one (inl same) = inl (still_then inside a b c one sam
 still_refused inside a b c one (inr undone) =
     inr (record { mode = undone.mode; over = λ up. let u = undone.over up in (u.0, u.1 ∙ one.2, u.2 ∙ one.2) })
 
-still_reads : {V E : Type 0} (inside : Bool) (a b c : State) (P Q : V → Type 0) (r : Result V E) → IsStill inside a b → ((v : V) → P v → Q v)
-    → MatchResult r (λ v. IsStill inside b c × P v) (λ _. IsRefused inside b c) → MatchResult r (λ v. IsStill inside a c × Q v) (λ _. IsRefused inside a c)
-still_reads inside a b c P Q (Ok v) one f h = (still_then inside a b c one h.0, f v h.1)
-still_reads inside a b c P Q (Err e) one f h = still_refused inside a b c one h
-
 stops_after : {V : Type 0} (inside : Bool) (a b c : State) (r : Result V StoreFault) → Since a b → IsStill inside a b → IfErr r (StopsAsk inside b c) → IfErr r (StopsAsk inside a c)
 stops_after inside a b c (Ok v) since one h = tt
 stops_after inside a b c (Err (NoMemory _)) since one h = tt
@@ -35,8 +31,7 @@ module _ {V W : Type 0} {before why : StoreFault → Type 0} {a b c : State} {P 
   then_asked one two = record {
     reads = λ inside was clean.
         let it = one.reads inside was (two.clean clean) in
-        still_reads inside a b c (Q (tables_in b.now.trees)) (λ x. P (tables_in a.now.trees) v × Q (tables_in a.now.trees) x) r it.0
-        (λ x h. (it.1, subst (λ (d : Database). Q (tables_in d.trees) x) it.0.1 h)) (two.reads inside (λ _. it.0.0) clean);
+        MatchResult-weaker r (two.reads inside (λ _. it.0.0) clean) (λ x h. (still_then inside a b c it.0 h.0, (it.1, subst (λ (d : Database). Q (tables_in d.trees) x) it.0.1 h.1))) (λ _. still_refused inside a b c it.0);
     clean = λ clean. one.clean (two.clean clean);
     cause = two.cause;
     stops = λ inside was clean.
@@ -60,6 +55,11 @@ module _ {V W : Type 0} {before why : StoreFault → Type 0} {a b : State} {P : 
 
   pub not_asked : (f : StoreFault) → (before f → why f) → AreAsked before a b (Err f) P → AreAsked why a b (Err f) Q
   not_asked f so it = record { reads = it.reads; clean = it.clean; cause = λ clean. so (it.cause clean); stops = it.stops; ended = it.ended; survives = it.survives }
+
+  -- as `?` hands it on
+  pub left_asked : (r : Result W StoreFault) (f : StoreFault) → IsErrAnd r (λ e. e ≡ f) → (before f → why f) → AreAsked before a b (Err f) P → AreAsked why a b r Q
+  left_asked (Ok w) f is so it = absurd is
+  left_asked (Err e) f is so it = subst (λ x. AreAsked why a b (Err x) Q) (sym is) (not_asked f so it)
 
 -- rows are the tables where each list of theirs is
 pub rows_are : (rows : StoreRows) (t : Tables) → rows.texts ≡ t.texts → rows.runs ≡ t.runs → events_of rows.events ≡ t.events → timers_of rows.timers ≡ t.timers → tasks_of rows.outbox ≡ t.outbox → by_run rows ≡ t

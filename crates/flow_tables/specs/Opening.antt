@@ -1,7 +1,9 @@
 -- What opening reads and finds, and why it is refused.
 use Rattle.std.specs.Prelude.{◌≡◌, ◌⊎◌, ◌≢◌}
 use Rattle.sqlite_disk.specs.Disk.{MoreFaults}
-use Rattle.flow_tables.specs.Names.{HasCleanDisk, no_schema, Fault, BadVersion, Damaged, NoMemory, NotOurs, StoreRefused, is_program, Book, first_damage, by_run, StoreRows, format_sql, Read, read_sql, Tables, Database, Held, state, Row, Executes, State, Error, Int, Ghosts, column, AllByRecursion, Bool, List, false, pos, true, ℕ, HasEnded, HasTables, tables_in, StoreFault, IsReadError, QueriesRow, QueryReturnedNoRows, SqliteFailure, Err, Ok, Some, length, ℤ, [], IsSome, ⊤}
+use Rattle.flow_tables.specs.Names.{schema, no_schema, Fault, BadVersion, Damaged, NoMemory, NotOurs, StoreRefused, is_program, Book, first_damage, by_run, StoreRows, format_sql, Read, read_sql, Tables, Database, Held, state, Row, Executes, State, Error, Int, Ghosts, column, AllByRecursion, Bool, List, false, pos, true, ℕ, HasEnded, HasTables, tables_in, IsReadError, QueriesRow, QueryReturnedNoRows, SqliteFailure, Err, Ok, Some, length, ℤ, [], IsSome, ⊤, IsOver, IsBlank, Tells, AreUtf8, AreNew, Trees}
+use Rattle.flow_base.specs.declared.fault.Damage.{Damage}
+use Rattle.flow_tables.specs.Owned.{IsFound}
 use Rattle.sqlite.specs.declared.error.ErrorCode.TheVariants as code
 use Rattle.flow_rows.specs.Rows.{rows_of}
 use Rattle.flow_rows.specs.Standing.{AreKept}
@@ -27,10 +29,6 @@ opening_fault (SqliteFailure code.TooBig) = StoreRefused
 opening_fault (SqliteFailure code.Closed) = StoreRefused
 opening_fault _ = NotOurs
 
-abbrev pub read_fault_of : StoreFault → Fault
-read_fault_of (read.NoMemory _) = NoMemory _
-read_fault_of (read.Refused e) = opening_fault e
-
 -- What reading the format answers where it is our number, or else where there is no such table.
 abbrev pub IsAnswered : Bool → State → State → Type 0
 IsAnswered true old new = (row : Row) × QueriesRow format_sql [] old new (Ok row) × (column row 0 ≡ Int (pos 1))
@@ -40,17 +38,7 @@ IsAnswered false old new = (e : Error) × QueriesRow format_sql [] old new (Err 
 abbrev pub HasFormat : {S : Type 0} → Ghosts S → State → Bool → Type 0
 HasFormat {S} g start is_there = (old new : Held S) × HasEnded start (state g old) × IsAnswered is_there (state g old) (state g new)
 
--- As far as the disk told no lie, the last commit left our tables, or none.
-abbrev pub HeldTables : State → Type 0
-HeldTables s = HasCleanDisk s → HasTables s.committed
-
-abbrev pub HeldNone : State → Type 0
-HeldNone s = HasCleanDisk s → s.committed.schema ≡ no_schema
-
 ---- What the rows say
-
-abbrev pub empty_book : Book
-empty_book = record { texts = []; runs = [] }
 
 -- Tables stand for a book: they are its rows, its texts are programs, and its runs keep the rules.
 pub record StandFor (t : Tables) (b : Book) : Type 0 where
@@ -73,6 +61,14 @@ IsOfStore (NoMemory _) = ⊤
 IsOfStore StoreRefused = ⊤
 IsOfStore NotOurs = ⊤
 IsOfStore _ = ⊥
+
+-- It is the first damage of these rows.
+abbrev pub IsDamageOf : StoreRows → Fault → Type 0
+IsDamageOf rows f = (d : Damage) × (f ≡ Damaged d) × (first_damage is_program rows ≡ Some d)
+
+-- What is told where the last commit left our tables, or none: a fault of the store, or the first damage of our tables.
+abbrev pub IsToldOf : Database → Fault → Type 0
+IsToldOf db f = IsOfStore f ⊎ (HasTables db × (rows : StoreRows) × IsDamageOf rows f × (by_run rows ≡ tables_in db.trees))
 
 -- What opening tells at all: E01, E80 to E83.
 abbrev pub IsOfOpening : Fault → Type 0
@@ -120,3 +116,23 @@ abbrev pub StopsOpening : {S : Type 0} → Ghosts S → State → State → Faul
 StopsOpening g first new StoreRefused = IsHeldUp g first new
 StopsOpening g first new NotOurs = IsHeldUp g first new
 StopsOpening g first new _ = ⊤
+
+---- What is opened
+
+-- What is found of our tables, or of none: they are shown, or there are none. Ours aren't found only where the store is hindered.
+abbrev pub IsFoundSo : {S : Type 0} → Ghosts S → State → State → Bool → Type 0
+IsFoundSo g old new true = (HasTables old.committed → IsOver false new × (new.now ≡ old.committed) × (new.committed ≡ old.committed)) × (old.committed.schema ≡ no_schema → ⊥)
+IsFoundSo g old new false = (HasTables old.committed → (new.now.schema ≡ schema) × IsHeldUp g old new) × (old.committed.schema ≡ no_schema → IsBlank false new)
+
+-- The connection shows the book that the file held, in our tables, and it is committed. Tables that were there are as they were.
+pub record IsOpened (old new : State) (b : Book) : Type 0 where
+  pub over : IsOver false new
+  pub same : new.now ≡ new.committed
+  pub found : IsFound old b
+  pub tells : Tells (tables_in new.committed.trees) b
+  pub utf8 : AreUtf8 (tables_in new.committed.trees)
+  pub kept : (new.committed ≡ old.committed) ⊎ (old.committed.schema ≡ no_schema)
+
+-- A stop leaves new tables, and none where ours are.
+abbrev pub LeavesNew : Type 0 → Type 0 → Trees → Type 0
+LeavesNew ours none db = (ours → ⊥) × (none → AreNew db)

@@ -1,8 +1,16 @@
 //! What the types of rows give: their texts are UTF-8. Laws, which read and change nothing.
+ghost use Rattle.std.specs.Prelude.{IsUtf8};
 ghost use Rattle.flow_tables.specs.Names.{by_run, AllByRecursion};
 ghost use Rattle.flow_sql.specs.Stored.{AreUtf8, IsUtf8Text, IsUtf8Run, IsUtf8Event};
 
+use flow_base::text::RawText;
 use flow_rows::rows::{EventRow, RunRow, StoreRows, TextRow};
+
+fn text_is_utf8(text: &RawText)
+    ensures { IsUtf8 text.now }
+{
+    let _bytes = text.as_str().as_bytes();
+}
 
 /// A row that has texts.
 pub(crate) trait HasTexts {
@@ -16,7 +24,7 @@ impl HasTexts for TextRow {
     ghost utf8 = { IsUtf8Text };
 
     fn is_utf8(&self) {
-        let _body = self.body.as_str().as_bytes();
+        text_is_utf8(&self.body);
     }
 }
 
@@ -24,8 +32,8 @@ impl HasTexts for RunRow {
     ghost utf8 = { IsUtf8Run };
 
     fn is_utf8(&self) {
-        let _flow = self.flow.as_str().as_bytes();
-        let _req = self.req.as_str().as_bytes();
+        text_is_utf8(&self.flow);
+        text_is_utf8(&self.req);
     }
 }
 
@@ -33,7 +41,7 @@ impl HasTexts for EventRow {
     ghost utf8 = { IsUtf8Event };
 
     fn is_utf8(&self) {
-        let _body = self.body.as_str().as_bytes();
+        text_is_utf8(&self.body);
     }
 }
 
