@@ -49,4 +49,4 @@ refused_by g old new batch back (fault.NoMemory _) h = tt
 refused_by g old new batch back fault.StoreRefused h = inr h
 
 pub gone_on_self : {S : Type 0} (g : Ghosts S) (k : Keeping S) → HasGoneOn g k k
-gone_on_self g k = record { since = since_self (state_of g k.stored); up = λ up. up; counts = omega arith }
+gone_on_self g k = record { since = since_self (state_of g k.stored); up = λ up. up; rest = λ was. was; counts = omega arith }

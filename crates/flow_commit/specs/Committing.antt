@@ -92,10 +92,11 @@ IsRefusedFor g old new batch (outcomes.NotApplied back fault.StoreRefused) = Has
 IsRefusedFor g old new batch _ = Unit {0}
 
 -- What holds from call to call: no failure of the disk is forgotten and the limit on the steps of a query stays, a connection that is
--- shut stays shut, and each command that is kept is counted.
+-- shut stays shut, no transaction is left running, behind a refusal neither, and each command that is kept is counted.
 pub record HasGoneOn {S : Type 0} (g : Ghosts S) (old new : Keeping S) : Type 0 where
   pub since : Since (state_of g old.stored) (state_of g new.stored)
   pub up : IsUp g new.stored → IsUp g old.stored
+  pub rest : (state_of g old.stored).in_transaction ≡ false → (state_of g new.stored).in_transaction ≡ false
   pub counts : old.kept ≤ new.kept
 
 -- what a commit has done, by its outcome

@@ -16,7 +16,7 @@ use Rattle.flow_model.specs.Sound.{IsSound}
 use Rattle.flow_tables.specs.Layout.{no_schema}
 use Rattle.flow_tables.specs.Stored.{tables_in}
 use Rattle.flow_tables.specs.States.{HasEnded, HasTables}
-use Rattle.flow_tables.specs.Opening.{StandFor}
+use Rattle.flow_tables.specs.Opening.{IsOfRows, StandFor}
 use Rattle.flow_tables.specs.Owned.{IsFileOf, IsFound, IsOurs, Keeps}
 use Rattle.flow_commit.specs.Keeping.{Keeping, IsFit, KeepsBook, rules}
 use Rattle.flow_recover.specs.declared.positions.Position.{Position}
@@ -27,6 +27,8 @@ pub record IsRecovered {S : Type 0} (g : Ghosts S) (from : State) (k : Keeping S
   pub book : Book
   pub found : IsFound from book
   pub kept : KeepsBook g k book
+  -- its texts are programs, and its runs keep the rules
+  pub stands : IsOfRows book
   pub positions : ArePositions meaning_of book qs
 
 -- A store holds nothing that could be refused: its tables stand for a sound book, or it has none.

@@ -11,7 +11,7 @@ use Rattle.flow_rows.specs.Rows.{run_at}
 use Rattle.flow_sql.proofs.Transactions.{ends_again}
 use Rattle.flow_sql.proofs.Finding.{answered, blank_never_reads, format_answer, read_over, read_blank, refused, at_rest}
 use Rattle.flow_rows.proofs.Laws.{book_undamaged}
-use Rattle.flow_tables.proofs.Stopping.{held_after, told_after, format_held, ours_limited}
+use Rattle.flow_tables.proofs.Stopping.{held_after, told_after, format_held, ours_limited, survived}
 use Rattle.std.proofs.lemmas.Bool.{cases_Bool}
 use Rattle.flow_tables.specs.Opening.{opening_fault, IsOfStore, IsOfRows, IsFirstDamage, IsToldOf, StandFor, IsMet, HasCause, HasFormat, StopsOpening, IsFoundSo}
 
@@ -75,9 +75,9 @@ module _ {S : Type 0} (g : Ghosts S) (old : State) (mid new : Held S) (ended : H
     same : IsUnchanged (state g mid) (state g new)
     same = answered (state g mid) (state g new) row asked
 
-    pub found_there : column row 0 ≡ Int (pos 1) → HasFormat g old true × IsFoundSo g old (state g new) true
-    found_there is = (
-      (mid, new, ended, (row, asked, is)),
+    pub found_there : Survives old (state g mid) (λ _. ⊥) → column row 0 ≡ Int (pos 1) → HasFormat g old true × IsFoundSo g old (state g new) true
+    found_there quiet is = (
+      (mid, new, ended, survived old (state g mid) _ quiet, (row, asked, is)),
       (read_over old (state g mid) (state g new) ended same, λ none. blank_never_reads (state g mid) (state g new) row (ap (λ (d : Database). d.schema) (ended.back same.0.was_open).0 ∙ none) asked),
     )
 
@@ -91,7 +91,7 @@ module _ {S : Type 0} (g : Ghosts S) (old : State) (mid new : Held S) (ended : H
     pub found_missing : e ≢ QueryReturnedNoRows → opening_fault e ≡ NotOurs → HasFormat g old false × IsFoundSo g old (state g new) false
     found_missing other told =
         let same = refused (state g mid) (state g new) e asked (λ x is fails. told_otherwise fails.0 (sym (ap opening_fault (is ∙ fails.1)) ∙ told)) in (
-          (mid, new, ended, (e, asked, other, told)),
+          (mid, new, ended, survived old (state g mid) _ quiet, (e, asked, other, told)),
           (
             λ has. (
               (read_over old (state g mid) (state g new) ended same has).0.now.laid_out,

@@ -8,6 +8,7 @@ use Rattle.sqlite.specs.declared.error.ErrorCode.TheVariants as code
 use Rattle.flow_rows.specs.Rows.{rows_of}
 use Rattle.flow_rows.specs.Standing.{AreKept}
 use Rattle.flow_tables.specs.declared.fault.StoreFault.TheVariants as read
+use Rattle.flow_sql.specs.States.{Since}
 use Rattle.flow_sql.specs.Stored.{HasOddText, kinds_of}
 use Rattle.flow_tables.specs.Reads.{IsReadFault}
 
@@ -34,9 +35,9 @@ abbrev pub IsAnswered : Bool → State → State → Type 0
 IsAnswered true old new = (row : Row) × QueriesRow format_sql [] old new (Ok row) × (column row 0 ≡ Int (pos 1))
 IsAnswered false old new = (e : Error) × QueriesRow format_sql [] old new (Err e) × (e ≢ QueryReturnedNoRows) × (opening_fault e ≡ NotOurs)
 
--- The format was read so, of what the last commit left at the start.
+-- The format was read so, of what the last commit left at the start, under the limit on steps that was set there.
 abbrev pub HasFormat : {S : Type 0} → Ghosts S → State → Bool → Type 0
-HasFormat {S} g start is_there = (old new : Held S) × HasEnded start (state g old) × IsAnswered is_there (state g old) (state g new)
+HasFormat {S} g start is_there = (old new : Held S) × HasEnded start (state g old) × Since start (state g old) × IsAnswered is_there (state g old) (state g new)
 
 ---- What the rows say
 

@@ -24,11 +24,14 @@ returns-in-Ok-clause-cause g c fit =
     caused_on _ _ c.sealed.result (failed_after g.S.Store c.args.tables.now c.drafted.new.tables c.sealed.new.tables c.drafted.ensures.follows was) (c.sealed.ensures.cause fit (c.in-Ok.ensures.sure was))
 
 pub returns-in-Err-clause-follows : goal.returns-in-Err-clause-follows
-returns-in-Err-clause-follows g c = follows_then g.S.Store c.args.tables.now c.drafted.new.tables c.roll_back.new.tables c.drafted.ensures.follows c.roll_back.ensures
+returns-in-Err-clause-follows g c = follows_then g.S.Store c.args.tables.now c.drafted.new.tables c.roll_back.new.tables c.drafted.ensures.follows c.roll_back.ensures.follows
 
 pub returns-in-Err-clause-own : goal.returns-in-Err-clause-own
-returns-in-Err-clause-own g c fit = c.drafted.ensures.own (fit_before g.S.Store c.drafted.new.tables c.roll_back.new.tables c.roll_back.ensures fit)
+returns-in-Err-clause-own g c fit = c.drafted.ensures.own (fit_before g.S.Store c.drafted.new.tables c.roll_back.new.tables c.roll_back.ensures.follows fit)
 
 pub returns-in-Err-clause-cause : goal.returns-in-Err-clause-cause
 returns-in-Err-clause-cause g c fit =
-    fault_on _ _ c.in-Err.fault (down_on g.S.Store c.args.tables.now c.drafted.new.tables c.roll_back.new.tables c.roll_back.ensures fit) (c.in-Err.ensures.cause (fit_before g.S.Store c.drafted.new.tables c.roll_back.new.tables c.roll_back.ensures fit))
+    fault_on _ _ c.in-Err.fault (down_on g.S.Store c.args.tables.now c.drafted.new.tables c.roll_back.new.tables c.roll_back.ensures.follows fit) (c.in-Err.ensures.cause (fit_before g.S.Store c.drafted.new.tables c.roll_back.new.tables c.roll_back.ensures.follows fit))
+
+pub returns-in-Ok-clause-rest : goal.returns-in-Ok-clause-rest
+returns-in-Ok-clause-rest g c fit = c.sealed.ensures.rest fit.1 (c.in-Ok.ensures.sure (c.sealed.ensures.fit fit))

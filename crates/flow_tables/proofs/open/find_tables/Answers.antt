@@ -8,7 +8,7 @@ use Rattle.flow_tables.proofs.open.find_tables.Goals as goal
 
 pub returns-in-Ok-check_format-clause-found : goal.returns-in-Ok-check_format-clause-found
 returns-in-Ok-check_format-clause-found g c clean =
-    found_there g.S.Store (state g.S.Store c.args.conn.now) c.end_running.new.conn c.format_row.new.conn (c.end_running.ensures.ended (c.format_row.ensures.clean clean)) c.in-Ok.row (c.in-Ok.ensures.queries clean) c.in-Ok-check_format.ensures.ours
+    found_there g.S.Store (state g.S.Store c.args.conn.now) c.end_running.new.conn c.format_row.new.conn (c.end_running.ensures.ended (c.format_row.ensures.clean clean)) c.in-Ok.row (c.in-Ok.ensures.queries clean) c.end_running.ensures.survives c.in-Ok-check_format.ensures.ours
 
 pub returns-in-Ok-clause-version : goal.returns-in-Ok-clause-version
 returns-in-Ok-clause-version g c clean is = let v = c.in-Err-check_format.ensures.version is in (c.end_running.new.conn, _, v.0, c.in-Ok.ensures.queries clean, v.1, v.2)
