@@ -25,7 +25,7 @@ use Rattle.flow_engine.specs.declared.done.Done.{Done}
 use Rattle.flow_engine.specs.declared.done.Done.TheVariants as done
 use Rattle.flow_engine.specs.Answering.{AreCaused, AreSingle, alone, given, replied}
 use Rattle.flow_engine.specs.Driving.{if_kept, kept_of}
-use Rattle.flow_engine.specs.Following.{refused_since, refused_still}
+use Rattle.flow_engine.specs.Following.{refused_still}
 use Rattle.flow_engine.specs.GivingUp.{AreGivenUp, GivesUp, IsGivenUpFor, WasRefused}
 
 ---- One batch
@@ -74,11 +74,11 @@ given_up_more P b (x ∷ bs) (y ∷ ds) batch d long h one =
 
 -- The book that the batches before left is the one that is read off, unless the connection is shut or the engine has halted.
 pub given_up_then : {S : Type 0} (g : Ghosts S) (old mid new : Keeping S) (b : Book) (bs : List (List Taken)) (ds : List Done) (batch : List Taken) (d : Done) → length ds ≡ length bs
-    → HasGoneOn g old mid → HasGoneOn g mid new → (mid.halted ≡ true → d ≡ done.Halted) → (mid.halted ≡ false → IsUp g mid → kept_book g mid ≡ after rules b (kept_of bs ds))
+    → ((k : Book) (cs : List Command) → WasRefused g mid new k cs → WasRefused g old new k cs) → HasGoneOn g mid new → (mid.halted ≡ true → d ≡ done.Halted) → (mid.halted ≡ false → IsUp g mid → kept_book g mid ≡ after rules b (kept_of bs ds))
     → AreGivenUp (WasRefused g old mid) b bs ds → IsGivenUpFor (WasRefused g mid new) (kept_book g mid) batch d → AreGivenUp (WasRefused g old new) b (bs ++ batch ∷ []) (ds ++ d ∷ [])
 given_up_then g old mid new b bs ds batch d long before on later same all one =
     let book = after rules b (kept_of bs ds) in
-    let here = given_up_on (WasRefused g mid new) (WasRefused g old new) (λ k cs h. refused_since g old mid new k cs before h) (kept_book g mid) batch d one in
+    let here = given_up_on (WasRefused g mid new) (WasRefused g old new) before (kept_book g mid) batch d one in
     given_up_more (WasRefused g old new) b bs ds batch d long (all_given_up_on (WasRefused g old mid) (WasRefused g old new) (λ k cs h. refused_still g old mid new k cs on h) b bs ds all)
     (given_up_over (WasRefused g old new) (kept_book g mid) book batch d (λ f is h. elim (cases_Bool mid.halted) [
       | inl halted ↦ absurd (let clash : done.Halted ≡ done.NotApplied f = sym (later halted) ∙ is in cc)

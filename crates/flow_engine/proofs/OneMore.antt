@@ -18,7 +18,7 @@ use Rattle.flow_commit.specs.Keeping.{Keeping, rules, IsFit, IsUp, IsWell, Keeps
 use Rattle.flow_engine.specs.declared.done.Done.{Done}
 use Rattle.flow_engine.specs.declared.done.Done.TheVariants as done
 use Rattle.flow_engine.specs.Driving.{HasDone, IsDoneFor, Passes, IsNoted, AreAnswers, NotesAll, LeadsTo, Drives, IsLeft, all_halted, has_unknown, if_kept, if_unknown, kept_of, in_hand}
-use Rattle.flow_engine.specs.Following.{gone_on_then}
+use Rattle.flow_engine.specs.Following.{gone_on_then, refused_since}
 use Rattle.flow_engine.specs.GivingUp.{AreGivenUp, IsGivenUpFor, WasRefused}
 use Rattle.flow_commit.specs.Committing.{HasGoneOn}
 use Rattle.flow_commit.proofs.Refusing.{gone_on_self}
@@ -73,10 +73,14 @@ module _ {S : Type 0} (g : Ghosts S) (old : Keeping S) (b : Book) where
       }
 
   -- The batches so far have these answers, and the engine is where they lead.
-  abbrev pub Reached : Keeping S → List (List Taken) → List Done → Type 0
-  Reached now bs ds = AreAnswers old.kept b bs ds × LeadsTo g old now b (has_unknown ds) (kept_of bs ds) (in_hand bs ds) × Passes g old now b bs ds
+  abbrev pub Stands : Keeping S → List (List Taken) → List Done → Type 0
+  Stands now bs ds = AreAnswers old.kept b bs ds × LeadsTo g old now b (has_unknown ds) (kept_of bs ds) (in_hand bs ds)
 
-  module _ (mid new : Keeping S) (bs : List (List Taken)) (ds : List Done) (batch : List Taken) (was : Reached mid bs ds) where
+  -- and it went there from one to the next
+  abbrev pub Reached : Keeping S → List (List Taken) → List Done → Type 0
+  Reached now bs ds = Stands now bs ds × Passes g old now b bs ds
+
+  module _ (mid new : Keeping S) (bs : List (List Taken)) (ds : List Done) (batch : List Taken) (was : Stands mid bs ds) where
     -- what is kept and in hand with one more
     kept_now : (d : Done) → kept_of (bs ++ batch ∷ []) (ds ++ d ∷ []) ≡ kept_of bs ds ++ if_kept batch d
     kept_now d = gathered_more if_kept bs ds batch d (same_length old.kept b bs ds was.0)
@@ -85,44 +89,48 @@ module _ {S : Type 0} (g : Ghosts S) (old : Keeping S) (b : Book) where
     hand_now d = gathered_more if_unknown bs ds batch d (same_length old.kept b bs ds was.0)
 
     -- over an engine that keeps the book
-    goes_on : has_unknown ds ≡ false → (d : Done) → HasDone g mid new (after rules b (kept_of bs ds)) batch d → IsDoneFor g mid new (after rules b (kept_of bs ds)) batch d → Reached new (bs ++ batch ∷ []) (ds ++ d ∷ [])
-    goes_on known (done.Kept rs) one why =
+    goes_on : has_unknown ds ≡ false → (d : Done) → HasDone g mid new (after rules b (kept_of bs ds)) batch d → Stands new (bs ++ batch ∷ []) (ds ++ d ∷ [])
+    goes_on known (done.Kept rs) one =
         let leads = subst (λ u. LeadsTo g old mid b u (kept_of bs ds) (in_hand bs ds)) known was.1 in
         let told = one.1.told ∙ ap (λ n. receipts_of n (after rules b (kept_of bs ds)) batch) (leads.counts refl) in (
           answers_more old.kept b bs ds batch (done.Kept rs) known was.0 (told, tt),
           leads_as new false (has_unknown (ds ++ done.Kept rs ∷ [])) _ _ _ _ (known_behind ds (done.Kept rs) refl ∙ known) (kept_now (done.Kept rs)) refl
               (lead_kept mid new (kept_of bs ds) (in_hand bs ds) (in_hand (bs ++ batch ∷ []) (ds ++ done.Kept rs ∷ [])) batch rs.items leads one.1),
-          passes_more g old mid new b bs ds batch (done.Kept rs) was.2 one why,
         )
-    goes_on known (done.NotApplied f) one why =
+    goes_on known (done.NotApplied f) one =
         let leads = subst (λ u. LeadsTo g old mid b u (kept_of bs ds) (in_hand bs ds)) known was.1 in (
           answers_more old.kept b bs ds batch (done.NotApplied f) known was.0 tt,
           leads_as new false (has_unknown (ds ++ done.NotApplied f ∷ [])) _ _ _ _ (known_behind ds (done.NotApplied f) refl ∙ known) (kept_now (done.NotApplied f) ∙ append-nil (kept_of bs ds)) refl
               (lead_refused mid new (kept_of bs ds) (in_hand bs ds) (in_hand (bs ++ batch ∷ []) (ds ++ done.NotApplied f ∷ [])) leads one.1),
-          passes_more g old mid new b bs ds batch (done.NotApplied f) was.2 one why,
         )
-    goes_on known done.Unknown one why = (
+    goes_on known done.Unknown one = (
       answers_more old.kept b bs ds batch done.Unknown known was.0 refl,
       leads_as new true (has_unknown (ds ++ done.Unknown ∷ [])) _ _ _ _ (unknown_behind ds) (kept_now done.Unknown ∙ append-nil (kept_of bs ds)) (hand_now done.Unknown ∙ ap (λ l. l ++ commands_of batch) (none_in_hand bs ds known))
           (lead_unknown mid new (kept_of bs ds) batch one.1),
-      passes_more g old mid new b bs ds batch done.Unknown was.2 one why,
     )
-    goes_on known done.Halted one why = off (sym one.0 ∙ was.1.halted ∙ known)
+    goes_on known done.Halted one = off (sym one.0 ∙ was.1.halted ∙ known)
 
     -- over one that has halted
-    stays : has_unknown ds ≡ true → new ≡ mid → Reached new (bs ++ batch ∷ []) (ds ++ done.Halted ∷ [])
+    stays : has_unknown ds ≡ true → new ≡ mid → Stands new (bs ++ batch ∷ []) (ds ++ done.Halted ∷ [])
     stays unknown same =
         let leads = subst (λ k. LeadsTo g old k b (has_unknown ds) (kept_of bs ds) (in_hand bs ds)) (sym same) was.1 in (
           halted_more old.kept b bs ds batch unknown was.0,
           leads_as new (has_unknown ds) (has_unknown (ds ++ done.Halted ∷ [])) _ _ _ _ (known_behind ds done.Halted refl) (kept_now done.Halted ∙ append-nil (kept_of bs ds)) (hand_now done.Halted ∙ append-nil (in_hand bs ds)) leads,
-          passes_more g old mid new b bs ds batch done.Halted was.2 (was.1.halted ∙ unknown, same) tt,
         )
 
-    one_more : (d : Done) → ((k : Book) → KeepsBook g mid k → HasDone g mid new k batch d) → ((k : Book) → KeepsBook g mid k → IsDoneFor g mid new k batch d) → (mid.halted ≡ true → new ≡ mid) → (mid.halted ≡ true → d ≡ done.Halted) → (u : Bool) → has_unknown ds ≡ u → Reached new (bs ++ batch ∷ []) (ds ++ d ∷ [])
-    one_more d does why halted later true e =
+    pub one_more : (d : Done) → ((k : Book) → KeepsBook g mid k → HasDone g mid new k batch d) → (mid.halted ≡ true → new ≡ mid) → (mid.halted ≡ true → d ≡ done.Halted) → (u : Bool) → has_unknown ds ≡ u → Stands new (bs ++ batch ∷ []) (ds ++ d ∷ [])
+    one_more d does halted later true e =
         let stopped = was.1.halted ∙ e in
-        subst (λ x. Reached new (bs ++ batch ∷ []) (ds ++ x ∷ [])) (sym (later stopped)) (stays e (halted stopped))
-    one_more d does why halted later false e = let keeps = was.1.book e in goes_on e d (does (after rules b (kept_of bs ds)) keeps) (why (after rules b (kept_of bs ds)) keeps)
+        subst (λ x. Stands new (bs ++ batch ∷ []) (ds ++ x ∷ [])) (sym (later stopped)) (stays e (halted stopped))
+    one_more d does halted later false e = goes_on e d (does (after rules b (kept_of bs ds)) (was.1.book e))
+
+    one_passes : Passes g old mid b bs ds → (d : Done) → ((k : Book) → KeepsBook g mid k → HasDone g mid new k batch d) → ((k : Book) → KeepsBook g mid k → IsDoneFor g mid new k batch d) → (mid.halted ≡ true → new ≡ mid) → (mid.halted ≡ true → d ≡ done.Halted) → (u : Bool) → has_unknown ds ≡ u → Passes g old new b (bs ++ batch ∷ []) (ds ++ d ∷ [])
+    one_passes passes d does why halted later true e =
+        let stopped = was.1.halted ∙ e in
+        subst (λ x. Passes g old new b (bs ++ batch ∷ []) (ds ++ x ∷ [])) (sym (later stopped)) (passes_more g old mid new b bs ds batch done.Halted passes (stopped, halted stopped) tt)
+    one_passes passes d does why halted later false e =
+        let keeps = was.1.book e in
+        passes_more g old mid new b bs ds batch d passes (does (after rules b (kept_of bs ds)) keeps) (why (after rules b (kept_of bs ds)) keeps)
 
 ---- What is noted of one more
 
@@ -162,7 +170,7 @@ module _ {S : Type 0} (old mid new : Keeping S) (bs : List (List Taken)) (ds : L
     counts = counts_now done.Halted (let kept : new.kept ≡ mid.kept = ap (λ (k : Keeping S). k.kept) same in omega (arith, kept));
   }
 
-  one_noted : (d : Done) → IsNoted mid new batch d → (mid.halted ≡ true → new ≡ mid) → (mid.halted ≡ true → d ≡ done.Halted) → (u : Bool) → has_unknown ds ≡ u → NotesAll old new (bs ++ batch ∷ []) (ds ++ d ∷ [])
+  pub one_noted : (d : Done) → IsNoted mid new batch d → (mid.halted ≡ true → new ≡ mid) → (mid.halted ≡ true → d ≡ done.Halted) → (u : Bool) → has_unknown ds ≡ u → NotesAll old new (bs ++ batch ∷ []) (ds ++ d ∷ [])
   one_noted d one halted later true e =
       let stopped = was.halted ∙ e in
       subst (λ x. NotesAll old new (bs ++ batch ∷ []) (ds ++ x ∷ [])) (sym (later stopped)) (notes_still e (halted stopped))
@@ -178,7 +186,7 @@ none_left (x ∷ xs) e = absurd (omega (arith, e))
 abbrev pub WasOwn : {S : Type 0} → Ghosts S → Keeping S → Keeping S → Type 0
 WasOwn g old new = (new ≡ old) ⊎ KeepsBook g old (kept_book g old)
 
-own_more : {S : Type 0} (g : Ghosts S) (old mid new : Keeping S) → IsUp g old → WasOwn g old mid → (IsUp g mid → WasOwn g mid new) → WasOwn g old new
+pub own_more : {S : Type 0} (g : Ghosts S) (old mid new : Keeping S) → IsUp g old → WasOwn g old mid → (IsUp g mid → WasOwn g mid new) → WasOwn g old new
 own_more g old mid new up (inl same) one = subst (λ k. WasOwn g k new) same (one (subst (IsUp g) (sym same) up))
 own_more g old mid new up (inr keeps) one = inr keeps
 
@@ -198,12 +206,16 @@ pub record Drove {S : Type 0} (g : Ghosts S) (old now : Keeping S) (whole left :
   pub on : IsFit g now → HasGoneOn g old now
   pub given : IsFit g now → AreGivenUp (WasRefused g old now) (kept_book g old) behind ds
 
+-- before the first batch
+pub nothing_yet : {S : Type 0} (g : Ghosts S) (old : Keeping S) (b : Book) → KeepsBook g old b → old.halted ≡ false → Stands g old b old [] []
+nothing_yet g old b keeps goes = (tt, record { halted = goes; book = λ _. keeps; still = λ _. keeps; counts = λ _. omega arith; stops = λ db may. inl (keeps.stops db may) })
+
 pub none_yet : {S : Type 0} (g : Ghosts S) (old : Keeping S) (whole left : List (List Taken)) (ds : List Done) → whole ≡ left → ds ≡ [] → Drove g old old whole left ds
 none_yet {S = S} g old whole left ds all none = record {
   behind = [];
   split = all;
   fit = λ h. h;
-  reached = λ fit b keeps goes. subst (λ l. Reached g old b old [] l) (sym none) (tt, record { halted = goes; book = λ _. keeps; still = λ _. keeps; counts = λ _. omega arith; stops = λ db may. inl (keeps.stops db may) }, refl);
+  reached = λ fit b keeps goes. subst (λ l. Reached g old b old [] l) (sym none) (nothing_yet g old b keeps goes, refl);
   halted = λ _. refl;
   later = λ _. none;
   count = ap length none;
@@ -216,20 +228,24 @@ none_yet {S = S} g old whole left ds all none = record {
 }
 
 -- while the engine goes on and its connection is open, the book read off the tables is the one that the batches left
-book_here : {S : Type 0} (g : Ghosts S) (old mid : Keeping S) (whole now : List (List Taken)) (ds : List Done) (was : Drove g old mid whole now ds) → IsFit g mid → mid.halted ≡ false → IsUp g mid → kept_book g mid ≡ after rules (kept_book g old) (kept_of was.behind ds)
-book_here {S} g old mid whole now ds was fit goes up =
+pub book_left : {S : Type 0} (g : Ghosts S) (old mid : Keeping S) (bs : List (List Taken)) (ds : List Done) → (old.halted ≡ true → mid ≡ old) → (old.halted ≡ false → NotesAll old mid bs ds) → (IsUp g mid → IsUp g old) → (IsUp g old → WasOwn g old mid)
+    → ((b : Book) → KeepsBook g old b → old.halted ≡ false → Stands g old b mid bs ds) → mid.halted ≡ false → IsUp g mid → kept_book g mid ≡ after rules (kept_book g old) (kept_of bs ds)
+book_left {S} g old mid bs ds halted noted above own stands goes up =
     let went : old.halted ≡ false = elim (cases_Bool old.halted) [
-      | inl halted ↦ off (sym (ap (λ (k : Keeping S). k.halted) (was.halted halted) ∙ halted) ∙ goes)
+      | inl h ↦ off (sym (ap (λ (k : Keeping S). k.halted) (halted h) ∙ h) ∙ goes)
       | inr on ↦ on
     ] in
-    elim (was.own fit (was.up fit up)) [
+    elim (own (above up)) [
       | inl same ↦
-          let counts : mid.kept ≡ old.kept + length (kept_of was.behind ds) = (was.noted went).counts in
+          let counts : mid.kept ≡ old.kept + length (kept_of bs ds) = (noted went).counts in
           let kept : mid.kept ≡ old.kept = ap (λ (k : Keeping S). k.kept) same in
-          let none = none_left (kept_of was.behind ds) (omega (arith, counts, kept)) in
+          let none = none_left (kept_of bs ds) (omega (arith, counts, kept)) in
           ap (kept_book g) same ∙ sym (ap (after rules (kept_book g old)) none)
-      | inr keeps ↦ one_book g mid _ up ((was.reached fit (kept_book g old) keeps went).1.book (sym (was.noted went).halted ∙ goes))
+      | inr keeps ↦ one_book g mid _ up ((stands (kept_book g old) keeps went).1.book (sym (noted went).halted ∙ goes))
     ]
+
+book_here : {S : Type 0} (g : Ghosts S) (old mid : Keeping S) (whole now : List (List Taken)) (ds : List Done) (was : Drove g old mid whole now ds) → IsFit g mid → mid.halted ≡ false → IsUp g mid → kept_book g mid ≡ after rules (kept_book g old) (kept_of was.behind ds)
+book_here g old mid whole now ds was fit = book_left g old mid was.behind ds was.halted was.noted (was.up fit) (was.own fit) (λ b keeps went. (was.reached fit b keeps went).0)
 
 pub drove_more : {S : Type 0} (g : Ghosts S) (old mid new : Keeping S) (whole now left : List (List Taken)) (ds : List Done) (batch : List Taken) (d : Done) → now ≡ batch ∷ left → Drove g old mid whole now ds
     → (IsFit g new → IsFit g mid) → (IsFit g new → (b : Book) → KeepsBook g mid b → HasDone g mid new b batch d) → (IsFit g new → (b : Book) → KeepsBook g mid b → IsDoneFor g mid new b batch d) → (mid.halted ≡ true → new ≡ mid) → (mid.halted ≡ true → d ≡ done.Halted)
@@ -240,7 +256,10 @@ drove_more {S = S} g old mid new whole now left ds batch d next was fit does why
   behind = was.behind ++ batch ∷ [];
   split = was.split ∙ ap (λ l. was.behind ++ l) next ∙ sym (append_assoc was.behind (batch ∷ []) left);
   fit = λ h. was.fit (fit h);
-  reached = λ h b keeps goes. one_more g old b mid new was.behind ds batch (was.reached (fit h) b keeps goes) d (does h) (why h) halted later (has_unknown ds) refl;
+  reached = λ h b keeps goes. (let r = was.reached (fit h) b keeps goes in (
+    one_more g old b mid new was.behind ds batch r.0 d (does h) halted later (has_unknown ds) refl,
+    one_passes g old b mid new was.behind ds batch r.0 r.1 d (does h) (why h) halted later (has_unknown ds) refl,
+  ));
   halted = λ h. halted (ap (λ (k : Keeping S). k.halted) (was.halted h) ∙ h) ∙ was.halted h;
   later = λ h. ap (λ x. ds ++ x ∷ []) (later (ap (λ (k : Keeping S). k.halted) (was.halted h) ∙ h)) ∙ all_halted_more was.behind ds batch (was.later h);
   count = length-append ds (d ∷ []) ∙ ap (λ n. n + 1) was.count ∙ sym (length-append was.behind (batch ∷ []));
@@ -249,7 +268,7 @@ drove_more {S = S} g old mid new whole now left ds batch d next was fit does why
   up = λ h above. was.up (fit h) (up h above);
   own = λ h above. own_more g old mid new above (was.own (fit h) above) (own h);
   on = λ h. gone_on_then g old mid new (was.on (fit h)) (on h);
-  given = λ h. given_up_then g old mid new (kept_book g old) was.behind ds batch d was.count (was.on (fit h)) (on h) later (book_here g old mid whole now ds was (fit h)) (was.given (fit h)) (given h);
+  given = λ h. given_up_then g old mid new (kept_book g old) was.behind ds batch d was.count (λ k cs w. refused_since g old mid new k cs (was.on (fit h)) w) (on h) later (book_here g old mid whole now ds was (fit h)) (was.given (fit h)) (given h);
 }
 
 module _ {S : Type 0} (g : Ghosts S) (old new : Keeping S) (whole left : List (List Taken)) (ds : List Done) (drove : Drove g old new whole left ds) (none : left ≡ []) where
@@ -259,7 +278,7 @@ module _ {S : Type 0} (g : Ghosts S) (old new : Keeping S) (whole left : List (L
   pub drives : IsFit g new → (b : Book) → KeepsBook g old b → old.halted ≡ false → Drives g old new b whole ds
   drives fit b keeps goes =
       let all = subst (λ bs. Reached g old b new bs ds) all_behind (drove.reached fit b keeps goes) in
-      record { answers = all.0; replies = replies_told old.kept b whole ds all.0; leads = all.1; passes = all.2 }
+      record { answers = all.0.0; replies = replies_told old.kept b whole ds all.0.0; leads = all.0.1; passes = all.1 }
 
   pub all_later : old.halted ≡ true → ds ≡ all_halted whole
   all_later h = drove.later h ∙ ap all_halted all_behind

@@ -1,12 +1,21 @@
 -- What becomes of the submissions to a hub that an engine serves.
-use Rattle.std.specs.Prelude.{◌≡◌, ◌⊎◌, ◌≤◌, true, false, List, ◌++◌, length, map, All}
+use Rattle.std.specs.Prelude.{◌≡◌, ◌⊎◌, ◌≤◌, true, false, List, [], ◌++◌, length, map, All}
+use Rattle.sqlite_trees.specs.declared.store.Store.{Ghosts}
 use Rattle.flow_base.specs.declared.code.Code.TheVariants as code
 use Rattle.flow_base.specs.declared.fault.Fault.{Fault}
 use Rattle.flow_base.specs.declared.fault.Fault.TheVariants as fault
+use Rattle.flow_model.specs.Book.{Book}
+use Rattle.flow_model.specs.Apply.{replies}
 use Rattle.flow_machine.specs.declared.submission.Taken.{Taken}
-use Rattle.flow_commit.specs.Keeping.{Keeping}
+use Rattle.flow_view.specs.Codes.{view_fault_code}
+use Rattle.flow_commit.specs.Keeping.{Keeping, rules, IsFit, IsUp, KeepsBook, kept_book}
+use Rattle.flow_commit.specs.Committing.{HasGoneOn}
 use Rattle.flow_queues.specs.declared.refused.Refused.{Refused}
 use Rattle.flow_queues.specs.Refusing.{refused_by}
+use Rattle.flow_engine.specs.declared.done.Done.{Done}
+use Rattle.flow_engine.specs.declared.done.Done.TheVariants as done
+use Rattle.flow_engine.specs.Driving.{HasDone, IsNoted, AreAnswers, NotesAll, LeadsTo, all_halted, gathered, has_unknown, kept_of, in_hand, receipts_in, receipts_told, replies_of}
+use Rattle.flow_engine.specs.GivingUp.{AreGivenUp, IsGivenUpFor, WasRefused}
 
 -- It was in a batch that wasn't applied: E80 or E01.
 abbrev pub IsGivenUp : Refused → Type 0
@@ -57,3 +66,53 @@ StopsFor old new was now waiting f = ((f ≡ fault.Unknown) × EndsInDoubt old n
 -- why an engine serves no more, and what has answered the submissions
 abbrev pub EndsFor : {S : Type 0} → Keeping S → Keeping S → List Refused → List Refused → List Taken → Fault → Type 0
 EndsFor old new was now waiting f = StopsFor old new was now waiting f ⊎ ((f ≡ fault.NoMemory _) × EndsUnserved old new was now waiting)
+
+---- What serving has done with what it took
+
+-- the codes that have answered a batch, by what became of it
+abbrev pub codes_in : List Taken → Done → List Refused
+codes_in batch (done.Kept receipts) = []
+codes_in batch (done.NotApplied f) = map (refused_by (view_fault_code f)) batch
+codes_in batch done.Unknown = map (refused_by code.Unknown) batch
+codes_in batch done.Halted = map (refused_by code.Halted) batch
+
+-- and many
+abbrev pub codes_told : List (List Taken) → List Done → List Refused
+codes_told batches dones = gathered codes_in batches dones
+
+-- What has been done with one batch that was taken: it was committed, and where it isn't kept its submissions are answered by the code
+-- for that.
+pub record HasAnswered {S : Type 0} (g : Ghosts S) (old new : Keeping S) (was now : List Refused) (batch : List Taken) : Type 0 where
+  pub ended : Done
+  pub fit : IsFit g new → IsFit g old
+  pub does : IsFit g new → (b : Book) → KeepsBook g old b → HasDone g old new b batch ended
+  pub halted : old.halted ≡ true → new ≡ old
+  pub later : old.halted ≡ true → ended ≡ done.Halted
+  pub noted : IsNoted old new batch ended
+  pub log : new.log ≡ old.log ++ receipts_in batch ended
+  pub codes : now ≡ was ++ codes_in batch ended
+  pub up : IsFit g new → IsUp g new → IsUp g old
+  pub own : IsFit g new → IsUp g old → (new ≡ old) ⊎ KeepsBook g old (kept_book g old)
+  pub on : IsFit g new → HasGoneOn g old new
+  pub why : IsFit g new → IsGivenUpFor (WasRefused g old new) (kept_book g old) batch ended
+
+-- Batches that were taken and answered one after the other, over an engine that kept this book: each answer is over the book that the
+-- batches before it left, and the engine is where they lead, which says what a stop leaves. What was done between two of them keeps all
+-- this.
+pub record Serves {S : Type 0} (g : Ghosts S) (old new : Keeping S) (b : Book) (batches : List (List Taken)) (dones : List Done) : Type 0 where
+  pub answers : AreAnswers old.kept b batches dones
+  pub replies : replies_of batches dones ≡ replies rules b (kept_of batches dones)
+  pub leads : LeadsTo g old new b (has_unknown dones) (kept_of batches dones) (in_hand batches dones)
+
+-- What was taken was answered in these batches. The receipts of those that are kept are what the log has more, the submissions of the
+-- others are answered by their codes, in their order, and E85 has answered these behind them. What stands behind each E80 is of the book
+-- read off the tables at the beginning, whether it is known to be kept or not.
+pub record HasServed {S : Type 0} (g : Ghosts S) (old new : Keeping S) (was now : List Refused) (waiting : List Taken) : Type 0 where
+  pub batches : List (List Taken)
+  pub dones : List Done
+  pub serves : IsFit g new → (b : Book) → KeepsBook g old b → old.halted ≡ false → Serves g old new b batches dones
+  pub still : old.halted ≡ true → (new ≡ old) × (dones ≡ all_halted batches)
+  pub noted : old.halted ≡ false → NotesAll old new batches dones
+  pub log : new.log ≡ old.log ++ receipts_told batches dones
+  pub codes : now ≡ was ++ codes_told batches dones ++ map (refused_by code.Halted) waiting
+  pub given_up : IsFit g new → AreGivenUp (WasRefused g old new) (kept_book g old) batches dones

@@ -1,5 +1,5 @@
 //! The thread that keeps: it takes what was submitted to a hub, commits it and answers it.
-ghost use Rattle.std.specs.Prelude.{◌≡◌, ◌≤◌, true, false, [], List, IfErr, OnOk};
+ghost use Rattle.std.specs.Prelude.{◌≡◌, ◌≤◌, true, false, [], List, IfErr, OnOk, MatchResult};
 ghost use Rattle.std.specs.Vec.{vec_capacity};
 ghost use Rattle.flow_base.specs.Codes.{fault_code};
 ghost use Rattle.flow_machine.specs.declared.submission.Taken.{Taken as ATaken};
@@ -7,7 +7,7 @@ ghost use Rattle.flow_hub.specs.Knowing.{IsBefore};
 ghost use Rattle.flow_engine.specs.Boarding.{IsStill};
 ghost use Rattle.flow_hub.specs.Publishing.{InHand, IsDone, Together};
 ghost use Rattle.flow_engine.specs.Answering.{Follows};
-ghost use Rattle.flow_engine.specs.Serving.{EndsFor, GivesUp, StopsAt, StopsFor, TurnsAway};
+ghost use Rattle.flow_engine.specs.Serving.{EndsFor, GivesUp, HasAnswered, HasServed, StopsAt, StopsFor, TurnsAway};
 
 use crate::engine::Engine;
 use flow_base::code::Code;
@@ -50,6 +50,8 @@ fn commit_taken<S: Alter, B: Room, R: Wait>(
     ensures goes_on { OnOk result ((engine.old.halted ≡ false) × (engine.new.halted ≡ false)) }
     ensures given_up { OnOk result (GivesUp publisher.old.refused publisher.new.refused) }
     ensures stops { IfErr result (λ f. StopsAt engine.old engine.new publisher.old.refused publisher.new.refused batch f) }
+    // It was committed, and this has become of it, with what stands behind E80.
+    ensures answered { HasAnswered S.Store engine.old engine.new publisher.old.refused publisher.new.refused batch }
     ensures base { engine.new.base ≡ engine.old.base }
     ensures follows { Follows S.Store engine.old engine.new }
     ensures grows { IsBefore publisher.old publisher.new }
@@ -137,6 +139,7 @@ fn serve_all<S: Alter, B: Room, R: Wait, C: Clock>(
     ensures goes_on { OnOk result (engine.new.halted ≡ engine.old.halted) }
     ensures given_up { OnOk result (GivesUp publisher.old.refused publisher.new.refused) }
     ensures stops { IfErr result (λ f. (waiting : List ATaken) × StopsFor engine.old engine.new publisher.old.refused publisher.new.refused waiting f) }
+    ensures served { HasServed S.Store engine.old engine.new publisher.old.refused publisher.new.refused [] }
     ensures base { engine.new.base ≡ engine.old.base }
     ensures follows { Follows S.Store engine.old engine.new }
     ensures grows { IsBefore publisher.old publisher.new }
@@ -220,6 +223,11 @@ impl<S: Alter> Engine<S> {
         ensures goes_on { OnOk result (self.new.halted ≡ self.old.halted) }
         ensures given_up { OnOk result (GivesUp publisher.old.refused publisher.new.refused) }
         ensures stops { IfErr result (λ f. (waiting : List ATaken) × EndsFor self.old self.new publisher.old.refused publisher.new.refused waiting f) }
+        // What was taken was committed batch by batch, each over the book that those before it left, and nothing else changes the book:
+        // so it says what is kept, what a stop leaves, and what stands behind each E80.
+        ensures served { MatchResult result
+            (λ _. HasServed S.Store self.old self.new publisher.old.refused publisher.new.refused [])
+            (λ _. (waiting : List ATaken) × HasServed S.Store self.old self.new publisher.old.refused publisher.new.refused waiting) }
         ensures base { self.new.base ≡ self.old.base }
         ensures follows { Follows S.Store self.old self.new }
         ensures grows { IsBefore publisher.old publisher.new }

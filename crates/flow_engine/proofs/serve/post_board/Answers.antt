@@ -1,4 +1,5 @@
 use Rattle.flow_hub.proofs.Growing.{before_trans}
+use Rattle.flow_engine.proofs.Serving.{still_then}
 use Rattle.flow_engine.proofs.serve.post_board.Goals as goal
 
 pub returns-in-Err-clause-grows : goal.returns-in-Err-clause-grows
@@ -9,3 +10,11 @@ returns-in-Err-clause-grows g c =
 
 pub returns-in_default-clause-grows : goal.returns-in_default-clause-grows
 returns-in_default-clause-grows g c = before_trans c.args.publisher.now c.try_board.new.publisher c.try_board-2.new.publisher c.try_board.ensures.grows c.try_board-2.ensures.grows
+
+pub returns-in-Err-clause-still : goal.returns-in-Err-clause-still
+returns-in-Err-clause-still g c =
+    still_then g.S.Store c.args.engine.now c.try_board.new.engine c.try_board-2.new.engine c.try_board.ensures.still c.try_board-2.ensures.still
+
+pub returns-in_default-clause-still : goal.returns-in_default-clause-still
+returns-in_default-clause-still g c =
+    still_then g.S.Store c.args.engine.now c.try_board.new.engine c.try_board-2.new.engine c.try_board.ensures.still c.try_board-2.ensures.still

@@ -4,6 +4,7 @@ use Rattle.flow_hub.specs.Knowing.{IsBefore}
 use Rattle.flow_hub.specs.Publishing.{Together}
 use Rattle.flow_engine.specs.Answering.{Follows}
 use Rattle.flow_engine.specs.Serving.{GivesUp}
+use Rattle.flow_engine.proofs.Served.{Served}
 use Rattle.flow_engine.proofs.serve.serve_all.Given as goal
 
 -- An engine that had halted has done nothing.
@@ -14,6 +15,7 @@ invariant-loop g l =
       halted : l.engine.halted ≡ l.fn.engine.halted;
       still : l.engine.halted ≡ true → (l.engine ≡ l.fn.engine) × (l.publisher.refused ≡ l.fn.publisher.refused);
       gives : GivesUp l.fn.publisher.refused l.publisher.refused;
+      served : Served g.S.Store l.fn.engine l.engine l.fn.publisher.refused l.publisher.refused;
       base : l.engine.base ≡ l.fn.engine.base;
       follows : Follows g.S.Store l.fn.engine l.engine;
       grows : IsBefore l.fn.publisher l.publisher;

@@ -1,5 +1,6 @@
 use Rattle.flow_hub.proofs.Growing.{same_part}
 use Rattle.flow_hub.proofs.Serving.{boarded_together, is_fresh, same_history}
+use Rattle.flow_engine.proofs.Serving.{board_still}
 use Rattle.flow_engine.proofs.serve.try_board.Goals as goal
 
 -- the board was made of what is kept, which is what is published
@@ -24,3 +25,18 @@ returns-in-Err-clause-together g c =
     let same = c.board.ensures.same in
     let was = c.args.publisher.now in
     boarded_together c.args.engine.now c.board.new.self was was c.requires.together same.3 same.2 (same_history was was (same_part was))
+
+pub returns-in-Ok-post-clause-still : goal.returns-in-Ok-post-clause-still
+returns-in-Ok-post-clause-still g c =
+    let b = c.board.ensures in
+    board_still g.S.Store c.args.engine.now c.board.new.self b.same b.follows b.fit b.own b.halted
+
+pub returns-in-Err-post-clause-still : goal.returns-in-Err-post-clause-still
+returns-in-Err-post-clause-still g c =
+    let b = c.board.ensures in
+    board_still g.S.Store c.args.engine.now c.board.new.self b.same b.follows b.fit b.own b.halted
+
+pub returns-in-Err-clause-still : goal.returns-in-Err-clause-still
+returns-in-Err-clause-still g c =
+    let b = c.board.ensures in
+    board_still g.S.Store c.args.engine.now c.board.new.self b.same b.follows b.fit b.own b.halted
