@@ -39,6 +39,12 @@ pub record IsOpen {S : Type 0} (k : Known S) : Type 0 where
   pub room : length k.asked < k.fetched + 1024
   pub tickets : length k.asked < 2 ^ 62
 
+-- it has just taken one more in: it isn't closed, and there was room for that one
+pub record HasTakenIn {S : Type 0} (k : Known S) : Type 0 where
+  pub goes_on : k.closed ≡ false
+  pub room : length k.asked ≤ k.fetched + 1024
+  pub tickets : length k.asked ≤ 2 ^ 62
+
 -- why a command isn't taken in; closing is asked first
 abbrev pub IsDenied : {S : Type 0} → Known S → Denied → Type 0
 IsDenied k denied.HubClosed = k.closed ≡ true

@@ -6,7 +6,7 @@ ghost use Rattle.flow_hub.specs.Knowing.{IsBefore, IsHistory, IsSamePart, answer
 ghost use Rattle.flow_hub.specs.Seating.{opener, seeing, IsSubmitters, IsPublishers};
 ghost use Rattle.flow_hub.specs.Halls.{submitted, took, published, refused_all, fetched_receipt, fetched_refusal, enrolled, closed, new_ask, unfetched};
 ghost use Rattle.flow_hub.specs.Publishing.{Answers, HasTaken, HasPublished, HasRefused, IsDone};
-ghost use Rattle.flow_hub.specs.Submitting.{IsOpen, IsDenied, IsSettled};
+ghost use Rattle.flow_hub.specs.Submitting.{HasTakenIn, IsOpen, IsDenied, IsSettled};
 
 mod boards;
 
@@ -189,7 +189,8 @@ impl<S: Alter, B: Room> State<S, B> {
         requires share { 0 < mine.old.parts }
         requires seat { IsSubmitters me }
         ensures ok { IfOk result.1 (λ t. (t ≡ self.old.given) × (self.new ≡ submitted self.old command) × (mine.new.amount ≡ mine.old.amount + 1)) }
-        ensures room { OnOk result.1 (IsOpen self.old.known) }
+        ensures room { OnOk result.1 (IsOpen self.old.known × (unfetched self.old < 1024)) }
+        ensures taken_in { OnOk result.1 (HasTakenIn result.0.was) }
         ensures err { IfErr result.1 (λ e. (e.0 ≡ command) × (self.new ≡ self.old) × (mine.new.amount ≡ mine.old.amount) × IsDenied self.old.known e.1) }
         ensures parts { mine.new.parts ≡ mine.old.parts }
         ensures seat { result.0 ≡ seeing false false self.new.known }

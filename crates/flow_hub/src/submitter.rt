@@ -4,7 +4,7 @@ ghost use Rattle.flow_hub.specs.Asks.{IsOwn, IsGone, IsTold, Stands};
 ghost use Rattle.flow_hub.specs.Feeding.{IsDueBy, IsIdle, IsRested, IsTickOf};
 ghost use Rattle.flow_hub.specs.Knowing.{IsBefore, IsHistory};
 ghost use Rattle.flow_hub.specs.Seating.{IsSubmitters};
-ghost use Rattle.flow_hub.specs.Submitting.{IsTicket, IsDenied, IsReceipt, IsNotDone, IsSettled};
+ghost use Rattle.flow_hub.specs.Submitting.{HasTakenIn, IsTicket, IsDenied, IsReceipt, IsNotDone, IsSettled};
 
 use crate::denied::Denied;
 use crate::hub::{Shared, shared_in};
@@ -223,6 +223,7 @@ impl<S: Alter, B: Room> Submitter<S, B> {
     pub fn submit<R: Wait>(&mut self, rt: &R, command: Command) -> Result<Ticket, (Command, Denied)>
         ensures ticket { IfOk result (λ t. IsTicket self.old self.new command t) }
         ensures denied { IfErr result (λ e. (e.0 ≡ command) × IsDenied self.new.was e.1 × (self.new.amount ≡ self.old.amount)) }
+        ensures taken_in { OnOk result (HasTakenIn self.new.was) }
         ensures open_until_then { OnOk result (self.old.was.closed ≡ false) }
         ensures grows { IsBefore self.old.was self.new.was }
         ensures same { (self.new.id ≡ self.old.id) × (self.new.parts ≡ self.old.parts) }
