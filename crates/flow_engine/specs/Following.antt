@@ -23,6 +23,7 @@ module _ {S : Type 0} (g : Ghosts S) where
   gone_on_then a b c one two = record {
     since = since_then (state_of g a.stored) (state_of g b.stored) (state_of g c.stored) one.since two.since;
     up = λ up. one.up (two.up up);
+    rest = λ was. two.rest (one.rest was);
     counts = let x = one.counts in let y = two.counts in omega (arith, x, y);
   }
 

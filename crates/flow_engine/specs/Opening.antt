@@ -8,7 +8,7 @@ use Rattle.flow_base.specs.declared.fault.Fault.{Fault}
 use Rattle.flow_base.specs.declared.fault.Fault.TheVariants as fault
 use Rattle.flow_check.specs.Language.{meaning_of}
 use Rattle.flow_model.specs.Book.{Book}
-use Rattle.flow_tables.specs.Opening.{HasCause, HasOtherFormat, IsFirstDamage, IsOfStore, StopsOpening}
+use Rattle.flow_tables.specs.Opening.{HasCause, HasOtherFormat, IsFirstDamage, IsOfRows, IsOfStore, StopsOpening}
 use Rattle.flow_tables.specs.Owned.{IsFound, IsOurs, LeavesMade, state_of}
 use Rattle.flow_tables.specs.States.{HasTables}
 use Rattle.flow_tables.specs.Stored.{tables_in}
@@ -33,6 +33,8 @@ pub record IsOpened {S : Type 0} (g : Ghosts S) (from : State) (k : Keeping S) :
   pub book : Book
   pub found : IsFound from book
   pub kept : KeepsBook g k book
+  -- its texts are programs, and its runs keep the rules
+  pub of_rows : IsOfRows book
   pub stands : AllStand book
 
 -- The engine keeps this book again, as an engine before it did.
@@ -52,6 +54,8 @@ pub record IsUnopened {S : Type 0} (g : Ghosts S) (from to : State) (f : Fault) 
   pub why : HasCleanDisk to → IsOurs from → StopsOpening g from to f
   -- The store is as it was, or the book that was found is kept, and E68 names its least run that doesn't replay.
   pub left : HasCleanDisk to → IsLeft from to f
+  -- no transaction is left running
+  pub ended : HasCleanDisk to → IsOurs from → to.in_transaction ≡ false
   -- Tables that stand for a sound book, or none, are refused only where the store fails, or isn't ours.
   pub own : HasCleanDisk to → (HasCleanDisk from → HoldsSound from) → IsOfStore f
   -- A stop leaves what it could leave before, or the tables made for the book that was found.

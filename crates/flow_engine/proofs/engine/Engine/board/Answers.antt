@@ -1,9 +1,10 @@
-use Rattle.std.proofs.Common.{◌≡◌, subst}
+use Rattle.std.proofs.Common.{◌≡◌, false, subst}
 use Rattle.std.specs.Prelude.{IfErr}
 use Rattle.flow_model.specs.Book.{Book}
 use Rattle.flow_base.specs.declared.fault.Fault.{Fault}
 use Rattle.flow_base.specs.declared.fault.Fault.TheVariants as faults
 use Rattle.flow_tables.specs.Owned as tables
+use Rattle.flow_tables.specs.Owned.{state_of}
 use Rattle.flow_commit.specs.Committing.{IsDown}
 use Rattle.flow_commit.specs.Keeping.{IsFit, Keeping, KeepsBook}
 use Rattle.flow_engine.proofs.engine.Engine.board.Goals as goal
@@ -21,3 +22,8 @@ pub returns-clause-cause : goal.returns-clause-cause
 returns-clause-cause g c =
     let new = c.board.new.self in
     subst (λ (k : Keeping g.row.S.Denot). IsFit g.S.Store new → IfErr c.board.result (λ (f : Fault). f ≡ faults.StoreRefused → IsDown g.S.Store k.stored new.stored)) c.self.view_is c.board.ensures.cause
+
+pub returns-clause-rest : goal.returns-clause-rest
+returns-clause-rest g c =
+    let new = c.board.new.self in
+    subst (λ (k : Keeping g.row.S.Denot). IsFit g.S.Store new → (state_of g.S.Store k.stored).in_transaction ≡ false → (state_of g.S.Store new.stored).in_transaction ≡ false) c.self.view_is c.board.ensures.rest
