@@ -1,6 +1,9 @@
 pub mod Configured
 pub mod Endings
+pub mod Hearing
 pub mod Inputs
 pub mod Moments
 pub mod Printing
+pub mod Reading
 pub mod Showing
+pub mod Telling

@@ -1,7 +1,12 @@
 //! The thread that submits lines and prints their replies, in the order of the lines.
-ghost use Rattle.std.specs.Prelude.{◌≡◌, ◌≤◌, ◌<◌, false, length, IfSome};
+ghost use Rattle.std.specs.Prelude.{◌≡◌, ◌≤◌, ◌<◌, ◌++◌, ◌∷◌, [], Option, List, true, false, length, is_some, IfSome};
+ghost use Rattle.flow_cli.specs.declared.reply.Line.{Line as ALine};
+ghost use Rattle.flow_hub.specs.Knowing.{IsBefore};
 ghost use Rattle.flow_work.specs.Endings.{IsToldOf, line_instead};
 ghost use Rattle.flow_work.specs.Printing.{Prints, status_with};
+ghost use Rattle.flow_work.specs.Reading.{IsOf, IsPendingOf};
+ghost use Rattle.flow_work.specs.Telling.{AnswersFirst, HasTold, IsAnswer, PrintsAnswer};
+ghost use Rattle.flow_work.specs.declared.queue.Pending.{Pending as APending};
 
 use crate::input::Input;
 use crate::moments::command_at;
@@ -60,11 +65,30 @@ fn answer_to<S: Alter, B: Room, R: Wait>(
     submitter: &mut Submitter<S, B>,
     ticket: Ticket,
 ) -> Option<Line>
-    ensures { IsToldOf S.Store submitter.new ticket result }
+    ensures told { IsToldOf S.Store submitter.new ticket result }
+    ensures grows { IsBefore submitter.old.was submitter.new.was }
+    ensures same { submitter.new.id ≡ submitter.old.id }
 {
     match submitter.wait(rt, ticket) {
         Ok(receipt) => Some(Line::Of(receipt.reply)),
         Err(instead) => line_instead(instead.code),
+    }
+}
+
+/// The answer to a line that waits. None where nothing is answered any more.
+#[tactic(auto, using(flow_hub::proofs::Growing::before_self))]
+fn answer_of<S: Alter, B: Room, R: Wait>(
+    rt: &R,
+    submitter: &mut Submitter<S, B>,
+    pending: Pending,
+) -> Option<Line>
+    ensures answer { IsAnswer S.Store submitter.new pending result }
+    ensures grows { IsBefore submitter.old.was submitter.new.was }
+    ensures same { submitter.new.id ≡ submitter.old.id }
+{
+    match pending {
+        Pending::Submitted(ticket) => answer_to(rt, submitter, ticket),
+        Pending::Known(line) => Some(line),
     }
 }
 
@@ -118,6 +142,7 @@ impl<S: Alter, B: Room, W: Write + Drop> Desk<S, B, W> {
         ensures printed { Prints line.now self.old.is_mute self.new.is_mute (W.contents self.old.writer) (W.contents self.new.writer) }
         ensures status { self.new.status ≡ status_with self.old.status line.now self.new.is_mute }
         ensures pending { self.new.pending ≡ self.old.pending }
+        ensures submitter { self.new.submitter ≡ self.old.submitter }
     {
         self.status = self.status.or(Status::of_line(line));
         if self.is_mute {
@@ -130,16 +155,14 @@ impl<S: Alter, B: Room, W: Write + Drop> Desk<S, B, W> {
         }
     }
 
-    /// Waits for the answer of the oldest line and prints it. No where nothing is answered any more.
-    fn tell_oldest<R: Wait>(&mut self, rt: &R) -> bool
-        ensures { length self.new.pending.lines.items ≤ length self.old.pending.lines.items }
+    /// Prints an answer. No where there is none.
+    fn print_answer(&mut self, answer: Option<Line>) -> bool
+        ensures printed { PrintsAnswer answer (record { is_mute = self.old.is_mute; status = self.old.status; bytes = W.contents self.old.writer }) (record { is_mute = self.new.is_mute; status = self.new.status; bytes = W.contents self.new.writer }) }
+        ensures goes_on { result ≡ is_some answer }
+        ensures pending { self.new.pending ≡ self.old.pending }
+        ensures submitter { self.new.submitter ≡ self.old.submitter }
     {
-        let line = match self.pending.pop() {
-            Some(Pending::Submitted(ticket)) => answer_to(rt, &mut self.submitter, ticket),
-            Some(Pending::Known(line)) => Some(line),
-            None => return true,
-        };
-        match line {
+        match answer {
             Some(line) => {
                 self.print(&line);
                 true
@@ -148,9 +171,31 @@ impl<S: Alter, B: Room, W: Write + Drop> Desk<S, B, W> {
         }
     }
 
+    /// Waits for the answer of the oldest line and prints it. No where nothing is answered any more.
+    #[tactic(auto, using(flow_hub::proofs::Growing::before_self))]
+    fn tell_oldest<R: Wait>(&mut self, rt: &R) -> bool
+        ensures oldest { (told : Option ALine) × AnswersFirst S.Store self.new.submitter self.old.pending.lines.items self.new.pending.lines.items told result
+            × PrintsAnswer told (record { is_mute = self.old.is_mute; status = self.old.status; bytes = W.contents self.old.writer }) (record { is_mute = self.new.is_mute; status = self.new.status; bytes = W.contents self.new.writer }) }
+        ensures told { HasTold S.Store self.new.submitter result self.old.pending.lines.items self.new.pending.lines.items (record { is_mute = self.old.is_mute; status = self.old.status; bytes = W.contents self.old.writer }) (record { is_mute = self.new.is_mute; status = self.new.status; bytes = W.contents self.new.writer }) }
+        ensures grows { IsBefore self.old.submitter.was self.new.submitter.was }
+        ensures same { self.new.submitter.id ≡ self.old.submitter.id }
+        ensures fewer { length self.new.pending.lines.items ≤ length self.old.pending.lines.items }
+    {
+        let Some(pending) = self.pending.pop() else {
+            return true;
+        };
+        let answer = answer_of(rt, &mut self.submitter, pending);
+        self.print_answer(answer)
+    }
+
     /// Submits a command until it is taken in. None where nothing is answered any more.
+    #[tactic(auto, using(crate::proofs::Telling::told_none, crate::proofs::Telling::told_then, crate::proofs::Telling::told_later, crate::proofs::Telling::told_ends, flow_hub::proofs::Growing::before_trans))]
     fn submit<R: Wait>(&mut self, rt: &R, command: Command) -> Option<Ticket>
-        ensures { length self.new.pending.lines.items ≤ length self.old.pending.lines.items }
+        ensures ticket { IfSome result (λ t. IsOf self.new.submitter command t) }
+        ensures told { HasTold S.Store self.new.submitter (is_some result) self.old.pending.lines.items self.new.pending.lines.items (record { is_mute = self.old.is_mute; status = self.old.status; bytes = W.contents self.old.writer }) (record { is_mute = self.new.is_mute; status = self.new.status; bytes = W.contents self.new.writer }) }
+        ensures grows { IsBefore self.old.submitter.was self.new.submitter.was }
+        ensures same { self.new.submitter.id ≡ self.old.submitter.id }
+        ensures fewer { length self.new.pending.lines.items ≤ length self.old.pending.lines.items }
     {
         let mut command = command;
         'tries: for _ in rt.forever() {
@@ -169,7 +214,11 @@ impl<S: Alter, B: Room, W: Write + Drop> Desk<S, B, W> {
 
     /// What becomes of a line. None where nothing is answered any more.
     fn pending_of<R: Wait, C: Clock>(&mut self, rt: &R, clock: &C, line: Vec<u8>) -> Option<Pending>
-        ensures { length self.new.pending.lines.items ≤ length self.old.pending.lines.items }
+        ensures pending { IfSome result (λ p. IsPendingOf self.new.submitter line.items p) }
+        ensures told { HasTold S.Store self.new.submitter (is_some result) self.old.pending.lines.items self.new.pending.lines.items (record { is_mute = self.old.is_mute; status = self.old.status; bytes = W.contents self.old.writer }) (record { is_mute = self.new.is_mute; status = self.new.status; bytes = W.contents self.new.writer }) }
+        ensures grows { IsBefore self.old.submitter.was self.new.submitter.was }
+        ensures same { self.new.submitter.id ≡ self.old.submitter.id }
+        ensures fewer { length self.new.pending.lines.items ≤ length self.old.pending.lines.items }
     {
         match command_of(self.alloc, line.as_slice()) {
             Ok(command) => {
@@ -186,6 +235,9 @@ impl<S: Alter, B: Room, W: Write + Drop> Desk<S, B, W> {
     /// Takes in a line. No where nothing is answered any more.
     fn take_line<R: Wait, C: Clock>(&mut self, rt: &R, clock: &C, line: Vec<u8>) -> bool
         requires { length self.old.pending.lines.items < 64 }
+        ensures taken { result ≡ true → (p : APending) × (rest : List APending) × IsPendingOf self.new.submitter line.items p × (self.new.pending.lines.items ≡ rest ++ p ∷ [])
+            × HasTold S.Store self.new.submitter true self.old.pending.lines.items rest (record { is_mute = self.old.is_mute; status = self.old.status; bytes = W.contents self.old.writer }) (record { is_mute = self.new.is_mute; status = self.new.status; bytes = W.contents self.new.writer }) }
+        ensures not_taken { result ≡ false → HasTold S.Store self.new.submitter false self.old.pending.lines.items self.new.pending.lines.items (record { is_mute = self.old.is_mute; status = self.old.status; bytes = W.contents self.old.writer }) (record { is_mute = self.new.is_mute; status = self.new.status; bytes = W.contents self.new.writer }) }
     {
         match self.pending_of(rt, clock, line) {
             Some(pending) => {
@@ -211,9 +263,14 @@ impl<S: Alter, B: Room, W: Write + Drop> Desk<S, B, W> {
     }
 
     /// Prints all replies that are to come.
-    fn tell_all<R: Wait>(&mut self, rt: &R) {
+    fn tell_all<R: Wait>(&mut self, rt: &R)
+        ensures told { HasTold S.Store self.new.submitter false self.old.pending.lines.items self.new.pending.lines.items (record { is_mute = self.old.is_mute; status = self.old.status; bytes = W.contents self.old.writer }) (record { is_mute = self.new.is_mute; status = self.new.status; bytes = W.contents self.new.writer }) }
+    {
         'lines: for _ in rt.forever() {
-            if self.pending.len() == 0 || !self.tell_oldest(rt) {
+            if self.pending.len() == 0 {
+                return;
+            }
+            if !self.tell_oldest(rt) {
                 return;
             }
         }

@@ -4,6 +4,7 @@ ghost use Rattle.flow_base.specs.declared.command.Command.{Command as ACommand};
 ghost use Rattle.flow_hub.specs.Feeding.{IsTickOf};
 ghost use Rattle.flow_pool.specs.Reports.{came_of};
 ghost use Rattle.flow_work.specs.Endings.{unheard_denied, unheard_why};
+ghost use Rattle.flow_work.specs.Hearing.{IsHeard};
 
 use crate::tally::Tally;
 use flow_base::code::Code;
@@ -103,12 +104,14 @@ fn unheard_of(instead: NotDone) -> (Command, Unheard)
 }
 
 /// Submits a command and waits for its reply.
+#[tactic(auto, using(crate::proofs::Hearing::has_reply))]
 fn heard<S: Alter, B: Room, R: Wait>(
     rt: &R,
     submitter: &mut Submitter<S, B>,
     command: Command,
 ) -> Heard
-    ensures { IfErr result (λ e. e.0 ≡ command) }
+    ensures heard { IsHeard S.Store submitter.old submitter.new command result }
+    ensures back { IfErr result (λ e. e.0 ≡ command) }
 {
     match submitter.submit(rt, command) {
         Ok(ticket) => match submitter.wait(rt, ticket) {
@@ -160,16 +163,25 @@ impl<S: Alter, B: Room> Reporter<S, B> {
     {
         self.submitter.next_tick(rt, clock)
     }
+
+    /// Submits a command and waits for its reply.
+    fn report<R: Wait>(&mut self, rt: &R, command: Command) -> Heard
+        ensures heard { IsHeard S.Store self.old.submitter self.new.submitter command result }
+        ensures told { self.new.told ≡ self.old.told ++ (command, came_of result) ∷ [] }
+        ensures back { IfErr result (λ e. e.0 ≡ command) }
+    {
+        let asked = Snapshot::of(&command);
+        let heard = heard(rt, &mut self.submitter, command);
+        self.count(&heard);
+        self.told = with_heard(&self.told, asked, Snapshot::of(&heard));
+        heard
+    }
 }
 
 impl<S: Alter, B: Room> Reports for Reporter<S, B> {
     ghost told = { λ r. r.told };
 
     fn tell<R: Wait>(&mut self, rt: &R, command: Command) -> Result<Reply, (Command, Unheard)> {
-        let asked = Snapshot::of(&command);
-        let heard = heard(rt, &mut self.submitter, command);
-        self.count(&heard);
-        self.told = with_heard(&self.told, asked, Snapshot::of(&heard));
-        heard
+        self.report(rt, command)
     }
 }

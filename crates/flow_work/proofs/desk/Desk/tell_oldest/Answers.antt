@@ -1,0 +1,15 @@
+use Rattle.std.proofs.Common.{◌≡◌, ap, subst, sym}
+use Rattle.flow_work.specs.Telling.{IsAnswer}
+use Rattle.flow_work.proofs.Telling.{told_next}
+use Rattle.flow_work.proofs.desk.Desk.tell_oldest.Goals as goal
+
+pub returns-clause-told : goal.returns-clause-told
+returns-clause-told g c =
+    let old = c.args.self.now in
+    let new = c.print_answer.new.self in
+    let answer = c.answer_of-answer.result in
+    let is = subst (λ m. IsAnswer g.S.Store m c.in-Some.pending answer) (sym c.print_answer.ensures.submitter) c.answer_of-answer.ensures.answer in
+    told_next g.S.Store new.submitter c.in-Some.pending answer c.print_answer.result
+    (record { is_mute = old.is_mute; status = old.status; bytes = g.W.Write.contents old.writer })
+    (record { is_mute = new.is_mute; status = new.status; bytes = g.W.Write.contents new.writer })
+    (c.in-Some.ensures {u = tt}) (ap (λ q. q.lines.items) c.print_answer.ensures.pending) is c.print_answer.ensures.goes_on c.print_answer.ensures.printed

@@ -1,0 +1,41 @@
+-- What comes of a command that is submitted and waited for.
+use Rattle.std.specs.Prelude.{◌≡◌, ◌⊎◌, ◌≤◌, length, Some, Result, Ok, Err}
+use Rattle.sqlite_trees.specs.declared.store.Store.{Ghosts}
+use Rattle.flow_base.specs.declared.command.Command.{Command}
+use Rattle.flow_base.specs.declared.command.Reply.{Reply}
+use Rattle.flow_machine.specs.declared.submission.Receipt.{Receipt}
+use Rattle.flow_hub.specs.declared.denied.Denied.{Denied}
+use Rattle.flow_hub.specs.declared.ticket.NotDone.{NotDone}
+use Rattle.flow_hub.specs.declared.ticket.Ticket.{Ticket}
+use Rattle.flow_hub.specs.Submitting.{Member, IsDenied, IsReceipt, IsNotDone}
+use Rattle.flow_pool.specs.declared.report.Unheard.{Unheard}
+use Rattle.flow_work.specs.Endings.{unheard_denied, unheard_why}
+
+-- The reply is that of a receipt of this command, whose ticket was given meanwhile.
+pub record HasReply {S : Type 0} (g : Ghosts S) (old new : Member S) (c : Command) (reply : Reply) : Type 0 where
+  pub ticket : Ticket
+  pub receipt : Receipt
+  pub meanwhile : length old.was.asked ≤ ticket.number
+  pub is : IsReceipt g new ticket receipt
+  pub command : receipt.command ≡ c
+  pub told : reply ≡ receipt.reply
+
+-- A ticket that was given meanwhile for this command was answered by a code, which says why.
+pub record HasCode {S : Type 0} (old new : Member S) (c : Command) (why : Unheard) : Type 0 where
+  pub ticket : Ticket
+  pub instead : NotDone
+  pub meanwhile : length old.was.asked ≤ ticket.number
+  pub is : IsNotDone new ticket instead
+  pub command : instead.command ≡ Some c
+  pub told : why ≡ unheard_why instead.code
+
+-- it wasn't taken in, by what was seen then
+pub record HasNoTicket {S : Type 0} (new : Member S) (why : Unheard) : Type 0 where
+  pub denied : Denied
+  pub is : IsDenied new.was denied
+  pub told : why ≡ unheard_denied denied
+
+-- What comes of a command by a submitter, as it was before and is behind: its reply; or it comes back, and why.
+abbrev pub IsHeard : {S : Type 0} → Ghosts S → Member S → Member S → Command → Result Reply (Command × Unheard) → Type 0
+IsHeard g old new c (Ok reply) = HasReply g old new c reply
+IsHeard g old new c (Err e) = (e.0 ≡ c) × (HasNoTicket new e.1 ⊎ HasCode old new c e.1)

@@ -1,0 +1,32 @@
+-- What becomes of a line that was read.
+use Rattle.std.specs.Prelude.{◌≡◌, ◌⊎◌, ℕ, List, Some, None, slice_get}
+use Rattle.flow_base.specs.declared.code.Code.TheVariants as code
+use Rattle.flow_base.specs.declared.command.Command.{Command}
+use Rattle.flow_cli.specs.Commands.{line_command}
+use Rattle.flow_cli.specs.declared.reply.Line.{Line}
+use Rattle.flow_cli.specs.declared.reply.Line.TheVariants as line
+use Rattle.flow_hub.specs.declared.ticket.Ticket.{Ticket}
+use Rattle.flow_hub.specs.Submitting.{Member}
+use Rattle.flow_work.specs.Moments.{command_at}
+use Rattle.flow_work.specs.declared.queue.Pending.{Pending}
+use Rattle.flow_work.specs.declared.queue.Pending.TheVariants as pending
+
+-- the ticket is this submitter's own, and this was submitted at it
+abbrev pub IsOf : {S : Type 0} → Member S → Command → Ticket → Type 0
+IsOf m c t = (t.owner ≡ m.id) × (slice_get m.was.asked t.number ≡ Some (record { ticket = t.number; command = c }))
+
+-- the line is this command, which was submitted with the moment that a clock told
+pub record IsSubmitted {S : Type 0} (m : Member S) (bytes : List ℕ) (t : Ticket) : Type 0 where
+  pub command : Command
+  pub at : ℕ
+  pub is : line_command bytes ≡ Some command
+  pub ticket : IsOf m (command_at command at) t
+
+-- the line is no command, and that is told; or memory ran out
+abbrev pub IsKnown : List ℕ → Line → Type 0
+IsKnown bytes told = ((told ≡ line.Bad) × (line_command bytes ≡ None)) ⊎ (told ≡ line.NotApplied code.NoMemory)
+
+-- what is waited for behind a line
+abbrev pub IsPendingOf : {S : Type 0} → Member S → List ℕ → Pending → Type 0
+IsPendingOf m bytes (pending.Submitted ticket) = IsSubmitted m bytes ticket
+IsPendingOf m bytes (pending.Known told) = IsKnown bytes told
