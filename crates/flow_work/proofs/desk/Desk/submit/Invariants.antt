@@ -1,6 +1,6 @@
 use Rattle.std.proofs.Common.{◌≡◌, ◌≤◌, true, length}
 use Rattle.flow_hub.specs.Knowing.{IsBefore}
-use Rattle.flow_work.specs.Telling.{HasTold, Printed}
+use Rattle.flow_work.specs.Telling.{HasTold}
 use Rattle.flow_work.proofs.desk.Desk.submit.Given as goal
 
 abbrev pub invariant-tries : goal.invariant-tries

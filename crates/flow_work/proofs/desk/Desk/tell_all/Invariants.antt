@@ -1,6 +1,6 @@
 use Rattle.std.proofs.Common.{◌≡◌, true}
 use Rattle.flow_hub.specs.Knowing.{IsBefore}
-use Rattle.flow_work.specs.Telling.{HasTold, Printed}
+use Rattle.flow_work.specs.Telling.{HasTold}
 use Rattle.flow_work.proofs.desk.Desk.tell_all.Given as goal
 
 abbrev pub invariant-lines : goal.invariant-lines

@@ -1,4 +1,4 @@
-use Rattle.std.proofs.Common.{◌≡◌, ap, subst, sym}
+use Rattle.std.proofs.Common.{ap, subst, sym}
 use Rattle.flow_work.specs.Telling.{IsAnswer}
 use Rattle.flow_work.proofs.Telling.{told_next}
 use Rattle.flow_work.proofs.desk.Desk.tell_oldest.Goals as goal
