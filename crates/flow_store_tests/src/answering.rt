@@ -7,7 +7,7 @@ use std::test::Fail;
 
 // The last one is E64.
 const EACH: &[Act] = &[Act::Asks(Asking::Answers(
-    &[Call::Register, Call::Start, Call::Complete, Call::Complete],
+    &[Call::Register, Call::Start("f"), Call::Complete(1), Call::Complete(1)],
     Want::Told(&[
         Told::Replied(Named::Text(1)),
         Told::Replied(Named::Run(1)),
@@ -23,7 +23,7 @@ fn each_command_has_its_answer(rt: HostRuntime) -> Result<(), Fail> {
 }
 
 const STOPPED: &[Act] = &[Act::Asks(Asking::Answers(
-    &[Call::Register, Call::Start, Call::Complete],
+    &[Call::Register, Call::Start("f"), Call::Complete(1)],
     Want::Told(&[
         Told::Replied(Named::Text(1)),
         Told::Stopped(Stop::Unknown),
@@ -40,7 +40,7 @@ fn a_commit_that_fails_stops_all(rt: HostRuntime) -> Result<(), Fail> {
 
 // The last one is E80.
 const GIVEN_UP: &[Act] = &[Act::Asks(Asking::Answers(
-    &[Call::Register, Call::Start],
+    &[Call::Register, Call::Start("f")],
     Want::Told(&[Told::Replied(Named::Text(1)), Told::NotApplied(80)]),
 ))];
 

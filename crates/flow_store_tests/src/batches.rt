@@ -8,7 +8,7 @@ use std::test::Fail;
 const REQUESTED: &[Act] = &[Act::Keeps(Keeping::Commits(
     &[
         (1, Call::RegisterEmpty),
-        (2, Call::History),
+        (2, Call::History(1)),
         (3, Call::StartEmpty),
         (4, Call::StartEmptyAgain),
     ],
@@ -31,9 +31,9 @@ fn a_request_counts_within_its_batch(rt: HostRuntime) -> Result<(), Fail> {
 /// The first worked row.
 const WORKED: Calls = &[
     (9, Call::Register),
-    (7, Call::Start),
-    (5, Call::Complete),
-    (3, Call::History),
+    (7, Call::Start("f")),
+    (5, Call::Complete(1)),
+    (3, Call::History(1)),
     (1, Call::Describe),
 ];
 
@@ -42,7 +42,7 @@ const WORKED_TOLD: Want = Want::Told(&[
     Told::Kept(9, 1, Named::Text(1)),
     Told::Kept(7, 2, Named::Run(1)),
     Told::Kept(5, 3, Named::Event(3)),
-    Told::Kept(3, 4, Named::Events(4, false)),
+    Told::Kept(3, 4, Named::Returned(4, 42)),
     Told::Kept(1, 5, Named::Described(4, true)),
 ]);
 
@@ -87,7 +87,7 @@ const STEPS: Act = Act::Limits(Some(3));
 const TWO: &[Act] = &[
     STEPS,
     Act::Keeps(Keeping::Commits(
-        &[(1, Call::Register), (2, Call::Start)],
+        &[(1, Call::Register), (2, Call::Start("f"))],
         Cut::InBatches(3),
         Want::Kept,
     )),
@@ -99,7 +99,7 @@ const THREE: &[Act] = &[
     Act::Keeps(Keeping::Commits(
         &[
             (1, Call::Register),
-            (2, Call::Start),
+            (2, Call::Start("f")),
             (3, Call::Describe),
             (4, Call::RegisterEmpty),
         ],

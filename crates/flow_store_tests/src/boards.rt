@@ -7,16 +7,16 @@ use std::test::Fail;
 /// Two runs that wait for their activities.
 const TWO: Calls = &[
     (1, Call::Register),
-    (1, Call::Start),
-    (1, Call::StartAnother),
+    (1, Call::Start("f")),
+    (1, Call::Start("g")),
 ];
 
 /// The same, and the first one's activity has completed.
 const ONE: Calls = &[
     (1, Call::Register),
-    (1, Call::Start),
-    (1, Call::StartAnother),
-    (1, Call::Complete),
+    (1, Call::Start("f")),
+    (1, Call::Start("g")),
+    (1, Call::Complete(1)),
 ];
 
 const READY: &[Act] = &[Act::Keeps(Keeping::Boards(TWO, &[], 1000, (2, (1, 2, 1), 0, 2)))];

@@ -18,22 +18,18 @@ const A: &str =
 pub enum Call {
     /// Registers the text A.
     Register,
-    /// Starts a run of it, which waits on its activity.
-    Start,
-    /// Starts another, of another flow.
-    StartAnother,
-    /// Starts one more, of a third flow.
-    StartThird,
-    /// Reports that the activity of run 1 has completed.
-    Complete,
+    /// Starts a run of it under this flow and request. It waits on its activity.
+    Start(&'static str),
+    /// Reports that the activity of this run has completed.
+    Complete(u64),
     /// Registers a flow with nothing to do.
     RegisterEmpty,
     /// Starts it.
     StartEmpty,
     /// Starts it with the same request, under another flow.
     StartEmptyAgain,
-    /// Asks for the history of run 1.
-    History,
+    /// Asks for the history of this run.
+    History(u64),
     /// Asks for run 1.
     Describe,
     /// The command of a line.
@@ -53,7 +49,9 @@ pub enum Named {
     /// The event under which an input stands.
     Event(u64),
     Code(u8),
-    /// So many events, and whether the second of two is an end with an empty text.
+    /// So many events, of which the last one says that the run has returned this number.
+    Returned(usize, i64),
+    /// So many others, and whether the second of two is an end with an empty text.
     Events(usize, bool),
     /// So many events of a run, and whether it has completed.
     Described(usize, bool),
@@ -116,8 +114,8 @@ fn start_waiting(alloc: Global, name: &str) -> Option<Command> {
     start(alloc, name, name, Some(7), 1000)
 }
 
-fn complete() -> Option<Command> {
-    let run = RunId::new(1)?;
+fn complete(run: u64) -> Option<Command> {
+    let run = RunId::new(run)?;
     let event = EventId::new(2)?;
     let at = Moment::new(1500)?;
     Some(Command::Complete(run, event, 1, Value::Int(41), at))
@@ -131,8 +129,8 @@ fn start_empty(alloc: Global, flow: &str) -> Option<Command> {
     start(alloc, "q", flow, None, 0)
 }
 
-fn history() -> Option<Command> {
-    Some(Command::History(RunId::new(1)?))
+fn history(run: u64) -> Option<Command> {
+    Some(Command::History(RunId::new(run)?))
 }
 
 fn describe() -> Option<Command> {
@@ -150,14 +148,12 @@ fn in_line(alloc: Global, line: &[u8]) -> Option<Command> {
 pub fn command(alloc: Global, call: Call) -> Option<Command> {
     match call {
         Call::Register => register(alloc),
-        Call::Start => start_waiting(alloc, "f"),
-        Call::StartAnother => start_waiting(alloc, "g"),
-        Call::StartThird => start_waiting(alloc, "h"),
-        Call::Complete => complete(),
+        Call::Start(name) => start_waiting(alloc, name),
+        Call::Complete(run) => complete(run),
         Call::RegisterEmpty => register_empty(alloc),
         Call::StartEmpty => start_empty(alloc, "f"),
         Call::StartEmptyAgain => start_empty(alloc, "g"),
-        Call::History => history(),
+        Call::History(run) => history(run),
         Call::Describe => describe(),
         Call::Line(line) => in_line(alloc, line),
     }
@@ -194,6 +190,21 @@ fn ends_empty(events: &[Event]) -> bool {
     }
 }
 
+/// What the last event of a run says that it has returned.
+fn returned(events: &[Event]) -> Option<i64> {
+    match &events.last()?.what {
+        What::Asked(Cmd::Complete(Value::Int(number))) => Some(*number),
+        _ => None,
+    }
+}
+
+fn named_by_history(events: &[Event]) -> Named {
+    match returned(events) {
+        Some(number) => Named::Returned(events.len(), number),
+        None => Named::Events(events.len(), ends_empty(events)),
+    }
+}
+
 /// What a reply names.
 pub fn named_by(reply: &Reply) -> Named {
     match reply {
@@ -202,9 +213,7 @@ pub fn named_by(reply: &Reply) -> Named {
         Reply::Duplicate(run) => Named::Duplicate(run.get()),
         Reply::Recorded(_, event) => Named::Event(event.get()),
         Reply::Refused(code) => Named::Code(code.number()),
-        Reply::History(events) => {
-            Named::Events(events.as_slice().len(), ends_empty(events.as_slice()))
-        }
+        Reply::History(events) => named_by_history(events.as_slice()),
         Reply::Run(run) => Named::Described(run.events, matches!(&run.state, State::Completed)),
         _ => Named::Other,
     }

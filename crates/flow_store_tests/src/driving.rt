@@ -5,10 +5,10 @@ use crate::engines::Asking;
 use std::test::Fail;
 
 /// The start of a run that waits on its activity.
-const BEGUN: Calls = &[(7, Call::Register), (5, Call::Start)];
+const BEGUN: Calls = &[(7, Call::Register), (5, Call::Start("f"))];
 
 /// Its activity is reported twice.
-const REPORTED: Calls = &[(3, Call::Complete), (1, Call::Complete)];
+const REPORTED: Calls = &[(3, Call::Complete(1)), (1, Call::Complete(1))];
 
 // The last one is E64.
 const BY_ONE: &[Act] = &[Act::Asks(Asking::Drives(
@@ -45,7 +45,7 @@ const BEGINS: Act = Act::Asks(Asking::Drives(
     ],
 ));
 
-const ASKED: Calls = &[(2, Call::History)];
+const ASKED: Calls = &[(2, Call::History(1))];
 
 const OPEN_AGAIN: &[Act] = &[
     BEGINS,
@@ -68,7 +68,7 @@ const REPORTED_AGAIN: &[Act] = &[
             Told::Kept(1, 2, Named::Code(64)),
         ],
     )),
-    Act::Asks(Asking::Drives(ASKED, &[], &[Told::Kept(2, 1, Named::Events(4, false))])),
+    Act::Asks(Asking::Drives(ASKED, &[], &[Told::Kept(2, 1, Named::Returned(4, 42))])),
 ];
 
 #[test]

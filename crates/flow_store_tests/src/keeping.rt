@@ -5,7 +5,7 @@ use crate::keepers::{Cut, Keeping};
 use std::test::Fail;
 
 const FIRST: &[Act] = &[Act::Keeps(Keeping::Commits(
-    &[(5, Call::Register), (4, Call::Start)],
+    &[(5, Call::Register), (4, Call::Start("f"))],
     Cut::Singly,
     Want::Told(&[
         Told::Kept(5, 1, Named::Text(1)),
@@ -19,7 +19,7 @@ fn receipts_stand_at_their_places(rt: HostRuntime) -> Result<(), Fail> {
     Ok(())
 }
 
-const BEGUN: Calls = &[(1, Call::Register), (2, Call::Start)];
+const BEGUN: Calls = &[(1, Call::Register), (2, Call::Start("f"))];
 
 const HELD: &[Act] = &[
     Act::Keeps(Keeping::Commits(BEGUN, Cut::Singly, Want::Kept)),
@@ -43,7 +43,7 @@ fn the_outbox_holds_what_is_open(rt: HostRuntime) -> Result<(), Fail> {
 
 const EMPTIED: &[Act] = &[
     Act::Keeps(Keeping::Commits(BEGUN, Cut::Singly, Want::Kept)),
-    Act::Keeps(Keeping::Commits(&[(3, Call::Complete)], Cut::Singly, Want::Kept)),
+    Act::Keeps(Keeping::Commits(&[(3, Call::Complete(1))], Cut::Singly, Want::Kept)),
     Act::Counts(&[
         ("SELECT run FROM outbox", 0),
         ("SELECT num FROM run WHERE num = 1 AND isopen = 0", 1),
@@ -59,7 +59,7 @@ fn a_report_empties_the_outbox(rt: HostRuntime) -> Result<(), Fail> {
 }
 
 const REFUSED: &[Act] = &[Act::Keeps(Keeping::Commits(
-    &[(1, Call::Complete), (2, Call::Register)],
+    &[(1, Call::Complete(1)), (2, Call::Register)],
     Cut::Singly,
     Want::Told(&[
         Told::Kept(1, 1, Named::Code(70)),
@@ -75,7 +75,7 @@ fn a_refusal_is_kept(rt: HostRuntime) -> Result<(), Fail> {
 }
 
 const UNCHANGED: &[Act] = &[
-    Act::Keeps(Keeping::Commits(&[(1, Call::Complete)], Cut::Singly, Want::Kept)),
+    Act::Keeps(Keeping::Commits(&[(1, Call::Complete(1))], Cut::Singly, Want::Kept)),
     Act::Keeps(Keeping::Commits(&[], Cut::Singly, Want::Kept)),
     Act::Counts(&[("SELECT num FROM run", 0)]),
 ];
@@ -87,7 +87,7 @@ fn a_refusal_changes_nothing(rt: HostRuntime) -> Result<(), Fail> {
 }
 
 const NOT_APPLIED: &[Act] = &[Act::Keeps(Keeping::Commits(
-    &[(1, Call::Register), (1, Call::Start)],
+    &[(1, Call::Register), (1, Call::Start("f"))],
     Cut::Singly,
     Want::Told(&[Told::Kept(1, 1, Named::Text(1)), Told::Refused(80, false)]),
 ))];
@@ -100,7 +100,7 @@ fn a_read_that_fails_applies_nothing(rt: HostRuntime) -> Result<(), Fail> {
 }
 
 const HALTED: &[Act] = &[Act::Keeps(Keeping::Commits(
-    &[(1, Call::Register), (1, Call::Start), (1, Call::Complete)],
+    &[(1, Call::Register), (1, Call::Start("f")), (1, Call::Complete(1))],
     Cut::Singly,
     Want::Told(&[
         Told::Kept(1, 1, Named::Text(1)),

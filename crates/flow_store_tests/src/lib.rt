@@ -1,10 +1,13 @@
-//! Tests over a store: what a keeper keeps in it, what is found when it is opened, and what an engine does with batches and commands.
+//! Tests over a store: what a keeper keeps in it, what is found when it is opened, what an engine does with batches and commands, and
+//! disks that stop or fail at one call, each one in turn, with an engine over a file on such a disk.
 #![tactic(auto)]
 
 #[cfg(test)]
 mod acts;
 #[cfg(test)]
 mod answering;
+#[cfg(test)]
+mod answers;
 #[cfg(test)]
 mod batches;
 #[cfg(test)]
@@ -14,9 +17,17 @@ mod calls;
 #[cfg(test)]
 mod capacities;
 #[cfg(test)]
+mod disk_calls;
+#[cfg(test)]
 mod driving;
 #[cfg(test)]
 mod engines;
+#[cfg(test)]
+mod failed_disk;
+#[cfg(test)]
+mod failing;
+#[cfg(test)]
+mod files;
 #[cfg(test)]
 mod found;
 #[cfg(test)]
@@ -31,5 +42,11 @@ mod lists;
 mod opening;
 #[cfg(test)]
 mod positions;
+#[cfg(test)]
+mod stopped_disk;
+#[cfg(test)]
+mod stopping;
+#[cfg(test)]
+mod two_batches;
 #[cfg(test)]
 mod worked_rows;

@@ -31,7 +31,7 @@ const PAID: Want = Want::Told(&[
     Told::Replied(Named::Text(1)),
     Told::Replied(Named::Run(1)),
     Told::Replied(Named::Event(3)),
-    Told::Replied(Named::Events(4, false)),
+    Told::Replied(Named::Returned(4, 42)),
     Told::Replied(Named::Described(4, true)),
 ]);
 
@@ -46,9 +46,9 @@ fn a_list_is_answered_as_one_by_one(rt: HostRuntime) -> Result<(), Fail> {
 }
 
 const STOPPED: &[Act] = &[Act::Asks(Asking::AnswersAll(
-    &[Call::Register, Call::Start, Call::Complete],
+    &[Call::Register, Call::Start("f"), Call::Complete(1)],
     Want::Told(&[Told::Replied(Named::Text(1)), Told::Stopped(Stop::Unknown)]),
-    &[Call::Complete],
+    &[Call::Complete(1)],
     Want::Told(&[Told::Stopped(Stop::Halted)]),
 ))];
 

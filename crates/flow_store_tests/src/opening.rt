@@ -175,14 +175,14 @@ pub fn recovers<S: Alter>(
 // A keeper that is opened for it keeps a call.
 const REGISTER: Act = Act::Recovers(Recovering::Keeps(Call::Register));
 
-const START: Act = Act::Recovers(Recovering::Keeps(Call::Start));
+const START: Act = Act::Recovers(Recovering::Keeps(Call::Start("f")));
 
-const START_ANOTHER: Act = Act::Recovers(Recovering::Keeps(Call::StartAnother));
+const START_ANOTHER: Act = Act::Recovers(Recovering::Keeps(Call::Start("g")));
 
-const COMPLETE: Act = Act::Recovers(Recovering::Keeps(Call::Complete));
+const COMPLETE: Act = Act::Recovers(Recovering::Keeps(Call::Complete(1)));
 
 // A transaction that runs on has applied it.
-const APPLY_COMPLETE: Act = Act::Recovers(Recovering::Applies(Call::Complete));
+const APPLY_COMPLETE: Act = Act::Recovers(Recovering::Applies(Call::Complete(1)));
 
 // What is found.
 const NOTHING: Act = Act::Recovers(Recovering::Finds(Found::Nothing));

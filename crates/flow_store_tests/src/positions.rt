@@ -166,10 +166,10 @@ pub fn has_positions<S: Alter>(
 const BEGUN: Act = Act::Keeps(Keeping::Commits(
     &[
         (1, Call::Register),
-        (2, Call::Start),
-        (3, Call::StartAnother),
-        (4, Call::StartThird),
-        (5, Call::Complete),
+        (2, Call::Start("f")),
+        (3, Call::Start("g")),
+        (4, Call::Start("h")),
+        (5, Call::Complete(1)),
     ],
     Cut::Singly,
     Want::Kept,

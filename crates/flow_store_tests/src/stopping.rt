@@ -1,7 +1,8 @@
 //! A run that is stopped at each of its calls of the disk, one after the other, in each part of the call.
 use crate::answers::{Answers, Ended, undisturbed};
-use crate::calls::{BEGUN, Call, FIRST, FOUND, Named, QUESTIONS, SECOND, is_book};
+use crate::calls::{Call, Named};
 use crate::files::{Disturbed, answers_of, crashed, stopped};
+use crate::two_batches::{BEGUN, FIRST, FOUND, QUESTIONS, SECOND, is_book};
 use flow_crash::calls::{Part, Stop};
 use std::alloc::Global;
 use std::test::Fail;

@@ -1,4 +1,4 @@
-use Rattle.flow_hub_tests.proofs.threads.two_threads_get_their_own_answers.Given as goal
+use Rattle.flow_work_tests.proofs.threads.two_threads_get_their_own_answers.Given as goal
 
 abbrev pub ghosts-served-B-Room : goal.ghosts-served-B-Room
 ghosts-served-B-Room g a = record { table = a.opened.table }

@@ -1,7 +1,7 @@
 //! What an engine answers to batches, in plain numbers.
 ghost use Rattle.std.specs.Prelude.{◌≤◌, IfSome, length};
 
-use crate::calls::{Call, Named, command, named_by};
+use crate::calls::{Call, Named, commands, named_by};
 use flow_base::code::Code;
 use flow_base::command::{Command, Reply};
 use flow_engine::engine::Engine;
@@ -80,20 +80,12 @@ impl Answers {
     }
 }
 
-fn listed(alloc: Global, calls: &[Call]) -> Option<Vec<Command>> {
-    let mut list = Vec::new(alloc);
-    for call in calls {
-        list.push(command(alloc, *call)?).ok()?;
-    }
-    Some(list)
-}
-
 /// As many commands as an engine answers together.
-fn commands(alloc: Global, calls: &[Call]) -> Option<Vec<Command>>
+fn batch(alloc: Global, calls: &[Call]) -> Option<Vec<Command>>
     ensures some { IfSome result (λ list. 1 ≤ length list.items) }
     ensures most { IfSome result (λ list. length list.items ≤ 64) }
 {
-    let list = listed(alloc, calls)?;
+    let list = commands(alloc, calls)?;
     let count = list.as_slice().len();
     if count >= 1 && count <= 64 {
         return Some(list);
@@ -107,7 +99,7 @@ fn answer_batch<S: Alter>(
     calls: &[Call],
     answers: &mut Answers,
 ) -> bool {
-    match commands(alloc, calls) {
+    match batch(alloc, calls) {
         Some(commands) => answers.note(engine.answer_together(commands)),
         None => false,
     }

@@ -1,29 +1,17 @@
 //! A hub has one feed; and of a closed hub there is no task, no tick, and nothing to rest for.
 ghost use Rattle.flow_hub.specs.Seating.{IsRoomOf};
 
-use flow_base::number::Moment;
+use crate::clock::Still;
 use flow_hub::feed::Feed;
 use flow_hub::hub::Hub;
 use flow_hub::seats::{Opened, Room};
 use flow_hub::submitter::Submitter;
-use flow_timers::Clock;
 use sqlite::{Alter, MemStore};
 use std::alloc::Global;
 use std::marker::Brand;
 use std::sync::Wait;
 use std::test::*;
 use std::time::Clock as Timing;
-
-#[derive(Clone, Copy)]
-struct Still {
-    now: Moment,
-}
-
-impl Clock for Still {
-    fn now(&self) -> Moment {
-        self.now
-    }
-}
 
 /// Whether there is a task, a tick, and an end to rest for.
 fn asked_all<S: Alter, B: Room, R: Wait + Timing>(
@@ -46,9 +34,7 @@ fn closed<B: Room, R: Wait + Timing>(
     requires { IsRoomOf opened B.table B.name B.parts }
 {
     let (_publisher, hub) = Hub::<MemStore, B>::new(alloc, opened).ok()?;
-    let clock = Still {
-        now: Moment::new(1000)?,
-    };
+    let clock = Still::at(1000)?;
     let mut feed = hub.feed(rt).ok()??;
     let second = hub.feed(rt).ok()?.is_some();
     let mut submitter = hub.submitter(rt).ok()?;

@@ -1,4 +1,4 @@
-use Rattle.flow_hub_tests.proofs.tickets.what_waits_is_answered_after_closing.Given as goal
+use Rattle.flow_work_tests.proofs.tickets.what_waits_is_answered_after_closing.Given as goal
 
 abbrev pub ghosts-halted-B-Room : goal.ghosts-halted-B-Room
 ghosts-halted-B-Room g a = record { table = a.opened.table }

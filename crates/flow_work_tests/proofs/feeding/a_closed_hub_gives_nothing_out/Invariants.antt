@@ -1,4 +1,4 @@
-use Rattle.flow_hub_tests.proofs.feeding.a_closed_hub_gives_nothing_out.Given as goal
+use Rattle.flow_work_tests.proofs.feeding.a_closed_hub_gives_nothing_out.Given as goal
 
 abbrev pub ghosts-closed-B-Room : goal.ghosts-closed-B-Room
 ghosts-closed-B-Room g a = record { table = a.opened.table }

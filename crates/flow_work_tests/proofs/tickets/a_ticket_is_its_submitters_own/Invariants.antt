@@ -1,4 +1,4 @@
-use Rattle.flow_hub_tests.proofs.tickets.a_ticket_is_its_submitters_own.Given as goal
+use Rattle.flow_work_tests.proofs.tickets.a_ticket_is_its_submitters_own.Given as goal
 
 abbrev pub ghosts-lent-B-Room : goal.ghosts-lent-B-Room
 ghosts-lent-B-Room g a = record { table = a.opened.table }

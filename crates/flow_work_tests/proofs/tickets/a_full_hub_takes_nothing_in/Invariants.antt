@@ -1,4 +1,4 @@
-use Rattle.flow_hub_tests.proofs.tickets.a_full_hub_takes_nothing_in.Given as goal
+use Rattle.flow_work_tests.proofs.tickets.a_full_hub_takes_nothing_in.Given as goal
 
 abbrev pub ghosts-full-B-Room : goal.ghosts-full-B-Room
 ghosts-full-B-Room g a = record { table = a.opened.table }

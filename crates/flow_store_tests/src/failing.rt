@@ -1,7 +1,8 @@
 //! A run of which one call of the disk fails, each one in turn.
 use crate::answers::{Answers, Ended};
-use crate::calls::{BEGUN, Call, FIRST, Named, QUESTIONS, SECOND, UNBEGUN, is_book};
+use crate::calls::{Call, Named};
 use crate::files::{Disturbed, answers_of, failed};
+use crate::two_batches::{BEGUN, FIRST, QUESTIONS, SECOND, UNBEGUN, is_book};
 use flow_base::code::Code;
 use std::alloc::Global;
 use std::test::Fail;
