@@ -3,7 +3,8 @@ use Rattle.std.proofs.Common.{◌≡◌, ◌⊎◌, inl, inr, refl, sym, subst, 
 use Rattle.sqlite_trees.specs.declared.store.Store.{Ghosts}
 use Rattle.sqlite.specs.Held.{state}
 use Rattle.flow_model.specs.Book.{Book}
-use Rattle.flow_tables.specs.Owned.{Stored, IsFit, IsUp, is_sure, IsHindered, IsOurs, Follows, Keeps, LeavesEither, LeavesWritten, IsFileOf, state_of}
+use Rattle.flow_tables.specs.Owned.{Stored, IsFit, IsUp, is_sure, IsBarred, IsOurs, Follows, Keeps, LeavesEither, LeavesWritten, IsFileOf, state_of}
+use Rattle.flow_view.specs.declared.fault.ViewFault.{ViewFault}
 use Rattle.flow_tables.proofs.Stopping.{since_self, since_then}
 
 module _ {S : Type 0} (g : Ghosts S) (a b : Stored S) (follows : Follows g a b) (fit : IsFit g b) where
@@ -41,7 +42,7 @@ written_either g b sure k k' k'' same h db may = elim (h db may) [
 ]
 
 -- nothing hinders a transaction that is sure
-pub not_hindered : {S : Type 0} (g : Ghosts S) (a : Stored S) → is_sure g a → (W : Type 0) → W ⊎ IsHindered g a → W
-not_hindered g a sure W (inl w) = w
-not_hindered g a sure W (inr (inl noted)) = absurd (let clash = sym sure.none ∙ noted.1 in cc)
-not_hindered g a sure W (inr (inr outside)) = absurd (let clash = sym sure.mode ∙ outside in cc)
+pub not_hindered : {S : Type 0} (g : Ghosts S) (a : Stored S) (f : ViewFault) → is_sure g a → (W : Type 0) → W ⊎ IsBarred (state_of g a) a.refused f → W
+not_hindered g a f sure W (inl w) = w
+not_hindered g a f sure W (inr (inl noted)) = absurd (let clash = sym sure.none ∙ noted.1 in cc)
+not_hindered g a f sure W (inr (inr outside)) = absurd (let clash = sym sure.mode ∙ outside.1 in cc)

@@ -3,7 +3,7 @@ use Rattle.std.proofs.Common.{◌≡◌, ◌⊎◌, inl, inr, ℕ, Bool, true, f
 use Rattle.std.specs.Prelude.{IfOk, OnOk, IsTrue}
 use Rattle.sqlite_trees.specs.declared.store.Store.{Ghosts}
 use Rattle.flow_model.specs.Book.{Book}
-use Rattle.flow_tables.specs.Owned.{Stored, IsFit, IsUp, is_sure, Follows, Keeps, LeavesWritten, IsFileOf, IsHindered, Refuses, state_of}
+use Rattle.flow_tables.specs.Owned.{Stored, IsFit, IsUp, is_sure, Follows, Keeps, LeavesWritten, IsFileOf, IsBarred, Refuses, state_of}
 use Rattle.flow_tables.specs.Faults.{Since, HasFailed, IsCutOff}
 use Rattle.flow_tables.proofs.Stopping.{since_then}
 use Rattle.flow_view.specs.Reading.{Caused}
@@ -39,8 +39,8 @@ down_on g old mid new follows fit (inr (inl more)) = inr (inl (omega (arith, mor
 down_on g old mid new follows fit (inr (inr more)) = inr (inr more)
 
 -- why the commit was refused
-pub cut_failed : {S : Type 0} (g : Ghosts S) (mid new : Stored S) (f : ViewFault) → is_sure g mid → IsCutOff (codes "COMMIT") (state_of g mid) (state_of g new) f ⊎ IsHindered g mid → Caused {A = Unit} (Err f) (HasFailed (state_of g mid) (state_of g new))
-cut_failed g mid new f sure why = caused_so (HasFailed (state_of g mid) (state_of g new)) f (λ is. (not_hindered g mid sure (IsCutOff (codes "COMMIT") (state_of g mid) (state_of g new) f) why).failed is)
+pub cut_failed : {S : Type 0} (g : Ghosts S) (mid new : Stored S) (f : ViewFault) → is_sure g mid → IsCutOff (codes "COMMIT") (state_of g mid) (state_of g new) f ⊎ IsBarred (state_of g mid) mid.refused f → Caused {A = Unit} (Err f) (HasFailed (state_of g mid) (state_of g new))
+cut_failed g mid new f sure why = caused_so (HasFailed (state_of g mid) (state_of g new)) f (λ is. (not_hindered g mid f sure (IsCutOff (codes "COMMIT") (state_of g mid) (state_of g new) f) why).failed is)
 
 pub failed_after : {S : Type 0} (g : Ghosts S) (old mid new : Stored S) → Follows g old mid → IsFit g mid → HasFailed (state_of g mid) (state_of g new) → IsDown g old new
 failed_after g old mid new follows fit (inl more) = inr (inl (omega (arith, more, (follows.3 fit.0 fit.1).0)))

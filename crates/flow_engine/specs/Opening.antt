@@ -8,6 +8,7 @@ use Rattle.flow_base.specs.declared.fault.Fault.{Fault}
 use Rattle.flow_base.specs.declared.fault.Fault.TheVariants as fault
 use Rattle.flow_check.specs.Language.{meaning_of}
 use Rattle.flow_model.specs.Book.{Book}
+use Rattle.flow_tables.specs.Faults.{Since}
 use Rattle.flow_tables.specs.Opening.{HasCause, HasOtherFormat, IsFirstDamage, IsOfRows, IsOfStore, StopsOpening}
 use Rattle.flow_tables.specs.Owned.{IsFound, IsOurs, LeavesMade, state_of}
 use Rattle.flow_tables.specs.States.{HasTables}
@@ -52,10 +53,12 @@ pub record IsUnopened {S : Type 0} (g : Ghosts S) (from to : State) (f : Fault) 
   pub cause : HasCleanDisk to → HasCause g f
   -- Over our tables, or none, E80 and E81 come of the disk, of a limit on steps or of a text that isn't UTF-8.
   pub why : HasCleanDisk to → IsOurs from → StopsOpening g from to f
+  -- no failure of the disk is forgotten, and the limit on the steps of a query stays
+  pub since : Since from to
   -- The store is as it was, or the book that was found is kept, and E68 names its least run that doesn't replay.
   pub left : HasCleanDisk to → IsLeft from to f
-  -- no transaction is left running
-  pub ended : HasCleanDisk to → IsOurs from → to.in_transaction ≡ false
+  -- no transaction is left running, over any file
+  pub ended : HasCleanDisk to → to.in_transaction ≡ false
   -- Tables that stand for a sound book, or none, are refused only where the store fails, or isn't ours.
   pub own : HasCleanDisk to → (HasCleanDisk from → HoldsSound from) → IsOfStore f
   -- A stop leaves what it could leave before, or the tables made for the book that was found.
@@ -70,5 +73,7 @@ pub record IsUnopened {S : Type 0} (g : Ghosts S) (from to : State) (f : Fault) 
 pub record Opens {S : Type 0} (g : Ghosts S) (conn : Held S) (first : Keeping S) : Type 0 where
   pub opened : first.stored.opened ≡ conn
   pub clean : HasCleanDisk (state_of g first.stored) → HasCleanDisk (state g conn)
+  -- no failure of the disk is forgotten, and the limit on the steps of a query stays
+  pub since : Since (state g conn) (state_of g first.stored)
   pub anew : (first.kept ≡ 0) × (first.halted ≡ false)
   pub found : IsFit g first → IsOpened g (state g conn) first

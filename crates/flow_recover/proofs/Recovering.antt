@@ -62,11 +62,12 @@ sound_ours s sound clean = elim (sound clean) [ inl h ↦ inl h.1 | inr none ↦
 
 ---- Opening anew
 
--- A store with the trees of a book isn't refused for what they are.
+-- A store that holds a book isn't refused for its trees: they are a database, with our tables or with none.
 pub refused_by_disk : {S : Type 0} (g : Ghosts S) (old new : S) (e : Error) (b : Book) → FailsToOpen (g.view old).trees (MoreFaults (g.faults old) (g.faults new)) e
-    → IsFileOf (g.view old).trees b → IsOfDisk g old new e
-refused_by_disk g old new e b (inl none) file = absurd (none.1 schema file.ours.sound)
-refused_by_disk g old new e b (inr failed) file = failed
+    → HoldBook (g.view old).trees b → IsOfDisk g old new e
+refused_by_disk g old new e b (inl none) (inl file) = absurd (none.1 schema file.ours.sound)
+refused_by_disk g old new e b (inl none) (inr blank) = absurd (none.1 no_schema blank.0)
+refused_by_disk g old new e b (inr failed) held = failed
 
 -- What is found is what the files hold, which is one database.
 pub held_opened : (s : State) (Holds : Trees → Type 0) (db : Trees) → Opens s × IsLive s → ((d : Trees) → Holds d → s.committed.trees ≡ d) → ∥ Holds db ∥₁ → IsOpenedOver s db

@@ -101,6 +101,10 @@ module _ (sql : List ℕ) (old new : State) (e : Error) (ran : Executes sql [] o
   cut_off : old.in_transaction ≡ true → IsCutOff sql old new f
   cut_off inside = record { error = e; inside = inside; refused = ran; told = told; failed = cut_failed }
 
+-- a refused statement leaves no transaction running that didn't run
+pub outside_still : (old new : State) (sql : List ℕ) (e : Error) → old.in_transaction ≡ false → Executes sql [] old new (Err e) → new.in_transaction ≡ false
+outside_still old new sql e outside ran = elim (error_leaves old new sql [] e ran) [ inl same ↦ same.0.mode ∙ outside | inr back ↦ back.autocommit ]
+
 module _ (old new : State) (e : Error) (f : ViewFault) (told : f ≡ told_fault (refusal_of e)) where
   pub commit_cut : old.in_transaction ≡ true → Executes (codes "COMMIT") [] old new (Err e) → IsCutOff (codes "COMMIT") old new f
   commit_cut inside ran = cut_off (codes "COMMIT") old new e ran (λ other up. commit_refused old new e other up inside ran) f told inside

@@ -11,7 +11,7 @@ use Rattle.flow_maps.specs.Serving.{Serves, Sees, named, key_if}
 use Rattle.flow_tables.specs.Known.{IsKnown}
 use Rattle.flow_tables.specs.Puts.{mark_of}
 use Rattle.flow_sql.specs.Stored.{AreUtf8}
-use Rattle.flow_tables.specs.Faults.{IsHindering, Since}
+use Rattle.flow_tables.specs.Faults.{IsHindering, Since, told_fault}
 
 -- The value: the connection, why the rest of the transaction is refused, if it is, and, for contracts alone, the connection
 -- as it was handed in.
@@ -105,9 +105,9 @@ pub record IsServing (m : Maps) (is_kept : Bool) (s : State) (refused : Option R
 abbrev pub Refuses : {S : Type 0} → Ghosts S → Stored S → Stored S → Type 0
 Refuses g first t = IsHindering g (state_of g first) (state_of g t)
 
--- Nothing more is done: the transaction was refused something, or none runs.
-abbrev pub IsHindered : {S : Type 0} → Ghosts S → Stored S → Type 0
-IsHindered g t = ((r : Refusal) × (t.refused ≡ Some r)) ⊎ ((state_of g t).in_transaction ≡ false)
+-- Nothing more is done, and this is told: what the transaction was refused before, or E80 where none runs.
+abbrev pub IsBarred : State → Option Refusal → ViewFault → Type 0
+IsBarred s refused f = ((r : Refusal) × (refused ≡ Some r) × (f ≡ told_fault r)) ⊎ ((f ≡ fault.StoreRefused) × (s.in_transaction ≡ false))
 
 -- the trees of a file hold this book
 pub record IsFileOf (db : Trees) (b : Book) : Type 0 where

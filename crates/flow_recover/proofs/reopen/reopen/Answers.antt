@@ -7,7 +7,7 @@ returns-in-Ok-clause-opened g c clean =
     record { opens = it.0; live = it.1; trees = c.in-Ok.ensures.trees clean }
 
 pub returns-in-Err-clause-own : goal.returns-in-Err-clause-own
-returns-in-Err-clause-own g c clean b file = refused_by_disk g.S.Store c.args.store c.in-Err.store c.in-Err.error b (c.in-Err.ensures.err clean) file
+returns-in-Err-clause-own g c clean b held = refused_by_disk g.S.Store c.args.store c.in-Err.store c.in-Err.error b (c.in-Err.ensures.err clean) held
 
 pub returns-in-Err-clause-stops : goal.returns-in-Err-clause-stops
 returns-in-Err-clause-stops g c = c.in-Err.ensures.unharmed.outcomes
