@@ -57,8 +57,8 @@ pub fn perform<R: BufRead, W: Write, E: Answering>(
         (λ most. e ≡ Refused Fault.StoreRefused → E.is_sure engine.new → (n : ℕ) × SomeAnswered E.rules (OfBatch most (E.gives_up engine.old engine.new)) (E.book engine.old) (E.book engine.new) (2 ^ 64 - 1) (W.contents writer.old) (W.contents writer.new) n)
         (λ run. Unit {0})) }
     ensures cause { IfErr result (λ e. OfWork work.now
-        (λ most. CausedStop e (StoppedBy E.rules (OfBatch most (E.gives_up engine.old engine.new)) (OfBatch most (E.stops engine.new)) (E.is_sure engine.new) (E.book engine.old) (R.remaining reader.old)) (IfSome (R.remaining reader.old) (λ bytes. 2 ^ 64 ≤ length (lines_of bytes) + 1)))
-        (λ run. CausedUnwritten e (E.is_sure engine.new → HasNoRun E.rules (E.book engine.old) (E.book engine.new) run) (E.is_sure engine.new → E.gives_up engine.old engine.new (E.book engine.old) (commands.History run ∷ []) codes.StoreRefused) (E.stops engine.new (E.book engine.old) (commands.History run ∷ [])))) }
+        (λ most. CausedStop e (StoppedBy E.rules (OfBatch most (E.gives_up engine.old engine.new)) (OfBatch most (E.stops engine.old engine.new)) (E.is_sure engine.new) (E.book engine.old) (R.remaining reader.old)) (IfSome (R.remaining reader.old) (λ bytes. 2 ^ 64 ≤ length (lines_of bytes) + 1)))
+        (λ run. CausedUnwritten e (E.is_sure engine.new → HasNoRun E.rules (E.book engine.old) (E.book engine.new) run) (E.is_sure engine.new → E.gives_up engine.old engine.new (E.book engine.old) (commands.History run ∷ []) codes.StoreRefused) (E.stops engine.old engine.new (E.book engine.old) (commands.History run ∷ [])))) }
     ensures sure { E.is_sure engine.new → E.is_sure engine.old }
     ensures follows { (a : E) → E.follows a engine.old → E.follows a engine.new }
 {
@@ -90,8 +90,8 @@ pub fn perform_here<E: Answering>(
         (λ most. e ≡ Refused Fault.StoreRefused → E.is_sure engine.new → (n : ℕ) × LeavesAnswered E.rules (OfBatch most (E.gives_up engine.old engine.new)) (E.book engine.old) (E.book engine.new) (2 ^ 64 - 1) n)
         (λ run. Unit {0})) }
     ensures cause { IfErr result (λ e. OfWork work.now
-        (λ most. CausedHere e (OfBatch most (E.stops engine.new)))
-        (λ run. CausedUnwritten e (E.is_sure engine.new → HasNoRun E.rules (E.book engine.old) (E.book engine.new) run) (E.is_sure engine.new → E.gives_up engine.old engine.new (E.book engine.old) (commands.History run ∷ []) codes.StoreRefused) (E.stops engine.new (E.book engine.old) (commands.History run ∷ [])))) }
+        (λ most. CausedHere e (OfBatch most (E.stops engine.old engine.new)))
+        (λ run. CausedUnwritten e (E.is_sure engine.new → HasNoRun E.rules (E.book engine.old) (E.book engine.new) run) (E.is_sure engine.new → E.gives_up engine.old engine.new (E.book engine.old) (commands.History run ∷ []) codes.StoreRefused) (E.stops engine.old engine.new (E.book engine.old) (commands.History run ∷ [])))) }
     ensures sure { E.is_sure engine.new → E.is_sure engine.old }
     ensures follows { (a : E) → E.follows a engine.old → E.follows a engine.new }
 {

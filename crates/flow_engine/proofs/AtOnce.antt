@@ -117,6 +117,7 @@ module _ {S : Type 0} (g : Ghosts S) (old new : Keeping S) (batch : List Taken) 
         count = ap length told ∙ length-map rs.items reply_of ∙ long ∙ sym (length-map batch command_of);
         cause = tt;
         stopped = tt;
+        unstopped = inl (went, (driven.noted went).halted);
         leaves = tt;
         sure = is_sure (done.Kept rs) driven;
         follows = (driven.runs.opened, driven.runs.fit);
@@ -134,6 +135,7 @@ module _ {S : Type 0} (g : Ghosts S) (old new : Keeping S) (batch : List Taken) 
         count = tt;
         cause = subst (λ x. IsGivenUp x × GivesUp g old new (kept_book g old) (commands_of batch) x) (sym told) (given_up_by f, gives_up_by g old new (kept_book g old) batch f (λ fit. (driven.given_up fit).0));
         stopped = tt;
+        unstopped = inl (went, (driven.noted went).halted);
         leaves = tt;
         sure = is_sure (done.NotApplied f) driven;
         follows = (driven.runs.opened, driven.runs.fit);
@@ -150,6 +152,7 @@ module _ {S : Type 0} (g : Ghosts S) (old new : Keeping S) (batch : List Taken) 
         count = tt;
         cause = tt;
         stopped = subst (HasStopped old new) (sym told) (went, (driven.noted went).halted);
+        unstopped = tt;
         leaves = hand_left done.Unknown driven went refl (append-nil (commands_of batch));
         sure = is_sure done.Unknown driven;
         follows = (driven.runs.opened, driven.runs.fit);
@@ -166,6 +169,7 @@ module _ {S : Type 0} (g : Ghosts S) (old new : Keeping S) (batch : List Taken) 
         count = tt;
         cause = tt;
         stopped = subst (HasStopped old new) (sym told) (halted, same);
+        unstopped = tt;
         leaves = λ fit b keeps db may. inl ((subst (λ k. KeepsBook g k b) (sym same) keeps).stops db may);
         sure = is_sure done.Halted driven;
         follows = (driven.runs.opened, driven.runs.fit);
@@ -185,6 +189,7 @@ module _ {S : Type 0} (g : Ghosts S) (old new : Keeping S) (batch : List Taken) 
     count = tt;
     cause = no_memory g old new (kept_book g old) cs code.NoMemory refl;
     stopped = tt;
+    unstopped = inr same;
     leaves = tt;
     sure = λ sure. subst (IsSure g) same sure;
     follows = (ap (λ (k : Keeping S). k.stored.opened) same, λ fit. subst (IsFit g) same fit);

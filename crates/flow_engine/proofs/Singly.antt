@@ -26,7 +26,7 @@ use Rattle.flow_engine.specs.declared.done.Done.TheVariants as done
 use Rattle.flow_engine.specs.declared.done.Unanswered.{Unanswered}
 use Rattle.flow_engine.specs.declared.done.Unanswered.TheVariants as unanswered
 use Rattle.flow_engine.specs.Driving.{AreAnswers, AreNoted, NotesAll, Drives, Runs, all_halted, commands_in, has_unknown, kept_of, in_hand}
-use Rattle.flow_engine.specs.Answering.{IsSure, HasStopped, AnswersAll, AreCaused, KeepsAnswered, StopsBehind, IsStopped, EndsEarly, LeavesBehind, TellsStop, AreAlone, AreCut, AreSingle, alone, replied, given, first_stop, IsPart, IsPartUpTo}
+use Rattle.flow_engine.specs.Answering.{IsSure, HasAnswered, HasStopped, AnswersAll, AreCaused, KeepsAnswered, StopsBehind, IsStopped, EndsEarly, LeavesBehind, TellsStop, AreAlone, AreCut, AreSingle, alone, replied, given, first_stop, IsPart, IsPartUpTo}
 use Rattle.flow_engine.proofs.Committed.{one_book}
 use Rattle.flow_engine.proofs.Gathering.{no_hand_of_halted, none_kept_of_halted}
 use Rattle.flow_engine.specs.GivingUp.{AreGivenUp, GivesUp, WasRefused}
@@ -297,6 +297,14 @@ module _ {S : Type 0} (g : Ghosts S) (old new : Keeping S) (ts : List Taken) (ds
 
     pub stops_behind : (s : Stop) → first_stop ds ≡ Some s → StopsBehind g new b (commands_of ts) (given ds)
     stops_behind s e = stops_by s e old.halted refl
+
+  -- No stop, whatever the disk tells.
+  answered_by : first_stop ds ≡ None → (v : Bool) → old.halted ≡ v → HasAnswered old new
+  answered_by e true h = inr (driven.halted h)
+  answered_by e false h = inl (h, (driven.noted h).halted ∙ known_on ds e)
+
+  pub has_answered : first_stop ds ≡ None → HasAnswered old new
+  has_answered e = answered_by e old.halted refl
 
   -- A stop, whatever the disk tells.
   module _ (s : Stop) (e : first_stop ds ≡ Some s) where

@@ -37,10 +37,9 @@ abbrev pub HasStopped : {S : Type 0} → Keeping S → Keeping S → Stop → Ty
 HasStopped old new stop.Unknown = (old.halted ≡ false) × (new.halted ≡ true)
 HasStopped old new stop.Halted = (old.halted ≡ true) × (new ≡ old)
 
--- either way it has halted
-abbrev pub IsLost : {S : Type 0} → Keeping S → Stop → Type 0
-IsLost k stop.Unknown = k.halted ≡ true
-IsLost k stop.Halted = k.halted ≡ true
+-- Beside an answer: it hadn't halted and hasn't, or nothing has changed.
+abbrev pub HasAnswered : {S : Type 0} → Keeping S → Keeping S → Type 0
+HasAnswered old new = ((old.halted ≡ false) × (new.halted ≡ false)) ⊎ (new ≡ old)
 
 ---- A list of commands
 

@@ -1,5 +1,5 @@
 -- Commands that are answered together.
-use Rattle.std.specs.Prelude.{◌≡◌, ◌⊎◌, ℕ, List, [], ◌∷◌, length, map, Result, Ok, Err, IfOk, IfErr}
+use Rattle.std.specs.Prelude.{◌≡◌, ◌⊎◌, ℕ, List, [], ◌∷◌, length, map, Result, Ok, Err, IfOk, IfErr, OnOk}
 use Rattle.sqlite_trees.specs.declared.store.Store.{Ghosts}
 use Rattle.flow_base.specs.declared.command.Command.{Command}
 use Rattle.flow_model.specs.Apply.{after, replies}
@@ -14,7 +14,7 @@ use Rattle.flow_machine.specs.declared.answer.Together.TheVariants as together
 use Rattle.flow_machine.specs.declared.submission.Taken.{Taken}
 use Rattle.flow_tables.specs.Owned.{state_of, LeavesEither}
 use Rattle.flow_commit.specs.Keeping.{Keeping, rules, IsFit, KeepsBook, commands_of, kept_book}
-use Rattle.flow_engine.specs.Answering.{IsSure, Follows, HasStopped}
+use Rattle.flow_engine.specs.Answering.{IsSure, Follows, HasAnswered, HasStopped}
 use Rattle.flow_commit.specs.Committing.{HasGoneOn}
 use Rattle.flow_engine.specs.GivingUp.{GivesUp}
 use Rattle.flow_engine.specs.Driving.{Runs, reply_of}
@@ -65,6 +65,7 @@ pub record IsTogether {S : Type 0} (g : Ghosts S) (old new : Keeping S) (command
   pub count : IfOk result (λ t. CountsTogether commands t)
   pub cause : IfOk result (λ t. CausedTogether (GivesUp g old new (kept_book g old) commands) t)
   pub stopped : IfErr result (λ s. HasStopped old new s)
+  pub unstopped : OnOk result (HasAnswered old new)
   pub leaves : IfErr result (λ s. IsFit g new → (b : Book) → KeepsBook g old b → LeavesEither (state_of g new.stored) b (after rules b commands))
   pub sure : IsSure g new → IsSure g old
   pub follows : Follows g old new

@@ -1,5 +1,5 @@
 //! Commands answered over a store that keeps them.
-ghost use Rattle.std.specs.Prelude.{◌≡◌, ◌∷◌, ◌++◌, ◌+◌, ◌≤◌, List, [], Some, None, IfOk, IfErr, MatchResult, length, map, vec_len, vec_capacity};
+ghost use Rattle.std.specs.Prelude.{◌≡◌, ◌∷◌, ◌++◌, ◌+◌, ◌≤◌, List, [], Some, None, IfOk, IfErr, OnOk, MatchResult, length, map, vec_len, vec_capacity};
 ghost use Rattle.flow_model.specs.Book.{Book};
 ghost use Rattle.flow_machine.specs.Answers.{Answers, CausedAnswer};
 ghost use Rattle.flow_machine.specs.declared.submission.Receipt.{Receipt as AReceipt};
@@ -7,7 +7,7 @@ ghost use Rattle.flow_machine.specs.declared.submission.Taken.{Taken as ATaken};
 ghost use Rattle.flow_commit.specs.Keeping.{rules, IsFit, KeepsBook, commands_of, kept_book};
 ghost use Rattle.flow_commit.specs.Committing.{HasGoneOn};
 ghost use Rattle.flow_engine.specs.GivingUp.{GivesUp};
-ghost use Rattle.flow_engine.specs.Answering.{IsSure, Follows, HasStopped, AnswersAll, AreCaused, KeepsAnswered, EndsEarly, LeavesBehind, AreAlone, AreCut, IsSingle, AreSingle, alone, given, first_stop, TellsStop, IsPart, IsPartUpTo};
+ghost use Rattle.flow_engine.specs.Answering.{IsSure, Follows, HasAnswered, HasStopped, AnswersAll, AreCaused, KeepsAnswered, EndsEarly, LeavesBehind, AreAlone, AreCut, IsSingle, AreSingle, alone, given, first_stop, TellsStop, IsPart, IsPartUpTo};
 
 use crate::done::{Done, Unanswered};
 use crate::drive::drive;
@@ -122,6 +122,7 @@ fn answered<S: Alter>(engine: &mut Engine<S>, batches: Vec<Batch>) -> Result<Ans
     ensures answers { IfOk result (λ a. IsSure S.Store engine.new → (t : ATaken) → batches.items ≡ (t ∷ []) ∷ [] → Answers rules (kept_book S.Store engine.old) (kept_book S.Store engine.new) t.command a) }
     ensures given_up { IfOk result (λ a. (t : ATaken) → batches.items ≡ (t ∷ []) ∷ [] → CausedAnswer (GivesUp S.Store engine.old engine.new (kept_book S.Store engine.old) (t.command ∷ [])) a) }
     ensures stopped { IfErr result (λ s. HasStopped engine.old engine.new s) }
+    ensures unstopped { OnOk result (HasAnswered engine.old engine.new) }
     ensures sure { IsSure S.Store engine.new → IsSure S.Store engine.old }
     ensures follows { Follows S.Store engine.old engine.new }
     ensures goes_on { IsFit S.Store engine.new → HasGoneOn S.Store engine.old engine.new }
@@ -173,6 +174,7 @@ impl<S: Alter> Engine<S> {
         // It is given up with E01, or with E80 for a cause in what the engine is before and behind; the book is again the one in the tables.
         ensures cause { IfOk result (λ a. CausedAnswer (GivesUp S.Store self.old self.new (kept_book S.Store self.old) (command ∷ [])) a) }
         ensures stopped { IfErr result (λ s. HasStopped self.old self.new s) }
+        ensures unstopped { OnOk result (HasAnswered self.old self.new) }
         ensures sure { IsSure S.Store self.new → IsSure S.Store self.old }
         ensures follows { Follows S.Store self.old self.new }
         ensures goes_on { IsFit S.Store self.new → HasGoneOn S.Store self.old self.new }
@@ -222,7 +224,7 @@ impl<S: Alter> Engine<S> {
 
 impl<S: Alter> Answering for Engine<S> {
     ghost use Rattle.flow_commit.specs.Keeping.{rules, kept_book};
-    ghost use Rattle.flow_engine.specs.Answering.{IsSure, IsLost};
+    ghost use Rattle.flow_engine.specs.Answering.{IsSure, HasStopped};
     ghost use Rattle.flow_engine.specs.Following.{Succeeds, succeeds_self, gives_up_still, gives_up_since};
     ghost use Rattle.flow_engine.specs.GivingUp.{GivesUp};
 
@@ -236,7 +238,7 @@ impl<S: Alter> Answering for Engine<S> {
 
     ghost gives_up = { λ a e b cs k. GivesUp S.Store a e b cs k };
 
-    ghost stops = { λ e b cs stop. IsLost e stop };
+    ghost stops = { λ a e b cs stop. HasStopped a e stop };
 
     ghost follows_self = { λ a. succeeds_self _ a };
 

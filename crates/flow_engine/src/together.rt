@@ -1,12 +1,12 @@
 //! Commands that are answered together: they are one batch, so a store keeps all of them or none.
-ghost use Rattle.std.specs.Prelude.{◌≡◌, ◌≤◌, ◌+◌, ◌∷◌, [], List, length, map, vec_len, vec_capacity, IfOk, IfErr};
+ghost use Rattle.std.specs.Prelude.{◌≡◌, ◌≤◌, ◌+◌, ◌∷◌, [], List, length, map, vec_len, vec_capacity, IfOk, IfErr, OnOk};
 ghost use Rattle.flow_model.specs.Book.{Book};
 ghost use Rattle.flow_model.specs.Apply.{after};
 ghost use Rattle.flow_machine.specs.Answers.{AnswersTogether, CausedTogether, CountsTogether};
 ghost use Rattle.flow_machine.specs.declared.submission.Taken.{Taken as ATaken};
 ghost use Rattle.flow_tables.specs.Owned.{state_of, LeavesEither};
 ghost use Rattle.flow_commit.specs.Keeping.{rules, IsFit, KeepsBook, commands_of, kept_book};
-ghost use Rattle.flow_engine.specs.Answering.{IsSure, Follows, HasStopped};
+ghost use Rattle.flow_engine.specs.Answering.{IsSure, Follows, HasAnswered, HasStopped};
 ghost use Rattle.flow_commit.specs.Committing.{HasGoneOn};
 ghost use Rattle.flow_engine.specs.Driving.{reply_of};
 ghost use Rattle.flow_engine.specs.GivingUp.{GivesUp};
@@ -126,6 +126,7 @@ impl<S: Alter> Engine<S> {
         ensures count { IfOk result (λ t. CountsTogether commands.items t) }
         ensures cause { IfOk result (λ t. CausedTogether (GivesUp S.Store self.old self.new (kept_book S.Store self.old) commands.items) t) }
         ensures stopped { IfErr result (λ s. HasStopped self.old self.new s) }
+        ensures unstopped { OnOk result (HasAnswered self.old self.new) }
         // A stop of the process then leaves the book before all of them, or the book behind them all.
         ensures leaves { IfErr result (λ s. IsFit S.Store self.new → (b : Book) → KeepsBook S.Store self.old b → LeavesEither (state_of S.Store self.new.stored) b (after rules b commands.items)) }
         ensures sure { IsSure S.Store self.new → IsSure S.Store self.old }

@@ -7,6 +7,7 @@ use Rattle.flow_model.specs.Apply.{Rules, outcome, after, after_one, replies}
 use Rattle.flow_model.specs.Book.{Book}
 use Rattle.flow_machine.specs.declared.answer.Answer.{Answer}
 use Rattle.flow_machine.specs.declared.answer.Answer.TheVariants as answer
+use Rattle.flow_machine.specs.declared.answer.Stop.{Stop}
 use Rattle.flow_machine.specs.declared.answer.Together.{Together}
 use Rattle.flow_machine.specs.declared.answer.Together.TheVariants as together
 
@@ -41,3 +42,9 @@ CausedTogether cause (together.NotApplied k) = IsGivenUp k × cause k
 abbrev pub CountsTogether : List Command → Together → Type 0
 CountsTogether cs (together.Replied rs) = length rs.items ≡ length cs
 CountsTogether cs (together.NotApplied k) = Unit {0}
+
+---- Stops
+
+-- What stands behind a stop since it was the second stands behind it since it was the first.
+abbrev pub StopsSince : {A : Type 0} → (A → A → Book → List Command → Stop → Type 0) → A → A → Type 0
+StopsSince {A} stops old new = (e : A) (b : Book) (cs : List Command) (s : Stop) → stops new e b cs s → stops old e b cs s

@@ -1,10 +1,10 @@
 //! What answers commands, one after the other.
-ghost use Rattle.std.specs.Prelude.{◌≤◌, ◌∷◌, [], List, length, IfOk, IfErr};
+ghost use Rattle.std.specs.Prelude.{◌≤◌, ◌∷◌, [], List, length, IfOk, IfErr, OnOk};
 ghost use Rattle.flow_base.specs.declared.code.Code.{Code};
 ghost use Rattle.flow_base.specs.declared.command.Command.{Command};
 ghost use Rattle.flow_model.specs.Apply.{Rules};
 ghost use Rattle.flow_model.specs.Book.{Book};
-ghost use Rattle.flow_machine.specs.Answers.{Answers, CausedAnswer, AnswersTogether, CausedTogether, CountsTogether};
+ghost use Rattle.flow_machine.specs.Answers.{Answers, CausedAnswer, AnswersTogether, CausedTogether, CountsTogether, StopsSince};
 ghost use Rattle.flow_machine.specs.declared.answer.Stop.{Stop};
 
 use flow_base::code::Code;
@@ -54,14 +54,16 @@ pub trait Answering {
     /// What stands behind commands that are given up together over a book, since it was the first and now that it is the second.
     ghost gives_up: { Self → Self → Book → List Command → Code → Type 0 };
 
-    /// What stands behind a stop at commands over a book, in the words of what is left of it.
-    ghost stops: { Self → Book → List Command → Stop → Type 0 };
+    /// What stands behind a stop at commands over a book, since it was the first and now that it is the second.
+    ghost stops: { Self → Self → Book → List Command → Stop → Type 0 };
 
     /// Answers a command.
     fn answer(&mut self, command: Command) -> Result<Answer, Stop>
         ensures answers { IfOk result (λ a. is_sure self.new → Answers rules (book self.old) (book self.new) command a) }
         ensures cause { IfOk result (λ a. CausedAnswer (gives_up self.old self.new (book self.old) (command ∷ [])) a) }
-        ensures stopped { IfErr result (λ s. stops self.new (book self.old) (command ∷ []) s) }
+        ensures stopped { IfErr result (λ s. stops self.old self.new (book self.old) (command ∷ []) s) }
+        // Behind this answer a stop has such a cause since before it too, so a list of answers can't hide which stop it is.
+        ensures since { OnOk result (StopsSince stops self.old self.new) }
         ensures sure { is_sure self.new → is_sure self.old }
         ensures follows { (a : Self) → follows a self.old → follows a self.new };
 
@@ -73,7 +75,8 @@ pub trait Answering {
         // Each has a reply where they are applied.
         ensures count { IfOk result (λ t. CountsTogether commands.items t) }
         ensures cause { IfOk result (λ t. CausedTogether (gives_up self.old self.new (book self.old) commands.items) t) }
-        ensures stopped { IfErr result (λ s. stops self.new (book self.old) commands.items s) }
+        ensures stopped { IfErr result (λ s. stops self.old self.new (book self.old) commands.items s) }
+        ensures since { OnOk result (StopsSince stops self.old self.new) }
         ensures sure { is_sure self.new → is_sure self.old }
         ensures follows { (a : Self) → follows a self.old → follows a self.new };
 

@@ -30,7 +30,7 @@ impl<V: View + Drop, P: Programs + Drop> Answering for Deciding<V, P> {
     // No command is given up.
     ghost gives_up = { λ a s b cs k. ⊥ };
 
-    ghost stops = { λ s b cs stop. Unit {0} };
+    ghost stops = { λ a s b cs stop. Unit {0} };
 
     ghost follows_self = { λ a v before. before };
 

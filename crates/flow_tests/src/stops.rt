@@ -36,7 +36,7 @@ impl<E: Answering + Drop> Answering for Failing<E> {
     // The other one has given them up, or this one has, with E80.
     ghost gives_up = { λ a s b cs k. E.gives_up a.inner s.inner b cs k ⊎ (k ≡ StoreRefused) };
 
-    ghost stops = { λ s b cs k. Unit {0} };
+    ghost stops = { λ a s b cs k. Unit {0} };
 
     ghost follows_self = { λ a. E.follows_self a.inner };
 

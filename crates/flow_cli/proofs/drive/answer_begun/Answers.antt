@@ -46,6 +46,12 @@ returns-in-Ok-NotApplied-clause-stopped g c =
     (λ e why w sure most few lines holds. some_written _ _ _ _ e lines _ _ _ (batch_given_up g.E.Answering.rules (OfBatch most (g.E.Answering.gives_up c.args.engine.now c.answer_together.new.self)) _ _ lines _ _ holds _ _ c.new.ensures.items (cause.0, caused_batch most (g.E.Answering.gives_up c.args.engine.now c.answer_together.new.self) _ _ _ c.requires.some few cause.1) (told sure)) why w)
     c.write_answers-in-Ok-NotApplied.ensures.cause c.write_answers-in-Ok-NotApplied.ensures.stopped
 
+pub returns-in-Ok-Replied-clause-since : goal.returns-in-Ok-Replied-clause-since
+returns-in-Ok-Replied-clause-since g c = IfOk-weaker c.write_answers.result _ _ (λ n h. c.in-Ok-Replied.ensures.since) c.write_answers.ensures.told
+
+pub returns-in-Ok-NotApplied-clause-since : goal.returns-in-Ok-NotApplied-clause-since
+returns-in-Ok-NotApplied-clause-since g c = IfOk-weaker c.write_answers-in-Ok-NotApplied.result _ _ (λ n h. c.in-Ok-NotApplied.ensures.since) c.write_answers-in-Ok-NotApplied.ensures.told
+
 pub returns-in-Err-clause-stopped : goal.returns-in-Err-clause-stopped
 returns-in-Err-clause-stopped g c sure most few lines holds =
     subst (λ f. StopsWithin g.E.Answering.rules (OfBatch most (g.E.Answering.gives_up c.args.engine.now c.answer_together.new.self)) (g.E.Answering.book c.args.engine.now) (g.E.Answering.book c.answer_together.new.self) (Refused f) lines (g.W.Write.contents c.args.writer.now) (g.W.Write.contents c.args.writer.now)) (sym c.fault_of_stop.ensures) (none_replied _ _ _ _ lines _ c.in-Err.stop)

@@ -6,7 +6,7 @@ use Rattle.flow_engine.specs.Driving.{commands_in}
 use Rattle.flow_engine.specs.Answering.{AnswersAll, AreCaused}
 use Rattle.flow_engine.specs.GivingUp.{GivesUp}
 use Rattle.flow_engine.proofs.GivingUp.{no_memory}
-use Rattle.flow_engine.proofs.Singly.{driven_alone, are_single, answers_sure, are_caused, has_stopped, one_answered, one_caused, one_part}
+use Rattle.flow_engine.proofs.Singly.{driven_alone, are_single, answers_sure, are_caused, has_answered, has_stopped, one_answered, one_caused, one_part}
 use Rattle.flow_engine.proofs.answering.answered.Goals as goal
 
 pub one_answer-requires-clause-single : goal.one_answer-requires-clause-single
@@ -51,6 +51,18 @@ returns-in-Ok-clause-stopped g c =
     (driven_alone g.S.Store c.args.engine.now c.drive.new.engine c.args.batches.items c.in-Ok.dones.items c.requires.alone.taken c.requires.alone.are
     d.drives d.noted d.halted d.later d.count d.fit d.up d.own d.given_up) s h.1)
     c.one_answer.ensures.stops
+
+pub returns-in-Ok-clause-unstopped : goal.returns-in-Ok-clause-unstopped
+returns-in-Ok-clause-unstopped g c =
+    let d = c.in-Ok.ensures in
+    IfOk-weaker c.one_answer.result _ _
+    (λ a h. has_answered g.S.Store c.args.engine.now c.drive.new.engine c.requires.alone.taken c.in-Ok.dones.items
+    (driven_alone g.S.Store c.args.engine.now c.drive.new.engine c.args.batches.items c.in-Ok.dones.items c.requires.alone.taken c.requires.alone.are
+    d.drives d.noted d.halted d.later d.count d.fit d.up d.own d.given_up) h.1)
+    c.one_answer.ensures.given
+
+pub returns-clause-unstopped : goal.returns-clause-unstopped
+returns-clause-unstopped g c = inr c.in-Err.ensures.same
 
 pub returns-in-Ok-clause-part : goal.returns-in-Ok-clause-part
 returns-in-Ok-clause-part g c t is =

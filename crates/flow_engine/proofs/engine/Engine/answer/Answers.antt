@@ -1,9 +1,9 @@
 use Rattle.std.proofs.Common.{[], ◌∷◌, Some, None, subst}
-use Rattle.std.specs.Prelude.{MatchResult}
+use Rattle.std.specs.Prelude.{MatchResult, OnOk}
 use Rattle.std.proofs.lemmas.Result.{IfOk-weaker}
 use Rattle.flow_commit.specs.Keeping.{Keeping, rules, kept_book}
 use Rattle.flow_machine.specs.Answers.{Answers, CausedAnswer}
-use Rattle.flow_engine.specs.Answering.{IsPart}
+use Rattle.flow_engine.specs.Answering.{HasAnswered, IsPart}
 use Rattle.flow_engine.specs.GivingUp.{GivesUp}
 use Rattle.flow_engine.proofs.Singly.{one_alone}
 use Rattle.flow_engine.proofs.engine.Engine.answer.Goals as goal
@@ -22,6 +22,9 @@ returns-in-Ok-clause-cause g c =
     IfOk-weaker c.answered.result _ _
     (λ a h. subst (λ (k : Keeping g.row.S.Denot). CausedAnswer (GivesUp g.S.Store k c.answered.new.engine (kept_book g.S.Store k) (c.args.command ∷ [])) a) c.tickets-ticket.ensures (h _ c.in-Ok.ensures))
     c.answered.ensures.given_up
+
+pub returns-in-Ok-clause-unstopped : goal.returns-in-Ok-clause-unstopped
+returns-in-Ok-clause-unstopped g c = subst (λ (k : Keeping g.row.S.Denot). OnOk c.answered.result (HasAnswered k c.answered.new.engine)) c.tickets-ticket.ensures c.answered.ensures.unstopped
 
 pub returns-in-Ok-clause-part : goal.returns-in-Ok-clause-part
 returns-in-Ok-clause-part g c =

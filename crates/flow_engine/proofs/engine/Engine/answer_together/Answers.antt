@@ -1,7 +1,9 @@
 use Rattle.std.proofs.Common.{sym, subst}
+use Rattle.std.specs.Prelude.{OnOk}
 use Rattle.std.proofs.lemmas.Result.{IfOk-weaker}
 use Rattle.flow_commit.specs.Keeping.{Keeping, KeepsBook, rules, commands_of, kept_book}
 use Rattle.flow_machine.specs.Answers.{AnswersTogether, CausedTogether}
+use Rattle.flow_engine.specs.Answering.{HasAnswered}
 use Rattle.flow_engine.specs.GivingUp.{GivesUp}
 use Rattle.flow_engine.specs.Together.{KeepsTogether}
 use Rattle.flow_engine.proofs.engine.Engine.answer_together.Goals as goal
@@ -24,6 +26,11 @@ returns-in-Ok-one_batch-clause-answers g c =
     subst (λ cs. AnswersTogether rules (kept_book g.S.Store c.args.self.now) (kept_book g.S.Store new) cs t) c.in-Ok-taken_of.ensures
     (subst (λ (k : Keeping g.row.S.Denot). AnswersTogether rules (kept_book g.S.Store k) (kept_book g.S.Store new) (commands_of c.in-Ok-taken_of.taken.items) t) c.tickets-first.ensures (h sure)))
     its.answers
+
+pub returns-in-Ok-one_batch-clause-unstopped : goal.returns-in-Ok-one_batch-clause-unstopped
+returns-in-Ok-one_batch-clause-unstopped g c =
+    let its = c.answered.ensures c.in-Ok-taken_of.taken.items c.in-Ok-one_batch.ensures in
+    subst (λ (k : Keeping g.row.S.Denot). OnOk c.answered.result (HasAnswered k c.answered.new.engine)) c.tickets-first.ensures its.unstopped
 
 pub returns-in-Ok-one_batch-clause-cause : goal.returns-in-Ok-one_batch-clause-cause
 returns-in-Ok-one_batch-clause-cause g c =
