@@ -23,10 +23,11 @@ pub record HasGiven {S : Type 0} (old new : Known S) (task : Option Task) : Type
   pub first : IsPrefix new.given new.posted
   pub once : IsOnce new.posted
 
--- The command fires what is due: the moment has come.
-pub record IsDueBy (due : Option ℕ) (command : Command) : Type 0 where
+-- The command fires what is due: the moment has come by the clock, which tells such moments.
+pub record IsDueBy (tells : ℕ → Type 0) (due : Option ℕ) (command : Command) : Type 0 where
   pub moment : ℕ
   pub now : ℕ
+  pub told : tells now
   pub is : command ≡ Tick now
   pub named : due ≡ Some moment
   pub come : moment ≤ now
@@ -39,17 +40,18 @@ due_of (Some o) = o.due
 abbrev pub due_in : {S : Type 0} → Known S → Option ℕ
 due_in k = due_of k.outlook
 
--- The command asks for what is due by now, where no board could be made that would name it: behind the answer there is one, or it is
--- asked again.
-pub record AsksAnew {S : Type 0} (k : Known S) (command : Command) : Type 0 where
+-- The command asks for what is due by now, as the clock tells it, where no board could be made that would name it: behind the answer
+-- there is one, or it is asked again.
+pub record AsksAnew {S : Type 0} (tells : ℕ → Type 0) (k : Known S) (command : Command) : Type 0 where
   pub now : ℕ
+  pub told : tells now
   pub is : command ≡ Tick now
   pub skipped : k.boarded ≡ true
   pub none : k.outlook ≡ None
 
--- why a command comes from the clock
-abbrev pub IsTickOf : {S : Type 0} → Known S → Command → Type 0
-IsTickOf k c = IsDueBy (due_in k) c ⊎ AsksAnew k c
+-- why a command comes from the clock that tells such moments
+abbrev pub IsTickOf : {S : Type 0} → (ℕ → Type 0) → Known S → Command → Type 0
+IsTickOf tells k c = IsDueBy tells (due_in k) c ⊎ AsksAnew tells k c
 
 -- All that was submitted is answered, and the board that was made since says that no run is open.
 pub record IsIdle {S : Type 0} (k : Known S) : Type 0 where
@@ -62,5 +64,5 @@ pub record IsIdle {S : Type 0} (k : Known S) : Type 0 where
 -- what came of waiting for the end of all work for a while
 abbrev pub IsRested : {S : Type 0} → Known S → Rested → Type 0
 IsRested k rested.Idle = IsIdle k
-IsRested k rested.Closed = k.closed ≡ true
-IsRested k (rested.NotYet outlook) = (k.closed ≡ false) × (k.outlook ≡ outlook)
+IsRested k rested.Closed = (k.closed ≡ true) × (IsIdle k → ⊥)
+IsRested k (rested.NotYet outlook) = (k.closed ≡ false) × (k.outlook ≡ outlook) × (IsIdle k → ⊥)

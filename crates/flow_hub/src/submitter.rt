@@ -82,7 +82,7 @@ const LONGEST_PAUSE: u64 = 60_000;
 
 /// The command that fires what is due by the clock, or how long to wait before it is asked again.
 fn tick_or_pause<C: Clock>(due: Option<Moment>, clock: &C) -> Result<Command, Duration>
-    ensures tick { IfOk result (λ c. IsDueBy due c) }
+    ensures tick { IfOk result (λ c. IsDueBy (C.tells clock.now) due c) }
 {
     let now = clock.now();
     match due {
@@ -106,7 +106,7 @@ fn ticked<S: Alter, B: Room, R: Wait + Timing, C: Clock>(
     clock: &C,
 ) -> (Pass<S, B>, Option<Command>)
     requires seat { IsSubmitters seat }
-    ensures tick { IfSome result.1 (λ c. IsTickOf result.0.was c) }
+    ensures tick { IfSome result.1 (λ c. IsTickOf (C.tells clock.now) result.0.was c) }
     ensures none { IfNone result.1 (result.0.was.closed ≡ true) }
     ensures seat { IsSubmitters result.0 }
     ensures grows { IsBefore seat.was result.0.was }
@@ -143,7 +143,7 @@ fn rested<S: Alter, B: Room, R: Wait>(
 ) -> (Pass<S, B>, bool)
     requires seat { IsSubmitters seat }
     ensures idle { result.1 ≡ true → IsIdle result.0.was }
-    ensures closed { result.1 ≡ false → result.0.was.closed ≡ true }
+    ensures closed { result.1 ≡ false → (result.0.was.closed ≡ true) × (IsIdle result.0.was → ⊥) }
     ensures seat { IsSubmitters result.0 }
     ensures grows { IsBefore seat.was result.0.was }
 {
@@ -284,7 +284,7 @@ impl<S: Alter, B: Room> Submitter<S, B> {
     /// The clock is asked once a minute at least, since it may be set. Where no board could be made it gives a tick after a minute at
     /// most, so that one is tried again: else nothing would go on until somebody submits.
     pub fn next_tick<R: Wait + Timing, C: Clock>(&mut self, rt: &R, clock: &C) -> Option<Command>
-        ensures tick { IfSome result (λ c. IsTickOf self.new.was c) }
+        ensures tick { IfSome result (λ c. IsTickOf (C.tells clock.now) self.new.was c) }
         ensures none { IfNone result (self.new.was.closed ≡ true) }
         ensures grows { IsBefore self.old.was self.new.was }
         ensures same { (self.new.id ≡ self.old.id) × (self.new.parts ≡ self.old.parts) × (self.new.amount ≡ self.old.amount) }
@@ -301,7 +301,7 @@ impl<S: Alter, B: Room> Submitter<S, B> {
     /// one without has a thread that submits what `next_tick` gives.
     pub fn rest<R: Wait>(&mut self, rt: &R) -> bool
         ensures idle { result ≡ true → IsIdle self.new.was }
-        ensures closed { result ≡ false → self.new.was.closed ≡ true }
+        ensures closed { result ≡ false → (self.new.was.closed ≡ true) × (IsIdle self.new.was → ⊥) }
         ensures grows { IsBefore self.old.was self.new.was }
         ensures same { (self.new.id ≡ self.old.id) × (self.new.parts ≡ self.old.parts) × (self.new.amount ≡ self.old.amount) }
     {

@@ -12,7 +12,13 @@ use flow_base::number::Moment;
 
 /// What tells the moment.
 pub trait Clock {
-    fn now(&self) -> Moment;
+    ghost use Rattle.std.specs.Prelude.{ℕ};
+
+    /// Which moments it may tell. Who is given a clock of any kind knows of none but those that `now` gave.
+    ghost tells: { Self → ℕ → Type 0 };
+
+    fn now(&self) -> Moment
+        ensures { tells self.now result };
 }
 
 /// The command that fires what is due: a tick at this moment exactly where a timer is due and not later than now.

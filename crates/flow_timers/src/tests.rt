@@ -10,6 +10,10 @@ struct Still {
 }
 
 impl Clock for Still {
+    ghost use Rattle.std.specs.Prelude.{◌≡◌};
+
+    ghost tells = { λ c at. at ≡ c.now };
+
     fn now(&self) -> Moment {
         self.now
     }

@@ -41,6 +41,9 @@ impl<R: time::Clock> SystemClock<R> {
 }
 
 impl<R: time::Clock> Clock for SystemClock<R> {
+    // The system may tell any moment.
+    ghost tells = { λ _ _. Unit {0} };
+
     fn now(&self) -> Moment {
         match self.rt.since_1970() {
             Ok(time) => moment_of(time),

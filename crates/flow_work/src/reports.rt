@@ -158,7 +158,7 @@ impl<S: Alter, B: Room> Reporter<S, B> {
         rt: &R,
         clock: &C,
     ) -> Option<Command>
-        ensures tick { IfSome result (λ c. IsTickOf self.new.submitter.was c) }
+        ensures tick { IfSome result (λ c. IsTickOf (C.tells clock.now) self.new.submitter.was c) }
         ensures none { IfNone result (self.new.submitter.was.closed ≡ true) }
     {
         self.submitter.next_tick(rt, clock)
