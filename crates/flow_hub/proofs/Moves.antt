@@ -90,7 +90,7 @@ module _ {S : Type 0} where
   numbers_stay : (m m' by : ℕ) (views : List (Sight S)) (v w : Sight S) → get_elem? views by ≡ some v → w.member ≡ v.member → m ≤ m' → AreNumbered m views → AreNumbered m' (set views by w)
   numbers_stay m m' by views v w at same le (seat, all) = (
     seat,
-    seats_set m' seat views by w (λ j u away e n is. grown n (all j u e n is).0, (all j u e n is).1) (λ n is. let t = all by v at n (sym same ∙ is) in (grown n t.0, t.1)),
+    seats_set m' seat views by w (λ j u away e n is. (grown n (all j u e n is).0, (all j u e n is).1)) (λ n is. let t = all by v at n (sym same ∙ is) in (grown n t.0, t.1)),
   )
     where
       grown : (n : ℕ) → n < m → n < m'
