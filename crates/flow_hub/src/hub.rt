@@ -50,10 +50,18 @@ impl<S: Alter, B: Room> Shared<S, B> {
     }
 }
 
+/// The right to close a hub. Its field is this module's, and `Hub::new` makes two: the hub has one, and its publisher. Submitters and
+/// whoever gives tasks out have none, so no call of theirs can close the hub that it then finds closed.
+#[derive(Drop)]
+pub(crate) struct Closer {
+    made: (),
+}
+
 /// Takes commands from submitters on many threads, for one publisher, who answers them.
 #[derive(Drop)]
 pub struct Hub<S: Alter, B: Room> {
     shared: Arc<Shared<S, B>>,
+    closer: Closer,
 }
 
 impl<S: Alter, B: Room> Hub<S, B> {
@@ -76,11 +84,13 @@ impl<S: Alter, B: Room> Hub<S, B> {
             turned: Condvar::new(),
         };
         let shared = Arc::new(alloc, shared)?;
-        let publisher = Publisher::over(alloc, Arc::try_clone(&shared)?, seat);
-        Ok((publisher, Hub { shared }))
+        let closer = Closer { made: () };
+        let publisher = Publisher::over(alloc, Arc::try_clone(&shared)?, seat, closer);
+        let closer = Closer { made: () };
+        Ok((publisher, Hub { shared, closer }))
     }
 
-    /// One more submitter. Its number is given under the lock, so that no other submitter of the hub has it.
+    /// One more submitter. Its number is given under the lock, with a seat that has it, so that no other submitter of the hub does.
     ///
     /// # Failure
     /// E01; E90 where 2^62 submitters were given.
@@ -93,10 +103,10 @@ impl<S: Alter, B: Room> Hub<S, B> {
             Err(refused) => return Err(Unseated::NoMemory(NoMemory::from(refused))),
         };
         let all = shared_in(&self.shared);
-        let Some((id, seat, share)) = all.lock(rt).enroll(&all.seats) else {
+        let Some((id, badge, seat, share)) = all.lock(rt).enroll(&all.seats) else {
             return Err(Unseated::InboxFull);
         };
-        Ok(Submitter::over(shared, id, seat, share))
+        Ok(Submitter::over(shared, id, badge, seat, share))
     }
 
     /// Who gives the tasks out that are posted. None where it was asked for before, or there is no memory.
@@ -114,7 +124,7 @@ impl<S: Alter, B: Room> Hub<S, B> {
     pub fn close<R: Wait>(&self, rt: &R) {
         let shared = shared_in(&self.shared);
         let me = shared.seats.enter();
-        shared.lock(rt).close(&shared.seats, me);
+        shared.lock(rt).close(&shared.seats, me, &self.closer);
         shared.wake();
     }
 

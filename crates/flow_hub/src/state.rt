@@ -3,7 +3,7 @@ ghost use Rattle.std.specs.Prelude.{◌≡◌, ◌≢◌, ◌+◌, ◌<◌, ◌�
 ghost use Rattle.std.specs.Vec.{vec_capacity};
 ghost use Rattle.flow_hub.specs.Asks.{Stands, IsOwn, IsGone, IsTold};
 ghost use Rattle.flow_hub.specs.Knowing.{IsBefore, IsHistory, IsSamePart, answered_in, nothing};
-ghost use Rattle.flow_hub.specs.Seating.{opener, seeing, IsSubmitters, IsPublishers};
+ghost use Rattle.flow_hub.specs.Seating.{opener, seeing, badge_of, IsSubmitters, IsPublishers};
 ghost use Rattle.flow_hub.specs.Halls.{submitted, took, published, refused_all, fetched_receipt, fetched_refusal, enrolled, closed, new_ask, unfetched};
 ghost use Rattle.flow_hub.specs.Publishing.{Answers, HasTaken, HasPublished, HasRefused, IsDone};
 ghost use Rattle.flow_hub.specs.Submitting.{HasTakenIn, IsOpen, IsDenied, IsSettled};
@@ -11,6 +11,7 @@ ghost use Rattle.flow_hub.specs.Submitting.{HasTakenIn, IsOpen, IsDenied, IsSett
 mod boards;
 
 use crate::denied::Denied;
+use crate::hub::Closer;
 use crate::known::Known;
 use crate::seats::{Named, PARTS, Pass, Room, Seats};
 use crate::settled::Settled;
@@ -139,11 +140,16 @@ impl<S: Alter, B: Room> State<S, B> {
         seats.tell(&mut self.keeper, me, self.places, self.places, &self.known)
     }
 
-    /// One more submitter: its number, its seat and its part of the ledger. None where as many were given as there are parts.
-    pub(crate) fn enroll(&mut self, seats: &Seats<S, B>) -> Option<(u64, Pass<S, B>, Share<B>)>
+    /// One more submitter: its number, the seat that has this number, the seat that sees, and its part of the ledger. None where as
+    /// many were given as there are parts.
+    pub(crate) fn enroll(
+        &mut self,
+        seats: &Seats<S, B>,
+    ) -> Option<(u64, Pass<S, B>, Pass<S, B>, Share<B>)>
         ensures enrolled { IfSome result (λ m. (m.0 ≡ self.old.known.members) × (self.new ≡ enrolled self.old)) }
-        ensures seat { IfSome result (λ m. m.1 ≡ seeing false false self.new.known) }
-        ensures share { IfSome result (λ m. (m.2.parts ≡ 1) × (m.2.amount ≡ 0)) }
+        ensures badge { IfSome result (λ m. m.1 ≡ badge_of m.0) }
+        ensures seat { IfSome result (λ m. m.2 ≡ seeing false false self.new.known) }
+        ensures share { IfSome result (λ m. (m.3.parts ≡ 1) × (m.3.amount ≡ 0)) }
         ensures parts { B.parts ≡ 2 ^ 62 }
         ensures none { IfNone result ((self.new ≡ self.old) × (2 ^ 62 ≤ self.old.known.members)) }
     {
@@ -153,6 +159,7 @@ impl<S: Alter, B: Room> State<S, B> {
         }
         self.known.members += 1;
         let share = self.spare.split_off(1, 0);
+        let badge = seats.admit(&mut self.keeper, self.places, &self.known);
         let seat = seats.tell(
             &mut self.keeper,
             seats.enter(),
@@ -160,7 +167,7 @@ impl<S: Alter, B: Room> State<S, B> {
             self.places,
             &self.known,
         );
-        Some((id, seat, share))
+        Some((id, badge, seat, share))
     }
 
     /// Why no command is taken in.
@@ -297,6 +304,7 @@ impl<S: Alter, B: Room> State<S, B> {
         ensures own { IfSome result.1 (λ r. (r.ticket ≡ ticket) × IsOwn result.0.was.asked r × Stands result.0.was.history r) }
         ensures legal { IfSome result.1 (λ r. IsHistory S.Store result.0.was) }
         ensures fetched { MatchOption result.1 (self.new ≡ self.old) (λ r. (k : ℕ) × (slice_get self.old.answered k ≡ Some r) × (self.new ≡ fetched_receipt self.old (remove self.old.answered k))) }
+        ensures one_more { IfSome result.1 (λ r. me.was.fetched < result.0.was.fetched) }
         ensures seat { IsSubmitters result.0 }
         ensures grows { IsBefore me.was result.0.was }
     {
@@ -319,6 +327,7 @@ impl<S: Alter, B: Room> State<S, B> {
         requires seat { IsSubmitters me }
         ensures own { IfSome result.1 (λ r. (r.asked.ticket ≡ ticket) × IsGone result.0.was.asked r × IsTold result.0.was.refused r) }
         ensures fetched { MatchOption result.1 (self.new ≡ self.old) (λ r. (k : ℕ) × (slice_get self.old.refused k ≡ Some r) × (self.new ≡ fetched_refusal self.old (remove self.old.refused k))) }
+        ensures one_more { IfSome result.1 (λ r. me.was.fetched < result.0.was.fetched) }
         ensures seat { IsSubmitters result.0 }
         ensures grows { IsBefore me.was result.0.was }
     {
@@ -343,6 +352,7 @@ impl<S: Alter, B: Room> State<S, B> {
         ensures receipt { IfSome result.1 (λ a. IfOk a (λ r. (r.ticket ≡ ticket) × IsOwn result.0.was.asked r × Stands result.0.was.history r)) }
         ensures legal { IfSome result.1 (λ a. IfOk a (λ r. IsHistory S.Store result.0.was)) }
         ensures refused { IfSome result.1 (λ a. IfErr a (λ r. (r.asked.ticket ≡ ticket) × IsGone result.0.was.asked r × IsTold result.0.was.refused r)) }
+        ensures one_more { IfSome result.1 (λ a. me.was.fetched < result.0.was.fetched) }
         ensures seat { IsSubmitters result.0 }
         ensures grows { IsBefore me.was result.0.was }
     {
@@ -393,8 +403,14 @@ impl<S: Alter, B: Room> State<S, B> {
         (me, Some(settled))
     }
 
-    /// What waits is still taken, and nothing more is taken in.
-    pub(crate) fn close(&mut self, seats: &Seats<S, B>, me: Pass<S, B>) -> Pass<S, B>
+    /// What waits is still taken, and nothing more is taken in. Whoever closes must have the right to: else each call that may answer
+    /// that the hub is closed could close it first.
+    pub(crate) fn close(
+        &mut self,
+        seats: &Seats<S, B>,
+        me: Pass<S, B>,
+        _closer: &Closer,
+    ) -> Pass<S, B>
         ensures closed { self.new ≡ closed self.old }
         ensures seat { result ≡ seeing me.pubs me.gives self.new.known }
         ensures grows { IsBefore me.was result.was }
