@@ -26,8 +26,13 @@ impl<S: Alter, B: Room> Tasks<S, B> {
 }
 
 impl<S: Alter, B: Room> Posted for Tasks<S, B> {
+    ghost use Rattle.std.specs.Prelude.{◌≡◌, true};
+
     // All that the hub has given out.
     ghost given = { λ p. p.feed.given };
+
+    // The hub is closed.
+    ghost ended = { λ p. p.feed.closed ≡ true };
 
     fn next<R: Wait>(&mut self, rt: &R) -> Option<Task> {
         let task = self.feed.next(rt);

@@ -8,6 +8,7 @@ mod shop;
 
 use crate::shop::Shop;
 use flow_base::fault::Fault;
+use flow_base::memory::NoMemory;
 use flow_cli::drive::Stopped;
 use flow_cli::ending::ended;
 use flow_cli::fault::fault_of_error;
@@ -15,7 +16,7 @@ use flow_engine::engine::Engine;
 use flow_settings::settings::Settings;
 use flow_work::clock::SystemClock;
 use flow_work::running::work;
-use sqlite::{Alter, Connection, File, FileStore};
+use sqlite::{Alter, Connection, Error, ErrorCode, File, FileStore};
 use std::io::BufReader;
 use std::process::ExitCode;
 use std::sync::Wait;
@@ -44,13 +45,26 @@ fn stopped_by(outcome: Result<u8, Fault>) -> Result<u8, Stopped> {
     }
 }
 
-/// Opens the store, which is made where there is none.
+/// Opens the store, which is made where there is none. E01 where memory is wanting, and E80 where the file can't be opened.
 fn open(rt: &HostRuntime) -> Result<Engine<FileStore<File>>, Fault>
     ensures { IfOk result (λ e. e.log ≡ []) }
 {
-    let Ok(conn) = Connection::open(rt, "payments.db") else {
-        return Err(Fault::StoreRefused);
-    };
+    match Connection::open(rt, "payments.db") {
+        Ok(conn) => engine_over(rt, conn),
+        Err(Error::SqliteFailure(ErrorCode::OutOfMemory)) => {
+            Err(Fault::NoMemory(NoMemory::told()))
+        }
+        Err(_) => Err(Fault::StoreRefused),
+    }
+}
+
+/// The engine over the store.
+fn engine_over<S: Alter + Drop>(
+    rt: &HostRuntime,
+    conn: Connection<S>,
+) -> Result<Engine<S>, Fault>
+    ensures { IfOk result (λ e. e.log ≡ []) }
+{
     match Engine::open(rt.alloc(), conn, Settings::usual()) {
         Ok(engine) => Ok(engine),
         Err((fault, _conn)) => Err(fault),
