@@ -64,5 +64,5 @@ pub record IsIdle {S : Type 0} (k : Known S) : Type 0 where
 -- what came of waiting for the end of all work for a while
 abbrev pub IsRested : {S : Type 0} → Known S → Rested → Type 0
 IsRested k rested.Idle = IsIdle k
-IsRested k rested.Closed = k.closed ≡ true
-IsRested k (rested.NotYet outlook) = (k.closed ≡ false) × (k.outlook ≡ outlook)
+IsRested k rested.Closed = (k.closed ≡ true) × (IsIdle k → ⊥)
+IsRested k (rested.NotYet outlook) = (k.closed ≡ false) × (k.outlook ≡ outlook) × (IsIdle k → ⊥)

@@ -143,7 +143,7 @@ fn rested<S: Alter, B: Room, R: Wait>(
 ) -> (Pass<S, B>, bool)
     requires seat { IsSubmitters seat }
     ensures idle { result.1 ≡ true → IsIdle result.0.was }
-    ensures closed { result.1 ≡ false → result.0.was.closed ≡ true }
+    ensures closed { result.1 ≡ false → (result.0.was.closed ≡ true) × (IsIdle result.0.was → ⊥) }
     ensures seat { IsSubmitters result.0 }
     ensures grows { IsBefore seat.was result.0.was }
 {
@@ -301,7 +301,7 @@ impl<S: Alter, B: Room> Submitter<S, B> {
     /// one without has a thread that submits what `next_tick` gives.
     pub fn rest<R: Wait>(&mut self, rt: &R) -> bool
         ensures idle { result ≡ true → IsIdle self.new.was }
-        ensures closed { result ≡ false → self.new.was.closed ≡ true }
+        ensures closed { result ≡ false → (self.new.was.closed ≡ true) × (IsIdle self.new.was → ⊥) }
         ensures grows { IsBefore self.old.was self.new.was }
         ensures same { (self.new.id ≡ self.old.id) × (self.new.parts ≡ self.old.parts) × (self.new.amount ≡ self.old.amount) }
     {

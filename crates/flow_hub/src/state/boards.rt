@@ -129,6 +129,7 @@ impl<S: Alter, B: Room> State<S, B> {
         requires seat { IsSubmitters me }
         ensures same { self.new ≡ self.old }
         ensures idle { result.1 ≡ true → IsIdle result.0.was }
+        ensures busy { result.1 ≡ false → IsIdle result.0.was → ⊥ }
         ensures seat { result.0 ≡ seeing false false self.new.known }
         ensures grows { IsBefore me.was result.0.was }
     {
