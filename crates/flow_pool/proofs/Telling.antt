@@ -14,14 +14,16 @@ unheard_next c [] x all one = (one, tt)
 unheard_next c (b ∷ bs) x all one = (all.0, unheard_next c bs x all.1 one)
 
 -- one more task, at which somebody heard
-pub goes_on : (may : Task → Attempt → Type 0) (ts : List Task) (log : List Telling) (t : Task) (one : List Telling) → GoesOn may ts log → Reported may t one false → GoesOn may (ts ++ t ∷ []) (log ++ one)
-goes_on may [] log t one went told = (one, [], ap (λ l. l ++ one) went ∙ sym (append-nil one), told, refl)
-goes_on may (s ∷ ts) log t one went told =
-    (went.0, went.1 ++ one, ap (λ l. l ++ one) went.2 ∙ append_assoc went.0 went.1 one, went.3, goes_on may ts went.1 t one went.4 told)
+pub goes_on : (tells : ℕ → Type 0) (may : Task → Attempt → Type 0) (ts : List Task) (log : List Telling) (t : Task) (one : List Telling) → GoesOn tells may ts log → Reported tells may t one false
+    → GoesOn tells may (ts ++ t ∷ []) (log ++ one)
+goes_on tells may [] log t one went told = (one, [], ap (λ l. l ++ one) went ∙ sym (append-nil one), told, refl)
+goes_on tells may (s ∷ ts) log t one went told =
+    (went.0, went.1 ++ one, ap (λ l. l ++ one) went.2 ∙ append_assoc went.0 went.1 one, went.3, goes_on tells may ts went.1 t one went.4 told)
 
 -- what may come by one set of activities may come by another
-pub reported_by : (may more : Task → Attempt → Type 0) (t : Task) (log : List Telling) (over : Bool) → ((s : Task) (a : Attempt) → may s a → more s a) → Reported may t log over → Reported more t log over
-reported_by may more t log over weaker (a, came, at, first, e, rest, is, tells, follows) = (a, weaker t a came, at, first, e, rest, is, tells, follows)
+pub reported_by : (tells : ℕ → Type 0) (may more : Task → Attempt → Type 0) (t : Task) (log : List Telling) (over : Bool) → ((s : Task) (a : Attempt) → may s a → more s a) → Reported tells may t log over
+    → Reported tells more t log over
+reported_by tells may more t log over weaker (a, came, at, clocked, first, e, rest, is, told, follows) = (a, weaker t a came, at, clocked, first, e, rest, is, told, follows)
 
 -- an activity that has run gives no more than before
 pub may_set : {X : Type 0} (named : X → List ℕ) (gives : X → Task → Attempt → Type 0) (xs : List X) (i : ℕ) (x y : X) → i < length xs → get_or xs i x ≡ x → named y ≡ named x

@@ -80,29 +80,32 @@ abbrev pub is_wrong_type : Heard → Bool
 is_wrong_type (Ok (reply.Refused code.WrongType)) = true
 is_wrong_type _ = false
 
--- What is told behind the report of a task. After E66 it is the failure `wrong type`. It is over where there is nobody to tell
-abbrev pub Follows : Task → Heard → List Telling → Bool → Type 0
-Follows t e more over =
+-- What is told behind the report of a task. After E66 it is the failure `wrong type`, at a moment that the clock told. It is over where
+-- there is nobody to tell
+abbrev pub Follows : (ℕ → Type 0) → Task → Heard → List Telling → Bool → Type 0
+Follows tells t e more over =
     MatchBool (is_wrong_type e)
-    ((at : ℕ) × (f : Heard) × Tells (report_of t (failed_with (codes "wrong type")) at) more f × (over ≡ is_err f))
+    ((at : ℕ) × tells at × (f : Heard) × Tells (report_of t (failed_with (codes "wrong type")) at) more f × (over ≡ is_err f))
     ((more ≡ []) × (over ≡ is_err e))
 
--- all that is told of a task, by what may come of it
-abbrev pub Reported : (Task → Attempt → Type 0) → Task → List Telling → Bool → Type 0
-Reported may t log over =
-    (a : Attempt) × may t a × (at : ℕ) × (first : List Telling) × (e : Heard) × (more : List Telling) × (log ≡ first ++ more)
-    × Tells (report_of t a at) first e × Follows t e more over
+-- all that is told of a task, by the moments that the clock tells and what may come of it
+abbrev pub Reported : (ℕ → Type 0) → (Task → Attempt → Type 0) → Task → List Telling → Bool → Type 0
+Reported tells may t log over =
+    (a : Attempt) × may t a × (at : ℕ) × tells at × (first : List Telling) × (e : Heard) × (more : List Telling) × (log ≡ first ++ more)
+    × Tells (report_of t a at) first e × Follows tells t e more over
 
 -- each of these tasks was reported, one after the other, and somebody heard
-abbrev pub GoesOn : (Task → Attempt → Type 0) → List Task → List Telling → Type 0
-GoesOn may [] log = log ≡ []
-GoesOn may (t ∷ ts) log = (one : List Telling) × (rest : List Telling) × (log ≡ one ++ rest) × Reported may t one false × GoesOn may ts rest
+abbrev pub GoesOn : (ℕ → Type 0) → (Task → Attempt → Type 0) → List Task → List Telling → Type 0
+GoesOn tells may [] log = log ≡ []
+GoesOn tells may (t ∷ ts) log =
+    (one : List Telling) × (rest : List Telling) × (log ≡ one ++ rest) × Reported tells may t one false × GoesOn tells may ts rest
 
 -- behind these tasks, of which each was reported, one at which nobody was left to tell
-abbrev pub Stops : (Task → Attempt → Type 0) → List Task → List Telling → Type 0
-Stops may ts log =
-    (before : List Task) × (t : Task) × (first : List Telling) × (one : List Telling) × (ts ≡ before ++ t ∷ []) × (log ≡ first ++ one) × GoesOn may before first × Reported may t one true
+abbrev pub Stops : (ℕ → Type 0) → (Task → Attempt → Type 0) → List Task → List Telling → Type 0
+Stops tells may ts log =
+    (before : List Task) × (t : Task) × (first : List Telling) × (one : List Telling) × (ts ≡ before ++ t ∷ []) × (log ≡ first ++ one)
+    × GoesOn tells may before first × Reported tells may t one true
 
--- what a worker reports of the tasks that it takes
-abbrev pub Works : (Task → Attempt → Type 0) → List Task → List Telling → Type 0
-Works may ts log = GoesOn may ts log ⊎ Stops may ts log
+-- what a worker reports of the tasks that it takes, each at a moment that its clock tells
+abbrev pub Works : (ℕ → Type 0) → (Task → Attempt → Type 0) → List Task → List Telling → Type 0
+Works tells may ts log = GoesOn tells may ts log ⊎ Stops tells may ts log

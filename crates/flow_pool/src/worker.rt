@@ -53,7 +53,7 @@ fn follow<R: Wait, S: Reports, C: Clock>(
     reports: &mut S,
     clock: &C,
 ) -> bool
-    ensures { (more : List Telling) × (S.told reports.new ≡ S.told reports.old ++ more) × Follows task.now heard more result }
+    ensures { (more : List Telling) × (S.told reports.new ≡ S.told reports.old ++ more) × Follows (C.tells clock.now) task.now heard more result }
 {
     if !has_wrong_type(&heard) {
         return heard.is_err();
@@ -71,7 +71,7 @@ fn work<R: Wait, A: Activity, S: Reports, C: Clock>(
     reports: &mut S,
     clock: &C,
 ) -> bool
-    ensures reported { (log : List Telling) × (S.told reports.new ≡ S.told reports.old ++ log) × Reported (MayCome A.named A.gives activities.old.items) task.now log result }
+    ensures reported { (log : List Telling) × (S.told reports.new ≡ S.told reports.old ++ log) × Reported (C.tells clock.now) (MayCome A.named A.gives activities.old.items) task.now log result }
     ensures keeps { (t : Task) (a : Attempt) → MayCome A.named A.gives activities.new.items t a → MayCome A.named A.gives activities.old.items t a }
 {
     let attempt = attempt(rt, alloc, activities, task);
@@ -91,7 +91,7 @@ pub fn worker<R: Wait, A: Activity + Drop, S: Reports, C: Clock>(
     reports: S,
     clock: &C,
 ) -> (TaskReceiver, S)
-    ensures works { (ts : List Task) × (log : List Telling) × (taken_by result.0 ≡ taken_by receiver ++ ts) × (S.told result.1 ≡ S.told reports ++ log) × Works (MayCome A.named A.gives activities.items) ts log }
+    ensures works { (ts : List Task) × (log : List Telling) × (taken_by result.0 ≡ taken_by receiver ++ ts) × (S.told result.1 ≡ S.told reports ++ log) × Works (C.tells clock.now) (MayCome A.named A.gives activities.items) ts log }
     ensures same { IsSameEnd receiver result.0 × (number_of result.0 ≡ number_of receiver) }
 {
     let mut activities = activities;

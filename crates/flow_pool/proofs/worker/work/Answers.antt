@@ -13,6 +13,7 @@ returns-clause-reported g c =
         c.attempt-attempt.result,
         c.attempt-attempt.ensures.comes,
         c.now.result,
+        c.now.ensures,
         first.0,
         c.tell-heard.result,
         more.0,

@@ -11,6 +11,7 @@ tasks-preserved g c =
     let (ts, log, taken, told, went) = inv.5 in
     let one = c.if-work.ensures.reported in
     let task = c.in-Some-take.task in
+    let tells = g.C.Clock.tells c.args.clock.now in
     let may = MayCome g.A.Activity.named g.A.Activity.gives c.args.activities.items in
     let then = MayCome g.A.Activity.named g.A.Activity.gives c.tasks.activities.items in (
       tt,
@@ -23,7 +24,7 @@ tasks-preserved g c =
         log ++ one.0,
         c.in-Some-take.ensures.taken ∙ ap (λ (l : List Task). l ++ task ∷ []) taken ∙ append_assoc (taken_by c.args.receiver) ts (task ∷ []),
         one.1 ∙ ap (λ (l : List Telling). l ++ one.0) told ∙ append_assoc (g.S.Reports.told c.args.reports) log one.0,
-        goes_on may ts log task one.0 went (reported_by then may task one.0 false inv.2 one.2),
+        goes_on tells may ts log task one.0 went (reported_by tells then may task one.0 false inv.2 one.2),
       ),
     )
 
@@ -33,11 +34,12 @@ returns-then-work-clause-works g c =
     let (ts, log, taken, told, went) = inv.5 in
     let one = c.if-work.ensures.reported in
     let task = c.in-Some-take.task in
+    let tells = g.C.Clock.tells c.args.clock.now in
     let may = MayCome g.A.Activity.named g.A.Activity.gives c.args.activities.items in
     let then = MayCome g.A.Activity.named g.A.Activity.gives c.tasks.activities.items in (
       ts ++ task ∷ [],
       log ++ one.0,
       c.in-Some-take.ensures.taken ∙ ap (λ (l : List Task). l ++ task ∷ []) taken ∙ append_assoc (taken_by c.args.receiver) ts (task ∷ []),
       one.1 ∙ ap (λ (l : List Telling). l ++ one.0) told ∙ append_assoc (g.S.Reports.told c.args.reports) log one.0,
-      inr (ts, task, log, one.0, refl, refl, went, reported_by then may task one.0 true inv.2 one.2),
+      inr (ts, task, log, one.0, refl, refl, went, reported_by tells then may task one.0 true inv.2 one.2),
     )

@@ -10,4 +10,4 @@ invariant-tasks g l =
     (goal.iterator-tasks g).can_next l.iterator' × (goal.iterator-tasks g).is_finite l.iterator'
     × ((t : Task) (a : Attempt) → MayCome g.A.Activity.named g.A.Activity.gives l.activities.items t a → MayCome g.A.Activity.named g.A.Activity.gives l.initial.activities.items t a)
     × IsSameEnd l.initial.receiver l.receiver × (number_of l.receiver ≡ number_of l.initial.receiver)
-    × ((ts : List Task) × (log : List Telling) × (taken_by l.receiver ≡ taken_by l.initial.receiver ++ ts) × (g.S.Reports.told l.reports ≡ g.S.Reports.told l.initial.reports ++ log) × GoesOn (MayCome g.A.Activity.named g.A.Activity.gives l.initial.activities.items) ts log)
+    × ((ts : List Task) × (log : List Telling) × (taken_by l.receiver ≡ taken_by l.initial.receiver ++ ts) × (g.S.Reports.told l.reports ≡ g.S.Reports.told l.initial.reports ++ log) × GoesOn (g.C.Clock.tells l.clock) (MayCome g.A.Activity.named g.A.Activity.gives l.initial.activities.items) ts log)
