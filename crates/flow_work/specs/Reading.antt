@@ -15,10 +15,11 @@ use Rattle.flow_work.specs.declared.queue.Pending.TheVariants as pending
 abbrev pub IsOf : {S : Type 0} → Member S → Command → Ticket → Type 0
 IsOf m c t = (t.owner ≡ m.id) × (slice_get m.was.asked t.number ≡ Some (record { ticket = t.number; command = c }))
 
--- the line is this command, which was submitted with the moment that a clock told
-pub record IsSubmitted {S : Type 0} (m : Member S) (bytes : List ℕ) (t : Ticket) : Type 0 where
+-- the line is this command, which was submitted with a moment that the clock told
+pub record IsSubmitted {S : Type 0} (tells : ℕ → Type 0) (m : Member S) (bytes : List ℕ) (t : Ticket) : Type 0 where
   pub command : Command
   pub at : ℕ
+  pub told : tells at
   pub is : line_command bytes ≡ Some command
   pub ticket : IsOf m (command_at command at) t
 
@@ -27,6 +28,6 @@ abbrev pub IsKnown : List ℕ → Line → Type 0
 IsKnown bytes told = ((told ≡ line.Bad) × (line_command bytes ≡ None)) ⊎ (told ≡ line.NotApplied code.NoMemory)
 
 -- what is waited for behind a line
-abbrev pub IsPendingOf : {S : Type 0} → Member S → List ℕ → Pending → Type 0
-IsPendingOf m bytes (pending.Submitted ticket) = IsSubmitted m bytes ticket
-IsPendingOf m bytes (pending.Known told) = IsKnown bytes told
+abbrev pub IsPendingOf : {S : Type 0} → (ℕ → Type 0) → Member S → List ℕ → Pending → Type 0
+IsPendingOf tells m bytes (pending.Submitted ticket) = IsSubmitted tells m bytes ticket
+IsPendingOf tells m bytes (pending.Known told) = IsKnown bytes told

@@ -214,7 +214,7 @@ impl<S: Alter, B: Room, W: Write + Drop> Desk<S, B, W> {
 
     /// What becomes of a line. None where nothing is answered any more.
     fn pending_of<R: Wait, C: Clock>(&mut self, rt: &R, clock: &C, line: Vec<u8>) -> Option<Pending>
-        ensures pending { IfSome result (λ p. IsPendingOf self.new.submitter line.items p) }
+        ensures pending { IfSome result (λ p. IsPendingOf (C.tells clock.now) self.new.submitter line.items p) }
         ensures told { HasTold S.Store self.new.submitter (is_some result) self.old.pending.lines.items self.new.pending.lines.items (record { is_mute = self.old.is_mute; status = self.old.status; bytes = W.contents self.old.writer }) (record { is_mute = self.new.is_mute; status = self.new.status; bytes = W.contents self.new.writer }) }
         ensures grows { IsBefore self.old.submitter.was self.new.submitter.was }
         ensures same { self.new.submitter.id ≡ self.old.submitter.id }
@@ -235,7 +235,7 @@ impl<S: Alter, B: Room, W: Write + Drop> Desk<S, B, W> {
     /// Takes in a line. No where nothing is answered any more.
     fn take_line<R: Wait, C: Clock>(&mut self, rt: &R, clock: &C, line: Vec<u8>) -> bool
         requires { length self.old.pending.lines.items < 64 }
-        ensures taken { result ≡ true → (p : APending) × (rest : List APending) × IsPendingOf self.new.submitter line.items p × (self.new.pending.lines.items ≡ rest ++ p ∷ [])
+        ensures taken { result ≡ true → (p : APending) × (rest : List APending) × IsPendingOf (C.tells clock.now) self.new.submitter line.items p × (self.new.pending.lines.items ≡ rest ++ p ∷ [])
             × HasTold S.Store self.new.submitter true self.old.pending.lines.items rest (record { is_mute = self.old.is_mute; status = self.old.status; bytes = W.contents self.old.writer }) (record { is_mute = self.new.is_mute; status = self.new.status; bytes = W.contents self.new.writer }) }
         ensures not_taken { result ≡ false → HasTold S.Store self.new.submitter false self.old.pending.lines.items self.new.pending.lines.items (record { is_mute = self.old.is_mute; status = self.old.status; bytes = W.contents self.old.writer }) (record { is_mute = self.new.is_mute; status = self.new.status; bytes = W.contents self.new.writer }) }
     {
