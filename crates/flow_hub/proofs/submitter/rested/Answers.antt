@@ -12,3 +12,6 @@ loop-preserved g c = (
   search rules,
   search rules,
 )
+
+pub returns-in-Closed-clause-grows : goal.returns-in-Closed-clause-grows
+returns-in-Closed-clause-grows g c = before_trans c.args.seat.was c.loop.me.was c.rest-seen.result.0.was c.loop.invariant.0 c.rest-seen.ensures.grows
