@@ -1,2 +1,3 @@
+mod Firing
 mod Hearing
 mod Telling

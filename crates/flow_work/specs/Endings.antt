@@ -1,5 +1,5 @@
 -- What comes of a submission that has no receipt.
-use Rattle.std.specs.Prelude.{◌≡◌, ◌⊎◌, List, Option, Some, None}
+use Rattle.std.specs.Prelude.{◌≡◌, ◌⊎◌, List, [], Option, Some, None}
 use Rattle.sqlite_trees.specs.declared.store.Store.{Ghosts}
 use Rattle.flow_base.specs.declared.code.Code.TheVariants as code
 use Rattle.flow_base.specs.declared.fault.Fault.{Fault}
@@ -8,7 +8,7 @@ use Rattle.flow_machine.specs.declared.submission.Taken.{Taken}
 use Rattle.flow_cli.specs.declared.reply.Line.{Line}
 use Rattle.flow_cli.specs.declared.reply.Line.TheVariants as line
 use Rattle.flow_commit.specs.Keeping.{Keeping}
-use Rattle.flow_engine.specs.Serving.{EndsFor}
+use Rattle.flow_engine.specs.Serving.{EndsFor, GivesUp, HasServed}
 use Rattle.flow_hub.specs.declared.denied.Denied.{Denied}
 use Rattle.flow_hub.specs.declared.denied.Denied.TheVariants as denied
 use Rattle.flow_queues.specs.declared.refused.Refused.{Refused}
@@ -45,9 +45,16 @@ IsToldOf g m ticket told =
     ((r : Receipt) × IsReceipt g m ticket r × (told ≡ Some (line.Of r.reply)))
     ⊎ ((n : NotDone) × IsNotDone m ticket n × (told ≡ line_instead n.code))
 
--- Why an engine that ran serves no more, and what has answered what was submitted.
-pub record EndsServing {S : Type 0} (old new : Keeping S) (f : Fault) : Type 0 where
-  pub was : List Refused
+-- An engine that ran has served to the end: what it took was committed batch by batch, each over the book that those before it left,
+-- a batch that wasn't applied was answered E80 or E01, and nothing else was answered by a code.
+pub record HasServedAll {S : Type 0} (g : Ghosts S) (old new : Keeping S) : Type 0 where
   pub now : List Refused
-  pub waiting : List Taken
-  pub how : EndsFor old new was now waiting f
+  pub given_up : GivesUp [] now
+  pub served : HasServed g old new [] now []
+
+-- Why an engine that ran serves no more, and what has answered what was submitted: what it had taken was committed batch by batch, each
+-- over the book that those before it left, which says what is kept and what a stop leaves.
+pub record EndsServing {S : Type 0} (g : Ghosts S) (old new : Keeping S) (f : Fault) : Type 0 where
+  pub now : List Refused
+  pub how : (waiting : List Taken) × EndsFor old new [] now waiting f
+  pub served : (waiting : List Taken) × HasServed g old new [] now waiting

@@ -1,5 +1,6 @@
 pub mod Configured
 pub mod Endings
+pub mod Firing
 pub mod Hearing
 pub mod Inputs
 pub mod Moments

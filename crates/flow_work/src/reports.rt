@@ -2,8 +2,10 @@
 ghost use Rattle.std.specs.Prelude.{◌≡◌, [], ◌∷◌, ◌++◌, IfErr, IfSome, IfNone, Some, true};
 ghost use Rattle.flow_base.specs.declared.command.Command.{Command as ACommand};
 ghost use Rattle.flow_hub.specs.Feeding.{IsTickOf};
+ghost use Rattle.flow_hub.specs.Knowing.{IsBefore};
 ghost use Rattle.flow_pool.specs.Reports.{came_of};
 ghost use Rattle.flow_work.specs.Endings.{unheard_denied, unheard_why};
+ghost use Rattle.flow_work.specs.Firing.{FiresOne, is_last};
 ghost use Rattle.flow_work.specs.Hearing.{IsHeard};
 
 use crate::tally::Tally;
@@ -104,7 +106,7 @@ fn unheard_of(instead: NotDone) -> (Command, Unheard)
 }
 
 /// Submits a command and waits for its reply.
-#[tactic(auto, using(crate::proofs::Hearing::has_reply))]
+#[tactic(auto, using(crate::proofs::Hearing::has_reply, flow_hub::proofs::Growing::before_trans))]
 fn heard<S: Alter, B: Room, R: Wait>(
     rt: &R,
     submitter: &mut Submitter<S, B>,
@@ -112,6 +114,7 @@ fn heard<S: Alter, B: Room, R: Wait>(
 ) -> Heard
     ensures heard { IsHeard S.Store submitter.old submitter.new command result }
     ensures back { IfErr result (λ e. e.0 ≡ command) }
+    ensures grows { IsBefore submitter.old.was submitter.new.was }
 {
     match submitter.submit(rt, command) {
         Ok(ticket) => match submitter.wait(rt, ticket) {
@@ -127,6 +130,16 @@ fn is_over(heard: &Heard) -> bool {
     match heard {
         Ok(Reply::Refused(Code::WrongType)) => false,
         Ok(_reply) => true,
+        Err((_back, unheard)) => unheard.is_final(),
+    }
+}
+
+/// Whether nothing is answered any more behind it.
+fn is_last(heard: &Heard) -> bool
+    ensures { result ≡ is_last (came_of heard.now) }
+{
+    match heard {
+        Ok(_reply) => false,
         Err((_back, unheard)) => unheard.is_final(),
     }
 }
@@ -153,13 +166,11 @@ impl<S: Alter, B: Room> Reporter<S, B> {
     }
 
     /// Sleeps until something is due by the clock, and gives the command that fires it. None where the hub is closed.
-    pub(crate) fn next_tick<R: Wait + time::Clock, C: Clock>(
-        &mut self,
-        rt: &R,
-        clock: &C,
-    ) -> Option<Command>
+    fn next_tick<R: Wait + time::Clock, C: Clock>(&mut self, rt: &R, clock: &C) -> Option<Command>
         ensures tick { IfSome result (λ c. IsTickOf (C.tells clock.now) self.new.submitter.was c) }
         ensures none { IfNone result (self.new.submitter.was.closed ≡ true) }
+        ensures told { self.new.told ≡ self.old.told }
+        ensures grows { IsBefore self.old.submitter.was self.new.submitter.was }
     {
         self.submitter.next_tick(rt, clock)
     }
@@ -169,12 +180,32 @@ impl<S: Alter, B: Room> Reporter<S, B> {
         ensures heard { IsHeard S.Store self.old.submitter self.new.submitter command result }
         ensures told { self.new.told ≡ self.old.told ++ (command, came_of result) ∷ [] }
         ensures back { IfErr result (λ e. e.0 ≡ command) }
+        ensures grows { IsBefore self.old.submitter.was self.new.submitter.was }
     {
         let asked = Snapshot::of(&command);
         let heard = heard(rt, &mut self.submitter, command);
         self.count(&heard);
         self.told = with_heard(&self.told, asked, Snapshot::of(&heard));
         heard
+    }
+
+    /// Sleeps until something is due by the clock, tells the tick that fires it, and waits for its answer. No where nothing is answered
+    /// any more.
+    #[tactic(auto, using(crate::proofs::Firing::fires_nothing, flow_hub::proofs::Growing::before_trans))]
+    pub(crate) fn fire<R: Wait + time::Clock, C: Clock>(&mut self, rt: &R, clock: &C) -> bool
+        ensures fires { FiresOne S.Store (C.tells clock.now) self.new.submitter.was self.old.told self.new.told result }
+        ensures grows { IsBefore self.old.submitter.was self.new.submitter.was }
+    {
+        let Some(tick) = self.next_tick(rt, clock) else {
+            return false;
+        };
+        let heard = self.report(rt, tick);
+        let ends = is_last(&heard);
+        drop(heard);
+        if ends {
+            return false;
+        }
+        true
     }
 }
 

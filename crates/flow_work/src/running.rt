@@ -1,10 +1,10 @@
 //! A running engine: the threads around the one that serves.
-ghost use Rattle.std.specs.Prelude.{◌≡◌, [], length, IfOk, IfErr, OnOk};
+ghost use Rattle.std.specs.Prelude.{◌≡◌, ◌≤◌, [], length, IfOk, IfErr, OnOk};
 ghost use Rattle.flow_hub.specs.Knowing.{nothing};
 ghost use Rattle.flow_hub.specs.Seating.{IsRoomOf};
 ghost use Rattle.flow_hub.specs.Publishing.{Together};
 ghost use Rattle.flow_engine.specs.Answering.{Follows};
-ghost use Rattle.flow_work.specs.Endings.{EndsServing};
+ghost use Rattle.flow_work.specs.Endings.{EndsServing, HasServedAll};
 
 use crate::crew::{
     Answerer, start_desk, start_dispatcher, start_reader, start_timer, start_worker,
@@ -362,7 +362,10 @@ where
     K: Skills<A>,
     C: Clock + Copy + Send + Drop + 'static,
     requires { engine.old.log ≡ [] }
-    ensures served { IfOk result (λ e. IfErr e.served (EndsServing engine.old engine.new)) }
+    // What was taken was committed batch by batch, each over the book that those before it left, and nothing else changes the book: so it
+    // says what is kept and what a stop leaves, also where a fault ended it. Where nothing was served all is as before.
+    ensures served { IfOk result (λ e. OnOk e.served (HasServedAll S.Store engine.old engine.new)) }
+    ensures ends { IfOk result (λ e. IfErr e.served (EndsServing S.Store engine.old engine.new)) }
     ensures goes_on { IfOk result (λ e. OnOk e.served (engine.new.halted ≡ engine.old.halted)) }
     ensures unserved { IfErr result (λ f. (f ≡ Fault.NoMemory _) × (engine.new ≡ engine.old)) }
     ensures base { engine.new.base ≡ engine.old.base }
@@ -403,7 +406,8 @@ where
     C: Clock + Copy + Send + Drop + 'static,
     P: Write + Drop + Send + 'static,
     requires { engine.old.log ≡ [] }
-    ensures served { IfOk result (λ e. IfErr e.served (EndsServing engine.old engine.new)) }
+    ensures served { IfOk result (λ e. OnOk e.served (HasServedAll S.Store engine.old engine.new)) }
+    ensures ends { IfOk result (λ e. IfErr e.served (EndsServing S.Store engine.old engine.new)) }
     ensures goes_on { IfOk result (λ e. OnOk e.served (engine.new.halted ≡ engine.old.halted)) }
     ensures unserved { IfErr result (λ f. (f ≡ Fault.NoMemory _) × (engine.new ≡ engine.old)) }
     ensures base { engine.new.base ≡ engine.old.base }
@@ -434,6 +438,29 @@ fn open_hub<S: Alter, B: Room>(alloc: Global, opened: Opened<S>) -> Result<Parts
     Ok((publisher, hub))
 }
 
+/// Serves a hub that was just made, until it is closed and nothing waits, or the engine serves no more.
+fn serve_new<S: Alter, B: Room, R: Wait, C: Clock>(
+    rt: &R,
+    engine: &mut Engine<S>,
+    publisher: &mut Publisher<S, B>,
+    clock: &C,
+    most: usize,
+) -> Result<(), Fault>
+    requires fresh { engine.old.log ≡ [] }
+    requires nothing { publisher.old ≡ nothing }
+    requires most { (1 ≤ most) × (most ≤ 64) }
+    ensures served { OnOk result (HasServedAll S.Store engine.old engine.new) }
+    ensures ends { IfErr result (EndsServing S.Store engine.old engine.new) }
+    ensures goes_on { OnOk result (engine.new.halted ≡ engine.old.halted) }
+    ensures base { engine.new.base ≡ engine.old.base }
+    ensures follows { Follows S.Store engine.old engine.new }
+{
+    match engine.serve(rt, publisher, clock, most) {
+        Ok(()) => Ok(()),
+        Err(fault) => Err(fault),
+    }
+}
+
 fn work_in<S, B, R, I, W, A, K, C, P>(
     rt: &R,
     alloc: Global,
@@ -459,7 +486,8 @@ where
     P: Write + Drop + Send + 'static,
     requires room { IsRoomOf opened B.table B.name B.parts }
     requires fresh { engine.old.log ≡ [] }
-    ensures served { IfOk result (λ e. IfErr e.served (EndsServing engine.old engine.new)) }
+    ensures served { IfOk result (λ e. OnOk e.served (HasServedAll S.Store engine.old engine.new)) }
+    ensures ends { IfOk result (λ e. IfErr e.served (EndsServing S.Store engine.old engine.new)) }
     ensures goes_on { IfOk result (λ e. OnOk e.served (engine.new.halted ≡ engine.old.halted)) }
     ensures unserved { IfErr result (λ f. (f ≡ Fault.NoMemory _) × (engine.new ≡ engine.old)) }
     ensures base { engine.new.base ≡ engine.old.base }
@@ -480,7 +508,7 @@ where
     );
     match started {
         Ok((answering, own_lines)) => {
-            let served = engine.serve(rt, &mut publisher, &clock, settings.batch());
+            let served = serve_new(rt, engine, &mut publisher, &clock, settings.batch());
             // Who answers lines may wait for one, and none is answered any more.
             let _ = own_lines.send(rt, Input::Stopped);
             let (writer, status) = answering.join(rt);

@@ -1,7 +1,8 @@
 //! The thread that fires what is due.
+ghost use Rattle.flow_work.specs.Firing.{Fires};
+
 use crate::reports::Reporter;
 use flow_hub::seats::Room;
-use flow_pool::report::Reports;
 use flow_timers::Clock;
 use sqlite::Alter;
 use std::sync::Wait;
@@ -9,22 +10,20 @@ use std::{thread, time};
 
 /// Submits a tick as soon as something is due by the clock, waits for its answer, and goes on, until nothing is answered any more.
 /// After E01, E80 and E90 it asks again what is due.
+#[tactic(auto, using(crate::proofs::Firing::fires_none))]
 pub(crate) fn fire_timers<R: Wait + time::Clock, S: Alter, B: Room, C: Clock>(
     rt: &R,
     reports: Reporter<S, B>,
     clock: &C,
-) -> Reporter<S, B> {
+) -> Reporter<S, B>
+    ensures { Fires S.Store (C.tells clock.now) result.submitter.was reports.told result.told }
+{
     let mut reports = reports;
-    for _ in rt.forever() {
-        let Some(tick) = reports.next_tick(rt, clock) else {
+    'ticks: for _ in rt.forever() {
+        if !reports.fire(rt, clock) {
             return reports;
-        };
-        if let Err((_tick, unheard)) = reports.tell(rt, tick) {
-            if unheard.is_final() {
-                return reports;
-            }
-            thread::yield_now();
         }
+        thread::yield_now();
     }
     unreachable!()
 }

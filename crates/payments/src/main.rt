@@ -59,10 +59,7 @@ fn open(rt: &HostRuntime) -> Result<Engine<FileStore<File>>, Fault>
 }
 
 /// The engine over the store.
-fn engine_over<S: Alter + Drop>(
-    rt: &HostRuntime,
-    conn: Connection<S>,
-) -> Result<Engine<S>, Fault>
+fn engine_over<S: Alter + Drop>(rt: &HostRuntime, conn: Connection<S>) -> Result<Engine<S>, Fault>
     ensures { IfOk result (λ e. e.log ≡ []) }
 {
     match Engine::open(rt.alloc(), conn, Settings::usual()) {
