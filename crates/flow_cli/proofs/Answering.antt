@@ -8,7 +8,7 @@ use Rattle.flow_base.specs.declared.command.Command.{Command}
 use Rattle.flow_model.specs.Apply.{Rules}
 use Rattle.flow_model.specs.Book.{Book}
 use Rattle.flow_cli.specs.Driving.{lines_of, written, answer_status, final_status, WritesBeginning}
-use Rattle.flow_cli.specs.Answering.{IsAnswer, AreAnswers, FirstLine, Answered, AllAnswered, StatusWithin, WritesPart, WritesSome, WritesUntil, FaultBehind, LeavesBook, LeftBehind, StopsWithin}
+use Rattle.flow_cli.specs.Answering.{IsAnswer, AreAnswers, FirstLine, Answered, AllAnswered, StatusWithin, WritesPart, WritesSome, WritesUntil, FaultBehind, InDoubt, LeavesBook, LeftBehind, StopsWithin, commands_in}
 use Rattle.flow_cli.specs.Commands.{line_command}
 use Rattle.flow_cli.specs.Faults.{fault_of_stop}
 use Rattle.flow_cli.specs.Replies.{line_text}
@@ -71,62 +71,6 @@ module _ (u : Rules) (given_up : Book → List Command → Code → Type 0) wher
   pub one : (b b1 : Book) (line : List ℕ) (a : Line) → IsAnswer u given_up b b1 line a → AreAnswers u given_up b b1 (line ∷ []) (a ∷ [])
   one b b1 line a is = (b1, (is, refl))
 
-  -- ---- what is behind the answers that were written
-
-  pub none_fault : (f : Fault) (b : Book) (later : List (List ℕ)) → FaultBehind u given_up f b b later
-  none_fault (fault.NoMemory _) b later = ([], (later, ([], (refl, refl))))
-  none_fault (fault.Mismatch run place name) b later = tt
-  none_fault fault.NoRun b later = tt
-  none_fault fault.StoreRefused b later = refl
-  none_fault fault.NotOurs b later = tt
-  none_fault fault.BadVersion b later = tt
-  none_fault (fault.Damaged d) b later = tt
-  none_fault fault.Unknown b later = tt
-  none_fault fault.Halted b later = tt
-  none_fault fault.NoFile b later = tt
-  none_fault fault.BadUsage b later = tt
-
-  -- nothing more was answered
-  none_behind : (e : Stopped) (b : Book) (later : List (List ℕ)) → LeavesBook e b b → LeftBehind u given_up e b b later
-  none_behind (stopped.Refused f) b later left = none_fault f b later
-  none_behind (stopped.Input e) b later left = left
-  none_behind (stopped.Output e) b later left = left
-  none_behind stopped.BadSettings b later left = left
-
-  -- these were answered where memory ran out
-  fault_behind : (f : Fault) (b b1 : Book) (later : List (List ℕ)) (answers : List Line) → CausedFault f (λ s. ⊥) ⊥ → AreAnswers u given_up b b1 later answers → FaultBehind u given_up f b b1 later
-  fault_behind (fault.NoMemory _) b b1 later answers cause are = (later, ([], (answers, (sym (append-nil later), are))))
-  fault_behind (fault.Mismatch run place name) b b1 later answers cause are = absurd cause
-  fault_behind fault.NoRun b b1 later answers cause are = absurd cause
-  fault_behind fault.StoreRefused b b1 later answers cause are = absurd cause
-  fault_behind fault.NotOurs b b1 later answers cause are = absurd cause
-  fault_behind fault.BadVersion b b1 later answers cause are = absurd cause
-  fault_behind (fault.Damaged d) b b1 later answers cause are = absurd cause
-  fault_behind fault.Unknown b b1 later answers cause are = absurd cause
-  fault_behind fault.Halted b b1 later answers cause are = absurd cause
-  fault_behind fault.NoFile b b1 later answers cause are = absurd cause
-  fault_behind fault.BadUsage b b1 later answers cause are = absurd cause
-
-  fault_longer : (f : Fault) (b b1 : Book) (later more : List (List ℕ)) → FaultBehind u given_up f b b1 later → FaultBehind u given_up f b b1 (later ++ more)
-  fault_longer (fault.NoMemory _) b b1 later more h = (h.0, (h.1.0 ++ more, (h.1.1.0, (ap (λ l. l ++ more) h.1.1.1.0 ∙ append_assoc h.0 h.1.0 more, h.1.1.1.1))))
-  fault_longer (fault.Mismatch run place name) b b1 later more h = tt
-  fault_longer fault.NoRun b b1 later more h = tt
-  fault_longer fault.StoreRefused b b1 later more h = h
-  fault_longer fault.NotOurs b b1 later more h = tt
-  fault_longer fault.BadVersion b b1 later more h = tt
-  fault_longer (fault.Damaged d) b b1 later more h = tt
-  fault_longer fault.Unknown b b1 later more h = tt
-  fault_longer fault.Halted b b1 later more h = tt
-  fault_longer fault.NoFile b b1 later more h = tt
-  fault_longer fault.BadUsage b b1 later more h = tt
-
-  -- more lines stand behind
-  pub longer_behind : (e : Stopped) (b b1 : Book) (later more : List (List ℕ)) → LeftBehind u given_up e b b1 later → LeftBehind u given_up e b b1 (later ++ more)
-  longer_behind (stopped.Refused f) b b1 later more h = fault_longer f b b1 later more h
-  longer_behind (stopped.Input e) b b1 later more h = h
-  longer_behind (stopped.Output e) b b1 later more h = h
-  longer_behind stopped.BadSettings b b1 later more h = h
-
   -- ---- lines that were answered
 
   -- nothing is answered yet
@@ -155,24 +99,6 @@ module _ (u : Rules) (given_up : Book → List Command → Code → Type 0) wher
     answers_are = one b b line a_line.Bad (bad, refl);
     written_are = subst (Appends old new) (sym (append-nil (line_text a_line.Bad ++ 10 ∷ []))) adds;
     status_is = is;
-  }
-
-  -- and where its answer wasn't all written
-  pub bad_written : (b : Book) (e : Stopped) (known left old new : Option (List ℕ)) (found line : List ℕ) → IfSome known (λ bytes. FirstLine bytes found left) → line ≡ found → line_command line ≡ None → WritesPart e old new (line_text a_line.Bad ++ 10 ∷ []) → IfSome known (λ bytes. StopsWithin u given_up b b e (lines_of bytes) old new)
-  bad_written b e None left old new found line first same bad w = tt
-  bad_written b (stopped.Refused f) (Some bytes) left old new found line first same bad w =
-      record { lines = []; later = lines_of bytes; answers = []; book = b; lines_are = refl; answers_are = refl; written_are = kept_appends old new w; book_is = none_fault f b (lines_of bytes) }
-  bad_written b (stopped.Input f) (Some bytes) left old new found line first same bad w = absurd w
-  bad_written b stopped.BadSettings (Some bytes) left old new found line first same bad w = absurd w
-  bad_written b (stopped.Output f) (Some bytes) left old new found line first same bad w = record {
-    lines = line ∷ [];
-    later = lines_of (drop_through 10 bytes);
-    answers = a_line.Bad ∷ [];
-    book = b;
-    lines_are = first.lines_are ∙ ap (λ l. l ∷ lines_of (drop_through 10 bytes)) (sym same);
-    answers_are = one b b line a_line.Bad (bad, refl);
-    written_are = subst (WritesBeginning old new) (sym (append-nil (line_text a_line.Bad ++ 10 ∷ []))) w;
-    book_is = refl;
   }
 
   joined : (b b1 b2 : Book) (bytes : List ℕ) (left left1 old new new1 : Option (List ℕ)) (n m : ℕ) (f : Answered u given_up b b1 bytes left old new n) → Answered u given_up b1 b2 f.rest left1 new new1 m → Answered u given_up b b2 bytes left1 old new1 (max n m)
@@ -211,29 +137,6 @@ module _ (u : Rules) (given_up : Book → List Command → Code → Type 0) wher
 
   -- ---- on an early end
 
-  -- nothing was answered
-  pub none_answered : (b : Book) (e : Stopped) (whole : List (List ℕ)) (out : Option (List ℕ)) → WritesUntil e out out [] → LeavesBook e b b → StopsWithin u given_up b b e whole out out
-  none_answered b e whole out w left = record { lines = []; later = whole; answers = []; book = b; lines_are = refl; answers_are = refl; written_are = w; book_is = none_behind e b whole left }
-
-  -- the commands under way have no answer
-  pub none_replied : (b b1 : Book) (whole : List (List ℕ)) (out : Option (List ℕ)) (s : Stop) → StopsWithin u given_up b b1 (stopped.Refused (fault_of_stop s)) whole out out
-  none_replied b b1 whole out stop.Unknown = record { lines = []; later = whole; answers = []; book = b; lines_are = refl; answers_are = refl; written_are = Appends-nil out; book_is = tt }
-  none_replied b b1 whole out stop.Halted = record { lines = []; later = whole; answers = []; book = b; lines_are = refl; answers_are = refl; written_are = Appends-nil out; book_is = tt }
-
-  -- as many lines as can be counted were answered
-  pub all_counted : (b b1 : Book) (known left old new : Option (List ℕ)) (n : ℕ) → IfSome known (λ bytes. Answered u given_up b b1 bytes left old new n) → IfSome known (λ bytes. StopsWithin u given_up b b1 (stopped.Refused fault.StoreRefused) (lines_of bytes) old new)
-  all_counted b b1 None left old new n f = tt
-  all_counted b b1 (Some bytes) left old new n f = record {
-    lines = f.lines;
-    later = lines_of f.rest;
-    answers = f.answers;
-    book = b1;
-    lines_are = f.lines_are;
-    answers_are = f.answers_are;
-    written_are = f.written_are;
-    book_is = refl;
-  }
-
   -- The first answers stand by themselves.
   record FrontAnswered (b b1 : Book) (ls : List (List ℕ)) (front back : List Line) : Type 0 where
     pub lines : List (List ℕ)
@@ -250,16 +153,6 @@ module _ (u : Rules) (given_up : Book → List Command → Code → Type 0) wher
       let rest = front_answered h.0 b1 ls front back h.1.1 in
       record { lines = l ∷ rest.lines; later = rest.later; book = rest.book; split = ap (λ x. l ∷ x) rest.split; are = (h.0, (h.1.0, rest.are)); behind = rest.behind }
 
-  -- a part of the answers to lines was written
-  pub some_written : (b b1 : Book) (e : Stopped) (ls : List (List ℕ)) (answers : List Line) (old new : Option (List ℕ)) → AreAnswers u given_up b b1 ls answers → CausedStop e (λ s. ⊥) ⊥ → WritesSome e old new answers → StopsWithin u given_up b b1 e ls old new
-  some_written b b1 (stopped.Refused f) ls answers old new are cause w =
-      let front = front_answered b b1 ls w.0 w.1.0 (subst (AreAnswers u given_up b b1 ls) w.1.1.0 are) in
-      record { lines = front.lines; later = front.later; answers = w.0; book = front.book; lines_are = front.split; answers_are = front.are; written_are = w.1.1.1; book_is = fault_behind f front.book b1 front.later w.1.0 cause front.behind }
-  some_written b b1 (stopped.Input f) ls answers old new are cause w = absurd w
-  some_written b b1 stopped.BadSettings ls answers old new are cause w = absurd w
-  some_written b b1 (stopped.Output f) ls answers old new are cause w =
-      record { lines = ls; later = []; answers = answers; book = b1; lines_are = sym (append-nil ls); answers_are = are; written_are = w; book_is = refl }
-
   pub written_later : (e : Stopped) (old new new1 : Option (List ℕ)) (done later : List Line) → Appends old new (written done) → WritesUntil e new new1 later → WritesUntil e old new1 (done ++ later)
   written_later (stopped.Refused f) old new new1 done later adds w = subst (Appends old new1) (sym (written-append done later)) (Appends-trans old new new1 _ _ adds w)
   written_later (stopped.Input f) old new new1 done later adds w = subst (Appends old new1) (sym (written-append done later)) (Appends-trans old new new1 _ _ adds w)
@@ -271,20 +164,128 @@ module _ (u : Rules) (given_up : Book → List Command → Code → Type 0) wher
     written_are = Appends-trans old new new1 _ _ adds w.written_are;
   }
 
-  stops_behind : (b b1 b2 : Book) (e : Stopped) (bytes : List ℕ) (left old new new1 : Option (List ℕ)) (n : ℕ) (f : Answered u given_up b b1 bytes left old new n) → StopsWithin u given_up b1 b2 e (lines_of f.rest) new new1 → StopsWithin u given_up b b2 e (lines_of bytes) old new1
-  stops_behind b b1 b2 e bytes left old new new1 n f w = record {
-    lines = f.lines ++ w.lines;
-    later = w.later;
-    answers = f.answers ++ w.answers;
-    book = w.book;
-    lines_are = f.lines_are ∙ ap (λ l. f.lines ++ l) w.lines_are ∙ sym (append_assoc f.lines w.lines w.later);
-    answers_are = answers-append b b1 w.book f.lines w.lines f.answers w.answers f.answers_are w.answers_are;
-    written_are = written_later e old new new1 f.answers w.answers f.written_are w.written_are;
-    book_is = w.book_is;
-  }
+  module _ (stops : Book → List Command → Stop → Type 0) where
+    -- ---- what is behind the answers that were written
 
-  -- what stops the lines behind stops them all
-  pub stops_later : (b b1 b2 : Book) (e : Stopped) (known left old new new1 : Option (List ℕ)) (n : ℕ) → IfSome known (λ bytes. Answered u given_up b b1 bytes left old new n) → IfSome left (λ bytes. StopsWithin u given_up b1 b2 e (lines_of bytes) new new1) → IfSome known (λ bytes. StopsWithin u given_up b b2 e (lines_of bytes) old new1)
-  stops_later b b1 b2 e None left old new new1 n f w = tt
-  stops_later b b1 b2 e (Some bytes) left old new new1 n f w =
-      stops_behind b b1 b2 e bytes left old new new1 n f (subst (λ k. IfSome k (λ bytes. StopsWithin u given_up b1 b2 e (lines_of bytes) new new1)) f.left_is w)
+    -- these were answered where memory ran out
+    fault_behind : (f : Fault) (b b1 : Book) (next rest later : List (List ℕ)) (answers : List Line) → CausedFault f (λ s. ⊥) ⊥ → later ≡ next ++ rest → AreAnswers u given_up b b1 next answers → FaultBehind u given_up stops f b b1 later
+    fault_behind (fault.NoMemory _) b b1 next rest later answers cause is are = (next, (rest, (answers, (is, are))))
+    fault_behind (fault.Mismatch run place name) b b1 next rest later answers cause is are = absurd cause
+    fault_behind fault.NoRun b b1 next rest later answers cause is are = absurd cause
+    fault_behind fault.StoreRefused b b1 next rest later answers cause is are = absurd cause
+    fault_behind fault.NotOurs b b1 next rest later answers cause is are = absurd cause
+    fault_behind fault.BadVersion b b1 next rest later answers cause is are = absurd cause
+    fault_behind (fault.Damaged d) b b1 next rest later answers cause is are = absurd cause
+    fault_behind fault.Unknown b b1 next rest later answers cause is are = absurd cause
+    fault_behind fault.Halted b b1 next rest later answers cause is are = absurd cause
+    fault_behind fault.NoFile b b1 next rest later answers cause is are = absurd cause
+    fault_behind fault.BadUsage b b1 next rest later answers cause is are = absurd cause
+
+    pub none_fault : (f : Fault) (b : Book) (later : List (List ℕ)) → CausedFault f (λ s. ⊥) ⊥ → FaultBehind u given_up stops f b b later
+    none_fault f b later cause = fault_behind f b b [] later later [] cause refl refl
+
+    -- nothing more was answered
+    none_behind : (e : Stopped) (b : Book) (later : List (List ℕ)) → CausedStop e (λ s. ⊥) ⊥ → LeavesBook e b b → LeftBehind u given_up stops e b b later
+    none_behind (stopped.Refused f) b later cause left = none_fault f b later cause
+    none_behind (stopped.Input e) b later cause left = left
+    none_behind (stopped.Output e) b later cause left = left
+    none_behind stopped.BadSettings b later cause left = left
+
+    -- more lines stand behind a batch in doubt
+    doubt_longer : (s : Stop) (b : Book) (later more : List (List ℕ)) → InDoubt stops s b later → InDoubt stops s b (later ++ more)
+    doubt_longer s b later more h = record { next = h.next; rest = h.rest ++ more; lines_are = ap (λ l. l ++ more) h.lines_are ∙ append_assoc h.next h.rest more; stop_is = h.stop_is }
+
+    fault_longer : (f : Fault) (b b1 : Book) (later more : List (List ℕ)) → FaultBehind u given_up stops f b b1 later → FaultBehind u given_up stops f b b1 (later ++ more)
+    fault_longer (fault.NoMemory _) b b1 later more h = (h.0, (h.1.0 ++ more, (h.1.1.0, (ap (λ l. l ++ more) h.1.1.1.0 ∙ append_assoc h.0 h.1.0 more, h.1.1.1.1))))
+    fault_longer (fault.Mismatch run place name) b b1 later more h = absurd h
+    fault_longer fault.NoRun b b1 later more h = absurd h
+    fault_longer fault.StoreRefused b b1 later more h = h
+    fault_longer fault.NotOurs b b1 later more h = absurd h
+    fault_longer fault.BadVersion b b1 later more h = absurd h
+    fault_longer (fault.Damaged d) b b1 later more h = absurd h
+    fault_longer fault.Unknown b b1 later more h = doubt_longer stop.Unknown b later more h
+    fault_longer fault.Halted b b1 later more h = doubt_longer stop.Halted b later more h
+    fault_longer fault.NoFile b b1 later more h = absurd h
+    fault_longer fault.BadUsage b b1 later more h = absurd h
+
+    -- more lines stand behind
+    pub longer_behind : (e : Stopped) (b b1 : Book) (later more : List (List ℕ)) → LeftBehind u given_up stops e b b1 later → LeftBehind u given_up stops e b b1 (later ++ more)
+    longer_behind (stopped.Refused f) b b1 later more h = fault_longer f b b1 later more h
+    longer_behind (stopped.Input e) b b1 later more h = h
+    longer_behind (stopped.Output e) b b1 later more h = h
+    longer_behind stopped.BadSettings b b1 later more h = h
+
+    -- and where its answer wasn't all written
+    pub bad_written : (b : Book) (e : Stopped) (known left old new : Option (List ℕ)) (found line : List ℕ) → IfSome known (λ bytes. FirstLine bytes found left) → line ≡ found → line_command line ≡ None → WritesPart e old new (line_text a_line.Bad ++ 10 ∷ []) → CausedStop e (λ s. ⊥) ⊥ → IfSome known (λ bytes. StopsWithin u given_up stops b b e (lines_of bytes) old new)
+    bad_written b e None left old new found line first same bad w cause = tt
+    bad_written b (stopped.Refused f) (Some bytes) left old new found line first same bad w cause =
+        record { lines = []; later = lines_of bytes; answers = []; book = b; lines_are = refl; answers_are = refl; written_are = kept_appends old new w; book_is = none_fault f b (lines_of bytes) cause }
+    bad_written b (stopped.Input f) (Some bytes) left old new found line first same bad w cause = absurd w
+    bad_written b stopped.BadSettings (Some bytes) left old new found line first same bad w cause = absurd w
+    bad_written b (stopped.Output f) (Some bytes) left old new found line first same bad w cause = record {
+      lines = line ∷ [];
+      later = lines_of (drop_through 10 bytes);
+      answers = a_line.Bad ∷ [];
+      book = b;
+      lines_are = first.lines_are ∙ ap (λ l. l ∷ lines_of (drop_through 10 bytes)) (sym same);
+      answers_are = one b b line a_line.Bad (bad, refl);
+      written_are = subst (WritesBeginning old new) (sym (append-nil (line_text a_line.Bad ++ 10 ∷ []))) w;
+      book_is = refl;
+    }
+
+    -- nothing was answered
+    pub none_answered : (b : Book) (e : Stopped) (whole : List (List ℕ)) (out : Option (List ℕ)) → WritesUntil e out out [] → CausedStop e (λ s. ⊥) ⊥ → LeavesBook e b b → StopsWithin u given_up stops b b e whole out out
+    none_answered b e whole out w cause left = record { lines = []; later = whole; answers = []; book = b; lines_are = refl; answers_are = refl; written_are = w; book_is = none_behind e b whole cause left }
+
+    -- the commands under way have no answer
+    doubt_behind : (s : Stop) (b b1 : Book) (whole : List (List ℕ)) → stops b (commands_in whole) s → FaultBehind u given_up stops (fault_of_stop s) b b1 whole
+    doubt_behind stop.Unknown b b1 whole is = record { next = whole; rest = []; lines_are = sym (append-nil whole); stop_is = is }
+    doubt_behind stop.Halted b b1 whole is = record { next = whole; rest = []; lines_are = sym (append-nil whole); stop_is = is }
+
+    written_none : (s : Stop) (out : Option (List ℕ)) → WritesUntil (stopped.Refused (fault_of_stop s)) out out []
+    written_none s out = Appends-nil out
+
+    pub none_replied : (b b1 : Book) (whole : List (List ℕ)) (out : Option (List ℕ)) (s : Stop) → stops b (commands_in whole) s → StopsWithin u given_up stops b b1 (stopped.Refused (fault_of_stop s)) whole out out
+    none_replied b b1 whole out s is = record { lines = []; later = whole; answers = []; book = b; lines_are = refl; answers_are = refl; written_are = written_none s out; book_is = doubt_behind s b b1 whole is }
+
+    -- as many lines as can be counted were answered
+    pub all_counted : (b b1 : Book) (known left old new : Option (List ℕ)) (n : ℕ) → IfSome known (λ bytes. Answered u given_up b b1 bytes left old new n) → IfSome known (λ bytes. StopsWithin u given_up stops b b1 (stopped.Refused fault.StoreRefused) (lines_of bytes) old new)
+    all_counted b b1 None left old new n f = tt
+    all_counted b b1 (Some bytes) left old new n f = record {
+      lines = f.lines;
+      later = lines_of f.rest;
+      answers = f.answers;
+      book = b1;
+      lines_are = f.lines_are;
+      answers_are = f.answers_are;
+      written_are = f.written_are;
+      book_is = refl;
+    }
+
+    -- a part of the answers to lines was written
+    pub some_written : (b b1 : Book) (e : Stopped) (ls : List (List ℕ)) (answers : List Line) (old new : Option (List ℕ)) → AreAnswers u given_up b b1 ls answers → CausedStop e (λ s. ⊥) ⊥ → WritesSome e old new answers → StopsWithin u given_up stops b b1 e ls old new
+    some_written b b1 (stopped.Refused f) ls answers old new are cause w =
+        let front = front_answered b b1 ls w.0 w.1.0 (subst (AreAnswers u given_up b b1 ls) w.1.1.0 are) in
+        record { lines = front.lines; later = front.later; answers = w.0; book = front.book; lines_are = front.split; answers_are = front.are; written_are = w.1.1.1; book_is = fault_behind f front.book b1 front.later [] front.later w.1.0 cause (sym (append-nil front.later)) front.behind }
+    some_written b b1 (stopped.Input f) ls answers old new are cause w = absurd w
+    some_written b b1 stopped.BadSettings ls answers old new are cause w = absurd w
+    some_written b b1 (stopped.Output f) ls answers old new are cause w =
+        record { lines = ls; later = []; answers = answers; book = b1; lines_are = sym (append-nil ls); answers_are = are; written_are = w; book_is = refl }
+
+    stops_behind : (b b1 b2 : Book) (e : Stopped) (bytes : List ℕ) (left old new new1 : Option (List ℕ)) (n : ℕ) (f : Answered u given_up b b1 bytes left old new n) → StopsWithin u given_up stops b1 b2 e (lines_of f.rest) new new1 → StopsWithin u given_up stops b b2 e (lines_of bytes) old new1
+    stops_behind b b1 b2 e bytes left old new new1 n f w = record {
+      lines = f.lines ++ w.lines;
+      later = w.later;
+      answers = f.answers ++ w.answers;
+      book = w.book;
+      lines_are = f.lines_are ∙ ap (λ l. f.lines ++ l) w.lines_are ∙ sym (append_assoc f.lines w.lines w.later);
+      answers_are = answers-append b b1 w.book f.lines w.lines f.answers w.answers f.answers_are w.answers_are;
+      written_are = written_later e old new new1 f.answers w.answers f.written_are w.written_are;
+      book_is = w.book_is;
+    }
+
+    -- what stops the lines behind stops them all
+    pub stops_later : (b b1 b2 : Book) (e : Stopped) (known left old new new1 : Option (List ℕ)) (n : ℕ) → IfSome known (λ bytes. Answered u given_up b b1 bytes left old new n) → IfSome left (λ bytes. StopsWithin u given_up stops b1 b2 e (lines_of bytes) new new1) → IfSome known (λ bytes. StopsWithin u given_up stops b b2 e (lines_of bytes) old new1)
+    stops_later b b1 b2 e None left old new new1 n f w = tt
+    stops_later b b1 b2 e (Some bytes) left old new new1 n f w =
+        stops_behind b b1 b2 e bytes left old new new1 n f (subst (λ k. IfSome k (λ bytes. StopsWithin u given_up stops b1 b2 e (lines_of bytes) new new1)) f.left_is w)

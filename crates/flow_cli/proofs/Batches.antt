@@ -78,11 +78,11 @@ module _ (u : Rules) (given_up : Book → List Command → Code → Type 0) wher
   begins_batch b b1 c commands marks None left old new n g all = tt
   begins_batch b b1 c commands marks (Some bytes) left old new n g all = λ first given. record { lines = g.lines; read = g.read; all = all (first ∷ g.lines) (holds_first first c commands marks (Some bytes) left g given) }
 
-  pub stops_batch : (b b1 : Book) (e : Stopped) (c : Command) (commands : List Command) (marks : List Bool) (known left old new : Option (List ℕ)) → Gathered (c ∷ []) commands (true ∷ []) marks known left
-      → ((ls : List (List ℕ)) → HoldsLines ls commands marks → StopsWithin u given_up b b1 e ls old new) → IfSome known (λ bytes. (first : List ℕ) → line_command first ≡ Some c → StopsWithin u given_up b b1 e (first ∷ lines_of bytes) old new)
-  stops_batch b b1 e c commands marks None left old new g stops = tt
-  stops_batch b b1 e c commands marks (Some bytes) left old new g stops = λ first given.
-      let its = stops (first ∷ g.lines) (holds_first first c commands marks (Some bytes) left g given) in
+  pub stops_batch : (stops : Book → List Command → Stop → Type 0) (b b1 : Book) (e : Stopped) (c : Command) (commands : List Command) (marks : List Bool) (known left old new : Option (List ℕ)) → Gathered (c ∷ []) commands (true ∷ []) marks known left
+      → ((ls : List (List ℕ)) → HoldsLines ls commands marks → StopsWithin u given_up stops b b1 e ls old new) → IfSome known (λ bytes. (first : List ℕ) → line_command first ≡ Some c → StopsWithin u given_up stops b b1 e (first ∷ lines_of bytes) old new)
+  stops_batch stops b b1 e c commands marks None left old new g ends = tt
+  stops_batch stops b b1 e c commands marks (Some bytes) left old new g ends = λ first given.
+      let its = ends (first ∷ g.lines) (holds_first first c commands marks (Some bytes) left g given) in
       record {
         lines = its.lines;
         later = its.later ++ lines_of g.read.rest;
@@ -91,13 +91,13 @@ module _ (u : Rules) (given_up : Book → List Command → Code → Type 0) wher
         lines_are = ap (λ l. first ∷ l) g.read.lines_are ∙ ap (λ l. l ++ lines_of g.read.rest) its.lines_are ∙ append_assoc its.lines its.later (lines_of g.read.rest);
         answers_are = its.answers_are;
         written_are = its.written_are;
-        book_is = longer_behind u given_up e its.book b1 its.later (lines_of g.read.rest) its.book_is;
+        book_is = longer_behind u given_up stops e its.book b1 its.later (lines_of g.read.rest) its.book_is;
       }
 
   -- nothing of a batch is answered that wasn't begun
-  pub none_begun : (b : Book) (e : Stopped) (c : Command) (known out : Option (List ℕ)) → WritesUntil e out out [] → LeavesBook e b b → IfSome known (λ bytes. (first : List ℕ) → line_command first ≡ Some c → StopsWithin u given_up b b e (first ∷ lines_of bytes) out out)
-  none_begun b e c None out w left = tt
-  none_begun b e c (Some bytes) out w left = λ first given. none_answered u given_up b e (first ∷ lines_of bytes) out w left
+  pub none_begun : (stops : Book → List Command → Stop → Type 0) (b : Book) (e : Stopped) (c : Command) (known out : Option (List ℕ)) → WritesUntil e out out [] → CausedStop e (λ s. ⊥) ⊥ → LeavesBook e b b → IfSome known (λ bytes. (first : List ℕ) → line_command first ≡ Some c → StopsWithin u given_up stops b b e (first ∷ lines_of bytes) out out)
+  none_begun stops b e c None out w cause left = tt
+  none_begun stops b e c (Some bytes) out w cause left = λ first given. none_answered u given_up stops b e (first ∷ lines_of bytes) out w cause left
 
   -- the batch's lines are the first ones
   pub next_batch : (b b1 : Book) (known left left1 old new : Option (List ℕ)) (found line : List ℕ) (c : Command) (n : ℕ) → IfSome known (λ bytes. FirstLine bytes found left) → line ≡ found → line_command line ≡ Some c → IfSome left (λ bytes. (first : List ℕ) → line_command first ≡ Some c → BatchAnswered u given_up b b1 first bytes left1 old new n)
@@ -116,12 +116,12 @@ module _ (u : Rules) (given_up : Book → List Command → Code → Type 0) wher
         status_is = its.all.status_is;
       }
 
-  pub next_stops : (b b1 : Book) (e : Stopped) (known left old new : Option (List ℕ)) (found line : List ℕ) (c : Command) → IfSome known (λ bytes. FirstLine bytes found left) → line ≡ found → line_command line ≡ Some c → IfSome left (λ bytes. (first : List ℕ) → line_command first ≡ Some c → StopsWithin u given_up b b1 e (first ∷ lines_of bytes) old new)
-      → IfSome known (λ bytes. StopsWithin u given_up b b1 e (lines_of bytes) old new)
-  next_stops b b1 e None left old new found line c first same given stops = tt
-  next_stops b b1 e (Some bytes) left old new found line c first same given stops =
-      let its = subst (λ k. IfSome k (λ rest. (l : List ℕ) → line_command l ≡ Some c → StopsWithin u given_up b b1 e (l ∷ lines_of rest) old new)) first.left_is stops line given in
-      subst (λ l. StopsWithin u given_up b b1 e l old new) (sym (first.lines_are ∙ ap (λ l. l ∷ lines_of (drop_through 10 bytes)) (sym same))) its
+  pub next_stops : (stops : Book → List Command → Stop → Type 0) (b b1 : Book) (e : Stopped) (known left old new : Option (List ℕ)) (found line : List ℕ) (c : Command) → IfSome known (λ bytes. FirstLine bytes found left) → line ≡ found → line_command line ≡ Some c → IfSome left (λ bytes. (first : List ℕ) → line_command first ≡ Some c → StopsWithin u given_up stops b b1 e (first ∷ lines_of bytes) old new)
+      → IfSome known (λ bytes. StopsWithin u given_up stops b b1 e (lines_of bytes) old new)
+  next_stops stops b b1 e None left old new found line c first same given ends = tt
+  next_stops stops b b1 e (Some bytes) left old new found line c first same given ends =
+      let its = subst (λ k. IfSome k (λ rest. (l : List ℕ) → line_command l ≡ Some c → StopsWithin u given_up stops b b1 e (l ∷ lines_of rest) old new)) first.left_is ends line given in
+      subst (λ l. StopsWithin u given_up stops b b1 e l old new) (sym (first.lines_are ∙ ap (λ l. l ∷ lines_of (drop_through 10 bytes)) (sym same))) its
 
   come_next : (b : Book) (known left : Option (List ℕ)) (found line : List ℕ) (c : Command) (commands : List Command) → IfSome known (λ bytes. FirstLine bytes found left) → line ≡ found → line_command line ≡ Some c → IfSome left (λ bytes. BeginWith c bytes commands)
       → IfSome known (λ bytes. ComeNext u given_up b bytes b commands)

@@ -50,27 +50,27 @@ module _ (one two : Book → List Command → Code → Type 0) (on : Gives one t
     pub some_too : (b b1 : Book) (least n : ℕ) (old new : Option (List ℕ)) → SomeAnswered u one b b1 least old new n → SomeAnswered u two b b1 least old new n
     some_too b b1 least n old new h = record { lines = h.lines; answers = h.answers; many = h.many; answers_are = answers_too b b1 h.lines h.answers h.answers_are; written_are = h.written_are; status_is = h.status_is }
 
-    fault_too : (f : Fault) (b b1 : Book) (later : List (List ℕ)) → FaultBehind u one f b b1 later → FaultBehind u two f b b1 later
-    fault_too (fault.NoMemory _) b b1 later h = (h.0, (h.1.0, (h.1.1.0, (h.1.1.1.0, answers_too b b1 h.0 h.1.1.0 h.1.1.1.1))))
-    fault_too (fault.Mismatch run place name) b b1 later h = tt
-    fault_too fault.NoRun b b1 later h = tt
-    fault_too fault.StoreRefused b b1 later h = h
-    fault_too fault.NotOurs b b1 later h = tt
-    fault_too fault.BadVersion b b1 later h = tt
-    fault_too (fault.Damaged d) b b1 later h = tt
-    fault_too fault.Unknown b b1 later h = tt
-    fault_too fault.Halted b b1 later h = tt
-    fault_too fault.NoFile b b1 later h = tt
-    fault_too fault.BadUsage b b1 later h = tt
+    fault_too : (stops : Book → List Command → Stop → Type 0) (f : Fault) (b b1 : Book) (later : List (List ℕ)) → FaultBehind u one stops f b b1 later → FaultBehind u two stops f b b1 later
+    fault_too stops (fault.NoMemory _) b b1 later h = (h.0, (h.1.0, (h.1.1.0, (h.1.1.1.0, answers_too b b1 h.0 h.1.1.0 h.1.1.1.1))))
+    fault_too stops (fault.Mismatch run place name) b b1 later h = h
+    fault_too stops fault.NoRun b b1 later h = h
+    fault_too stops fault.StoreRefused b b1 later h = h
+    fault_too stops fault.NotOurs b b1 later h = h
+    fault_too stops fault.BadVersion b b1 later h = h
+    fault_too stops (fault.Damaged d) b b1 later h = h
+    fault_too stops fault.Unknown b b1 later h = h
+    fault_too stops fault.Halted b b1 later h = h
+    fault_too stops fault.NoFile b b1 later h = h
+    fault_too stops fault.BadUsage b b1 later h = h
 
-    behind_too : (e : Stopped) (b b1 : Book) (later : List (List ℕ)) → LeftBehind u one e b b1 later → LeftBehind u two e b b1 later
-    behind_too (stopped.Refused f) b b1 later h = fault_too f b b1 later h
-    behind_too (stopped.Input e) b b1 later h = h
-    behind_too (stopped.Output e) b b1 later h = h
-    behind_too stopped.BadSettings b b1 later h = h
+    behind_too : (stops : Book → List Command → Stop → Type 0) (e : Stopped) (b b1 : Book) (later : List (List ℕ)) → LeftBehind u one stops e b b1 later → LeftBehind u two stops e b b1 later
+    behind_too stops (stopped.Refused f) b b1 later h = fault_too stops f b b1 later h
+    behind_too stops (stopped.Input e) b b1 later h = h
+    behind_too stops (stopped.Output e) b b1 later h = h
+    behind_too stops stopped.BadSettings b b1 later h = h
 
-    stops_within_too : (b b1 : Book) (e : Stopped) (whole : List (List ℕ)) (old new : Option (List ℕ)) → StopsWithin u one b b1 e whole old new → StopsWithin u two b b1 e whole old new
-    stops_within_too b b1 e whole old new h = record {
+    stops_within_too : (stops : Book → List Command → Stop → Type 0) (b b1 : Book) (e : Stopped) (whole : List (List ℕ)) (old new : Option (List ℕ)) → StopsWithin u one stops b b1 e whole old new → StopsWithin u two stops b b1 e whole old new
+    stops_within_too stops b b1 e whole old new h = record {
       lines = h.lines;
       later = h.later;
       answers = h.answers;
@@ -78,15 +78,15 @@ module _ (one two : Book → List Command → Code → Type 0) (on : Gives one t
       lines_are = h.lines_are;
       answers_are = answers_too b h.book h.lines h.answers h.answers_are;
       written_are = h.written_are;
-      book_is = behind_too e h.book b1 h.later h.book_is;
+      book_is = behind_too stops e h.book b1 h.later h.book_is;
     }
 
-    pub stops_too : (b b1 : Book) (e : Stopped) (known old new : Option (List ℕ)) → IfSome known (λ bytes. StopsWithin u one b b1 e (lines_of bytes) old new) → IfSome known (λ bytes. StopsWithin u two b b1 e (lines_of bytes) old new)
-    stops_too b b1 e None old new h = tt
-    stops_too b b1 e (Some bytes) old new h = stops_within_too b b1 e (lines_of bytes) old new h
+    pub stops_too : (stops : Book → List Command → Stop → Type 0) (b b1 : Book) (e : Stopped) (known old new : Option (List ℕ)) → IfSome known (λ bytes. StopsWithin u one stops b b1 e (lines_of bytes) old new) → IfSome known (λ bytes. StopsWithin u two stops b b1 e (lines_of bytes) old new)
+    stops_too stops b b1 e None old new h = tt
+    stops_too stops b b1 e (Some bytes) old new h = stops_within_too stops b b1 e (lines_of bytes) old new h
 
-    pub among_too : (b b1 : Book) (e : Stopped) (old new : Option (List ℕ)) → StopsAmong u one b b1 e old new → StopsAmong u two b b1 e old new
-    among_too b b1 e old new h = record { whole = h.whole; stops = stops_within_too b b1 e h.whole old new h.stops }
+    pub among_too : (stops : Book → List Command → Stop → Type 0) (b b1 : Book) (e : Stopped) (old new : Option (List ℕ)) → StopsAmong u one stops b b1 e old new → StopsAmong u two stops b b1 e old new
+    among_too stops b b1 e old new h = record { whole = h.whole; stops_are = stops_within_too stops b b1 e h.whole old new h.stops_are }
 
     next_too : (b book : Book) (cs : List Command) (known : Option (List ℕ)) → IfSome known (λ bytes. ComeNext u one b bytes book cs) → IfSome known (λ bytes. ComeNext u two b bytes book cs)
     next_too b book cs None h = tt

@@ -69,14 +69,14 @@ module _ (u : Rules) (given_up : Book → List Command → Code → Type 0) wher
   }
 
   -- and where its answer wasn't all written
-  pub some_bad_stops : (b : Book) (e : Stopped) (old new : Option (List ℕ)) (line : List ℕ) → line_command line ≡ None → WritesPart e old new (line_text a_line.Bad ++ 10 ∷ []) → StopsAmong u given_up b b e old new
-  some_bad_stops b (stopped.Refused f) old new line bad w =
-      record { whole = []; stops = record { lines = []; later = []; answers = []; book = b; lines_are = refl; answers_are = refl; written_are = kept_appends old new w; book_is = none_fault u given_up f b [] } }
-  some_bad_stops b (stopped.Input f) old new line bad w = absurd w
-  some_bad_stops b stopped.BadSettings old new line bad w = absurd w
-  some_bad_stops b (stopped.Output f) old new line bad w = record {
+  pub some_bad_stops : (stops : Book → List Command → Stop → Type 0) (b : Book) (e : Stopped) (old new : Option (List ℕ)) (line : List ℕ) → line_command line ≡ None → WritesPart e old new (line_text a_line.Bad ++ 10 ∷ []) → CausedStop e (λ s. ⊥) ⊥ → StopsAmong u given_up stops b b e old new
+  some_bad_stops stops b (stopped.Refused f) old new line bad w cause =
+      record { whole = []; stops_are = record { lines = []; later = []; answers = []; book = b; lines_are = refl; answers_are = refl; written_are = kept_appends old new w; book_is = none_fault u given_up stops f b [] cause } }
+  some_bad_stops stops b (stopped.Input f) old new line bad w cause = absurd w
+  some_bad_stops stops b stopped.BadSettings old new line bad w cause = absurd w
+  some_bad_stops stops b (stopped.Output f) old new line bad w cause = record {
     whole = line ∷ [];
-    stops = record {
+    stops_are = record {
       lines = line ∷ [];
       later = [];
       answers = a_line.Bad ∷ [];
@@ -89,8 +89,8 @@ module _ (u : Rules) (given_up : Book → List Command → Code → Type 0) wher
   }
 
   -- nothing was answered
-  pub none_among : (b : Book) (e : Stopped) (out : Option (List ℕ)) → WritesUntil e out out [] → LeavesBook e b b → StopsAmong u given_up b b e out out
-  none_among b e out w left = record { whole = []; stops = none_answered u given_up b e [] out w left }
+  pub none_among : (stops : Book → List Command → Stop → Type 0) (b : Book) (e : Stopped) (out : Option (List ℕ)) → WritesUntil e out out [] → CausedStop e (λ s. ⊥) ⊥ → LeavesBook e b b → StopsAmong u given_up stops b b e out out
+  none_among stops b e out w cause left = record { whole = []; stops_are = none_answered u given_up stops b e [] out w cause left }
 
   -- a batch that was begun
   pub some_batch : (b b1 : Book) (c : Command) (commands : List Command) (marks : List Bool) (known left old new : Option (List ℕ)) (n : ℕ) → Gathered (c ∷ []) commands (true ∷ []) marks known left
@@ -100,41 +100,41 @@ module _ (u : Rules) (given_up : Book → List Command → Code → Type 0) wher
       let long : length (first ∷ g.lines) ≡ suc (length g.lines) = refl in
       record { lines = first ∷ g.lines; answers = its.answers; many = omega (arith, long); answers_are = its.answers_are; written_are = its.written_are; status_is = its.status_is }
 
-  pub some_batch_stops : (b b1 : Book) (e : Stopped) (c : Command) (commands : List Command) (marks : List Bool) (known left old new : Option (List ℕ)) → Gathered (c ∷ []) commands (true ∷ []) marks known left
-      → ((ls : List (List ℕ)) → HoldsLines ls commands marks → StopsWithin u given_up b b1 e ls old new) → (first : List ℕ) → line_command first ≡ Some c → StopsAmong u given_up b b1 e old new
-  some_batch_stops b b1 e c commands marks known left old new g stops first given =
-      record { whole = first ∷ g.lines; stops = stops (first ∷ g.lines) (holds_first first c commands marks known left g given) }
+  pub some_batch_stops : (stops : Book → List Command → Stop → Type 0) (b b1 : Book) (e : Stopped) (c : Command) (commands : List Command) (marks : List Bool) (known left old new : Option (List ℕ)) → Gathered (c ∷ []) commands (true ∷ []) marks known left
+      → ((ls : List (List ℕ)) → HoldsLines ls commands marks → StopsWithin u given_up stops b b1 e ls old new) → (first : List ℕ) → line_command first ≡ Some c → StopsAmong u given_up stops b b1 e old new
+  some_batch_stops stops b b1 e c commands marks known left old new g ends first given =
+      record { whole = first ∷ g.lines; stops_are = ends (first ∷ g.lines) (holds_first first c commands marks known left g given) }
 
   -- what stops the lines behind stops them all
-  pub some_stop_later : (b b1 b2 : Book) (e : Stopped) (least n : ℕ) (old new new1 : Option (List ℕ)) → SomeAnswered u given_up b b1 least old new n → StopsAmong u given_up b1 b2 e new new1 → StopsAmong u given_up b b2 e old new1
-  some_stop_later b b1 b2 e least n old new new1 f g = record {
+  pub some_stop_later : (stops : Book → List Command → Stop → Type 0) (b b1 b2 : Book) (e : Stopped) (least n : ℕ) (old new new1 : Option (List ℕ)) → SomeAnswered u given_up b b1 least old new n → StopsAmong u given_up stops b1 b2 e new new1 → StopsAmong u given_up stops b b2 e old new1
+  some_stop_later stops b b1 b2 e least n old new new1 f g = record {
     whole = f.lines ++ g.whole;
-    stops = record {
-      lines = f.lines ++ g.stops.lines;
-      later = g.stops.later;
-      answers = f.answers ++ g.stops.answers;
-      book = g.stops.book;
-      lines_are = ap (λ l. f.lines ++ l) g.stops.lines_are ∙ sym (append_assoc f.lines g.stops.lines g.stops.later);
-      answers_are = answers-append u given_up b b1 g.stops.book f.lines g.stops.lines f.answers g.stops.answers f.answers_are g.stops.answers_are;
-      written_are = written_later u given_up e old new new1 f.answers g.stops.answers f.written_are g.stops.written_are;
-      book_is = g.stops.book_is;
+    stops_are = record {
+      lines = f.lines ++ g.stops_are.lines;
+      later = g.stops_are.later;
+      answers = f.answers ++ g.stops_are.answers;
+      book = g.stops_are.book;
+      lines_are = ap (λ l. f.lines ++ l) g.stops_are.lines_are ∙ sym (append_assoc f.lines g.stops_are.lines g.stops_are.later);
+      answers_are = answers-append u given_up b b1 g.stops_are.book f.lines g.stops_are.lines f.answers g.stops_are.answers f.answers_are g.stops_are.answers_are;
+      written_are = written_later u given_up e old new new1 f.answers g.stops_are.answers f.written_are g.stops_are.written_are;
+      book_is = g.stops_are.book_is;
     };
   }
 
   -- all that can be counted were answered
-  pub endless_stop : (b b1 : Book) (least n : ℕ) (old new : Option (List ℕ)) → SomeAnswered u given_up b b1 least old new n → StopsAmong u given_up b b1 (stopped.Refused fault.StoreRefused) old new
-  endless_stop b b1 least n old new f = record {
+  pub endless_stop : (stops : Book → List Command → Stop → Type 0) (b b1 : Book) (least n : ℕ) (old new : Option (List ℕ)) → SomeAnswered u given_up b b1 least old new n → StopsAmong u given_up stops b b1 (stopped.Refused fault.StoreRefused) old new
+  endless_stop stops b b1 least n old new f = record {
     whole = f.lines;
-    stops = record { lines = f.lines; later = []; answers = f.answers; book = b1; lines_are = sym (append-nil f.lines); answers_are = f.answers_are; written_are = f.written_are; book_is = refl };
+    stops_are = record { lines = f.lines; later = []; answers = f.answers; book = b1; lines_are = sym (append-nil f.lines); answers_are = f.answers_are; written_are = f.written_are; book_is = refl };
   }
 
   -- ---- whatever was written
 
-  pub nothing_left : (b : Book) → StopsBehind u given_up b b (stopped.Refused (fault.NoMemory _))
-  nothing_left b = record { lines = []; later = []; answers = []; book = b; answers_are = refl; book_is = ([], ([], ([], (refl, refl)))) }
+  pub nothing_left : (stops : Book → List Command → Stop → Type 0) (b : Book) → StopsBehind u given_up stops b b (stopped.Refused (fault.NoMemory _))
+  nothing_left stops b = record { lines = []; later = []; answers = []; book = b; answers_are = refl; book_is = ([], ([], ([], (refl, refl)))) }
 
   pub leaves_answered : (b b1 : Book) (least n : ℕ) (old new : Option (List ℕ)) → SomeAnswered u given_up b b1 least old new n → LeavesAnswered u given_up b b1 least n
   leaves_answered b b1 least n old new f = record { lines = f.lines; answers = f.answers; many = f.many; answers_are = f.answers_are; status_is = f.status_is }
 
-  pub stops_behind_lines : (b b1 : Book) (e : Stopped) (old new : Option (List ℕ)) → StopsAmong u given_up b b1 e old new → StopsBehind u given_up b b1 e
-  stops_behind_lines b b1 e old new f = record { lines = f.stops.lines; later = f.stops.later; answers = f.stops.answers; book = f.stops.book; answers_are = f.stops.answers_are; book_is = f.stops.book_is }
+  pub stops_behind_lines : (stops : Book → List Command → Stop → Type 0) (b b1 : Book) (e : Stopped) (old new : Option (List ℕ)) → StopsAmong u given_up stops b b1 e old new → StopsBehind u given_up stops b b1 e
+  stops_behind_lines stops b b1 e old new f = record { lines = f.stops_are.lines; later = f.stops_are.later; answers = f.stops_are.answers; book = f.stops_are.book; answers_are = f.stops_are.answers_are; book_is = f.stops_are.book_is }

@@ -11,6 +11,8 @@ use Rattle.flow_base.specs.declared.fault.Fault.TheVariants as fault
 use Rattle.flow_model.specs.Apply.{Rules, outcome, after_one}
 use Rattle.flow_model.specs.Book.{Book}
 use Rattle.flow_machine.specs.Answers.{IsGivenUp}
+use Rattle.flow_machine.specs.declared.answer.Stop.{Stop}
+use Rattle.flow_machine.specs.declared.answer.Stop.TheVariants as stop
 use Rattle.flow_cli.specs.Commands.{line_command}
 use Rattle.flow_cli.specs.Driving.{lines_of, written, final_status, WritesBeginning}
 use Rattle.flow_cli.specs.declared.drive.Stopped.{Stopped}
@@ -26,6 +28,15 @@ pub record IsBatch (most : ℕ) (commands : List Command) : Type 0 where
 -- this stands behind a batch of at most so many commands
 abbrev pub OfBatch : {X : Type 0} → ℕ → (Book → List Command → X → Type 0) → Book → List Command → X → Type 0
 OfBatch most cause = λ b commands x. IsBatch most commands × cause b commands x
+
+-- the commands among lines
+abbrev pub with_command : Option Command → List Command → List Command
+with_command None cs = cs
+with_command (Some c) cs = c ∷ cs
+
+abbrev pub commands_in : List (List ℕ) → List Command
+commands_in [] = []
+commands_in (l ∷ ls) = with_command (line_command l) (commands_in ls)
 
 -- A command is given up over a book with those before it and behind it, which are applied together or not at all.
 pub record IsGivenUpWith (given_up : Book → List Command → Code → Type 0) (b : Book) (c : Command) (k : Code) : Type 0 where
@@ -124,21 +135,30 @@ LeavesBook (stopped.Input e) b b1 = b1 ≡ b
 LeavesBook (stopped.Output e) b b1 = b1 ≡ b
 LeavesBook stopped.BadSettings b b1 = ⊥
 
--- Behind the answers that were written the next lines may have been answered where memory ran out; of E84 and E85 nothing is
--- said here.
-abbrev pub FaultBehind : Rules → (Book → List Command → Code → Type 0) → Fault → Book → Book → List (List ℕ) → Type 0
-FaultBehind u given_up (fault.NoMemory _) b b1 later = (next : List (List ℕ)) × ((rest : List (List ℕ)) × ((answers : List Line) × ((later ≡ next ++ rest) × AreAnswers u given_up b b1 next answers)))
-FaultBehind u given_up fault.StoreRefused b b1 later = b1 ≡ b
-FaultBehind u given_up f b b1 later = Unit {0}
+-- The next lines are those of a batch with this stop: its answers are missing, and no others before them.
+pub record InDoubt (stops : Book → List Command → Stop → Type 0) (s : Stop) (b : Book) (later : List (List ℕ)) : Type 0 where
+  pub next : List (List ℕ)
+  pub rest : List (List ℕ)
+  pub lines_are : later ≡ next ++ rest
+  pub stop_is : stops b (commands_in next) s
 
-abbrev pub LeftBehind : Rules → (Book → List Command → Code → Type 0) → Stopped → Book → Book → List (List ℕ) → Type 0
-LeftBehind u given_up (stopped.Refused f) b b1 later = FaultBehind u given_up f b b1 later
-LeftBehind u given_up (stopped.Input e) b b1 later = b1 ≡ b
-LeftBehind u given_up (stopped.Output e) b b1 later = b1 ≡ b
-LeftBehind u given_up stopped.BadSettings b b1 later = ⊥
+-- Behind the answers that were written the next lines may have been answered where memory ran out. At E84 and E85 they are those
+-- of the batch in doubt.
+abbrev pub FaultBehind : Rules → (Book → List Command → Code → Type 0) → (Book → List Command → Stop → Type 0) → Fault → Book → Book → List (List ℕ) → Type 0
+FaultBehind u given_up stops (fault.NoMemory _) b b1 later = (next : List (List ℕ)) × ((rest : List (List ℕ)) × ((answers : List Line) × ((later ≡ next ++ rest) × AreAnswers u given_up b b1 next answers)))
+FaultBehind u given_up stops fault.StoreRefused b b1 later = b1 ≡ b
+FaultBehind u given_up stops fault.Unknown b b1 later = InDoubt stops stop.Unknown b later
+FaultBehind u given_up stops fault.Halted b b1 later = InDoubt stops stop.Halted b later
+FaultBehind u given_up stops f b b1 later = ⊥
+
+abbrev pub LeftBehind : Rules → (Book → List Command → Code → Type 0) → (Book → List Command → Stop → Type 0) → Stopped → Book → Book → List (List ℕ) → Type 0
+LeftBehind u given_up stops (stopped.Refused f) b b1 later = FaultBehind u given_up stops f b b1 later
+LeftBehind u given_up stops (stopped.Input e) b b1 later = b1 ≡ b
+LeftBehind u given_up stops (stopped.Output e) b b1 later = b1 ≡ b
+LeftBehind u given_up stops stopped.BadSettings b b1 later = ⊥
 
 -- The first of the lines were answered, from a book to a book, and a beginning of their answers was written.
-pub record StopsWithin (u : Rules) (given_up : Book → List Command → Code → Type 0) (b b1 : Book) (e : Stopped) (whole : List (List ℕ)) (old new : Option (List ℕ)) : Type 0 where
+pub record StopsWithin (u : Rules) (given_up : Book → List Command → Code → Type 0) (stops : Book → List Command → Stop → Type 0) (b b1 : Book) (e : Stopped) (whole : List (List ℕ)) (old new : Option (List ℕ)) : Type 0 where
   pub lines : List (List ℕ)
   pub later : List (List ℕ)
   pub answers : List Line
@@ -146,31 +166,23 @@ pub record StopsWithin (u : Rules) (given_up : Book → List Command → Code �
   pub lines_are : whole ≡ lines ++ later
   pub answers_are : AreAnswers u given_up b book lines answers
   pub written_are : WritesUntil e old new answers
-  pub book_is : LeftBehind u given_up e book b1 later
+  pub book_is : LeftBehind u given_up stops e book b1 later
 
 -- Of some lines the first were answered, from a book to a book, and a beginning of their answers was written.
-pub record StopsAmong (u : Rules) (given_up : Book → List Command → Code → Type 0) (b b1 : Book) (e : Stopped) (old new : Option (List ℕ)) : Type 0 where
+pub record StopsAmong (u : Rules) (given_up : Book → List Command → Code → Type 0) (stops : Book → List Command → Stop → Type 0) (b b1 : Book) (e : Stopped) (old new : Option (List ℕ)) : Type 0 where
   pub whole : List (List ℕ)
-  pub stops : StopsWithin u given_up b b1 e whole old new
+  pub stops_are : StopsWithin u given_up stops b b1 e whole old new
 
 -- and where what is written is no concern
-pub record StopsBehind (u : Rules) (given_up : Book → List Command → Code → Type 0) (b b1 : Book) (e : Stopped) : Type 0 where
+pub record StopsBehind (u : Rules) (given_up : Book → List Command → Code → Type 0) (stops : Book → List Command → Stop → Type 0) (b b1 : Book) (e : Stopped) : Type 0 where
   pub lines : List (List ℕ)
   pub later : List (List ℕ)
   pub answers : List Line
   pub book : Book
   pub answers_are : AreAnswers u given_up b book lines answers
-  pub book_is : LeftBehind u given_up e book b1 later
+  pub book_is : LeftBehind u given_up stops e book b1 later
 
--- ---- a batch: the commands among lines, which are applied together
-
-abbrev pub with_command : Option Command → List Command → List Command
-with_command None cs = cs
-with_command (Some c) cs = c ∷ cs
-
-abbrev pub commands_in : List (List ℕ) → List Command
-commands_in [] = []
-commands_in (l ∷ ls) = with_command (line_command l) (commands_in ls)
+-- ---- a batch: lines whose commands are applied together
 
 -- which of the lines are commands
 abbrev pub are_commands : List (List ℕ) → List Bool

@@ -15,7 +15,7 @@ returns-in-Ok-clause-within g c = IfOk-weaker c.answer_begun.result _ _ (λ n h.
 
 pub returns-in-Ok-clause-stopped : goal.returns-in-Ok-clause-stopped
 returns-in-Ok-clause-stopped g c =
-    IfErr-weaker c.answer_begun.result _ _ (λ e h sure. stops_batch _ _ _ _ e _ _ _ _ _ _ _ c.in-Ok.ensures.gathered (h sure c.args.most c.in-Ok.ensures.few)) c.answer_begun.ensures.stopped
+    IfErr-weaker c.answer_begun.result _ _ (λ e h sure. stops_batch _ _ _ _ _ e _ _ _ _ _ _ _ c.in-Ok.ensures.gathered (h sure c.args.most c.in-Ok.ensures.few)) c.answer_begun.ensures.stopped
 
 pub returns-in-Ok-clause-cause : goal.returns-in-Ok-clause-cause
 returns-in-Ok-clause-cause g c =
@@ -26,7 +26,7 @@ returns-in-Ok-clause-counted g c =
     IfOk-weaker c.answer_begun.result _ _ (λ n h. batch_counted _ _ _ _ _ c.in-Ok.ensures.gathered) c.answer_begun.ensures.within
 
 pub returns-in-Err-clause-stopped : goal.returns-in-Err-clause-stopped
-returns-in-Err-clause-stopped g c sure = none_begun _ _ _ c.in-Err.stopped c.args.first _ _ (c.in-Err.ensures.nothing _) (c.in-Err.ensures.book _)
+returns-in-Err-clause-stopped g c sure = none_begun _ _ _ _ c.in-Err.stopped c.args.first _ _ (c.in-Err.ensures.nothing _) c.in-Err.ensures.cause (c.in-Err.ensures.book _)
 
 pub returns-in-Ok-clause-lines : goal.returns-in-Ok-clause-lines
 returns-in-Ok-clause-lines g c =
@@ -34,7 +34,7 @@ returns-in-Ok-clause-lines g c =
 
 pub returns-in-Ok-clause-cut : goal.returns-in-Ok-clause-cut
 returns-in-Ok-clause-cut g c =
-    IfErr-weaker c.answer_begun.result _ _ (λ e h sure. some_batch_stops _ _ _ _ e _ _ _ _ _ _ _ c.in-Ok.ensures.gathered (h sure c.args.most c.in-Ok.ensures.few)) c.answer_begun.ensures.stopped
+    IfErr-weaker c.answer_begun.result _ _ (λ e h sure. some_batch_stops _ _ _ _ _ e _ _ _ _ _ _ _ c.in-Ok.ensures.gathered (h sure c.args.most c.in-Ok.ensures.few)) c.answer_begun.ensures.stopped
 
 pub returns-in-Err-clause-cut : goal.returns-in-Err-clause-cut
-returns-in-Err-clause-cut g c sure line given = none_among _ _ _ c.in-Err.stopped _ (c.in-Err.ensures.nothing _) (c.in-Err.ensures.book _)
+returns-in-Err-clause-cut g c sure line given = none_among _ _ _ _ c.in-Err.stopped _ (c.in-Err.ensures.nothing _) c.in-Err.ensures.cause (c.in-Err.ensures.book _)

@@ -6,7 +6,7 @@ use Rattle.flow_cli.proofs.drive.answer_next.Goals as goal
 
 pub returns-in-Err-clause-stopped : goal.returns-in-Err-clause-stopped
 returns-in-Err-clause-stopped g c sure =
-    each _ _ (λ bytes. none_answered _ _ _ c.stopped_reading.result _ _ (c.stopped_reading.ensures.nothing _) (c.stopped_reading.ensures.book _))
+    each _ _ (λ bytes. none_answered _ _ _ _ c.stopped_reading.result _ _ (c.stopped_reading.ensures.nothing _) c.stopped_reading.ensures.cause (c.stopped_reading.ensures.book _))
 
 pub returns-in-Ok-answer_batch-clause-answered : goal.returns-in-Ok-answer_batch-clause-answered
 returns-in-Ok-answer_batch-clause-answered g c sure =
@@ -16,7 +16,7 @@ returns-in-Ok-answer_batch-clause-answered g c sure =
 pub returns-in-Ok-clause-stopped : goal.returns-in-Ok-clause-stopped
 returns-in-Ok-clause-stopped g c sure =
     let first = rw c.in-Ok-Some.field-0-is at c.in-Ok-Some.ensures.line in
-    next_stops _ _ _ _ c.in-Err-answer_batch.stopped _ _ _ _ _ c.as_slice.result.now c.in-Ok.command first c.as_slice.ensures.value c.in-Ok.ensures.exact (c.in-Err-answer_batch.ensures.stopped sure)
+    next_stops _ _ _ _ _ c.in-Err-answer_batch.stopped _ _ _ _ _ c.as_slice.result.now c.in-Ok.command first c.as_slice.ensures.value c.in-Ok.ensures.exact (c.in-Err-answer_batch.ensures.stopped sure)
 
 pub returns-in-Ok-clause-cause : goal.returns-in-Ok-clause-cause
 returns-in-Ok-clause-cause g c =
@@ -33,13 +33,13 @@ pub returns-in-Err-NotACommand-clause-stopped : goal.returns-in-Err-NotACommand-
 returns-in-Err-NotACommand-clause-stopped g c sure =
     let first = rw c.in-Ok-Some.field-0-is at c.in-Ok-Some.ensures.line in
     let bad = rw c.in-Err-NotACommand.field-0-is at c.in-Err-NotACommand.ensures.exact in
-    bad_written _ _ _ c.in-Err-write_told.stopped _ _ _ _ _ c.as_slice.result.now first c.as_slice.ensures.value bad c.in-Err-write_told.ensures.stopped
+    bad_written _ _ _ _ c.in-Err-write_told.stopped _ _ _ _ _ c.as_slice.result.now first c.as_slice.ensures.value bad c.in-Err-write_told.ensures.stopped c.in-Err-write_told.ensures.cause
 
 pub returns-clause-stopped : goal.returns-clause-stopped
-returns-clause-stopped g c sure = each _ _ (λ bytes. none_answered _ _ _ _ _ _ (none_written _) tt)
+returns-clause-stopped g c sure = each _ _ (λ bytes. none_answered _ _ _ _ _ _ _ (none_written _) tt tt)
 
 pub returns-in-Err-clause-cut : goal.returns-in-Err-clause-cut
-returns-in-Err-clause-cut g c sure = none_among _ _ _ c.stopped_reading.result _ (c.stopped_reading.ensures.nothing _) (c.stopped_reading.ensures.book _)
+returns-in-Err-clause-cut g c sure = none_among _ _ _ _ c.stopped_reading.result _ (c.stopped_reading.ensures.nothing _) c.stopped_reading.ensures.cause (c.stopped_reading.ensures.book _)
 
 pub returns-in-Ok-answer_batch-clause-lines : goal.returns-in-Ok-answer_batch-clause-lines
 returns-in-Ok-answer_batch-clause-lines g c sure = c.in-Ok-answer_batch.ensures.lines sure c.as_slice.result.now c.in-Ok.ensures.exact
@@ -55,7 +55,7 @@ returns-in-Ok-write_told-clause-lines g c sure =
 pub returns-in-Err-NotACommand-clause-cut : goal.returns-in-Err-NotACommand-clause-cut
 returns-in-Err-NotACommand-clause-cut g c sure =
     let bad = rw c.in-Err-NotACommand.field-0-is at c.in-Err-NotACommand.ensures.exact in
-    some_bad_stops _ _ _ c.in-Err-write_told.stopped _ _ c.as_slice.result.now bad c.in-Err-write_told.ensures.stopped
+    some_bad_stops _ _ _ _ c.in-Err-write_told.stopped _ _ c.as_slice.result.now bad c.in-Err-write_told.ensures.stopped c.in-Err-write_told.ensures.cause
 
 pub returns-clause-cut : goal.returns-clause-cut
-returns-clause-cut g c sure = none_among _ _ _ _ _ (none_written _) tt
+returns-clause-cut g c sure = none_among _ _ _ _ _ _ (none_written _) tt tt

@@ -43,9 +43,9 @@ returns-in-Err-clause-stopped g c sure =
     let all = OfBatch c.args.most (g.E.Answering.gives_up old new) in
     let still = batch_gives c.args.most (g.E.Answering.gives_up old mid) (g.E.Answering.gives_up old new) (λ b cs k. g.met.E.Answering.gives_up_still old mid new b cs k on) in
     let too = batch_gives c.args.most (g.E.Answering.gives_up mid new) (g.E.Answering.gives_up old new) (λ b cs k. g.met.E.Answering.gives_up_since old mid new b cs k since on) in
-    stops_later _ all _ _ _ c.in-Err.stopped _ _ _ _ _ _
+    stops_later _ all (OfBatch c.args.most (g.E.Answering.stops new)) _ _ _ c.in-Err.stopped _ _ _ _ _ _
     (answered_too (OfBatch c.args.most (g.E.Answering.gives_up old mid)) all still _ _ _ _ _ _ _ _ (c.loop.invariant.answered (c.answer_next.ensures.sure sure)))
-    (stops_too (OfBatch c.args.most (g.E.Answering.gives_up mid new)) all too _ _ _ c.in-Err.stopped _ _ _ (c.in-Err.ensures.stopped sure))
+    (stops_too (OfBatch c.args.most (g.E.Answering.gives_up mid new)) all too _ (OfBatch c.args.most (g.E.Answering.stops new)) _ _ c.in-Err.stopped _ _ _ (c.in-Err.ensures.stopped sure))
 
 pub returns-in-Err-clause-cause : goal.returns-in-Err-clause-cause
 returns-in-Err-clause-cause g c =
@@ -72,12 +72,12 @@ returns-in-Err-clause-cut g c sure =
     let all = OfBatch c.args.most (g.E.Answering.gives_up old new) in
     let still = batch_gives c.args.most (g.E.Answering.gives_up old mid) (g.E.Answering.gives_up old new) (λ b cs k. g.met.E.Answering.gives_up_still old mid new b cs k on) in
     let too = batch_gives c.args.most (g.E.Answering.gives_up mid new) (g.E.Answering.gives_up old new) (λ b cs k. g.met.E.Answering.gives_up_since old mid new b cs k since on) in
-    some_stop_later _ all _ _ _ c.in-Err.stopped _ _ _ _ _
+    some_stop_later _ all (OfBatch c.args.most (g.E.Answering.stops new)) _ _ _ c.in-Err.stopped _ _ _ _ _
     (some_too (OfBatch c.args.most (g.E.Answering.gives_up old mid)) all still _ _ _ _ _ _ _ (c.loop.invariant.lines (c.answer_next.ensures.sure sure)))
-    (among_too (OfBatch c.args.most (g.E.Answering.gives_up mid new)) all too _ _ _ c.in-Err.stopped _ _ (c.in-Err.ensures.cut sure))
+    (among_too (OfBatch c.args.most (g.E.Answering.gives_up mid new)) all too _ (OfBatch c.args.most (g.E.Answering.stops new)) _ _ c.in-Err.stopped _ _ (c.in-Err.ensures.cut sure))
 
 pub returns-in-Err-clause-endless : goal.returns-in-Err-clause-endless
 returns-in-Err-clause-endless g c is = never_full c.in-Err.stopped _ _ c.in-Err.ensures.cause is
 
 pub returns-clause-cut : goal.returns-clause-cut
-returns-clause-cut g c sure = endless_stop _ _ _ _ _ _ _ _ (c.loop.invariant.lines sure)
+returns-clause-cut g c sure = endless_stop _ _ _ _ _ _ _ _ _ (c.loop.invariant.lines sure)
