@@ -19,7 +19,7 @@ returns-in-Ok-clause-stopped g c =
 
 pub returns-in-Ok-clause-cause : goal.returns-in-Ok-clause-cause
 returns-in-Ok-clause-cause g c =
-    IfErr-weaker c.answer_begun.result _ _ (λ e h. begin_cause e c.args.most _ (g.E.Answering.stops c.answer_begun.new.engine) _ _ _ _ _ c.in-Ok.ensures.some c.in-Ok.ensures.few c.in-Ok.ensures.gathered h) c.answer_begun.ensures.cause
+    IfErr-weaker c.answer_begun.result _ _ (λ e h. begin_cause e c.args.most _ (g.E.Answering.stops c.args.engine.now c.answer_begun.new.engine) _ _ _ _ _ c.in-Ok.ensures.some c.in-Ok.ensures.few c.in-Ok.ensures.gathered h) c.answer_begun.ensures.cause
 
 pub returns-in-Ok-clause-counted : goal.returns-in-Ok-clause-counted
 returns-in-Ok-clause-counted g c =

@@ -21,7 +21,7 @@ returns-in-Ok-clause-stopped g c sure =
 pub returns-in-Ok-clause-cause : goal.returns-in-Ok-clause-cause
 returns-in-Ok-clause-cause g c =
     let first = rw c.in-Ok-Some.field-0-is at c.in-Ok-Some.ensures.line in
-    next_cause g.E.Answering.rules (OfBatch c.args.most (g.E.Answering.gives_up c.args.engine.now c.answer_batch.new.engine)) _ c.in-Err-answer_batch.stopped (OfBatch c.args.most (g.E.Answering.stops c.answer_batch.new.engine)) _ _ _ _ c.as_slice.result.now c.in-Ok.command first c.as_slice.ensures.value c.in-Ok.ensures.exact c.in-Err-answer_batch.ensures.cause
+    next_cause g.E.Answering.rules (OfBatch c.args.most (g.E.Answering.gives_up c.args.engine.now c.answer_batch.new.engine)) _ c.in-Err-answer_batch.stopped (OfBatch c.args.most (g.E.Answering.stops c.args.engine.now c.answer_batch.new.engine)) _ _ _ _ c.as_slice.result.now c.in-Ok.command first c.as_slice.ensures.value c.in-Ok.ensures.exact c.in-Err-answer_batch.ensures.cause
 
 pub returns-in-Ok-write_told-clause-answered : goal.returns-in-Ok-write_told-clause-answered
 returns-in-Ok-write_told-clause-answered g c sure =

@@ -7,7 +7,7 @@ use Rattle.flow_cli.proofs.SomeLines.{endless_stop, never_full, some_begin, some
 use Rattle.flow_cli.proofs.drive.drive_lines.Goals as goal
 
 pub loop-init : goal.loop-init
-loop-init g c = record { answered = λ sure. begins _ _ _ _ _; lines = λ sure. some_begin _ _ _ _; within = inl (omega arith); counted = none_read _; sure = λ s. s; follows = λ a f. f }
+loop-init g c = record { answered = λ sure. begins _ _ _ _ _; lines = λ sure. some_begin _ _ _ _; within = inl (omega arith); counted = none_read _; since = λ e b cs s h. h; sure = λ s. s; follows = λ a f. f }
 
 pub loop-preserved : goal.loop-preserved
 loop-preserved g c =
@@ -29,6 +29,7 @@ loop-preserved g c =
       lines = λ sure. some_more _ all _ _ _ _ _ _ _ _ _ _ (some_too before all still _ _ _ _ _ _ _ (c.loop.invariant.lines (c.answer_next.ensures.sure sure))) (some_too here all too _ _ _ _ _ _ _ (some sure)) (search rules);
       within = both_within all _ _ _ (within_too before all still _ c.loop.invariant.within) (within_too here all too _ within) (search rules);
       counted = one_more_read _ _ _ _ c.loop.invariant.counted (rw c.in-Ok-Some.field-0-is at c.in-Ok-Some.ensures.counted);
+      since = λ e b cs s h. c.loop.invariant.since e b cs s (c.in-Ok-Some.ensures.since e b cs s h);
       sure = λ s. c.loop.invariant.sure (c.answer_next.ensures.sure s);
       follows = λ a f. c.answer_next.ensures.follows a (c.loop.invariant.follows a f);
     }
@@ -43,9 +44,11 @@ returns-in-Err-clause-stopped g c sure =
     let all = OfBatch c.args.most (g.E.Answering.gives_up old new) in
     let still = batch_gives c.args.most (g.E.Answering.gives_up old mid) (g.E.Answering.gives_up old new) (λ b cs k. g.met.E.Answering.gives_up_still old mid new b cs k on) in
     let too = batch_gives c.args.most (g.E.Answering.gives_up mid new) (g.E.Answering.gives_up old new) (λ b cs k. g.met.E.Answering.gives_up_since old mid new b cs k since on) in
-    stops_later _ all (OfBatch c.args.most (g.E.Answering.stops new)) _ _ _ c.in-Err.stopped _ _ _ _ _ _
+    let late = OfBatch c.args.most (g.E.Answering.stops old new) in
+    let later = batch_gives c.args.most (g.E.Answering.stops mid new) (g.E.Answering.stops old new) (c.loop.invariant.since new) in
+    stops_later _ all late _ _ _ c.in-Err.stopped _ _ _ _ _ _
     (answered_too (OfBatch c.args.most (g.E.Answering.gives_up old mid)) all still _ _ _ _ _ _ _ _ (c.loop.invariant.answered (c.answer_next.ensures.sure sure)))
-    (stops_too (OfBatch c.args.most (g.E.Answering.gives_up mid new)) all too _ (OfBatch c.args.most (g.E.Answering.stops new)) _ _ c.in-Err.stopped _ _ _ (c.in-Err.ensures.stopped sure))
+    (stops_too (OfBatch c.args.most (g.E.Answering.gives_up mid new)) all too _ (OfBatch c.args.most (g.E.Answering.stops mid new)) late later _ _ c.in-Err.stopped _ _ _ (c.in-Err.ensures.stopped sure))
 
 pub returns-in-Err-clause-cause : goal.returns-in-Err-clause-cause
 returns-in-Err-clause-cause g c =
@@ -57,10 +60,11 @@ returns-in-Err-clause-cause g c =
     let all = OfBatch c.args.most (g.E.Answering.gives_up old new) in
     let still = batch_gives c.args.most (g.E.Answering.gives_up old mid) (g.E.Answering.gives_up old new) (λ b cs k. g.met.E.Answering.gives_up_still old mid new b cs k on) in
     let too = batch_gives c.args.most (g.E.Answering.gives_up mid new) (g.E.Answering.gives_up old new) (λ b cs k. g.met.E.Answering.gives_up_since old mid new b cs k since on) in
-    let stops = OfBatch c.args.most (g.E.Answering.stops new) in
-    stopped_later g.E.Answering.rules all _ _ c.in-Err.stopped stops (g.E.Answering.is_sure new) _ _ _ _ _ _
+    let late = OfBatch c.args.most (g.E.Answering.stops old new) in
+    let later = batch_gives c.args.most (g.E.Answering.stops mid new) (g.E.Answering.stops old new) (c.loop.invariant.since new) in
+    stopped_later g.E.Answering.rules all _ _ c.in-Err.stopped late (g.E.Answering.is_sure new) _ _ _ _ _ _
     (λ sure. answered_too (OfBatch c.args.most (g.E.Answering.gives_up old mid)) all still _ _ _ _ _ _ _ _ (c.loop.invariant.answered (c.answer_next.ensures.sure sure)))
-    (cause_too (OfBatch c.args.most (g.E.Answering.gives_up mid new)) all too g.E.Answering.rules c.in-Err.stopped stops (g.E.Answering.is_sure new) _ _ c.in-Err.ensures.cause)
+    (cause_too (OfBatch c.args.most (g.E.Answering.gives_up mid new)) all too g.E.Answering.rules c.in-Err.stopped (OfBatch c.args.most (g.E.Answering.stops mid new)) late later (g.E.Answering.is_sure new) _ _ c.in-Err.ensures.cause)
 
 pub returns-in-Err-clause-cut : goal.returns-in-Err-clause-cut
 returns-in-Err-clause-cut g c sure =
@@ -72,9 +76,11 @@ returns-in-Err-clause-cut g c sure =
     let all = OfBatch c.args.most (g.E.Answering.gives_up old new) in
     let still = batch_gives c.args.most (g.E.Answering.gives_up old mid) (g.E.Answering.gives_up old new) (λ b cs k. g.met.E.Answering.gives_up_still old mid new b cs k on) in
     let too = batch_gives c.args.most (g.E.Answering.gives_up mid new) (g.E.Answering.gives_up old new) (λ b cs k. g.met.E.Answering.gives_up_since old mid new b cs k since on) in
-    some_stop_later _ all (OfBatch c.args.most (g.E.Answering.stops new)) _ _ _ c.in-Err.stopped _ _ _ _ _
+    let late = OfBatch c.args.most (g.E.Answering.stops old new) in
+    let later = batch_gives c.args.most (g.E.Answering.stops mid new) (g.E.Answering.stops old new) (c.loop.invariant.since new) in
+    some_stop_later _ all late _ _ _ c.in-Err.stopped _ _ _ _ _
     (some_too (OfBatch c.args.most (g.E.Answering.gives_up old mid)) all still _ _ _ _ _ _ _ (c.loop.invariant.lines (c.answer_next.ensures.sure sure)))
-    (among_too (OfBatch c.args.most (g.E.Answering.gives_up mid new)) all too _ (OfBatch c.args.most (g.E.Answering.stops new)) _ _ c.in-Err.stopped _ _ (c.in-Err.ensures.cut sure))
+    (among_too (OfBatch c.args.most (g.E.Answering.gives_up mid new)) all too _ (OfBatch c.args.most (g.E.Answering.stops mid new)) late later _ _ c.in-Err.stopped _ _ (c.in-Err.ensures.cut sure))
 
 pub returns-in-Err-clause-endless : goal.returns-in-Err-clause-endless
 returns-in-Err-clause-endless g c is = never_full c.in-Err.stopped _ _ c.in-Err.ensures.cause is

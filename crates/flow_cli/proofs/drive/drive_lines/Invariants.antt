@@ -1,6 +1,7 @@
 use Rattle.std.proofs.Common.{IfSome}
 use Rattle.flow_cli.specs.Answering.{Answered, OfBatch, SomeAnswered, StatusWithin}
 use Rattle.flow_cli.specs.Stopping.{ReadLines}
+use Rattle.flow_machine.specs.Answers.{StopsSince}
 use Rattle.flow_cli.proofs.drive.drive_lines.Given as goal
 
 abbrev pub invariant-loop : goal.invariant-loop
@@ -9,6 +10,7 @@ invariant-loop g l = record {
   lines : g.E.Answering.is_sure l.engine → SomeAnswered g.E.Answering.rules (OfBatch l.most (g.E.Answering.gives_up l.fn.engine l.engine)) (g.E.Answering.book l.fn.engine) (g.E.Answering.book l.engine) l.counter (g.W.Write.contents l.fn.writer) (g.W.Write.contents l.writer) l.status;
   within : StatusWithin (OfBatch l.most (g.E.Answering.gives_up l.fn.engine l.engine)) l.status;
   counted : IfSome (g.R.Read.remaining l.fn.reader) (λ bytes. ReadLines l.counter bytes (g.R.Read.remaining l.reader));
+  since : StopsSince g.E.Answering.stops l.fn.engine l.engine;
   sure : g.E.Answering.is_sure l.engine → g.E.Answering.is_sure l.fn.engine;
   follows : (a : g.row.E.Denot) → g.E.Answering.follows a l.fn.engine → g.E.Answering.follows a l.engine;
 }
