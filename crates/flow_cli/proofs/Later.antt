@@ -7,7 +7,8 @@ use Rattle.flow_base.specs.declared.fault.Fault.TheVariants as fault
 use Rattle.flow_model.specs.Apply.{Rules}
 use Rattle.flow_model.specs.Book.{Book}
 use Rattle.flow_machine.specs.declared.answer.Stop.{Stop}
-use Rattle.flow_cli.specs.Answering.{IsAnswer, AreAnswers, Answered, FaultBehind, LeftBehind, OfBatch, SomeAnswered, StatusWithin, StopsAmong, StopsWithin}
+use Rattle.flow_machine.specs.declared.answer.Stop.TheVariants as stop
+use Rattle.flow_cli.specs.Answering.{IsAnswer, AreAnswers, Answered, FaultBehind, LeftBehind, OfBatch, SomeAnswered, StatusWithin, StopsAmong, StopsWithin, commands_in}
 use Rattle.flow_cli.specs.Driving.{lines_of}
 use Rattle.flow_cli.specs.Stopping.{CausedStop, ComeNext, StoppedBy}
 use Rattle.flow_cli.specs.declared.drive.Stopped.{Stopped}
@@ -17,10 +18,10 @@ use Rattle.flow_cli.specs.declared.reply.Line.TheVariants as line
 use Rattle.flow_cli.proofs.Stopping.{stop_by}
 
 -- this follows from a cause
-abbrev pub Gives : (Book → List Command → Code → Type 0) → (Book → List Command → Code → Type 0) → Type 0
-Gives one two = (b : Book) (cs : List Command) (k : Code) → one b cs k → two b cs k
+abbrev pub Gives : {X : Type 0} → (Book → List Command → X → Type 0) → (Book → List Command → X → Type 0) → Type 0
+Gives {X} one two = (b : Book) (cs : List Command) (x : X) → one b cs x → two b cs x
 
-pub batch_gives : (most : ℕ) (one two : Book → List Command → Code → Type 0) → Gives one two → Gives (OfBatch most one) (OfBatch most two)
+pub batch_gives : {X : Type 0} (most : ℕ) (one two : Book → List Command → X → Type 0) → Gives one two → Gives (OfBatch most one) (OfBatch most two)
 batch_gives most one two on b cs k h = (h.0, on b cs k h.1)
 
 module _ (one two : Book → List Command → Code → Type 0) (on : Gives one two) where
@@ -50,27 +51,27 @@ module _ (one two : Book → List Command → Code → Type 0) (on : Gives one t
     pub some_too : (b b1 : Book) (least n : ℕ) (old new : Option (List ℕ)) → SomeAnswered u one b b1 least old new n → SomeAnswered u two b b1 least old new n
     some_too b b1 least n old new h = record { lines = h.lines; answers = h.answers; many = h.many; answers_are = answers_too b b1 h.lines h.answers h.answers_are; written_are = h.written_are; status_is = h.status_is }
 
-    fault_too : (stops : Book → List Command → Stop → Type 0) (f : Fault) (b b1 : Book) (later : List (List ℕ)) → FaultBehind u one stops f b b1 later → FaultBehind u two stops f b b1 later
-    fault_too stops (fault.NoMemory _) b b1 later h = (h.0, (h.1.0, (h.1.1.0, (h.1.1.1.0, answers_too b b1 h.0 h.1.1.0 h.1.1.1.1))))
-    fault_too stops (fault.Mismatch run place name) b b1 later h = h
-    fault_too stops fault.NoRun b b1 later h = h
-    fault_too stops fault.StoreRefused b b1 later h = h
-    fault_too stops fault.NotOurs b b1 later h = h
-    fault_too stops fault.BadVersion b b1 later h = h
-    fault_too stops (fault.Damaged d) b b1 later h = h
-    fault_too stops fault.Unknown b b1 later h = h
-    fault_too stops fault.Halted b b1 later h = h
-    fault_too stops fault.NoFile b b1 later h = h
-    fault_too stops fault.BadUsage b b1 later h = h
+    fault_too : (stops since : Book → List Command → Stop → Type 0) (gives : Gives stops since) (f : Fault) (b b1 : Book) (later : List (List ℕ)) → FaultBehind u one stops f b b1 later → FaultBehind u two since f b b1 later
+    fault_too stops since gives (fault.NoMemory _) b b1 later h = (h.0, (h.1.0, (h.1.1.0, (h.1.1.1.0, answers_too b b1 h.0 h.1.1.0 h.1.1.1.1))))
+    fault_too stops since gives (fault.Mismatch run place name) b b1 later h = h
+    fault_too stops since gives fault.NoRun b b1 later h = h
+    fault_too stops since gives fault.StoreRefused b b1 later h = h
+    fault_too stops since gives fault.NotOurs b b1 later h = h
+    fault_too stops since gives fault.BadVersion b b1 later h = h
+    fault_too stops since gives (fault.Damaged d) b b1 later h = h
+    fault_too stops since gives fault.Unknown b b1 later h = record { next = h.next; rest = h.rest; lines_are = h.lines_are; stop_is = gives b (commands_in h.next) stop.Unknown h.stop_is }
+    fault_too stops since gives fault.Halted b b1 later h = record { next = h.next; rest = h.rest; lines_are = h.lines_are; stop_is = gives b (commands_in h.next) stop.Halted h.stop_is }
+    fault_too stops since gives fault.NoFile b b1 later h = h
+    fault_too stops since gives fault.BadUsage b b1 later h = h
 
-    behind_too : (stops : Book → List Command → Stop → Type 0) (e : Stopped) (b b1 : Book) (later : List (List ℕ)) → LeftBehind u one stops e b b1 later → LeftBehind u two stops e b b1 later
-    behind_too stops (stopped.Refused f) b b1 later h = fault_too stops f b b1 later h
-    behind_too stops (stopped.Input e) b b1 later h = h
-    behind_too stops (stopped.Output e) b b1 later h = h
-    behind_too stops stopped.BadSettings b b1 later h = h
+    behind_too : (stops since : Book → List Command → Stop → Type 0) (gives : Gives stops since) (e : Stopped) (b b1 : Book) (later : List (List ℕ)) → LeftBehind u one stops e b b1 later → LeftBehind u two since e b b1 later
+    behind_too stops since gives (stopped.Refused f) b b1 later h = fault_too stops since gives f b b1 later h
+    behind_too stops since gives (stopped.Input e) b b1 later h = h
+    behind_too stops since gives (stopped.Output e) b b1 later h = h
+    behind_too stops since gives stopped.BadSettings b b1 later h = h
 
-    stops_within_too : (stops : Book → List Command → Stop → Type 0) (b b1 : Book) (e : Stopped) (whole : List (List ℕ)) (old new : Option (List ℕ)) → StopsWithin u one stops b b1 e whole old new → StopsWithin u two stops b b1 e whole old new
-    stops_within_too stops b b1 e whole old new h = record {
+    stops_within_too : (stops since : Book → List Command → Stop → Type 0) (gives : Gives stops since) (b b1 : Book) (e : Stopped) (whole : List (List ℕ)) (old new : Option (List ℕ)) → StopsWithin u one stops b b1 e whole old new → StopsWithin u two since b b1 e whole old new
+    stops_within_too stops since gives b b1 e whole old new h = record {
       lines = h.lines;
       later = h.later;
       answers = h.answers;
@@ -78,21 +79,21 @@ module _ (one two : Book → List Command → Code → Type 0) (on : Gives one t
       lines_are = h.lines_are;
       answers_are = answers_too b h.book h.lines h.answers h.answers_are;
       written_are = h.written_are;
-      book_is = behind_too stops e h.book b1 h.later h.book_is;
+      book_is = behind_too stops since gives e h.book b1 h.later h.book_is;
     }
 
-    pub stops_too : (stops : Book → List Command → Stop → Type 0) (b b1 : Book) (e : Stopped) (known old new : Option (List ℕ)) → IfSome known (λ bytes. StopsWithin u one stops b b1 e (lines_of bytes) old new) → IfSome known (λ bytes. StopsWithin u two stops b b1 e (lines_of bytes) old new)
-    stops_too stops b b1 e None old new h = tt
-    stops_too stops b b1 e (Some bytes) old new h = stops_within_too stops b b1 e (lines_of bytes) old new h
+    pub stops_too : (stops since : Book → List Command → Stop → Type 0) (gives : Gives stops since) (b b1 : Book) (e : Stopped) (known old new : Option (List ℕ)) → IfSome known (λ bytes. StopsWithin u one stops b b1 e (lines_of bytes) old new) → IfSome known (λ bytes. StopsWithin u two since b b1 e (lines_of bytes) old new)
+    stops_too stops since gives b b1 e None old new h = tt
+    stops_too stops since gives b b1 e (Some bytes) old new h = stops_within_too stops since gives b b1 e (lines_of bytes) old new h
 
-    pub among_too : (stops : Book → List Command → Stop → Type 0) (b b1 : Book) (e : Stopped) (old new : Option (List ℕ)) → StopsAmong u one stops b b1 e old new → StopsAmong u two stops b b1 e old new
-    among_too stops b b1 e old new h = record { whole = h.whole; stops_are = stops_within_too stops b b1 e h.whole old new h.stops_are }
+    pub among_too : (stops since : Book → List Command → Stop → Type 0) (gives : Gives stops since) (b b1 : Book) (e : Stopped) (old new : Option (List ℕ)) → StopsAmong u one stops b b1 e old new → StopsAmong u two since b b1 e old new
+    among_too stops since gives b b1 e old new h = record { whole = h.whole; stops_are = stops_within_too stops since gives b b1 e h.whole old new h.stops_are }
 
     next_too : (b book : Book) (cs : List Command) (known : Option (List ℕ)) → IfSome known (λ bytes. ComeNext u one b bytes book cs) → IfSome known (λ bytes. ComeNext u two b bytes book cs)
     next_too b book cs None h = tt
     next_too b book cs (Some bytes) h =
         record { lines = h.lines; next = h.next; later = h.later; answers = h.answers; lines_are = h.lines_are; answers_are = answers_too b book h.lines h.answers h.answers_are; commands_are = h.commands_are }
 
-    pub cause_too : (e : Stopped) (stops : Book → List Command → Stop → Type 0) (sure : Type 0) (b : Book) (known : Option (List ℕ)) → CausedStop e (StoppedBy u one stops sure b known) ⊥ → CausedStop e (StoppedBy u two stops sure b known) ⊥
-    cause_too e stops sure b known h =
-        stop_by e (StoppedBy u one stops sure b known) (StoppedBy u two stops sure b known) ⊥ ⊥ (λ s x. (x.0, (x.1.0, (x.1.1.0, λ is. next_too b x.0 x.1.0 known (x.1.1.1 is))))) (λ x. x) h
+    pub cause_too : (e : Stopped) (stops since : Book → List Command → Stop → Type 0) (gives : Gives stops since) (sure : Type 0) (b : Book) (known : Option (List ℕ)) → CausedStop e (StoppedBy u one stops sure b known) ⊥ → CausedStop e (StoppedBy u two since sure b known) ⊥
+    cause_too e stops since gives sure b known h =
+        stop_by e (StoppedBy u one stops sure b known) (StoppedBy u two since sure b known) ⊥ ⊥ (λ s x. (x.0, (x.1.0, (gives x.0 x.1.0 s x.1.1.0, λ is. next_too b x.0 x.1.0 known (x.1.1.1 is))))) (λ x. x) h

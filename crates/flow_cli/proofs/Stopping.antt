@@ -73,12 +73,6 @@ module _ (u : Rules) (given_up : Book → List Command → Code → Type 0) wher
       stop_by e (StoppedBy u given_up stops sure b1 left) (StoppedBy u given_up stops sure b known) ⊥ many
       (λ s x. (x.0, (x.1.0, (x.1.1.0, λ h. next_later b b1 x.0 x.1.0 known left old new n (f h) (x.1.1.1 h))))) (λ x. absurd x) cause
 
-  -- What stands behind a batch's stop in other words stands behind it in these.
-  pub stopped_since : (b : Book) (e : Stopped) (one two : Book → List Command → Stop → Type 0) (sure : Type 0) (known : Option (List ℕ)) → ((book : Book) (cs : List Command) (s : Stop) → one book cs s → two book cs s) → CausedStop e (StoppedBy u given_up one sure b known) ⊥ → CausedStop e (StoppedBy u given_up two sure b known) ⊥
-  stopped_since b e one two sure known gives cause =
-      stop_by e (StoppedBy u given_up one sure b known) (StoppedBy u given_up two sure b known) ⊥ ⊥
-      (λ s x. (x.0, (x.1.0, (gives x.0 x.1.0 s x.1.1.0, x.1.1.1)))) (λ x. x) cause
-
 -- ---- how many lines were read
 
 pub none_read : (known : Option (List ℕ)) → IfSome known (λ bytes. ReadLines 0 bytes known)

@@ -44,14 +44,14 @@ pub fn perform<R: BufRead, W: Write, E: Answering>(
         (λ run. E.is_sure engine.new → TellsHistory E.rules (E.book engine.old) (E.book engine.new) run (W.contents writer.old) (W.contents writer.new))) }
     ensures status { IfOk result (λ n. OfWork work.now (λ most. StatusWithin (OfBatch most (E.gives_up engine.old engine.new)) n) (λ run. n ≡ 0)) }
     ensures part { IfErr result (λ e. OfWork work.now
-        (λ most. E.is_sure engine.new → IfSome (R.remaining reader.old) (λ bytes. StopsWithin E.rules (OfBatch most (E.gives_up engine.old engine.new)) (OfBatch most (E.stops engine.new)) (E.book engine.old) (E.book engine.new) e (lines_of bytes) (W.contents writer.old) (W.contents writer.new)))
+        (λ most. E.is_sure engine.new → IfSome (R.remaining reader.old) (λ bytes. StopsWithin E.rules (OfBatch most (E.gives_up engine.old engine.new)) (OfBatch most (E.stops engine.old engine.new)) (E.book engine.old) (E.book engine.new) e (lines_of bytes) (W.contents writer.old) (W.contents writer.new)))
         (λ run. (writer.new ≡ writer.old) ⊎ (E.is_sure engine.new → BeginsHistory E.rules (E.book engine.old) (E.book engine.new) run (W.contents writer.old) (W.contents writer.new)))) }
     ensures early { IfErr result (λ e. OfWork work.now (λ most. stopped_status e ≡ 3) (λ run. (e ≡ Refused Fault.NoRun) ⊎ (stopped_status e ≡ 3))) }
     ensures lines { IfOk result (λ n. OfWork work.now
         (λ most. E.is_sure engine.new → SomeAnswered E.rules (OfBatch most (E.gives_up engine.old engine.new)) (E.book engine.old) (E.book engine.new) 0 (W.contents writer.old) (W.contents writer.new) n)
         (λ run. Unit {0})) }
     ensures cut { IfErr result (λ e. OfWork work.now
-        (λ most. E.is_sure engine.new → StopsAmong E.rules (OfBatch most (E.gives_up engine.old engine.new)) (OfBatch most (E.stops engine.new)) (E.book engine.old) (E.book engine.new) e (W.contents writer.old) (W.contents writer.new))
+        (λ most. E.is_sure engine.new → StopsAmong E.rules (OfBatch most (E.gives_up engine.old engine.new)) (OfBatch most (E.stops engine.old engine.new)) (E.book engine.old) (E.book engine.new) e (W.contents writer.old) (W.contents writer.new))
         (λ run. Unit {0})) }
     ensures endless { IfErr result (λ e. OfWork work.now
         (λ most. e ≡ Refused Fault.StoreRefused → E.is_sure engine.new → (n : ℕ) × SomeAnswered E.rules (OfBatch most (E.gives_up engine.old engine.new)) (E.book engine.old) (E.book engine.new) (2 ^ 64 - 1) (W.contents writer.old) (W.contents writer.new) n)
@@ -84,7 +84,7 @@ pub fn perform_here<E: Answering>(
         (λ most. E.is_sure engine.new → LeavesAnswered E.rules (OfBatch most (E.gives_up engine.old engine.new)) (E.book engine.old) (E.book engine.new) 0 n)
         (λ run. Unit {0})) }
     ensures cut { IfErr result (λ e. OfWork work.now
-        (λ most. E.is_sure engine.new → StopsBehind E.rules (OfBatch most (E.gives_up engine.old engine.new)) (OfBatch most (E.stops engine.new)) (E.book engine.old) (E.book engine.new) e)
+        (λ most. E.is_sure engine.new → StopsBehind E.rules (OfBatch most (E.gives_up engine.old engine.new)) (OfBatch most (E.stops engine.old engine.new)) (E.book engine.old) (E.book engine.new) e)
         (λ run. Unit {0})) }
     ensures endless { IfErr result (λ e. OfWork work.now
         (λ most. e ≡ Refused Fault.StoreRefused → E.is_sure engine.new → (n : ℕ) × LeavesAnswered E.rules (OfBatch most (E.gives_up engine.old engine.new)) (E.book engine.old) (E.book engine.new) (2 ^ 64 - 1) n)

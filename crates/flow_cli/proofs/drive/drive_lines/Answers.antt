@@ -2,7 +2,7 @@ use Rattle.std.proofs.Common.{arith, rules, inl}
 use Rattle.flow_cli.specs.Answering.{OfBatch}
 use Rattle.flow_cli.proofs.Answering.{all_counted, begins, both_within, goes_on, stops_later}
 use Rattle.flow_cli.proofs.Later.{among_too, answered_too, batch_gives, cause_too, some_too, stops_too, within_too}
-use Rattle.flow_cli.proofs.Stopping.{none_read, one_more_read, stopped_later, stopped_since}
+use Rattle.flow_cli.proofs.Stopping.{none_read, one_more_read, stopped_later}
 use Rattle.flow_cli.proofs.SomeLines.{endless_stop, never_full, some_begin, some_end, some_more, some_stop_later}
 use Rattle.flow_cli.proofs.drive.drive_lines.Goals as goal
 
@@ -44,9 +44,11 @@ returns-in-Err-clause-stopped g c sure =
     let all = OfBatch c.args.most (g.E.Answering.gives_up old new) in
     let still = batch_gives c.args.most (g.E.Answering.gives_up old mid) (g.E.Answering.gives_up old new) (λ b cs k. g.met.E.Answering.gives_up_still old mid new b cs k on) in
     let too = batch_gives c.args.most (g.E.Answering.gives_up mid new) (g.E.Answering.gives_up old new) (λ b cs k. g.met.E.Answering.gives_up_since old mid new b cs k since on) in
-    stops_later _ all (OfBatch c.args.most (g.E.Answering.stops new)) _ _ _ c.in-Err.stopped _ _ _ _ _ _
+    let late = OfBatch c.args.most (g.E.Answering.stops old new) in
+    let later = batch_gives c.args.most (g.E.Answering.stops mid new) (g.E.Answering.stops old new) (c.loop.invariant.since new) in
+    stops_later _ all late _ _ _ c.in-Err.stopped _ _ _ _ _ _
     (answered_too (OfBatch c.args.most (g.E.Answering.gives_up old mid)) all still _ _ _ _ _ _ _ _ (c.loop.invariant.answered (c.answer_next.ensures.sure sure)))
-    (stops_too (OfBatch c.args.most (g.E.Answering.gives_up mid new)) all too _ (OfBatch c.args.most (g.E.Answering.stops new)) _ _ c.in-Err.stopped _ _ _ (c.in-Err.ensures.stopped sure))
+    (stops_too (OfBatch c.args.most (g.E.Answering.gives_up mid new)) all too _ (OfBatch c.args.most (g.E.Answering.stops mid new)) late later _ _ c.in-Err.stopped _ _ _ (c.in-Err.ensures.stopped sure))
 
 pub returns-in-Err-clause-cause : goal.returns-in-Err-clause-cause
 returns-in-Err-clause-cause g c =
@@ -58,13 +60,11 @@ returns-in-Err-clause-cause g c =
     let all = OfBatch c.args.most (g.E.Answering.gives_up old new) in
     let still = batch_gives c.args.most (g.E.Answering.gives_up old mid) (g.E.Answering.gives_up old new) (λ b cs k. g.met.E.Answering.gives_up_still old mid new b cs k on) in
     let too = batch_gives c.args.most (g.E.Answering.gives_up mid new) (g.E.Answering.gives_up old new) (λ b cs k. g.met.E.Answering.gives_up_since old mid new b cs k since on) in
-    let stops = OfBatch c.args.most (g.E.Answering.stops old new) in
-    let here = OfBatch c.args.most (g.E.Answering.gives_up mid new) in
-    stopped_later g.E.Answering.rules all _ _ c.in-Err.stopped stops (g.E.Answering.is_sure new) _ _ _ _ _ _
+    let late = OfBatch c.args.most (g.E.Answering.stops old new) in
+    let later = batch_gives c.args.most (g.E.Answering.stops mid new) (g.E.Answering.stops old new) (c.loop.invariant.since new) in
+    stopped_later g.E.Answering.rules all _ _ c.in-Err.stopped late (g.E.Answering.is_sure new) _ _ _ _ _ _
     (λ sure. answered_too (OfBatch c.args.most (g.E.Answering.gives_up old mid)) all still _ _ _ _ _ _ _ _ (c.loop.invariant.answered (c.answer_next.ensures.sure sure)))
-    (cause_too here all too g.E.Answering.rules c.in-Err.stopped stops (g.E.Answering.is_sure new) _ _
-    (stopped_since g.E.Answering.rules here _ c.in-Err.stopped (OfBatch c.args.most (g.E.Answering.stops mid new)) stops (g.E.Answering.is_sure new) _
-    (λ b cs s h. (h.0, c.loop.invariant.since new b cs s h.1)) c.in-Err.ensures.cause))
+    (cause_too (OfBatch c.args.most (g.E.Answering.gives_up mid new)) all too g.E.Answering.rules c.in-Err.stopped (OfBatch c.args.most (g.E.Answering.stops mid new)) late later (g.E.Answering.is_sure new) _ _ c.in-Err.ensures.cause)
 
 pub returns-in-Err-clause-cut : goal.returns-in-Err-clause-cut
 returns-in-Err-clause-cut g c sure =
@@ -76,9 +76,11 @@ returns-in-Err-clause-cut g c sure =
     let all = OfBatch c.args.most (g.E.Answering.gives_up old new) in
     let still = batch_gives c.args.most (g.E.Answering.gives_up old mid) (g.E.Answering.gives_up old new) (λ b cs k. g.met.E.Answering.gives_up_still old mid new b cs k on) in
     let too = batch_gives c.args.most (g.E.Answering.gives_up mid new) (g.E.Answering.gives_up old new) (λ b cs k. g.met.E.Answering.gives_up_since old mid new b cs k since on) in
-    some_stop_later _ all (OfBatch c.args.most (g.E.Answering.stops new)) _ _ _ c.in-Err.stopped _ _ _ _ _
+    let late = OfBatch c.args.most (g.E.Answering.stops old new) in
+    let later = batch_gives c.args.most (g.E.Answering.stops mid new) (g.E.Answering.stops old new) (c.loop.invariant.since new) in
+    some_stop_later _ all late _ _ _ c.in-Err.stopped _ _ _ _ _
     (some_too (OfBatch c.args.most (g.E.Answering.gives_up old mid)) all still _ _ _ _ _ _ _ (c.loop.invariant.lines (c.answer_next.ensures.sure sure)))
-    (among_too (OfBatch c.args.most (g.E.Answering.gives_up mid new)) all too _ (OfBatch c.args.most (g.E.Answering.stops new)) _ _ c.in-Err.stopped _ _ (c.in-Err.ensures.cut sure))
+    (among_too (OfBatch c.args.most (g.E.Answering.gives_up mid new)) all too _ (OfBatch c.args.most (g.E.Answering.stops mid new)) late later _ _ c.in-Err.stopped _ _ (c.in-Err.ensures.cut sure))
 
 pub returns-in-Err-clause-endless : goal.returns-in-Err-clause-endless
 returns-in-Err-clause-endless g c is = never_full c.in-Err.stopped _ _ c.in-Err.ensures.cause is
