@@ -1,16 +1,16 @@
 -- Each step at the table keeps its rule.
-use Rattle.std.proofs.Common.{◌≡◌, ◌≢◌, ◌⊎◌, ℕ, zero, suc, ◌==◌, List, [], ◌∷◌, ◌++◌, length, set, slice_index, Bool, true, false, true≢false, inl, inr, refl, sym, ap, ◌∙◌, subst, ⊎_elim, arith}
+use Rattle.std.proofs.Common.{◌≡◌, ◌≢◌, ◌⊎◌, ℕ, zero, suc, ◌+◌, ◌<◌, ◌≤◌, ◌==◌, if◌then◌else◌, Option, Some, None, List, [], ◌∷◌, ◌++◌, length, set, slice_index, Bool, true, false, true≢false, inl, inr, refl, sym, ap, ◌∙◌, subst, ⊎_elim, arith}
 use Rattle.std.proofs.lemmas.Bool.Decides.{nat_tests}
 use prog.Atomic.{either}
 use mathlib.Core.Option.{none, some, some-ne-none, some-injective}
 use lib.ListN.{get_elem?}
-use Rattle.atomic_table.specs.Table.{step, Allows, Enters, Splits, Joins, keeps, opening}
+use Rattle.atomic_table.specs.Table.{Me, step, Allows, Enters, Splits, Joins, keeps, opening}
 use Rattle.atomic_table.proofs.Lists.{at_set, at_snoc}
 use Rattle.flow_hub.specs.declared.known.Known.{Known}
 use Rattle.flow_hub.specs.declared.seats.Sight.{Sight}
-use Rattle.flow_hub.specs.Knowing.{nothing, IsBefore, IsSamePart}
-use Rattle.flow_hub.specs.Seating.{opener, nobody, Fits, Kept, adding, Adds, Looks, lent, keeps_left, handed_back, gives_none, gives_alone, keeping, seeing}
-use Rattle.flow_hub.proofs.Growing.{before_self, before_trans, before_all, same_part, part_of}
+use Rattle.flow_hub.specs.Knowing.{nothing, IsBefore, IsSamePart, with_member}
+use Rattle.flow_hub.specs.Seating.{opener, nobody, Fits, AreNumbered, Kept, Knows, added, adding, admitting, Adds, Admits, Looks, lent, keeps_left, handed_back, gives_none, gives_alone, member_none, member_alone, keeping, seeing}
+use Rattle.flow_hub.proofs.Growing.{before_self, before_trans, before_all, same_part, part_of, enrolls_on, enrolls_part, grows_by, part_by}
 
 off : false ≡ true → ⊥
 off e = true≢false (sym e)
@@ -27,6 +27,111 @@ pick_else : (p : Bool) (x y i : ℕ) → i ≡ y → (p ≡ true → ⊥) → i 
 pick_else true x y i e never = absurd (never refl)
 pick_else false x y i e never = e
 
+no_number : (n : ℕ) → None ≡ Some n → ⊥
+no_number n e = subst (λ o. here o) e tt
+  where
+    here : Option ℕ → Type 0
+    here None = Unit {0}
+    here (Some _) = ⊥
+
+number_is : (m n : ℕ) → Some m ≡ Some n → m ≡ n
+number_is m n e = ap there e
+  where
+    there : Option ℕ → ℕ
+    there None = m
+    there (Some k) = k
+
+-- what stood at one seat stands at another
+abbrev moved : (ℕ → ℕ) → ℕ → ℕ → ℕ → ℕ
+moved seat by to n = if seat n == by then to else seat n
+
+moved_here : (seat : ℕ → ℕ) (by to n : ℕ) → seat n ≡ by → moved seat by to n ≡ to
+moved_here seat by to n is = let same : (seat n == by) ≡ true = grind (arith, nat_tests) in rw same refl
+
+moved_else : (seat : ℕ → ℕ) (by to n : ℕ) → seat n ≢ by → moved seat by to n ≡ seat n
+moved_else seat by to n away = let other : (seat n == by) ≡ false = grind (arith, nat_tests) in rw other refl
+
+-- one number more, at this seat
+abbrev more : (ℕ → ℕ) → ℕ → ℕ → ℕ → ℕ
+more seat m by n = if n == m then by else seat n
+
+more_here : (seat : ℕ → ℕ) (m by n : ℕ) → m ≡ n → more seat m by n ≡ by
+more_here seat m by n is = let same : (n == m) ≡ true = grind (arith, nat_tests) in rw same refl
+
+more_else : (seat : ℕ → ℕ) (m by n : ℕ) → n < m → more seat m by n ≡ seat n
+more_else seat m by n less = let other : (n == m) ≡ false = grind (arith, nat_tests) in rw other refl
+
+-- at the end of a longer list stands what was added, and its number is the old length
+at_end : {A : Type 0} (xs : List A) (w u : A) (j : ℕ) → get_elem? (xs ++ w ∷ []) j ≡ some u → (get_elem? xs j ≡ some u) ⊎ ((j ≡ length xs) × (w ≡ u))
+at_end [] w u zero e = inr (refl, some-injective _ _ e)
+at_end [] w u (suc j) e = absurd (some-ne-none u (sym e))
+at_end (v ∷ xs) w u zero e = inl e
+at_end (v ∷ xs) w u (suc j) e = ⊎_elim (λ t. inl t) (λ (t : (j ≡ length xs) × (w ≡ u)). inr (ap suc t.0, t.1)) (at_end xs w u j e)
+
+---- The numbers of submitters
+
+module _ {S : Type 0} where
+  -- what one seat must show of its number
+  abbrev IsSeat : ℕ → (ℕ → ℕ) → ℕ → Sight S → Type 0
+  IsSeat members seat by v = (n : ℕ) → v.member ≡ Some n → (n < members) × (seat n ≡ by)
+
+  without : (members : ℕ) (seat : ℕ → ℕ) (by : ℕ) (w : Sight S) → w.member ≡ None → IsSeat members seat by w
+  without members seat by w none' n is = absurd (no_number n (sym none' ∙ is))
+
+  seats_set : (members : ℕ) (seat : ℕ → ℕ) (views : List (Sight S)) (by : ℕ) (w : Sight S) → ((j : ℕ) (u : Sight S) → j ≢ by → get_elem? views j ≡ some u → IsSeat members seat j u) → IsSeat members seat by w
+      → (j : ℕ) (u : Sight S) → get_elem? (set views by w) j ≡ some u → IsSeat members seat j u
+  seats_set members seat views by w others mine j u e =
+      ⊎_elim
+      (λ (x : (j ≡ by) × (w ≡ u)). subst (λ (y : ℕ × Sight S). IsSeat members seat y.0 y.1) (λ i. (sym x.0 i, x.1 i)) mine)
+      (λ (x : (j ≢ by) × (get_elem? views j ≡ some u)). others j u x.0 x.1)
+      (at_set views by j w u e)
+
+  -- the seat has the number that it had, and more submitters may be known of
+  numbers_stay : (m m' by : ℕ) (views : List (Sight S)) (v w : Sight S) → get_elem? views by ≡ some v → w.member ≡ v.member → m ≤ m' → AreNumbered m views → AreNumbered m' (set views by w)
+  numbers_stay m m' by views v w at same le (seat, all) = (
+    seat,
+    seats_set m' seat views by w (λ j u away e n is. (grown n (all j u e n is).0, (all j u e n is).1)) (λ n is. let t = all by v at n (sym same ∙ is) in (grown n t.0, t.1)),
+  )
+    where
+      grown : (n : ℕ) → n < m → n < m'
+      grown n less = omega arith
+
+  -- the seat has no number
+  numbers_drop : (m by : ℕ) (views : List (Sight S)) (w : Sight S) → w.member ≡ None → AreNumbered m views → AreNumbered m (set views by w)
+  numbers_drop m by views w none' (seat, all) = (seat, seats_set m seat views by w (λ j u away e. all j u e) (without m seat by w none'))
+
+  -- a further seat without a number
+  numbers_more : (m : ℕ) (views : List (Sight S)) (w : Sight S) → w.member ≡ None → AreNumbered m views → AreNumbered m (views ++ w ∷ [])
+  numbers_more m views w none' (seat, all) = (seat, λ j u e. ⊎_elim (λ t. all j u t) (λ (t : (j ≡ length views) × (w ≡ u)). without m seat j u (ap (λ (x : Sight S). x.member) (sym t.1) ∙ none')) (at_end views w u j e))
+
+  -- the number goes to a further seat
+  numbers_move : (m by : ℕ) (views : List (Sight S)) (v left right : Sight S) → get_elem? views by ≡ some v → left.member ≡ None → right.member ≡ v.member
+      → AreNumbered m views → AreNumbered m (set views by left ++ right ∷ [])
+  numbers_move m by views v left right at none' same (seat, all) = (moved seat by to, λ j u e. ⊎_elim (λ t. others j u t) (λ (t : (j ≡ to) × (right ≡ u)). subst (λ (y : ℕ × Sight S). IsSeat m (moved seat by to) y.0 y.1) (λ i. (sym t.0 i, t.1 i)) mine) (at_end (set views by left) right u j e))
+    where
+      to : ℕ
+      to = length (set views by left)
+
+      mine : IsSeat m (moved seat by to) to right
+      mine n is = let t = all by v at n (sym same ∙ is) in (t.0, moved_here seat by to n t.1)
+
+      others : (j : ℕ) (u : Sight S) → get_elem? (set views by left) j ≡ some u → IsSeat m (moved seat by to) j u
+      others = seats_set m (moved seat by to) views by left (λ j u away e n is. let t = all j u e n is in (t.0, moved_else seat by to n (λ q. away (sym t.1 ∙ q)) ∙ t.1)) (without m (moved seat by to) by left none')
+
+  -- the seat has the number that nobody had
+  numbers_next : (m m' by : ℕ) (views : List (Sight S)) (w : Sight S) → w.member ≡ Some m → m < m' → AreNumbered m views → AreNumbered m' (set views by w)
+  numbers_next m m' by views w named less (seat, all) = (
+    more seat m by,
+    seats_set m' (more seat m by) views by w
+        (λ j u away e n is. let t = all j u e n is in (grown n t.0, more_else seat m by n t.0 ∙ t.1))
+        (λ n is. let same = number_is m n (sym named ∙ is) in (subst (λ x. x < m') same less, more_here seat m by n same)),
+  )
+    where
+      grown : (n : ℕ) → n < m → n < m'
+      grown n below = omega arith
+
+---- The steps
+
 module _ {S : Type 0} where
   nobody_fits : (a b c : ℕ) (now : Known S) (by : ℕ) → Fits a b c now by nobody
   nobody_fits a b c now by = ((λ k. absurd (off k)), (λ p. absurd (off p)), (λ g. absurd (off g)), before_all now)
@@ -40,25 +145,34 @@ module _ {S : Type 0} where
       (at_set views by j w u e)
 
   pub begins : Kept {S = S} (opening (0 ∷ []) [] opener)
-  begins = (0, 0, 0, nothing, refl, one)
+  begins = (0, 0, 0, nothing, refl, one, (λ n. 0), unnamed)
     where
+      unnamed : (by : ℕ) (v : Sight S) → get_elem? (opener ∷ []) by ≡ some v → IsSeat 0 (λ n. 0) by v
+      unnamed zero v e = subst (IsSeat {S = S} 0 (λ n. 0) 0) (some-injective _ _ e) (without {S = S} 0 (λ n. 0) 0 opener refl)
+      unnamed (suc by) v e = absurd (some-ne-none v (sym e))
+
       one : (by : ℕ) (v : Sight S) → get_elem? (opener ∷ []) by ≡ some v → Fits 0 0 0 nothing by v
       one zero v e = subst (Fits 0 0 0 nothing 0) (some-injective _ _ e) ((λ _. (refl, refl)), (λ _. (refl, same_part nothing)), (λ _. (refl, refl)), before_self nothing)
       one (suc by) v e = absurd (some-ne-none v (sym e))
 
+  -- what a store under the lock leaves in the seat, and what it tells
+  abbrev Leaves : Sight S → Option ℕ → Known S → ℕ → Me (Known S) (Sight S) → Type 0
+  Leaves v member k n w = (w ≡ (added v member k, [])) × Knows v
+
   -- where the seat keeps, and publishes unless the publisher's part stays, and gives out unless what is given out stays, all that is
-  -- known may grow
-  pub adds : (by old new : ℕ) (v : Sight S) (k : Known S) → v.keeps ≡ true → (v.pubs ≡ true) ⊎ IsSamePart k v.all → (v.gives ≡ true) ⊎ (k.given ≡ v.all.given)
+  -- known may grow, as far as the rule of the numbers holds
+  stores : (by old new : ℕ) (v : Sight S) (k : Known S) (member : Option ℕ) → v.keeps ≡ true → (v.pubs ≡ true) ⊎ IsSamePart k v.all → (v.gives ≡ true) ⊎ (k.given ≡ v.all.given)
       → IsBefore v.all k → length v.all.history ≡ old → length k.history ≡ new
-      → Allows Kept 0 by (v, []) 0 (λ n. either (n == old) new n) (Adds (step 0 0 old new (some k)) (v, []))
-  adds by old new v k keeping may may_give grows was is s h homes at small =
+      → ((views : List (Sight S)) → get_elem? views by ≡ some v → AreNumbered v.all.members views → AreNumbered k.members (set views by (added v member k)))
+      → Allows Kept 0 by (v, []) 0 (λ n. either (n == old) new n) (Leaves v member k)
+  stores by old new v k member keeping may may_give grows was is numbered s h homes at small =
       let a = h.0 in
       let b = h.1 in
       let c = h.2 in
       let now = h.3 in
       let mine = h.5 by v at in
       let same : v.all ≡ now = (mine.0 keeping).1 in
-      let w = adding v k in
+      let w = added v member k in
       let n = slice_index s.words 0 in
       let found : n ≡ old = ap (λ ws. slice_index ws 0) h.4 ∙ (ap (λ m. length m.history) (sym same) ∙ was) in
       let stored : either (n == old) new n ≡ new = either_same n old new found in
@@ -78,7 +192,15 @@ module _ {S : Type 0} where
         w,
         keeps,
         tt,
-        (a, b, c, k, words, fits_set a b c k s.views by w others ((λ kept. ((mine.0 kept).0, refl)), (λ pub'. ((mine.1 pub').0, same_part k)), (λ gives. ((mine.2 gives).0, refl)), before_self k)),
+        (
+          a,
+          b,
+          c,
+          k,
+          words,
+          fits_set a b c k s.views by w others ((λ kept. ((mine.0 kept).0, refl)), (λ pub'. ((mine.1 pub').0, same_part k)), (λ gives. ((mine.2 gives).0, refl)), before_self k),
+          numbered s.views at (subst (λ (m : Known S). AreNumbered m.members s.views) (sym same) h.6),
+        ),
         (
           refl,
           (
@@ -95,6 +217,26 @@ module _ {S : Type 0} where
           here : (n new : ℕ) → either (n == n) new n ≡ new
           here n new = let t : (n == n) ≡ true = grind (arith, nat_tests) in ap (λ t'. either t' new n) t
 
+  -- the seat has the number that it had
+  pub adds : (by old new : ℕ) (v : Sight S) (k : Known S) → v.keeps ≡ true → (v.pubs ≡ true) ⊎ IsSamePart k v.all → (v.gives ≡ true) ⊎ (k.given ≡ v.all.given)
+      → IsBefore v.all k → length v.all.history ≡ old → length k.history ≡ new
+      → Allows Kept 0 by (v, []) 0 (λ n. either (n == old) new n) (Adds (step 0 0 old new (some k)) (v, []))
+  adds by old new v k keeping may may_give grows was is =
+      stores by old new v k v.member keeping may may_give grows was is (λ views at all. numbers_stay v.all.members k.members by views v (adding v k) at refl grows.members all)
+
+  -- the seat has the number of one submitter more
+  pub admits : (by places : ℕ) (v : Sight S) (k : Known S) → v.keeps ≡ true → k ≡ with_member v.all → length k.history ≡ places
+      → Allows Kept 0 by (v, []) 0 (λ n. either (n == places) places n) (Admits (step 0 0 places places (some k)) (v, []))
+  admits by places v k keeping next is =
+      let more' : k.members ≡ v.all.members + 1 = ap (λ (l : Known S). l.members) next in
+      stores by places places v k (Some v.all.members) keeping
+      (inr (part_by v.all v.all (with_member v.all) k refl next (enrolls_part v.all)))
+      (inr (ap (λ (l : Known S). l.given) next))
+      (grows_by v.all v.all (with_member v.all) k refl next (enrolls_on v.all))
+      (ap (λ (l : Known S). length l.history) (sym next) ∙ is)
+      is
+      (λ views at all. numbers_next v.all.members k.members by views (admitting v k) refl (omega (arith, more')) all)
+
   -- a load sees all
   pub looks : (by : ℕ) (v : Sight S) → Allows Kept 0 by (v, []) 0 (λ n. n) (Looks (step 0 0 0 0 none) (v, []))
   looks by v s h homes at small =
@@ -103,21 +245,29 @@ module _ {S : Type 0} where
       let c = h.2 in
       let now = h.3 in
       let mine = h.5 by v at in
-      let w : Sight S = record { keeps = v.keeps; pubs = v.pubs; gives = v.gives; all = v.all; was = now } in
+      let w : Sight S = record { keeps = v.keeps; pubs = v.pubs; gives = v.gives; member = v.member; all = v.all; was = now } in
       let n = slice_index s.words 0 in
       let found : n ≡ length now.history = ap (λ ws. slice_index ws 0) h.4 in
       let words : set s.words 0 n ≡ length now.history ∷ [] = ap (λ ws. set ws 0 n) h.4 ∙ ap (λ m. m ∷ []) found in (
         w,
         keeps,
         tt,
-        (a, b, c, now, words, fits_set a b c now s.views by w (λ j u apart e. h.5 j u e) (mine.0, (λ pub'. ((mine.1 pub').0, same_part now)), (λ gives. ((mine.2 gives).0, refl)), before_self now)),
+        (
+          a,
+          b,
+          c,
+          now,
+          words,
+          fits_set a b c now s.views by w (λ j u apart e. h.5 j u e) (mine.0, (λ pub'. ((mine.1 pub').0, same_part now)), (λ gives. ((mine.2 gives).0, refl)), before_self now),
+          numbers_stay now.members now.members by s.views v w at refl (omega arith) h.6,
+        ),
         (refl, refl, refl, refl, mine.3, sym found),
       )
 
   -- a new seat knows nothing yet
-  pub enters : (then : ℕ → Sight S → Type 0) → ((n : ℕ) → then n nobody) → Enters Kept 0 0 then
-  enters then told s h homes small =
-      (nobody, (h.0, h.1, h.2, h.3, h.4, λ j u e. ⊎_elim (h.5 j u) (λ (x : nobody ≡ u). subst (Fits h.0 h.1 h.2 h.3 j) x (nobody_fits h.0 h.1 h.2 h.3 j)) (at_snoc s.views nobody u j e)), told (slice_index s.words 0))
+  pub enters : (after : ℕ → Sight S → Type 0) → ((n : ℕ) → after n nobody) → Enters Kept 0 0 after
+  enters after told s h homes small =
+      (nobody, (h.0, h.1, h.2, h.3, h.4, (λ j u e. ⊎_elim (h.5 j u) (λ (x : nobody ≡ u). subst (Fits h.0 h.1 h.2 h.3 j) x (nobody_fits h.0 h.1 h.2 h.3 j)) (at_snoc s.views nobody u j e)), numbers_more h.3.members s.views nobody refl h.6), told (slice_index s.words 0))
 
   -- the keeper takes in what another saw, and whether it publishes and gives out
   pub lends : (by : ℕ) (v : Sight S) (other : ℕ) (u : Sight S) → Joins Kept by v other u (lent v u) nobody
@@ -139,8 +289,15 @@ module _ {S : Type 0} where
         (λ g. (pick_else u.gives by c i (f.2 g).0 (λ q. away' ((f.2 g).0 ∙ sym (theirs.2 q).0)), (f.2 g).1)),
         f.3,
       ))
-      (mine.0, (λ p. (pick_then u.pubs by b p, (theirs.1 p).1)), (λ g. (pick_then u.gives by c g, (theirs.2 g).1)), theirs.3) e in
-      (a, d, e', now, h.4, fits_set a d e' now (set s.views by w) other nobody first (nobody_fits a d e' now other))
+      (mine.0, (λ p. (pick_then u.pubs by b p, (theirs.1 p).1)), (λ g. (pick_then u.gives by c g, (theirs.2 g).1)), theirs.3) e in (
+        a,
+        d,
+        e',
+        now,
+        h.4,
+        fits_set a d e' now (set s.views by w) other nobody first (nobody_fits a d e' now other),
+        numbers_drop now.members other (set s.views by w) nobody refl (numbers_stay now.members now.members by s.views v w at refl (omega arith) h.6),
+      )
     where
       fits_set' : (a b c : ℕ) (now : Known S) (views : List (Sight S)) (by : ℕ) (w : Sight S) (other j : ℕ) (x : Sight S) → j ≢ other
           → ((i : ℕ) (y : Sight S) → i ≢ other → get_elem? views i ≡ some y → Fits a b c now i y) → Fits a b c now by w → get_elem? (set views by w) j ≡ some x → Fits a b c now j x
@@ -149,16 +306,6 @@ module _ {S : Type 0} where
           (λ (t : (j ≡ by) × (w ≡ x)). subst (λ (y : ℕ × Sight S). Fits a b c now y.0 y.1) (λ i. (sym t.0 i, t.1 i)) mine)
           (λ (t : (j ≢ by) × (get_elem? views j ≡ some x)). rest j x away t.1)
           (at_set views by j w x e)
-
-  abbrev plus_one : List (Sight S) → Sight S → List (Sight S)
-  plus_one views w = views ++ w ∷ []
-
-  -- at the end of a longer list stands what was added, and its number is the old length
-  at_end : (views : List (Sight S)) (w u : Sight S) (j : ℕ) → get_elem? (views ++ w ∷ []) j ≡ some u → (get_elem? views j ≡ some u) ⊎ ((j ≡ length views) × (w ≡ u))
-  at_end [] w u zero e = inr (refl, some-injective _ _ e)
-  at_end [] w u (suc j) e = absurd (some-ne-none u (sym e))
-  at_end (v ∷ views) w u zero e = inl e
-  at_end (v ∷ views) w u (suc j) e = ⊎_elim (λ t. inl t) (λ (t : (j ≡ length views) × (w ≡ u)). inr (ap suc t.0, t.1)) (at_end views w u j e)
 
   -- what the keeper was lent goes back, with what is known now
   pub backs : (by : ℕ) (v : Sight S) → Splits Kept by v (keeps_left v) (handed_back v)
@@ -196,6 +343,7 @@ module _ {S : Type 0} where
               mine.3,
             ))
             (at_end views' (handed_back v) u j e)),
+        numbers_more now.members views' (handed_back v) refl (numbers_drop now.members by s.views w refl h.6),
       )
 
   -- giving out goes to a seat of its own
@@ -233,6 +381,35 @@ module _ {S : Type 0} where
               mine.3,
             ))
             (at_end views' (gives_alone v) u j e)),
+        numbers_more now.members views' (gives_alone v) refl (numbers_stay now.members now.members by s.views v w at refl (omega arith) h.6),
+      )
+
+  -- the number goes to a seat of its own
+  pub names : (by : ℕ) (v : Sight S) → Splits Kept by v (member_none v) (member_alone v)
+  names by v s h at =
+      let a = h.0 in
+      let b = h.1 in
+      let c = h.2 in
+      let now = h.3 in
+      let w = member_none v in
+      let views' = set s.views by w in
+      let mine = h.5 by v at in
+      let others : (j : ℕ) (u : Sight S) → get_elem? views' j ≡ some u → Fits a b c now j u = fits_set a b c now s.views by w (λ j u apart e. h.5 j u e) mine in (
+        a,
+        b,
+        c,
+        now,
+        h.4,
+        (λ j u e.
+            ⊎_elim (others j u)
+            (λ (t : (j ≡ length views') × (member_alone v ≡ u)). subst (λ (y : ℕ × Sight S). Fits a b c now y.0 y.1) (λ i. (sym t.0 i, t.1 i)) (
+              (λ k. absurd (off k)),
+              (λ p. absurd (off p)),
+              (λ g. absurd (off g)),
+              before_all now,
+            ))
+            (at_end views' (member_alone v) u j e)),
+        numbers_move now.members by s.views v w (member_alone v) at refl refl h.6,
       )
 
   -- what a seat that was told has seen

@@ -80,7 +80,7 @@ impl<S: Alter, B: Room> Hub<S, B> {
         Ok((publisher, Hub { shared }))
     }
 
-    /// One more submitter. Its number is given under the lock, so that no other submitter of the hub has it.
+    /// One more submitter. Its number is given under the lock, with a seat that has it, so that no other submitter of the hub does.
     ///
     /// # Failure
     /// E01; E90 where 2^62 submitters were given.
@@ -93,10 +93,10 @@ impl<S: Alter, B: Room> Hub<S, B> {
             Err(refused) => return Err(Unseated::NoMemory(NoMemory::from(refused))),
         };
         let all = shared_in(&self.shared);
-        let Some((id, seat, share)) = all.lock(rt).enroll(&all.seats) else {
+        let Some((id, badge, seat, share)) = all.lock(rt).enroll(&all.seats) else {
             return Err(Unseated::InboxFull);
         };
-        Ok(Submitter::over(shared, id, seat, share))
+        Ok(Submitter::over(shared, id, badge, seat, share))
     }
 
     /// Who gives the tasks out that are posted. None where it was asked for before, or there is no memory.

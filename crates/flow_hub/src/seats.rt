@@ -1,7 +1,7 @@
 //! The table of the published word, and its seats.
 ghost use Rattle.std.specs.Prelude.{◌≡◌, ◌^◌, ◌⊎◌, true, false, length, IfOk};
-ghost use Rattle.flow_hub.specs.Knowing.{IsBefore, IsSamePart};
-ghost use Rattle.flow_hub.specs.Seating.{IsRoomOf, opener, nobody, lent, adding, keeps_left, handed_back, gives_none, gives_alone, keeping, seeing, Knows};
+ghost use Rattle.flow_hub.specs.Knowing.{IsBefore, IsSamePart, with_member};
+ghost use Rattle.flow_hub.specs.Seating.{IsRoomOf, opener, nobody, lent, adding, admitting, keeps_left, handed_back, gives_none, gives_alone, member_none, member_alone, badge_of, keeping, seeing, Knows};
 
 use crate::known::Known;
 use atomic_table::{Join, Play, Seat, Split, Table, TableRule};
@@ -22,6 +22,8 @@ pub struct Sight<S: Alter> {
     pub pubs: bool,
     /// With the one under the lock, it may give tasks out.
     pub gives: bool,
+    /// The submitter's number that it has, and no other seat.
+    pub member: Option<u64>,
     pub all: Known<S>,
     /// What was seen last.
     pub was: Known<S>,
@@ -57,6 +59,14 @@ impl<S: Alter> Play<Known<S>, Sight<S>> for Store {
     ghost use Rattle.flow_hub.specs.Seating.{Adds};
 
     ghost then = { Adds };
+}
+
+struct Admit;
+
+impl<S: Alter> Play<Known<S>, Sight<S>> for Admit {
+    ghost use Rattle.flow_hub.specs.Seating.{Admits};
+
+    ghost then = { Admits };
 }
 
 struct Look;
@@ -104,6 +114,16 @@ impl<S: Alter> Split<Sight<S>> for Hands {
     ghost left = { gives_none };
 
     ghost right = { gives_alone };
+}
+
+struct Names;
+
+impl<S: Alter> Split<Sight<S>> for Names {
+    ghost use Rattle.flow_hub.specs.Seating.{member_none, member_alone};
+
+    ghost left = { member_none };
+
+    ghost right = { member_alone };
 }
 
 /// What a hub is made of before it has a name. `Hub::new` takes it under the one that its caller has picked.
@@ -272,6 +292,41 @@ impl<S: Alter, B: Room> Seats<S, B> {
         self.table
             .shared
             .compare_exchange_with::<Store>(&mut keeper.seat, 0, old, new, all);
+    }
+
+    /// The seat under the lock adds one submitter more, and has its number.
+    fn number(&self, keeper: &mut Pass<S, B>, places: u64, all: &Known<S>)
+        requires keeps { keeper.old.keeps ≡ true }
+        requires one_more { all.now ≡ with_member keeper.old.all }
+        requires length { length all.now.history ≡ places }
+        ensures { keeper.new ≡ admitting keeper.old all.now }
+    {
+        self.table
+            .shared
+            .compare_exchange_with::<Admit>(&mut keeper.seat, 0, places, places, all);
+    }
+
+    /// The number goes to a seat of its own.
+    fn names(&self, keeper: &mut Pass<S, B>) -> Pass<S, B>
+        ensures { (keeper.new ≡ member_none keeper.old) × (result ≡ member_alone keeper.old) }
+    {
+        let seat = self.table.shared.split_seat::<Names>(&mut keeper.seat);
+        Pass {
+            seat,
+            of: PhantomData,
+        }
+    }
+
+    /// Under the lock: one submitter more is known of, and a seat has its number, which no other has or had.
+    pub(crate) fn admit(&self, keeper: &mut Pass<S, B>, places: u64, all: &Known<S>) -> Pass<S, B>
+        requires keeps { keeper.old.keeps ≡ true }
+        requires one_more { all.now ≡ with_member keeper.old.all }
+        requires length { length all.now.history ≡ places }
+        ensures keeper { (keeper.new.keeps ≡ true) × (keeper.new.all ≡ all.now) }
+        ensures badge { result ≡ badge_of keeper.old.all.members }
+    {
+        self.number(keeper, places, all);
+        self.names(keeper)
     }
 
     /// Under the lock: what is known becomes `all`, the word the length of its history, and the seat that asks is told of it.

@@ -3,7 +3,7 @@ ghost use Rattle.std.specs.Prelude.{◌≡◌, ◌≢◌, ◌+◌, ◌<◌, ◌�
 ghost use Rattle.std.specs.Vec.{vec_capacity};
 ghost use Rattle.flow_hub.specs.Asks.{Stands, IsOwn, IsGone, IsTold};
 ghost use Rattle.flow_hub.specs.Knowing.{IsBefore, IsHistory, IsSamePart, answered_in, nothing};
-ghost use Rattle.flow_hub.specs.Seating.{opener, seeing, IsSubmitters, IsPublishers};
+ghost use Rattle.flow_hub.specs.Seating.{opener, seeing, badge_of, IsSubmitters, IsPublishers};
 ghost use Rattle.flow_hub.specs.Halls.{submitted, took, published, refused_all, fetched_receipt, fetched_refusal, enrolled, closed, new_ask, unfetched};
 ghost use Rattle.flow_hub.specs.Publishing.{Answers, HasTaken, HasPublished, HasRefused, IsDone};
 ghost use Rattle.flow_hub.specs.Submitting.{HasTakenIn, IsOpen, IsDenied, IsSettled};
@@ -139,11 +139,16 @@ impl<S: Alter, B: Room> State<S, B> {
         seats.tell(&mut self.keeper, me, self.places, self.places, &self.known)
     }
 
-    /// One more submitter: its number, its seat and its part of the ledger. None where as many were given as there are parts.
-    pub(crate) fn enroll(&mut self, seats: &Seats<S, B>) -> Option<(u64, Pass<S, B>, Share<B>)>
+    /// One more submitter: its number, the seat that has this number, the seat that sees, and its part of the ledger. None where as
+    /// many were given as there are parts.
+    pub(crate) fn enroll(
+        &mut self,
+        seats: &Seats<S, B>,
+    ) -> Option<(u64, Pass<S, B>, Pass<S, B>, Share<B>)>
         ensures enrolled { IfSome result (λ m. (m.0 ≡ self.old.known.members) × (self.new ≡ enrolled self.old)) }
-        ensures seat { IfSome result (λ m. m.1 ≡ seeing false false self.new.known) }
-        ensures share { IfSome result (λ m. (m.2.parts ≡ 1) × (m.2.amount ≡ 0)) }
+        ensures badge { IfSome result (λ m. m.1 ≡ badge_of m.0) }
+        ensures seat { IfSome result (λ m. m.2 ≡ seeing false false self.new.known) }
+        ensures share { IfSome result (λ m. (m.3.parts ≡ 1) × (m.3.amount ≡ 0)) }
         ensures parts { B.parts ≡ 2 ^ 62 }
         ensures none { IfNone result ((self.new ≡ self.old) × (2 ^ 62 ≤ self.old.known.members)) }
     {
@@ -153,6 +158,7 @@ impl<S: Alter, B: Room> State<S, B> {
         }
         self.known.members += 1;
         let share = self.spare.split_off(1, 0);
+        let badge = seats.admit(&mut self.keeper, self.places, &self.known);
         let seat = seats.tell(
             &mut self.keeper,
             seats.enter(),
@@ -160,7 +166,7 @@ impl<S: Alter, B: Room> State<S, B> {
             self.places,
             &self.known,
         );
-        Some((id, seat, share))
+        Some((id, badge, seat, share))
     }
 
     /// Why no command is taken in.

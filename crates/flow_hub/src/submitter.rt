@@ -1,5 +1,5 @@
 //! The calls of a thread that submits.
-ghost use Rattle.std.specs.Prelude.{◌≡◌, ◌≢◌, ◌+◌, ◌^◌, ◌≤◌, true, false, length, IfOk, IfErr, IfSome, IfNone, OnOk};
+ghost use Rattle.std.specs.Prelude.{◌≡◌, ◌≢◌, ◌+◌, ◌^◌, ◌≤◌, true, false, length, Some, IfOk, IfErr, IfSome, IfNone, OnOk};
 ghost use Rattle.flow_hub.specs.Asks.{IsOwn, IsGone, IsTold, Stands};
 ghost use Rattle.flow_hub.specs.Feeding.{IsDueBy, IsIdle, IsRested, IsTickOf};
 ghost use Rattle.flow_hub.specs.Knowing.{IsBefore, IsHistory};
@@ -29,6 +29,8 @@ use std::time::{Clock as Timing, Duration};
 pub struct Submitter<S: Alter, B: Room> {
     shared: Arc<Shared<S, B>>,
     id: u64,
+    /// The seat that has its number. No other seat of the hub does.
+    badge: Pass<S, B>,
     seat: Pass<S, B>,
     share: Share<B>,
     /// How many submitters' parts of the ledger its share has.
@@ -36,7 +38,7 @@ pub struct Submitter<S: Alter, B: Room> {
 }
 
 impl<S: Alter, B: Room> Model for Submitter<S, B> {
-    ghost use Rattle.std.specs.Prelude.{◌≡◌, ◌<◌, ◌≤◌, ◌^◌};
+    ghost use Rattle.std.specs.Prelude.{◌≡◌, ◌<◌, ◌≤◌, ◌^◌, Some};
     ghost use Rattle.flow_hub.specs.Seating.{IsSubmitters};
     ghost use Rattle.flow_hub.specs.Submitting.{Member, member_code};
 
@@ -46,7 +48,7 @@ impl<S: Alter, B: Room> Model for Submitter<S, B> {
 
     ghost view = { λ m. record { id = m.id; was = m.seat.was; parts = m.parts; amount = m.share.amount } };
 
-    ghost invariant = { λ m. IsSubmitters m.seat × (m.share.parts ≡ m.parts) × (0 < m.parts) × (B.parts ≡ 2 ^ 62) };
+    ghost invariant = { λ m. IsSubmitters m.seat × (m.share.parts ≡ m.parts) × (0 < m.parts) × (B.parts ≡ 2 ^ 62) × (m.badge.member ≡ Some m.id) };
 }
 
 /// Waits until a ticket has its answer.
@@ -188,9 +190,11 @@ impl<S: Alter, B: Room> Submitter<S, B> {
     pub(crate) fn over(
         shared: Arc<Shared<S, B>>,
         id: u64,
+        badge: Pass<S, B>,
         seat: Pass<S, B>,
         share: Share<B>,
     ) -> Submitter<S, B>
+        requires badge { badge.member ≡ Some id }
         requires seat { IsSubmitters seat }
         requires share { share.parts ≡ 1 }
         requires parts { B.parts ≡ 2 ^ 62 }
@@ -199,6 +203,7 @@ impl<S: Alter, B: Room> Submitter<S, B> {
         Submitter {
             shared,
             id,
+            badge,
             seat,
             share,
             parts: 1,
@@ -334,6 +339,7 @@ impl<S: Alter, B: Room> Submitter<S, B> {
         let Submitter {
             shared: _,
             id: _,
+            badge: _,
             seat: _,
             share,
             parts,
