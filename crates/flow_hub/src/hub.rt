@@ -50,10 +50,18 @@ impl<S: Alter, B: Room> Shared<S, B> {
     }
 }
 
+/// The right to close a hub. Its field is this module's, and `Hub::new` makes two: the hub has one, and its publisher. Submitters and
+/// whoever gives tasks out have none, so no call of theirs can close the hub that it then finds closed.
+#[derive(Drop)]
+pub(crate) struct Closer {
+    made: (),
+}
+
 /// Takes commands from submitters on many threads, for one publisher, who answers them.
 #[derive(Drop)]
 pub struct Hub<S: Alter, B: Room> {
     shared: Arc<Shared<S, B>>,
+    closer: Closer,
 }
 
 impl<S: Alter, B: Room> Hub<S, B> {
@@ -76,8 +84,10 @@ impl<S: Alter, B: Room> Hub<S, B> {
             turned: Condvar::new(),
         };
         let shared = Arc::new(alloc, shared)?;
-        let publisher = Publisher::over(alloc, Arc::try_clone(&shared)?, seat);
-        Ok((publisher, Hub { shared }))
+        let closer = Closer { made: () };
+        let publisher = Publisher::over(alloc, Arc::try_clone(&shared)?, seat, closer);
+        let closer = Closer { made: () };
+        Ok((publisher, Hub { shared, closer }))
     }
 
     /// One more submitter. Its number is given under the lock, with a seat that has it, so that no other submitter of the hub does.
@@ -114,7 +124,7 @@ impl<S: Alter, B: Room> Hub<S, B> {
     pub fn close<R: Wait>(&self, rt: &R) {
         let shared = shared_in(&self.shared);
         let me = shared.seats.enter();
-        shared.lock(rt).close(&shared.seats, me);
+        shared.lock(rt).close(&shared.seats, me, &self.closer);
         shared.wake();
     }
 

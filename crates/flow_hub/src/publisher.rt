@@ -6,7 +6,7 @@ ghost use Rattle.flow_queues.specs.Posting.{HasKeys, IsOnce};
 ghost use Rattle.flow_hub.specs.Publishing.{Answers, HasTaken, HasPublished, HasRefused, HasPosted, HasSkipped, IsFresh, IsDone};
 ghost use Rattle.flow_hub.specs.Seating.{IsPublishers};
 
-use crate::hub::{Shared, shared_in};
+use crate::hub::{Closer, Shared, shared_in};
 use crate::seats::{Pass, Room};
 use crate::waits::{told_by, told_of};
 use flow_base::code::Code;
@@ -30,6 +30,7 @@ pub struct Publisher<S: Alter, B: Room> {
     seat: Pass<S, B>,
     /// The keys of all that it has posted.
     keys: Keys,
+    closer: Closer,
 }
 
 impl<S: Alter, B: Room> Model for Publisher<S, B> {
@@ -85,6 +86,7 @@ impl<S: Alter, B: Room> Publisher<S, B> {
         alloc: Global,
         shared: Arc<Shared<S, B>>,
         seat: Pass<S, B>,
+        closer: Closer,
     ) -> Publisher<S, B>
         requires seat { IsPublishers seat }
         requires none { seat.was.posted ≡ [] }
@@ -95,6 +97,7 @@ impl<S: Alter, B: Room> Publisher<S, B> {
             shared,
             seat,
             keys: BTreeSet::new(alloc),
+            closer,
         }
     }
 
@@ -197,7 +200,7 @@ impl<S: Alter, B: Room> Publisher<S, B> {
     {
         let shared = shared_in(&self.shared);
         let me = shared.seats.leave(&mut self.seat);
-        self.seat = shared.lock(rt).close(&shared.seats, me);
+        self.seat = shared.lock(rt).close(&shared.seats, me, &self.closer);
         shared.wake();
     }
 

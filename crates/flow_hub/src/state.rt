@@ -11,6 +11,7 @@ ghost use Rattle.flow_hub.specs.Submitting.{HasTakenIn, IsOpen, IsDenied, IsSett
 mod boards;
 
 use crate::denied::Denied;
+use crate::hub::Closer;
 use crate::known::Known;
 use crate::seats::{Named, PARTS, Pass, Room, Seats};
 use crate::settled::Settled;
@@ -399,8 +400,14 @@ impl<S: Alter, B: Room> State<S, B> {
         (me, Some(settled))
     }
 
-    /// What waits is still taken, and nothing more is taken in.
-    pub(crate) fn close(&mut self, seats: &Seats<S, B>, me: Pass<S, B>) -> Pass<S, B>
+    /// What waits is still taken, and nothing more is taken in. Whoever closes must have the right to: else each call that may answer
+    /// that the hub is closed could close it first.
+    pub(crate) fn close(
+        &mut self,
+        seats: &Seats<S, B>,
+        me: Pass<S, B>,
+        _closer: &Closer,
+    ) -> Pass<S, B>
         ensures closed { self.new ≡ closed self.old }
         ensures seat { result ≡ seeing me.pubs me.gives self.new.known }
         ensures grows { IsBefore me.was result.was }
