@@ -1,5 +1,5 @@
 -- What is known only grows.
-use Rattle.std.proofs.Common.{◌≡◌, ◌≤◌, List, [], ◌∷◌, ◌++◌, length, map, refl, sym, ap, ◌∙◌, subst, arith, le_trans, append_assoc, length-append}
+use Rattle.std.proofs.Common.{◌≡◌, ◌≤◌, ◌<◌, List, [], ◌∷◌, ◌++◌, length, map, refl, sym, ap, ◌∙◌, subst, arith, le_trans, append_assoc, length-append}
 use Rattle.std.proofs.lemmas.List.{append-nil}
 use mathlib.Core.List.{IsPrefix}
 use Rattle.flow_base.specs.declared.code.Code.{Code}
@@ -152,6 +152,18 @@ module _ {S : Type 0} where
     posted = prefix_self k.posted;
     given = prefix_self k.given;
   }
+
+  -- where one answer more was fetched than what a seat saw a beginning of
+  pub fetches_more : (k all l m : Known S) → IsBefore k all → all ≡ l → m ≡ with_fetched l → k.fetched < m.fetched
+  fetches_more k all l m before same next =
+      let upto = before.fetched in
+      let here = ap (λ (x : Known S). x.fetched) same in
+      let more = ap (λ (x : Known S). x.fetched) next in
+      omega (arith, upto, here, more)
+
+  -- and where a seat had seen a beginning of what another one saw
+  pub fetches_later : (j k l : Known S) → IsBefore j k → k.fetched < l.fetched → j.fetched < l.fetched
+  fetches_later j k l before less = let upto = before.fetched in omega (arith, upto, less)
 
   pub enrolls_on : (k : Known S) → IsBefore k (with_member k)
   enrolls_on k = record {

@@ -304,6 +304,7 @@ impl<S: Alter, B: Room> State<S, B> {
         ensures own { IfSome result.1 (λ r. (r.ticket ≡ ticket) × IsOwn result.0.was.asked r × Stands result.0.was.history r) }
         ensures legal { IfSome result.1 (λ r. IsHistory S.Store result.0.was) }
         ensures fetched { MatchOption result.1 (self.new ≡ self.old) (λ r. (k : ℕ) × (slice_get self.old.answered k ≡ Some r) × (self.new ≡ fetched_receipt self.old (remove self.old.answered k))) }
+        ensures one_more { IfSome result.1 (λ r. me.was.fetched < result.0.was.fetched) }
         ensures seat { IsSubmitters result.0 }
         ensures grows { IsBefore me.was result.0.was }
     {
@@ -326,6 +327,7 @@ impl<S: Alter, B: Room> State<S, B> {
         requires seat { IsSubmitters me }
         ensures own { IfSome result.1 (λ r. (r.asked.ticket ≡ ticket) × IsGone result.0.was.asked r × IsTold result.0.was.refused r) }
         ensures fetched { MatchOption result.1 (self.new ≡ self.old) (λ r. (k : ℕ) × (slice_get self.old.refused k ≡ Some r) × (self.new ≡ fetched_refusal self.old (remove self.old.refused k))) }
+        ensures one_more { IfSome result.1 (λ r. me.was.fetched < result.0.was.fetched) }
         ensures seat { IsSubmitters result.0 }
         ensures grows { IsBefore me.was result.0.was }
     {
@@ -350,6 +352,7 @@ impl<S: Alter, B: Room> State<S, B> {
         ensures receipt { IfSome result.1 (λ a. IfOk a (λ r. (r.ticket ≡ ticket) × IsOwn result.0.was.asked r × Stands result.0.was.history r)) }
         ensures legal { IfSome result.1 (λ a. IfOk a (λ r. IsHistory S.Store result.0.was)) }
         ensures refused { IfSome result.1 (λ a. IfErr a (λ r. (r.asked.ticket ≡ ticket) × IsGone result.0.was.asked r × IsTold result.0.was.refused r)) }
+        ensures one_more { IfSome result.1 (λ a. me.was.fetched < result.0.was.fetched) }
         ensures seat { IsSubmitters result.0 }
         ensures grows { IsBefore me.was result.0.was }
     {

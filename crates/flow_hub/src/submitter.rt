@@ -1,5 +1,5 @@
 //! The calls of a thread that submits.
-ghost use Rattle.std.specs.Prelude.{◌≡◌, ◌≢◌, ◌+◌, ◌^◌, ◌≤◌, true, false, length, Some, IfOk, IfErr, IfSome, IfNone, OnOk};
+ghost use Rattle.std.specs.Prelude.{◌≡◌, ◌≢◌, ◌+◌, ◌^◌, ◌<◌, ◌≤◌, true, false, length, Some, IfOk, IfErr, IfSome, IfNone, OnOk};
 ghost use Rattle.flow_hub.specs.Asks.{IsOwn, IsGone, IsTold, Stands};
 ghost use Rattle.flow_hub.specs.Feeding.{IsDueBy, IsIdle, IsRested, IsTickOf};
 ghost use Rattle.flow_hub.specs.Knowing.{IsBefore, IsHistory};
@@ -62,6 +62,7 @@ fn awaited<S: Alter, B: Room, R: Wait>(
     ensures receipt { IfOk result.1 (λ r. (r.ticket ≡ ticket) × IsOwn result.0.was.asked r × Stands result.0.was.history r) }
     ensures legal { IfOk result.1 (λ r. IsHistory S.Store result.0.was) }
     ensures refused { IfErr result.1 (λ r. (r.asked.ticket ≡ ticket) × IsGone result.0.was.asked r × IsTold result.0.was.refused r) }
+    ensures one_more { seat.was.fetched < result.0.was.fetched }
     ensures seat { IsSubmitters result.0 }
     ensures grows { IsBefore seat.was result.0.was }
 {
@@ -255,6 +256,7 @@ impl<S: Alter, B: Room> Submitter<S, B> {
     pub fn wait<R: Wait>(&mut self, rt: &R, ticket: Ticket) -> Result<Receipt, NotDone>
         ensures receipt { IfOk result (λ r. IsReceipt S.Store self.new ticket r) }
         ensures not_done { IfErr result (λ n. IsNotDone self.new ticket n) }
+        ensures fetched { ticket.owner ≡ self.old.id → self.old.was.fetched < self.new.was.fetched }
         ensures grows { IsBefore self.old.was self.new.was }
         ensures same { (self.new.id ≡ self.old.id) × (self.new.parts ≡ self.old.parts) × (self.new.amount ≡ self.old.amount) }
     {

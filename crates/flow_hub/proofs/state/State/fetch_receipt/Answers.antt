@@ -1,5 +1,6 @@
 use Rattle.std.proofs.Common.{rules, inr, refl, arith}
-use Rattle.flow_hub.proofs.Growing.{fetches_on, fetches_part, grows_by, part_by}
+use Rattle.flow_hub.proofs.Growing.{fetches_on, fetches_more, fetches_part, grows_by, part_by}
+use Rattle.flow_hub.proofs.Moves.{was_of}
 use Rattle.flow_hub.proofs.Sound.{fetches}
 use Rattle.flow_hub.proofs.state.State.fetch_receipt.Goals as goal
 
@@ -28,3 +29,6 @@ tell-me-requires-clause-may g c = inr (part_by c.self.inside.keeper.all c.self.i
 
 pub tell-me-requires-clause-grows : goal.tell-me-requires-clause-grows
 tell-me-requires-clause-grows g c = grows_by c.self.inside.keeper.all c.self.inside.known _ _ c.self.invariant.13 refl (fetches_on c.self.inside.known)
+
+pub returns-clause-one_more : goal.returns-clause-one_more
+returns-clause-one_more g c = fetches_more c.args.me.was c.self.inside.keeper.all c.self.inside.known c.tell-me.result.was c.tell-me.ensures.before c.self.invariant.13 (was_of c.tell-me.result _ _ _ c.tell-me.ensures.told)
