@@ -9,7 +9,7 @@ use Rattle.atomic_table.proofs.Lists.{at_set, at_snoc}
 use Rattle.flow_hub.specs.declared.known.Known.{Known}
 use Rattle.flow_hub.specs.declared.seats.Sight.{Sight}
 use Rattle.flow_hub.specs.Knowing.{nothing, IsBefore, IsSamePart, with_member}
-use Rattle.flow_hub.specs.Seating.{opener, nobody, Fits, AreNumbered, Kept, Knows, added, adding, admitting, Adds, Admits, Looks, lent, keeps_left, handed_back, gives_none, gives_alone, member_none, member_alone, keeping, seeing}
+use Rattle.flow_hub.specs.Seating.{opener, nobody, Fits, IsApart, AreNumbered, Kept, Knows, added, adding, admitting, Adds, Admits, Looks, lent, keeps_left, handed_back, gives_none, gives_alone, member_none, member_alone, meeting, keeping, seeing}
 use Rattle.flow_hub.proofs.Growing.{before_self, before_trans, before_all, same_part, part_of, enrolls_on, enrolls_part, grows_by, part_by}
 
 off : false ≡ true → ⊥
@@ -73,10 +73,13 @@ at_end (v ∷ xs) w u (suc j) e = ⊎_elim (λ t. inl t) (λ (t : (j ≡ length 
 module _ {S : Type 0} where
   -- what one seat must show of its number
   abbrev IsSeat : ℕ → (ℕ → ℕ) → ℕ → Sight S → Type 0
-  IsSeat members seat by v = (n : ℕ) → v.member ≡ Some n → (n < members) × (seat n ≡ by)
+  IsSeat members seat by v = ((n : ℕ) → v.member ≡ Some n → (n < members) × (seat n ≡ by)) × IsApart v
 
   without : (members : ℕ) (seat : ℕ → ℕ) (by : ℕ) (w : Sight S) → w.member ≡ None → IsSeat members seat by w
-  without members seat by w none' n is = absurd (no_number n (sym none' ∙ is))
+  without members seat by w none' = ((λ n is. absurd (no_number n (sym none' ∙ is))), (λ n m is. absurd (no_number n (sym none' ∙ is))))
+
+  met_none : (w : Sight S) → w.met ≡ None → IsApart w
+  met_none w none' n is = absurd (no_number n (sym none' ∙ is))
 
   seats_set : (members : ℕ) (seat : ℕ → ℕ) (views : List (Sight S)) (by : ℕ) (w : Sight S) → ((j : ℕ) (u : Sight S) → j ≢ by → get_elem? views j ≡ some u → IsSeat members seat j u) → IsSeat members seat by w
       → (j : ℕ) (u : Sight S) → get_elem? (set views by w) j ≡ some u → IsSeat members seat j u
@@ -87,10 +90,12 @@ module _ {S : Type 0} where
       (at_set views by j w u e)
 
   -- the seat has the number that it had, and more submitters may be known of
-  numbers_stay : (m m' by : ℕ) (views : List (Sight S)) (v w : Sight S) → get_elem? views by ≡ some v → w.member ≡ v.member → m ≤ m' → AreNumbered m views → AreNumbered m' (set views by w)
-  numbers_stay m m' by views v w at same le (seat, all) = (
+  numbers_stay : (m m' by : ℕ) (views : List (Sight S)) (v w : Sight S) → get_elem? views by ≡ some v → w.member ≡ v.member → (IsApart v → IsApart w) → m ≤ m' → AreNumbered m views → AreNumbered m' (set views by w)
+  numbers_stay m m' by views v w at same apart le (seat, all) = (
     seat,
-    seats_set m' seat views by w (λ j u away e n is. (grown n (all j u e n is).0, (all j u e n is).1)) (λ n is. let t = all by v at n (sym same ∙ is) in (grown n t.0, t.1)),
+    seats_set m' seat views by w
+        (λ j u away e. let f = all j u e in ((λ n is. let t = f.0 n is in (grown n t.0, t.1)), f.1))
+        (let f = all by v at in ((λ n is. let t = f.0 n (sym same ∙ is) in (grown n t.0, t.1)), apart f.1)),
   )
     where
       grown : (n : ℕ) → n < m → n < m'
@@ -105,30 +110,41 @@ module _ {S : Type 0} where
   numbers_more m views w none' (seat, all) = (seat, λ j u e. ⊎_elim (λ t. all j u t) (λ (t : (j ≡ length views) × (w ≡ u)). without m seat j u (ap (λ (x : Sight S). x.member) (sym t.1) ∙ none')) (at_end views w u j e))
 
   -- the number goes to a further seat
-  numbers_move : (m by : ℕ) (views : List (Sight S)) (v left right : Sight S) → get_elem? views by ≡ some v → left.member ≡ None → right.member ≡ v.member
+  numbers_move : (m by : ℕ) (views : List (Sight S)) (v left right : Sight S) → get_elem? views by ≡ some v → left.member ≡ None → right.member ≡ v.member → right.met ≡ None
       → AreNumbered m views → AreNumbered m (set views by left ++ right ∷ [])
-  numbers_move m by views v left right at none' same (seat, all) = (moved seat by to, λ j u e. ⊎_elim (λ t. others j u t) (λ (t : (j ≡ to) × (right ≡ u)). subst (λ (y : ℕ × Sight S). IsSeat m (moved seat by to) y.0 y.1) (λ i. (sym t.0 i, t.1 i)) mine) (at_end (set views by left) right u j e))
+  numbers_move m by views v left right at none' same unmet (seat, all) = (moved seat by to, λ j u e. ⊎_elim (λ t. others j u t) (λ (t : (j ≡ to) × (right ≡ u)). subst (λ (y : ℕ × Sight S). IsSeat m (moved seat by to) y.0 y.1) (λ i. (sym t.0 i, t.1 i)) mine) (at_end (set views by left) right u j e))
     where
       to : ℕ
       to = length (set views by left)
 
       mine : IsSeat m (moved seat by to) to right
-      mine n is = let t = all by v at n (sym same ∙ is) in (t.0, moved_here seat by to n t.1)
+      mine = ((λ n is. let t = (all by v at).0 n (sym same ∙ is) in (t.0, moved_here seat by to n t.1)), met_none right unmet)
 
       others : (j : ℕ) (u : Sight S) → get_elem? (set views by left) j ≡ some u → IsSeat m (moved seat by to) j u
-      others = seats_set m (moved seat by to) views by left (λ j u away e n is. let t = all j u e n is in (t.0, moved_else seat by to n (λ q. away (sym t.1 ∙ q)) ∙ t.1)) (without m (moved seat by to) by left none')
+      others = seats_set m (moved seat by to) views by left (λ j u away e. let f = all j u e in ((λ n is. let t = f.0 n is in (t.0, moved_else seat by to n (λ q. away (sym t.1 ∙ q)) ∙ t.1)), f.1)) (without m (moved seat by to) by left none')
 
   -- the seat has the number that nobody had
-  numbers_next : (m m' by : ℕ) (views : List (Sight S)) (w : Sight S) → w.member ≡ Some m → m < m' → AreNumbered m views → AreNumbered m' (set views by w)
-  numbers_next m m' by views w named less (seat, all) = (
+  numbers_next : (m m' by : ℕ) (views : List (Sight S)) (w : Sight S) → w.member ≡ Some m → w.met ≡ None → m < m' → AreNumbered m views → AreNumbered m' (set views by w)
+  numbers_next m m' by views w named unmet less (seat, all) = (
     more seat m by,
     seats_set m' (more seat m by) views by w
-    (λ j u away e n is. let t = all j u e n is in (grown n t.0, more_else seat m by n t.0 ∙ t.1))
-    (λ n is. let same = number_is m n (sym named ∙ is) in (subst (λ x. x < m') same less, more_here seat m by n same)),
+        (λ j u away e. let f = all j u e in ((λ n is. let t = f.0 n is in (grown n t.0, more_else seat m by n t.0 ∙ t.1)), f.1))
+        ((λ n is. let same = number_is m n (sym named ∙ is) in (subst (λ x. x < m') same less, more_here seat m by n same)), met_none w unmet),
   )
     where
       grown : (n : ℕ) → n < m → n < m'
       grown n below = omega arith
+
+  -- the seat has met another one, which is spent
+  numbers_meet : (m by other : ℕ) (views : List (Sight S)) (v u : Sight S) → get_elem? views by ≡ some v → other ≢ by → get_elem? (set views by (meeting v u)) other ≡ some u
+      → AreNumbered m views → AreNumbered m (set (set views by (meeting v u)) other nobody)
+  numbers_meet m by other views v u at away there (seat, all) = numbers_drop m other (set views by (meeting v u)) nobody refl (seat, seats_set m seat views by (meeting v u) (λ j x apart e. all j x e) ((all by v at).0, two))
+    where
+      theirs : IsSeat m seat other u
+      theirs = ⊎_elim (λ (t : (other ≡ by) × (meeting v u ≡ u)). absurd (away t.0)) (λ (t : (other ≢ by) × (get_elem? views other ≡ some u)). all other u t.1) (at_set views by other (meeting v u) u there)
+
+      two : IsApart (meeting v u)
+      two n is mine = away (sym (theirs.0 n is).1 ∙ ((all by v at).0 n mine).1)
 
 ---- The steps
 
@@ -148,7 +164,7 @@ module _ {S : Type 0} where
   begins = (0, 0, 0, nothing, refl, one, (λ n. 0), unnamed)
     where
       unnamed : (by : ℕ) (v : Sight S) → get_elem? (opener ∷ []) by ≡ some v → IsSeat 0 (λ n. 0) by v
-      unnamed zero v e = subst (IsSeat 0 (λ n. 0) 0) (some-injective _ _ e) (without 0 (λ n. 0) 0 opener refl)
+      unnamed zero v e = subst (IsSeat {S = S} 0 (λ n. 0) 0) (some-injective _ _ e) (without {S = S} 0 (λ n. 0) 0 opener refl)
       unnamed (suc by) v e = absurd (some-ne-none v (sym e))
 
       one : (by : ℕ) (v : Sight S) → get_elem? (opener ∷ []) by ≡ some v → Fits 0 0 0 nothing by v
@@ -192,8 +208,15 @@ module _ {S : Type 0} where
         w,
         keeps,
         tt,
-        (a, b, c, k, words, fits_set a b c k s.views by w others ((λ kept. ((mine.0 kept).0, refl)), (λ pub'. ((mine.1 pub').0, same_part k)), (λ gives. ((mine.2 gives).0, refl)), before_self k),
-          numbered s.views at (subst (λ (m : Known S). AreNumbered m.members s.views) (sym same) h.6)),
+        (
+          a,
+          b,
+          c,
+          k,
+          words,
+          fits_set a b c k s.views by w others ((λ kept. ((mine.0 kept).0, refl)), (λ pub'. ((mine.1 pub').0, same_part k)), (λ gives. ((mine.2 gives).0, refl)), before_self k),
+          numbered s.views at (subst (λ (m : Known S). AreNumbered m.members s.views) (sym same) h.6),
+        ),
         (
           refl,
           (
@@ -215,7 +238,7 @@ module _ {S : Type 0} where
       → IsBefore v.all k → length v.all.history ≡ old → length k.history ≡ new
       → Allows Kept 0 by (v, []) 0 (λ n. either (n == old) new n) (Adds (step 0 0 old new (some k)) (v, []))
   adds by old new v k keeping may may_give grows was is =
-      stores by old new v k v.member keeping may may_give grows was is (λ views at all. numbers_stay v.all.members k.members by views v (adding v k) at refl grows.members all)
+      stores by old new v k v.member keeping may may_give grows was is (λ views at all. numbers_stay v.all.members k.members by views v (adding v k) at refl (λ _. met_none (adding v k) refl) grows.members all)
 
   -- the seat has the number of one submitter more
   pub admits : (by places : ℕ) (v : Sight S) (k : Known S) → v.keeps ≡ true → k ≡ with_member v.all → length k.history ≡ places
@@ -228,7 +251,7 @@ module _ {S : Type 0} where
       (grows_by v.all v.all (with_member v.all) k refl next (enrolls_on v.all))
       (ap (λ (l : Known S). length l.history) (sym next) ∙ is)
       is
-      (λ views at all. numbers_next v.all.members k.members by views (admitting v k) refl (omega (arith, more')) all)
+      (λ views at all. numbers_next v.all.members k.members by views (admitting v k) refl refl (omega (arith, more')) all)
 
   -- a load sees all
   pub looks : (by : ℕ) (v : Sight S) → Allows Kept 0 by (v, []) 0 (λ n. n) (Looks (step 0 0 0 0 none) (v, []))
@@ -238,22 +261,29 @@ module _ {S : Type 0} where
       let c = h.2 in
       let now = h.3 in
       let mine = h.5 by v at in
-      let w : Sight S = record { keeps = v.keeps; pubs = v.pubs; gives = v.gives; member = v.member; all = v.all; was = now } in
+      let w : Sight S = record { keeps = v.keeps; pubs = v.pubs; gives = v.gives; member = v.member; met = v.met; all = v.all; was = now } in
       let n = slice_index s.words 0 in
       let found : n ≡ length now.history = ap (λ ws. slice_index ws 0) h.4 in
       let words : set s.words 0 n ≡ length now.history ∷ [] = ap (λ ws. set ws 0 n) h.4 ∙ ap (λ m. m ∷ []) found in (
         w,
         keeps,
         tt,
-        (a, b, c, now, words, fits_set a b c now s.views by w (λ j u apart e. h.5 j u e) (mine.0, (λ pub'. ((mine.1 pub').0, same_part now)), (λ gives. ((mine.2 gives).0, refl)), before_self now),
-          numbers_stay now.members now.members by s.views v w at refl (omega arith) h.6),
-        (refl, refl, refl, refl, mine.3, sym found),
+        (
+          a,
+          b,
+          c,
+          now,
+          words,
+          fits_set a b c now s.views by w (λ j u apart e. h.5 j u e) (mine.0, (λ pub'. ((mine.1 pub').0, same_part now)), (λ gives. ((mine.2 gives).0, refl)), before_self now),
+          numbers_stay now.members now.members by s.views v w at refl (λ f. f) (omega arith) h.6,
+        ),
+        (refl, refl, refl, refl, mine.3, sym found, refl, refl, (h.6.1 by v at).1),
       )
 
   -- a new seat knows nothing yet
-  pub enters : (then : ℕ → Sight S → Type 0) → ((n : ℕ) → then n nobody) → Enters Kept 0 0 then
-  enters then told s h homes small =
-      (nobody, (h.0, h.1, h.2, h.3, h.4, λ j u e. ⊎_elim (h.5 j u) (λ (x : nobody ≡ u). subst (Fits h.0 h.1 h.2 h.3 j) x (nobody_fits h.0 h.1 h.2 h.3 j)) (at_snoc s.views nobody u j e), numbers_more h.3.members s.views nobody refl h.6), told (slice_index s.words 0))
+  pub enters : (after : ℕ → Sight S → Type 0) → ((n : ℕ) → after n nobody) → Enters Kept 0 0 after
+  enters after told s h homes small =
+      (nobody, (h.0, h.1, h.2, h.3, h.4, (λ j u e. ⊎_elim (h.5 j u) (λ (x : nobody ≡ u). subst (Fits h.0 h.1 h.2 h.3 j) x (nobody_fits h.0 h.1 h.2 h.3 j)) (at_snoc s.views nobody u j e)), numbers_more h.3.members s.views nobody refl h.6), told (slice_index s.words 0))
 
   -- the keeper takes in what another saw, and whether it publishes and gives out
   pub lends : (by : ℕ) (v : Sight S) (other : ℕ) (u : Sight S) → Joins Kept by v other u (lent v u) nobody
@@ -275,9 +305,15 @@ module _ {S : Type 0} where
         (λ g. (pick_else u.gives by c i (f.2 g).0 (λ q. away' ((f.2 g).0 ∙ sym (theirs.2 q).0)), (f.2 g).1)),
         f.3,
       ))
-      (mine.0, (λ p. (pick_then u.pubs by b p, (theirs.1 p).1)), (λ g. (pick_then u.gives by c g, (theirs.2 g).1)), theirs.3) e in
-      (a, d, e', now, h.4, fits_set a d e' now (set s.views by w) other nobody first (nobody_fits a d e' now other),
-        numbers_drop now.members other (set s.views by w) nobody refl (numbers_stay now.members now.members by s.views v w at refl (omega arith) h.6))
+      (mine.0, (λ p. (pick_then u.pubs by b p, (theirs.1 p).1)), (λ g. (pick_then u.gives by c g, (theirs.2 g).1)), theirs.3) e in (
+        a,
+        d,
+        e',
+        now,
+        h.4,
+        fits_set a d e' now (set s.views by w) other nobody first (nobody_fits a d e' now other),
+        numbers_drop now.members other (set s.views by w) nobody refl (numbers_stay now.members now.members by s.views v w at refl (λ _. met_none w refl) (omega arith) h.6),
+      )
     where
       fits_set' : (a b c : ℕ) (now : Known S) (views : List (Sight S)) (by : ℕ) (w : Sight S) (other j : ℕ) (x : Sight S) → j ≢ other
           → ((i : ℕ) (y : Sight S) → i ≢ other → get_elem? views i ≡ some y → Fits a b c now i y) → Fits a b c now by w → get_elem? (set views by w) j ≡ some x → Fits a b c now j x
@@ -361,7 +397,7 @@ module _ {S : Type 0} where
               mine.3,
             ))
             (at_end views' (gives_alone v) u j e)),
-        numbers_more now.members views' (gives_alone v) refl (numbers_stay now.members now.members by s.views v w at refl (omega arith) h.6),
+        numbers_more now.members views' (gives_alone v) refl (numbers_stay now.members now.members by s.views v w at refl (λ _. met_none w refl) (omega arith) h.6),
       )
 
   -- the number goes to a seat of its own
@@ -389,8 +425,31 @@ module _ {S : Type 0} where
               before_all now,
             ))
             (at_end views' (member_alone v) u j e)),
-        numbers_move now.members by s.views v w (member_alone v) at refl refl h.6,
+        numbers_move now.members by s.views v w (member_alone v) at refl refl refl h.6,
       )
+
+  -- a seat has met another one, which is spent
+  pub meets : (by : ℕ) (v : Sight S) (other : ℕ) (u : Sight S) → Joins Kept by v other u (meeting v u) nobody
+  meets by v other u s h at apart there =
+      let a = h.0 in
+      let b = h.1 in
+      let c = h.2 in
+      let now = h.3 in
+      let w = meeting v u in
+      let first : (j : ℕ) (x : Sight S) → get_elem? (set s.views by w) j ≡ some x → Fits a b c now j x = fits_set a b c now s.views by w (λ j x away e. h.5 j x e) (h.5 by v at) in (
+        a,
+        b,
+        c,
+        now,
+        h.4,
+        fits_set a b c now (set s.views by w) other nobody (λ j x away e. first j x e) (nobody_fits a b c now other),
+        numbers_meet now.members by other s.views v u at apart there h.6,
+      )
+
+  -- what a seat learns that has met another one
+  pub apart_of : (v u x w : Sight S) → x ≡ meeting v u → w.member ≡ x.member → w.met ≡ x.met → IsApart w → (n : ℕ) → u.member ≡ Some n → v.member ≢ Some n
+  apart_of v u x w is member met apart n theirs mine =
+      apart n (met ∙ (ap (λ (y : Sight S). y.met) is ∙ theirs)) (member ∙ (ap (λ (y : Sight S). y.member) is ∙ mine))
 
   -- what a seat that was told has seen
   pub was_of : (v : Sight S) (pubs gives : Bool) (k : Known S) → v ≡ seeing pubs gives k → v.was ≡ k

@@ -1,5 +1,5 @@
 -- What the seats at the table of the published word know, and its rule.
-use Rattle.std.specs.Prelude.{ℕ, ◌≡◌, ◌<◌, Bool, true, false, Option, Some, None, List, [], ◌∷◌, length, refl}
+use Rattle.std.specs.Prelude.{ℕ, ◌≡◌, ◌≢◌, ◌<◌, Bool, true, false, Option, Some, None, List, [], ◌∷◌, length, refl}
 use Rattle.std.specs.Coded.{Coded, code_by, coded×, coded_ℕ, coded_bool, coded_option}
 use mathlib.Core.Option.{Option as Said, none, some}
 use lib.ListN.{get_elem?}
@@ -11,10 +11,10 @@ use Rattle.flow_hub.specs.Knowing.{known_code, nothing, IsBefore, IsSamePart}
 
 abbrev pub sight_code : {S : Type 0} → Coded S → Coded (Sight S)
 sight_code {S} store =
-    code_by (Bool × (Bool × (Bool × (Option ℕ × (Known S × Known S)))))
-    (coded× coded_bool (coded× coded_bool (coded× coded_bool (coded× (coded_option coded_ℕ) (coded× (known_code store) (known_code store))))))
-    (λ v. (v.keeps, (v.pubs, (v.gives, (v.member, (v.all, v.was))))))
-    (λ p. record { keeps = p.0; pubs = p.1.0; gives = p.1.1.0; member = p.1.1.1.0; all = p.1.1.1.1.0; was = p.1.1.1.1.1 })
+    code_by (Bool × (Bool × (Bool × (Option ℕ × (Option ℕ × (Known S × Known S))))))
+    (coded× coded_bool (coded× coded_bool (coded× coded_bool (coded× (coded_option coded_ℕ) (coded× (coded_option coded_ℕ) (coded× (known_code store) (known_code store)))))))
+    (λ v. (v.keeps, (v.pubs, (v.gives, (v.member, (v.met, (v.all, v.was)))))))
+    (λ p. record { keeps = p.0; pubs = p.1.0; gives = p.1.1.0; member = p.1.1.1.0; met = p.1.1.1.1.0; all = p.1.1.1.1.1.0; was = p.1.1.1.1.1.1 })
     (λ _. refl)
 
 -- What names a hub: its table, and the ledger of its tickets with the number of its parts.
@@ -38,19 +38,24 @@ no_table = record { words = 0; slots = 0; views_name = 0; atom = 0; block = 0; o
 
 -- the one that keeps, publishes and gives out
 abbrev pub opener : {S : Type 0} → Sight S
-opener {S} = record { keeps = true; pubs = true; gives = true; member = None; all = nothing; was = nothing }
+opener {S} = record { keeps = true; pubs = true; gives = true; member = None; met = None; all = nothing; was = nothing }
 
 abbrev pub nobody : {S : Type 0} → Sight S
-nobody {S} = record { keeps = false; pubs = false; gives = false; member = None; all = nothing; was = nothing }
+nobody {S} = record { keeps = false; pubs = false; gives = false; member = None; met = None; all = nothing; was = nothing }
 
 -- what the rule says of one seat
 abbrev pub Fits : {S : Type 0} → ℕ → ℕ → ℕ → Known S → ℕ → Sight S → Type 0
 Fits keeper publisher giver now by v =
     (v.keeps ≡ true → (by ≡ keeper) × (v.all ≡ now)) × (v.pubs ≡ true → (by ≡ publisher) × IsSamePart v.was now) × (v.gives ≡ true → (by ≡ giver) × (v.was.given ≡ now.given)) × IsBefore v.was now
 
+-- the number of a seat that it met is another one
+abbrev pub IsApart : {S : Type 0} → Sight S → Type 0
+IsApart v = (n : ℕ) → v.met ≡ Some n → v.member ≢ Some n
+
 -- Each number of a submitter is below how many were given, and one seat has it: so two seats have two numbers.
 abbrev pub AreNumbered : {S : Type 0} → ℕ → List (Sight S) → Type 0
-AreNumbered {S} members views = (seat : (ℕ → ℕ)) × ((by : ℕ) (v : Sight S) → get_elem? views by ≡ some v → (n : ℕ) → v.member ≡ Some n → (n < members) × (seat n ≡ by))
+AreNumbered {S} members views =
+    (seat : (ℕ → ℕ)) × ((by : ℕ) (v : Sight S) → get_elem? views by ≡ some v → ((n : ℕ) → v.member ≡ Some n → (n < members) × (seat n ≡ by)) × IsApart v)
 
 -- The word is the length of the history. One seat at most keeps, one publishes, one gives tasks out, and one has a submitter's number.
 abbrev pub Kept : {S : Type 0} → State (Known S) (Sight S) → Type 0
@@ -67,7 +72,7 @@ abbrev pub Knows : {S : Type 0} → Sight S → Type 0
 Knows v = IsBefore v.was v.all × (v.pubs ≡ true → IsSamePart v.was v.all) × (v.gives ≡ true → v.was.given ≡ v.all.given)
 
 abbrev pub added : {S : Type 0} → Sight S → Option ℕ → Known S → Sight S
-added v member k = record { keeps = v.keeps; pubs = v.pubs; gives = v.gives; member = member; all = k; was = k }
+added v member k = record { keeps = v.keeps; pubs = v.pubs; gives = v.gives; member = member; met = None; all = k; was = k }
 
 abbrev pub adding : {S : Type 0} → Sight S → Known S → Sight S
 adding v k = added v v.member k
@@ -87,41 +92,46 @@ Admits s v n w = (w ≡ (admitting v.0 (said_of s.said), v.1)) × Knows v.0
 -- a load: what is seen begins with what was seen, and has as many lines as the word says
 abbrev pub Looks : {S : Type 0} → Step (Known S) → Me (Known S) (Sight S) → ℕ → Me (Known S) (Sight S) → Type 0
 Looks s v n w = (w.0.keeps ≡ v.0.keeps) × (w.0.pubs ≡ v.0.pubs) × (w.0.gives ≡ v.0.gives) × (w.1 ≡ v.1) × IsBefore v.0.was w.0.was × (length w.0.was.history ≡ n)
+    × (w.0.member ≡ v.0.member) × (w.0.met ≡ v.0.met) × IsApart w.0
 
 abbrev pub lent : {S : Type 0} → Sight S → Sight S → Sight S
-lent v w = record { keeps = v.keeps; pubs = w.pubs; gives = w.gives; member = v.member; all = v.all; was = w.was }
+lent v w = record { keeps = v.keeps; pubs = w.pubs; gives = w.gives; member = v.member; met = None; all = v.all; was = w.was }
 
 abbrev pub keeps_left : {S : Type 0} → Sight S → Sight S
-keeps_left v = record { keeps = v.keeps; pubs = false; gives = false; member = None; all = v.all; was = nothing }
+keeps_left v = record { keeps = v.keeps; pubs = false; gives = false; member = None; met = None; all = v.all; was = nothing }
 
 abbrev pub handed_back : {S : Type 0} → Sight S → Sight S
-handed_back v = record { keeps = false; pubs = v.pubs; gives = v.gives; member = None; all = nothing; was = v.was }
+handed_back v = record { keeps = false; pubs = v.pubs; gives = v.gives; member = None; met = None; all = nothing; was = v.was }
 
 -- what is left of the one that gives out where this goes to a seat of its own
 abbrev pub gives_none : {S : Type 0} → Sight S → Sight S
-gives_none v = record { keeps = v.keeps; pubs = v.pubs; gives = false; member = v.member; all = v.all; was = v.was }
+gives_none v = record { keeps = v.keeps; pubs = v.pubs; gives = false; member = v.member; met = None; all = v.all; was = v.was }
 
 abbrev pub gives_alone : {S : Type 0} → Sight S → Sight S
-gives_alone v = record { keeps = false; pubs = false; gives = v.gives; member = None; all = nothing; was = v.was }
+gives_alone v = record { keeps = false; pubs = false; gives = v.gives; member = None; met = None; all = nothing; was = v.was }
 
 -- the same of a submitter's number
 abbrev pub member_none : {S : Type 0} → Sight S → Sight S
-member_none v = record { keeps = v.keeps; pubs = v.pubs; gives = v.gives; member = None; all = v.all; was = v.was }
+member_none v = record { keeps = v.keeps; pubs = v.pubs; gives = v.gives; member = None; met = None; all = v.all; was = v.was }
 
 abbrev pub member_alone : {S : Type 0} → Sight S → Sight S
-member_alone v = record { keeps = false; pubs = false; gives = false; member = v.member; all = nothing; was = nothing }
+member_alone v = record { keeps = false; pubs = false; gives = false; member = v.member; met = None; all = nothing; was = nothing }
+
+-- a seat has met another one, which is spent
+abbrev pub meeting : {S : Type 0} → Sight S → Sight S → Sight S
+meeting v w = record { keeps = v.keeps; pubs = v.pubs; gives = v.gives; member = v.member; met = w.member; all = v.all; was = v.was }
 
 -- the seat that has a submitter's number, and has seen nothing
 abbrev pub badge_of : {S : Type 0} → ℕ → Sight S
-badge_of {S} n = record { keeps = false; pubs = false; gives = false; member = Some n; all = nothing; was = nothing }
+badge_of {S} n = record { keeps = false; pubs = false; gives = false; member = Some n; met = None; all = nothing; was = nothing }
 
 -- the seat under the lock, which knows all
 abbrev pub keeping : {S : Type 0} → Known S → Sight S
-keeping {S} k = record { keeps = true; pubs = false; gives = false; member = None; all = k; was = nothing }
+keeping {S} k = record { keeps = true; pubs = false; gives = false; member = None; met = None; all = k; was = nothing }
 
 -- a submitter's seat, at `pubs` the publisher's, or at `gives` that of whoever gives tasks out
 abbrev pub seeing : {S : Type 0} → Bool → Bool → Known S → Sight S
-seeing {S} pubs gives k = record { keeps = false; pubs = pubs; gives = gives; member = None; all = nothing; was = k }
+seeing {S} pubs gives k = record { keeps = false; pubs = pubs; gives = gives; member = None; met = None; all = nothing; was = k }
 
 abbrev pub IsSubmitters : {S : Type 0} → Sight S → Type 0
 IsSubmitters v = (v.keeps ≡ false) × (v.pubs ≡ false) × (v.gives ≡ false)

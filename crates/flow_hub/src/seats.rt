@@ -1,7 +1,7 @@
 //! The table of the published word, and its seats.
-ghost use Rattle.std.specs.Prelude.{◌≡◌, ◌^◌, ◌⊎◌, true, false, length, IfOk};
+ghost use Rattle.std.specs.Prelude.{ℕ, ◌≡◌, ◌≢◌, ◌^◌, ◌⊎◌, true, false, length, Some, IfOk};
 ghost use Rattle.flow_hub.specs.Knowing.{IsBefore, IsSamePart, with_member};
-ghost use Rattle.flow_hub.specs.Seating.{IsRoomOf, opener, nobody, lent, adding, admitting, keeps_left, handed_back, gives_none, gives_alone, member_none, member_alone, badge_of, keeping, seeing, Knows};
+ghost use Rattle.flow_hub.specs.Seating.{IsRoomOf, opener, nobody, lent, adding, admitting, keeps_left, handed_back, gives_none, gives_alone, member_none, member_alone, meeting, badge_of, keeping, seeing, IsApart, Knows};
 
 use crate::known::Known;
 use atomic_table::{Join, Play, Seat, Split, Table, TableRule};
@@ -24,6 +24,8 @@ pub struct Sight<S: Alter> {
     pub gives: bool,
     /// The submitter's number that it has, and no other seat.
     pub member: Option<u64>,
+    /// The submitter's number that a seat had which it met, and which is another one.
+    pub met: Option<u64>,
     pub all: Known<S>,
     /// What was seen last.
     pub was: Known<S>,
@@ -114,6 +116,16 @@ impl<S: Alter> Split<Sight<S>> for Hands {
     ghost left = { gives_none };
 
     ghost right = { gives_alone };
+}
+
+struct Meet;
+
+impl<S: Alter> Join<Sight<S>> for Meet {
+    ghost use Rattle.flow_hub.specs.Seating.{meeting, nobody};
+
+    ghost both = { meeting };
+
+    ghost spent = { nobody };
 }
 
 struct Names;
@@ -245,6 +257,8 @@ impl<S: Alter, B: Room> Seats<S, B> {
         ensures length { result ≡ length me.new.was.history }
         ensures grows { IsBefore me.old.was me.new.was }
         ensures same { (me.new.keeps ≡ me.old.keeps) × (me.new.pubs ≡ me.old.pubs) × (me.new.gives ≡ me.old.gives) }
+        ensures number { (me.new.member ≡ me.old.member) × (me.new.met ≡ me.old.met) }
+        ensures apart { IsApart me.new }
     {
         self.table.shared.load::<Look>(&mut me.seat, 0)
     }
@@ -301,13 +315,9 @@ impl<S: Alter, B: Room> Seats<S, B> {
         requires length { length all.now.history ≡ places }
         ensures { keeper.new ≡ admitting keeper.old all.now }
     {
-        self.table.shared.compare_exchange_with::<Admit>(
-            &mut keeper.seat,
-            0,
-            places,
-            places,
-            all,
-        );
+        self.table
+            .shared
+            .compare_exchange_with::<Admit>(&mut keeper.seat, 0, places, places, all);
     }
 
     /// The number goes to a seat of its own.
@@ -322,12 +332,7 @@ impl<S: Alter, B: Room> Seats<S, B> {
     }
 
     /// Under the lock: one submitter more is known of, and a seat has its number, which no other has or had.
-    pub(crate) fn admit(
-        &self,
-        keeper: &mut Pass<S, B>,
-        places: u64,
-        all: &Known<S>,
-    ) -> Pass<S, B>
+    pub(crate) fn admit(&self, keeper: &mut Pass<S, B>, places: u64, all: &Known<S>) -> Pass<S, B>
         requires keeps { keeper.old.keeps ≡ true }
         requires one_more { all.now ≡ with_member keeper.old.all }
         requires length { length all.now.history ≡ places }
@@ -336,6 +341,23 @@ impl<S: Alter, B: Room> Seats<S, B> {
     {
         self.number(keeper, places, all);
         self.names(keeper)
+    }
+
+    /// What is met is spent, and its number is noted.
+    fn join(&self, mine: &mut Pass<S, B>, other: Pass<S, B>)
+        ensures { mine.new ≡ meeting mine.old other }
+    {
+        let Pass { seat, of: _ } = other;
+        self.table.shared.join_seat::<Meet>(&mut mine.seat, seat);
+    }
+
+    /// Two seats that have a submitter's number have two numbers. The other one is spent.
+    pub(crate) fn meet(&self, mine: &mut Pass<S, B>, other: Pass<S, B>)
+        ensures same { mine.new.member ≡ mine.old.member }
+        ensures apart { (n : ℕ) → other.member ≡ Some n → mine.old.member ≢ Some n }
+    {
+        self.join(mine, other);
+        self.look(mine);
     }
 
     /// Under the lock: what is known becomes `all`, the word the length of its history, and the seat that asks is told of it.

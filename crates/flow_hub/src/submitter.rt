@@ -333,19 +333,21 @@ impl<S: Alter, B: Room> Submitter<S, B> {
         rested
     }
 
-    /// Takes over the share of another submitter, which is no more.
+    /// Takes over the share of another submitter, which is no more. Its number was another one.
     pub fn gather(&mut self, other: Submitter<S, B>)
         ensures share { (self.new.parts ≡ self.old.parts + other.parts) × (self.new.amount ≡ self.old.amount + other.amount) }
+        ensures apart { self.old.id ≢ other.id }
         ensures same { (self.new.id ≡ self.old.id) × (self.new.was ≡ self.old.was) }
     {
         let Submitter {
             shared: _,
             id: _,
-            badge: _,
+            badge,
             seat: _,
             share,
             parts,
         } = other;
+        self.shared.seats.meet(&mut self.badge, badge);
         self.share.merge(share);
         self.parts += parts;
     }
