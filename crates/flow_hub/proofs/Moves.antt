@@ -161,7 +161,7 @@ module _ {S : Type 0} where
       (at_set views by j w u e)
 
   pub begins : Kept {S = S} (opening (0 ∷ []) [] opener)
-  begins = (0, 0, 0, nothing, refl, one, (λ n. 0), unnamed)
+  begins = (0, 0, 0, nothing, refl, one, ((λ n. 0), unnamed))
     where
       unnamed : (by : ℕ) (v : Sight S) → get_elem? (opener ∷ []) by ≡ some v → IsSeat 0 (λ n. 0) by v
       unnamed zero v e = subst (IsSeat {S = S} 0 (λ n. 0) 0) (some-injective _ _ e) (without {S = S} 0 (λ n. 0) 0 opener refl)
