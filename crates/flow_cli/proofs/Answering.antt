@@ -8,7 +8,7 @@ use Rattle.flow_base.specs.declared.command.Command.{Command}
 use Rattle.flow_model.specs.Apply.{Rules}
 use Rattle.flow_model.specs.Book.{Book}
 use Rattle.flow_cli.specs.Driving.{lines_of, written, answer_status, final_status, WritesBeginning}
-use Rattle.flow_cli.specs.Answering.{Part, Lone, Applied, GivenUp, IsPart, IsCut, AreParts, FirstLine, Answered, AllAnswered, FaultAt, StatusWithin, StopsAtPart, StopsBetween, StopsInPart, StopsNext, StopsWithin, TellsPart, WritesAll, WritesFront, WritesPart, WritesSome, answers_by, answers_in, book_behind, book_by, commands_in, lines_by, lines_in}
+use Rattle.flow_cli.specs.Answering.{Part, Lone, Applied, GivenUp, IsCut, AreParts, FirstLine, Answered, AllAnswered, FaultAt, StatusWithin, StopsAtPart, StopsBetween, StopsNext, StopsWithin, TellsPart, WritesFront, WritesPart, WritesSome, answers_by, answers_in, book_behind, book_by, commands_in, lines_by, lines_in}
 use Rattle.flow_cli.specs.Commands.{line_command}
 use Rattle.flow_cli.specs.Faults.{fault_of_stop}
 use Rattle.flow_cli.specs.Replies.{line_text}

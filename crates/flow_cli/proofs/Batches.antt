@@ -12,7 +12,7 @@ use Rattle.flow_model.specs.Apply.{Rules, outcome, after, after_one, replies}
 use Rattle.flow_model.specs.Book.{Book}
 use Rattle.flow_machine.specs.Answers.{IsGivenUp}
 use Rattle.flow_machine.specs.declared.answer.Stop.{Stop}
-use Rattle.flow_cli.specs.Answering.{Applied, GivenUp, AreParts, FirstLine, Answered, BatchAnswered, BeginsBatch, Gathered, HasEnded, HasFew, HasOneMore, HoldsLines, IsBatch, IsFilled, IsFull, OfBatch, ReadAs, StatusWithin, StopsAtPart, StopsBetween, StopsWithin, TellsPart, WritesAll, WritesPart, WritesSome, all_applied, all_given_up, answers_by, are_commands, commands_in, lines_by, lines_told, marked, with_command}
+use Rattle.flow_cli.specs.Answering.{Applied, GivenUp, FirstLine, Answered, BatchAnswered, Gathered, HasEnded, HasFew, HasOneMore, HoldsLines, IsBatch, IsFilled, IsFull, OfBatch, ReadAs, StatusWithin, StopsAtPart, StopsBetween, StopsWithin, TellsPart, WritesAll, WritesPart, WritesSome, all_applied, all_given_up, answers_by, are_commands, commands_in, lines_by, lines_told, marked, with_command}
 use Rattle.flow_cli.specs.Commands.{line_command}
 use Rattle.flow_cli.specs.Driving.{lines_of, written, answer_status, final_status}
 use Rattle.flow_cli.specs.Replies.{line_text}

@@ -1,7 +1,7 @@
 -- Lines that were answered, where the bytes of the input needn't be known.
-use Rattle.std.proofs.Common.{◌≡◌, ℕ, suc, ◌+◌, ◌≤◌, Bool, true, List, [], ◌∷◌, ◌++◌, length, max, Option, Some, None, inl, inr, refl, sym, ap, ◌∙◌, subst, arith, append_assoc, append-nil, length-append}
+use Rattle.std.proofs.Common.{◌≡◌, ℕ, suc, ◌+◌, ◌≤◌, Bool, true, List, [], ◌∷◌, ◌++◌, length, max, Option, Some, None, inl, inr, refl, sym, ap, ◌∙◌, subst, arith, append-nil, length-append}
 use Rattle.std.specs.Io.KnownBytes.{Appends}
-use Rattle.std.proofs.KnownBytes.{Appends-nil, Appends-trans}
+use Rattle.std.proofs.KnownBytes.{Appends-nil}
 use Rattle.flow_base.specs.declared.code.Code.{Code}
 use Rattle.flow_base.specs.declared.command.Command.{Command}
 use Rattle.flow_base.specs.declared.fault.Fault.{Fault}
@@ -9,9 +9,9 @@ use Rattle.flow_base.specs.declared.fault.Fault.TheVariants as fault
 use Rattle.flow_model.specs.Apply.{Rules, after}
 use Rattle.flow_model.specs.Book.{Book}
 use Rattle.flow_machine.specs.declared.answer.Stop.{Stop}
-use Rattle.flow_cli.specs.Answering.{Part, Lone, Applied, GivenUp, AreParts, FaultAt, Gathered, HasFew, HoldsLines, IsCut, LeavesAnswered, SomeAnswered, StopsAmong, StopsAtPart, StopsBehind, StopsBetween, StopsNext, StopsWithin, TellsPart, WritesAll, WritesPart, answers_by, book_behind, commands_in, lines_by, lines_in}
+use Rattle.flow_cli.specs.Answering.{Part, Lone, Applied, GivenUp, AreParts, FaultAt, Gathered, HasFew, HoldsLines, LeavesAnswered, SomeAnswered, StopsAmong, StopsAtPart, StopsBehind, StopsBetween, StopsNext, TellsPart, WritesAll, WritesPart, answers_by, book_behind, commands_in, lines_by, lines_in}
 use Rattle.flow_cli.specs.Commands.{line_command}
-use Rattle.flow_cli.specs.Driving.{answer_status, final_status, written, WritesBeginning}
+use Rattle.flow_cli.specs.Driving.{answer_status, final_status, written}
 use Rattle.flow_cli.specs.Replies.{line_text}
 use Rattle.flow_cli.specs.Stopping.{CausedStop}
 use Rattle.flow_cli.specs.declared.drive.Stopped.{Stopped}

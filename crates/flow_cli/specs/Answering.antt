@@ -51,14 +51,14 @@ abbrev pub BeginsBatch : List (List ℕ) → Type 0
 BeginsBatch [] = ⊥
 BeginsBatch (l ∷ ls) = is_some (line_command l) ≡ true
 
--- A batch of lines whose bytes are known has so many commands. It has fewer only where nothing comes behind it, or where it has
--- more lines than can be counted.
+-- Where the bytes are known a batch has so many commands. It has fewer only where nothing comes behind it, or where it has 2^64
+-- lines, more than are counted.
 pub record IsFull (most : ℕ) (lines later : List (List ℕ)) : Type 0 where
   pub begins : BeginsBatch lines
   pub batch : IsBatch most (commands_in lines)
   pub full : (length (commands_in lines) ≡ most) ⊎ ((2 ^ 64 ≤ length lines) ⊎ (later ≡ []))
 
--- of other lines a batch has at most so many
+-- where they may be unknown it has at most so many
 abbrev pub HasFew : ℕ → List (List ℕ) → List (List ℕ) → Type 0
 HasFew most = λ lines later. BeginsBatch lines × IsBatch most (commands_in lines)
 
@@ -98,7 +98,7 @@ abbrev pub told_given_up : Code → Option Command → Line
 told_given_up k None = line.Bad
 told_given_up k (Some c) = line.NotApplied k
 
--- every command isn't applied
+-- no command of it is applied: each is told with the one code
 abbrev pub all_given_up : Code → List (List ℕ) → List Line
 all_given_up k ls = map (λ l. told_given_up k (line_command l)) ls
 
