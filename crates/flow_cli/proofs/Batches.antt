@@ -1,18 +1,18 @@
 -- Lines whose commands are applied together.
 use Rattle.std.proofs.Common.{◌≡◌, ℕ, suc, ◌+◌, ◌≤◌, Bool, true, false, List, [], ◌∷◌, ◌++◌, length, Option, Some, None, IfSome, refl, sym, ap, ◌∙◌, subst, arith, append_assoc, append-nil, length-append, inl, inr, max}
-use Rattle.std.specs.Prelude.{◌⊎◌, is_some}
+use Rattle.std.specs.Prelude.{◌⊎◌, ◌^◌, is_some}
 use Rattle.std.specs.Io.KnownBytes.{Appends}
 use Rattle.std.specs.Io.BufRead.{drop_through}
 use Rattle.std.proofs.KnownBytes.{Appends-nil, Appends-trans}
-use Rattle.std.proofs.lemmas.List.{map-append}
+use Rattle.std.proofs.lemmas.List.{length-map, map-append}
 use Rattle.flow_base.specs.declared.code.Code.{Code}
 use Rattle.flow_base.specs.declared.command.Command.{Command}
 use Rattle.flow_base.specs.declared.command.Reply.{Reply}
-use Rattle.flow_model.specs.Apply.{Rules, after, after_one, replies}
+use Rattle.flow_model.specs.Apply.{Rules, outcome, after, after_one, replies}
 use Rattle.flow_model.specs.Book.{Book}
 use Rattle.flow_machine.specs.Answers.{IsGivenUp}
 use Rattle.flow_machine.specs.declared.answer.Stop.{Stop}
-use Rattle.flow_cli.specs.Answering.{AreAnswers, FirstLine, Answered, AllAnswered, BatchAnswered, Gathered, HasOneMore, HoldsLines, IsGivenUpWith, OfBatch, ReadAs, LeavesBook, StatusWithin, StopsWithin, WritesPart, WritesUntil, WritesSome, are_commands, commands_in, lines_told, marked, with_command}
+use Rattle.flow_cli.specs.Answering.{Applied, GivenUp, FirstLine, Answered, BatchAnswered, Gathered, HasEnded, HasFew, HasOneMore, HoldsLines, IsBatch, IsFilled, IsFull, OfBatch, ReadAs, StatusWithin, StopsAtPart, StopsBetween, StopsWithin, TellsPart, WritesAll, WritesPart, WritesSome, all_applied, all_given_up, answers_by, are_commands, commands_in, lines_by, lines_told, marked, with_command}
 use Rattle.flow_cli.specs.Commands.{line_command}
 use Rattle.flow_cli.specs.Driving.{lines_of, written, answer_status, final_status}
 use Rattle.flow_cli.specs.Replies.{line_text}
@@ -20,7 +20,8 @@ use Rattle.flow_cli.specs.Stopping.{CausedStop, ComeNext, BeginWith, ReadLines, 
 use Rattle.flow_cli.specs.declared.drive.Stopped.{Stopped}
 use Rattle.flow_cli.specs.declared.drive.Stopped.TheVariants as stopped
 use Rattle.flow_cli.specs.declared.reply.Line.{Line}
-use Rattle.flow_cli.proofs.Answering.{kept_appends, longer_behind, none_answered, status-append, written-append}
+use Rattle.flow_cli.specs.declared.reply.Line.TheVariants as a_line
+use Rattle.flow_cli.proofs.Answering.{as_cut, first_stops, kept_appends, none_answered, status-append, written-append}
 use Rattle.flow_cli.proofs.Stopping.{stop_by}
 
 -- what stands behind commands stands behind a batch of them
@@ -38,111 +39,125 @@ by_command : {G : Type 0} (o : Option Command) → (o ≡ None → G) → ((c : 
 by_command None none some = none refl
 by_command (Some c) none some = some c refl
 
+told_applied : (u : Rules) (k : Code) (b : Book) (ls : List (List ℕ)) → lines_told k (are_commands ls) (replies u b (commands_in ls)) ≡ all_applied u b ls
+told_applied u k b [] = refl
+told_applied u k b (l ∷ ls) =
+    by_command (line_command l) (λ e. rw e (ap (λ x. a_line.Bad ∷ x) (told_applied u k b ls))) (λ c e. rw e (ap (λ x. a_line.Of (outcome u b c).reply ∷ x) (told_applied u k (after_one u b c) ls)))
+
+told_given_up : (k : Code) (ls : List (List ℕ)) → lines_told k (are_commands ls) [] ≡ all_given_up k ls
+told_given_up k [] = refl
+told_given_up k (l ∷ ls) = by_command (line_command l) (λ e. rw e (ap (λ x. a_line.Bad ∷ x) (told_given_up k ls))) (λ c e. rw e (ap (λ x. a_line.NotApplied k ∷ x) (told_given_up k ls)))
+
+-- ---- a batch that was gathered
+
+module _ (most : ℕ) (first : List ℕ) (c : Command) (commands : List Command) (marks : List Bool) (given : line_command first ≡ Some c) (some : 1 ≤ length commands) (few : length commands ≤ most) where
+  holds_few : (lines : List (List ℕ)) → HoldsLines (first ∷ lines) commands marks → IsBatch most (commands_in (first ∷ lines))
+  holds_few lines h = let same = ap length h.commands_are in record { some = subst (λ n. 1 ≤ n) same some; few = subst (λ n. n ≤ most) same few }
+
+  pub is_few : (lines later : List (List ℕ)) → HoldsLines (first ∷ lines) commands marks → HasFew most (first ∷ lines) later
+  is_few lines later h = (ap is_some given, holds_few lines h)
+
+  full_by : (lines : List (List ℕ)) (left : Option (List ℕ)) (rest : List ℕ) → HoldsLines (first ∷ lines) commands marks → left ≡ Some rest → (length commands ≡ most) ⊎ ((2 ^ 64 ≤ length marks) ⊎ IfSome left (λ r. r ≡ []))
+      → (length (commands_in (first ∷ lines)) ≡ most) ⊎ ((2 ^ 64 ≤ length (first ∷ lines)) ⊎ (lines_of rest ≡ []))
+  full_by lines left rest h is (inl all) = inl (sym (ap length h.commands_are) ∙ all)
+  full_by lines left rest h is (inr (inl many)) = inr (inl (subst (λ n. 2 ^ 64 ≤ n) (ap length h.marks_are ∙ length-map (first ∷ lines) (λ l. is_some (line_command l))) many))
+  full_by lines left rest h is (inr (inr ended)) = inr (inr (ap lines_of (subst (λ k. IfSome k (λ r. r ≡ [])) is ended)))
+
+  pub is_full : (lines : List (List ℕ)) (left : Option (List ℕ)) (rest : List ℕ) → HoldsLines (first ∷ lines) commands marks → left ≡ Some rest → (length commands ≡ most) ⊎ ((2 ^ 64 ≤ length marks) ⊎ IfSome left (λ r. r ≡ [])) → IsFull most (first ∷ lines) (lines_of rest)
+  is_full lines left rest h is filled = record { begins = ap is_some given; batch = holds_few lines h; full = full_by lines left rest h is filled }
+
 module _ (u : Rules) (given_up : Book → List Command → Code → Type 0) where
-  -- where their commands are applied
-  told_replied : (k : Code) (b : Book) (ls : List (List ℕ)) → AreAnswers u given_up b (after u b (commands_in ls)) ls (lines_told k (are_commands ls) (replies u b (commands_in ls)))
-  told_replied k b [] = refl
-  told_replied k b (l ∷ ls) =
-      by_command (line_command l) (λ e. rw e (b, ((e, refl), told_replied k b ls))) (λ c e. rw e (after_one u b c, ((c, (e, (refl, refl))), told_replied k (after_one u b c) ls)))
-
-  -- where they are given up
-  told_given_up : (k : Code) (b : Book) (cs : List Command) → IsGivenUp k → given_up b cs k → (before : List Command) (ls : List (List ℕ)) → cs ≡ before ++ commands_in ls → AreAnswers u given_up b b ls (lines_told k (are_commands ls) [])
-  told_given_up k b cs among gives before [] e = refl
-  told_given_up k b cs among gives before (l ∷ ls) e =
-      by_command (line_command l)
-      (λ is.
-      let same : cs ≡ before ++ commands_in ls = e ∙ ap (λ o. before ++ with_command o (commands_in ls)) is in
-      rw is (b, ((is, refl), told_given_up k b cs among gives before ls same)))
-      (λ c is.
-      let same : cs ≡ before ++ (c ∷ commands_in ls) = e ∙ ap (λ o. before ++ with_command o (commands_in ls)) is in
-      let next : cs ≡ (before ++ c ∷ []) ++ commands_in ls = same ∙ sym (append_assoc before (c ∷ []) (commands_in ls)) in
-      let with : IsGivenUpWith given_up b c k = record { before = before; behind = commands_in ls; is = subst (λ x. given_up b x k) same gives } in
-      rw is (b, ((c, (is, ((among, with), refl))), told_given_up k b cs among gives (before ++ c ∷ []) ls next)))
-
-  module _ (b b1 : Book) (lines : List (List ℕ)) (commands : List Command) (marks : List Bool) (holds : HoldsLines lines commands marks) where
-    pub batch_replied : (k : Code) (rs : List Reply) → (rs ≡ replies u b commands) × (b1 ≡ after u b commands) → AreAnswers u given_up b b1 lines (lines_told k marks rs)
-    batch_replied k rs is =
+  module _ (b b1 : Book) (lines : List (List ℕ)) (commands : List Command) (marks : List Bool) (holds : HoldsLines lines commands marks) (tells : List Line → Type 0) where
+    -- where its commands are applied
+    pub batch_replied : (k : Code) (rs : List Reply) → (rs ≡ replies u b commands) × (b1 ≡ after u b commands) → tells (lines_told k marks rs) → TellsPart u given_up b b1 lines tells
+    batch_replied k rs is told =
         let cs = holds.commands_are in
-        rw (holds.marks_are, is.0 ∙ ap (replies u b) cs, is.1 ∙ ap (after u b) cs) (told_replied k b lines)
+        let same : lines_told k marks rs ≡ all_applied u b lines = ap (λ m. lines_told k m rs) holds.marks_are ∙ ap (λ r. lines_told k (are_commands lines) r) (is.0 ∙ ap (replies u b) cs) ∙ told_applied u k b lines in
+        record { part = Applied lines; lines_are = refl; part_is = tt; book_is = is.1 ∙ ap (after u b) cs; told = subst tells same told }
 
-    pub batch_given_up : (k : Code) (rs : List Reply) → rs ≡ [] → IsGivenUp k × given_up b commands k → b1 ≡ b → AreAnswers u given_up b b1 lines (lines_told k marks rs)
-    batch_given_up k rs none is same = rw (holds.marks_are, none, same) (told_given_up k b commands is.0 is.1 [] lines holds.commands_are)
-
-  pub batch_answered : (b b1 : Book) (lines : List (List ℕ)) (answers : List Line) (old new : Option (List ℕ)) (n : ℕ) → AreAnswers u given_up b b1 lines answers → Appends old new (written answers) → n ≡ final_status answers → AllAnswered u given_up b b1 lines old new n
-  batch_answered b b1 lines answers old new n are adds status = record { answers = answers; answers_are = are; written_are = adds; status_is = status }
+    -- where they are given up
+    pub batch_given_up : (k : Code) (rs : List Reply) → rs ≡ [] → IsGivenUp k × given_up b commands k → b1 ≡ b → tells (lines_told k marks rs) → TellsPart u given_up b b1 lines tells
+    batch_given_up k rs none is same told =
+        let all : lines_told k marks rs ≡ all_given_up k lines = ap (λ m. lines_told k m rs) holds.marks_are ∙ ap (λ r. lines_told k (are_commands lines) r) none ∙ told_given_up k lines in
+        record { part = GivenUp lines k; lines_are = refl; part_is = (is.0, subst (λ cs. given_up b cs k) holds.commands_are is.1); book_is = same; told = subst tells all told }
 
   -- ---- the bytes that they were read from
 
-  pub begins_batch : (b b1 : Book) (c : Command) (commands : List Command) (marks : List Bool) (known left old new : Option (List ℕ)) (n : ℕ) → Gathered (c ∷ []) commands (true ∷ []) marks known left
-      → ((ls : List (List ℕ)) → HoldsLines ls commands marks → AllAnswered u given_up b b1 ls old new n) → IfSome known (λ bytes. (first : List ℕ) → line_command first ≡ Some c → BatchAnswered u given_up b b1 first bytes left old new n)
-  begins_batch b b1 c commands marks None left old new n g all = tt
-  begins_batch b b1 c commands marks (Some bytes) left old new n g all = λ first given. record { lines = g.lines; read = g.read; all = all (first ∷ g.lines) (holds_first first c commands marks (Some bytes) left g given) }
-
-  pub stops_batch : (stops : Book → List Command → Stop → Type 0) (b b1 : Book) (e : Stopped) (c : Command) (commands : List Command) (marks : List Bool) (known left old new : Option (List ℕ)) → Gathered (c ∷ []) commands (true ∷ []) marks known left
-      → ((ls : List (List ℕ)) → HoldsLines ls commands marks → StopsWithin u given_up stops b b1 e ls old new) → IfSome known (λ bytes. (first : List ℕ) → line_command first ≡ Some c → StopsWithin u given_up stops b b1 e (first ∷ lines_of bytes) old new)
-  stops_batch stops b b1 e c commands marks None left old new g ends = tt
-  stops_batch stops b b1 e c commands marks (Some bytes) left old new g ends = λ first given.
-      let its = ends (first ∷ g.lines) (holds_first first c commands marks (Some bytes) left g given) in
+  pub begins_batch : (most : ℕ) (b b1 : Book) (c : Command) (commands : List Command) (marks : List Bool) (known left old new : Option (List ℕ)) (n : ℕ) → Gathered (c ∷ []) commands (true ∷ []) marks known left → 1 ≤ length commands → length commands ≤ most → IsFilled most commands marks known left
+      → ((ls : List (List ℕ)) → HoldsLines ls commands marks → TellsPart u given_up b b1 ls (WritesAll old new n)) → IfSome known (λ bytes. (first : List ℕ) → line_command first ≡ Some c → BatchAnswered u given_up (IsFull most) b b1 first bytes left old new n)
+  begins_batch most b b1 c commands marks None left old new n g some few filled all = tt
+  begins_batch most b b1 c commands marks (Some bytes) left old new n g some few filled all = λ first given.
+      let holds = holds_first first c commands marks (Some bytes) left g given in
       record {
-        lines = its.lines;
-        later = its.later ++ lines_of g.read.rest;
-        answers = its.answers;
-        book = its.book;
-        lines_are = ap (λ l. first ∷ l) g.read.lines_are ∙ ap (λ l. l ++ lines_of g.read.rest) its.lines_are ∙ append_assoc its.lines its.later (lines_of g.read.rest);
-        answers_are = its.answers_are;
-        written_are = its.written_are;
-        book_is = longer_behind u given_up stops e its.book b1 its.later (lines_of g.read.rest) its.book_is;
+        lines = g.lines;
+        rest = g.read.rest;
+        left_is = g.read.left_is;
+        lines_are = g.read.lines_are;
+        cut_is = is_full most first c commands marks given some few g.lines left g.read.rest holds g.read.left_is filled;
+        tells = all (first ∷ g.lines) holds;
       }
 
-  -- nothing of a batch is answered that wasn't begun
-  pub none_begun : (stops : Book → List Command → Stop → Type 0) (b : Book) (e : Stopped) (c : Command) (known out : Option (List ℕ)) → WritesUntil e out out [] → CausedStop e (λ s. ⊥) ⊥ → LeavesBook e b b → IfSome known (λ bytes. (first : List ℕ) → line_command first ≡ Some c → StopsWithin u given_up stops b b e (first ∷ lines_of bytes) out out)
-  none_begun stops b e c None out w cause left = tt
-  none_begun stops b e c (Some bytes) out w cause left = λ first given. none_answered u given_up stops b e (first ∷ lines_of bytes) out w cause left
+  pub stops_batch : (stops : Book → List Command → Stop → Type 0) (most : ℕ) (b b1 : Book) (e : Stopped) (c : Command) (commands : List Command) (marks : List Bool) (known left old new : Option (List ℕ)) → Gathered (c ∷ []) commands (true ∷ []) marks known left → 1 ≤ length commands → length commands ≤ most → IsFilled most commands marks known left
+      → ((ls : List (List ℕ)) → HoldsLines ls commands marks → StopsAtPart u given_up stops e b b1 ls old new) → IfSome known (λ bytes. (first : List ℕ) → line_command first ≡ Some c → StopsWithin u given_up stops (IsFull most) b b1 e (first ∷ lines_of bytes) old new)
+  stops_batch stops most b b1 e c commands marks None left old new g some few filled ends = tt
+  stops_batch stops most b b1 e c commands marks (Some bytes) left old new g some few filled ends = λ first given.
+      let holds = holds_first first c commands marks (Some bytes) left g given in
+      first_stops u given_up (IsFull most) stops b b1 e (first ∷ lines_of bytes) (first ∷ g.lines) (lines_of g.read.rest) old new (ap (λ l. first ∷ l) g.read.lines_are)
+      (is_full most first c commands marks given some few g.lines left g.read.rest holds g.read.left_is filled) (ends (first ∷ g.lines) holds)
 
-  -- the batch's lines are the first ones
-  pub next_batch : (b b1 : Book) (known left left1 old new : Option (List ℕ)) (found line : List ℕ) (c : Command) (n : ℕ) → IfSome known (λ bytes. FirstLine bytes found left) → line ≡ found → line_command line ≡ Some c → IfSome left (λ bytes. (first : List ℕ) → line_command first ≡ Some c → BatchAnswered u given_up b b1 first bytes left1 old new n)
-      → IfSome known (λ bytes. Answered u given_up b b1 bytes left1 old new n)
-  next_batch b b1 None left left1 old new found line c n first same given batch = tt
-  next_batch b b1 (Some bytes) left left1 old new found line c n first same given batch =
-      let its = subst (λ k. IfSome k (λ rest. (l : List ℕ) → line_command l ≡ Some c → BatchAnswered u given_up b b1 l rest left1 old new n)) first.left_is batch line given in
-      record {
-        lines = line ∷ its.lines;
-        rest = its.read.rest;
-        answers = its.all.answers;
-        left_is = its.read.left_is;
-        lines_are = first.lines_are ∙ ap (λ l. l ∷ lines_of (drop_through 10 bytes)) (sym same) ∙ ap (λ l. line ∷ l) its.read.lines_are;
-        answers_are = its.all.answers_are;
-        written_are = its.all.written_are;
-        status_is = its.all.status_is;
-      }
+  module _ (cut : List (List ℕ) → List (List ℕ) → Type 0) where
+    -- nothing of a batch is answered that wasn't begun
+    pub none_begun : (stops : Book → List Command → Stop → Type 0) (b : Book) (e : Stopped) (c : Command) (known out : Option (List ℕ)) → StopsBetween e → IfSome known (λ bytes. (first : List ℕ) → line_command first ≡ Some c → StopsWithin u given_up stops cut b b e (first ∷ lines_of bytes) out out)
+    none_begun stops b e c None out between = tt
+    none_begun stops b e c (Some bytes) out between = λ first given. none_answered u given_up cut stops b e (first ∷ lines_of bytes) out between
 
-  pub next_stops : (stops : Book → List Command → Stop → Type 0) (b b1 : Book) (e : Stopped) (known left old new : Option (List ℕ)) (found line : List ℕ) (c : Command) → IfSome known (λ bytes. FirstLine bytes found left) → line ≡ found → line_command line ≡ Some c → IfSome left (λ bytes. (first : List ℕ) → line_command first ≡ Some c → StopsWithin u given_up stops b b1 e (first ∷ lines_of bytes) old new)
-      → IfSome known (λ bytes. StopsWithin u given_up stops b b1 e (lines_of bytes) old new)
-  next_stops stops b b1 e None left old new found line c first same given ends = tt
-  next_stops stops b b1 e (Some bytes) left old new found line c first same given ends =
-      let its = subst (λ k. IfSome k (λ rest. (l : List ℕ) → line_command l ≡ Some c → StopsWithin u given_up stops b b1 e (l ∷ lines_of rest) old new)) first.left_is ends line given in
-      subst (λ l. StopsWithin u given_up stops b b1 e l old new) (sym (first.lines_are ∙ ap (λ l. l ∷ lines_of (drop_through 10 bytes)) (sym same))) its
+    -- the batch's lines are the first ones
+    pub next_batch : (b b1 : Book) (known left left1 old new : Option (List ℕ)) (found line : List ℕ) (c : Command) (n : ℕ) → IfSome known (λ bytes. FirstLine bytes found left) → line ≡ found → line_command line ≡ Some c → IfSome left (λ bytes. (first : List ℕ) → line_command first ≡ Some c → BatchAnswered u given_up cut b b1 first bytes left1 old new n)
+        → IfSome known (λ bytes. Answered u given_up cut b b1 bytes left1 old new n)
+    next_batch b b1 None left left1 old new found line c n first same given batch = tt
+    next_batch b b1 (Some bytes) left left1 old new found line c n first same given batch =
+        let its = subst (λ k. IfSome k (λ rest. (l : List ℕ) → line_command l ≡ Some c → BatchAnswered u given_up cut b b1 l rest left1 old new n)) first.left_is batch line given in
+        let p = its.tells.part in
+        record {
+          parts = p ∷ [];
+          rest = its.rest;
+          left_is = its.left_is;
+          lines_are =
+              first.lines_are ∙ ap (λ l. l ∷ lines_of (drop_through 10 bytes)) (sym same) ∙ ap (λ l. line ∷ l) its.lines_are
+              ∙ ap (λ l. l ++ lines_of its.rest) (its.tells.lines_are ∙ sym (append-nil (lines_by p)));
+          parts_are = (its.tells.part_is, (as_cut cut p (line ∷ its.lines) (lines_of its.rest) its.tells.lines_are its.cut_is, tt));
+          book_is = its.tells.book_is;
+          written_are = subst (λ l. Appends old new (written l)) (sym (append-nil (answers_by u b p))) its.tells.told.written_are;
+          status_is = its.tells.told.status_is ∙ ap final_status (sym (append-nil (answers_by u b p)));
+        }
 
-  come_next : (b : Book) (known left : Option (List ℕ)) (found line : List ℕ) (c : Command) (commands : List Command) → IfSome known (λ bytes. FirstLine bytes found left) → line ≡ found → line_command line ≡ Some c → IfSome left (λ bytes. BeginWith c bytes commands)
-      → IfSome known (λ bytes. ComeNext u given_up b bytes b commands)
-  come_next b None left found line c commands first same given begin = tt
-  come_next b (Some bytes) left found line c commands first same given begin =
-      let its = subst (λ k. IfSome k (λ rest. BeginWith c rest commands)) first.left_is begin in
-      record {
-        lines = [];
-        next = line ∷ its.lines;
-        later = its.later;
-        answers = [];
-        lines_are = first.lines_are ∙ ap (λ l. l ∷ lines_of (drop_through 10 bytes)) (sym same) ∙ ap (λ l. line ∷ l) its.lines_are;
-        answers_are = refl;
-        commands_are = its.commands_are ∙ ap (λ o. with_command o (commands_in its.lines)) (sym given);
-      }
+    pub next_stops : (stops : Book → List Command → Stop → Type 0) (b b1 : Book) (e : Stopped) (known left old new : Option (List ℕ)) (found line : List ℕ) (c : Command) → IfSome known (λ bytes. FirstLine bytes found left) → line ≡ found → line_command line ≡ Some c → IfSome left (λ bytes. (first : List ℕ) → line_command first ≡ Some c → StopsWithin u given_up stops cut b b1 e (first ∷ lines_of bytes) old new)
+        → IfSome known (λ bytes. StopsWithin u given_up stops cut b b1 e (lines_of bytes) old new)
+    next_stops stops b b1 e None left old new found line c first same given ends = tt
+    next_stops stops b b1 e (Some bytes) left old new found line c first same given ends =
+        let its = subst (λ k. IfSome k (λ rest. (l : List ℕ) → line_command l ≡ Some c → StopsWithin u given_up stops cut b b1 e (l ∷ lines_of rest) old new)) first.left_is ends line given in
+        subst (λ l. StopsWithin u given_up stops cut b b1 e l old new) (sym (first.lines_are ∙ ap (λ l. l ∷ lines_of (drop_through 10 bytes)) (sym same))) its
 
-  pub next_cause : (b : Book) (e : Stopped) (stops : Book → List Command → Stop → Type 0) (sure : Type 0) (known left : Option (List ℕ)) (found line : List ℕ) (c : Command) → IfSome known (λ bytes. FirstLine bytes found left) → line ≡ found → line_command line ≡ Some c
-      → CausedStop e (StopsAt (stops b) c left) ⊥ → CausedStop e (StoppedBy u given_up stops sure b known) ⊥
-  next_cause b e stops sure known left found line c first same given cause =
-      stop_by e (StopsAt (stops b) c left) (StoppedBy u given_up stops sure b known) ⊥ ⊥
-      (λ s x. (b, (x.0, (x.1.0, λ _. come_next b known left found line c x.0 first same given x.1.1)))) (λ x. x) cause
+    come_next : (b : Book) (known left : Option (List ℕ)) (found line : List ℕ) (c : Command) (commands : List Command) → IfSome known (λ bytes. FirstLine bytes found left) → line ≡ found → line_command line ≡ Some c → IfSome left (λ bytes. BeginWith c bytes commands)
+        → IfSome known (λ bytes. ComeNext u given_up cut b bytes b commands)
+    come_next b None left found line c commands first same given begin = tt
+    come_next b (Some bytes) left found line c commands first same given begin =
+        let its = subst (λ k. IfSome k (λ rest. BeginWith c rest commands)) first.left_is begin in
+        record {
+          parts = [];
+          next = line ∷ its.lines;
+          later = its.later;
+          lines_are = first.lines_are ∙ ap (λ l. l ∷ lines_of (drop_through 10 bytes)) (sym same) ∙ ap (λ l. line ∷ l) its.lines_are;
+          parts_are = tt;
+          book_is = refl;
+          commands_are = its.commands_are ∙ ap (λ o. with_command o (commands_in its.lines)) (sym given);
+        }
+
+    pub next_cause : (b : Book) (e : Stopped) (stops : Book → List Command → Stop → Type 0) (sure : Type 0) (known left : Option (List ℕ)) (found line : List ℕ) (c : Command) → IfSome known (λ bytes. FirstLine bytes found left) → line ≡ found → line_command line ≡ Some c
+        → CausedStop e (StopsAt (stops b) c left) ⊥ → CausedStop e (StoppedBy u given_up stops cut sure b known) ⊥
+    next_cause b e stops sure known left found line c first same given cause =
+        stop_by e (StopsAt (stops b) c left) (StoppedBy u given_up stops cut sure b known) ⊥ ⊥
+        (λ s x. (b, (x.0, (x.1.0, λ _. come_next b known left found line c x.0 first same given x.1.1)))) (λ x. x) cause
 
 pub begin_cause : (e : Stopped) (most : ℕ) (b : Book) (stops : Book → List Command → Stop → Type 0) (c : Command) (commands : List Command) (marks : List Bool) (known left : Option (List ℕ)) → 1 ≤ length commands → length commands ≤ most → Gathered (c ∷ []) commands (true ∷ []) marks known left → CausedStop e (stops b commands) ⊥ → CausedStop e (StopsAt (OfBatch most stops b) c known) ⊥
 begin_cause e most b stops c commands marks known left some few g cause =
@@ -244,6 +259,16 @@ end_gathered cs ms known left end = record { lines = []; commands_are = sym (app
     read_end : (k : Option (List ℕ)) → IfSome k (λ bytes. (bytes ≡ []) × (left ≡ Some bytes)) → IfSome k (λ bytes. ReadAs [] bytes left)
     read_end None e = tt
     read_end (Some bytes) e = record { rest = bytes; left_is = e.1; lines_are = refl }
+
+-- where nothing was left to read, nothing is left
+pub ended_left : (known left : Option (List ℕ)) → IfSome known (λ bytes. (bytes ≡ []) × (left ≡ Some bytes)) → HasEnded known left
+ended_left None left end = tt
+ended_left (Some bytes) left end = subst (λ k. IfSome k (λ r. r ≡ [])) (sym end.1) end.0
+
+-- nor behind the lines that were gathered
+pub ended_on : (cs cs1 : List Command) (ms ms1 : List Bool) (known mid left : Option (List ℕ)) → Gathered cs cs1 ms ms1 known mid → HasEnded mid left → HasEnded known left
+ended_on cs cs1 ms ms1 None mid left g end = tt
+ended_on cs cs1 ms ms1 (Some bytes) mid left g end = subst (λ k. HasEnded k left) g.read.left_is end
 
 -- a line has one command at most
 pub one_more_command : (cs cs1 : List Command) (l : List ℕ) → cs1 ≡ cs ++ commands_in (l ∷ []) → HasOneMore cs cs1

@@ -1,140 +1,196 @@
 -- Lines that were answered, where the bytes of the input needn't be known.
-use Rattle.std.proofs.Common.{◌≡◌, ℕ, suc, ◌+◌, ◌≤◌, Bool, true, List, [], ◌∷◌, ◌++◌, length, max, Option, Some, None, refl, sym, ap, ◌∙◌, subst, arith, append_assoc, append-nil, length-append}
+use Rattle.std.proofs.Common.{◌≡◌, ℕ, suc, ◌+◌, ◌≤◌, Bool, true, List, [], ◌∷◌, ◌++◌, length, max, Option, Some, None, inl, inr, refl, sym, ap, ◌∙◌, subst, arith, append-nil, length-append}
 use Rattle.std.specs.Io.KnownBytes.{Appends}
-use Rattle.std.proofs.KnownBytes.{Appends-nil, Appends-trans}
+use Rattle.std.proofs.KnownBytes.{Appends-nil}
 use Rattle.flow_base.specs.declared.code.Code.{Code}
 use Rattle.flow_base.specs.declared.command.Command.{Command}
+use Rattle.flow_base.specs.declared.fault.Fault.{Fault}
 use Rattle.flow_base.specs.declared.fault.Fault.TheVariants as fault
-use Rattle.flow_model.specs.Apply.{Rules}
+use Rattle.flow_model.specs.Apply.{Rules, after}
 use Rattle.flow_model.specs.Book.{Book}
 use Rattle.flow_machine.specs.declared.answer.Stop.{Stop}
-use Rattle.flow_cli.specs.Answering.{AllAnswered, Gathered, HoldsLines, LeavesAnswered, LeavesBook, SomeAnswered, StopsAmong, StopsBehind, StopsWithin, WritesPart, WritesUntil}
+use Rattle.flow_cli.specs.Answering.{Part, Lone, Applied, GivenUp, AreParts, FaultAt, Gathered, HasFew, HoldsLines, LeavesAnswered, SomeAnswered, StopsAmong, StopsAtPart, StopsBehind, StopsBetween, StopsNext, TellsPart, WritesAll, WritesPart, answers_by, book_behind, commands_in, lines_by, lines_in}
 use Rattle.flow_cli.specs.Commands.{line_command}
-use Rattle.flow_cli.specs.Driving.{answer_status, final_status, written, WritesBeginning}
+use Rattle.flow_cli.specs.Driving.{answer_status, final_status, written}
 use Rattle.flow_cli.specs.Replies.{line_text}
 use Rattle.flow_cli.specs.Stopping.{CausedStop}
 use Rattle.flow_cli.specs.declared.drive.Stopped.{Stopped}
 use Rattle.flow_cli.specs.declared.drive.Stopped.TheVariants as stopped
 use Rattle.flow_cli.specs.declared.reply.Line.TheVariants as a_line
-use Rattle.flow_cli.proofs.Answering.{answers-append, kept_appends, none_answered, none_fault, one, status-append, written-append, written_later}
-use Rattle.flow_cli.proofs.Batches.{holds_first}
+use Rattle.flow_cli.proofs.Answering.{as_cut, bad_stops, book_on, first_stops, keeps_self, lines-append, lines_on, none_answered, parts_on, status_on, written_on}
+use Rattle.flow_cli.proofs.Batches.{holds_first, is_few}
 
 -- what isn't told by a cause never comes
 pub never_full : (e : Stopped) (X : Stop → Type 0) (G : Type 0) → CausedStop e X ⊥ → e ≡ stopped.Refused fault.StoreRefused → G
 never_full e X G cause is = absurd (subst (λ s. CausedStop s X ⊥) is cause)
 
-module _ (u : Rules) (given_up : Book → List Command → Code → Type 0) where
+module _ (u : Rules) (given_up : Book → List Command → Code → Type 0) (most : ℕ) where
+  -- whatever comes behind them
+  few_any : (b : Book) (ps : List Part) (later more : List (List ℕ)) → AreParts u given_up (HasFew most) b ps later → AreParts u given_up (HasFew most) b ps more
+  few_any b [] later more h = tt
+  few_any b (Lone l ∷ ps) later more h = (h.0, (tt, few_any b ps later more h.1.1))
+  few_any b (Applied ls ∷ ps) later more h = (h.0, (h.1.0, few_any (after u b (commands_in ls)) ps later more h.1.1))
+  few_any b (GivenUp ls k ∷ ps) later more h = (h.0, (h.1.0, few_any b ps later more h.1.1))
+
+  few_on : (b b1 : Book) (ps qs : List Part) (later : List (List ℕ)) → b1 ≡ book_behind u b ps → AreParts u given_up (HasFew most) b ps [] → AreParts u given_up (HasFew most) b1 qs later → AreParts u given_up (HasFew most) b (ps ++ qs) later
+  few_on b b1 ps qs later is f g = parts_on u given_up (HasFew most) b b1 ps qs later is (few_any b ps [] (lines_in qs ++ later) f) g
+
   -- nothing is answered yet
-  pub some_begin : (b : Book) (out : Option (List ℕ)) → SomeAnswered u given_up b b 0 out out 0
-  some_begin b out = record { lines = []; answers = []; many = omega arith; answers_are = refl; written_are = Appends-nil out; status_is = refl }
+  pub some_begin : (b : Book) (out : Option (List ℕ)) → SomeAnswered u given_up (HasFew most) b b 0 out out 0
+  some_begin b out = record { parts = []; many = omega arith; parts_are = tt; book_is = refl; written_are = Appends-nil out; status_is = refl }
 
   -- and then some more
-  pub some_more : (b b1 b2 : Book) (least n m k : ℕ) (old new new1 : Option (List ℕ)) → SomeAnswered u given_up b b1 least old new n → SomeAnswered u given_up b1 b2 1 new new1 m → k ≡ max n m → SomeAnswered u given_up b b2 (least + 1) old new1 k
+  pub some_more : (b b1 b2 : Book) (least n m k : ℕ) (old new new1 : Option (List ℕ)) → SomeAnswered u given_up (HasFew most) b b1 least old new n → SomeAnswered u given_up (HasFew most) b1 b2 1 new new1 m → k ≡ max n m → SomeAnswered u given_up (HasFew most) b b2 (least + 1) old new1 k
   some_more b b1 b2 least n m k old new new1 f g is =
-      let long : length (f.lines ++ g.lines) ≡ length f.lines + length g.lines = length-append f.lines g.lines in
-      let first : least ≤ length f.lines = f.many in
-      let later : 1 ≤ length g.lines = g.many in
-      let status : final_status (f.answers ++ g.answers) ≡ max (final_status f.answers) (final_status g.answers) = status-append f.answers g.answers in
-      let x : n ≡ final_status f.answers = f.status_is in
-      let y : m ≡ final_status g.answers = g.status_is in
+      let long : length (lines_in (f.parts ++ g.parts)) ≡ length (lines_in f.parts) + length (lines_in g.parts) = ap length (lines-append f.parts g.parts) ∙ length-append (lines_in f.parts) (lines_in g.parts) in
+      let first : least ≤ length (lines_in f.parts) = f.many in
+      let later : 1 ≤ length (lines_in g.parts) = g.many in
       record {
-        lines = f.lines ++ g.lines;
-        answers = f.answers ++ g.answers;
+        parts = f.parts ++ g.parts;
         many = omega (arith, long, first, later);
-        answers_are = answers-append u given_up b b1 b2 f.lines g.lines f.answers g.answers f.answers_are g.answers_are;
-        written_are = subst (Appends old new1) (sym (written-append f.answers g.answers)) (Appends-trans old new new1 _ _ f.written_are g.written_are);
-        status_is = omega (arith, status, x, y, is);
+        parts_are = few_on b b1 f.parts g.parts [] f.book_is f.parts_are g.parts_are;
+        book_is = g.book_is ∙ book_on u b b1 f.parts g.parts f.book_is;
+        written_are = written_on u b b1 f.parts g.parts old new new1 f.book_is f.written_are g.written_are;
+        status_is = status_on u b b1 f.parts g.parts n m k f.book_is f.status_is g.status_is is;
       }
 
   -- fewer lines are counted
-  pub some_fewer : (b b1 : Book) (least less n : ℕ) (old new : Option (List ℕ)) → less ≤ least → SomeAnswered u given_up b b1 least old new n → SomeAnswered u given_up b b1 less old new n
+  pub some_fewer : (b b1 : Book) (least less n : ℕ) (old new : Option (List ℕ)) → less ≤ least → SomeAnswered u given_up (HasFew most) b b1 least old new n → SomeAnswered u given_up (HasFew most) b b1 less old new n
   some_fewer b b1 least less n old new low f =
-      let first : least ≤ length f.lines = f.many in
-      record { lines = f.lines; answers = f.answers; many = omega (arith, first, low); answers_are = f.answers_are; written_are = f.written_are; status_is = f.status_is }
+      let first : least ≤ length (lines_in f.parts) = f.many in
+      record { parts = f.parts; many = omega (arith, first, low); parts_are = f.parts_are; book_is = f.book_is; written_are = f.written_are; status_is = f.status_is }
 
   -- at the end of the input
-  pub some_end : (b b1 b2 : Book) (least n : ℕ) (old new new1 : Option (List ℕ)) → b2 ≡ b1 → new1 ≡ new → SomeAnswered u given_up b b1 least old new n → SomeAnswered u given_up b b2 0 old new1 n
+  pub some_end : (b b1 b2 : Book) (least n : ℕ) (old new new1 : Option (List ℕ)) → b2 ≡ b1 → new1 ≡ new → SomeAnswered u given_up (HasFew most) b b1 least old new n → SomeAnswered u given_up (HasFew most) b b2 0 old new1 n
   some_end b b1 b2 least n old new new1 same wrote f =
-      subst (λ x. SomeAnswered u given_up b x 0 old new1 n) (sym same) (subst (λ o. SomeAnswered u given_up b b1 0 old o n) (sym wrote) (some_fewer b b1 least 0 n old new (omega arith) f))
+      subst (λ x. SomeAnswered u given_up (HasFew most) b x 0 old new1 n) (sym same) (subst (λ o. SomeAnswered u given_up (HasFew most) b b1 0 old o n) (sym wrote) (some_fewer b b1 least 0 n old new (omega arith) f))
 
   -- a line that is no command
-  pub some_bad : (b : Book) (old new : Option (List ℕ)) (line : List ℕ) (n : ℕ) → line_command line ≡ None → Appends old new (line_text a_line.Bad ++ 10 ∷ []) → n ≡ answer_status a_line.Bad → SomeAnswered u given_up b b 1 old new n
+  pub some_bad : (b : Book) (old new : Option (List ℕ)) (line : List ℕ) (n : ℕ) → line_command line ≡ None → Appends old new (line_text a_line.Bad ++ 10 ∷ []) → n ≡ answer_status a_line.Bad → SomeAnswered u given_up (HasFew most) b b 1 old new n
   some_bad b old new line n bad adds is = let long : length (line ∷ []) ≡ 1 = refl in record {
-    lines = line ∷ [];
-    answers = a_line.Bad ∷ [];
+    parts = Lone line ∷ [];
     many = omega (arith, long);
-    answers_are = one u given_up b b line a_line.Bad (bad, refl);
+    parts_are = (bad, (tt, tt));
+    book_is = refl;
     written_are = subst (Appends old new) (sym (append-nil (line_text a_line.Bad ++ 10 ∷ []))) adds;
     status_is = is;
   }
 
-  -- and where its answer wasn't all written
-  pub some_bad_stops : (stops : Book → List Command → Stop → Type 0) (b : Book) (e : Stopped) (old new : Option (List ℕ)) (line : List ℕ) → line_command line ≡ None → WritesPart e old new (line_text a_line.Bad ++ 10 ∷ []) → CausedStop e (λ s. ⊥) ⊥ → StopsAmong u given_up stops b b e old new
-  some_bad_stops stops b (stopped.Refused f) old new line bad w cause =
-      record { whole = []; stops_are = record { lines = []; later = []; answers = []; book = b; lines_are = refl; answers_are = refl; written_are = kept_appends old new w; book_is = none_fault u given_up stops f b [] cause } }
-  some_bad_stops stops b (stopped.Input f) old new line bad w cause = absurd w
-  some_bad_stops stops b stopped.BadSettings old new line bad w cause = absurd w
-  some_bad_stops stops b (stopped.Output f) old new line bad w cause = record {
-    whole = line ∷ [];
-    stops_are = record {
-      lines = line ∷ [];
-      later = [];
-      answers = a_line.Bad ∷ [];
-      book = b;
-      lines_are = refl;
-      answers_are = one u given_up b b line a_line.Bad (bad, refl);
-      written_are = subst (WritesBeginning old new) (sym (append-nil (line_text a_line.Bad ++ 10 ∷ []))) w;
-      book_is = refl;
-    };
-  }
-
-  -- nothing was answered
-  pub none_among : (stops : Book → List Command → Stop → Type 0) (b : Book) (e : Stopped) (out : Option (List ℕ)) → WritesUntil e out out [] → CausedStop e (λ s. ⊥) ⊥ → LeavesBook e b b → StopsAmong u given_up stops b b e out out
-  none_among stops b e out w cause left = record { whole = []; stops_are = none_answered u given_up stops b e [] out w cause left }
-
   -- a batch that was begun
-  pub some_batch : (b b1 : Book) (c : Command) (commands : List Command) (marks : List Bool) (known left old new : Option (List ℕ)) (n : ℕ) → Gathered (c ∷ []) commands (true ∷ []) marks known left
-      → ((ls : List (List ℕ)) → HoldsLines ls commands marks → AllAnswered u given_up b b1 ls old new n) → (first : List ℕ) → line_command first ≡ Some c → SomeAnswered u given_up b b1 1 old new n
-  some_batch b b1 c commands marks known left old new n g all first given =
-      let its = all (first ∷ g.lines) (holds_first first c commands marks known left g given) in
-      let long : length (first ∷ g.lines) ≡ suc (length g.lines) = refl in
-      record { lines = first ∷ g.lines; answers = its.answers; many = omega (arith, long); answers_are = its.answers_are; written_are = its.written_are; status_is = its.status_is }
-
-  pub some_batch_stops : (stops : Book → List Command → Stop → Type 0) (b b1 : Book) (e : Stopped) (c : Command) (commands : List Command) (marks : List Bool) (known left old new : Option (List ℕ)) → Gathered (c ∷ []) commands (true ∷ []) marks known left
-      → ((ls : List (List ℕ)) → HoldsLines ls commands marks → StopsWithin u given_up stops b b1 e ls old new) → (first : List ℕ) → line_command first ≡ Some c → StopsAmong u given_up stops b b1 e old new
-  some_batch_stops stops b b1 e c commands marks known left old new g ends first given =
-      record { whole = first ∷ g.lines; stops_are = ends (first ∷ g.lines) (holds_first first c commands marks known left g given) }
-
-  -- what stops the lines behind stops them all
-  pub some_stop_later : (stops : Book → List Command → Stop → Type 0) (b b1 b2 : Book) (e : Stopped) (least n : ℕ) (old new new1 : Option (List ℕ)) → SomeAnswered u given_up b b1 least old new n → StopsAmong u given_up stops b1 b2 e new new1 → StopsAmong u given_up stops b b2 e old new1
-  some_stop_later stops b b1 b2 e least n old new new1 f g = record {
-    whole = f.lines ++ g.whole;
-    stops_are = record {
-      lines = f.lines ++ g.stops_are.lines;
-      later = g.stops_are.later;
-      answers = f.answers ++ g.stops_are.answers;
-      book = g.stops_are.book;
-      lines_are = ap (λ l. f.lines ++ l) g.stops_are.lines_are ∙ sym (append_assoc f.lines g.stops_are.lines g.stops_are.later);
-      answers_are = answers-append u given_up b b1 g.stops_are.book f.lines g.stops_are.lines f.answers g.stops_are.answers f.answers_are g.stops_are.answers_are;
-      written_are = written_later u given_up e old new new1 f.answers g.stops_are.answers f.written_are g.stops_are.written_are;
-      book_is = g.stops_are.book_is;
-    };
-  }
-
-  -- all that can be counted were answered
-  pub endless_stop : (stops : Book → List Command → Stop → Type 0) (b b1 : Book) (least n : ℕ) (old new : Option (List ℕ)) → SomeAnswered u given_up b b1 least old new n → StopsAmong u given_up stops b b1 (stopped.Refused fault.StoreRefused) old new
-  endless_stop stops b b1 least n old new f = record {
-    whole = f.lines;
-    stops_are = record { lines = f.lines; later = []; answers = f.answers; book = b1; lines_are = sym (append-nil f.lines); answers_are = f.answers_are; written_are = f.written_are; book_is = refl };
-  }
+  pub some_batch : (b b1 : Book) (c : Command) (commands : List Command) (marks : List Bool) (known left old new : Option (List ℕ)) (n : ℕ) → Gathered (c ∷ []) commands (true ∷ []) marks known left → 1 ≤ length commands → length commands ≤ most
+      → ((ls : List (List ℕ)) → HoldsLines ls commands marks → TellsPart u given_up b b1 ls (WritesAll old new n)) → (first : List ℕ) → line_command first ≡ Some c → SomeAnswered u given_up (HasFew most) b b1 1 old new n
+  some_batch b b1 c commands marks known left old new n g some few all first given =
+      let holds = holds_first first c commands marks known left g given in
+      let its = all (first ∷ g.lines) holds in
+      let p = its.part in
+      let long : suc (length g.lines) ≡ length (lines_in (p ∷ [])) = ap length (its.lines_are ∙ sym (append-nil (lines_by p))) in
+      record {
+        parts = p ∷ [];
+        many = omega (arith, long);
+        parts_are = (its.part_is, (as_cut (HasFew most) p (first ∷ g.lines) [] its.lines_are (is_few most first c commands marks given some few g.lines [] holds), tt));
+        book_is = its.book_is;
+        written_are = subst (λ l. Appends old new (written l)) (sym (append-nil (answers_by u b p))) its.told.written_are;
+        status_is = its.told.status_is ∙ ap final_status (sym (append-nil (answers_by u b p)));
+      }
 
   -- ---- whatever was written
 
-  pub nothing_left : (stops : Book → List Command → Stop → Type 0) (b : Book) → StopsBehind u given_up stops b b (stopped.Refused (fault.NoMemory _))
-  nothing_left stops b = record { lines = []; later = []; answers = []; book = b; answers_are = refl; book_is = ([], ([], ([], (refl, refl)))) }
+  pub leaves_answered : (b b1 : Book) (least n : ℕ) (old new : Option (List ℕ)) → SomeAnswered u given_up (HasFew most) b b1 least old new n → LeavesAnswered u given_up (HasFew most) b b1 least n
+  leaves_answered b b1 least n old new f = record { parts = f.parts; many = f.many; parts_are = f.parts_are; book_is = f.book_is; written_are = tt; status_is = f.status_is }
 
-  pub leaves_answered : (b b1 : Book) (least n : ℕ) (old new : Option (List ℕ)) → SomeAnswered u given_up b b1 least old new n → LeavesAnswered u given_up b b1 least n
-  leaves_answered b b1 least n old new f = record { lines = f.lines; answers = f.answers; many = f.many; answers_are = f.answers_are; status_is = f.status_is }
+  -- ---- on an early end
 
-  pub stops_behind_lines : (stops : Book → List Command → Stop → Type 0) (b b1 : Book) (e : Stopped) (old new : Option (List ℕ)) → StopsAmong u given_up stops b b1 e old new → StopsBehind u given_up stops b b1 e
-  stops_behind_lines stops b b1 e old new f = record { lines = f.stops_are.lines; later = f.stops_are.later; answers = f.stops_are.answers; book = f.stops_are.book; answers_are = f.stops_are.answers_are; book_is = f.stops_are.book_is }
+  module _ (stops : Book → List Command → Stop → Type 0) where
+    -- the answer to a line that is no command wasn't all written
+    pub some_bad_stops : (b : Book) (e : Stopped) (old new : Option (List ℕ)) (line : List ℕ) → line_command line ≡ None → WritesPart e old new (line_text a_line.Bad ++ 10 ∷ []) → CausedStop e (λ s. ⊥) ⊥ → StopsAmong u given_up stops (HasFew most) b b e old new
+    some_bad_stops b e old new line bad w cause = record { whole = line ∷ []; stops_are = bad_stops u given_up (HasFew most) stops b e (line ∷ []) [] old new line refl bad w cause }
+
+    -- nothing was answered
+    pub none_among : (b : Book) (e : Stopped) (out : Option (List ℕ)) → StopsBetween e → StopsAmong u given_up stops (HasFew most) b b e out out
+    none_among b e out between = record { whole = []; stops_are = none_answered u given_up (HasFew most) stops b e [] out between }
+
+    -- it ended in a batch that was begun
+    pub some_batch_stops : (b b1 : Book) (e : Stopped) (c : Command) (commands : List Command) (marks : List Bool) (known left old new : Option (List ℕ)) → Gathered (c ∷ []) commands (true ∷ []) marks known left → 1 ≤ length commands → length commands ≤ most
+        → ((ls : List (List ℕ)) → HoldsLines ls commands marks → StopsAtPart u given_up stops e b b1 ls old new) → (first : List ℕ) → line_command first ≡ Some c → StopsAmong u given_up stops (HasFew most) b b1 e old new
+    some_batch_stops b b1 e c commands marks known left old new g some few ends first given =
+        let holds = holds_first first c commands marks known left g given in
+        record {
+          whole = first ∷ g.lines;
+          stops_are =
+              first_stops u given_up (HasFew most) stops b b1 e (first ∷ g.lines) (first ∷ g.lines) [] old new (sym (append-nil (first ∷ g.lines)))
+              (is_few most first c commands marks given some few g.lines [] holds) (ends (first ∷ g.lines) holds);
+        }
+
+    -- what stops the lines behind stops them all
+    pub some_stop_later : (b b1 b2 : Book) (e : Stopped) (least n : ℕ) (old new new1 : Option (List ℕ)) → SomeAnswered u given_up (HasFew most) b b1 least old new n → StopsAmong u given_up stops (HasFew most) b1 b2 e new new1 → StopsAmong u given_up stops (HasFew most) b b2 e old new1
+    some_stop_later b b1 b2 e least n old new new1 f g =
+        let w = g.stops_are in
+        record {
+          whole = lines_in f.parts ++ g.whole;
+          stops_are = record {
+            parts = f.parts ++ w.parts;
+            later = w.later;
+            out = w.out;
+            lines_are = lines_on (lines_in f.parts ++ g.whole) g.whole w.later f.parts w.parts refl w.lines_are;
+            parts_are = few_on b b1 f.parts w.parts w.later f.book_is f.parts_are w.parts_are;
+            written_are = written_on u b b1 f.parts w.parts old new w.out f.book_is f.written_are w.written_are;
+            ends = subst (λ x. StopsNext u given_up stops (HasFew most) e x b2 w.later w.out new1) (book_on u b b1 f.parts w.parts f.book_is) w.ends;
+          };
+        }
+
+    -- all that can be counted were answered
+    pub endless_stop : (b b1 : Book) (least n : ℕ) (old new : Option (List ℕ)) → SomeAnswered u given_up (HasFew most) b b1 least old new n → StopsAmong u given_up stops (HasFew most) b b1 (stopped.Refused fault.StoreRefused) old new
+    endless_stop b b1 least n old new f = record {
+      whole = lines_in f.parts;
+      stops_are = record {
+        parts = f.parts;
+        later = [];
+        out = new;
+        lines_are = sym (append-nil (lines_in f.parts));
+        parts_are = f.parts_are;
+        written_are = f.written_are;
+        ends = inl (inr refl, (f.book_is, keeps_self new));
+      };
+    }
+
+    fault_unwritten : (f : Fault) (b b1 : Book) (lines : List (List ℕ)) (old new : Option (List ℕ)) → FaultAt u given_up stops f b b1 lines old new → FaultAt u given_up stops f b b1 lines None None
+    fault_unwritten (fault.NoMemory _) b b1 lines old new h =
+        record { part = h.part; lines_are = h.lines_are; part_is = h.part_is; book_is = h.book_is; told = (h.told.0, (h.told.1.0, (h.told.1.1.0, tt))) }
+    fault_unwritten (fault.Mismatch run place name) b b1 lines old new h = h
+    fault_unwritten fault.NoRun b b1 lines old new h = h
+    fault_unwritten fault.StoreRefused b b1 lines old new h = h
+    fault_unwritten fault.NotOurs b b1 lines old new h = h
+    fault_unwritten fault.BadVersion b b1 lines old new h = h
+    fault_unwritten (fault.Damaged d) b b1 lines old new h = h
+    fault_unwritten fault.Unknown b b1 lines old new h = (h.0, tt)
+    fault_unwritten fault.Halted b b1 lines old new h = (h.0, tt)
+    fault_unwritten fault.NoFile b b1 lines old new h = h
+    fault_unwritten fault.BadUsage b b1 lines old new h = h
+
+    part_unwritten : (e : Stopped) (b b1 : Book) (lines : List (List ℕ)) (old new : Option (List ℕ)) → StopsAtPart u given_up stops e b b1 lines old new → StopsAtPart u given_up stops e b b1 lines None None
+    part_unwritten (stopped.Refused f) b b1 lines old new h = fault_unwritten f b b1 lines old new h
+    part_unwritten (stopped.Input e) b b1 lines old new h = h
+    part_unwritten (stopped.Output e) b b1 lines old new h =
+        record { part = h.part; lines_are = h.lines_are; part_is = h.part_is; book_is = h.book_is; told = record { front = h.told.front; back = h.told.back; bytes_are = h.told.bytes_are; written_are = tt } }
+    part_unwritten stopped.BadSettings b b1 lines old new h = h
+
+    next_unwritten : (e : Stopped) (b b1 : Book) (later : List (List ℕ)) (old new : Option (List ℕ)) → StopsNext u given_up stops (HasFew most) e b b1 later old new → StopsNext u given_up stops (HasFew most) e b b1 later None None
+    next_unwritten e b b1 later old new (inl h) = inl (h.0, (h.1.0, tt))
+    next_unwritten e b b1 later old new (inr h) =
+        inr (record { next = h.next; rest = h.rest; lines_are = h.lines_are; cut_is = h.cut_is; stops_at = part_unwritten e b b1 h.next old new h.stops_at })
+
+    pub stops_behind_lines : (b b1 : Book) (e : Stopped) (old new : Option (List ℕ)) → StopsAmong u given_up stops (HasFew most) b b1 e old new → StopsBehind u given_up stops (HasFew most) b b1 e
+    stops_behind_lines b b1 e old new f =
+        let w = f.stops_are in
+        record {
+          whole = f.whole;
+          stops_are = record {
+            parts = w.parts;
+            later = w.later;
+            out = None;
+            lines_are = w.lines_are;
+            parts_are = w.parts_are;
+            written_are = tt;
+            ends = next_unwritten e (book_behind u b w.parts) b1 w.later w.out new w.ends;
+          };
+        }

@@ -1,13 +1,13 @@
 -- Causes of an early end.
-use Rattle.std.proofs.Common.{◌≡◌, ℕ, suc, List, ◌++◌, length, Option, Some, None, IfSome, refl, sym, ap, ◌∙◌, subst, arith, append_assoc}
+use Rattle.std.proofs.Common.{◌≡◌, ℕ, suc, List, ◌++◌, length, Option, Some, None, IfSome, refl, ap, ◌∙◌, subst, arith}
 use Rattle.std.specs.Prelude.{◌≤◌, ◌+◌, ◌^◌}
 use Rattle.std.specs.Io.BufRead.{drop_through}
 use Rattle.flow_base.specs.declared.code.Code.{Code}
 use Rattle.flow_base.specs.declared.command.Command.{Command}
 use Rattle.flow_model.specs.Apply.{Rules}
 use Rattle.flow_model.specs.Book.{Book}
-use Rattle.flow_cli.proofs.Answering.{answers-append}
-use Rattle.flow_cli.specs.Answering.{FirstLine, Answered}
+use Rattle.flow_cli.proofs.Answering.{book_on, lines_on, parts_on}
+use Rattle.flow_cli.specs.Answering.{AreParts, FirstLine, Answered}
 use Rattle.flow_cli.specs.Driving.{lines_of}
 use Rattle.flow_cli.specs.Faults.{fault_status, fault_of_stop}
 use Rattle.flow_cli.specs.Stopping.{CausedFault, CausedStop, ComeNext, StoppedBy, ReadLines}
@@ -50,27 +50,27 @@ stop_by stopped.BadSettings X Y P Q g h c = absurd c
 pub uncaused : (e : Stopped) (Y : Stop → Type 0) (Q : Type 0) → CausedStop e (λ s. ⊥) ⊥ → CausedStop e Y Q
 uncaused e Y Q c = stop_by e (λ s. ⊥) Y ⊥ Q (λ s x. absurd x) (λ x. absurd x) c
 
-module _ (u : Rules) (given_up : Book → List Command → Code → Type 0) where
-  behind : (b b1 book : Book) (cs : List Command) (bytes : List ℕ) (left old new : Option (List ℕ)) (n : ℕ) (f : Answered u given_up b b1 bytes left old new n) → ComeNext u given_up b1 f.rest book cs → ComeNext u given_up b bytes book cs
+-- what comes next among the lines behind comes next among them all
+module _ (u : Rules) (given_up : Book → List Command → Code → Type 0) (cut : List (List ℕ) → List (List ℕ) → Type 0) where
+  behind : (b b1 book : Book) (cs : List Command) (bytes : List ℕ) (left old new : Option (List ℕ)) (n : ℕ) (f : Answered u given_up cut b b1 bytes left old new n) → ComeNext u given_up cut b1 f.rest book cs → ComeNext u given_up cut b bytes book cs
   behind b b1 book cs bytes left old new n f w = record {
-    lines = f.lines ++ w.lines;
+    parts = f.parts ++ w.parts;
     next = w.next;
     later = w.later;
-    answers = f.answers ++ w.answers;
-    lines_are = f.lines_are ∙ ap (λ l. f.lines ++ l) w.lines_are ∙ sym (append_assoc f.lines w.lines (w.next ++ w.later));
-    answers_are = answers-append u given_up b b1 book f.lines w.lines f.answers w.answers f.answers_are w.answers_are;
+    lines_are = lines_on (lines_of bytes) (lines_of f.rest) (w.next ++ w.later) f.parts w.parts f.lines_are w.lines_are;
+    parts_are = parts_on u given_up cut b b1 f.parts w.parts (w.next ++ w.later) f.book_is (subst (AreParts u given_up cut b f.parts) w.lines_are f.parts_are) w.parts_are;
+    book_is = w.book_is ∙ book_on u b b1 f.parts w.parts f.book_is;
     commands_are = w.commands_are;
   }
 
-  -- what comes next among the lines behind comes next among them all
-  next_later : (b b1 book : Book) (cs : List Command) (known left old new : Option (List ℕ)) (n : ℕ) → IfSome known (λ bytes. Answered u given_up b b1 bytes left old new n) → IfSome left (λ bytes. ComeNext u given_up b1 bytes book cs) → IfSome known (λ bytes. ComeNext u given_up b bytes book cs)
+  next_later : (b b1 book : Book) (cs : List Command) (known left old new : Option (List ℕ)) (n : ℕ) → IfSome known (λ bytes. Answered u given_up cut b b1 bytes left old new n) → IfSome left (λ bytes. ComeNext u given_up cut b1 bytes book cs) → IfSome known (λ bytes. ComeNext u given_up cut b bytes book cs)
   next_later b b1 book cs None left old new n f w = tt
   next_later b b1 book cs (Some bytes) left old new n f w =
-      behind b b1 book cs bytes left old new n f (subst (λ k. IfSome k (λ bytes. ComeNext u given_up b1 bytes book cs)) f.left_is w)
+      behind b b1 book cs bytes left old new n f (subst (λ k. IfSome k (λ bytes. ComeNext u given_up cut b1 bytes book cs)) f.left_is w)
 
-  pub stopped_later : (b b1 : Book) (e : Stopped) (stops : Book → List Command → Stop → Type 0) (sure many : Type 0) (known left old new : Option (List ℕ)) (n : ℕ) → (sure → IfSome known (λ bytes. Answered u given_up b b1 bytes left old new n)) → CausedStop e (StoppedBy u given_up stops sure b1 left) ⊥ → CausedStop e (StoppedBy u given_up stops sure b known) many
+  pub stopped_later : (b b1 : Book) (e : Stopped) (stops : Book → List Command → Stop → Type 0) (sure many : Type 0) (known left old new : Option (List ℕ)) (n : ℕ) → (sure → IfSome known (λ bytes. Answered u given_up cut b b1 bytes left old new n)) → CausedStop e (StoppedBy u given_up stops cut sure b1 left) ⊥ → CausedStop e (StoppedBy u given_up stops cut sure b known) many
   stopped_later b b1 e stops sure many known left old new n f cause =
-      stop_by e (StoppedBy u given_up stops sure b1 left) (StoppedBy u given_up stops sure b known) ⊥ many
+      stop_by e (StoppedBy u given_up stops cut sure b1 left) (StoppedBy u given_up stops cut sure b known) ⊥ many
       (λ s x. (x.0, (x.1.0, (x.1.1.0, λ h. next_later b b1 x.0 x.1.0 known left old new n (f h) (x.1.1.1 h))))) (λ x. absurd x) cause
 
 -- ---- how many lines were read

@@ -1,7 +1,6 @@
 //! Lines whose commands are applied together.
 ghost use Rattle.std.specs.Prelude.{◌≡◌, ◌≤◌, ◌↔◌, ◌+◌, ◌++◌, ◌∷◌, [], ℕ, true, false, List, length, Option, OnOk, IfOk, IfErr, IfSome, IsSome};
-ghost use Rattle.flow_model.specs.Book.{Book};
-ghost use Rattle.flow_cli.specs.Answering.{Gathered, HasOneMore, WritesUntil, LeavesBook, commands_in, are_commands};
+ghost use Rattle.flow_cli.specs.Answering.{Gathered, HasEnded, HasOneMore, IsFilled, commands_in, are_commands};
 ghost use Rattle.flow_cli.specs.Driving.{stopped_status};
 ghost use Rattle.flow_cli.specs.Stopping.{CausedStop, StopsReading};
 
@@ -101,8 +100,7 @@ fn put_next<R: BufRead>(alloc: Global, reader: &mut R, begun: &mut Begun) -> Res
     ensures found { IfOk result (λ found. found ≡ true → length begun.new.marks.items ≡ length begun.old.marks.items + 1) }
     ensures ended { IfOk result (λ found. found ≡ false → begun.new.marks.items ≡ begun.old.marks.items) }
     ensures end { IfOk result (λ found. found ≡ false → IfSome (R.remaining reader.old) (λ bytes. bytes ≡ [])) }
-    ensures nothing { IfErr result (λ e. (out : Option (List ℕ)) → WritesUntil e out out []) }
-    ensures book { IfErr result (λ e. (b : Book) → LeavesBook e b b) }
+    ensures left { IfOk result (λ found. found ≡ false → HasEnded (R.remaining reader.old) (R.remaining reader.new)) }
     ensures status { IfErr result (λ e. stopped_status e ≡ 3) }
     ensures cause { IfErr result (λ e. CausedStop e (λ s. ⊥) ⊥) }
     ensures reading { IfErr result (λ e. StopsReading e) }
@@ -131,8 +129,7 @@ pub(crate) fn gather<R: BufRead>(
     ensures gathered { IfOk result (λ b. Gathered (first ∷ []) b.commands.items (true ∷ []) b.marks.items (R.remaining reader.old) (R.remaining reader.new)) }
     ensures some { IfOk result (λ b. 1 ≤ length b.commands.items) }
     ensures few { IfOk result (λ b. length b.commands.items ≤ most) }
-    ensures nothing { IfErr result (λ e. (out : Option (List ℕ)) → WritesUntil e out out []) }
-    ensures book { IfErr result (λ e. (b : Book) → LeavesBook e b b) }
+    ensures full { IfOk result (λ b. IsFilled most b.commands.items b.marks.items (R.remaining reader.old) (R.remaining reader.new)) }
     ensures status { IfErr result (λ e. stopped_status e ≡ 3) }
     ensures cause { IfErr result (λ e. CausedStop e (λ s. ⊥) ⊥) }
     ensures reading { IfErr result (λ e. StopsReading e) }

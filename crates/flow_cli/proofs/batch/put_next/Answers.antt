@@ -1,4 +1,4 @@
-use Rattle.flow_cli.proofs.Batches.{one_gathered, one_more_command}
+use Rattle.flow_cli.proofs.Batches.{ended_left, one_gathered, one_more_command}
 use Rattle.flow_cli.proofs.batch.put_next.Goals as goal
 
 pub returns-in-Ok-clause-gathered : goal.returns-in-Ok-clause-gathered

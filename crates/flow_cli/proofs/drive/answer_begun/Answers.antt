@@ -1,16 +1,16 @@
 use Rattle.std.proofs.Common.{subst, sym, ◌∙◌}
 use Rattle.std.proofs.lemmas.Result.{IfOk-weaker}
-use Rattle.flow_cli.specs.Answering.{OfBatch, StopsWithin}
+use Rattle.flow_cli.specs.Answering.{OfBatch, StopsAtPart, WritesAll, WritesSome}
 use Rattle.flow_cli.specs.declared.drive.Stopped.TheVariants.{Refused}
-use Rattle.flow_cli.proofs.Answering.{both_errs, none_replied, some_written}
-use Rattle.flow_cli.proofs.Batches.{batch_answered, batch_given_up, batch_replied, caused_batch, given_up_within, replied_within}
+use Rattle.flow_cli.proofs.Answering.{both_errs, none_replied, part_written}
+use Rattle.flow_cli.proofs.Batches.{batch_given_up, batch_replied, caused_batch, given_up_within, replied_within}
 use Rattle.flow_cli.proofs.drive.answer_begun.Goals as goal
 
 pub returns-in-Ok-Replied-clause-answered : goal.returns-in-Ok-Replied-clause-answered
 returns-in-Ok-Replied-clause-answered g c =
     let told = rw c.in-Ok-Replied.field-0-is at c.in-Ok-Replied.ensures.answers in
     IfOk-weaker c.write_answers.result _ _
-    (λ n h sure most few lines holds. batch_answered _ _ _ _ lines _ _ _ n (batch_replied g.E.Answering.rules (OfBatch most (g.E.Answering.gives_up c.args.engine.now c.answer_together.new.self)) _ _ lines _ _ holds _ _ (told sure)) h.0 h.1)
+    (λ n h sure most few lines holds. batch_replied g.E.Answering.rules (OfBatch most (g.E.Answering.gives_up c.args.engine.now c.answer_together.new.self)) _ _ lines _ _ holds (WritesAll (g.W.Write.contents c.args.writer.now) (g.W.Write.contents c.write_answers.new.writer) n) _ _ (told sure) (record { written_are = h.0; status_is = h.1 }))
     c.write_answers.ensures.told
 
 pub returns-in-Ok-Replied-clause-within : goal.returns-in-Ok-Replied-clause-within
@@ -22,7 +22,7 @@ pub returns-in-Ok-Replied-clause-stopped : goal.returns-in-Ok-Replied-clause-sto
 returns-in-Ok-Replied-clause-stopped g c =
     let told = rw c.in-Ok-Replied.field-0-is at c.in-Ok-Replied.ensures.answers in
     both_errs c.write_answers.result _ _ _
-    (λ e why w sure most few lines holds. some_written _ _ (OfBatch most (g.E.Answering.stops c.args.engine.now c.answer_together.new.self)) _ _ e lines _ _ _ (batch_replied g.E.Answering.rules (OfBatch most (g.E.Answering.gives_up c.args.engine.now c.answer_together.new.self)) _ _ lines _ _ holds _ _ (told sure)) why w)
+    (λ e why w sure most few lines holds. part_written _ _ (OfBatch most (g.E.Answering.stops c.args.engine.now c.answer_together.new.self)) e _ _ lines _ _ why (batch_replied g.E.Answering.rules (OfBatch most (g.E.Answering.gives_up c.args.engine.now c.answer_together.new.self)) _ _ lines _ _ holds (WritesSome e (g.W.Write.contents c.args.writer.now) (g.W.Write.contents c.write_answers.new.writer)) _ _ (told sure) w))
     c.write_answers.ensures.cause c.write_answers.ensures.stopped
 
 pub returns-in-Ok-NotApplied-clause-answered : goal.returns-in-Ok-NotApplied-clause-answered
@@ -30,7 +30,7 @@ returns-in-Ok-NotApplied-clause-answered g c =
     let told = rw c.in-Ok-NotApplied.field-0-is at c.in-Ok-NotApplied.ensures.answers in
     let cause = rw c.in-Ok-NotApplied.field-0-is at c.in-Ok-NotApplied.ensures.cause in
     IfOk-weaker c.write_answers-in-Ok-NotApplied.result _ _
-    (λ n h sure most few lines holds. batch_answered _ _ _ _ lines _ _ _ n (batch_given_up g.E.Answering.rules (OfBatch most (g.E.Answering.gives_up c.args.engine.now c.answer_together.new.self)) _ _ lines _ _ holds _ _ c.new.ensures.items (cause.0, caused_batch most (g.E.Answering.gives_up c.args.engine.now c.answer_together.new.self) _ _ _ c.requires.some few cause.1) (told sure)) h.0 h.1)
+    (λ n h sure most few lines holds. batch_given_up g.E.Answering.rules (OfBatch most (g.E.Answering.gives_up c.args.engine.now c.answer_together.new.self)) _ _ lines _ _ holds (WritesAll (g.W.Write.contents c.args.writer.now) (g.W.Write.contents c.write_answers-in-Ok-NotApplied.new.writer) n) _ _ c.new.ensures.items (cause.0, caused_batch most (g.E.Answering.gives_up c.args.engine.now c.answer_together.new.self) _ _ _ c.requires.some few cause.1) (told sure) (record { written_are = h.0; status_is = h.1 }))
     c.write_answers-in-Ok-NotApplied.ensures.told
 
 pub returns-in-Ok-NotApplied-clause-within : goal.returns-in-Ok-NotApplied-clause-within
@@ -43,7 +43,7 @@ returns-in-Ok-NotApplied-clause-stopped g c =
     let told = rw c.in-Ok-NotApplied.field-0-is at c.in-Ok-NotApplied.ensures.answers in
     let cause = rw c.in-Ok-NotApplied.field-0-is at c.in-Ok-NotApplied.ensures.cause in
     both_errs c.write_answers-in-Ok-NotApplied.result _ _ _
-    (λ e why w sure most few lines holds. some_written _ _ (OfBatch most (g.E.Answering.stops c.args.engine.now c.answer_together.new.self)) _ _ e lines _ _ _ (batch_given_up g.E.Answering.rules (OfBatch most (g.E.Answering.gives_up c.args.engine.now c.answer_together.new.self)) _ _ lines _ _ holds _ _ c.new.ensures.items (cause.0, caused_batch most (g.E.Answering.gives_up c.args.engine.now c.answer_together.new.self) _ _ _ c.requires.some few cause.1) (told sure)) why w)
+    (λ e why w sure most few lines holds. part_written _ _ (OfBatch most (g.E.Answering.stops c.args.engine.now c.answer_together.new.self)) e _ _ lines _ _ why (batch_given_up g.E.Answering.rules (OfBatch most (g.E.Answering.gives_up c.args.engine.now c.answer_together.new.self)) _ _ lines _ _ holds (WritesSome e (g.W.Write.contents c.args.writer.now) (g.W.Write.contents c.write_answers-in-Ok-NotApplied.new.writer)) _ _ c.new.ensures.items (cause.0, caused_batch most (g.E.Answering.gives_up c.args.engine.now c.answer_together.new.self) _ _ _ c.requires.some few cause.1) (told sure) w))
     c.write_answers-in-Ok-NotApplied.ensures.cause c.write_answers-in-Ok-NotApplied.ensures.stopped
 
 pub returns-in-Ok-Replied-clause-since : goal.returns-in-Ok-Replied-clause-since
@@ -56,5 +56,5 @@ pub returns-in-Err-clause-stopped : goal.returns-in-Err-clause-stopped
 returns-in-Err-clause-stopped g c sure most few lines holds =
     let all = (OfBatch most (g.E.Answering.stops c.args.engine.now c.answer_together.new.self)) in
     let stop = caused_batch most (g.E.Answering.stops c.args.engine.now c.answer_together.new.self) _ _ _ c.requires.some few c.in-Err.ensures.stopped in
-    subst (λ f. StopsWithin g.E.Answering.rules (OfBatch most (g.E.Answering.gives_up c.args.engine.now c.answer_together.new.self)) all (g.E.Answering.book c.args.engine.now) (g.E.Answering.book c.answer_together.new.self) (Refused f) lines (g.W.Write.contents c.args.writer.now) (g.W.Write.contents c.args.writer.now)) (sym c.fault_of_stop.ensures)
+    subst (λ f. StopsAtPart g.E.Answering.rules (OfBatch most (g.E.Answering.gives_up c.args.engine.now c.answer_together.new.self)) all (Refused f) (g.E.Answering.book c.args.engine.now) (g.E.Answering.book c.answer_together.new.self) lines (g.W.Write.contents c.args.writer.now) (g.W.Write.contents c.args.writer.now)) (sym c.fault_of_stop.ensures)
     (none_replied _ _ all _ _ lines _ c.in-Err.stop (subst (λ cs. all (g.E.Answering.book c.args.engine.now) cs c.in-Err.stop) holds.commands_are stop))
