@@ -7,7 +7,12 @@ use std::test::Fail;
 
 // The last one is E64.
 const EACH: &[Act] = &[Act::Asks(Asking::Answers(
-    &[Call::Register, Call::Start("f"), Call::Complete(1), Call::Complete(1)],
+    &[
+        Call::Register,
+        Call::Start("f"),
+        Call::Complete(1),
+        Call::Complete(1),
+    ],
     Want::Told(&[
         Told::Replied(Named::Text(1)),
         Told::Replied(Named::Run(1)),

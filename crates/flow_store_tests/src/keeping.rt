@@ -100,7 +100,11 @@ fn a_read_that_fails_applies_nothing(rt: HostRuntime) -> Result<(), Fail> {
 }
 
 const HALTED: &[Act] = &[Act::Keeps(Keeping::Commits(
-    &[(1, Call::Register), (1, Call::Start("f")), (1, Call::Complete(1))],
+    &[
+        (1, Call::Register),
+        (1, Call::Start("f")),
+        (1, Call::Complete(1)),
+    ],
     Cut::Singly,
     Want::Told(&[
         Told::Kept(1, 1, Named::Text(1)),
