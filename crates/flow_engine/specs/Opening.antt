@@ -55,7 +55,7 @@ pub record IsUnopened {S : Type 0} (g : Ghosts S) (from to : State) (f : Fault) 
   -- The store is as it was, or the book that was found is kept, and E68 names its least run that doesn't replay.
   pub left : HasCleanDisk to → IsLeft from to f
   -- no transaction is left running
-  pub ended : HasCleanDisk to → IsOurs from → to.in_transaction ≡ false
+  pub ended : HasCleanDisk to → to.in_transaction ≡ false
   -- Tables that stand for a sound book, or none, are refused only where the store fails, or isn't ours.
   pub own : HasCleanDisk to → (HasCleanDisk from → HoldsSound from) → IsOfStore f
   -- A stop leaves what it could leave before, or the tables made for the book that was found.
