@@ -50,7 +50,7 @@ pub record IsUnopened {S : Type 0} (g : Ghosts S) (from to : State) (f : Fault) 
   pub version : HasCleanDisk to → f ≡ fault.BadVersion → HasOtherFormat g to
   pub damaged : HasCleanDisk to → (HasCleanDisk from → HasTables from.committed) → IsFirstDamage (tables_in from.committed.trees) f
   pub cause : HasCleanDisk to → HasCause g f
-  -- Over our tables, or none, E80 and E81 come of the disk, of a limit on steps or of a text that isn't UTF-8.
+  -- Over our tables, or none, E80 comes of the disk or of a limit on steps, E81 of such a limit or of a text that isn't UTF-8.
   pub why : HasCleanDisk to → IsOurs from → StopsOpening g from to f
   -- The store is as it was, or the book that was found is kept, and E68 names its least run that doesn't replay.
   pub left : HasCleanDisk to → IsLeft from to f
