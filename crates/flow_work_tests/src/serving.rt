@@ -96,6 +96,27 @@ pub fn serve<B: Room, R: Wait>(
 }
 
 /// What is told of the two commands, and how many are published at the end.
+fn served_over<B: Room, R: Wait>(
+    rt: &R,
+    alloc: Global,
+    publisher: &mut Publisher<MemStore, B>,
+    hub: &Hub<MemStore, B>,
+) -> Option<(Told, Told, u64)>
+    requires { (publisher.old.history ≡ []) × (publisher.old.last ≡ []) × (publisher.old.held ≡ []) }
+{
+    let clock = Still::at(1000)?;
+    let mut submitter = hub.submitter(rt).ok()?;
+    let first = submitted(rt, &mut submitter, register(alloc)?)?;
+    let second = submitted(rt, &mut submitter, start(alloc)?)?;
+    hub.close(rt);
+    if !serve(rt, alloc, publisher, clock)? {
+        return None;
+    }
+    let first = fetched(rt, &mut submitter, first);
+    let second = fetched(rt, &mut submitter, second);
+    Some((first, second, submitter.published()))
+}
+
 fn served<B: Room, R: Wait>(
     rt: &R,
     alloc: Global,
@@ -104,17 +125,7 @@ fn served<B: Room, R: Wait>(
     requires { IsRoomOf opened B.table B.name B.parts }
 {
     let (mut publisher, hub) = Hub::<MemStore, B>::new(alloc, opened).ok()?;
-    let clock = Still::at(1000)?;
-    let mut submitter = hub.submitter(rt).ok()?;
-    let first = submitted(rt, &mut submitter, register(alloc)?)?;
-    let second = submitted(rt, &mut submitter, start(alloc)?)?;
-    hub.close(rt);
-    if !serve(rt, alloc, &mut publisher, clock)? {
-        return None;
-    }
-    let first = fetched(rt, &mut submitter, first);
-    let second = fetched(rt, &mut submitter, second);
-    Some((first, second, submitter.published()))
+    served_over(rt, alloc, &mut publisher, &hub)
 }
 
 #[test]

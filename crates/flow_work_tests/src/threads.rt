@@ -4,6 +4,7 @@ ghost use Rattle.flow_hub.specs.Seating.{IsRoomOf};
 
 use crate::refusing::{refuse_often, submit, told};
 use flow_hub::hub::Hub;
+use flow_hub::publisher::Publisher;
 use flow_hub::seats::{Opened, Room};
 use flow_hub::settled::Settled;
 use flow_hub::submitter::Submitter;
@@ -72,17 +73,17 @@ fn raced<B: Room + Send + Sync, R: Threads + Wait + Sync>(
 }
 
 /// The same over a publisher on a thread of its own.
-fn served<B: Room + Send + Sync, R: Threads + Wait + Sync>(
+fn served_over<B: Room + Send + Sync, R: Threads + Wait + Sync>(
     rt: &R,
     alloc: Global,
-    opened: Opened<MemStore>,
+    publisher: Publisher<MemStore, B>,
+    hub: &Hub<MemStore, B>,
 ) -> Option<(u64, u64, Option<Settled>)>
-    requires { IsRoomOf opened B.table B.name B.parts }
+    requires { publisher.held ≡ [] }
 {
-    let (mut publisher, hub) = Hub::<MemStore, B>::new(alloc, opened).ok()?;
+    let mut publisher = publisher;
     let a = hub.submitter(rt).ok()?;
     let b = hub.submitter(rt).ok()?;
-    let hub = &hub;
     let (counts, ended) = join(
         rt,
         move || raced(rt, hub, a, b),
@@ -91,6 +92,17 @@ fn served<B: Room + Send + Sync, R: Threads + Wait + Sync>(
         { refuse_often(rt, alloc, &mut publisher, u64::MAX) },
     );
     if ended { Some(counts) } else { None }
+}
+
+fn served<B: Room + Send + Sync, R: Threads + Wait + Sync>(
+    rt: &R,
+    alloc: Global,
+    opened: Opened<MemStore>,
+) -> Option<(u64, u64, Option<Settled>)>
+    requires { IsRoomOf opened B.table B.name B.parts }
+{
+    let (publisher, hub) = Hub::<MemStore, B>::new(alloc, opened).ok()?;
+    served_over(rt, alloc, publisher, &hub)
 }
 
 #[test]

@@ -88,13 +88,25 @@ fn lent_ticket<S: Alter, B: Room, R: Wait>(
     }
 }
 
+/// The same of two submitters of this hub.
+fn lent_between<B: Room, R: Wait>(
+    rt: &R,
+    alloc: Global,
+    publisher: &mut Publisher<MemStore, B>,
+    hub: &Hub<MemStore, B>,
+) -> Option<[(u8, u64); 2]>
+    requires { publisher.old.held ≡ [] }
+{
+    let mut owner = hub.submitter(rt).ok()?;
+    let mut other = hub.submitter(rt).ok()?;
+    lent_ticket(rt, alloc, publisher, &mut owner, &mut other)
+}
+
 fn lent<B: Room, R: Wait>(rt: &R, alloc: Global, opened: Opened<MemStore>) -> Option<[(u8, u64); 2]>
     requires { IsRoomOf opened B.table B.name B.parts }
 {
     let (mut publisher, hub) = Hub::<MemStore, B>::new(alloc, opened).ok()?;
-    let mut owner = hub.submitter(rt).ok()?;
-    let mut other = hub.submitter(rt).ok()?;
-    lent_ticket(rt, alloc, &mut publisher, &mut owner, &mut other)
+    lent_between(rt, alloc, &mut publisher, &hub)
 }
 
 #[test]

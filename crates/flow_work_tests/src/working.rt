@@ -12,6 +12,7 @@ use flow_base::text::{Key, RawText};
 use flow_base::value::Value;
 use flow_hub::feed::Feed;
 use flow_hub::hub::Hub;
+use flow_hub::publisher::Publisher;
 use flow_hub::seats::{Opened, Room};
 use flow_hub::submitter::Submitter;
 use flow_machine::task::Task;
@@ -95,19 +96,19 @@ fn worked<S: Alter, B: Room, R: Wait + Timing>(
 }
 
 /// The same over an engine on a thread of its own, by whose clock the task is ready and the timer isn't due.
-fn served<B: Room + Send + Sync, R: Threads + Wait + Timing + Sync>(
+fn served_over<B: Room + Send + Sync, R: Threads + Wait + Timing + Sync>(
     rt: &R,
     alloc: Global,
-    opened: Opened<MemStore>,
+    publisher: Publisher<MemStore, B>,
+    hub: &Hub<MemStore, B>,
 ) -> Option<Seen>
-    requires { IsRoomOf opened B.table B.name B.parts }
+    requires { (publisher.history ≡ []) × (publisher.last ≡ []) × (publisher.held ≡ []) }
 {
-    let (mut publisher, hub) = Hub::<MemStore, B>::new(alloc, opened).ok()?;
+    let mut publisher = publisher;
     let early = Still::at(1000)?;
     let late = Still::at(1500)?;
     let mut feed = hub.feed(rt).ok()??;
     let mut submitter = hub.submitter(rt).ok()?;
-    let hub = &hub;
     let (seen, ended) = join(
         rt,
         move || {
@@ -120,6 +121,17 @@ fn served<B: Room + Send + Sync, R: Threads + Wait + Timing + Sync>(
         { serve(rt, alloc, &mut publisher, early) },
     );
     if ended? { seen } else { None }
+}
+
+fn served<B: Room + Send + Sync, R: Threads + Wait + Timing + Sync>(
+    rt: &R,
+    alloc: Global,
+    opened: Opened<MemStore>,
+) -> Option<Seen>
+    requires { IsRoomOf opened B.table B.name B.parts }
+{
+    let (publisher, hub) = Hub::<MemStore, B>::new(alloc, opened).ok()?;
+    served_over(rt, alloc, publisher, &hub)
 }
 
 // The tick by the clock at 1500 fires the timer that is due from 1500 on, by the fourth command of the history.
