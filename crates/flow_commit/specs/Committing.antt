@@ -111,7 +111,7 @@ abbrev pub taken_of : Receipt → Taken
 taken_of r = record { ticket = r.ticket; command = r.command }
 
 -- What the keeper notes of a batch, whatever the disk tells it: one that is kept is counted, has a receipt for each command, which
--- repeats its submission, and these receipts are what the log has more; its stamp names this keeper and them. One that isn't kept
+-- repeats its submission, and these receipts are what the log has more; its stamp names what is kept, and them. One that isn't kept
 -- comes back, and the log is as before; behind one of which nobody knows the keeper has halted.
 abbrev pub HasNoted : {S : Type 0} → Ghosts S → Keeping S → Keeping S → List Taken → Outcome → Type 0
 HasNoted g old new batch (outcomes.Kept receipts stamp) =

@@ -14,7 +14,7 @@ use Rattle.flow_hub.specs.Knowing.{IsOver, IsSamePart}
 use Rattle.flow_queues.specs.Posting.{HasKeys}
 use Rattle.flow_hub.specs.Publishing.{Together, InHand, HasTaken, Answers, HasPublished, HasRefused, IsFresh, IsSameHistory}
 
--- a later keeper over the same tables is over what the earlier one was over
+-- what is told later of one keeper is over what the earlier one was over
 over_by : (ks : List Accounted) (old new : Accounted) → new.base ≡ old.base → IsOver ks (old ∷ []) → IsOver ks (new ∷ [])
 over_by [] old new e o = tt
 over_by (k ∷ ks) old new e o = e ∙ o

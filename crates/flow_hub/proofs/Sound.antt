@@ -9,10 +9,9 @@ use Rattle.flow_machine.specs.declared.submission.Receipt.{Receipt}
 use Rattle.flow_machine.specs.declared.submission.Taken.{Taken}
 use Rattle.flow_machine.specs.declared.task.Task.{Task}
 use Rattle.flow_commit.specs.Boards.{Boarded}
-use Rattle.flow_commit.specs.Stamps.{IsLawful}
 use Rattle.flow_commit.specs.Keeping.{count_from, place_of}
 use Rattle.flow_commit.specs.Committing.{taken_of}
-use Rattle.flow_commit.specs.Stamps.{Stamped}
+use Rattle.flow_commit.specs.Stamps.{Stamped, IsLawful}
 use Rattle.flow_hub.specs.declared.known.Known.{Known}
 use Rattle.flow_hub.specs.declared.known.Outlook.{Outlook}
 use Rattle.flow_queues.specs.declared.refused.Refused.{Refused}

@@ -80,7 +80,7 @@ with_given k t = record k { given = k.given ++ t ∷ [] }
 
 ---- How it grows
 
--- The later stamp's keeper was made over the tables of the earlier one's.
+-- The later stamp's keeper was made over the book and the file of the earlier one's.
 abbrev pub IsOver : List Accounted → List Accounted → Type 0
 IsOver [] ls = Unit {0}
 IsOver (k ∷ ks) [] = ⊥
@@ -112,8 +112,8 @@ pub record IsSamePart (k l : Known) : Type 0 where
 
 ---- One history
 
--- The history is all that the keeper has kept that the last stamp names, and its replies are those of apply over whichever book
--- was kept at opening, as far as the disk had told no lie by then. Before the first stamp it is empty.
+-- The history is all that the last stamp's keeper has kept, and its replies are those of apply over the book that was found at opening,
+-- as far as the disk had told no lie by then. Before the first stamp it is empty.
 abbrev pub IsKept : List Accounted → List Receipt → Type 0
 IsKept [] history = history ≡ []
 IsKept (k ∷ ks) history = (history ≡ k.log) × IsLegal k

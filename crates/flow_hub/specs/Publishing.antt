@@ -13,7 +13,7 @@ use Rattle.flow_hub.specs.Asks.{IsAsked, tickets_in, takens_of}
 use Rattle.flow_queues.specs.Refusing.{refused_by}
 use Rattle.flow_hub.specs.Knowing.{IsOver, answered_in}
 
--- What the keeper has kept is what the publisher has published, over the same tables, and nothing is taken.
+-- What the keeper has kept is what the publisher has published, over the same book and file, and nothing is taken.
 pub record Together (keeper : Accounted) (k : Known) : Type 0 where
   pub log : keeper.log ≡ k.history
   pub over : IsOver k.last (keeper ∷ [])

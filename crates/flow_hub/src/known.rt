@@ -30,7 +30,7 @@ pub struct Known {
     pub history: Listed<Receipt>,
     /// All submissions that were answered by a code, in their order.
     pub refused: Listed<Refused>,
-    /// The keeper as the last published stamp names it. Before the first one there is none.
+    /// What the last published stamp tells of its keeper. Before the first one there is none.
     pub last: Listed<Account>,
     /// What is taken, and not answered yet.
     pub held: Listed<Taken>,
@@ -96,7 +96,7 @@ impl Makes<(Listed<Task>, &Vec<Task>, &Vec<bool>), Task> for Chosen {
     ghost list = { λ p. p.0 ++ chosen p.1.now.items p.2.now.items };
 }
 
-/// The keeper that a stamp names.
+/// What a stamp tells of its keeper.
 struct Named;
 
 impl Makes<Stamp, Account> for Named {

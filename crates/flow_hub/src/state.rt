@@ -255,7 +255,7 @@ impl<B: Room> State<B> {
         ensures legal { IsHistory result.was }
     {
         let old = self.places;
-        // That the stamp is over the last one's tables the publisher has shown of what its seat knows.
+        // That the stamp is over what the last one was over the publisher has shown of what its seat knows.
         let seen = seats.tell(&mut self.keeper, me, old, old, &self.known);
         self.places += receipts.len() as u64;
         self.known.publish(&receipts, &stamp);
