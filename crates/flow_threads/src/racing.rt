@@ -55,7 +55,7 @@ pub fn limited(most: usize) -> usize
 fn serve<S: Alter, B: Room, R: Wait>(
     rt: &R,
     engine: &mut Engine<S>,
-    publisher: &mut Publisher<S, B>,
+    publisher: &mut Publisher<B>,
     clock: Still,
     most: usize,
 ) -> u8
@@ -76,8 +76,8 @@ fn serve_race<S: Alter + Send, B: Room + Send + Sync, R: Threads + Wait + time::
     rt: &R,
     alloc: Global,
     engine: &mut Engine<S>,
-    publisher: &mut Publisher<S, B>,
-    hub: &Hub<S, B>,
+    publisher: &mut Publisher<B>,
+    hub: &Hub<B>,
     clock: Still,
     plan: Plan,
 ) -> (Option<Brought>, u8)
@@ -98,14 +98,14 @@ fn race_named<S: Alter + Send, B: Room + Send + Sync, R: Threads + Wait + time::
     rt: &R,
     alloc: Global,
     engine: &mut Engine<S>,
-    opened: Opened<S>,
+    opened: Opened,
     clock: Still,
     plan: Plan,
 ) -> Option<(Option<Brought>, u8)>
     requires room { IsRoomOf opened B.table B.name B.parts }
     requires anew { engine.old.log ≡ [] }
 {
-    let (mut publisher, hub) = Hub::<S, B>::new(alloc, opened).ok()?;
+    let (mut publisher, hub) = Hub::<B>::new(alloc, opened).ok()?;
     let raced = serve_race(rt, alloc, engine, &mut publisher, &hub, clock, plan);
     publisher.leave();
     hub.leave();
