@@ -2,7 +2,10 @@
 ghost use Rattle.std.specs.Prelude.{◌≡◌, ◌≤◌, []};
 ghost use Rattle.flow_hub.specs.Seating.{IsRoomOf};
 
+use crate::course::{Course, Turn};
 use crate::driving::driven;
+use crate::note::Raced;
+use crate::plan::Plan;
 use crate::submitting::{Brought, run_race};
 use flow_base::fault::Fault;
 use flow_base::number::Moment;
@@ -10,9 +13,6 @@ use flow_engine::engine::Engine;
 use flow_hub::hub::Hub;
 use flow_hub::publisher::Publisher;
 use flow_hub::seats::{Opened, Room};
-use flow_races::course::{Course, Turn};
-use flow_races::note::Raced;
-use flow_races::plan::Plan;
 use flow_settings::settings::Settings;
 use flow_timers::Clock;
 use sqlite::{Alter, Connection};

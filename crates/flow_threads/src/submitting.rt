@@ -1,17 +1,17 @@
 //! What a thread does that submits.
 use crate::commands::{command, note_of, refused_by};
+use crate::note::Note;
+use crate::plan::Plan;
 use flow_hub::hub::Hub;
 use flow_hub::seats::Room;
 use flow_hub::submitter::Submitter;
 use flow_hub::ticket::{NotDone, Ticket};
 use flow_machine::submission::Receipt;
-use flow_races::note::Note;
-use flow_races::plan::Plan;
 use std::alloc::Global;
 use std::collections::VecDeque;
 use std::sync::Wait;
-use std::thread;
 use std::thread::Threads;
+use std::thread;
 use std::time::Clock;
 
 /// What all threads bring back of a race.
