@@ -7,8 +7,8 @@ use Rattle.flow_machine.specs.declared.submission.Receipt.{Receipt}
 use Rattle.flow_machine.specs.declared.submission.Taken.{Taken}
 use Rattle.flow_machine.specs.declared.task.Task.{Task}
 use Rattle.flow_machine.specs.contracts.task.Task as task_row
-use Rattle.flow_commit.specs.Keeping.{log_code, batch_code}
-use Rattle.flow_commit.specs.Accounts.{Accounted, account_code}
+use Rattle.flow_commit.specs.Keeping.{batch_code}
+use Rattle.flow_commit.specs.Accounts.{Accounted, account_code, log_code}
 use Rattle.flow_commit.specs.Stamps.{IsLegal}
 use Rattle.flow_hub.specs.declared.known.Known.{Known}
 use Rattle.flow_hub.specs.declared.known.Outlook.{Outlook}
