@@ -63,6 +63,14 @@ turns_then a b c xs ys p q = q ∙ (ap (λ l. l ++ halted_all ys) p ∙ (append_
 abbrev based : Book → HandedIn → Based
 based b h = record { found = b; opened = h }
 
+-- an engine that does nothing stands together with the publisher, whatever this one has turned away
+pub together_still : (k : Accounted) (was now : Known) → Together k was → now.history ≡ was.history → now.last ≡ was.last → now.held ≡ [] → Together k now
+together_still k was now t history last none = record {
+  log = t.log ∙ sym history;
+  over = subst (λ ks. IsOver ks (k ∷ [])) (sym last) t.over;
+  none = none;
+}
+
 module _ {S : Type 0} where
   -- a batch that stops the engine, behind those that didn't
   pub stops_behind : (old mid new : Keeping S) (was then now : List Refused) (hand : List Taken) (f : Fault)
@@ -121,14 +129,6 @@ module _ {S : Type 0} where
   pub same_base : (g : Ghosts S) (old new : Keeping S) → new.found ≡ old.found → new.stored.opened ≡ old.stored.opened → (account_of g new).base ≡ (account_of g old).base
   same_base g old new found opened =
       ap (λ (b : Book). based b (handed_in (state g new.stored.opened))) found ∙ ap (λ (h : Held S). based old.found (handed_in (state g h))) opened
-
-  -- an engine that does nothing stands together with the publisher, whatever this one has turned away
-  pub together_still : (k : Accounted) (was now : Known) → Together k was → now.history ≡ was.history → now.last ≡ was.last → now.held ≡ [] → Together k now
-  together_still k was now t history last none = record {
-    log = t.log ∙ sym history;
-    over = subst (λ ks. IsOver ks (k ∷ [])) (sym last) t.over;
-    none = none;
-  }
 
   pub follows_self : (g : Ghosts S) (k : Keeping S) → Follows g k k
   follows_self g k = (refl, λ fit. fit)
