@@ -147,6 +147,12 @@ def lives(pairs):
         yield [[pair] for pair in pairs]
 
 
+def sizes(parts):
+    """The sizes of batches that differ for these lives: a batch is no longer than the life that it stands in."""
+    longest = max(map(len, parts), default=0)
+    return [size for at, size in enumerate(BATCHES) if at == 0 or BATCHES[at - 1] < longest]
+
+
 def history_reply(history):
     """The reply that has the events of a run, which `flow history` prints as lines."""
     events = b",".join(b'[%s,"%s",%s]' % tuple(line.split(b" ", 2)) for line in history)
@@ -203,9 +209,7 @@ def jobs(tally, paths, folder):
                 continue
             yield lambda case=case: over_memory(tally, case)
             for parts in lives(case.pairs):
-                # a batch is no longer than its life
-                longest = max(map(len, parts), default=0)
-                for size in [1] + [size for size in BATCHES[1:] if longest > 1]:
+                for size in sizes(parts):
                     number += 1
                     base = os.path.join(folder, f"{number}.db")
                     yield lambda case=case, parts=parts, size=size, base=base: over_a_file(tally, case, parts, size, base)
