@@ -1,7 +1,7 @@
 """The files `tests/cases/*.damage` and `*.bodies`: stores that are changed by SQLite, and what their opening then says.
 
-A `.damage` file has blocks: one with lines and replies makes a sound store, each later one changes a copy of it and names what is said. A
-`.bodies` file has a JSON object a line: the kind and the body of an event, which takes the place of one of a run that is closed, and what is
+A `.damage` file has blocks: one with lines and replies makes a sound store, each later one changes a copy of it and names what is said,
+reads rows of it, or has lines that are driven over it. A `.bodies` file has a JSON object a line: the kind and the body of an event, which takes the place of one of a run that is closed, and what is
 said of it. An opening that refuses a store changes nothing in it.
 """
 import json
@@ -65,9 +65,26 @@ def opened(tally, what, base, statements, status, says, histories=None):
     tally.check(f"{what}, its rows", contents(base), before)
 
 
+def found(base, statement):
+    conn = sqlite3.connect(base)
+    try:
+        return [list(row) for row in conn.execute(statement)]
+    finally:
+        conn.close()
+
+
 def damage(tally, case, sound, base):
     copied(sound, base)
-    opened(tally, case.what, base, [(text, {}) for text in case.statements], case.status, case.says, case.histories)
+    if case.rows:
+        tally.check(case.what, found(base, *case.statements), case.rows)
+        return
+    statements = [(text, {}) for text in case.statements]
+    if not case.pairs:
+        opened(tally, case.what, base, statements, case.status, case.says, case.histories)
+        return
+    changed(base, statements)
+    for pair in case.pairs:
+        tally.check(case.what, flow(["drive", base], joined(pair[:1])), outcome([pair]))
 
 
 def body(tally, what, row, sound, base):
@@ -102,7 +119,7 @@ def jobs(tally, paths, folder):
         for first, block in blocks(path):
             case = read_case(f"{name}:{first}", block)
             to = f"{base}.{first}.db"
-            if case.pairs:
+            if case.pairs and not case.statements:
                 sound = to
                 made(tally, case.what, case.pairs, sound)
             else:

@@ -42,6 +42,7 @@ class Case:
     calls: list = field(default_factory=list)
     files: dict = field(default_factory=dict)
     statements: list = field(default_factory=list)
+    rows: list = field(default_factory=list)
     says: bytes = b""
 
 
@@ -102,6 +103,8 @@ def read_case(place, block):
             of.status, of.says = int(status), (says + "\n").encode() if says else b""
         elif mark == "sql":
             case.statements.append(rest)
+        elif mark == "=":
+            case.rows.append(json.loads(rest))
         elif history:
             case.histories.setdefault(int(history.group(1)), []).append(named_in(history.group(2), names))
         else:
