@@ -2,10 +2,13 @@
 ghost use Rattle.flow_model.specs.Apply.{rules_of};
 
 use flow_base::command::Command;
+use flow_check::language::Language;
 use flow_machine::answer::{Answer, Answering, Stop, Together};
 use flow_machine::decide::{decide, decide_all};
 use flow_machine::seats::Seats;
+use flow_programs::kept::Kept;
 use flow_programs::programs::Programs;
+use flow_view::lists::Lists;
 use flow_view::view::View;
 use std::alloc::Global;
 
@@ -69,5 +72,13 @@ impl<V: View + Drop, P: Programs + Drop> Answering for Deciding<V, P> {
             Ok(replies) => Ok(Together::Replied(replies)),
             Err(_) => Err(Stop::Unknown),
         }
+    }
+}
+
+pub fn over_lists(alloc: Global) -> Deciding<Lists, Kept<Language>> {
+    Deciding {
+        alloc,
+        programs: Kept::new(alloc, Language),
+        view: Lists::new(alloc),
     }
 }

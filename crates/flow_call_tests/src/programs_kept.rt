@@ -1,7 +1,7 @@
 //! Programs that are kept: a text is read once while its program is kept, and those that were asked for last are.
 ghost use Rattle.flow_check.specs.Language.{meaning_of};
 
-use crate::words::{Call, command};
+use crate::commands_kept::commands;
 use flow_base::command::{Command, TextFault};
 use flow_base::text::RawText;
 use flow_check::checked::Checked;
@@ -34,8 +34,13 @@ impl<'a> Texts for Counted<'a> {
     }
 }
 
-const CALLS: &str =
-    "workflow a(n: int) { activity c(int, text) -> int; let r = 0; r = call c(n, \"eur\"); return r + 1; }";
+const LINES: &[&str] = &[
+    r#"{"do":"register","src":"workflow a(n: int) { activity c(int, text) -> int; let r = 0; r = call c(n, \"eur\"); return r + 1; }"}"#,
+    r#"{"args":[7],"at":1000,"do":"start","flow":"f","req":"f","text":1}"#,
+    r#"{"at":1500,"attempt":1,"do":"complete","event":2,"run":1,"value":41}"#,
+    r#"{"args":[7],"at":1000,"do":"start","flow":"g","req":"g","text":1}"#,
+    r#"{"do":"register","src":"workflow a(n: int) { activity c(int, text) -> int; let r = 0; r = call c(n, \"eur\"); return r + 1; }"}"#,
+];
 
 /// Whether a command is decided.
 fn is_put<'a>(
@@ -53,50 +58,38 @@ fn is_put<'a>(
     }
 }
 
-fn is_decided<'a>(
-    alloc: Global,
-    programs: &mut Kept<Counted<'a>>,
-    book: &mut Lists,
-    call: Call,
-) -> bool {
-    match &command(alloc, call) {
-        Some(command) => is_put(alloc, programs, book, command),
-        None => false,
-    }
-}
-
 fn are_all_decided<'a>(
     alloc: Global,
     programs: &mut Kept<Counted<'a>>,
     book: &mut Lists,
-    calls: &[Call],
+    commands: &[Command],
 ) -> bool {
     let mut are = true;
-    for call in calls {
-        are = are && is_decided(alloc, programs, book, *call);
+    for command in commands {
+        are = are && is_put(alloc, programs, book, command);
     }
     are
 }
 
 /// Whether these are decided over a new book, and how many texts are read for it.
-fn read_for(alloc: Global, calls: &[Call]) -> (bool, u64) {
+fn read_for(alloc: Global, commands: &[Command]) -> (bool, u64) {
     let count = Cell::new(0);
     let mut book = Lists::new(alloc);
     let mut programs = Kept::new(alloc, Counted { count: &count });
-    let are = are_all_decided(alloc, &mut programs, &mut book, calls);
+    let are = are_all_decided(alloc, &mut programs, &mut book, commands);
     (are, count.get())
+}
+
+fn read_for_lines(alloc: Global, lines: &[&str]) -> Option<(bool, u64)> {
+    match &commands(alloc, lines) {
+        Some(commands) => Some(read_for(alloc, commands.as_slice())),
+        None => None,
+    }
 }
 
 #[test]
 fn a_text_is_read_once_for_many_commands(rt: HostRuntime) -> Result<(), Fail> {
-    let calls = [
-        Call::Text(CALLS),
-        Call::StartWith("f", 7, 1000),
-        Call::Complete(2, 1, 41, 1500),
-        Call::StartWith("g", 7, 1000),
-        Call::Text(CALLS),
-    ];
-    assert!(rt; read_for(rt.alloc(), &calls) == (true, 1));
+    assert!(rt; read_for_lines(rt.alloc(), LINES) == Some((true, 1)));
     Ok(())
 }
 

@@ -1,5 +1,5 @@
 //! Commands that are given up, or that have no answer.
-use crate::lines::over_lists;
+use crate::lines_deciding::over_lists;
 use flow_base::code::Code;
 use flow_base::command::Command;
 use flow_base::fault::Fault;

@@ -1,8 +1,8 @@
 //! Where a run stands once it has begun: its first report needs no replay.
-use crate::words::{Call, commands};
 use flow_base::command::Command;
 use flow_base::number::{RunId, TextNo};
 use flow_check::language::Language;
+use flow_cli::command::command_of;
 use flow_machine::decide::decide_all;
 use flow_machine::seats::Seats;
 use flow_programs::kept::Kept;
@@ -11,9 +11,20 @@ use std::alloc::Global;
 use std::test::Fail;
 
 const CALLS: &str =
-    "workflow a(n: int) { activity c(int, text) -> int; let r = 0; r = call c(n, \"eur\"); return r + 1; }";
+    r#"{"do":"register","src":"workflow a(n: int) { activity c(int, text) -> int; let r = 0; r = call c(n, \"eur\"); return r + 1; }"}"#;
 
-const ENDS: &str = "workflow b(n: int) { return n; }";
+const ENDS: &str = r#"{"do":"register","src":"workflow b(n: int) { return n; }"}"#;
+
+const STARTS: &str = r#"{"args":[7],"at":1000,"do":"start","flow":"f","req":"f","text":1}"#;
+
+/// These commands, if each line is one.
+pub fn commands(alloc: Global, lines: &[&str]) -> Option<Vec<Command>> {
+    let mut list = Vec::new(alloc);
+    for line in lines {
+        list.push(command_of(alloc, line.as_bytes()).ok()?).ok()?;
+    }
+    Some(list)
+}
 
 /// Whether the position of run 1 under text 1 is known behind so many events.
 fn is_known(seats: &mut Seats, events: u64) -> Option<bool> {
@@ -50,8 +61,8 @@ fn is_known_behind(alloc: Global, commands: &[Command], events: u64) -> Option<b
 }
 
 /// Whether run 1 is known to stand behind so many events, once these commands are kept; nothing where one can't be decided.
-fn stands(alloc: Global, calls: &[Call], events: u64) -> Option<bool> {
-    match &commands(alloc, calls) {
+fn stands(alloc: Global, lines: &[&str], events: u64) -> Option<bool> {
+    match &commands(alloc, lines) {
         Some(commands) => is_known_behind(alloc, commands.as_slice(), events),
         None => None,
     }
@@ -59,15 +70,15 @@ fn stands(alloc: Global, calls: &[Call], events: u64) -> Option<bool> {
 
 #[test]
 fn a_run_stands_where_its_first_turn_led(rt: HostRuntime) -> Result<(), Fail> {
-    let calls = [Call::Text(CALLS), Call::StartWith("f", 7, 1000)];
-    assert!(rt; stands(rt.alloc(), &calls, 2) == Some(true));
-    assert!(rt; stands(rt.alloc(), &calls, 1) == Some(false));
+    let lines = [CALLS, STARTS];
+    assert!(rt; stands(rt.alloc(), &lines, 2) == Some(true));
+    assert!(rt; stands(rt.alloc(), &lines, 1) == Some(false));
     Ok(())
 }
 
 #[test]
 fn a_run_that_ends_at_once_stands_nowhere(rt: HostRuntime) -> Result<(), Fail> {
-    let calls = [Call::Text(ENDS), Call::StartWith("f", 7, 1000)];
-    assert!(rt; stands(rt.alloc(), &calls, 2) == Some(false));
+    let lines = [ENDS, STARTS];
+    assert!(rt; stands(rt.alloc(), &lines, 2) == Some(false));
     Ok(())
 }

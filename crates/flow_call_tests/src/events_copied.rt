@@ -1,9 +1,9 @@
-//! Tests of copies: each equals what it copies, and a shared list is the list.
+//! Copies: each equals what it copies, and a shared list is the list.
 use flow_base::event::{Cmd, Event, Input, What, copy_events, copy_values};
 use flow_base::number::{EventId, Moment};
 use flow_base::sequence::Sequence;
 use flow_base::syntax::{Binary, Block, Expr, Stmt};
-use flow_base::text::{Key, Text};
+use flow_base::text::{Key, RawText, Text};
 use flow_base::value::{Kind, Value};
 use std::alloc::Global;
 use std::sync::Arc;
@@ -95,5 +95,17 @@ fn a_list_is_shared(rt: HostRuntime) -> Result<(), Fail> {
     let shared = block.share()?;
     drop(block);
     assert!(rt; is_let_of_sum(shared.list.as_slice()) && shared.end == 15);
+    Ok(())
+}
+
+#[test]
+fn texts_are_copied(rt: HostRuntime) -> Result<(), Fail> {
+    let key = Key::new(rt.alloc(), "charge")?;
+    assert!(rt; key.copy(rt.alloc())?.is(&key));
+    let text = Text::new(rt.alloc(), "eur")?;
+    assert!(rt; text.copy(rt.alloc())?.is(&text) && Text::empty(rt.alloc()).len() == 0);
+    let bytes = "x".repeat(rt.alloc(), 4097)?;
+    let raw = RawText::new(rt.alloc(), bytes.as_str())?;
+    assert!(rt; raw.copy(rt.alloc())?.is(&raw));
     Ok(())
 }
