@@ -15,26 +15,26 @@ use std::test::Fail;
 /// The line of a command, the line of its reply, and how many changes it makes.
 type Row = (&'static str, &'static str, usize);
 
-const REGISTERS: Row = (
-    r#"{"do":"register","src":"workflow a(n: int) { activity c(int, text) -> int; let r = 0; r = call c(n, \"eur\"); return r + 1; }"}"#,
-    r#"{"reply":"registered","text":1}"#,
-    1,
-);
+const REGISTERS_LINE: &str =
+    r#"{"do":"register","src":"workflow a(n: int) { activity c(int, text) -> int; let r = 0; r = call c(n, \"eur\"); return r + 1; }"}"#;
 
-const STARTS: Row = (
-    r#"{"args":[7],"at":1000,"do":"start","flow":"f","req":"f","text":1}"#,
-    r#"{"reply":"started","run":1}"#,
-    1,
-);
+const REGISTERED: &str = r#"{"reply":"registered","text":1}"#;
 
-const REPORTS: Row = (
-    r#"{"at":1500,"attempt":1,"do":"complete","event":2,"run":1,"value":41}"#,
-    r#"{"event":3,"reply":"recorded","run":1}"#,
-    1,
-);
+const REGISTERS: Row = (REGISTERS_LINE, r#"{"reply":"registered","text":1}"#, 1);
+
+const STARTS_LINE: &str = r#"{"args":[7],"at":1000,"do":"start","flow":"f","req":"f","text":1}"#;
+
+const STARTS: Row = (STARTS_LINE, r#"{"reply":"started","run":1}"#, 1);
+
+const REPORTS_LINE: &str =
+    r#"{"at":1500,"attempt":1,"do":"complete","event":2,"run":1,"value":41}"#;
+
+const REPORTS: Row = (REPORTS_LINE, r#"{"event":3,"reply":"recorded","run":1}"#, 1);
+
+const DESCRIBES_LINE: &str = r#"{"do":"describe","run":1}"#;
 
 const DESCRIBES: Row = (
-    r#"{"do":"describe","run":1}"#,
+    DESCRIBES_LINE,
     r#"{"activities":[],"events":4,"flow":"f","reply":"run","state":"completed","text":1,"timers":[]}"#,
     0,
 );
@@ -48,16 +48,16 @@ const NO_RUN: &str = r#"{"code":"E70","reply":"refused"}"#;
 /// What is known already, what is no program, and what is refused changes nothing; a report and an end do.
 const REPORTED: &[Row] = &[
     REGISTERS,
-    (REGISTERS.0, REGISTERS.1, 0),
+    (REGISTERS_LINE, REGISTERED, 0),
     (
         r#"{"do":"register","src":"workflow x( { }"}"#,
         r#"{"at":12,"code":"E11","reply":"refused"}"#,
         0,
     ),
     STARTS,
-    (STARTS.0, r#"{"reply":"duplicate","run":1}"#, 0),
+    (STARTS_LINE, r#"{"reply":"duplicate","run":1}"#, 0),
     REPORTS,
-    (REPORTS.0, NOT_OPEN, 0),
+    (REPORTS_LINE, NOT_OPEN, 0),
     DESCRIBES,
     (r#"{"do":"history","run":2}"#, NO_RUN, 0),
 ];
@@ -86,7 +86,7 @@ const ENDED: &[Row] = &[
 const FAILED: &[Row] = &[
     (
         r#"{"do":"register","src":"workflow a(n: int) { activity c(int, text) -> int; let r = 0; r = call c(n, \"eur\") retry 3 every 500; return r + 1; }"}"#,
-        REGISTERS.1,
+        REGISTERED,
         1,
     ),
     STARTS,
@@ -115,7 +115,7 @@ const FAILED: &[Row] = &[
 const SIGNALED: &[Row] = &[
     (
         r#"{"do":"register","src":"workflow b(n: int) { signal s: text; let v = \"\"; v = wait signal s for 100 else { v = \"late\"; }; return v; }"}"#,
-        REGISTERS.1,
+        REGISTERED,
         1,
     ),
     STARTS,
@@ -248,7 +248,7 @@ fn what_is_refused_changes_nothing(rt: HostRuntime) -> Result<(), Fail> {
 /// A run that sleeps.
 const SLEEPS: Row = (
     r#"{"do":"register","src":"workflow t(n: int) { sleep n; return n; }"}"#,
-    REGISTERS.1,
+    REGISTERED,
     1,
 );
 
@@ -301,7 +301,7 @@ fn each_timer_that_fires_is_a_change(rt: HostRuntime) -> Result<(), Fail> {
 }
 
 /// A text, a start, a report and a question.
-const TOGETHER: &[&str] = &[REGISTERS.0, STARTS.0, REPORTS.0, DESCRIBES.0];
+const TOGETHER: &[&str] = &[REGISTERS_LINE, STARTS_LINE, REPORTS_LINE, DESCRIBES_LINE];
 
 fn is_completed(run: &Description) -> bool {
     run.events == 4 && run.state == State::Completed
