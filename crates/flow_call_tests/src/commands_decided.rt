@@ -20,7 +20,7 @@ const REGISTERS_LINE: &str =
 
 const REGISTERED: &str = r#"{"reply":"registered","text":1}"#;
 
-const REGISTERS: Row = (REGISTERS_LINE, r#"{"reply":"registered","text":1}"#, 1);
+const REGISTERS: Row = (REGISTERS_LINE, REGISTERED, 1);
 
 const STARTS_LINE: &str = r#"{"args":[7],"at":1000,"do":"start","flow":"f","req":"f","text":1}"#;
 
