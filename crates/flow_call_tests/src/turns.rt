@@ -127,18 +127,18 @@ fn other_of_both(
 
 /// Where turns leave a run.
 #[derive(Clone, Copy)]
-struct Left {
+struct Ending {
     other: Option<usize>,
     is_completed: bool,
     events: u64,
     plain_events: u64,
 }
 
-fn left_under(alloc: Global, program: &Checked, turns: &[Turn]) -> Left {
+fn left_under(alloc: Global, program: &Checked, turns: &[Turn]) -> Ending {
     let mut run = unbegun(alloc);
     let mut stance = Stance::unbegun(alloc);
     let other = other_of_both(alloc, program, &mut run, &mut stance, turns);
-    Left {
+    Ending {
         other,
         is_completed: run.state() == State::Completed && stance.state() == State::Completed,
         events: stance.events(),
@@ -146,12 +146,12 @@ fn left_under(alloc: Global, program: &Checked, turns: &[Turn]) -> Left {
     }
 }
 
-fn left(alloc: Global, turns: &[Turn]) -> Option<Left> {
+fn left(alloc: Global, turns: &[Turn]) -> Option<Ending> {
     let program = program(alloc, CALLER)?;
     Some(left_under(alloc, &program, turns))
 }
 
-fn is_left(left: &Left) -> bool {
+fn is_left(left: &Ending) -> bool {
     matches!(left.other, Some(6)) && left.is_completed && left.events == 4 && left.plain_events == 4
 }
 
