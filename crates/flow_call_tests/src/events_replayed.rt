@@ -1,22 +1,16 @@
 //! Where a replay leaves a run that is open, and a copy of it.
+use crate::histories::{Row, history, program};
 use flow_base::event::{Event, State};
-use flow_base::number::EventId;
 use flow_base::value::{Kind, Value};
-use flow_check::check::check;
 use flow_check::checked::Checked;
-use flow_events::row::of_row;
 use flow_match::replay::replay;
 use flow_run::rest::OpenWait;
 use flow_run::stance::Stance;
-use flow_syntax::parse::parse;
 use std::alloc::Global;
 use std::test::Fail;
 
 const A: &str =
     "workflow a(n: int) { activity c(int, text) -> int; let r = 0; r = call c(n, \"eur\"); return r + 1; }";
-
-/// An event as it is stored: its number, its kind, and its body.
-type Row = (u64, i64, &'static str);
 
 /// The run waits on its activity.
 const OPEN: &[Row] = &[
@@ -27,25 +21,6 @@ const OPEN: &[Row] = &[
         r#"{"activity":"c","args":[7,"eur"],"at":1000,"every":0,"gives":"int","tries":1}"#,
     ),
 ];
-
-fn program(alloc: Global, text: &str) -> Option<Checked> {
-    let program = parse(alloc, text).ok()?;
-    check(alloc, program).ok()
-}
-
-fn event(alloc: Global, row: Row) -> Option<Event> {
-    let (id, kind, body) = row;
-    let id = EventId::new(id)?;
-    of_row(alloc, id, kind, body).ok()
-}
-
-fn history(alloc: Global, rows: &[Row]) -> Option<Vec<Event>> {
-    let mut events = Vec::new(alloc);
-    for row in rows {
-        events.push(event(alloc, *row)?).ok()?;
-    }
-    Some(events)
-}
 
 fn has_seven(program: &Checked, stance: &Stance) -> bool {
     match stance.variable(program, "n") {

@@ -15,6 +15,8 @@ mod events_copied;
 #[cfg(test)]
 mod events_replayed;
 #[cfg(test)]
+mod histories;
+#[cfg(test)]
 mod lines_deciding;
 #[cfg(test)]
 mod lines_faults;
@@ -23,10 +25,18 @@ mod lines_stops;
 #[cfg(test)]
 mod lists_unseen;
 #[cfg(test)]
+mod positions;
+#[cfg(test)]
 mod programs_kept;
 #[cfg(test)]
-mod programs_printed;
+mod replays;
 #[cfg(test)]
 mod rows_read;
 #[cfg(test)]
 mod rows_store;
+#[cfg(test)]
+mod texts;
+#[cfg(test)]
+mod turns;
+#[cfg(test)]
+mod values;
