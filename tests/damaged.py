@@ -1,8 +1,15 @@
 """The files `tests/cases/*.damage` and `*.bodies`: stores that are changed by SQLite, and what their opening then says.
 
-A `.damage` file has blocks: one with lines and replies makes a sound store, each later one changes a copy of it and names what is said,
-reads rows of it, or has lines that are driven over it. A `.bodies` file has a JSON object a line: the kind and the body of an event, which takes the place of one of a run that is closed, and what is
-said of it. An opening that refuses a store changes nothing in it.
+A `.damage` file has blocks as a `.case` file. One with lines and replies makes a sound store; each later one is about a copy of it:
+
+    sql STATEMENT                    changes the copy
+    ! STATUS TEXT                    what its opening says, if it is refused. It changes nothing then
+    RUN: a line of its history, if it is opened
+    = [a row]                        the rows that the one statement, a SELECT, gives
+    > a line of input and < the line that answers it, over the changed copy, each in a life of its own
+
+A `.bodies` file has a JSON object a line: the `kind` and the `body` of an event (or `make`, an expression of Python), which takes the place of
+one of a run that is closed, and what its reading `says`: ok, and the history has that body, or the code of its refusal.
 """
 import json
 import os

@@ -1,8 +1,21 @@
-"""The files `tests/cases/*.case`: commands with their replies, and calls of the program. docs/RELIABILITY.md has their form.
+"""The files `tests/cases/*.case`: commands with their replies, and calls of the program.
+
+A file has blocks with a blank line between two. A block begins with a comment and has lines of these forms:
+
+    # What it shows.
+    text NAME = a text               $NAME in a later line stands for it, as it is written in a string of JSON
+    make NAME = an expression        the same of a text that Python makes; bytes stand for themselves
+    > a line of input, as it is
+    < the line that answers it
+    RUN: a line of `flow history DB RUN`, behind all lines of input
+    ! STATUS TEXT                    the status if it isn't 0, and the line on standard error
 
 Each case is driven over memory and over a file. Over a file it is cut into lives of the program, a short one in every way, so that the store
 is closed and opened again between any two of its lines. Both are applied in batches of several sizes: the replies and the histories are
-always the same. A block that has calls (`$ flow ..`) is called once, as it stands.
+always the same.
+
+A block with lines `$ flow WORDS` has calls of the program instead, one after the other in a folder in which its texts are files of their
+names. Behind a call stand its input, all that it prints, and its end.
 """
 import json
 import os
