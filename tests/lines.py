@@ -77,9 +77,7 @@ def named_in(line, names):
     """A line as bytes, with each `$NAME` in it replaced: a text as it stands in a string of JSON, bytes as they are."""
 
     def replaced(found):
-        value = names.get(found.group(1).decode())
-        if value is None:
-            return found.group()
+        value = names[found.group(1).decode()]
         return value if isinstance(value, bytes) else json.dumps(value, ensure_ascii=False)[1:-1].encode()
 
     return NAME.sub(replaced, line.encode())
@@ -124,6 +122,8 @@ def read_case(place, block):
             raise ValueError(f"{place}: {line}")
     if waiting is not None:
         raise ValueError(f"{place}: the last line has no reply")
+    if not (case.pairs or case.calls or case.statements or case.histories):
+        raise ValueError(f"{place}: nothing is asked")
     case.files = {name: value if isinstance(value, bytes) else value.encode() for name, value in names.items()} if case.calls else {}
     return case
 
