@@ -1,5 +1,0 @@
-//! Tests of which changes of a text are safe, over programs that `parse` reads.
-#![tactic(auto)]
-
-#[cfg(test)]
-mod changes;
