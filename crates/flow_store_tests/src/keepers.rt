@@ -102,7 +102,7 @@ fn code_of_end(fault: &ViewFault) -> u8 {
 }
 
 /// The receipts of a batch that is kept, or the code of its refusal.
-fn ended<S: Alter>(outcome: Outcome<S>) -> Result<Vec<Receipt>, u8> {
+fn ended(outcome: Outcome) -> Result<Vec<Receipt>, u8> {
     match outcome {
         Outcome::Kept(receipts, stamp) => {
             stamp.discard();
