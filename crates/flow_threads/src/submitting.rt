@@ -10,8 +10,8 @@ use flow_machine::submission::Receipt;
 use std::alloc::Global;
 use std::collections::VecDeque;
 use std::sync::Wait;
-use std::thread::Threads;
 use std::thread;
+use std::thread::Threads;
 use std::time::Clock;
 
 /// What all threads bring back of a race.
