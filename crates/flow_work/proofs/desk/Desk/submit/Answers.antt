@@ -1,6 +1,7 @@
-use Rattle.std.proofs.Common.{rules, ◌≡◌, ◌∙◌, true, false}
-use Rattle.flow_hub.proofs.Growing.{before_trans}
-use Rattle.flow_work.proofs.Telling.{told_as, told_ends, told_later, told_then}
+use Rattle.std.proofs.Common.{rules, ◌≡◌, ◌∙◌, true, false, refl}
+use Rattle.flow_hub.proofs.Growing.{before_self, before_trans}
+use Rattle.flow_work.proofs.Telling.{told_as, told_ends, told_later, told_none, told_then}
+use Rattle.flow_work.specs.Telling.{Printed}
 use Rattle.flow_work.proofs.desk.Desk.submit.Goals as goal
 
 pub returns-in-Err-default-HubClosed-clause-told : goal.returns-in-Err-default-HubClosed-clause-told
@@ -14,6 +15,19 @@ returns-then-not-tell_oldest-clause-told g c =
     let seen = before_trans old.was c.submit.new.self.was new.was c.submit.ensures.grows c.tell_oldest.ensures.grows in
     told_then old new (c.tell_oldest.ensures.same ∙ c.submit.ensures.same.0) seen c.tries.invariant.4
     (told_as new c.tell_oldest.result false c.if-not-tell_oldest.true c.tell_oldest.ensures.told)
+
+pub tries-init : goal.tries-init
+tries-init g c =
+    let self = c.args.self.now in
+    let printed : Printed = record { is_mute = self.is_mute; status = self.status; bytes = g.W.Write.contents self.writer } in (
+      tt,
+      tt,
+      search rules,
+      refl,
+      told_none self.submitter true self.pending.lines.items printed,
+      before_self self.submitter.was,
+      refl,
+    )
 
 pub tries-preserved : goal.tries-preserved
 tries-preserved g c =
