@@ -2,13 +2,14 @@
 use crate::store::{Cells, EVENTS, OUTBOX, RUNS, TEXTS, TIMERS, store};
 use flow_base::book::Run;
 use flow_base::fault::{Damage, Table};
+use flow_check::language::Language;
 use flow_rows::book::{WholeBook, read_book};
 use std::alloc::Global;
 use std::test::Fail;
 
 fn read(alloc: Global, cells: &Cells) -> Result<Result<WholeBook, Damage>, Fail> {
     let rows = store(alloc, cells)?;
-    Ok(read_book(alloc, rows)?)
+    Ok(read_book(alloc, &Language, rows)?)
 }
 
 /// The flow of a run, whether a request started it, its text, and how many events and tasks it has.

@@ -5,6 +5,7 @@ use crate::store::{
 };
 use flow_base::code::Code;
 use flow_base::fault::{Damage, Table};
+use flow_check::language::Language;
 use flow_rows::damage::damage;
 use flow_rows::rows::format_row;
 use std::alloc::Global;
@@ -13,7 +14,7 @@ use std::test::Fail;
 /// The first damage of a store. Who calls it holds no rows.
 fn found(alloc: Global, cells: &Cells) -> Result<Option<Damage>, Fail> {
     let rows = store(alloc, cells)?;
-    Ok(damage(alloc, &rows)?)
+    Ok(damage(alloc, &Language, &rows)?)
 }
 
 fn sound() -> Cells<'static> {

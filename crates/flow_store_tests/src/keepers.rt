@@ -2,6 +2,7 @@
 //! what asks it, and closed.
 use crate::calls::{Call, Calls, Told, Want, add_receipts, command, is_as};
 use flow_base::number::Moment;
+use flow_check::language::Language;
 use flow_commit::batch::Batch;
 use flow_commit::board::Board;
 use flow_commit::keeper::Keeper;
@@ -271,7 +272,7 @@ pub fn keeps<S: Alter>(
     conn: Connection<S>,
     keeping: Keeping,
 ) -> (bool, Connection<S>) {
-    match Tables::open(alloc, conn) {
+    match Tables::open(alloc, &Language, conn) {
         Ok((tables, _)) => over_tables(alloc, tables, keeping),
         Err((_, conn)) => (false, conn),
     }

@@ -2,7 +2,7 @@
 use crate::recorded::{Row, Said, history, program};
 use flow_base::event::{Event, State, Wrong};
 use flow_base::value::{Kind, Value};
-use flow_check::checked::Checked;
+use flow_model::checked::Checked;
 use flow_match::fault::ReplayFault;
 use flow_match::replay::replay;
 use flow_run::rest::OpenWait;

@@ -5,7 +5,7 @@ use flow_base::sequence::Sequence;
 use flow_base::text::{Key, Text};
 use flow_base::value::{Kind, Value};
 use flow_check::check::check;
-use flow_check::checked::Checked;
+use flow_model::checked::Checked;
 use flow_syntax::parse::parse;
 use std::alloc::Global;
 

@@ -2,7 +2,7 @@
 //! has.
 use crate::recorded::{Row, Said, history, program};
 use flow_base::event::{Cmd, Event, What};
-use flow_check::checked::Checked;
+use flow_model::checked::Checked;
 use flow_match::matching::matches;
 use flow_run::plain::{PlainRun, plain_turn, unbegun};
 use flow_run::stance::{Answers, Stance, turn};
