@@ -11,9 +11,9 @@ use flow_base::book::Change;
 use flow_base::command::Reply;
 use flow_base::event::Event;
 use flow_base::number::{RunId, TextNo};
-use flow_model::checked::Checked;
 use flow_match::fault::ReplayFault;
 use flow_match::replay::replay;
+use flow_model::checked::Checked;
 use flow_view::fault::ViewFault;
 use std::alloc::Global;
 
