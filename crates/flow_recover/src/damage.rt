@@ -9,11 +9,11 @@ ghost use Rattle.flow_rows.specs.Told.{book_in, Tells};
 
 use flow_base::fault::Damage;
 use flow_check::language::Language;
-use flow_rows::damage;
 use flow_rows::rows::StoreRows;
 use std::alloc::{AllocError, Global};
 
-/// The first damage of rows whose texts are of the language, by table, then run, then place; none exactly where they stand for a book.
+/// The first damage of rows whose texts are of the language, by table, then run, then place; none exactly where they
+/// stand for a book.
 pub fn damage(alloc: Global, rows: &StoreRows) -> Result<Option<Damage>, AllocError>
     // Which damage it is.
     ensures first { IfOk result (λ o. o ≡ first_damage is_program rows.now) }
@@ -24,5 +24,5 @@ pub fn damage(alloc: Global, rows: &StoreRows) -> Result<Option<Damage>, AllocEr
     // Rows that stand for a book have no damage.
     ensures none { IfOk result (λ o. (b : Book) → StandsFor is_program rows.now b → o ≡ None) }
 {
-    damage::damage(alloc, &Language, rows)
+    flow_rows::damage::damage(alloc, &Language, rows)
 }
