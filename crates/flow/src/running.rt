@@ -29,7 +29,7 @@ fn settings_in(rt: &HostRuntime, file: Option<&str>) -> Result<Settings, Setting
 }
 
 /// Runs an engine from standard input to standard output.
-pub fn run<S: Alter + Send + 'static, T: Threads + Wait + Clock + Copy + Send + Drop + 'static>(
+pub fn run<S: Alter, T: Threads + Wait + Clock + Copy + Send + Drop + 'static>(
     rt: &HostRuntime,
     threads: &T,
     engine: &mut Engine<S>,

@@ -7,3 +7,4 @@ pub mod Sealing
 pub mod Seating
 pub mod BoardRows
 pub mod Refusing
+pub mod Handed

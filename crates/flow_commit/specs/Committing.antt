@@ -20,8 +20,8 @@ use Rattle.flow_commit.specs.declared.outcome.Outcome.{Outcome}
 use Rattle.flow_commit.specs.declared.outcome.Outcome.TheVariants as outcomes
 use Rattle.flow_commit.specs.declared.transaction.End.{End}
 use Rattle.flow_commit.specs.declared.transaction.End.TheVariants as end
-use Rattle.flow_commit.specs.Keeping.{Keeping, rules, IsWell, commands_of, kept_book, HasKept, HasRefused, IsUnknown}
-use Rattle.flow_commit.specs.Stamps.{Stamped}
+use Rattle.flow_commit.specs.Keeping.{Keeping, rules, account_of, IsWell, commands_of, kept_book, HasKept, HasRefused, IsUnknown}
+use Rattle.flow_commit.specs.Stamps.{IsStampOf}
 
 -- how a transaction has ended that was to apply commands to a book
 abbrev pub EndsAs : {S : Type 0} → Ghosts S → Stored S → Book → List Command → End → Type 0
@@ -80,14 +80,14 @@ abbrev pub HasNoRoom : ℕ → List Taken → Type 0
 HasNoRoom kept batch = 2 ^ 63 ≤ kept + length batch
 
 -- and a commit, over a book that is kept
-abbrev pub IsFor : {S : Type 0} → Ghosts S → Keeping S → Keeping S → Book → List Taken → Outcome S → Type 0
+abbrev pub IsFor : {S : Type 0} → Ghosts S → Keeping S → Keeping S → Book → List Taken → Outcome → Type 0
 IsFor g old new b batch (outcomes.NotApplied back fault.StoreRefused) = HasNoRoom old.kept batch ⊎ (CantBeApplied b (commands_of batch) ⊎ WasGivenUp g old.stored new.stored)
 IsFor g old new b batch (outcomes.Unknown back f) = WasCutOff g old.stored new.stored f
 IsFor g old new b batch _ = Unit {0}
 
 -- E80 of a commit in the words of what the keeper is before and behind, over the book that is read off the tables: the last place would
 -- be past the last number, the batch can't be applied, or the connection is shut or the store hindered what was done.
-abbrev pub IsRefusedFor : {S : Type 0} → Ghosts S → Keeping S → Keeping S → List Taken → Outcome S → Type 0
+abbrev pub IsRefusedFor : {S : Type 0} → Ghosts S → Keeping S → Keeping S → List Taken → Outcome → Type 0
 IsRefusedFor g old new batch (outcomes.NotApplied back fault.StoreRefused) = HasNoRoom old.kept batch ⊎ (CantBeApplied (kept_book g old) (commands_of batch) ⊎ IsDown g old.stored new.stored)
 IsRefusedFor g old new batch _ = Unit {0}
 
@@ -100,7 +100,7 @@ pub record HasGoneOn {S : Type 0} (g : Ghosts S) (old new : Keeping S) : Type 0 
   pub counts : old.kept ≤ new.kept
 
 -- what a commit has done, by its outcome
-abbrev pub HasCommitted : {S : Type 0} → Ghosts S → Keeping S → Keeping S → Book → List Taken → Outcome S → Type 0
+abbrev pub HasCommitted : {S : Type 0} → Ghosts S → Keeping S → Keeping S → Book → List Taken → Outcome → Type 0
 HasCommitted g old new b batch (outcomes.Kept receipts stamp) = (old.halted ≡ false) × (stamp.number ≡ new.kept) × HasKept g old new b batch receipts.items
 HasCommitted g old new b batch (outcomes.NotApplied back f) = (old.halted ≡ false) × (back ≡ batch) × HasRefused g old new b
 HasCommitted g old new b batch (outcomes.Unknown back f) = (old.halted ≡ false) × (back ≡ batch) × IsUnknown g old new b batch
@@ -110,16 +110,12 @@ HasCommitted g old new b batch (outcomes.Halted back) = (old.halted ≡ true) ×
 abbrev pub taken_of : Receipt → Taken
 taken_of r = record { ticket = r.ticket; command = r.command }
 
--- the stamp names its keeper and these receipts
-abbrev pub IsStampOf : {S : Type 0} → Keeping S → List Receipt → Stamped S → Type 0
-IsStampOf k rs stamp = stamp ≡ record { number = k.kept; keeper = k; own = rs }
-
 -- What the keeper notes of a batch, whatever the disk tells it: one that is kept is counted, has a receipt for each command, which
--- repeats its submission, and these receipts are what the log has more; its stamp names this keeper and them. One that isn't kept
+-- repeats its submission, and these receipts are what the log has more; its stamp names what is kept, and them. One that isn't kept
 -- comes back, and the log is as before; behind one of which nobody knows the keeper has halted.
-abbrev pub HasNoted : {S : Type 0} → Keeping S → Keeping S → List Taken → Outcome S → Type 0
-HasNoted old new batch (outcomes.Kept receipts stamp) =
-    (new.halted ≡ false) × (new.kept ≡ old.kept + length batch) × (length receipts.items ≡ length batch) × (map taken_of receipts.items ≡ batch) × (new.log ≡ old.log ++ receipts.items) × IsStampOf new receipts.items stamp
-HasNoted old new batch (outcomes.NotApplied back f) = (new.halted ≡ false) × (new.kept ≡ old.kept) × (new.log ≡ old.log) × (back ≡ batch)
-HasNoted old new batch (outcomes.Unknown back f) = (new.halted ≡ true) × (new.kept ≡ old.kept) × (new.log ≡ old.log) × (back ≡ batch)
-HasNoted old new batch (outcomes.Halted back) = (new.halted ≡ true) × (new ≡ old) × (back ≡ batch)
+abbrev pub HasNoted : {S : Type 0} → Ghosts S → Keeping S → Keeping S → List Taken → Outcome → Type 0
+HasNoted g old new batch (outcomes.Kept receipts stamp) =
+    (new.halted ≡ false) × (new.kept ≡ old.kept + length batch) × (length receipts.items ≡ length batch) × (map taken_of receipts.items ≡ batch) × (new.log ≡ old.log ++ receipts.items) × IsStampOf (account_of g new) receipts.items stamp
+HasNoted g old new batch (outcomes.NotApplied back f) = (new.halted ≡ false) × (new.kept ≡ old.kept) × (new.log ≡ old.log) × (back ≡ batch)
+HasNoted g old new batch (outcomes.Unknown back f) = (new.halted ≡ true) × (new.kept ≡ old.kept) × (new.log ≡ old.log) × (back ≡ batch)
+HasNoted g old new batch (outcomes.Halted back) = (new.halted ≡ true) × (new ≡ old) × (back ≡ batch)

@@ -6,32 +6,30 @@ use Rattle.flow_base.specs.declared.command.Command.{Command}
 use Rattle.flow_base.specs.declared.command.Reply.{Reply}
 use Rattle.flow_check.specs.Language.{meaning_of}
 use Rattle.flow_model.specs.Book.{Book}
+use Rattle.flow_commit.specs.Accounts.{Accounted, book_code, handed_in, log_code}
+use Rattle.sqlite.specs.Held.{state}
 use Rattle.flow_model.specs.Apply.{Rules, rules_of, outcome, after, after_one, replies}
 use Rattle.flow_model.specs.Sound.{IsSound, IsOrderly}
 use Rattle.flow_machine.specs.declared.submission.Taken.{Taken}
 use Rattle.flow_machine.specs.declared.submission.Receipt.{Receipt}
 use Rattle.flow_machine.specs.contracts.submission.Taken as taken_row
-use Rattle.flow_machine.specs.contracts.submission.Receipt as receipt_row
 use Rattle.flow_tables.specs.Owned as tables
 use Rattle.flow_tables.specs.Owned.{Stored, stored_code, state_of, Keeps, LeavesEither}
 
 -- The value of a keeper: its tables, how many commands it has kept since they were opened, and whether it has halted; for
--- contracts alone also the tables as they were when it was made, and the receipts of all commands that it has kept since.
+-- contracts alone also the book that was found when it was made, and the receipts of all commands that it has kept since.
 pub record Keeping (S : Type 0) : Type 0 where
   pub stored : Stored S
   pub kept : ℕ
   pub halted : Bool
-  pub base : Stored S
+  pub found : Book
   pub log : List Receipt
-
-abbrev pub log_code : Coded (List Receipt)
-log_code = coded_list receipt_row.the_row.coded
 
 abbrev pub keeping_code : {S : Type 0} → Coded S → Coded (Keeping S)
 keeping_code {S} store =
-    code_by (Stored S × (ℕ × (Bool × (Stored S × List Receipt)))) (coded× (stored_code store) (coded× coded_ℕ (coded× coded_bool (coded× (stored_code store) log_code))))
-    (λ k. (k.stored, (k.kept, (k.halted, (k.base, k.log)))))
-    (λ p. record { stored = p.0; kept = p.1.0; halted = p.1.1.0; base = p.1.1.1.0; log = p.1.1.1.1 }) (λ _. refl)
+    code_by (Stored S × (ℕ × (Bool × (Book × List Receipt)))) (coded× (stored_code store) (coded× coded_ℕ (coded× coded_bool (coded× book_code log_code))))
+    (λ k. (k.stored, (k.kept, (k.halted, (k.found, k.log)))))
+    (λ p. record { stored = p.0; kept = p.1.0; halted = p.1.1.0; found = p.1.1.1.0; log = p.1.1.1.1 }) (λ _. refl)
 
 -- the rules of the product
 abbrev pub rules : Rules
@@ -85,21 +83,21 @@ count_from first (suc n) = first ∷ count_from (suc first) n
 abbrev pub AreReplies : Book → List Receipt → Type 0
 AreReplies b rs = replied_in rs ≡ replies rules b (logged rs)
 
--- As far as the disk has told no lie it had told none when the keeper was made, and whichever book the tables kept then, all
--- replies since are those of apply over it.
-abbrev pub IsLegal : {S : Type 0} → Ghosts S → Keeping S → Type 0
-IsLegal g k = IsFit g k → tables.IsFit g k.base × ((b : Book) → Keeps (state_of g k.base) b → AreReplies b k.log)
-
--- And while the keeper goes on the tables keep the book after all these commands.
+-- As far as the disk has told no lie the tables keep the book after all these commands, while the keeper goes on.
 abbrev pub IsAfter : {S : Type 0} → Ghosts S → Keeping S → Type 0
-IsAfter g k = IsFit g k → k.halted ≡ false → (b : Book) → Keeps (state_of g k.base) b → KeepsBook g k (after rules b (logged k.log))
+IsAfter g k = IsFit g k → k.halted ≡ false → KeepsBook g k (after rules k.found (logged k.log))
 
--- What a keeper keeps true of what it has kept: one history, whose places count from 1.
-pub record IsLawful {S : Type 0} (g : Ghosts S) (k : Keeping S) : Type 0 where
-  pub legal : IsLegal g k
+-- What a keeper keeps true of what it has kept: one history, whose places count from 1. As far as the disk has told no lie all replies
+-- are those of apply over the book that was found.
+pub record IsLawfulKeeper {S : Type 0} (g : Ghosts S) (k : Keeping S) : Type 0 where
+  pub legal : IsFit g k → AreReplies k.found k.log
   pub stands : IsAfter g k
   pub counts : k.kept ≡ length k.log
   pub places : map place_of k.log ≡ count_from 1 k.kept
+
+-- what a stamp tells of it
+abbrev pub account_of : {S : Type 0} → Ghosts S → Keeping S → Accounted
+account_of g k = record { base = record { found = k.found; opened = handed_in (state g k.stored.opened) }; clean = (state_of g k.stored).is_clean; kept = k.kept; log = k.log }
 
 ---- A batch
 

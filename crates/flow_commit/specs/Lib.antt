@@ -1,3 +1,4 @@
+pub mod Accounts
 pub mod Keeping
 pub mod Committing
 pub mod Stamps

@@ -1,17 +1,42 @@
 -- What a stamp names.
-use Rattle.std.specs.Prelude.{ℕ, List, refl}
+use Rattle.std.specs.Prelude.{◌≡◌, ℕ, List, [], ◌∷◌, length, map, refl}
 use Rattle.std.specs.Coded.{Coded, code_by, coded×, coded_ℕ}
+use Rattle.sqlite_trees.specs.View.{doubt}
 use Rattle.flow_machine.specs.declared.submission.Receipt.{Receipt}
-use Rattle.flow_commit.specs.Keeping.{Keeping, keeping_code, log_code}
+use Rattle.flow_commit.specs.Keeping.{AreReplies, place_of, count_from}
+use Rattle.flow_commit.specs.Accounts.{Accounted, WereOurs, account_code, log_code, no_account}
 
--- The place of the batch's last command; for contracts alone the keeper as the commit left it, so the tables as they were when it
--- was made and all receipts since, and the receipts of the batch, which are the last of these.
-pub record Stamped (S : Type 0) : Type 0 where
+-- The tables that were opened were ours or none, and the disk had told no lie so far.
+abbrev pub IsTrusted : Accounted → Type 0
+IsTrusted a = WereOurs a.base.opened × (doubt a.clean ≡ 0)
+
+-- As far as it is to be trusted all replies are those of apply over the book that was found.
+abbrev pub IsLegal : Accounted → Type 0
+IsLegal a = IsTrusted a → AreReplies a.base.found a.log
+
+-- one history, whose places count from 1
+pub record IsLawful (a : Accounted) : Type 0 where
+  pub legal : IsLegal a
+  pub counts : a.kept ≡ length a.log
+  pub places : map place_of a.log ≡ count_from 1 a.kept
+
+-- the one that a list holds
+abbrev pub only : List Accounted → Accounted
+only [] = no_account
+only (a ∷ more) = a
+
+-- The place of the batch's last command; for contracts alone what the keeper had kept as the commit left it, and the receipts of the
+-- batch, which are the last of these.
+pub record Stamped : Type 0 where
   pub number : ℕ
-  pub keeper : Keeping S
+  pub account : Accounted
   pub own : List Receipt
 
-abbrev pub stamped_code : {S : Type 0} → Coded S → Coded (Stamped S)
-stamped_code {S} store =
-    code_by (ℕ × (Keeping S × List Receipt)) (coded× coded_ℕ (coded× (keeping_code store) log_code)) (λ s. (s.number, (s.keeper, s.own)))
-    (λ p. record { number = p.0; keeper = p.1.0; own = p.1.1 }) (λ _. refl)
+abbrev pub stamped_code : Coded Stamped
+stamped_code =
+    code_by (ℕ × (Accounted × List Receipt)) (coded× coded_ℕ (coded× account_code log_code)) (λ s. (s.number, (s.account, s.own)))
+    (λ p. record { number = p.0; account = p.1.0; own = p.1.1 }) (λ _. refl)
+
+-- the stamp names what its keeper has kept, and these receipts
+abbrev pub IsStampOf : Accounted → List Receipt → Stamped → Type 0
+IsStampOf a rs stamp = stamp ≡ record { number = a.kept; account = a; own = rs }

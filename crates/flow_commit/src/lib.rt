@@ -1,6 +1,7 @@
 //! The keeper of the book in a store: it commits batches of commands.
 #![tactic(auto)]
 
+pub mod account;
 pub mod batch;
 pub mod board;
 mod deciding;

@@ -1,37 +1,34 @@
 //! What a commit that was kept is known by.
 ghost use Rattle.std.specs.Prelude.{◌≡◌};
-ghost use Rattle.flow_commit.specs.Keeping.{IsLawful};
+ghost use Rattle.flow_commit.specs.Stamps.{IsLawful};
 
-use crate::keeper::Keeper;
+use crate::account::Account;
 use flow_machine::submission::Receipt;
-use sqlite::Alter;
 use std::marker::Model;
-use std::snapshot::Snapshot;
 use unseen::Listed;
 
 /// The stamp of one kept batch. A commit alone makes it, and it can't be dropped: whoever has it spends it or gives it up.
-pub struct Stamp<S: Alter> {
+pub struct Stamp {
     pub(crate) number: u64,
-    /// The keeper as the commit left it, for contracts alone.
-    pub(crate) keeper: Snapshot<Keeper<S>>,
+    /// What the keeper had kept as the commit left it, for contracts alone: a list of one.
+    pub(crate) account: Listed<Account>,
     /// The receipts of the batch, for contracts alone.
     pub(crate) own: Listed<Receipt>,
 }
 
-impl<S: Alter> Model for Stamp<S> {
-    ghost use Rattle.flow_commit.specs.Keeping.{IsLawful};
-    ghost use Rattle.flow_commit.specs.Stamps.{Stamped, stamped_code};
+impl Model for Stamp {
+    ghost use Rattle.flow_commit.specs.Stamps.{IsLawful, Stamped, stamped_code, only};
 
-    ghost Value = { Stamped S };
+    ghost Value = { Stamped };
 
-    ghost coded = { stamped_code S.code };
+    ghost coded = { stamped_code };
 
-    ghost view = { λ s. record { number = s.number; keeper = s.keeper.value; own = s.own } };
+    ghost view = { λ s. record { number = s.number; account = only s.account; own = s.own } };
 
-    ghost invariant = { λ s. IsLawful S.Store s.keeper.value };
+    ghost invariant = { λ s. IsLawful (only s.account) };
 }
 
-impl<S: Alter> Stamp<S> {
+impl Stamp {
     /// The place of the batch's last command among those kept since the store was opened, from 1 on.
     pub fn number(&self) -> u64
         ensures { result ≡ self.now.number }
@@ -42,11 +39,11 @@ impl<S: Alter> Stamp<S> {
     /// Spends the stamp where its receipts are published, and gives its number.
     pub fn spend(self) -> u64
         ensures number { result ≡ self.number }
-        ensures lawful { IsLawful S.Store self.keeper }
+        ensures lawful { IsLawful self.account }
     {
         let Stamp {
             number,
-            keeper: _,
+            account: _,
             own: _,
         } = self;
         number
@@ -54,11 +51,11 @@ impl<S: Alter> Stamp<S> {
 
     /// Gives the stamp up: its receipts are published nowhere.
     pub fn discard(self)
-        ensures { IsLawful S.Store self.keeper }
+        ensures { IsLawful self.account }
     {
         let Stamp {
             number: _,
-            keeper: _,
+            account: _,
             own: _,
         } = self;
     }

@@ -17,7 +17,7 @@ module _ {S : Type 0} (g : Ghosts S) where
   pub recovered_found : (conn : Held S) (k : Keeping S) (qs : List Position) → k.stored.opened ≡ conn → (IsFit g k → IsRecovered g (state g conn) k qs) → IsFit g k → HasFound g k qs
   recovered_found conn k qs opened recovered fit =
       let its = recovered fit in
-      record { book = its.book; found = subst (λ (h : Held S). IsFound (state g h) its.book) (sym opened) its.found; are = its.positions }
+      record { book = k.found; found = subst (λ (h : Held S). IsFound (state g h) k.found) (sym opened) its.found; are = its.positions }
 
   -- They are of the opening, which no command changes.
   pub found_on : (old new : Keeping S) (qs : List Position) → new.stored.opened ≡ old.stored.opened → (IsFit g new → IsFit g old) → (IsFit g old → HasFound g old qs) → IsFit g new → HasFound g new qs

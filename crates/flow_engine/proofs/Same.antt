@@ -1,11 +1,9 @@
 -- Whether two books are the same.
-use Rattle.std.proofs.Common.{◌≡◌, ℕ, zero, suc, List, refl, ap, ◌∙◌, inl, inr, arith}
+use Rattle.std.proofs.Common.{◌≡◌, ℕ, zero, suc, refl, ap, ◌∙◌, inl, inr, arith}
 use Rattle.std.specs.Prelude.{◌⊎◌}
-use Rattle.std.specs.Coded.{Coded, coded_ℕ, coded_list, coded×, code_by}
 use base.Stored.{Gv, gnil, gnum, gcons}
-use Rattle.flow_base.specs.contracts.book.Run as run_row
-use Rattle.flow_base.specs.declared.book.Run.{Run}
 use Rattle.flow_model.specs.Book.{Book}
+use Rattle.flow_commit.specs.Accounts.{book_code}
 
 abbrev pub Decided : {A : Type 0} → A → A → Type 0
 Decided x y = (x ≡ y) ⊎ (x ≡ y → ⊥)
@@ -62,9 +60,6 @@ same_tree (gcons a b) (gcons c d) = elim (same_tree a c) [
   ]
   | inr other ↦ inr (λ e. other (ap (λ x. first_of x a) e))
 ]
-
-book_code : Coded Book
-book_code = code_by (List (List ℕ) × List Run) (coded× (coded_list (coded_list coded_ℕ)) (coded_list run_row.the_row.coded)) (λ b. (b.texts, b.runs)) (λ p. record { texts = p.0; runs = p.1 }) (λ _. refl)
 
 pub same_book : (x y : Book) → Decided x y
 same_book x y = elim (same_tree (book_code.code x) (book_code.code y)) [

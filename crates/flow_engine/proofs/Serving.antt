@@ -4,15 +4,18 @@ use Rattle.std.specs.Prelude.{All}
 use Rattle.std.proofs.lemmas.List.{append-nil, map-append}
 use Rattle.std.proofs.lemmas.List.Elements.{All-nil, All-cons, All-append}
 use Rattle.sqlite_trees.specs.declared.store.Store.{Ghosts}
+use Rattle.sqlite.specs.Held.{Held, state}
 use Rattle.flow_base.specs.declared.code.Code.TheVariants as code
 use Rattle.flow_base.specs.declared.fault.Fault.{Fault}
 use Rattle.flow_machine.specs.declared.submission.Taken.{Taken}
 use Rattle.flow_view.specs.Codes.{view_fault_code}
 use Rattle.flow_view.specs.declared.fault.ViewFault.{ViewFault}
 use Rattle.flow_view.specs.declared.fault.ViewFault.TheVariants as view_fault
+use Rattle.flow_model.specs.Book.{Book}
 use Rattle.flow_tables.specs.Owned as tables
 use Rattle.flow_commit.proofs.Following as following
-use Rattle.flow_commit.specs.Keeping.{Keeping, IsFit, IsUp}
+use Rattle.flow_commit.specs.Accounts.{Accounted, Based, HandedIn, handed_in}
+use Rattle.flow_commit.specs.Keeping.{Keeping, IsFit, IsUp, account_of}
 use Rattle.flow_hub.specs.declared.known.Known.{Known}
 use Rattle.flow_queues.specs.declared.refused.Refused.{Refused}
 use Rattle.flow_queues.specs.Refusing.{refused_by}
@@ -56,6 +59,17 @@ pub turns_then : (a b c : List Refused) (xs ys : List Taken) → TurnsAway a b x
 turns_then a b c xs ys p q = q ∙ (ap (λ l. l ++ halted_all ys) p ∙ (append_assoc a (halted_all xs) (halted_all ys) ∙ ap (λ l. a ++ l) (sym (map-append (refused_by code.Halted) xs ys))))
 
 ---- The engine and the hub
+
+abbrev based : Book → HandedIn → Based
+based b h = record { found = b; opened = h }
+
+-- an engine that does nothing stands together with the publisher, whatever this one has turned away
+pub together_still : (k : Accounted) (was now : Known) → Together k was → now.history ≡ was.history → now.last ≡ was.last → now.held ≡ [] → Together k now
+together_still k was now t history last none = record {
+  log = t.log ∙ sym history;
+  over = subst (λ ks. IsOver ks (k ∷ [])) (sym last) t.over;
+  none = none;
+}
 
 module _ {S : Type 0} where
   -- a batch that stops the engine, behind those that didn't
@@ -111,13 +125,10 @@ module _ {S : Type 0} where
   turned_behind old new was now last waiting ws f (inr h) turns =
       inr (h.0, record { halted = h.1.halted; same = h.1.same; are = turns_then was now last waiting ws h.1.are turns })
 
-  -- an engine that does nothing stands together with the publisher, whatever this one has turned away
-  pub together_still : (k : Keeping S) (was now : Known S) → Together k was → now.history ≡ was.history → now.last ≡ was.last → now.held ≡ [] → Together k now
-  together_still k was now t history last none = record {
-    log = t.log ∙ sym history;
-    over = subst (λ ks. IsOver ks (k ∷ [])) (sym last) t.over;
-    none = none;
-  }
+  -- an engine over one book and one connection has one base
+  pub same_base : (g : Ghosts S) (old new : Keeping S) → new.found ≡ old.found → new.stored.opened ≡ old.stored.opened → (account_of g new).base ≡ (account_of g old).base
+  same_base g old new found opened =
+      ap (λ (b : Book). based b (handed_in (state g new.stored.opened))) found ∙ ap (λ (h : Held S). based old.found (handed_in (state g h))) opened
 
   pub follows_self : (g : Ghosts S) (k : Keeping S) → Follows g k k
   follows_self g k = (refl, λ fit. fit)
@@ -128,7 +139,7 @@ module _ {S : Type 0} where
   pub still_self : (g : Ghosts S) (k : Keeping S) → IsStill g k k
   still_self g k = record {
     log = refl;
-    base = refl;
+    found = refl;
     halted = refl;
     kept = refl;
     nothing = λ _. refl;
@@ -138,11 +149,11 @@ module _ {S : Type 0} where
   }
 
   -- by what making a board says
-  pub board_still : (g : Ghosts S) (old new : Keeping S) → (new.halted ≡ old.halted) × (new.kept ≡ old.kept) × (new.base ≡ old.base) × (new.log ≡ old.log) → tables.Follows g old.stored new.stored → (IsFit g new → IsFit g old)
+  pub board_still : (g : Ghosts S) (old new : Keeping S) → (new.halted ≡ old.halted) × (new.kept ≡ old.kept) × (new.found ≡ old.found) × (new.log ≡ old.log) → tables.Follows g old.stored new.stored → (IsFit g new → IsFit g old)
       → (IsFit g new → IsUp g old → WasOwn g old new) → (old.halted ≡ true → new ≡ old) → IsStill g old new
   board_still g old new same stored fit own nothing = record {
     log = same.3;
-    base = same.2;
+    found = same.2;
     halted = same.0;
     kept = same.1;
     nothing = nothing;
@@ -154,7 +165,7 @@ module _ {S : Type 0} where
   pub still_then : (g : Ghosts S) (a b c : Keeping S) → IsStill g a b → IsStill g b c → IsStill g a c
   still_then g a b c p q = record {
     log = q.log ∙ p.log;
-    base = q.base ∙ p.base;
+    found = q.found ∙ p.found;
     halted = q.halted ∙ p.halted;
     kept = q.kept ∙ p.kept;
     nothing = λ h. q.nothing (p.halted ∙ h) ∙ p.nothing h;

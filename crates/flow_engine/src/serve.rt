@@ -3,6 +3,7 @@ ghost use Rattle.std.specs.Prelude.{◌≡◌, ◌≤◌, true, false, [], List,
 ghost use Rattle.std.specs.Vec.{vec_capacity};
 ghost use Rattle.flow_base.specs.Codes.{fault_code};
 ghost use Rattle.flow_machine.specs.declared.submission.Taken.{Taken as ATaken};
+ghost use Rattle.flow_commit.specs.Keeping.{account_of};
 ghost use Rattle.flow_hub.specs.Knowing.{IsBefore};
 ghost use Rattle.flow_engine.specs.Boarding.{IsStill};
 ghost use Rattle.flow_hub.specs.Publishing.{InHand, IsDone, Together};
@@ -42,17 +43,17 @@ fn list_with_room<R: Wait>(rt: &R, alloc: Global, most: usize) -> Vec<Taken>
 fn commit_taken<S: Alter, B: Room, R: Wait>(
     rt: &R,
     engine: &mut Engine<S>,
-    publisher: &mut Publisher<S, B>,
+    publisher: &mut Publisher<B>,
     batch: Batch,
 ) -> Result<(), Fault>
-    requires hand { InHand engine.old publisher.old batch }
-    ensures together { Together engine.new publisher.new }
+    requires hand { InHand (account_of S.Store engine.old) publisher.old batch }
+    ensures together { Together (account_of S.Store engine.new) publisher.new }
     ensures goes_on { OnOk result ((engine.old.halted ≡ false) × (engine.new.halted ≡ false)) }
     ensures given_up { OnOk result (GivesUp publisher.old.refused publisher.new.refused) }
     ensures stops { IfErr result (λ f. StopsAt engine.old engine.new publisher.old.refused publisher.new.refused batch f) }
     // It was committed, and this has become of it, with what stands behind E80.
     ensures answered { HasAnswered S.Store engine.old engine.new publisher.old.refused publisher.new.refused batch }
-    ensures base { engine.new.base ≡ engine.old.base }
+    ensures found { engine.new.found ≡ engine.old.found }
     ensures follows { Follows S.Store engine.old engine.new }
     ensures grows { IsBefore publisher.old publisher.new }
 {
@@ -80,11 +81,11 @@ fn commit_taken<S: Alter, B: Room, R: Wait>(
 fn try_board<S: Alter, B: Room, R: Wait, C: Clock>(
     rt: &R,
     engine: &mut Engine<S>,
-    publisher: &mut Publisher<S, B>,
+    publisher: &mut Publisher<B>,
     clock: &C,
 ) -> Result<(), Code>
-    requires together { Together engine.old publisher.old }
-    ensures together { Together engine.new publisher.new }
+    requires together { Together (account_of S.Store engine.old) publisher.old }
+    ensures together { Together (account_of S.Store engine.new) publisher.new }
     ensures boarded { OnOk result (publisher.new.boarded ≡ true) }
     ensures still { IsStill S.Store engine.old engine.new }
     ensures refused { publisher.new.refused ≡ publisher.old.refused }
@@ -103,11 +104,11 @@ fn try_board<S: Alter, B: Room, R: Wait, C: Clock>(
 fn post_board<S: Alter, B: Room, R: Wait, C: Clock>(
     rt: &R,
     engine: &mut Engine<S>,
-    publisher: &mut Publisher<S, B>,
+    publisher: &mut Publisher<B>,
     clock: &C,
 )
-    requires together { Together engine.old publisher.old }
-    ensures together { Together engine.new publisher.new }
+    requires together { Together (account_of S.Store engine.old) publisher.old }
+    ensures together { Together (account_of S.Store engine.new) publisher.new }
     ensures boarded { publisher.new.boarded ≡ true }
     ensures still { IsStill S.Store engine.old engine.new }
     ensures refused { publisher.new.refused ≡ publisher.old.refused }
@@ -126,21 +127,21 @@ fn post_board<S: Alter, B: Room, R: Wait, C: Clock>(
 fn serve_all<S: Alter, B: Room, R: Wait, C: Clock>(
     rt: &R,
     engine: &mut Engine<S>,
-    publisher: &mut Publisher<S, B>,
+    publisher: &mut Publisher<B>,
     clock: &C,
     first: Vec<Taken>,
     most: usize,
 ) -> Result<(), Fault>
-    requires together { Together engine.old publisher.old }
+    requires together { Together (account_of S.Store engine.old) publisher.old }
     requires most { (1 ≤ most) × (most ≤ 64) }
     requires room { (first.items ≡ []) × (most ≤ vec_capacity first) }
-    ensures together { Together engine.new publisher.new }
+    ensures together { Together (account_of S.Store engine.new) publisher.new }
     ensures done { OnOk result (IsDone publisher.new) }
     ensures goes_on { OnOk result (engine.new.halted ≡ engine.old.halted) }
     ensures given_up { OnOk result (GivesUp publisher.old.refused publisher.new.refused) }
     ensures stops { IfErr result (λ f. (waiting : List ATaken) × StopsFor engine.old engine.new publisher.old.refused publisher.new.refused waiting f) }
     ensures served { HasServed S.Store engine.old engine.new publisher.old.refused publisher.new.refused [] }
-    ensures base { engine.new.base ≡ engine.old.base }
+    ensures found { engine.new.found ≡ engine.old.found }
     ensures follows { Follows S.Store engine.old engine.new }
     ensures grows { IsBefore publisher.old publisher.new }
 {
@@ -165,10 +166,10 @@ fn code_of(fault: &Fault) -> Code
 }
 
 /// Takes nothing more in, and answers all that waits that the engine has halted: E85. There is no board any more, for this code.
-fn turn_away<S: Alter, B: Room, R: Wait>(
+fn turn_away<B: Room, R: Wait>(
     rt: &R,
     alloc: Global,
-    publisher: &mut Publisher<S, B>,
+    publisher: &mut Publisher<B>,
     most: usize,
     code: Code,
 )
@@ -211,14 +212,14 @@ impl<S: Alter> Engine<S> {
     pub fn serve<B: Room, R: Wait, C: Clock>(
         &mut self,
         rt: &R,
-        publisher: &mut Publisher<S, B>,
+        publisher: &mut Publisher<B>,
         clock: &C,
         most: usize,
     ) -> Result<(), Fault>
-        requires together { Together self.old publisher.old }
+        requires together { Together (account_of S.Store self.old) publisher.old }
         requires most { (1 ≤ most) × (most ≤ 64) }
         // At the end the hub's history is what the keeper has kept, and all that was submitted is answered.
-        ensures together { Together self.new publisher.new }
+        ensures together { Together (account_of S.Store self.new) publisher.new }
         ensures done { IsDone publisher.new }
         ensures goes_on { OnOk result (self.new.halted ≡ self.old.halted) }
         ensures given_up { OnOk result (GivesUp publisher.old.refused publisher.new.refused) }
@@ -228,7 +229,7 @@ impl<S: Alter> Engine<S> {
         ensures served { MatchResult result
             (λ _. HasServed S.Store self.old self.new publisher.old.refused publisher.new.refused [])
             (λ _. (waiting : List ATaken) × HasServed S.Store self.old self.new publisher.old.refused publisher.new.refused waiting) }
-        ensures base { self.new.base ≡ self.old.base }
+        ensures found { self.new.found ≡ self.old.found }
         ensures follows { Follows S.Store self.old self.new }
         ensures grows { IsBefore publisher.old publisher.new }
     {

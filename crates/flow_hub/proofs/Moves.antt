@@ -70,391 +70,389 @@ at_end (v ∷ xs) w u (suc j) e = ⊎_elim (λ t. inl t) (λ (t : (j ≡ length 
 
 ---- The numbers of submitters
 
-module _ {S : Type 0} where
-  -- what one seat must show of its number
-  abbrev IsSeat : ℕ → (ℕ → ℕ) → ℕ → Sight S → Type 0
-  IsSeat members seat by v = ((n : ℕ) → v.member ≡ Some n → (n < members) × (seat n ≡ by)) × IsApart v
+-- what one seat must show of its number
+abbrev IsSeat : ℕ → (ℕ → ℕ) → ℕ → Sight → Type 0
+IsSeat members seat by v = ((n : ℕ) → v.member ≡ Some n → (n < members) × (seat n ≡ by)) × IsApart v
 
-  without : (members : ℕ) (seat : ℕ → ℕ) (by : ℕ) (w : Sight S) → w.member ≡ None → IsSeat members seat by w
-  without members seat by w none' = ((λ n is. absurd (no_number n (sym none' ∙ is))), (λ n m is. absurd (no_number n (sym none' ∙ is))))
+without : (members : ℕ) (seat : ℕ → ℕ) (by : ℕ) (w : Sight) → w.member ≡ None → IsSeat members seat by w
+without members seat by w none' = ((λ n is. absurd (no_number n (sym none' ∙ is))), (λ n m is. absurd (no_number n (sym none' ∙ is))))
 
-  met_none : (w : Sight S) → w.met ≡ None → IsApart w
-  met_none w none' n is = absurd (no_number n (sym none' ∙ is))
+met_none : (w : Sight) → w.met ≡ None → IsApart w
+met_none w none' n is = absurd (no_number n (sym none' ∙ is))
 
-  seats_set : (members : ℕ) (seat : ℕ → ℕ) (views : List (Sight S)) (by : ℕ) (w : Sight S) → ((j : ℕ) (u : Sight S) → j ≢ by → get_elem? views j ≡ some u → IsSeat members seat j u) → IsSeat members seat by w
-      → (j : ℕ) (u : Sight S) → get_elem? (set views by w) j ≡ some u → IsSeat members seat j u
-  seats_set members seat views by w others mine j u e =
-      ⊎_elim
-      (λ (x : (j ≡ by) × (w ≡ u)). subst (λ (y : ℕ × Sight S). IsSeat members seat y.0 y.1) (λ i. (sym x.0 i, x.1 i)) mine)
-      (λ (x : (j ≢ by) × (get_elem? views j ≡ some u)). others j u x.0 x.1)
-      (at_set views by j w u e)
+seats_set : (members : ℕ) (seat : ℕ → ℕ) (views : List Sight) (by : ℕ) (w : Sight) → ((j : ℕ) (u : Sight) → j ≢ by → get_elem? views j ≡ some u → IsSeat members seat j u) → IsSeat members seat by w
+    → (j : ℕ) (u : Sight) → get_elem? (set views by w) j ≡ some u → IsSeat members seat j u
+seats_set members seat views by w others mine j u e =
+    ⊎_elim
+    (λ (x : (j ≡ by) × (w ≡ u)). subst (λ (y : ℕ × Sight). IsSeat members seat y.0 y.1) (λ i. (sym x.0 i, x.1 i)) mine)
+    (λ (x : (j ≢ by) × (get_elem? views j ≡ some u)). others j u x.0 x.1)
+    (at_set views by j w u e)
 
-  -- the seat has the number that it had, and more submitters may be known of
-  numbers_stay : (m m' by : ℕ) (views : List (Sight S)) (v w : Sight S) → get_elem? views by ≡ some v → w.member ≡ v.member → (IsApart v → IsApart w) → m ≤ m' → AreNumbered m views → AreNumbered m' (set views by w)
-  numbers_stay m m' by views v w at same apart le (seat, all) = (
-    seat,
-    seats_set m' seat views by w
-        (λ j u away e. let f = all j u e in ((λ n is. let t = f.0 n is in (grown n t.0, t.1)), f.1))
-        (let f = all by v at in ((λ n is. let t = f.0 n (sym same ∙ is) in (grown n t.0, t.1)), apart f.1)),
-  )
-    where
-      grown : (n : ℕ) → n < m → n < m'
-      grown n less = omega arith
+-- the seat has the number that it had, and more submitters may be known of
+numbers_stay : (m m' by : ℕ) (views : List Sight) (v w : Sight) → get_elem? views by ≡ some v → w.member ≡ v.member → (IsApart v → IsApart w) → m ≤ m' → AreNumbered m views → AreNumbered m' (set views by w)
+numbers_stay m m' by views v w at same apart le (seat, all) = (
+  seat,
+  seats_set m' seat views by w
+      (λ j u away e. let f = all j u e in ((λ n is. let t = f.0 n is in (grown n t.0, t.1)), f.1))
+      (let f = all by v at in ((λ n is. let t = f.0 n (sym same ∙ is) in (grown n t.0, t.1)), apart f.1)),
+)
+  where
+    grown : (n : ℕ) → n < m → n < m'
+    grown n less = omega arith
 
-  -- the seat has no number
-  numbers_drop : (m by : ℕ) (views : List (Sight S)) (w : Sight S) → w.member ≡ None → AreNumbered m views → AreNumbered m (set views by w)
-  numbers_drop m by views w none' (seat, all) = (seat, seats_set m seat views by w (λ j u away e. all j u e) (without m seat by w none'))
+-- the seat has no number
+numbers_drop : (m by : ℕ) (views : List Sight) (w : Sight) → w.member ≡ None → AreNumbered m views → AreNumbered m (set views by w)
+numbers_drop m by views w none' (seat, all) = (seat, seats_set m seat views by w (λ j u away e. all j u e) (without m seat by w none'))
 
-  -- a further seat without a number
-  numbers_more : (m : ℕ) (views : List (Sight S)) (w : Sight S) → w.member ≡ None → AreNumbered m views → AreNumbered m (views ++ w ∷ [])
-  numbers_more m views w none' (seat, all) = (seat, λ j u e. ⊎_elim (λ t. all j u t) (λ (t : (j ≡ length views) × (w ≡ u)). without m seat j u (ap (λ (x : Sight S). x.member) (sym t.1) ∙ none')) (at_end views w u j e))
+-- a further seat without a number
+numbers_more : (m : ℕ) (views : List Sight) (w : Sight) → w.member ≡ None → AreNumbered m views → AreNumbered m (views ++ w ∷ [])
+numbers_more m views w none' (seat, all) = (seat, λ j u e. ⊎_elim (λ t. all j u t) (λ (t : (j ≡ length views) × (w ≡ u)). without m seat j u (ap (λ (x : Sight). x.member) (sym t.1) ∙ none')) (at_end views w u j e))
 
-  -- the number goes to a further seat
-  numbers_move : (m by : ℕ) (views : List (Sight S)) (v left right : Sight S) → get_elem? views by ≡ some v → left.member ≡ None → right.member ≡ v.member → right.met ≡ None
-      → AreNumbered m views → AreNumbered m (set views by left ++ right ∷ [])
-  numbers_move m by views v left right at none' same unmet (seat, all) = (moved seat by to, λ j u e. ⊎_elim (λ t. others j u t) (λ (t : (j ≡ to) × (right ≡ u)). subst (λ (y : ℕ × Sight S). IsSeat m (moved seat by to) y.0 y.1) (λ i. (sym t.0 i, t.1 i)) mine) (at_end (set views by left) right u j e))
-    where
-      to : ℕ
-      to = length (set views by left)
+-- the number goes to a further seat
+numbers_move : (m by : ℕ) (views : List Sight) (v left right : Sight) → get_elem? views by ≡ some v → left.member ≡ None → right.member ≡ v.member → right.met ≡ None
+    → AreNumbered m views → AreNumbered m (set views by left ++ right ∷ [])
+numbers_move m by views v left right at none' same unmet (seat, all) = (moved seat by to, λ j u e. ⊎_elim (λ t. others j u t) (λ (t : (j ≡ to) × (right ≡ u)). subst (λ (y : ℕ × Sight). IsSeat m (moved seat by to) y.0 y.1) (λ i. (sym t.0 i, t.1 i)) mine) (at_end (set views by left) right u j e))
+  where
+    to : ℕ
+    to = length (set views by left)
 
-      mine : IsSeat m (moved seat by to) to right
-      mine = ((λ n is. let t = (all by v at).0 n (sym same ∙ is) in (t.0, moved_here seat by to n t.1)), met_none right unmet)
+    mine : IsSeat m (moved seat by to) to right
+    mine = ((λ n is. let t = (all by v at).0 n (sym same ∙ is) in (t.0, moved_here seat by to n t.1)), met_none right unmet)
 
-      others : (j : ℕ) (u : Sight S) → get_elem? (set views by left) j ≡ some u → IsSeat m (moved seat by to) j u
-      others = seats_set m (moved seat by to) views by left (λ j u away e. let f = all j u e in ((λ n is. let t = f.0 n is in (t.0, moved_else seat by to n (λ q. away (sym t.1 ∙ q)) ∙ t.1)), f.1)) (without m (moved seat by to) by left none')
+    others : (j : ℕ) (u : Sight) → get_elem? (set views by left) j ≡ some u → IsSeat m (moved seat by to) j u
+    others = seats_set m (moved seat by to) views by left (λ j u away e. let f = all j u e in ((λ n is. let t = f.0 n is in (t.0, moved_else seat by to n (λ q. away (sym t.1 ∙ q)) ∙ t.1)), f.1)) (without m (moved seat by to) by left none')
 
-  -- the seat has the number that nobody had
-  numbers_next : (m m' by : ℕ) (views : List (Sight S)) (w : Sight S) → w.member ≡ Some m → w.met ≡ None → m < m' → AreNumbered m views → AreNumbered m' (set views by w)
-  numbers_next m m' by views w named unmet less (seat, all) = (
-    more seat m by,
-    seats_set m' (more seat m by) views by w
-        (λ j u away e. let f = all j u e in ((λ n is. let t = f.0 n is in (grown n t.0, more_else seat m by n t.0 ∙ t.1)), f.1))
-        ((λ n is. let same = number_is m n (sym named ∙ is) in (subst (λ x. x < m') same less, more_here seat m by n same)), met_none w unmet),
-  )
-    where
-      grown : (n : ℕ) → n < m → n < m'
-      grown n below = omega arith
+-- the seat has the number that nobody had
+numbers_next : (m m' by : ℕ) (views : List Sight) (w : Sight) → w.member ≡ Some m → w.met ≡ None → m < m' → AreNumbered m views → AreNumbered m' (set views by w)
+numbers_next m m' by views w named unmet less (seat, all) = (
+  more seat m by,
+  seats_set m' (more seat m by) views by w
+      (λ j u away e. let f = all j u e in ((λ n is. let t = f.0 n is in (grown n t.0, more_else seat m by n t.0 ∙ t.1)), f.1))
+      ((λ n is. let same = number_is m n (sym named ∙ is) in (subst (λ x. x < m') same less, more_here seat m by n same)), met_none w unmet),
+)
+  where
+    grown : (n : ℕ) → n < m → n < m'
+    grown n below = omega arith
 
-  -- the seat has met another one, which is spent
-  numbers_meet : (m by other : ℕ) (views : List (Sight S)) (v u : Sight S) → get_elem? views by ≡ some v → other ≢ by → get_elem? (set views by (meeting v u)) other ≡ some u
-      → AreNumbered m views → AreNumbered m (set (set views by (meeting v u)) other nobody)
-  numbers_meet m by other views v u at away there (seat, all) = numbers_drop m other (set views by (meeting v u)) nobody refl (seat, seats_set m seat views by (meeting v u) (λ j x apart e. all j x e) ((all by v at).0, two))
-    where
-      theirs : IsSeat m seat other u
-      theirs = ⊎_elim (λ (t : (other ≡ by) × (meeting v u ≡ u)). absurd (away t.0)) (λ (t : (other ≢ by) × (get_elem? views other ≡ some u)). all other u t.1) (at_set views by other (meeting v u) u there)
+-- the seat has met another one, which is spent
+numbers_meet : (m by other : ℕ) (views : List Sight) (v u : Sight) → get_elem? views by ≡ some v → other ≢ by → get_elem? (set views by (meeting v u)) other ≡ some u
+    → AreNumbered m views → AreNumbered m (set (set views by (meeting v u)) other nobody)
+numbers_meet m by other views v u at away there (seat, all) = numbers_drop m other (set views by (meeting v u)) nobody refl (seat, seats_set m seat views by (meeting v u) (λ j x apart e. all j x e) ((all by v at).0, two))
+  where
+    theirs : IsSeat m seat other u
+    theirs = ⊎_elim (λ (t : (other ≡ by) × (meeting v u ≡ u)). absurd (away t.0)) (λ (t : (other ≢ by) × (get_elem? views other ≡ some u)). all other u t.1) (at_set views by other (meeting v u) u there)
 
-      two : IsApart (meeting v u)
-      two n is mine = away (sym (theirs.0 n is).1 ∙ ((all by v at).0 n mine).1)
+    two : IsApart (meeting v u)
+    two n is mine = away (sym (theirs.0 n is).1 ∙ ((all by v at).0 n mine).1)
 
 ---- The steps
 
-module _ {S : Type 0} where
-  nobody_fits : (a b c : ℕ) (now : Known S) (by : ℕ) → Fits a b c now by nobody
-  nobody_fits a b c now by = ((λ k. absurd (off k)), (λ p. absurd (off p)), (λ g. absurd (off g)), before_all now)
+nobody_fits : (a b c : ℕ) (now : Known) (by : ℕ) → Fits a b c now by nobody
+nobody_fits a b c now by = ((λ k. absurd (off k)), (λ p. absurd (off p)), (λ g. absurd (off g)), before_all now)
 
-  fits_set : (a b c : ℕ) (now : Known S) (views : List (Sight S)) (by : ℕ) (w : Sight S) → ((j : ℕ) (u : Sight S) → j ≢ by → get_elem? views j ≡ some u → Fits a b c now j u) → Fits a b c now by w
-      → (j : ℕ) (u : Sight S) → get_elem? (set views by w) j ≡ some u → Fits a b c now j u
-  fits_set a b c now views by w others mine j u e =
-      ⊎_elim
-      (λ (x : (j ≡ by) × (w ≡ u)). subst (λ (y : ℕ × Sight S). Fits a b c now y.0 y.1) (λ i. (sym x.0 i, x.1 i)) mine)
-      (λ (x : (j ≢ by) × (get_elem? views j ≡ some u)). others j u x.0 x.1)
-      (at_set views by j w u e)
+fits_set : (a b c : ℕ) (now : Known) (views : List Sight) (by : ℕ) (w : Sight) → ((j : ℕ) (u : Sight) → j ≢ by → get_elem? views j ≡ some u → Fits a b c now j u) → Fits a b c now by w
+    → (j : ℕ) (u : Sight) → get_elem? (set views by w) j ≡ some u → Fits a b c now j u
+fits_set a b c now views by w others mine j u e =
+    ⊎_elim
+    (λ (x : (j ≡ by) × (w ≡ u)). subst (λ (y : ℕ × Sight). Fits a b c now y.0 y.1) (λ i. (sym x.0 i, x.1 i)) mine)
+    (λ (x : (j ≢ by) × (get_elem? views j ≡ some u)). others j u x.0 x.1)
+    (at_set views by j w u e)
 
-  pub begins : Kept {S = S} (opening (0 ∷ []) [] opener)
-  begins = (0, 0, 0, nothing, refl, one, ((λ n. 0), unnamed))
-    where
-      unnamed : (by : ℕ) (v : Sight S) → get_elem? (opener ∷ []) by ≡ some v → IsSeat 0 (λ n. 0) by v
-      unnamed zero v e = subst (IsSeat {S = S} 0 (λ n. 0) 0) (some-injective _ _ e) (without {S = S} 0 (λ n. 0) 0 opener refl)
-      unnamed (suc by) v e = absurd (some-ne-none v (sym e))
+pub begins : Kept (opening (0 ∷ []) [] opener)
+begins = (0, 0, 0, nothing, refl, one, ((λ n. 0), unnamed))
+  where
+    unnamed : (by : ℕ) (v : Sight) → get_elem? (opener ∷ []) by ≡ some v → IsSeat 0 (λ n. 0) by v
+    unnamed zero v e = subst (IsSeat 0 (λ n. 0) 0) (some-injective _ _ e) (without 0 (λ n. 0) 0 opener refl)
+    unnamed (suc by) v e = absurd (some-ne-none v (sym e))
 
-      one : (by : ℕ) (v : Sight S) → get_elem? (opener ∷ []) by ≡ some v → Fits 0 0 0 nothing by v
-      one zero v e = subst (Fits 0 0 0 nothing 0) (some-injective _ _ e) ((λ _. (refl, refl)), (λ _. (refl, same_part nothing)), (λ _. (refl, refl)), before_self nothing)
-      one (suc by) v e = absurd (some-ne-none v (sym e))
+    one : (by : ℕ) (v : Sight) → get_elem? (opener ∷ []) by ≡ some v → Fits 0 0 0 nothing by v
+    one zero v e = subst (Fits 0 0 0 nothing 0) (some-injective _ _ e) ((λ _. (refl, refl)), (λ _. (refl, same_part nothing)), (λ _. (refl, refl)), before_self nothing)
+    one (suc by) v e = absurd (some-ne-none v (sym e))
 
-  -- what a store under the lock leaves in the seat, and what it tells
-  abbrev Leaves : Sight S → Option ℕ → Known S → ℕ → Me (Known S) (Sight S) → Type 0
-  Leaves v member k n w = (w ≡ (added v member k, [])) × Knows v
+-- what a store under the lock leaves in the seat, and what it tells
+abbrev Leaves : Sight → Option ℕ → Known → ℕ → Me Known Sight → Type 0
+Leaves v member k n w = (w ≡ (added v member k, [])) × Knows v
 
-  -- where the seat keeps, and publishes unless the publisher's part stays, and gives out unless what is given out stays, all that is
-  -- known may grow, as far as the rule of the numbers holds
-  stores : (by old new : ℕ) (v : Sight S) (k : Known S) (member : Option ℕ) → v.keeps ≡ true → (v.pubs ≡ true) ⊎ IsSamePart k v.all → (v.gives ≡ true) ⊎ (k.given ≡ v.all.given)
-      → IsBefore v.all k → length v.all.history ≡ old → length k.history ≡ new
-      → ((views : List (Sight S)) → get_elem? views by ≡ some v → AreNumbered v.all.members views → AreNumbered k.members (set views by (added v member k)))
-      → Allows Kept 0 by (v, []) 0 (λ n. either (n == old) new n) (Leaves v member k)
-  stores by old new v k member keeping may may_give grows was is numbered s h homes at small =
-      let a = h.0 in
-      let b = h.1 in
-      let c = h.2 in
-      let now = h.3 in
-      let mine = h.5 by v at in
-      let same : v.all ≡ now = (mine.0 keeping).1 in
-      let w = added v member k in
-      let n = slice_index s.words 0 in
-      let found : n ≡ old = ap (λ ws. slice_index ws 0) h.4 ∙ (ap (λ m. length m.history) (sym same) ∙ was) in
-      let stored : either (n == old) new n ≡ new = either_same n old new found in
-      let words : set s.words 0 (either (n == old) new n) ≡ length k.history ∷ [] = ap (λ ws. set ws 0 (either (n == old) new n)) h.4 ∙ ap (λ m. m ∷ []) (stored ∙ sym is) in
-      let others : (j : ℕ) (u : Sight S) → j ≢ by → get_elem? s.views j ≡ some u → Fits a b c k j u =
-      λ j u apart e.
-      let f = h.5 j u e in (
-        (λ kept. absurd (apart ((f.0 kept).0 ∙ sym (mine.0 keeping).0))),
-        (λ pub'. ⊎_elim (λ both. absurd (apart ((f.1 pub').0 ∙ sym (mine.1 both).0)))
-            (λ (part : IsSamePart k v.all).
-            ((f.1 pub').0, (part_of u.was now v.all k (f.1 pub').1 same part))) may),
-        (λ gives. ⊎_elim (λ both. absurd (apart ((f.2 gives).0 ∙ sym (mine.2 both).0)))
-            (λ (part : k.given ≡ v.all.given).
-            ((f.2 gives).0, ((f.2 gives).1 ∙ (ap (λ (m : Known S). m.given) (sym same) ∙ sym part)))) may_give),
-        before_trans u.was now k f.3 (subst (λ m. IsBefore m k) same grows),
-      ) in (
-        w,
-        keeps,
-        tt,
-        (
-          a,
-          b,
-          c,
-          k,
-          words,
-          fits_set a b c k s.views by w others ((λ kept. ((mine.0 kept).0, refl)), (λ pub'. ((mine.1 pub').0, same_part k)), (λ gives. ((mine.2 gives).0, refl)), before_self k),
-          numbered s.views at (subst (λ (m : Known S). AreNumbered m.members s.views) (sym same) h.6),
-        ),
-        (
-          refl,
-          (
-            subst (λ m. IsBefore v.was m) (sym same) mine.3,
-            (λ pub'. subst (λ m. IsSamePart v.was m) (sym same) (mine.1 pub').1),
-            (λ gives. (mine.2 gives).1 ∙ ap (λ (m : Known S). m.given) (sym same)),
-          ),
-        ),
-      )
-    where
-      either_same : (n old new : ℕ) → n ≡ old → either (n == old) new n ≡ new
-      either_same n old new e = subst (λ m. either (n == m) new n ≡ new) e (here n new)
-        where
-          here : (n new : ℕ) → either (n == n) new n ≡ new
-          here n new = let t : (n == n) ≡ true = grind (arith, nat_tests) in ap (λ t'. either t' new n) t
-
-  -- the seat has the number that it had
-  pub adds : (by old new : ℕ) (v : Sight S) (k : Known S) → v.keeps ≡ true → (v.pubs ≡ true) ⊎ IsSamePart k v.all → (v.gives ≡ true) ⊎ (k.given ≡ v.all.given)
-      → IsBefore v.all k → length v.all.history ≡ old → length k.history ≡ new
-      → Allows Kept 0 by (v, []) 0 (λ n. either (n == old) new n) (Adds (step 0 0 old new (some k)) (v, []))
-  adds by old new v k keeping may may_give grows was is =
-      stores by old new v k v.member keeping may may_give grows was is (λ views at all. numbers_stay v.all.members k.members by views v (adding v k) at refl (λ _. met_none (adding v k) refl) grows.members all)
-
-  -- the seat has the number of one submitter more
-  pub admits : (by places : ℕ) (v : Sight S) (k : Known S) → v.keeps ≡ true → k ≡ with_member v.all → length k.history ≡ places
-      → Allows Kept 0 by (v, []) 0 (λ n. either (n == places) places n) (Admits (step 0 0 places places (some k)) (v, []))
-  admits by places v k keeping next is =
-      let more' : k.members ≡ v.all.members + 1 = ap (λ (l : Known S). l.members) next in
-      stores by places places v k (Some v.all.members) keeping
-      (inr (part_by v.all v.all (with_member v.all) k refl next (enrolls_part v.all)))
-      (inr (ap (λ (l : Known S). l.given) next))
-      (grows_by v.all v.all (with_member v.all) k refl next (enrolls_on v.all))
-      (ap (λ (l : Known S). length l.history) (sym next) ∙ is)
-      is
-      (λ views at all. numbers_next v.all.members k.members by views (admitting v k) refl refl (omega (arith, more')) all)
-
-  -- a load sees all
-  pub looks : (by : ℕ) (v : Sight S) → Allows Kept 0 by (v, []) 0 (λ n. n) (Looks (step 0 0 0 0 none) (v, []))
-  looks by v s h homes at small =
-      let a = h.0 in
-      let b = h.1 in
-      let c = h.2 in
-      let now = h.3 in
-      let mine = h.5 by v at in
-      let w : Sight S = record { keeps = v.keeps; pubs = v.pubs; gives = v.gives; member = v.member; met = v.met; all = v.all; was = now } in
-      let n = slice_index s.words 0 in
-      let found : n ≡ length now.history = ap (λ ws. slice_index ws 0) h.4 in
-      let words : set s.words 0 n ≡ length now.history ∷ [] = ap (λ ws. set ws 0 n) h.4 ∙ ap (λ m. m ∷ []) found in (
-        w,
-        keeps,
-        tt,
-        (
-          a,
-          b,
-          c,
-          now,
-          words,
-          fits_set a b c now s.views by w (λ j u apart e. h.5 j u e) (mine.0, (λ pub'. ((mine.1 pub').0, same_part now)), (λ gives. ((mine.2 gives).0, refl)), before_self now),
-          numbers_stay now.members now.members by s.views v w at refl (λ f. f) (omega arith) h.6,
-        ),
-        (refl, refl, refl, refl, mine.3, sym found, refl, refl, (h.6.1 by v at).1),
-      )
-
-  -- a new seat knows nothing yet
-  pub enters : (after : ℕ → Sight S → Type 0) → ((n : ℕ) → after n nobody) → Enters Kept 0 0 after
-  enters after told s h homes small =
-      (nobody, (h.0, h.1, h.2, h.3, h.4, (λ j u e. ⊎_elim (h.5 j u) (λ (x : nobody ≡ u). subst (Fits h.0 h.1 h.2 h.3 j) x (nobody_fits h.0 h.1 h.2 h.3 j)) (at_snoc s.views nobody u j e)), numbers_more h.3.members s.views nobody refl h.6), told (slice_index s.words 0))
-
-  -- the keeper takes in what another saw, and whether it publishes and gives out
-  pub lends : (by : ℕ) (v : Sight S) (other : ℕ) (u : Sight S) → Joins Kept by v other u (lent v u) nobody
-  lends by v other u s h at apart there =
-      let a = h.0 in
-      let b = h.1 in
-      let c = h.2 in
-      let now = h.3 in
-      let w = lent v u in
-      let mine = h.5 by v at in
-      let theirs : Fits a b c now other u = ⊎_elim (λ (t : (other ≡ by) × (w ≡ u)). absurd (apart t.0)) (λ (t : (other ≢ by) × (get_elem? s.views other ≡ some u)). h.5 other u t.1) (at_set s.views by other w u there) in
-      let d = pick u.pubs by b in
-      let e' = pick u.gives by c in
-      let first : (j : ℕ) (x : Sight S) → j ≢ other → get_elem? (set s.views by w) j ≡ some x → Fits a d e' now j x =
-      λ j x away e. fits_set' a d e' now s.views by w other j x away
-      (λ i y away' e''. let f = h.5 i y e'' in (
-        f.0,
-        (λ p. (pick_else u.pubs by b i (f.1 p).0 (λ q. away' ((f.1 p).0 ∙ sym (theirs.1 q).0)), (f.1 p).1)),
-        (λ g. (pick_else u.gives by c i (f.2 g).0 (λ q. away' ((f.2 g).0 ∙ sym (theirs.2 q).0)), (f.2 g).1)),
-        f.3,
-      ))
-      (mine.0, (λ p. (pick_then u.pubs by b p, (theirs.1 p).1)), (λ g. (pick_then u.gives by c g, (theirs.2 g).1)), theirs.3) e in (
-        a,
-        d,
-        e',
-        now,
-        h.4,
-        fits_set a d e' now (set s.views by w) other nobody first (nobody_fits a d e' now other),
-        numbers_drop now.members other (set s.views by w) nobody refl (numbers_stay now.members now.members by s.views v w at refl (λ _. met_none w refl) (omega arith) h.6),
-      )
-    where
-      fits_set' : (a b c : ℕ) (now : Known S) (views : List (Sight S)) (by : ℕ) (w : Sight S) (other j : ℕ) (x : Sight S) → j ≢ other
-          → ((i : ℕ) (y : Sight S) → i ≢ other → get_elem? views i ≡ some y → Fits a b c now i y) → Fits a b c now by w → get_elem? (set views by w) j ≡ some x → Fits a b c now j x
-      fits_set' a b c now views by w other j x away rest mine e =
-          ⊎_elim
-          (λ (t : (j ≡ by) × (w ≡ x)). subst (λ (y : ℕ × Sight S). Fits a b c now y.0 y.1) (λ i. (sym t.0 i, t.1 i)) mine)
-          (λ (t : (j ≢ by) × (get_elem? views j ≡ some x)). rest j x away t.1)
-          (at_set views by j w x e)
-
-  -- what the keeper was lent goes back, with what is known now
-  pub backs : (by : ℕ) (v : Sight S) → Splits Kept by v (keeps_left v) (handed_back v)
-  backs by v s h at =
-      let a = h.0 in
-      let b = h.1 in
-      let c = h.2 in
-      let now = h.3 in
-      let w = keeps_left v in
-      let views' = set s.views by w in
-      let mine = h.5 by v at in
-      let d = pick v.pubs (length views') b in
-      let e' = pick v.gives (length views') c in
-      let others : (j : ℕ) (u : Sight S) → get_elem? views' j ≡ some u → Fits a d e' now j u =
-      fits_set a d e' now s.views by w
-      (λ j u apart e. let f = h.5 j u e in (
-        f.0,
-        (λ p. (pick_else v.pubs (length views') b j (f.1 p).0 (λ q. apart ((f.1 p).0 ∙ sym (mine.1 q).0)), (f.1 p).1)),
-        (λ g. (pick_else v.gives (length views') c j (f.2 g).0 (λ q. apart ((f.2 g).0 ∙ sym (mine.2 q).0)), (f.2 g).1)),
-        f.3,
-      ))
-      (mine.0, (λ p. absurd (off p)), (λ g. absurd (off g)), before_all now) in (
-        a,
-        d,
-        e',
-        now,
-        h.4,
-        (λ j u e.
-            ⊎_elim (others j u)
-            (λ (t : (j ≡ length views') × (handed_back v ≡ u)).
-            subst (λ (y : ℕ × Sight S). Fits a d e' now y.0 y.1) (λ i. (sym t.0 i, t.1 i)) (
-              (λ k. absurd (off k)),
-              (λ p. (pick_then v.pubs (length views') b p, (mine.1 p).1)),
-              (λ g. (pick_then v.gives (length views') c g, (mine.2 g).1)),
-              mine.3,
-            ))
-            (at_end views' (handed_back v) u j e)),
-        numbers_more now.members views' (handed_back v) refl (numbers_drop now.members by s.views w refl h.6),
-      )
-
-  -- giving out goes to a seat of its own
-  pub parts : (by : ℕ) (v : Sight S) → Splits Kept by v (gives_none v) (gives_alone v)
-  parts by v s h at =
-      let a = h.0 in
-      let b = h.1 in
-      let c = h.2 in
-      let now = h.3 in
-      let w = gives_none v in
-      let views' = set s.views by w in
-      let mine = h.5 by v at in
-      let d = pick v.gives (length views') c in
-      let others : (j : ℕ) (u : Sight S) → get_elem? views' j ≡ some u → Fits a b d now j u =
-      fits_set a b d now s.views by w
-      (λ j u apart e. let f = h.5 j u e in (
-        f.0,
-        f.1,
-        (λ g. (pick_else v.gives (length views') c j (f.2 g).0 (λ q. apart ((f.2 g).0 ∙ sym (mine.2 q).0)), (f.2 g).1)),
-        f.3,
-      ))
-      (mine.0, mine.1, (λ g. absurd (off g)), mine.3) in (
+-- where the seat keeps, and publishes unless the publisher's part stays, and gives out unless what is given out stays, all that is
+-- known may grow, as far as the rule of the numbers holds
+stores : (by old new : ℕ) (v : Sight) (k : Known) (member : Option ℕ) → v.keeps ≡ true → (v.pubs ≡ true) ⊎ IsSamePart k v.all → (v.gives ≡ true) ⊎ (k.given ≡ v.all.given)
+    → IsBefore v.all k → length v.all.history ≡ old → length k.history ≡ new
+    → ((views : List Sight) → get_elem? views by ≡ some v → AreNumbered v.all.members views → AreNumbered k.members (set views by (added v member k)))
+    → Allows Kept 0 by (v, []) 0 (λ n. either (n == old) new n) (Leaves v member k)
+stores by old new v k member keeping may may_give grows was is numbered s h homes at small =
+    let a = h.0 in
+    let b = h.1 in
+    let c = h.2 in
+    let now = h.3 in
+    let mine = h.5 by v at in
+    let same : v.all ≡ now = (mine.0 keeping).1 in
+    let w = added v member k in
+    let n = slice_index s.words 0 in
+    let found : n ≡ old = ap (λ ws. slice_index ws 0) h.4 ∙ (ap (λ m. length m.history) (sym same) ∙ was) in
+    let stored : either (n == old) new n ≡ new = either_same n old new found in
+    let words : set s.words 0 (either (n == old) new n) ≡ length k.history ∷ [] = ap (λ ws. set ws 0 (either (n == old) new n)) h.4 ∙ ap (λ m. m ∷ []) (stored ∙ sym is) in
+    let others : (j : ℕ) (u : Sight) → j ≢ by → get_elem? s.views j ≡ some u → Fits a b c k j u =
+    λ j u apart e.
+    let f = h.5 j u e in (
+      (λ kept. absurd (apart ((f.0 kept).0 ∙ sym (mine.0 keeping).0))),
+      (λ pub'. ⊎_elim (λ both. absurd (apart ((f.1 pub').0 ∙ sym (mine.1 both).0)))
+          (λ (part : IsSamePart k v.all).
+          ((f.1 pub').0, (part_of u.was now v.all k (f.1 pub').1 same part))) may),
+      (λ gives. ⊎_elim (λ both. absurd (apart ((f.2 gives).0 ∙ sym (mine.2 both).0)))
+          (λ (part : k.given ≡ v.all.given).
+          ((f.2 gives).0, ((f.2 gives).1 ∙ (ap (λ (m : Known). m.given) (sym same) ∙ sym part)))) may_give),
+      before_trans u.was now k f.3 (subst (λ m. IsBefore m k) same grows),
+    ) in (
+      w,
+      keeps,
+      tt,
+      (
         a,
         b,
-        d,
-        now,
-        h.4,
-        (λ j u e.
-            ⊎_elim (others j u)
-            (λ (t : (j ≡ length views') × (gives_alone v ≡ u)).
-            subst (λ (y : ℕ × Sight S). Fits a b d now y.0 y.1) (λ i. (sym t.0 i, t.1 i)) (
-              (λ k. absurd (off k)),
-              (λ p. absurd (off p)),
-              (λ g. (pick_then v.gives (length views') c g, (mine.2 g).1)),
-              mine.3,
-            ))
-            (at_end views' (gives_alone v) u j e)),
-        numbers_more now.members views' (gives_alone v) refl (numbers_stay now.members now.members by s.views v w at refl (λ _. met_none w refl) (omega arith) h.6),
-      )
+        c,
+        k,
+        words,
+        fits_set a b c k s.views by w others ((λ kept. ((mine.0 kept).0, refl)), (λ pub'. ((mine.1 pub').0, same_part k)), (λ gives. ((mine.2 gives).0, refl)), before_self k),
+        numbered s.views at (subst (λ (m : Known). AreNumbered m.members s.views) (sym same) h.6),
+      ),
+      (
+        refl,
+        (
+          subst (λ m. IsBefore v.was m) (sym same) mine.3,
+          (λ pub'. subst (λ m. IsSamePart v.was m) (sym same) (mine.1 pub').1),
+          (λ gives. (mine.2 gives).1 ∙ ap (λ (m : Known). m.given) (sym same)),
+        ),
+      ),
+    )
+  where
+    either_same : (n old new : ℕ) → n ≡ old → either (n == old) new n ≡ new
+    either_same n old new e = subst (λ m. either (n == m) new n ≡ new) e (here n new)
+      where
+        here : (n new : ℕ) → either (n == n) new n ≡ new
+        here n new = let t : (n == n) ≡ true = grind (arith, nat_tests) in ap (λ t'. either t' new n) t
 
-  -- the number goes to a seat of its own
-  pub names : (by : ℕ) (v : Sight S) → Splits Kept by v (member_none v) (member_alone v)
-  names by v s h at =
-      let a = h.0 in
-      let b = h.1 in
-      let c = h.2 in
-      let now = h.3 in
-      let w = member_none v in
-      let views' = set s.views by w in
-      let mine = h.5 by v at in
-      let others : (j : ℕ) (u : Sight S) → get_elem? views' j ≡ some u → Fits a b c now j u = fits_set a b c now s.views by w (λ j u apart e. h.5 j u e) mine in (
+-- the seat has the number that it had
+pub adds : (by old new : ℕ) (v : Sight) (k : Known) → v.keeps ≡ true → (v.pubs ≡ true) ⊎ IsSamePart k v.all → (v.gives ≡ true) ⊎ (k.given ≡ v.all.given)
+    → IsBefore v.all k → length v.all.history ≡ old → length k.history ≡ new
+    → Allows Kept 0 by (v, []) 0 (λ n. either (n == old) new n) (Adds (step 0 0 old new (some k)) (v, []))
+adds by old new v k keeping may may_give grows was is =
+    stores by old new v k v.member keeping may may_give grows was is (λ views at all. numbers_stay v.all.members k.members by views v (adding v k) at refl (λ _. met_none (adding v k) refl) grows.members all)
+
+-- the seat has the number of one submitter more
+pub admits : (by places : ℕ) (v : Sight) (k : Known) → v.keeps ≡ true → k ≡ with_member v.all → length k.history ≡ places
+    → Allows Kept 0 by (v, []) 0 (λ n. either (n == places) places n) (Admits (step 0 0 places places (some k)) (v, []))
+admits by places v k keeping next is =
+    let more' : k.members ≡ v.all.members + 1 = ap (λ (l : Known). l.members) next in
+    stores by places places v k (Some v.all.members) keeping
+    (inr (part_by v.all v.all (with_member v.all) k refl next (enrolls_part v.all)))
+    (inr (ap (λ (l : Known). l.given) next))
+    (grows_by v.all v.all (with_member v.all) k refl next (enrolls_on v.all))
+    (ap (λ (l : Known). length l.history) (sym next) ∙ is)
+    is
+    (λ views at all. numbers_next v.all.members k.members by views (admitting v k) refl refl (omega (arith, more')) all)
+
+-- a load sees all
+pub looks : (by : ℕ) (v : Sight) → Allows Kept 0 by (v, []) 0 (λ n. n) (Looks (step 0 0 0 0 none) (v, []))
+looks by v s h homes at small =
+    let a = h.0 in
+    let b = h.1 in
+    let c = h.2 in
+    let now = h.3 in
+    let mine = h.5 by v at in
+    let w : Sight = record { keeps = v.keeps; pubs = v.pubs; gives = v.gives; member = v.member; met = v.met; all = v.all; was = now } in
+    let n = slice_index s.words 0 in
+    let found : n ≡ length now.history = ap (λ ws. slice_index ws 0) h.4 in
+    let words : set s.words 0 n ≡ length now.history ∷ [] = ap (λ ws. set ws 0 n) h.4 ∙ ap (λ m. m ∷ []) found in (
+      w,
+      keeps,
+      tt,
+      (
         a,
         b,
         c,
         now,
-        h.4,
-        (λ j u e.
-            ⊎_elim (others j u)
-            (λ (t : (j ≡ length views') × (member_alone v ≡ u)). subst (λ (y : ℕ × Sight S). Fits a b c now y.0 y.1) (λ i. (sym t.0 i, t.1 i)) (
-              (λ k. absurd (off k)),
-              (λ p. absurd (off p)),
-              (λ g. absurd (off g)),
-              before_all now,
-            ))
-            (at_end views' (member_alone v) u j e)),
-        numbers_move now.members by s.views v w (member_alone v) at refl refl refl h.6,
-      )
+        words,
+        fits_set a b c now s.views by w (λ j u apart e. h.5 j u e) (mine.0, (λ pub'. ((mine.1 pub').0, same_part now)), (λ gives. ((mine.2 gives).0, refl)), before_self now),
+        numbers_stay now.members now.members by s.views v w at refl (λ f. f) (omega arith) h.6,
+      ),
+      (refl, refl, refl, refl, mine.3, sym found, refl, refl, (h.6.1 by v at).1),
+    )
 
-  -- a seat has met another one, which is spent
-  pub meets : (by : ℕ) (v : Sight S) (other : ℕ) (u : Sight S) → Joins Kept by v other u (meeting v u) nobody
-  meets by v other u s h at apart there =
-      let a = h.0 in
-      let b = h.1 in
-      let c = h.2 in
-      let now = h.3 in
-      let w = meeting v u in
-      let first : (j : ℕ) (x : Sight S) → get_elem? (set s.views by w) j ≡ some x → Fits a b c now j x = fits_set a b c now s.views by w (λ j x away e. h.5 j x e) (h.5 by v at) in (
-        a,
-        b,
-        c,
-        now,
-        h.4,
-        fits_set a b c now (set s.views by w) other nobody (λ j x away e. first j x e) (nobody_fits a b c now other),
-        numbers_meet now.members by other s.views v u at apart there h.6,
-      )
+-- a new seat knows nothing yet
+pub enters : (after : ℕ → Sight → Type 0) → ((n : ℕ) → after n nobody) → Enters Kept 0 0 after
+enters after told s h homes small =
+    (nobody, (h.0, h.1, h.2, h.3, h.4, (λ j u e. ⊎_elim (h.5 j u) (λ (x : nobody ≡ u). subst (Fits h.0 h.1 h.2 h.3 j) x (nobody_fits h.0 h.1 h.2 h.3 j)) (at_snoc s.views nobody u j e)), numbers_more h.3.members s.views nobody refl h.6), told (slice_index s.words 0))
 
-  -- what a seat learns that has met another one
-  pub apart_of : (v u x w : Sight S) → x ≡ meeting v u → w.member ≡ x.member → w.met ≡ x.met → IsApart w → (n : ℕ) → u.member ≡ Some n → v.member ≢ Some n
-  apart_of v u x w is member met apart n theirs mine =
-      apart n (met ∙ (ap (λ (y : Sight S). y.met) is ∙ theirs)) (member ∙ (ap (λ (y : Sight S). y.member) is ∙ mine))
+-- the keeper takes in what another saw, and whether it publishes and gives out
+pub lends : (by : ℕ) (v : Sight) (other : ℕ) (u : Sight) → Joins Kept by v other u (lent v u) nobody
+lends by v other u s h at apart there =
+    let a = h.0 in
+    let b = h.1 in
+    let c = h.2 in
+    let now = h.3 in
+    let w = lent v u in
+    let mine = h.5 by v at in
+    let theirs : Fits a b c now other u = ⊎_elim (λ (t : (other ≡ by) × (w ≡ u)). absurd (apart t.0)) (λ (t : (other ≢ by) × (get_elem? s.views other ≡ some u)). h.5 other u t.1) (at_set s.views by other w u there) in
+    let d = pick u.pubs by b in
+    let e' = pick u.gives by c in
+    let first : (j : ℕ) (x : Sight) → j ≢ other → get_elem? (set s.views by w) j ≡ some x → Fits a d e' now j x =
+    λ j x away e. fits_set' a d e' now s.views by w other j x away
+    (λ i y away' e''. let f = h.5 i y e'' in (
+      f.0,
+      (λ p. (pick_else u.pubs by b i (f.1 p).0 (λ q. away' ((f.1 p).0 ∙ sym (theirs.1 q).0)), (f.1 p).1)),
+      (λ g. (pick_else u.gives by c i (f.2 g).0 (λ q. away' ((f.2 g).0 ∙ sym (theirs.2 q).0)), (f.2 g).1)),
+      f.3,
+    ))
+    (mine.0, (λ p. (pick_then u.pubs by b p, (theirs.1 p).1)), (λ g. (pick_then u.gives by c g, (theirs.2 g).1)), theirs.3) e in (
+      a,
+      d,
+      e',
+      now,
+      h.4,
+      fits_set a d e' now (set s.views by w) other nobody first (nobody_fits a d e' now other),
+      numbers_drop now.members other (set s.views by w) nobody refl (numbers_stay now.members now.members by s.views v w at refl (λ _. met_none w refl) (omega arith) h.6),
+    )
+  where
+    fits_set' : (a b c : ℕ) (now : Known) (views : List Sight) (by : ℕ) (w : Sight) (other j : ℕ) (x : Sight) → j ≢ other
+        → ((i : ℕ) (y : Sight) → i ≢ other → get_elem? views i ≡ some y → Fits a b c now i y) → Fits a b c now by w → get_elem? (set views by w) j ≡ some x → Fits a b c now j x
+    fits_set' a b c now views by w other j x away rest mine e =
+        ⊎_elim
+        (λ (t : (j ≡ by) × (w ≡ x)). subst (λ (y : ℕ × Sight). Fits a b c now y.0 y.1) (λ i. (sym t.0 i, t.1 i)) mine)
+        (λ (t : (j ≢ by) × (get_elem? views j ≡ some x)). rest j x away t.1)
+        (at_set views by j w x e)
 
-  -- what a seat that was told has seen
-  pub was_of : (v : Sight S) (pubs gives : Bool) (k : Known S) → v ≡ seeing pubs gives k → v.was ≡ k
-  was_of v pubs gives k e = ap (λ (w : Sight S). w.was) e
+-- what the keeper was lent goes back, with what is known now
+pub backs : (by : ℕ) (v : Sight) → Splits Kept by v (keeps_left v) (handed_back v)
+backs by v s h at =
+    let a = h.0 in
+    let b = h.1 in
+    let c = h.2 in
+    let now = h.3 in
+    let w = keeps_left v in
+    let views' = set s.views by w in
+    let mine = h.5 by v at in
+    let d = pick v.pubs (length views') b in
+    let e' = pick v.gives (length views') c in
+    let others : (j : ℕ) (u : Sight) → get_elem? views' j ≡ some u → Fits a d e' now j u =
+    fits_set a d e' now s.views by w
+    (λ j u apart e. let f = h.5 j u e in (
+      f.0,
+      (λ p. (pick_else v.pubs (length views') b j (f.1 p).0 (λ q. apart ((f.1 p).0 ∙ sym (mine.1 q).0)), (f.1 p).1)),
+      (λ g. (pick_else v.gives (length views') c j (f.2 g).0 (λ q. apart ((f.2 g).0 ∙ sym (mine.2 q).0)), (f.2 g).1)),
+      f.3,
+    ))
+    (mine.0, (λ p. absurd (off p)), (λ g. absurd (off g)), before_all now) in (
+      a,
+      d,
+      e',
+      now,
+      h.4,
+      (λ j u e.
+          ⊎_elim (others j u)
+          (λ (t : (j ≡ length views') × (handed_back v ≡ u)).
+          subst (λ (y : ℕ × Sight). Fits a d e' now y.0 y.1) (λ i. (sym t.0 i, t.1 i)) (
+            (λ k. absurd (off k)),
+            (λ p. (pick_then v.pubs (length views') b p, (mine.1 p).1)),
+            (λ g. (pick_then v.gives (length views') c g, (mine.2 g).1)),
+            mine.3,
+          ))
+          (at_end views' (handed_back v) u j e)),
+      numbers_more now.members views' (handed_back v) refl (numbers_drop now.members by s.views w refl h.6),
+    )
 
-  -- what the seat under the lock knows
-  pub all_of : (v : Sight S) (k : Known S) → v ≡ keeping k → v.all ≡ k
-  all_of v k e = ap (λ (w : Sight S). w.all) e
+-- giving out goes to a seat of its own
+pub parts : (by : ℕ) (v : Sight) → Splits Kept by v (gives_none v) (gives_alone v)
+parts by v s h at =
+    let a = h.0 in
+    let b = h.1 in
+    let c = h.2 in
+    let now = h.3 in
+    let w = gives_none v in
+    let views' = set s.views by w in
+    let mine = h.5 by v at in
+    let d = pick v.gives (length views') c in
+    let others : (j : ℕ) (u : Sight) → get_elem? views' j ≡ some u → Fits a b d now j u =
+    fits_set a b d now s.views by w
+    (λ j u apart e. let f = h.5 j u e in (
+      f.0,
+      f.1,
+      (λ g. (pick_else v.gives (length views') c j (f.2 g).0 (λ q. apart ((f.2 g).0 ∙ sym (mine.2 q).0)), (f.2 g).1)),
+      f.3,
+    ))
+    (mine.0, mine.1, (λ g. absurd (off g)), mine.3) in (
+      a,
+      b,
+      d,
+      now,
+      h.4,
+      (λ j u e.
+          ⊎_elim (others j u)
+          (λ (t : (j ≡ length views') × (gives_alone v ≡ u)).
+          subst (λ (y : ℕ × Sight). Fits a b d now y.0 y.1) (λ i. (sym t.0 i, t.1 i)) (
+            (λ k. absurd (off k)),
+            (λ p. absurd (off p)),
+            (λ g. (pick_then v.gives (length views') c g, (mine.2 g).1)),
+            mine.3,
+          ))
+          (at_end views' (gives_alone v) u j e)),
+      numbers_more now.members views' (gives_alone v) refl (numbers_stay now.members now.members by s.views v w at refl (λ _. met_none w refl) (omega arith) h.6),
+    )
+
+-- the number goes to a seat of its own
+pub names : (by : ℕ) (v : Sight) → Splits Kept by v (member_none v) (member_alone v)
+names by v s h at =
+    let a = h.0 in
+    let b = h.1 in
+    let c = h.2 in
+    let now = h.3 in
+    let w = member_none v in
+    let views' = set s.views by w in
+    let mine = h.5 by v at in
+    let others : (j : ℕ) (u : Sight) → get_elem? views' j ≡ some u → Fits a b c now j u = fits_set a b c now s.views by w (λ j u apart e. h.5 j u e) mine in (
+      a,
+      b,
+      c,
+      now,
+      h.4,
+      (λ j u e.
+          ⊎_elim (others j u)
+          (λ (t : (j ≡ length views') × (member_alone v ≡ u)). subst (λ (y : ℕ × Sight). Fits a b c now y.0 y.1) (λ i. (sym t.0 i, t.1 i)) (
+            (λ k. absurd (off k)),
+            (λ p. absurd (off p)),
+            (λ g. absurd (off g)),
+            before_all now,
+          ))
+          (at_end views' (member_alone v) u j e)),
+      numbers_move now.members by s.views v w (member_alone v) at refl refl refl h.6,
+    )
+
+-- a seat has met another one, which is spent
+pub meets : (by : ℕ) (v : Sight) (other : ℕ) (u : Sight) → Joins Kept by v other u (meeting v u) nobody
+meets by v other u s h at apart there =
+    let a = h.0 in
+    let b = h.1 in
+    let c = h.2 in
+    let now = h.3 in
+    let w = meeting v u in
+    let first : (j : ℕ) (x : Sight) → get_elem? (set s.views by w) j ≡ some x → Fits a b c now j x = fits_set a b c now s.views by w (λ j x away e. h.5 j x e) (h.5 by v at) in (
+      a,
+      b,
+      c,
+      now,
+      h.4,
+      fits_set a b c now (set s.views by w) other nobody (λ j x away e. first j x e) (nobody_fits a b c now other),
+      numbers_meet now.members by other s.views v u at apart there h.6,
+    )
+
+-- what a seat learns that has met another one
+pub apart_of : (v u x w : Sight) → x ≡ meeting v u → w.member ≡ x.member → w.met ≡ x.met → IsApart w → (n : ℕ) → u.member ≡ Some n → v.member ≢ Some n
+apart_of v u x w is member met apart n theirs mine =
+    apart n (met ∙ (ap (λ (y : Sight). y.met) is ∙ theirs)) (member ∙ (ap (λ (y : Sight). y.member) is ∙ mine))
+
+-- what a seat that was told has seen
+pub was_of : (v : Sight) (pubs gives : Bool) (k : Known) → v ≡ seeing pubs gives k → v.was ≡ k
+was_of v pubs gives k e = ap (λ (w : Sight). w.was) e
+
+-- what the seat under the lock knows
+pub all_of : (v : Sight) (k : Known) → v ≡ keeping k → v.all ≡ k
+all_of v k e = ap (λ (w : Sight). w.all) e

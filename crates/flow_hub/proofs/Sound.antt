@@ -3,16 +3,15 @@ use Rattle.std.proofs.Common.{◌≡◌, ℕ, suc, ◌+◌, true, List, [], ◌�
 use Rattle.std.specs.Prelude.{All}
 use Rattle.std.proofs.lemmas.List.{append-nil}
 use Rattle.std.proofs.lemmas.List.Elements.{All-append, All-weaker, All-push, All-head, All-tail, All-nil, All-cons, All-take, All-drop}
-use Rattle.sqlite_trees.specs.declared.store.Store.{Ghosts}
 use Rattle.flow_base.specs.declared.code.Code.{Code}
 use Rattle.flow_base.specs.declared.command.Command.{Command}
 use Rattle.flow_machine.specs.declared.submission.Receipt.{Receipt}
 use Rattle.flow_machine.specs.declared.submission.Taken.{Taken}
 use Rattle.flow_machine.specs.declared.task.Task.{Task}
 use Rattle.flow_commit.specs.Boards.{Boarded}
-use Rattle.flow_commit.specs.Keeping.{IsLawful, count_from, place_of}
+use Rattle.flow_commit.specs.Keeping.{count_from, place_of}
 use Rattle.flow_commit.specs.Committing.{taken_of}
-use Rattle.flow_commit.specs.Stamps.{Stamped}
+use Rattle.flow_commit.specs.Stamps.{Stamped, IsLawful}
 use Rattle.flow_hub.specs.declared.known.Known.{Known}
 use Rattle.flow_hub.specs.declared.known.Outlook.{Outlook}
 use Rattle.flow_queues.specs.declared.refused.Refused.{Refused}
@@ -26,478 +25,476 @@ use Rattle.flow_hub.specs.Publishing.{Answers, HasTaken, HasPublished, HasRefuse
 use Rattle.flow_queues.proofs.Once.{still_once}
 use Rattle.flow_hub.proofs.Lists.{map-both, length-mapped, from_same, long_same, count_from-next, count_split, rises_count, rises-append, rises_higher, tickets_same, get_front, get_next, stands_on, stand_next}
 
-module _ {S : Type 0} (g : Ghosts S) where
-  pub begins_sound : IsSound g (record { known = nothing; waiting = []; answered = []; refused = []; given = 0; shares = 0; tasks = [] })
-  begins_sound = record {
-    legal = record { kept = refl; rising = omega arith };
-    order = refl;
-    counts = refl;
-    shared = refl;
-    asked = refl;
-    fetched = refl;
-    taken = All-nil (IsAsked []);
-    pending = All-nil (IsAsked []);
-    own = All-nil (IsOwn []);
-    gone = All-nil (IsGone []);
-    stand = All-nil (Stands []);
-    told = All-nil (IsTold []);
-    queued = refl;
-    once = tt;
-  }
+pub begins_sound : IsSound (record { known = nothing; waiting = []; answered = []; refused = []; given = 0; shares = 0; tasks = [] })
+begins_sound = record {
+  legal = record { kept = refl; rising = omega arith };
+  order = refl;
+  counts = refl;
+  shared = refl;
+  asked = refl;
+  fetched = refl;
+  taken = All-nil (IsAsked []);
+  pending = All-nil (IsAsked []);
+  own = All-nil (IsOwn []);
+  gone = All-nil (IsGone []);
+  stand = All-nil (Stands []);
+  told = All-nil (IsTold []);
+  queued = refl;
+  once = tt;
+}
 
-  pub submits : (h : Hall S) (c : Command) → IsSound g h → IsSound g (submitted h c)
-  submits h c s =
-      let x = new_ask h c in
-      let held = h.known.held in
-      let first = answered_in h.known in
-      let n = length held + length h.waiting in
-      let longer : length (h.waiting ++ x ∷ []) ≡ length h.waiting + 1 = length-append h.waiting (x ∷ []) in
-      let all : tickets_in (held ++ (h.waiting ++ x ∷ [])) ≡ count_from first n ++ h.given ∷ [] =
-      ap tickets_in (sym (append_assoc held h.waiting (x ∷ []))) ∙ (map-both ticket_in (held ++ h.waiting) (x ∷ []) ∙ ap (λ ts. ts ++ h.given ∷ []) s.order) in
-      let next : count_from first n ++ h.given ∷ [] ≡ count_from first (suc n) = ap (λ k. count_from first n ++ k ∷ []) s.counts ∙ sym (count_from-next first n) in
-      let asked = h.known.asked in
-      let more = asked ++ x ∷ [] in
-      let still : (t : Taken) → IsAsked asked t → IsAsked more t = λ t a. get_front asked (x ∷ []) t.ticket t a in
-      record {
-        legal = record { kept = s.legal.kept; rising = s.legal.rising };
-        order = all ∙ (next ∙ long_same first (suc n) (length held + length (h.waiting ++ x ∷ [])) (omega (arith, longer)));
-        counts = omega (arith, longer, s.counts);
-        shared = omega (arith, s.shared);
-        asked = length-append asked (x ∷ []) ∙ ap (λ k. k + 1) s.asked;
-        fetched = omega (arith, longer, s.fetched);
-        taken = All-weaker (IsAsked asked) (IsAsked more) still held s.taken;
-        pending = All-push (IsAsked more) h.waiting x (All-weaker (IsAsked asked) (IsAsked more) still h.waiting s.pending) (subst (λ k. slice_get more k ≡ Some x) s.asked (get_next asked [] x));
-        own = All-weaker (IsOwn asked) (IsOwn more) (λ r. still (taken_of r)) h.answered s.own;
-        gone = All-weaker (IsGone asked) (IsGone more) (λ r. still r.asked) h.refused s.gone;
-        stand = s.stand;
-        told = s.told;
-        queued = s.queued;
-        once = s.once;
-      }
+pub submits : (h : Hall) (c : Command) → IsSound h → IsSound (submitted h c)
+submits h c s =
+    let x = new_ask h c in
+    let held = h.known.held in
+    let first = answered_in h.known in
+    let n = length held + length h.waiting in
+    let longer : length (h.waiting ++ x ∷ []) ≡ length h.waiting + 1 = length-append h.waiting (x ∷ []) in
+    let all : tickets_in (held ++ (h.waiting ++ x ∷ [])) ≡ count_from first n ++ h.given ∷ [] =
+    ap tickets_in (sym (append_assoc held h.waiting (x ∷ []))) ∙ (map-both ticket_in (held ++ h.waiting) (x ∷ []) ∙ ap (λ ts. ts ++ h.given ∷ []) s.order) in
+    let next : count_from first n ++ h.given ∷ [] ≡ count_from first (suc n) = ap (λ k. count_from first n ++ k ∷ []) s.counts ∙ sym (count_from-next first n) in
+    let asked = h.known.asked in
+    let more = asked ++ x ∷ [] in
+    let still : (t : Taken) → IsAsked asked t → IsAsked more t = λ t a. get_front asked (x ∷ []) t.ticket t a in
+    record {
+      legal = record { kept = s.legal.kept; rising = s.legal.rising };
+      order = all ∙ (next ∙ long_same first (suc n) (length held + length (h.waiting ++ x ∷ [])) (omega (arith, longer)));
+      counts = omega (arith, longer, s.counts);
+      shared = omega (arith, s.shared);
+      asked = length-append asked (x ∷ []) ∙ ap (λ k. k + 1) s.asked;
+      fetched = omega (arith, longer, s.fetched);
+      taken = All-weaker (IsAsked asked) (IsAsked more) still held s.taken;
+      pending = All-push (IsAsked more) h.waiting x (All-weaker (IsAsked asked) (IsAsked more) still h.waiting s.pending) (subst (λ k. slice_get more k ≡ Some x) s.asked (get_next asked [] x));
+      own = All-weaker (IsOwn asked) (IsOwn more) (λ r. still (taken_of r)) h.answered s.own;
+      gone = All-weaker (IsGone asked) (IsGone more) (λ r. still r.asked) h.refused s.gone;
+      stand = s.stand;
+      told = s.told;
+      queued = s.queued;
+      once = s.once;
+    }
 
-  all_front : (P : Taken → Type 0) (xs ys : List Taken) → All P (xs ++ ys) → All P xs
-  all_front P [] ys a = All-nil P
-  all_front P (x ∷ xs) ys a = All-cons P x xs (All-head P x (xs ++ ys) a) (all_front P xs ys (All-tail P x (xs ++ ys) a))
+all_front : (P : Taken → Type 0) (xs ys : List Taken) → All P (xs ++ ys) → All P xs
+all_front P [] ys a = All-nil P
+all_front P (x ∷ xs) ys a = All-cons P x xs (All-head P x (xs ++ ys) a) (all_front P xs ys (All-tail P x (xs ++ ys) a))
 
-  all_back : (P : Taken → Type 0) (xs ys : List Taken) → All P (xs ++ ys) → All P ys
-  all_back P [] ys a = a
-  all_back P (x ∷ xs) ys a = all_back P xs ys (All-tail P x (xs ++ ys) a)
+all_back : (P : Taken → Type 0) (xs ys : List Taken) → All P (xs ++ ys) → All P ys
+all_back P [] ys a = a
+all_back P (x ∷ xs) ys a = all_back P xs ys (All-tail P x (xs ++ ys) a)
 
-  pub takes : (h : Hall S) (xs rest : List Taken) → h.waiting ≡ xs ++ rest → IsSound g h → IsSound g (took h xs rest)
-  takes h xs rest is s =
-      let held = h.known.held in
-      let asked = h.known.asked in
-      let first = answered_in h.known in
-      let longer : length (held ++ xs) ≡ length held + length xs = length-append held xs in
-      let shorter : length h.waiting ≡ length xs + length rest = ap length is ∙ length-append xs rest in
-      let pending : All (IsAsked asked) (xs ++ rest) = subst (All (IsAsked asked)) is s.pending in
-      record {
-        legal = record { kept = s.legal.kept; rising = s.legal.rising };
-        order = ap tickets_in (append_assoc held xs rest) ∙ (ap (λ w. tickets_in (held ++ w)) (sym is) ∙ (s.order ∙ long_same first (length held + length h.waiting) (length (held ++ xs) + length rest) (omega (arith, longer, shorter))));
-        counts = omega (arith, longer, shorter, s.counts);
-        shared = s.shared;
-        asked = s.asked;
-        fetched = omega (arith, longer, shorter, s.fetched);
-        taken = All-append (IsAsked asked) held xs s.taken (all_front (IsAsked asked) xs rest pending);
-        pending = all_back (IsAsked asked) xs rest pending;
-        own = s.own;
-        gone = s.gone;
-        stand = s.stand;
-        told = s.told;
-        queued = s.queued;
-        once = s.once;
-      }
+pub takes : (h : Hall) (xs rest : List Taken) → h.waiting ≡ xs ++ rest → IsSound h → IsSound (took h xs rest)
+takes h xs rest is s =
+    let held = h.known.held in
+    let asked = h.known.asked in
+    let first = answered_in h.known in
+    let longer : length (held ++ xs) ≡ length held + length xs = length-append held xs in
+    let shorter : length h.waiting ≡ length xs + length rest = ap length is ∙ length-append xs rest in
+    let pending : All (IsAsked asked) (xs ++ rest) = subst (All (IsAsked asked)) is s.pending in
+    record {
+      legal = record { kept = s.legal.kept; rising = s.legal.rising };
+      order = ap tickets_in (append_assoc held xs rest) ∙ (ap (λ w. tickets_in (held ++ w)) (sym is) ∙ (s.order ∙ long_same first (length held + length h.waiting) (length (held ++ xs) + length rest) (omega (arith, longer, shorter))));
+      counts = omega (arith, longer, shorter, s.counts);
+      shared = s.shared;
+      asked = s.asked;
+      fetched = omega (arith, longer, shorter, s.fetched);
+      taken = All-append (IsAsked asked) held xs s.taken (all_front (IsAsked asked) xs rest pending);
+      pending = all_back (IsAsked asked) xs rest pending;
+      own = s.own;
+      gone = s.gone;
+      stand = s.stand;
+      told = s.told;
+      queued = s.queued;
+      once = s.once;
+    }
 
-  -- what the publisher's seat has of what was taken
-  pub has_taken : (h : Hall S) (was : Known S) (xs rest : List Taken) → h.waiting ≡ xs ++ rest → IsSound g h → IsSamePart was h.known → HasTaken was (with_taken h.known xs) xs
-  has_taken h was xs rest is s same =
-      let held = h.known.held in
-      let first = answered_in h.known in
-      let split = count_split ticket_in held h.waiting first (length h.waiting) s.order in
-      let shorter : length h.waiting ≡ length xs + length rest = ap length is ∙ length-append xs rest in
-      let mine : tickets_in (xs ++ rest) ≡ count_from (first + length held) (length xs + length rest) = ap tickets_in (sym is) ∙ (split.1 ∙ long_same (first + length held) (length h.waiting) (length xs + length rest) shorter) in
-      let here = (count_split ticket_in xs rest (first + length held) (length rest) mine).0 in
-      record {
-        held = ap (λ l. l ++ xs) (sym same.held);
-        history = sym same.history;
-        refused = sym same.refused;
-        last = sym same.last;
-        posted = sym same.posted;
-        boarded = sym same.boarded;
-        outlook = sym same.outlook;
-        asked = all_front (IsAsked h.known.asked) xs rest (subst (All (IsAsked h.known.asked)) is s.pending);
-        order = here ∙ from_same (first + length held) (answered_in was + length was.held) (length xs)
-            (omega (arith, ap length same.history, ap length same.refused, ap length same.held));
-      }
+-- what the publisher's seat has of what was taken
+pub has_taken : (h : Hall) (was : Known) (xs rest : List Taken) → h.waiting ≡ xs ++ rest → IsSound h → IsSamePart was h.known → HasTaken was (with_taken h.known xs) xs
+has_taken h was xs rest is s same =
+    let held = h.known.held in
+    let first = answered_in h.known in
+    let split = count_split ticket_in held h.waiting first (length h.waiting) s.order in
+    let shorter : length h.waiting ≡ length xs + length rest = ap length is ∙ length-append xs rest in
+    let mine : tickets_in (xs ++ rest) ≡ count_from (first + length held) (length xs + length rest) = ap tickets_in (sym is) ∙ (split.1 ∙ long_same (first + length held) (length h.waiting) (length xs + length rest) shorter) in
+    let here = (count_split ticket_in xs rest (first + length held) (length rest) mine).0 in
+    record {
+      held = ap (λ l. l ++ xs) (sym same.held);
+      history = sym same.history;
+      refused = sym same.refused;
+      last = sym same.last;
+      posted = sym same.posted;
+      boarded = sym same.boarded;
+      outlook = sym same.outlook;
+      asked = all_front (IsAsked h.known.asked) xs rest (subst (All (IsAsked h.known.asked)) is s.pending);
+      order = here ∙ from_same (first + length held) (answered_in was + length was.held) (length xs)
+          (omega (arith, ap length same.history, ap length same.refused, ap length same.held));
+    }
 
-  -- where nothing waits, all is answered or taken
-  pub is_done : (h : Hall S) → h.waiting ≡ [] → h.known.closed ≡ true → IsSound g h → IsDone h.known
-  is_done h none c s = record { closed = c; empty = omega (arith, s.asked, s.counts, ap length none) }
+-- where nothing waits, all is answered or taken
+pub is_done : (h : Hall) → h.waiting ≡ [] → h.known.closed ≡ true → IsSound h → IsDone h.known
+is_done h none c s = record { closed = c; empty = omega (arith, s.asked, s.counts, ap length none) }
 
-  owned : (asked : List Taken) (rs : List Receipt) → All (IsAsked asked) (takens_of rs) → All (IsOwn asked) rs
-  owned asked [] a = All-nil (IsOwn asked)
-  owned asked (r ∷ rs) a = All-cons (IsOwn asked) r rs (All-head (IsAsked asked) (taken_of r) (takens_of rs) a) (owned asked rs (All-tail (IsAsked asked) (taken_of r) (takens_of rs) a))
+owned : (asked : List Taken) (rs : List Receipt) → All (IsAsked asked) (takens_of rs) → All (IsOwn asked) rs
+owned asked [] a = All-nil (IsOwn asked)
+owned asked (r ∷ rs) a = All-cons (IsOwn asked) r rs (All-head (IsAsked asked) (taken_of r) (takens_of rs) a) (owned asked rs (All-tail (IsAsked asked) (taken_of r) (takens_of rs) a))
 
-  -- what the publisher's seat saw is what lies under the lock
-  pub same_answers : (k l : Known S) (stamp : Stamped S) (rs : List Receipt) → IsSamePart k l → Answers k stamp rs → Answers l stamp rs
-  same_answers k l stamp rs same a = record {
-    asked = a.asked ∙ same.held;
-    own = a.own;
-    log = a.log ∙ ap (λ h. h ++ rs) same.history;
-    over = subst (λ ks. IsOver ks (stamp.keeper ∷ [])) same.last a.over;
-  }
+-- what the publisher's seat saw is what lies under the lock
+pub same_answers : (k l : Known) (stamp : Stamped) (rs : List Receipt) → IsSamePart k l → Answers k stamp rs → Answers l stamp rs
+same_answers k l stamp rs same a = record {
+  asked = a.asked ∙ same.held;
+  own = a.own;
+  log = a.log ∙ ap (λ h. h ++ rs) same.history;
+  over = subst (λ ks. IsOver ks (stamp.account ∷ [])) same.last a.over;
+}
 
-  -- the history that is published, by the stamp's keeper
-  pub published_history : (h : Hall S) (stamp : Stamped S) (rs : List Receipt) → IsSound g h → Answers h.known stamp rs → IsLawful g stamp.keeper → IsHistory g (with_published h.known stamp.keeper rs)
-  published_history h stamp rs s a lawful =
-      let held = h.known.held in
-      let history = h.known.history in
-      let first = answered_in h.known in
-      let split = count_split ticket_in held h.waiting first (length h.waiting) s.order in
-      let count : length held ≡ length rs = sym (ap length a.asked) ∙ length-mapped taken_of rs in
-      let tickets : tickets_of rs ≡ count_from first (length rs) = tickets_same rs ∙ (ap tickets_in a.asked ∙ (split.0 ∙ ap (count_from first) count)) in
-      let now : first + length rs ≡ answered_in (with_published h.known stamp.keeper rs) = omega (arith, length-append history rs) in
-      record {
-        kept = (sym a.log, lawful.legal);
-        rising =
-            subst (λ n. Rises 0 (tickets_of (history ++ rs)) n) now
-            (subst (λ ts. Rises 0 ts (first + length rs)) (sym (map-both ticket_of history rs))
-            (rises-append 0 first (first + length rs) (tickets_of history) (tickets_of rs) s.legal.rising
-            (subst (λ ts. Rises first ts (first + length rs)) (sym tickets) (rises_count first (length rs)))));
-      }
+-- the history that is published, by the stamp's keeper
+pub published_history : (h : Hall) (stamp : Stamped) (rs : List Receipt) → IsSound h → Answers h.known stamp rs → IsLawful stamp.account → IsHistory (with_published h.known stamp.account rs)
+published_history h stamp rs s a lawful =
+    let held = h.known.held in
+    let history = h.known.history in
+    let first = answered_in h.known in
+    let split = count_split ticket_in held h.waiting first (length h.waiting) s.order in
+    let count : length held ≡ length rs = sym (ap length a.asked) ∙ length-mapped taken_of rs in
+    let tickets : tickets_of rs ≡ count_from first (length rs) = tickets_same rs ∙ (ap tickets_in a.asked ∙ (split.0 ∙ ap (count_from first) count)) in
+    let now : first + length rs ≡ answered_in (with_published h.known stamp.account rs) = omega (arith, length-append history rs) in
+    record {
+      kept = (sym a.log, lawful.legal);
+      rising =
+          subst (λ n. Rises 0 (tickets_of (history ++ rs)) n) now
+          (subst (λ ts. Rises 0 ts (first + length rs)) (sym (map-both ticket_of history rs))
+          (rises-append 0 first (first + length rs) (tickets_of history) (tickets_of rs) s.legal.rising
+          (subst (λ ts. Rises first ts (first + length rs)) (sym tickets) (rises_count first (length rs)))));
+    }
 
-  pub publishes : (h : Hall S) (stamp : Stamped S) (rs : List Receipt) → IsSound g h → Answers h.known stamp rs → IsLawful g stamp.keeper → IsSound g (published h stamp.keeper rs)
-  publishes h stamp rs s a lawful =
-      let held = h.known.held in
-      let history = h.known.history in
-      let asked = h.known.asked in
-      let first = answered_in h.known in
-      let split = count_split ticket_in held h.waiting first (length h.waiting) s.order in
-      let count : length held ≡ length rs = sym (ap length a.asked) ∙ length-mapped taken_of rs in
-      let longer : length (history ++ rs) ≡ length history + length rs = length-append history rs in
-      let more : length (h.answered ++ rs) ≡ length h.answered + length rs = length-append h.answered rs in
-      let kept : stamp.keeper.kept ≡ length history + length rs = lawful.counts ∙ (ap length a.log ∙ longer) in
-      let places : map place_of (history ++ rs) ≡ count_from 1 (length history + length rs) = ap (map place_of) (sym a.log) ∙ (lawful.places ∙ ap (count_from 1) kept) in
-      let next : map place_of rs ≡ count_from (length history + 1) (length rs) = (count_split place_of history rs 1 (length rs) places).1 ∙ from_same (1 + length history) (length history + 1) (length rs) (omega arith) in
-      record {
-        legal = published_history h stamp rs s a lawful;
-        order = split.1 ∙ (from_same (first + length held) (answered_in (with_published h.known stamp.keeper rs)) (length h.waiting) (omega (arith, count, longer)) ∙ long_same (answered_in (with_published h.known stamp.keeper rs)) (length h.waiting) (0 + length h.waiting) (omega arith));
-        counts = omega (arith, s.counts, count, longer);
-        shared = s.shared;
-        asked = s.asked;
-        fetched = omega (arith, s.fetched, count, more);
-        taken = All-nil (IsAsked asked);
-        pending = s.pending;
-        own = All-append (IsOwn asked) h.answered rs s.own (owned asked rs (subst (All (IsAsked asked)) (sym a.asked) s.taken));
-        gone = s.gone;
-        stand = All-append (Stands (history ++ rs)) h.answered rs
-            (All-weaker (Stands history) (Stands (history ++ rs)) (stands_on history rs) h.answered s.stand)
-            (stand_next rs history next);
-        told = s.told;
-        queued = s.queued;
-        once = s.once;
-      }
+pub publishes : (h : Hall) (stamp : Stamped) (rs : List Receipt) → IsSound h → Answers h.known stamp rs → IsLawful stamp.account → IsSound (published h stamp.account rs)
+publishes h stamp rs s a lawful =
+    let held = h.known.held in
+    let history = h.known.history in
+    let asked = h.known.asked in
+    let first = answered_in h.known in
+    let split = count_split ticket_in held h.waiting first (length h.waiting) s.order in
+    let count : length held ≡ length rs = sym (ap length a.asked) ∙ length-mapped taken_of rs in
+    let longer : length (history ++ rs) ≡ length history + length rs = length-append history rs in
+    let more : length (h.answered ++ rs) ≡ length h.answered + length rs = length-append h.answered rs in
+    let kept : stamp.account.kept ≡ length history + length rs = lawful.counts ∙ (ap length a.log ∙ longer) in
+    let places : map place_of (history ++ rs) ≡ count_from 1 (length history + length rs) = ap (map place_of) (sym a.log) ∙ (lawful.places ∙ ap (count_from 1) kept) in
+    let next : map place_of rs ≡ count_from (length history + 1) (length rs) = (count_split place_of history rs 1 (length rs) places).1 ∙ from_same (1 + length history) (length history + 1) (length rs) (omega arith) in
+    record {
+      legal = published_history h stamp rs s a lawful;
+      order = split.1 ∙ (from_same (first + length held) (answered_in (with_published h.known stamp.account rs)) (length h.waiting) (omega (arith, count, longer)) ∙ long_same (answered_in (with_published h.known stamp.account rs)) (length h.waiting) (0 + length h.waiting) (omega arith));
+      counts = omega (arith, s.counts, count, longer);
+      shared = s.shared;
+      asked = s.asked;
+      fetched = omega (arith, s.fetched, count, more);
+      taken = All-nil (IsAsked asked);
+      pending = s.pending;
+      own = All-append (IsOwn asked) h.answered rs s.own (owned asked rs (subst (All (IsAsked asked)) (sym a.asked) s.taken));
+      gone = s.gone;
+      stand = All-append (Stands (history ++ rs)) h.answered rs
+          (All-weaker (Stands history) (Stands (history ++ rs)) (stands_on history rs) h.answered s.stand)
+          (stand_next rs history next);
+      told = s.told;
+      queued = s.queued;
+      once = s.once;
+    }
 
-  -- what the publisher's seat has of what was published
-  pub has_published : (l was : Known S) (stamp : Stamped S) (rs : List Receipt) → IsSamePart was l → Answers was stamp rs → HasPublished was (with_published l stamp.keeper rs) stamp rs
-  has_published l was stamp rs same a = record {
-    history = ap (λ h. h ++ rs) (sym same.history);
-    log = ap (λ h. h ++ rs) (sym same.history) ∙ sym a.log;
-    last = refl;
-    held = refl;
-    refused = sym same.refused;
-    posted = sym same.posted;
-    boarded = refl;
-    outlook = refl;
-  }
+-- what the publisher's seat has of what was published
+pub has_published : (l was : Known) (stamp : Stamped) (rs : List Receipt) → IsSamePart was l → Answers was stamp rs → HasPublished was (with_published l stamp.account rs) stamp rs
+has_published l was stamp rs same a = record {
+  history = ap (λ h. h ++ rs) (sym same.history);
+  log = ap (λ h. h ++ rs) (sym same.history) ∙ sym a.log;
+  last = refl;
+  held = refl;
+  refused = sym same.refused;
+  posted = sym same.posted;
+  boarded = refl;
+  outlook = refl;
+}
 
-  pub history_by : (k l : Known S) → k ≡ l → IsHistory g l → IsHistory g k
-  history_by k l e h = subst (IsHistory g) (sym e) h
+pub history_by : (k l : Known) → k ≡ l → IsHistory l → IsHistory k
+history_by k l e h = subst (IsHistory) (sym e) h
 
-  pub All-without : {X : Type 0} (P : X → Type 0) (xs ys : List X) (k : ℕ) → ys ≡ take k xs ++ drop (k + 1) xs → All P xs → All P ys
-  All-without P xs ys k e a = subst (All P) (sym e) (All-append P (take k xs) (drop (k + 1) xs) (All-take P k xs a) (All-drop P (k + 1) xs a))
+pub All-without : {X : Type 0} (P : X → Type 0) (xs ys : List X) (k : ℕ) → ys ≡ take k xs ++ drop (k + 1) xs → All P xs → All P ys
+All-without P xs ys k e a = subst (All P) (sym e) (All-append P (take k xs) (drop (k + 1) xs) (All-take P k xs a) (All-drop P (k + 1) xs a))
 
-  -- one receipt fewer, which was fetched
-  pub fetches : (h : Hall S) (rs : List Receipt) (k : ℕ) → rs ≡ take k h.answered ++ drop (k + 1) h.answered → length rs + 1 ≡ length h.answered → IsSound g h → IsSound g (fetched_receipt h rs)
-  fetches h rs k e fewer s = record {
-    legal = record { kept = s.legal.kept; rising = s.legal.rising };
-    order = s.order;
-    counts = s.counts;
-    shared = s.shared;
-    asked = s.asked;
-    fetched = omega (arith, s.fetched, fewer);
-    taken = s.taken;
-    pending = s.pending;
-    own = All-without (IsOwn h.known.asked) h.answered rs k e s.own;
-    gone = s.gone;
-    stand = All-without (Stands h.known.history) h.answered rs k e s.stand;
-    told = s.told;
-    queued = s.queued;
-    once = s.once;
-  }
+-- one receipt fewer, which was fetched
+pub fetches : (h : Hall) (rs : List Receipt) (k : ℕ) → rs ≡ take k h.answered ++ drop (k + 1) h.answered → length rs + 1 ≡ length h.answered → IsSound h → IsSound (fetched_receipt h rs)
+fetches h rs k e fewer s = record {
+  legal = record { kept = s.legal.kept; rising = s.legal.rising };
+  order = s.order;
+  counts = s.counts;
+  shared = s.shared;
+  asked = s.asked;
+  fetched = omega (arith, s.fetched, fewer);
+  taken = s.taken;
+  pending = s.pending;
+  own = All-without (IsOwn h.known.asked) h.answered rs k e s.own;
+  gone = s.gone;
+  stand = All-without (Stands h.known.history) h.answered rs k e s.stand;
+  told = s.told;
+  queued = s.queued;
+  once = s.once;
+}
 
-  -- one refusal fewer, which was fetched
-  pub lets_go : (h : Hall S) (rs : List Refused) (k : ℕ) → rs ≡ take k h.refused ++ drop (k + 1) h.refused → length rs + 1 ≡ length h.refused → IsSound g h → IsSound g (fetched_refusal h rs)
-  lets_go h rs k e fewer s = record {
-    legal = record { kept = s.legal.kept; rising = s.legal.rising };
-    order = s.order;
-    counts = s.counts;
-    shared = s.shared;
-    asked = s.asked;
-    fetched = omega (arith, s.fetched, fewer);
-    taken = s.taken;
-    pending = s.pending;
-    own = s.own;
-    gone = All-without (IsGone h.known.asked) h.refused rs k e s.gone;
-    stand = s.stand;
-    told = All-without (IsTold h.known.refused) h.refused rs k e s.told;
-    queued = s.queued;
-    once = s.once;
-  }
+-- one refusal fewer, which was fetched
+pub lets_go : (h : Hall) (rs : List Refused) (k : ℕ) → rs ≡ take k h.refused ++ drop (k + 1) h.refused → length rs + 1 ≡ length h.refused → IsSound h → IsSound (fetched_refusal h rs)
+lets_go h rs k e fewer s = record {
+  legal = record { kept = s.legal.kept; rising = s.legal.rising };
+  order = s.order;
+  counts = s.counts;
+  shared = s.shared;
+  asked = s.asked;
+  fetched = omega (arith, s.fetched, fewer);
+  taken = s.taken;
+  pending = s.pending;
+  own = s.own;
+  gone = All-without (IsGone h.known.asked) h.refused rs k e s.gone;
+  stand = s.stand;
+  told = All-without (IsTold h.known.refused) h.refused rs k e s.told;
+  queued = s.queued;
+  once = s.once;
+}
 
-  refused_own : (asked : List Taken) (code : Code) (xs : List Taken) → All (IsAsked asked) xs → All (IsGone asked) (map (refused_by code) xs)
-  refused_own asked code [] a = All-nil (IsGone asked)
-  refused_own asked code (x ∷ xs) a = All-cons (IsGone asked) (refused_by code x) (map (refused_by code) xs) (All-head (IsAsked asked) x xs a) (refused_own asked code xs (All-tail (IsAsked asked) x xs a))
+refused_own : (asked : List Taken) (code : Code) (xs : List Taken) → All (IsAsked asked) xs → All (IsGone asked) (map (refused_by code) xs)
+refused_own asked code [] a = All-nil (IsGone asked)
+refused_own asked code (x ∷ xs) a = All-cons (IsGone asked) (refused_by code x) (map (refused_by code) xs) (All-head (IsAsked asked) x xs a) (refused_own asked code xs (All-tail (IsAsked asked) x xs a))
 
-  told_on : (told more : List Refused) (r : Refused) → IsTold told r → IsTold (told ++ more) r
-  told_on told more r t = record { at = t.at; is = get_front told more t.at r t.is }
+told_on : (told more : List Refused) (r : Refused) → IsTold told r → IsTold (told ++ more) r
+told_on told more r t = record { at = t.at; is = get_front told more t.at r t.is }
 
-  -- those at the end of the list are in it
-  told_next : (rs : List Refused) (told : List Refused) → All (IsTold (told ++ rs)) rs
-  told_next [] told = All-nil (IsTold (told ++ []))
-  told_next (r ∷ rs) told =
-      let same : (told ++ r ∷ []) ++ rs ≡ told ++ r ∷ rs = append_assoc told (r ∷ []) rs in
-      All-cons (IsTold (told ++ r ∷ rs)) r rs (record { at = length told; is = get_next told rs r }) (subst (λ l. All (IsTold l) rs) same (told_next rs (told ++ r ∷ [])))
+-- those at the end of the list are in it
+told_next : (rs : List Refused) (told : List Refused) → All (IsTold (told ++ rs)) rs
+told_next [] told = All-nil (IsTold (told ++ []))
+told_next (r ∷ rs) told =
+    let same : (told ++ r ∷ []) ++ rs ≡ told ++ r ∷ rs = append_assoc told (r ∷ []) rs in
+    All-cons (IsTold (told ++ r ∷ rs)) r rs (record { at = length told; is = get_next told rs r }) (subst (λ l. All (IsTold l) rs) same (told_next rs (told ++ r ∷ [])))
 
-  pub refuses : (h : Hall S) (code : Code) → IsSound g h → IsSound g (refused_all h code)
-  refuses h code s =
-      let held = h.known.held in
-      let more = map (refused_by code) held in
-      let first = answered_in h.known in
-      let now = answered_in (with_refused h.known held code) in
-      let split = count_split ticket_in held h.waiting first (length h.waiting) s.order in
-      let count : length more ≡ length held = length-mapped (refused_by code) held in
-      let longer : length (h.known.refused ++ more) ≡ length h.known.refused + length more = length-append h.known.refused more in
-      let left : length (h.refused ++ more) ≡ length h.refused + length more = length-append h.refused more in
-      record {
-        legal = record { kept = s.legal.kept; rising = rises_higher 0 first now (tickets_of h.known.history) (omega (arith, longer)) s.legal.rising };
-        order = split.1 ∙ (from_same (first + length held) now (length h.waiting) (omega (arith, count, longer)) ∙ long_same now (length h.waiting) (0 + length h.waiting) (omega arith));
-        counts = omega (arith, s.counts, count, longer);
-        shared = s.shared;
-        asked = s.asked;
-        fetched = omega (arith, s.fetched, count, left);
-        taken = All-nil (IsAsked h.known.asked);
-        pending = s.pending;
-        own = s.own;
-        gone = All-append (IsGone h.known.asked) h.refused more s.gone (refused_own h.known.asked code held s.taken);
-        stand = s.stand;
-        told = All-append (IsTold (h.known.refused ++ more)) h.refused more
-            (All-weaker (IsTold h.known.refused) (IsTold (h.known.refused ++ more)) (told_on h.known.refused more) h.refused s.told)
-            (told_next more h.known.refused);
-        queued = s.queued;
-        once = s.once;
-      }
+pub refuses : (h : Hall) (code : Code) → IsSound h → IsSound (refused_all h code)
+refuses h code s =
+    let held = h.known.held in
+    let more = map (refused_by code) held in
+    let first = answered_in h.known in
+    let now = answered_in (with_refused h.known held code) in
+    let split = count_split ticket_in held h.waiting first (length h.waiting) s.order in
+    let count : length more ≡ length held = length-mapped (refused_by code) held in
+    let longer : length (h.known.refused ++ more) ≡ length h.known.refused + length more = length-append h.known.refused more in
+    let left : length (h.refused ++ more) ≡ length h.refused + length more = length-append h.refused more in
+    record {
+      legal = record { kept = s.legal.kept; rising = rises_higher 0 first now (tickets_of h.known.history) (omega (arith, longer)) s.legal.rising };
+      order = split.1 ∙ (from_same (first + length held) now (length h.waiting) (omega (arith, count, longer)) ∙ long_same now (length h.waiting) (0 + length h.waiting) (omega arith));
+      counts = omega (arith, s.counts, count, longer);
+      shared = s.shared;
+      asked = s.asked;
+      fetched = omega (arith, s.fetched, count, left);
+      taken = All-nil (IsAsked h.known.asked);
+      pending = s.pending;
+      own = s.own;
+      gone = All-append (IsGone h.known.asked) h.refused more s.gone (refused_own h.known.asked code held s.taken);
+      stand = s.stand;
+      told = All-append (IsTold (h.known.refused ++ more)) h.refused more
+          (All-weaker (IsTold h.known.refused) (IsTold (h.known.refused ++ more)) (told_on h.known.refused more) h.refused s.told)
+          (told_next more h.known.refused);
+      queued = s.queued;
+      once = s.once;
+    }
 
-  -- what the publisher's seat has of what was refused
-  pub has_refused : (l was : Known S) (xs : List Taken) (code : Code) → IsSamePart was l → HasRefused was (with_refused l xs code) xs code
-  has_refused l was xs code same = record {
-    refused = ap (λ r. r ++ map (refused_by code) xs) (sym same.refused);
-    held = refl;
-    history = sym same.history;
-    last = sym same.last;
-    posted = sym same.posted;
-    boarded = refl;
-    outlook = refl;
-  }
+-- what the publisher's seat has of what was refused
+pub has_refused : (l was : Known) (xs : List Taken) (code : Code) → IsSamePart was l → HasRefused was (with_refused l xs code) xs code
+has_refused l was xs code same = record {
+  refused = ap (λ r. r ++ map (refused_by code) xs) (sym same.refused);
+  held = refl;
+  history = sym same.history;
+  last = sym same.last;
+  posted = sym same.posted;
+  boarded = refl;
+  outlook = refl;
+}
 
-  pub enrolls : (h : Hall S) → IsSound g h → IsSound g (enrolled h)
-  enrolls h s = record {
-    legal = record { kept = s.legal.kept; rising = s.legal.rising };
-    order = s.order;
-    counts = s.counts;
-    shared = s.shared;
-    asked = s.asked;
-    fetched = s.fetched;
-    taken = s.taken;
-    pending = s.pending;
-    own = s.own;
-    gone = s.gone;
-    stand = s.stand;
-    told = s.told;
-    queued = s.queued;
-    once = s.once;
-  }
+pub enrolls : (h : Hall) → IsSound h → IsSound (enrolled h)
+enrolls h s = record {
+  legal = record { kept = s.legal.kept; rising = s.legal.rising };
+  order = s.order;
+  counts = s.counts;
+  shared = s.shared;
+  asked = s.asked;
+  fetched = s.fetched;
+  taken = s.taken;
+  pending = s.pending;
+  own = s.own;
+  gone = s.gone;
+  stand = s.stand;
+  told = s.told;
+  queued = s.queued;
+  once = s.once;
+}
 
-  pub closes : (h : Hall S) → IsSound g h → IsSound g (closed h)
-  closes h s = record {
-    legal = record { kept = s.legal.kept; rising = s.legal.rising };
-    order = s.order;
-    counts = s.counts;
-    shared = s.shared;
-    asked = s.asked;
-    fetched = s.fetched;
-    taken = s.taken;
-    pending = s.pending;
-    own = s.own;
-    gone = s.gone;
-    stand = s.stand;
-    told = s.told;
-    queued = s.queued;
-    once = s.once;
-  }
+pub closes : (h : Hall) → IsSound h → IsSound (closed h)
+closes h s = record {
+  legal = record { kept = s.legal.kept; rising = s.legal.rising };
+  order = s.order;
+  counts = s.counts;
+  shared = s.shared;
+  asked = s.asked;
+  fetched = s.fetched;
+  taken = s.taken;
+  pending = s.pending;
+  own = s.own;
+  gone = s.gone;
+  stand = s.stand;
+  told = s.told;
+  queued = s.queued;
+  once = s.once;
+}
 
-  ---- Tasks
+---- Tasks
 
-  pub posts : (h : Hall S) (ts : List Task) (outlook : Outlook) → IsSound g h → IsSound g (posted_on h ts outlook)
-  posts h ts outlook s = record {
-    legal = record { kept = s.legal.kept; rising = s.legal.rising };
-    order = s.order;
-    counts = s.counts;
-    shared = s.shared;
-    asked = s.asked;
-    fetched = s.fetched;
-    taken = s.taken;
-    pending = s.pending;
-    own = s.own;
-    gone = s.gone;
-    stand = s.stand;
-    told = s.told;
-    queued = ap (λ l. l ++ new_ones h.known.posted ts) s.queued ∙ append_assoc h.known.given h.tasks (new_ones h.known.posted ts);
-    once = still_once h.known.posted ts s.once;
-  }
+pub posts : (h : Hall) (ts : List Task) (outlook : Outlook) → IsSound h → IsSound (posted_on h ts outlook)
+posts h ts outlook s = record {
+  legal = record { kept = s.legal.kept; rising = s.legal.rising };
+  order = s.order;
+  counts = s.counts;
+  shared = s.shared;
+  asked = s.asked;
+  fetched = s.fetched;
+  taken = s.taken;
+  pending = s.pending;
+  own = s.own;
+  gone = s.gone;
+  stand = s.stand;
+  told = s.told;
+  queued = ap (λ l. l ++ new_ones h.known.posted ts) s.queued ∙ append_assoc h.known.given h.tasks (new_ones h.known.posted ts);
+  once = still_once h.known.posted ts s.once;
+}
 
-  pub skips : (h : Hall S) → IsSound g h → IsSound g (skipped h)
-  skips h s = record {
-    legal = record { kept = s.legal.kept; rising = s.legal.rising };
-    order = s.order;
-    counts = s.counts;
-    shared = s.shared;
-    asked = s.asked;
-    fetched = s.fetched;
-    taken = s.taken;
-    pending = s.pending;
-    own = s.own;
-    gone = s.gone;
-    stand = s.stand;
-    told = s.told;
-    queued = s.queued;
-    once = s.once;
-  }
+pub skips : (h : Hall) → IsSound h → IsSound (skipped h)
+skips h s = record {
+  legal = record { kept = s.legal.kept; rising = s.legal.rising };
+  order = s.order;
+  counts = s.counts;
+  shared = s.shared;
+  asked = s.asked;
+  fetched = s.fetched;
+  taken = s.taken;
+  pending = s.pending;
+  own = s.own;
+  gone = s.gone;
+  stand = s.stand;
+  told = s.told;
+  queued = s.queued;
+  once = s.once;
+}
 
-  pub gives : (h : Hall S) (t : Task) (rest : List Task) → h.tasks ≡ t ∷ rest → IsSound g h → IsSound g (gave h t rest)
-  gives h t rest is s = record {
-    legal = record { kept = s.legal.kept; rising = s.legal.rising };
-    order = s.order;
-    counts = s.counts;
-    shared = s.shared;
-    asked = s.asked;
-    fetched = s.fetched;
-    taken = s.taken;
-    pending = s.pending;
-    own = s.own;
-    gone = s.gone;
-    stand = s.stand;
-    told = s.told;
-    queued = s.queued ∙ (ap (λ l. h.known.given ++ l) is ∙ sym (append_assoc h.known.given (t ∷ []) rest));
-    once = s.once;
-  }
+pub gives : (h : Hall) (t : Task) (rest : List Task) → h.tasks ≡ t ∷ rest → IsSound h → IsSound (gave h t rest)
+gives h t rest is s = record {
+  legal = record { kept = s.legal.kept; rising = s.legal.rising };
+  order = s.order;
+  counts = s.counts;
+  shared = s.shared;
+  asked = s.asked;
+  fetched = s.fetched;
+  taken = s.taken;
+  pending = s.pending;
+  own = s.own;
+  gone = s.gone;
+  stand = s.stand;
+  told = s.told;
+  queued = s.queued ∙ (ap (λ l. h.known.given ++ l) is ∙ sym (append_assoc h.known.given (t ∷ []) rest));
+  once = s.once;
+}
 
-  -- what the publisher's seat has of what was posted
-  pub has_posted : (l was : Known S) (board : Boarded) → IsSamePart was l
-      → HasPosted was (with_posted l (new_ones l.posted board.tasks) (record { due = board.due; open_runs = board.open_runs })) board
-  has_posted l was board same = record {
-    rest = record { history = sym same.history; refused = sym same.refused; last = sym same.last; held = sym same.held };
-    posted = ap (λ ts. ts ++ new_ones ts board.tasks) (sym same.posted);
-    boarded = refl;
-    outlook = refl;
-  }
+-- what the publisher's seat has of what was posted
+pub has_posted : (l was : Known) (board : Boarded) → IsSamePart was l
+    → HasPosted was (with_posted l (new_ones l.posted board.tasks) (record { due = board.due; open_runs = board.open_runs })) board
+has_posted l was board same = record {
+  rest = record { history = sym same.history; refused = sym same.refused; last = sym same.last; held = sym same.held };
+  posted = ap (λ ts. ts ++ new_ones ts board.tasks) (sym same.posted);
+  boarded = refl;
+  outlook = refl;
+}
 
-  pub has_skipped : (l was : Known S) → IsSamePart was l → HasSkipped was (with_skipped l)
-  has_skipped l was same = record {
-    rest = record { history = sym same.history; refused = sym same.refused; last = sym same.last; held = sym same.held };
-    posted = sym same.posted;
-    boarded = refl;
-    outlook = sym same.outlook;
-  }
+pub has_skipped : (l was : Known) → IsSamePart was l → HasSkipped was (with_skipped l)
+has_skipped l was same = record {
+  rest = record { history = sym same.history; refused = sym same.refused; last = sym same.last; held = sym same.held };
+  posted = sym same.posted;
+  boarded = refl;
+  outlook = sym same.outlook;
+}
 
-  -- what the giver's seat has of what was given out
-  pub has_given : (h : Hall S) (was : Known S) (t : Task) (rest : List Task) → h.tasks ≡ t ∷ rest → IsSound g h → was.given ≡ h.known.given → HasGiven was (with_given h.known t) (Some t)
-  has_given h was t rest is s same = record {
-    next = ap (λ l. l ++ t ∷ []) (sym same);
-    first = (rest, append_assoc h.known.given (t ∷ []) rest ∙ (ap (λ l. h.known.given ++ l) (sym is) ∙ sym s.queued));
-    once = s.once;
-  }
+-- what the giver's seat has of what was given out
+pub has_given : (h : Hall) (was : Known) (t : Task) (rest : List Task) → h.tasks ≡ t ∷ rest → IsSound h → was.given ≡ h.known.given → HasGiven was (with_given h.known t) (Some t)
+has_given h was t rest is s same = record {
+  next = ap (λ l. l ++ t ∷ []) (sym same);
+  first = (rest, append_assoc h.known.given (t ∷ []) rest ∙ (ap (λ l. h.known.given ++ l) (sym is) ∙ sym s.queued));
+  once = s.once;
+}
 
-  pub has_given_none : (h : Hall S) (was : Known S) → IsSound g h → was.given ≡ h.known.given → HasGiven was h.known None
-  has_given_none h was s same = record {
-    next = sym same;
-    first = (h.tasks, sym s.queued);
-    once = s.once;
-  }
+pub has_given_none : (h : Hall) (was : Known) → IsSound h → was.given ≡ h.known.given → HasGiven was h.known None
+has_given_none h was s same = record {
+  next = sym same;
+  first = (h.tasks, sym s.queued);
+  once = s.once;
+}
 
-  -- where nothing waits and nothing is taken, all is answered
-  pub is_idle : (h : Hall S) (o : Outlook) → h.known.outlook ≡ Some o → o.open_runs ≡ 0 → h.waiting ≡ [] → h.known.held ≡ [] → IsSound g h → IsIdle h.known
-  is_idle h o named none waits held s = record {
-    outlook = o;
-    named = named;
-    none_open = none;
-    answered = omega (arith, s.asked, s.counts, ap length waits, ap length held);
-    none = held;
-  }
+-- where nothing waits and nothing is taken, all is answered
+pub is_idle : (h : Hall) (o : Outlook) → h.known.outlook ≡ Some o → o.open_runs ≡ 0 → h.waiting ≡ [] → h.known.held ≡ [] → IsSound h → IsIdle h.known
+is_idle h o named none waits held s = record {
+  outlook = o;
+  named = named;
+  none_open = none;
+  answered = omega (arith, s.asked, s.counts, ap length waits, ap length held);
+  none = held;
+}
 
 -- what was taken since
-module _ {S : Type 0} where
-  pub taken_since : (j k l : Known S) (xs : List Taken) → IsSamePart j k → HasTaken k l xs → HasTaken j l xs
-  taken_since j k l xs same t = record {
-    held = t.held ∙ ap (λ h. h ++ xs) (sym same.held);
-    history = t.history ∙ sym same.history;
-    refused = t.refused ∙ sym same.refused;
-    last = t.last ∙ sym same.last;
-    posted = t.posted ∙ sym same.posted;
-    boarded = t.boarded ∙ sym same.boarded;
-    outlook = t.outlook ∙ sym same.outlook;
-    asked = t.asked;
-    order = t.order ∙ from_same (answered_in k + length k.held) (answered_in j + length j.held) (length xs)
-        (omega (arith, ap length same.history, ap length same.refused, ap length same.held));
-  }
+pub taken_since : (j k l : Known) (xs : List Taken) → IsSamePart j k → HasTaken k l xs → HasTaken j l xs
+taken_since j k l xs same t = record {
+  held = t.held ∙ ap (λ h. h ++ xs) (sym same.held);
+  history = t.history ∙ sym same.history;
+  refused = t.refused ∙ sym same.refused;
+  last = t.last ∙ sym same.last;
+  posted = t.posted ∙ sym same.posted;
+  boarded = t.boarded ∙ sym same.boarded;
+  outlook = t.outlook ∙ sym same.outlook;
+  asked = t.asked;
+  order = t.order ∙ from_same (answered_in k + length k.held) (answered_in j + length j.held) (length xs)
+      (omega (arith, ap length same.history, ap length same.refused, ap length same.held));
+}
 
-  -- the same of an equal one
-  pub taken_by : (was k l : Known S) (xs : List Taken) → k ≡ l → HasTaken was l xs → HasTaken was k xs
-  taken_by was k l xs e t = subst (λ x. HasTaken was x xs) (sym e) t
+-- the same of an equal one
+pub taken_by : (was k l : Known) (xs : List Taken) → k ≡ l → HasTaken was l xs → HasTaken was k xs
+taken_by was k l xs e t = subst (λ x. HasTaken was x xs) (sym e) t
 
-  pub published_by : (was k l : Known S) (stamp : Stamped S) (rs : List Receipt) → k ≡ l → HasPublished was l stamp rs → HasPublished was k stamp rs
-  published_by was k l stamp rs e t = subst (λ x. HasPublished was x stamp rs) (sym e) t
+pub published_by : (was k l : Known) (stamp : Stamped) (rs : List Receipt) → k ≡ l → HasPublished was l stamp rs → HasPublished was k stamp rs
+published_by was k l stamp rs e t = subst (λ x. HasPublished was x stamp rs) (sym e) t
 
-  pub none_taken : (j k l : Known S) (xs : List Taken) → xs ≡ [] → IsSamePart j k → HasTaken k l xs → IsSamePart j l
-  none_taken j k l xs none same t = record {
-    history = same.history ∙ sym t.history;
-    refused = same.refused ∙ sym t.refused;
-    last = same.last ∙ sym t.last;
-    held = same.held ∙ sym (t.held ∙ (ap (λ x. k.held ++ x) none ∙ append-nil k.held));
-    posted = same.posted ∙ sym t.posted;
-    boarded = same.boarded ∙ sym t.boarded;
-    outlook = same.outlook ∙ sym t.outlook;
-  }
+pub none_taken : (j k l : Known) (xs : List Taken) → xs ≡ [] → IsSamePart j k → HasTaken k l xs → IsSamePart j l
+none_taken j k l xs none same t = record {
+  history = same.history ∙ sym t.history;
+  refused = same.refused ∙ sym t.refused;
+  last = same.last ∙ sym t.last;
+  held = same.held ∙ sym (t.held ∙ (ap (λ x. k.held ++ x) none ∙ append-nil k.held));
+  posted = same.posted ∙ sym t.posted;
+  boarded = same.boarded ∙ sym t.boarded;
+  outlook = same.outlook ∙ sym t.outlook;
+}
 
-  pub posted_by : (was k l : Known S) (board : Boarded) → k ≡ l → HasPosted was l board → HasPosted was k board
-  posted_by was k l board e t = subst (λ x. HasPosted was x board) (sym e) t
+pub posted_by : (was k l : Known) (board : Boarded) → k ≡ l → HasPosted was l board → HasPosted was k board
+posted_by was k l board e t = subst (λ x. HasPosted was x board) (sym e) t
 
-  pub skipped_by : (was k l : Known S) → k ≡ l → HasSkipped was l → HasSkipped was k
-  skipped_by was k l e t = subst (λ x. HasSkipped was x) (sym e) t
+pub skipped_by : (was k l : Known) → k ≡ l → HasSkipped was l → HasSkipped was k
+skipped_by was k l e t = subst (λ x. HasSkipped was x) (sym e) t
 
-  pub given_by : (was k l : Known S) (t : Option Task) → k ≡ l → HasGiven was l t → HasGiven was k t
-  given_by was k l t e h = subst (λ x. HasGiven was x t) (sym e) h
+pub given_by : (was k l : Known) (t : Option Task) → k ≡ l → HasGiven was l t → HasGiven was k t
+given_by was k l t e h = subst (λ x. HasGiven was x t) (sym e) h
 
-  pub idle_by : (k l : Known S) → k ≡ l → IsIdle l → IsIdle k
-  idle_by k l e h = subst (λ x. IsIdle x) (sym e) h
+pub idle_by : (k l : Known) → k ≡ l → IsIdle l → IsIdle k
+idle_by k l e h = subst (λ x. IsIdle x) (sym e) h
 
-  pub none_given : (j k l : Known S) (t : Option Task) → t ≡ None → j.given ≡ k.given → HasGiven k l t → j.given ≡ l.given
-  none_given j k l t none same h = same ∙ sym (subst (λ (o : Option Task). given_with k l o) none h.next)
+pub none_given : (j k l : Known) (t : Option Task) → t ≡ None → j.given ≡ k.given → HasGiven k l t → j.given ≡ l.given
+none_given j k l t none same h = same ∙ sym (subst (λ (o : Option Task). given_with k l o) none h.next)
 
-  pub once_by : (k l : Known S) → k ≡ l → IsOnce l.posted → IsOnce k.posted
-  once_by k l e o = subst (λ (x : Known S). IsOnce x.posted) (sym e) o
+pub once_by : (k l : Known) → k ≡ l → IsOnce l.posted → IsOnce k.posted
+once_by k l e o = subst (λ (x : Known). IsOnce x.posted) (sym e) o
 
-  -- what was given out since
-  pub given_since : (j k l : Known S) (t : Option Task) → j.given ≡ k.given → HasGiven k l t → HasGiven j l t
-  given_since j k l None same h = record { next = h.next ∙ sym same; first = h.first; once = h.once }
-  given_since j k l (Some t) same h = record { next = h.next ∙ ap (λ xs. xs ++ t ∷ []) (sym same); first = h.first; once = h.once }
+-- what was given out since
+pub given_since : (j k l : Known) (t : Option Task) → j.given ≡ k.given → HasGiven k l t → HasGiven j l t
+given_since j k l None same h = record { next = h.next ∙ sym same; first = h.first; once = h.once }
+given_since j k l (Some t) same h = record { next = h.next ∙ ap (λ xs. xs ++ t ∷ []) (sym same); first = h.first; once = h.once }

@@ -12,13 +12,13 @@ use Rattle.flow_hub.specs.Knowing.{answered_in}
 use Rattle.flow_queues.specs.Posting.{IsOnce}
 
 -- the task is the next one behind those that were given out
-abbrev pub given_with : {S : Type 0} → Known S → Known S → Option Task → Type 0
+abbrev pub given_with : Known → Known → Option Task → Type 0
 given_with old new None = new.given ≡ old.given
 given_with old new (Some t) = new.given ≡ old.given ++ t ∷ []
 
 -- What is given out is the next task that was posted, if one is there; and so all that were given out are a beginning of those that were
 -- posted, none of them twice.
-pub record HasGiven {S : Type 0} (old new : Known S) (task : Option Task) : Type 0 where
+pub record HasGiven (old new : Known) (task : Option Task) : Type 0 where
   pub next : given_with old new task
   pub first : IsPrefix new.given new.posted
   pub once : IsOnce new.posted
@@ -37,12 +37,12 @@ abbrev pub due_of : Option Outlook → Option ℕ
 due_of None = None
 due_of (Some o) = o.due
 
-abbrev pub due_in : {S : Type 0} → Known S → Option ℕ
+abbrev pub due_in : Known → Option ℕ
 due_in k = due_of k.outlook
 
 -- The command asks for what is due by now, as the clock tells it, where no board could be made that would name it: behind the answer
 -- there is one, or it is asked again.
-pub record AsksAnew {S : Type 0} (tells : ℕ → Type 0) (k : Known S) (command : Command) : Type 0 where
+pub record AsksAnew (tells : ℕ → Type 0) (k : Known) (command : Command) : Type 0 where
   pub now : ℕ
   pub told : tells now
   pub is : command ≡ Tick now
@@ -50,11 +50,11 @@ pub record AsksAnew {S : Type 0} (tells : ℕ → Type 0) (k : Known S) (command
   pub none : k.outlook ≡ None
 
 -- why a command comes from the clock that tells such moments
-abbrev pub IsTickOf : {S : Type 0} → (ℕ → Type 0) → Known S → Command → Type 0
+abbrev pub IsTickOf : (ℕ → Type 0) → Known → Command → Type 0
 IsTickOf tells k c = IsDueBy tells (due_in k) c ⊎ AsksAnew tells k c
 
 -- All that was submitted is answered, and the board that was made since says that no run is open.
-pub record IsIdle {S : Type 0} (k : Known S) : Type 0 where
+pub record IsIdle (k : Known) : Type 0 where
   pub outlook : Outlook
   pub named : k.outlook ≡ Some outlook
   pub none_open : outlook.open_runs ≡ 0
@@ -62,7 +62,7 @@ pub record IsIdle {S : Type 0} (k : Known S) : Type 0 where
   pub none : k.held ≡ []
 
 -- what came of waiting for the end of all work for a while
-abbrev pub IsRested : {S : Type 0} → Known S → Rested → Type 0
+abbrev pub IsRested : Known → Rested → Type 0
 IsRested k rested.Idle = IsIdle k
 IsRested k rested.Closed = (k.closed ≡ true) × (IsIdle k → ⊥)
 IsRested k (rested.NotYet outlook) = (k.closed ≡ false) × (k.outlook ≡ outlook) × (IsIdle k → ⊥)

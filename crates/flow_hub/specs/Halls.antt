@@ -1,13 +1,13 @@
 -- What lies under the lock, as plain data.
 use Rattle.std.specs.Prelude.{ℕ, ◌+◌, ◌≡◌, List, [], ◌∷◌, ◌++◌, length, map, All, refl}
 use Rattle.std.specs.Coded.{Coded, code_by, coded×, coded_ℕ}
-use Rattle.sqlite_trees.specs.declared.store.Store.{Ghosts}
 use Rattle.flow_base.specs.declared.code.Code.{Code}
 use Rattle.flow_base.specs.declared.command.Command.{Command}
 use Rattle.flow_machine.specs.declared.submission.Receipt.{Receipt}
 use Rattle.flow_machine.specs.declared.submission.Taken.{Taken}
 use Rattle.flow_machine.specs.declared.task.Task.{Task}
-use Rattle.flow_commit.specs.Keeping.{Keeping, log_code, batch_code, count_from}
+use Rattle.flow_commit.specs.Accounts.{Accounted, log_code}
+use Rattle.flow_commit.specs.Keeping.{batch_code, count_from}
 use Rattle.flow_hub.specs.declared.known.Known.{Known}
 use Rattle.flow_hub.specs.declared.known.Outlook.{Outlook}
 use Rattle.flow_queues.specs.declared.refused.Refused.{Refused}
@@ -18,8 +18,8 @@ use Rattle.flow_queues.specs.Posting.{IsOnce, new_ones}
 
 -- What is known of the hub, and the four lists that its calls work on: what waits, the answers that were not fetched, and the tasks that
 -- were posted and not given out.
-pub record Hall (S : Type 0) : Type 0 where
-  pub known : Known S
+pub record Hall : Type 0 where
+  pub known : Known
   pub waiting : List Taken
   pub answered : List Receipt
   pub refused : List Refused
@@ -27,21 +27,21 @@ pub record Hall (S : Type 0) : Type 0 where
   pub shares : ℕ  -- the sum of the submitters' shares
   pub tasks : List Task
 
-abbrev pub hall_code : {S : Type 0} → Coded S → Coded (Hall S)
-hall_code {S} store =
-    code_by (Known S × (List Taken × (List Receipt × (List Refused × (ℕ × (ℕ × List Task))))))
-    (coded× (known_code store) (coded× batch_code (coded× log_code (coded× refusals_code (coded× coded_ℕ (coded× coded_ℕ task_list_code))))))
+abbrev pub hall_code : Coded Hall
+hall_code =
+    code_by (Known × (List Taken × (List Receipt × (List Refused × (ℕ × (ℕ × List Task))))))
+    (coded× known_code (coded× batch_code (coded× log_code (coded× refusals_code (coded× coded_ℕ (coded× coded_ℕ task_list_code))))))
     (λ h. (h.known, (h.waiting, (h.answered, (h.refused, (h.given, (h.shares, h.tasks)))))))
     (λ p. record { known = p.0; waiting = p.1.0; answered = p.1.1.0; refused = p.1.1.1.0; given = p.1.1.1.1.0; shares = p.1.1.1.1.1.0; tasks = p.1.1.1.1.1.1 })
     (λ _. refl)
 
 -- submissions whose answer was not fetched
-abbrev pub unfetched : {S : Type 0} → Hall S → ℕ
+abbrev pub unfetched : Hall → ℕ
 unfetched h = length h.waiting + length h.known.held + length h.answered + length h.refused
 
 -- What holds whenever the lock is free.
-pub record IsSound {S : Type 0} (g : Ghosts S) (h : Hall S) : Type 0 where
-  pub legal : IsHistory g h.known  -- one history
+pub record IsSound (h : Hall) : Type 0 where
+  pub legal : IsHistory h.known  -- one history
   pub order : tickets_in (h.known.held ++ h.waiting) ≡ count_from (answered_in h.known) (length h.known.held + length h.waiting)
   pub counts : h.given ≡ answered_in h.known + (length h.known.held + length h.waiting)  -- each ticket is answered, taken or waits
   pub shared : h.shares ≡ h.given
@@ -56,45 +56,45 @@ pub record IsSound {S : Type 0} (g : Ghosts S) (h : Hall S) : Type 0 where
   pub queued : h.known.posted ≡ h.known.given ++ h.tasks  -- what was posted was given out or waits for that
   pub once : IsOnce h.known.posted
 
-abbrev pub new_ask : {S : Type 0} → Hall S → Command → Taken
+abbrev pub new_ask : Hall → Command → Taken
 new_ask h c = record { ticket = h.given; command = c }
 
 -- a command joins those that wait
-abbrev pub submitted : {S : Type 0} → Hall S → Command → Hall S
+abbrev pub submitted : Hall → Command → Hall
 submitted h c = record h { known = with_ask h.known (new_ask h c); waiting = h.waiting ++ new_ask h c ∷ []; given = h.given + 1; shares = h.shares + 1 }
 
 -- these are taken, and the rest waits on
-abbrev pub took : {S : Type 0} → Hall S → List Taken → List Taken → Hall S
+abbrev pub took : Hall → List Taken → List Taken → Hall
 took h xs rest = record h { known = with_taken h.known xs; waiting = rest }
 
 -- the receipts answer all that was taken
-abbrev pub published : {S : Type 0} → Hall S → Keeping S → List Receipt → Hall S
+abbrev pub published : Hall → Accounted → List Receipt → Hall
 published h keeper rs = record h { known = with_published h.known keeper rs; answered = h.answered ++ rs }
 
 -- all that was taken is answered by a code
-abbrev pub refused_all : {S : Type 0} → Hall S → Code → Hall S
+abbrev pub refused_all : Hall → Code → Hall
 refused_all h code = record h { known = with_refused h.known h.known.held code; refused = h.refused ++ map (refused_by code) h.known.held }
 
 -- one answer fewer, which was fetched
-abbrev pub fetched_receipt : {S : Type 0} → Hall S → List Receipt → Hall S
+abbrev pub fetched_receipt : Hall → List Receipt → Hall
 fetched_receipt h rs = record h { known = with_fetched h.known; answered = rs }
 
-abbrev pub fetched_refusal : {S : Type 0} → Hall S → List Refused → Hall S
+abbrev pub fetched_refusal : Hall → List Refused → Hall
 fetched_refusal h rs = record h { known = with_fetched h.known; refused = rs }
 
-abbrev pub enrolled : {S : Type 0} → Hall S → Hall S
+abbrev pub enrolled : Hall → Hall
 enrolled h = record h { known = with_member h.known }
 
-abbrev pub closed : {S : Type 0} → Hall S → Hall S
+abbrev pub closed : Hall → Hall
 closed h = record h { known = with_closed h.known }
 
 -- Of these tasks those are posted that weren't before, each once.
-abbrev pub posted_on : {S : Type 0} → Hall S → List Task → Outlook → Hall S
+abbrev pub posted_on : Hall → List Task → Outlook → Hall
 posted_on h ts outlook = let more = new_ones h.known.posted ts in record h { known = with_posted h.known more outlook; tasks = h.tasks ++ more }
 
-abbrev pub skipped : {S : Type 0} → Hall S → Hall S
+abbrev pub skipped : Hall → Hall
 skipped h = record h { known = with_skipped h.known }
 
 -- a task is given out, and the rest waits on
-abbrev pub gave : {S : Type 0} → Hall S → Task → List Task → Hall S
+abbrev pub gave : Hall → Task → List Task → Hall
 gave h t rest = record h { known = with_given h.known t; tasks = rest }

@@ -2,13 +2,14 @@
 use Rattle.std.specs.Prelude.{ℕ, ◌≡◌, ◌≤◌, ◌+◌, Bool, true, false, Option, Some, None, List, [], ◌∷◌, ◌++◌, length, map, refl}
 use Rattle.std.specs.Coded.{Coded, code_by, coded×, coded_ℕ, coded_bool, coded_list, coded_option}
 use mathlib.Core.List.{IsPrefix}
-use Rattle.sqlite_trees.specs.declared.store.Store.{Ghosts}
 use Rattle.flow_base.specs.declared.code.Code.{Code}
 use Rattle.flow_machine.specs.declared.submission.Receipt.{Receipt}
 use Rattle.flow_machine.specs.declared.submission.Taken.{Taken}
 use Rattle.flow_machine.specs.declared.task.Task.{Task}
 use Rattle.flow_machine.specs.contracts.task.Task as task_row
-use Rattle.flow_commit.specs.Keeping.{Keeping, IsLegal, keeping_code, log_code, batch_code}
+use Rattle.flow_commit.specs.Keeping.{batch_code}
+use Rattle.flow_commit.specs.Accounts.{Accounted, account_code, log_code}
+use Rattle.flow_commit.specs.Stamps.{IsLegal}
 use Rattle.flow_hub.specs.declared.known.Known.{Known}
 use Rattle.flow_hub.specs.declared.known.Outlook.{Outlook}
 use Rattle.flow_hub.specs.contracts.known.Outlook as outlook_row
@@ -30,64 +31,64 @@ Tasks = List Task × (List Task × (Bool × Option Outlook))
 abbrev tasks_code : Coded Tasks
 tasks_code = coded× task_list_code (coded× task_list_code (coded× coded_bool (coded_option outlook_row.the_row.coded)))
 
-abbrev pub known_code : {S : Type 0} → Coded S → Coded (Known S)
-known_code {S} store =
-    code_by (List Taken × (List Receipt × (List Refused × (List (Keeping S) × (List Taken × (ℕ × (ℕ × (Bool × Tasks))))))))
-    (coded× batch_code (coded× log_code (coded× refusals_code (coded× (coded_list (keeping_code store)) (coded× batch_code (coded× coded_ℕ (coded× coded_ℕ (coded× coded_bool tasks_code))))))))
+abbrev pub known_code : Coded Known
+known_code =
+    code_by (List Taken × (List Receipt × (List Refused × (List Accounted × (List Taken × (ℕ × (ℕ × (Bool × Tasks))))))))
+    (coded× batch_code (coded× log_code (coded× refusals_code (coded× (coded_list account_code) (coded× batch_code (coded× coded_ℕ (coded× coded_ℕ (coded× coded_bool tasks_code))))))))
     (λ k. (k.asked, (k.history, (k.refused, (k.last, (k.held, (k.fetched, (k.members, (k.closed, (k.posted, (k.given, (k.boarded, k.outlook))))))))))))
     (λ p. record { asked = p.0; history = p.1.0; refused = p.1.1.0; last = p.1.1.1.0; held = p.1.1.1.1.0; fetched = p.1.1.1.1.1.0; members = p.1.1.1.1.1.1.0; closed = p.1.1.1.1.1.1.1.0; posted = p.1.1.1.1.1.1.1.1.0; given = p.1.1.1.1.1.1.1.1.1.0; boarded = p.1.1.1.1.1.1.1.1.1.1.0; outlook = p.1.1.1.1.1.1.1.1.1.1.1 })
     (λ _. refl)
 
-abbrev pub nothing : {S : Type 0} → Known S
-nothing {S} = record { asked = []; history = []; refused = []; last = []; held = []; fetched = 0; members = 0; closed = false; posted = []; given = []; boarded = false; outlook = None }
+abbrev pub nothing : Known
+nothing = record { asked = []; history = []; refused = []; last = []; held = []; fetched = 0; members = 0; closed = false; posted = []; given = []; boarded = false; outlook = None }
 
 -- how many submissions are answered, by a receipt or by a code
-abbrev pub answered_in : {S : Type 0} → Known S → ℕ
+abbrev pub answered_in : Known → ℕ
 answered_in k = length k.history + length k.refused
 
 ---- How it changes
 
-abbrev pub with_ask : {S : Type 0} → Known S → Taken → Known S
+abbrev pub with_ask : Known → Taken → Known
 with_ask k t = record k { asked = k.asked ++ t ∷ [] }
 
-abbrev pub with_taken : {S : Type 0} → Known S → List Taken → Known S
+abbrev pub with_taken : Known → List Taken → Known
 with_taken k xs = record k { held = k.held ++ xs }
 
-abbrev pub with_published : {S : Type 0} → Known S → Keeping S → List Receipt → Known S
+abbrev pub with_published : Known → Accounted → List Receipt → Known
 with_published k keeper rs = record k { history = k.history ++ rs; last = keeper ∷ []; held = []; boarded = false; outlook = None }
 
-abbrev pub with_refused : {S : Type 0} → Known S → List Taken → Code → Known S
+abbrev pub with_refused : Known → List Taken → Code → Known
 with_refused k xs code = record k { refused = k.refused ++ map (refused_by code) xs; held = []; boarded = false; outlook = None }
 
-abbrev pub with_fetched : {S : Type 0} → Known S → Known S
+abbrev pub with_fetched : Known → Known
 with_fetched k = record k { fetched = k.fetched + 1 }
 
-abbrev pub with_member : {S : Type 0} → Known S → Known S
+abbrev pub with_member : Known → Known
 with_member k = record k { members = k.members + 1 }
 
-abbrev pub with_closed : {S : Type 0} → Known S → Known S
+abbrev pub with_closed : Known → Known
 with_closed k = record k { closed = true }
 
-abbrev pub with_posted : {S : Type 0} → Known S → List Task → Outlook → Known S
+abbrev pub with_posted : Known → List Task → Outlook → Known
 with_posted k ts outlook = record k { posted = k.posted ++ ts; boarded = true; outlook = Some outlook }
 
-abbrev pub with_skipped : {S : Type 0} → Known S → Known S
+abbrev pub with_skipped : Known → Known
 with_skipped k = record k { boarded = true }
 
-abbrev pub with_given : {S : Type 0} → Known S → Task → Known S
+abbrev pub with_given : Known → Task → Known
 with_given k t = record k { given = k.given ++ t ∷ [] }
 
 ---- How it grows
 
--- The later stamp's keeper was made over the tables of the earlier one's.
-abbrev pub IsOver : {S : Type 0} → List (Keeping S) → List (Keeping S) → Type 0
+-- The later stamp's keeper was made over the book and the file of the earlier one's.
+abbrev pub IsOver : List Accounted → List Accounted → Type 0
 IsOver [] ls = Unit {0}
 IsOver (k ∷ ks) [] = ⊥
 IsOver (k ∷ ks) (l ∷ ls) = l.base ≡ k.base
 
 -- What was submitted, the history, what was answered by a code, the tasks posted and those given only grow; all stamps have one
 -- base; answers that were fetched and submitters are counted on; and what is closed stays so.
-pub record IsBefore {S : Type 0} (k l : Known S) : Type 0 where
+pub record IsBefore (k l : Known) : Type 0 where
   pub asked : IsPrefix k.asked l.asked
   pub history : IsPrefix k.history l.history
   pub refused : IsPrefix k.refused l.refused
@@ -100,7 +101,7 @@ pub record IsBefore {S : Type 0} (k l : Known S) : Type 0 where
 
 -- What the publisher alone changes is the same: the history, the last stamp, what was answered by a code, what is taken, and what it
 -- has posted.
-pub record IsSamePart {S : Type 0} (k l : Known S) : Type 0 where
+pub record IsSamePart (k l : Known) : Type 0 where
   pub history : k.history ≡ l.history
   pub refused : k.refused ≡ l.refused
   pub last : k.last ≡ l.last
@@ -111,13 +112,13 @@ pub record IsSamePart {S : Type 0} (k l : Known S) : Type 0 where
 
 ---- One history
 
--- The history is all that the keeper has kept that the last stamp names, and its replies are those of apply over whichever book
--- was kept at opening, as far as the disk had told no lie by then. Before the first stamp it is empty.
-abbrev pub IsKept : {S : Type 0} → Ghosts S → List (Keeping S) → List Receipt → Type 0
-IsKept g [] history = history ≡ []
-IsKept g (k ∷ ks) history = (history ≡ k.log) × IsLegal g k
+-- The history is all that the last stamp's keeper has kept, and its replies are those of apply over the book that was found at opening,
+-- as far as the disk had told no lie by then. Before the first stamp it is empty.
+abbrev pub IsKept : List Accounted → List Receipt → Type 0
+IsKept [] history = history ≡ []
+IsKept (k ∷ ks) history = (history ≡ k.log) × IsLegal k
 
 -- and its tickets rise
-pub record IsHistory {S : Type 0} (g : Ghosts S) (k : Known S) : Type 0 where
-  pub kept : IsKept g k.last k.history
+pub record IsHistory (k : Known) : Type 0 where
+  pub kept : IsKept k.last k.history
   pub rising : Rises 0 (tickets_of k.history) (answered_in k)

@@ -3,7 +3,8 @@ use Rattle.std.specs.Prelude.{◌≡◌, ◌+◌, true, false, List, [], ◌∷�
 use Rattle.flow_base.specs.declared.code.Code.{Code}
 use Rattle.flow_machine.specs.declared.submission.Receipt.{Receipt}
 use Rattle.flow_machine.specs.declared.submission.Taken.{Taken}
-use Rattle.flow_commit.specs.Keeping.{Keeping, count_from}
+use Rattle.flow_commit.specs.Accounts.{Accounted}
+use Rattle.flow_commit.specs.Keeping.{count_from}
 use Rattle.flow_commit.specs.Stamps.{Stamped}
 use Rattle.flow_commit.specs.Boards.{Boarded}
 use Rattle.flow_hub.specs.declared.known.Known.{Known}
@@ -12,20 +13,20 @@ use Rattle.flow_hub.specs.Asks.{IsAsked, tickets_in, takens_of}
 use Rattle.flow_queues.specs.Refusing.{refused_by}
 use Rattle.flow_hub.specs.Knowing.{IsOver, answered_in}
 
--- What the keeper has kept is what the publisher has published, over the same tables, and nothing is taken.
-pub record Together {S : Type 0} (keeper : Keeping S) (k : Known S) : Type 0 where
+-- What the keeper has kept is what the publisher has published, over the same book and file, and nothing is taken.
+pub record Together (keeper : Accounted) (k : Known) : Type 0 where
   pub log : keeper.log ≡ k.history
   pub over : IsOver k.last (keeper ∷ [])
   pub none : k.held ≡ []
 
 -- These are taken, and in all else keeper and publisher stand together.
-pub record InHand {S : Type 0} (keeper : Keeping S) (k : Known S) (xs : List Taken) : Type 0 where
+pub record InHand (keeper : Accounted) (k : Known) (xs : List Taken) : Type 0 where
   pub log : keeper.log ≡ k.history
   pub over : IsOver k.last (keeper ∷ [])
   pub taken : k.held ≡ xs
 
 -- These are taken: the next that were submitted and not taken before, with none left out.
-pub record HasTaken {S : Type 0} (old new : Known S) (xs : List Taken) : Type 0 where
+pub record HasTaken (old new : Known) (xs : List Taken) : Type 0 where
   pub held : new.held ≡ old.held ++ xs
   pub history : new.history ≡ old.history
   pub refused : new.refused ≡ old.refused
@@ -37,23 +38,23 @@ pub record HasTaken {S : Type 0} (old new : Known S) (xs : List Taken) : Type 0 
   pub order : tickets_in xs ≡ count_from (answered_in old + length old.held) (length xs)
 
 -- Nothing more is taken in, and all that was submitted is answered or taken.
-pub record IsDone {S : Type 0} (k : Known S) : Type 0 where
+pub record IsDone (k : Known) : Type 0 where
   pub closed : k.closed ≡ true
   pub empty : length k.asked ≡ answered_in k + length k.held
 
 -- The receipts are those of the stamp, and answer what was taken, whole and in order; and with them all that the stamp's keeper
 -- has kept is published, and nothing twice.
-pub record Answers {S : Type 0} (k : Known S) (stamp : Stamped S) (rs : List Receipt) : Type 0 where
+pub record Answers (k : Known) (stamp : Stamped) (rs : List Receipt) : Type 0 where
   pub asked : takens_of rs ≡ k.held
   pub own : stamp.own ≡ rs
-  pub log : stamp.keeper.log ≡ k.history ++ rs
-  pub over : IsOver k.last (stamp.keeper ∷ [])
+  pub log : stamp.account.log ≡ k.history ++ rs
+  pub over : IsOver k.last (stamp.account ∷ [])
 
 -- The history has these receipts more, and is all that the stamp's keeper has kept. What the last board says holds no more.
-pub record HasPublished {S : Type 0} (old new : Known S) (stamp : Stamped S) (rs : List Receipt) : Type 0 where
+pub record HasPublished (old new : Known) (stamp : Stamped) (rs : List Receipt) : Type 0 where
   pub history : new.history ≡ old.history ++ rs
-  pub log : new.history ≡ stamp.keeper.log
-  pub last : new.last ≡ stamp.keeper ∷ []
+  pub log : new.history ≡ stamp.account.log
+  pub last : new.last ≡ stamp.account ∷ []
   pub held : new.held ≡ []
   pub refused : new.refused ≡ old.refused
   pub posted : new.posted ≡ old.posted
@@ -61,7 +62,7 @@ pub record HasPublished {S : Type 0} (old new : Known S) (stamp : Stamped S) (rs
   pub outlook : new.outlook ≡ None
 
 -- These are answered by a code.
-pub record HasRefused {S : Type 0} (old new : Known S) (xs : List Taken) (code : Code) : Type 0 where
+pub record HasRefused (old new : Known) (xs : List Taken) (code : Code) : Type 0 where
   pub refused : new.refused ≡ old.refused ++ map (refused_by code) xs
   pub held : new.held ≡ []
   pub history : new.history ≡ old.history
@@ -71,26 +72,26 @@ pub record HasRefused {S : Type 0} (old new : Known S) (xs : List Taken) (code :
   pub outlook : new.outlook ≡ None
 
 -- The board was made behind all that is published, when these tasks were posted.
-pub record IsFresh {S : Type 0} (k : Known S) (board : Boarded) : Type 0 where
+pub record IsFresh (k : Known) (board : Boarded) : Type 0 where
   pub kept : board.kept ≡ length k.history
   pub posted : HasKeys (record { keys = board.posted }) k.posted
 
 -- All else that the publisher alone changes is as it was.
-pub record IsSameHistory {S : Type 0} (old new : Known S) : Type 0 where
+pub record IsSameHistory (old new : Known) : Type 0 where
   pub history : new.history ≡ old.history
   pub refused : new.refused ≡ old.refused
   pub last : new.last ≡ old.last
   pub held : new.held ≡ old.held
 
 -- Those of the board's tasks are posted that weren't posted before, each once and in their order, and it says what is open.
-pub record HasPosted {S : Type 0} (old new : Known S) (board : Boarded) : Type 0 where
+pub record HasPosted (old new : Known) (board : Boarded) : Type 0 where
   pub rest : IsSameHistory old new
   pub posted : new.posted ≡ old.posted ++ new_ones old.posted board.tasks
   pub boarded : new.boarded ≡ true
   pub outlook : new.outlook ≡ Some (record { due = board.due; open_runs = board.open_runs })
 
 -- There is no board this time.
-pub record HasSkipped {S : Type 0} (old new : Known S) : Type 0 where
+pub record HasSkipped (old new : Known) : Type 0 where
   pub rest : IsSameHistory old new
   pub posted : new.posted ≡ old.posted
   pub boarded : new.boarded ≡ true

@@ -9,10 +9,10 @@ use Rattle.flow_hub.specs.declared.known.Known.{Known}
 use Rattle.flow_hub.specs.declared.seats.Sight.{Sight}
 use Rattle.flow_hub.specs.Knowing.{known_code, nothing, IsBefore, IsSamePart}
 
-abbrev pub sight_code : {S : Type 0} → Coded S → Coded (Sight S)
-sight_code {S} store =
-    code_by (Bool × (Bool × (Bool × (Option ℕ × (Option ℕ × (Known S × Known S))))))
-    (coded× coded_bool (coded× coded_bool (coded× coded_bool (coded× (coded_option coded_ℕ) (coded× (coded_option coded_ℕ) (coded× (known_code store) (known_code store)))))))
+abbrev pub sight_code : Coded Sight
+sight_code =
+    code_by (Bool × (Bool × (Bool × (Option ℕ × (Option ℕ × (Known × Known))))))
+    (coded× coded_bool (coded× coded_bool (coded× coded_bool (coded× (coded_option coded_ℕ) (coded× (coded_option coded_ℕ) (coded× known_code known_code))))))
     (λ v. (v.keeps, (v.pubs, (v.gives, (v.member, (v.met, (v.all, v.was)))))))
     (λ p. record { keeps = p.0; pubs = p.1.0; gives = p.1.1.0; member = p.1.1.1.0; met = p.1.1.1.1.0; all = p.1.1.1.1.1.0; was = p.1.1.1.1.1.1 })
     (λ _. refl)
@@ -37,107 +37,107 @@ abbrev pub no_table : TableId
 no_table = record { words = 0; slots = 0; views_name = 0; atom = 0; block = 0; offset = 0; slot_names = [] }
 
 -- the one that keeps, publishes and gives out
-abbrev pub opener : {S : Type 0} → Sight S
-opener {S} = record { keeps = true; pubs = true; gives = true; member = None; met = None; all = nothing; was = nothing }
+abbrev pub opener : Sight
+opener = record { keeps = true; pubs = true; gives = true; member = None; met = None; all = nothing; was = nothing }
 
-abbrev pub nobody : {S : Type 0} → Sight S
-nobody {S} = record { keeps = false; pubs = false; gives = false; member = None; met = None; all = nothing; was = nothing }
+abbrev pub nobody : Sight
+nobody = record { keeps = false; pubs = false; gives = false; member = None; met = None; all = nothing; was = nothing }
 
 -- what the rule says of one seat
-abbrev pub Fits : {S : Type 0} → ℕ → ℕ → ℕ → Known S → ℕ → Sight S → Type 0
+abbrev pub Fits : ℕ → ℕ → ℕ → Known → ℕ → Sight → Type 0
 Fits keeper publisher giver now by v =
     (v.keeps ≡ true → (by ≡ keeper) × (v.all ≡ now)) × (v.pubs ≡ true → (by ≡ publisher) × IsSamePart v.was now) × (v.gives ≡ true → (by ≡ giver) × (v.was.given ≡ now.given)) × IsBefore v.was now
 
 -- the number of a seat that it met is another one
-abbrev pub IsApart : {S : Type 0} → Sight S → Type 0
+abbrev pub IsApart : Sight → Type 0
 IsApart v = (n : ℕ) → v.met ≡ Some n → v.member ≢ Some n
 
 -- Each number of a submitter is below how many were given, and one seat has it: so two seats have two numbers.
-abbrev pub AreNumbered : {S : Type 0} → ℕ → List (Sight S) → Type 0
-AreNumbered {S} members views =
-    (seat : (ℕ → ℕ)) × ((by : ℕ) (v : Sight S) → get_elem? views by ≡ some v → ((n : ℕ) → v.member ≡ Some n → (n < members) × (seat n ≡ by)) × IsApart v)
+abbrev pub AreNumbered : ℕ → List Sight → Type 0
+AreNumbered members views =
+    (seat : (ℕ → ℕ)) × ((by : ℕ) (v : Sight) → get_elem? views by ≡ some v → ((n : ℕ) → v.member ≡ Some n → (n < members) × (seat n ≡ by)) × IsApart v)
 
 -- The word is the length of the history. One seat at most keeps, one publishes, one gives tasks out, and one has a submitter's number.
-abbrev pub Kept : {S : Type 0} → State (Known S) (Sight S) → Type 0
-Kept {S} s =
-    (keeper : ℕ) × (publisher : ℕ) × (giver : ℕ) × (now : Known S) × (s.words ≡ length now.history ∷ []) × ((by : ℕ) (v : Sight S) → get_elem? s.views by ≡ some v → Fits keeper publisher giver now by v)
+abbrev pub Kept : State Known Sight → Type 0
+Kept s =
+    (keeper : ℕ) × (publisher : ℕ) × (giver : ℕ) × (now : Known) × (s.words ≡ length now.history ∷ []) × ((by : ℕ) (v : Sight) → get_elem? s.views by ≡ some v → Fits keeper publisher giver now by v)
     × AreNumbered now.members s.views
 
-abbrev pub said_of : {S : Type 0} → Said (Known S) → Known S
+abbrev pub said_of : Said Known → Known
 said_of none = nothing
 said_of (some k) = k
 
 -- what a keeper with what another saw is told of it
-abbrev pub Knows : {S : Type 0} → Sight S → Type 0
+abbrev pub Knows : Sight → Type 0
 Knows v = IsBefore v.was v.all × (v.pubs ≡ true → IsSamePart v.was v.all) × (v.gives ≡ true → v.was.given ≡ v.all.given)
 
-abbrev pub added : {S : Type 0} → Sight S → Option ℕ → Known S → Sight S
+abbrev pub added : Sight → Option ℕ → Known → Sight
 added v member k = record { keeps = v.keeps; pubs = v.pubs; gives = v.gives; member = member; met = None; all = k; was = k }
 
-abbrev pub adding : {S : Type 0} → Sight S → Known S → Sight S
+abbrev pub adding : Sight → Known → Sight
 adding v k = added v v.member k
 
 -- the number that nobody had is the seat's
-abbrev pub admitting : {S : Type 0} → Sight S → Known S → Sight S
+abbrev pub admitting : Sight → Known → Sight
 admitting v k = added v (Some v.all.members) k
 
 -- the publisher's store: the word and what is known grow
-abbrev pub Adds : {S : Type 0} → Step (Known S) → Me (Known S) (Sight S) → ℕ → Me (Known S) (Sight S) → Type 0
+abbrev pub Adds : Step Known → Me Known Sight → ℕ → Me Known Sight → Type 0
 Adds s v n w = (w ≡ (adding v.0 (said_of s.said), v.1)) × Knows v.0
 
 -- the store under the lock that gives a number: one submitter more is known of
-abbrev pub Admits : {S : Type 0} → Step (Known S) → Me (Known S) (Sight S) → ℕ → Me (Known S) (Sight S) → Type 0
+abbrev pub Admits : Step Known → Me Known Sight → ℕ → Me Known Sight → Type 0
 Admits s v n w = (w ≡ (admitting v.0 (said_of s.said), v.1)) × Knows v.0
 
 -- a load: what is seen begins with what was seen, and has as many lines as the word says
-abbrev pub Looks : {S : Type 0} → Step (Known S) → Me (Known S) (Sight S) → ℕ → Me (Known S) (Sight S) → Type 0
+abbrev pub Looks : Step Known → Me Known Sight → ℕ → Me Known Sight → Type 0
 Looks s v n w = (w.0.keeps ≡ v.0.keeps) × (w.0.pubs ≡ v.0.pubs) × (w.0.gives ≡ v.0.gives) × (w.1 ≡ v.1) × IsBefore v.0.was w.0.was × (length w.0.was.history ≡ n)
     × (w.0.member ≡ v.0.member) × (w.0.met ≡ v.0.met) × IsApart w.0
 
-abbrev pub lent : {S : Type 0} → Sight S → Sight S → Sight S
+abbrev pub lent : Sight → Sight → Sight
 lent v w = record { keeps = v.keeps; pubs = w.pubs; gives = w.gives; member = v.member; met = None; all = v.all; was = w.was }
 
-abbrev pub keeps_left : {S : Type 0} → Sight S → Sight S
+abbrev pub keeps_left : Sight → Sight
 keeps_left v = record { keeps = v.keeps; pubs = false; gives = false; member = None; met = None; all = v.all; was = nothing }
 
-abbrev pub handed_back : {S : Type 0} → Sight S → Sight S
+abbrev pub handed_back : Sight → Sight
 handed_back v = record { keeps = false; pubs = v.pubs; gives = v.gives; member = None; met = None; all = nothing; was = v.was }
 
 -- what is left of the one that gives out where this goes to a seat of its own
-abbrev pub gives_none : {S : Type 0} → Sight S → Sight S
+abbrev pub gives_none : Sight → Sight
 gives_none v = record { keeps = v.keeps; pubs = v.pubs; gives = false; member = v.member; met = None; all = v.all; was = v.was }
 
-abbrev pub gives_alone : {S : Type 0} → Sight S → Sight S
+abbrev pub gives_alone : Sight → Sight
 gives_alone v = record { keeps = false; pubs = false; gives = v.gives; member = None; met = None; all = nothing; was = v.was }
 
 -- the same of a submitter's number
-abbrev pub member_none : {S : Type 0} → Sight S → Sight S
+abbrev pub member_none : Sight → Sight
 member_none v = record { keeps = v.keeps; pubs = v.pubs; gives = v.gives; member = None; met = None; all = v.all; was = v.was }
 
-abbrev pub member_alone : {S : Type 0} → Sight S → Sight S
+abbrev pub member_alone : Sight → Sight
 member_alone v = record { keeps = false; pubs = false; gives = false; member = v.member; met = None; all = nothing; was = nothing }
 
 -- a seat has met another one, which is spent
-abbrev pub meeting : {S : Type 0} → Sight S → Sight S → Sight S
+abbrev pub meeting : Sight → Sight → Sight
 meeting v w = record { keeps = v.keeps; pubs = v.pubs; gives = v.gives; member = v.member; met = w.member; all = v.all; was = v.was }
 
 -- the seat that has a submitter's number, and has seen nothing
-abbrev pub badge_of : {S : Type 0} → ℕ → Sight S
-badge_of {S} n = record { keeps = false; pubs = false; gives = false; member = Some n; met = None; all = nothing; was = nothing }
+abbrev pub badge_of : ℕ → Sight
+badge_of n = record { keeps = false; pubs = false; gives = false; member = Some n; met = None; all = nothing; was = nothing }
 
 -- the seat under the lock, which knows all
-abbrev pub keeping : {S : Type 0} → Known S → Sight S
-keeping {S} k = record { keeps = true; pubs = false; gives = false; member = None; met = None; all = k; was = nothing }
+abbrev pub keeping : Known → Sight
+keeping k = record { keeps = true; pubs = false; gives = false; member = None; met = None; all = k; was = nothing }
 
 -- a submitter's seat, at `pubs` the publisher's, or at `gives` that of whoever gives tasks out
-abbrev pub seeing : {S : Type 0} → Bool → Bool → Known S → Sight S
-seeing {S} pubs gives k = record { keeps = false; pubs = pubs; gives = gives; member = None; met = None; all = nothing; was = k }
+abbrev pub seeing : Bool → Bool → Known → Sight
+seeing pubs gives k = record { keeps = false; pubs = pubs; gives = gives; member = None; met = None; all = nothing; was = k }
 
-abbrev pub IsSubmitters : {S : Type 0} → Sight S → Type 0
+abbrev pub IsSubmitters : Sight → Type 0
 IsSubmitters v = (v.keeps ≡ false) × (v.pubs ≡ false) × (v.gives ≡ false)
 
-abbrev pub IsPublishers : {S : Type 0} → Sight S → Type 0
+abbrev pub IsPublishers : Sight → Type 0
 IsPublishers v = (v.keeps ≡ false) × (v.pubs ≡ true) × (v.gives ≡ false)
 
-abbrev pub IsGivers : {S : Type 0} → Sight S → Type 0
+abbrev pub IsGivers : Sight → Type 0
 IsGivers v = (v.keeps ≡ false) × (v.pubs ≡ false) × (v.gives ≡ true)

@@ -1,7 +1,6 @@
 -- What submitters are, and what they are told.
 use Rattle.std.specs.Prelude.{ℕ, ◌≡◌, ◌≢◌, ◌⊎◌, ◌+◌, ◌<◌, ◌≤◌, ◌^◌, true, false, length, Some, None, slice_get, refl}
 use Rattle.std.specs.Coded.{Coded, code_by, coded×, coded_ℕ}
-use Rattle.sqlite_trees.specs.declared.store.Store.{Ghosts}
 use Rattle.flow_base.specs.declared.command.Command.{Command}
 use Rattle.flow_machine.specs.declared.submission.Receipt.{Receipt}
 use Rattle.flow_hub.specs.declared.denied.Denied.{Denied}
@@ -18,40 +17,40 @@ use Rattle.flow_hub.specs.Knowing.{IsHistory, known_code}
 
 -- The value of a submitter: its number, what it has seen of the hub, and its share of the tickets given: of how many submitters,
 -- itself and those that it has gathered, and how many tickets.
-pub record Member (S : Type 0) : Type 0 where
+pub record Member : Type 0 where
   pub id : ℕ
-  pub was : Known S
+  pub was : Known
   pub parts : ℕ
   pub amount : ℕ
 
-abbrev pub member_code : {S : Type 0} → Coded S → Coded (Member S)
-member_code {S} store =
-    code_by (ℕ × (Known S × (ℕ × ℕ))) (coded× coded_ℕ (coded× (known_code store) (coded× coded_ℕ coded_ℕ)))
+abbrev pub member_code : Coded Member
+member_code =
+    code_by (ℕ × (Known × (ℕ × ℕ))) (coded× coded_ℕ (coded× known_code (coded× coded_ℕ coded_ℕ)))
     (λ m. (m.id, (m.was, (m.parts, m.amount)))) (λ p. record { id = p.0; was = p.1.0; parts = p.1.1.0; amount = p.1.1.1 }) (λ _. refl)
 
 -- as many answers were not fetched as there is room for, or as many tickets were given
-abbrev pub IsFull : {S : Type 0} → Known S → Type 0
+abbrev pub IsFull : Known → Type 0
 IsFull k = (k.fetched + 1024 ≤ length k.asked) ⊎ (2 ^ 62 ≤ length k.asked)
 
 -- it takes one more submission in
-pub record IsOpen {S : Type 0} (k : Known S) : Type 0 where
+pub record IsOpen (k : Known) : Type 0 where
   pub goes_on : k.closed ≡ false
   pub room : length k.asked < k.fetched + 1024
   pub tickets : length k.asked < 2 ^ 62
 
 -- it has just taken one more in: it isn't closed, and there was room for that one
-pub record HasTakenIn {S : Type 0} (k : Known S) : Type 0 where
+pub record HasTakenIn (k : Known) : Type 0 where
   pub goes_on : k.closed ≡ false
   pub room : length k.asked ≤ k.fetched + 1024
   pub tickets : length k.asked ≤ 2 ^ 62
 
 -- why a command isn't taken in; closing is asked first
-abbrev pub IsDenied : {S : Type 0} → Known S → Denied → Type 0
+abbrev pub IsDenied : Known → Denied → Type 0
 IsDenied k denied.HubClosed = k.closed ≡ true
 IsDenied k denied.InboxFull = (k.closed ≡ false) × IsFull k
 
 -- The ticket is this submitter's own, and names what it submitted.
-pub record IsTicket {S : Type 0} (old new : Member S) (command : Command) (t : Ticket) : Type 0 where
+pub record IsTicket (old new : Member) (command : Command) (t : Ticket) : Type 0 where
   pub owner : t.owner ≡ old.id
   pub asked : slice_get new.was.asked t.number ≡ Some (record { ticket = t.number; command = command })
   pub rises : length old.was.asked ≤ t.number
@@ -59,24 +58,24 @@ pub record IsTicket {S : Type 0} (old new : Member S) (command : Command) (t : T
   pub share : new.amount ≡ old.amount + 1
 
 -- The receipt is the ticket's, repeats what was submitted at it, and stands at its place in the one history.
-pub record IsReceipt {S : Type 0} (g : Ghosts S) (m : Member S) (ticket : Ticket) (r : Receipt) : Type 0 where
+pub record IsReceipt (m : Member) (ticket : Ticket) (r : Receipt) : Type 0 where
   pub mine : ticket.owner ≡ m.id
   pub number : r.ticket ≡ ticket.number
   pub own : IsOwn m.was.asked r
   pub stands : Stands m.was.history r
-  pub legal : IsHistory g m.was
+  pub legal : IsHistory m.was
 
 -- Another submitter's ticket comes back; or the submitter's own was answered by this code, and its command comes back.
-abbrev pub IsFor : {S : Type 0} → Member S → Ticket → NotDone → Why → Type 0
+abbrev pub IsFor : Member → Ticket → NotDone → Why → Type 0
 IsFor m ticket n why.NotMine = (ticket.owner ≢ m.id) × (n.command ≡ None)
 IsFor m ticket n (why.Refused code) =
     (ticket.owner ≡ m.id) × ((r : Refused) × (r.code ≡ code) × (r.asked.ticket ≡ ticket.number) × (n.command ≡ Some r.asked.command) × IsAsked m.was.asked r.asked × IsTold m.was.refused r)
 
-abbrev pub IsNotDone : {S : Type 0} → Member S → Ticket → NotDone → Type 0
+abbrev pub IsNotDone : Member → Ticket → NotDone → Type 0
 IsNotDone m ticket n = (n.ticket ≡ ticket) × IsFor m ticket n n.code
 
 -- Of the tickets given so many are answered by a receipt, answered by a code, taken and waiting.
-pub record IsSettled {S : Type 0} (k : Known S) (s : Settled) : Type 0 where
+pub record IsSettled (k : Known) (s : Settled) : Type 0 where
   pub split : s.given ≡ s.by_receipt + s.by_code + s.taken + s.waiting
   pub given : s.given ≡ length k.asked
   pub by_receipt : s.by_receipt ≡ length k.history

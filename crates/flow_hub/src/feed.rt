@@ -7,26 +7,25 @@ ghost use Rattle.flow_hub.specs.Seating.{IsGivers};
 use crate::hub::{Shared, shared_in};
 use crate::seats::{Pass, Room};
 use flow_machine::task::Task;
-use sqlite::Alter;
 use std::marker::Model;
 use std::sync::{Arc, Wait};
 
 /// Gives the tasks out that are posted, in their order. A hub has one. To a contract it is what it knows of the hub: of what was
 /// given out, all.
 #[derive(Drop)]
-pub struct Feed<S: Alter, B: Room> {
-    shared: Arc<Shared<S, B>>,
-    seat: Pass<S, B>,
+pub struct Feed<B: Room> {
+    shared: Arc<Shared<B>>,
+    seat: Pass<B>,
 }
 
-impl<S: Alter, B: Room> Model for Feed<S, B> {
+impl<B: Room> Model for Feed<B> {
     ghost use Rattle.flow_hub.specs.declared.known.Known.{Known};
     ghost use Rattle.flow_hub.specs.Knowing.{known_code};
     ghost use Rattle.flow_hub.specs.Seating.{IsGivers};
 
-    ghost Value = { Known S };
+    ghost Value = { Known };
 
-    ghost coded = { known_code S.code };
+    ghost coded = { known_code };
 
     ghost view = { λ f. f.seat.was };
 
@@ -34,11 +33,7 @@ impl<S: Alter, B: Room> Model for Feed<S, B> {
 }
 
 /// Waits until a task is there, or the hub is closed.
-fn given<S: Alter, B: Room, R: Wait>(
-    rt: &R,
-    shared: &Shared<S, B>,
-    seat: Pass<S, B>,
-) -> (Pass<S, B>, Option<Task>)
+fn given<B: Room, R: Wait>(rt: &R, shared: &Shared<B>, seat: Pass<B>) -> (Pass<B>, Option<Task>)
     requires seat { IsGivers seat }
     ensures given { HasGiven seat.was result.0.was result.1 }
     ensures none { IfNone result.1 (result.0.was.closed ≡ true) }
@@ -61,8 +56,8 @@ fn given<S: Alter, B: Room, R: Wait>(
     unreachable!()
 }
 
-impl<S: Alter, B: Room> Feed<S, B> {
-    pub(crate) fn over(shared: Arc<Shared<S, B>>, seat: Pass<S, B>) -> Feed<S, B>
+impl<B: Room> Feed<B> {
+    pub(crate) fn over(shared: Arc<Shared<B>>, seat: Pass<B>) -> Feed<B>
         requires { IsGivers seat }
         ensures { result ≡ seat.was }
     {

@@ -11,15 +11,14 @@ use crate::state::State;
 use crate::submitter::Submitter;
 use crate::waits::Waits;
 use flow_base::memory::NoMemory;
-use sqlite::Alter;
 use std::alloc::{AllocError, Global};
 use std::sync::{Arc, Condvar, Mutex, MutexGuard, Wait};
 
 /// What the threads of a hub share.
 #[derive(Drop)]
-pub(crate) struct Shared<S: Alter, B: Room> {
-    pub(crate) seats: Seats<S, B>,
-    pub(crate) state: Mutex<State<S, B>>,
+pub(crate) struct Shared<B: Room> {
+    pub(crate) seats: Seats<B>,
+    pub(crate) state: Mutex<State<B>>,
     /// Told when something waits, and at closing.
     pub(crate) asked: Condvar,
     /// Told when something was answered, by ticket.
@@ -31,13 +30,13 @@ pub(crate) struct Shared<S: Alter, B: Room> {
 }
 
 /// What is shared, by one who has a part in it.
-pub(crate) fn shared_in<S: Alter, B: Room>(shared: &Arc<Shared<S, B>>) -> &Shared<S, B> {
+pub(crate) fn shared_in<B: Room>(shared: &Arc<Shared<B>>) -> &Shared<B> {
     shared
 }
 
-impl<S: Alter, B: Room> Shared<S, B> {
+impl<B: Room> Shared<B> {
     /// Waits for the lock.
-    pub(crate) fn lock<R: Wait>(&self, rt: &R) -> MutexGuard<'_, State<S, B>> {
+    pub(crate) fn lock<R: Wait>(&self, rt: &R) -> MutexGuard<'_, State<B>> {
         self.state.lock(rt)
     }
 
@@ -59,18 +58,18 @@ pub(crate) struct Closer {
 
 /// Takes commands from submitters on many threads, for one publisher, who answers them.
 #[derive(Drop)]
-pub struct Hub<S: Alter, B: Room> {
-    shared: Arc<Shared<S, B>>,
+pub struct Hub<B: Room> {
+    shared: Arc<Shared<B>>,
     closer: Closer,
 }
 
-impl<S: Alter, B: Room> Hub<S, B> {
+impl<B: Room> Hub<B> {
     /// A hub to which nothing was submitted, and its one publisher. It asks for the room of 1,024 submissions, so that neither
     /// submitting nor waiting nor taking nor answering takes memory.
     ///
     /// # Failure
     /// E01.
-    pub fn new(alloc: Global, opened: Opened<S>) -> Result<(Publisher<S, B>, Hub<S, B>), AllocError>
+    pub fn new(alloc: Global, opened: Opened) -> Result<(Publisher<B>, Hub<B>), AllocError>
         requires room { IsRoomOf opened B.table B.name B.parts }
         ensures { IfOk result (λ r. r.0 ≡ nothing) }
     {
@@ -94,7 +93,7 @@ impl<S: Alter, B: Room> Hub<S, B> {
     ///
     /// # Failure
     /// E01; E90 where 2^62 submitters were given.
-    pub fn submitter<R: Wait>(&self, rt: &R) -> Result<Submitter<S, B>, Unseated>
+    pub fn submitter<R: Wait>(&self, rt: &R) -> Result<Submitter<B>, Unseated>
         ensures id { IfOk result (λ m. m.was.members ≡ m.id + 1) }
         ensures share { IfOk result (λ m. (m.parts ≡ 1) × (m.amount ≡ 0)) }
     {
@@ -110,7 +109,7 @@ impl<S: Alter, B: Room> Hub<S, B> {
     }
 
     /// Who gives the tasks out that are posted. None where it was asked for before, or there is no memory.
-    pub fn feed<R: Wait>(&self, rt: &R) -> Result<Option<Feed<S, B>>, AllocError>
+    pub fn feed<R: Wait>(&self, rt: &R) -> Result<Option<Feed<B>>, AllocError>
         ensures { IfOk result (λ o. IfSome o (λ f. f ≡ nothing)) }
     {
         let shared = Arc::try_clone(&self.shared)?;

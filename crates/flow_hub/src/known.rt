@@ -5,12 +5,11 @@ ghost use Rattle.flow_queues.specs.Posting.{chosen};
 
 use flow_base::code::Code;
 use flow_base::number::Moment;
-use flow_commit::keeper::Keeper;
+use flow_commit::account::Account;
 use flow_commit::stamp::Stamp;
 use flow_machine::submission::{Receipt, Taken};
 use flow_machine::task::Task;
 use flow_queues::refused::Refused;
-use sqlite::Alter;
 use unseen::{Listed, Makes};
 
 /// What a board says beside its tasks.
@@ -24,15 +23,15 @@ pub struct Outlook {
 
 /// What threads know of a hub. Its lists are data for contracts alone.
 #[derive(Drop)]
-pub struct Known<S: Alter> {
+pub struct Known {
     /// All that was submitted: each submission stands at its ticket.
     pub asked: Listed<Taken>,
     /// The one history: all receipts that were published, in their order.
     pub history: Listed<Receipt>,
     /// All submissions that were answered by a code, in their order.
     pub refused: Listed<Refused>,
-    /// The keeper as the last published stamp names it. Before the first one there is none.
-    pub last: Listed<Keeper<S>>,
+    /// What the last published stamp tells of its keeper. Before the first one there is none.
+    pub last: Listed<Account>,
     /// What is taken, and not answered yet.
     pub held: Listed<Taken>,
     /// How many answers their submitters have fetched.
@@ -97,17 +96,17 @@ impl Makes<(Listed<Task>, &Vec<Task>, &Vec<bool>), Task> for Chosen {
     ghost list = { λ p. p.0 ++ chosen p.1.now.items p.2.now.items };
 }
 
-/// The keeper that a stamp names.
+/// What a stamp tells of its keeper.
 struct Named;
 
-impl<S: Alter> Makes<Stamp<S>, Keeper<S>> for Named {
+impl Makes<Stamp, Account> for Named {
     ghost use Rattle.std.specs.Prelude.{[], ◌∷◌};
 
-    ghost list = { λ s. s.keeper ∷ [] };
+    ghost list = { λ s. s.account ∷ [] };
 }
 
-impl<S: Alter> Known<S> {
-    pub(crate) fn new() -> Known<S>
+impl Known {
+    pub(crate) fn new() -> Known
         ensures { result ≡ nothing }
     {
         Known {
@@ -141,14 +140,14 @@ impl<S: Alter> Known<S> {
     }
 
     /// What was taken is answered by the receipts of a stamp.
-    pub(crate) fn publish(&mut self, receipts: &Vec<Receipt>, stamp: &Stamp<S>)
-        ensures { self.new ≡ with_published self.old stamp.now.keeper receipts.now.items }
+    pub(crate) fn publish(&mut self, receipts: &Vec<Receipt>, stamp: &Stamp)
+        ensures { self.new ≡ with_published self.old stamp.now.account receipts.now.items }
     {
         self.history = Listed::of::<(Listed<Receipt>, &Vec<Receipt>), Behind>(&(
             self.history.again(),
             receipts,
         ));
-        self.last = Listed::of::<Stamp<S>, Named>(stamp);
+        self.last = Listed::of::<Stamp, Named>(stamp);
         self.held = Listed::of::<(), Empty>(&());
         self.boarded = false;
         self.outlook = None;

@@ -15,7 +15,6 @@ use flow_commit::stamp::Stamp;
 use flow_machine::submission::{Receipt, Taken};
 use flow_machine::task::Posted;
 use flow_queues::posting::Keys;
-use sqlite::Alter;
 use std::alloc::{AllocError, Global};
 use std::collections::BTreeSet;
 use std::marker::Model;
@@ -24,24 +23,24 @@ use std::sync::{Arc, Wait};
 /// Takes what was submitted to a hub, and answers it. A hub has one. To a contract it is what it knows of the hub: of what it
 /// alone changes, all.
 #[derive(Drop)]
-pub struct Publisher<S: Alter, B: Room> {
+pub struct Publisher<B: Room> {
     alloc: Global,
-    shared: Arc<Shared<S, B>>,
-    seat: Pass<S, B>,
+    shared: Arc<Shared<B>>,
+    seat: Pass<B>,
     /// The keys of all that it has posted.
     keys: Keys,
     closer: Closer,
 }
 
-impl<S: Alter, B: Room> Model for Publisher<S, B> {
+impl<B: Room> Model for Publisher<B> {
     ghost use Rattle.flow_hub.specs.declared.known.Known.{Known};
     ghost use Rattle.flow_hub.specs.Knowing.{known_code};
     ghost use Rattle.flow_queues.specs.Posting.{HasKeys};
     ghost use Rattle.flow_hub.specs.Seating.{IsPublishers};
 
-    ghost Value = { Known S };
+    ghost Value = { Known };
 
-    ghost coded = { known_code S.code };
+    ghost coded = { known_code };
 
     ghost view = { λ p. p.seat.was };
 
@@ -49,13 +48,13 @@ impl<S: Alter, B: Room> Model for Publisher<S, B> {
 }
 
 /// Waits until something is there to be taken, or nothing will come.
-fn taken<S: Alter, B: Room, R: Wait>(
+fn taken<B: Room, R: Wait>(
     rt: &R,
-    shared: &Shared<S, B>,
-    seat: Pass<S, B>,
+    shared: &Shared<B>,
+    seat: Pass<B>,
     into: &mut Vec<Taken>,
     most: usize,
-) -> (Pass<S, B>, bool)
+) -> (Pass<B>, bool)
     requires seat { IsPublishers seat }
     requires most { 1 ≤ most }
     requires room { (into.old.items ≡ []) × (most ≤ vec_capacity into.old) }
@@ -81,13 +80,13 @@ fn taken<S: Alter, B: Room, R: Wait>(
     unreachable!()
 }
 
-impl<S: Alter, B: Room> Publisher<S, B> {
+impl<B: Room> Publisher<B> {
     pub(crate) fn over(
         alloc: Global,
-        shared: Arc<Shared<S, B>>,
-        seat: Pass<S, B>,
+        shared: Arc<Shared<B>>,
+        seat: Pass<B>,
         closer: Closer,
-    ) -> Publisher<S, B>
+    ) -> Publisher<B>
         requires seat { IsPublishers seat }
         requires none { seat.was.posted ≡ [] }
         ensures { result ≡ seat.was }
@@ -122,10 +121,10 @@ impl<S: Alter, B: Room> Publisher<S, B> {
     }
 
     /// Answers all that was taken, by the receipts of a stamp.
-    pub fn publish<R: Wait>(&mut self, rt: &R, receipts: Vec<Receipt>, stamp: Stamp<S>)
+    pub fn publish<R: Wait>(&mut self, rt: &R, receipts: Vec<Receipt>, stamp: Stamp)
         requires answers { Answers self.old stamp receipts.items }
         ensures published { HasPublished self.old self.new stamp receipts.items }
-        ensures legal { IsHistory S.Store self.new }
+        ensures legal { IsHistory self.new }
         ensures grows { IsBefore self.old self.new }
     {
         let told = told_by(receipts.as_slice());

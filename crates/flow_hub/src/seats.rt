@@ -5,7 +5,6 @@ ghost use Rattle.flow_hub.specs.Seating.{IsRoomOf, opener, nobody, lent, adding,
 
 use crate::known::Known;
 use atomic_table::{Join, Play, Seat, Split, Table, TableRule};
-use sqlite::Alter;
 use std::alloc::{AllocError, Global};
 use std::marker::{Brand, Model, PhantomData};
 use std::mem;
@@ -15,7 +14,7 @@ use std::sync::ledger::{Blank, Book, Ledger, Share};
 pub(crate) const PARTS: u64 = 1 << 62;
 
 /// What a seat knows. No value of it is made.
-pub struct Sight<S: Alter> {
+pub struct Sight {
     /// It is the one under the lock: it knows all, and may add what is submitted.
     pub keeps: bool,
     /// With the one under the lock, it may add to the history.
@@ -26,9 +25,9 @@ pub struct Sight<S: Alter> {
     pub member: Option<u64>,
     /// The submitter's number that a seat had which it met, and which is another one.
     pub met: Option<u64>,
-    pub all: Known<S>,
+    pub all: Known,
     /// What was seen last.
-    pub was: Known<S>,
+    pub was: Known,
 }
 
 /// Names one hub: its table, and the ledger of its tickets. A program picks it once, with `Brand`.
@@ -47,7 +46,7 @@ impl Room for Brand {
 /// The rule of the table.
 pub struct Law;
 
-impl<S: Alter> TableRule<Known<S>, Sight<S>, ()> for Law {
+impl TableRule<Known, Sight, ()> for Law {
     ghost use Rattle.flow_hub.specs.Seating.{Kept, opener};
 
     ghost holds = { λ _. Kept };
@@ -57,7 +56,7 @@ impl<S: Alter> TableRule<Known<S>, Sight<S>, ()> for Law {
 
 struct Store;
 
-impl<S: Alter> Play<Known<S>, Sight<S>> for Store {
+impl Play<Known, Sight> for Store {
     ghost use Rattle.flow_hub.specs.Seating.{Adds};
 
     ghost then = { Adds };
@@ -65,7 +64,7 @@ impl<S: Alter> Play<Known<S>, Sight<S>> for Store {
 
 struct Admit;
 
-impl<S: Alter> Play<Known<S>, Sight<S>> for Admit {
+impl Play<Known, Sight> for Admit {
     ghost use Rattle.flow_hub.specs.Seating.{Admits};
 
     ghost then = { Admits };
@@ -73,7 +72,7 @@ impl<S: Alter> Play<Known<S>, Sight<S>> for Admit {
 
 struct Look;
 
-impl<S: Alter> Play<Known<S>, Sight<S>> for Look {
+impl Play<Known, Sight> for Look {
     ghost use Rattle.flow_hub.specs.Seating.{Looks};
 
     ghost then = { Looks };
@@ -81,7 +80,7 @@ impl<S: Alter> Play<Known<S>, Sight<S>> for Look {
 
 struct Enter;
 
-impl<S: Alter> Play<Known<S>, Sight<S>> for Enter {
+impl Play<Known, Sight> for Enter {
     ghost use Rattle.std.specs.Prelude.{◌≡◌};
     ghost use Rattle.flow_hub.specs.Seating.{nobody};
 
@@ -90,7 +89,7 @@ impl<S: Alter> Play<Known<S>, Sight<S>> for Enter {
 
 struct Lend;
 
-impl<S: Alter> Join<Sight<S>> for Lend {
+impl Join<Sight> for Lend {
     ghost use Rattle.flow_hub.specs.Seating.{lent, nobody};
 
     ghost both = { lent };
@@ -100,7 +99,7 @@ impl<S: Alter> Join<Sight<S>> for Lend {
 
 struct Back;
 
-impl<S: Alter> Split<Sight<S>> for Back {
+impl Split<Sight> for Back {
     ghost use Rattle.flow_hub.specs.Seating.{keeps_left, handed_back};
 
     ghost left = { keeps_left };
@@ -110,7 +109,7 @@ impl<S: Alter> Split<Sight<S>> for Back {
 
 struct Hands;
 
-impl<S: Alter> Split<Sight<S>> for Hands {
+impl Split<Sight> for Hands {
     ghost use Rattle.flow_hub.specs.Seating.{gives_none, gives_alone};
 
     ghost left = { gives_none };
@@ -120,7 +119,7 @@ impl<S: Alter> Split<Sight<S>> for Hands {
 
 struct Meet;
 
-impl<S: Alter> Join<Sight<S>> for Meet {
+impl Join<Sight> for Meet {
     ghost use Rattle.flow_hub.specs.Seating.{meeting, nobody};
 
     ghost both = { meeting };
@@ -130,7 +129,7 @@ impl<S: Alter> Join<Sight<S>> for Meet {
 
 struct Names;
 
-impl<S: Alter> Split<Sight<S>> for Names {
+impl Split<Sight> for Names {
     ghost use Rattle.flow_hub.specs.Seating.{member_none, member_alone};
 
     ghost left = { member_none };
@@ -139,13 +138,13 @@ impl<S: Alter> Split<Sight<S>> for Names {
 }
 
 /// What a hub is made of before it has a name. `Hub::new` takes it under the one that its caller has picked.
-pub struct Opened<S: Alter> {
-    table: Table<Known<S>, Sight<S>, (), Law, Global>,
-    seat: Seat<Known<S>, Sight<S>>,
+pub struct Opened {
+    table: Table<Known, Sight, (), Law, Global>,
+    seat: Seat<Known, Sight>,
     blank: Blank,
 }
 
-impl<S: Alter> Model for Opened<S> {
+impl Model for Opened {
     ghost use Rattle.std.specs.Prelude.{◌≡◌, ◌^◌, []};
     ghost use Rattle.flow_hub.specs.Seating.{Naming, naming_code, opener};
 
@@ -160,8 +159,8 @@ impl<S: Alter> Model for Opened<S> {
 
 /// The word that publishes the history's length.
 #[derive(Drop)]
-pub(crate) struct Seats<S: Alter, B: Room> {
-    table: Table<Known<S>, Sight<S>, (), Law, Global>,
+pub(crate) struct Seats<B: Room> {
+    table: Table<Known, Sight, (), Law, Global>,
     of: PhantomData<B>,
     ghost named: { table.shared.table_id ≡ B.table },
     ghost one_word: { table.shared.table_id.words ≡ 1 },
@@ -170,19 +169,19 @@ pub(crate) struct Seats<S: Alter, B: Room> {
 
 /// A seat at the table. To a contract it is what it knows.
 #[derive(Drop)]
-pub(crate) struct Pass<S: Alter, B: Room> {
-    seat: Seat<Known<S>, Sight<S>>,
+pub(crate) struct Pass<B: Room> {
+    seat: Seat<Known, Sight>,
     of: PhantomData<B>,
 }
 
-impl<S: Alter, B: Room> Model for Pass<S, B> {
+impl<B: Room> Model for Pass<B> {
     ghost use Rattle.std.specs.Prelude.{◌≡◌, []};
     ghost use Rattle.flow_hub.specs.declared.seats.Sight.{Sight};
     ghost use Rattle.flow_hub.specs.Seating.{sight_code};
 
-    ghost Value = { Sight S };
+    ghost Value = { Sight };
 
-    ghost coded = { sight_code S.code };
+    ghost coded = { sight_code };
 
     ghost view = { λ p. p.seat.me.0 };
 
@@ -190,16 +189,16 @@ impl<S: Alter, B: Room> Model for Pass<S, B> {
 }
 
 /// What a hub is made of under its name.
-pub(crate) struct Named<S: Alter, B: Room> {
-    pub seats: Seats<S, B>,
-    pub seat: Pass<S, B>,
+pub(crate) struct Named<B: Room> {
+    pub seats: Seats<B>,
+    pub seat: Pass<B>,
     pub tickets: Book<B>,
     pub share: Share<B>,
 }
 
-impl<S: Alter> Opened<S> {
+impl Opened {
     /// A table and a ledger of their own.
-    pub fn new(alloc: Global) -> Result<Opened<S>, AllocError> {
+    pub fn new(alloc: Global) -> Result<Opened, AllocError> {
         let (table, seat) = Table::of_words(alloc, &[0], &())?;
         Ok(Opened {
             table,
@@ -209,7 +208,7 @@ impl<S: Alter> Opened<S> {
     }
 
     /// Under a name, with the one seat that keeps, publishes and gives out.
-    pub(crate) fn named<B: Room>(self) -> Named<S, B>
+    pub(crate) fn named<B: Room>(self) -> Named<B>
         requires room { IsRoomOf self B.table B.name B.parts }
         ensures seat { result.seat ≡ opener }
         ensures tickets { result.tickets.total ≡ 0 }
@@ -233,9 +232,9 @@ impl<S: Alter> Opened<S> {
     }
 }
 
-impl<S: Alter, B: Room> Seats<S, B> {
+impl<B: Room> Seats<B> {
     /// A seat that has seen nothing.
-    pub(crate) fn enter(&self) -> Pass<S, B>
+    pub(crate) fn enter(&self) -> Pass<B>
         ensures { result ≡ nobody }
     {
         let (_, seat) = self.table.shared.load_new_seat::<Enter>(0);
@@ -246,14 +245,14 @@ impl<S: Alter, B: Room> Seats<S, B> {
     }
 
     /// The seat, in whose place one that has seen nothing is left.
-    pub(crate) fn leave(&self, seat: &mut Pass<S, B>) -> Pass<S, B>
+    pub(crate) fn leave(&self, seat: &mut Pass<B>) -> Pass<B>
         ensures { (result ≡ seat.old) × (seat.new ≡ nobody) }
     {
         mem::replace(seat, self.enter())
     }
 
     /// The length of the history. What is then seen begins with what was seen.
-    pub(crate) fn look(&self, me: &mut Pass<S, B>) -> u64
+    pub(crate) fn look(&self, me: &mut Pass<B>) -> u64
         ensures length { result ≡ length me.new.was.history }
         ensures grows { IsBefore me.old.was me.new.was }
         ensures same { (me.new.keeps ≡ me.old.keeps) × (me.new.pubs ≡ me.old.pubs) × (me.new.gives ≡ me.old.gives) }
@@ -264,7 +263,7 @@ impl<S: Alter, B: Room> Seats<S, B> {
     }
 
     /// The seat under the lock is lent what another saw.
-    fn lend(&self, keeper: &mut Pass<S, B>, other: Pass<S, B>)
+    fn lend(&self, keeper: &mut Pass<B>, other: Pass<B>)
         ensures { keeper.new ≡ lent keeper.old other }
     {
         let Pass { seat, of: _ } = other;
@@ -272,7 +271,7 @@ impl<S: Alter, B: Room> Seats<S, B> {
     }
 
     /// What was lent goes back.
-    pub(crate) fn back(&self, keeper: &mut Pass<S, B>) -> Pass<S, B>
+    pub(crate) fn back(&self, keeper: &mut Pass<B>) -> Pass<B>
         ensures { (keeper.new ≡ keeps_left keeper.old) × (result ≡ handed_back keeper.old) }
     {
         let seat = self.table.shared.split_seat::<Back>(&mut keeper.seat);
@@ -283,7 +282,7 @@ impl<S: Alter, B: Room> Seats<S, B> {
     }
 
     /// Giving out goes to a seat of its own.
-    pub(crate) fn hands(&self, keeper: &mut Pass<S, B>) -> Pass<S, B>
+    pub(crate) fn hands(&self, keeper: &mut Pass<B>) -> Pass<B>
         ensures { (keeper.new ≡ gives_none keeper.old) × (result ≡ gives_alone keeper.old) }
     {
         let seat = self.table.shared.split_seat::<Hands>(&mut keeper.seat);
@@ -294,7 +293,7 @@ impl<S: Alter, B: Room> Seats<S, B> {
     }
 
     /// The seat under the lock adds to what is known, and publishes the history's length.
-    fn store(&self, keeper: &mut Pass<S, B>, old: u64, new: u64, all: &Known<S>)
+    fn store(&self, keeper: &mut Pass<B>, old: u64, new: u64, all: &Known)
         requires keeps { keeper.old.keeps ≡ true }
         requires may { (keeper.old.pubs ≡ true) ⊎ IsSamePart all.now keeper.old.all }
         requires may_give { (keeper.old.gives ≡ true) ⊎ (all.now.given ≡ keeper.old.all.given) }
@@ -309,7 +308,7 @@ impl<S: Alter, B: Room> Seats<S, B> {
     }
 
     /// The seat under the lock adds one submitter more, and has its number.
-    fn number(&self, keeper: &mut Pass<S, B>, places: u64, all: &Known<S>)
+    fn number(&self, keeper: &mut Pass<B>, places: u64, all: &Known)
         requires keeps { keeper.old.keeps ≡ true }
         requires one_more { all.now ≡ with_member keeper.old.all }
         requires length { length all.now.history ≡ places }
@@ -321,7 +320,7 @@ impl<S: Alter, B: Room> Seats<S, B> {
     }
 
     /// The number goes to a seat of its own.
-    fn names(&self, keeper: &mut Pass<S, B>) -> Pass<S, B>
+    fn names(&self, keeper: &mut Pass<B>) -> Pass<B>
         ensures { (keeper.new ≡ member_none keeper.old) × (result ≡ member_alone keeper.old) }
     {
         let seat = self.table.shared.split_seat::<Names>(&mut keeper.seat);
@@ -332,7 +331,7 @@ impl<S: Alter, B: Room> Seats<S, B> {
     }
 
     /// Under the lock: one submitter more is known of, and a seat has its number, which no other has or had.
-    pub(crate) fn admit(&self, keeper: &mut Pass<S, B>, places: u64, all: &Known<S>) -> Pass<S, B>
+    pub(crate) fn admit(&self, keeper: &mut Pass<B>, places: u64, all: &Known) -> Pass<B>
         requires keeps { keeper.old.keeps ≡ true }
         requires one_more { all.now ≡ with_member keeper.old.all }
         requires length { length all.now.history ≡ places }
@@ -344,7 +343,7 @@ impl<S: Alter, B: Room> Seats<S, B> {
     }
 
     /// What is met is spent, and its number is noted.
-    fn join(&self, mine: &mut Pass<S, B>, other: Pass<S, B>)
+    fn join(&self, mine: &mut Pass<B>, other: Pass<B>)
         ensures { mine.new ≡ meeting mine.old other }
     {
         let Pass { seat, of: _ } = other;
@@ -352,7 +351,7 @@ impl<S: Alter, B: Room> Seats<S, B> {
     }
 
     /// Two seats that have a submitter's number have two numbers. The other one is spent.
-    pub(crate) fn meet(&self, mine: &mut Pass<S, B>, other: Pass<S, B>)
+    pub(crate) fn meet(&self, mine: &mut Pass<B>, other: Pass<B>)
         ensures same { mine.new.member ≡ mine.old.member }
         ensures apart { (n : ℕ) → other.member ≡ Some n → mine.old.member ≢ Some n }
     {
@@ -363,12 +362,12 @@ impl<S: Alter, B: Room> Seats<S, B> {
     /// Under the lock: what is known becomes `all`, the word the length of its history, and the seat that asks is told of it.
     pub(crate) fn tell(
         &self,
-        keeper: &mut Pass<S, B>,
-        me: Pass<S, B>,
+        keeper: &mut Pass<B>,
+        me: Pass<B>,
         old: u64,
         new: u64,
-        all: &Known<S>,
-    ) -> Pass<S, B>
+        all: &Known,
+    ) -> Pass<B>
         requires keeps { keeper.old.keeps ≡ true }
         requires may { (me.pubs ≡ true) ⊎ IsSamePart all.now keeper.old.all }
         requires may_give { (me.gives ≡ true) ⊎ (all.now.given ≡ keeper.old.all.given) }

@@ -24,7 +24,6 @@ use flow_queues::queues::{
     move_front, push_receipts, refuse_all, refused_at, take_receipt, ticket_at,
 };
 use flow_queues::refused::Refused;
-use sqlite::Alter;
 use std::alloc::{AllocError, Global};
 use std::collections::VecDeque;
 use std::marker::Model;
@@ -38,7 +37,7 @@ const TICKETS: u64 = 1 << 62;
 
 /// What lies under the lock: submissions by what became of them, each list with its room, and what is known of them.
 #[derive(Drop)]
-pub(crate) struct State<S: Alter, B: Room> {
+pub(crate) struct State<B: Room> {
     waiting: VecDeque<Taken>,
     /// Receipts that weren't fetched.
     answered: Vec<Receipt>,
@@ -57,14 +56,14 @@ pub(crate) struct State<S: Alter, B: Room> {
     tickets: Book<B>,
     /// The ledger's parts of the submitters that were not given yet.
     spare: Share<B>,
-    known: Known<S>,
+    known: Known,
     /// The seat that keeps.
-    keeper: Pass<S, B>,
+    keeper: Pass<B>,
     /// The seat that gives tasks out, until somebody has it.
-    feed: Option<Pass<S, B>>,
+    feed: Option<Pass<B>>,
 }
 
-impl<S: Alter, B: Room> Model for State<S, B> {
+impl<B: Room> Model for State<B> {
     ghost use Rattle.std.specs.Prelude.{◌≡◌, ◌≤◌, ◌+◌, ◌^◌, length, true, false, IfSome};
     ghost use Rattle.std.specs.Vec.{vec_capacity, vec_len};
     ghost use Rattle.std.specs.VecDeque.{deque_capacity, deque_len};
@@ -72,13 +71,13 @@ impl<S: Alter, B: Room> Model for State<S, B> {
     ghost use Rattle.flow_hub.specs.Knowing.{nothing};
     ghost use Rattle.flow_hub.specs.Seating.{seeing};
 
-    ghost Value = { Hall S };
+    ghost Value = { Hall };
 
-    ghost coded = { hall_code S.code };
+    ghost coded = { hall_code };
 
     ghost view = { λ s. record { known = s.known; waiting = s.waiting.items; answered = s.answered.items; refused = s.refused.items; given = s.given; shares = s.tickets.total; tasks = s.tasks.items } };
 
-    ghost invariant = { λ s. IsSound S.Store (record { known = s.known; waiting = s.waiting.items; answered = s.answered.items; refused = s.refused.items; given = s.given; shares = s.tickets.total; tasks = s.tasks.items })
+    ghost invariant = { λ s. IsSound (record { known = s.known; waiting = s.waiting.items; answered = s.answered.items; refused = s.refused.items; given = s.given; shares = s.tickets.total; tasks = s.tasks.items })
         × (s.held ≡ length s.known.held) × (s.places ≡ length s.known.history) × (s.codes ≡ length s.known.refused)
         × (1024 ≤ deque_capacity s.waiting) × (1024 ≤ vec_capacity s.answered) × (1024 ≤ vec_capacity s.refused)
         × (deque_len s.waiting + s.held + vec_len s.answered + vec_len s.refused ≤ 1024) × (s.given ≤ 2 ^ 62)
@@ -86,12 +85,12 @@ impl<S: Alter, B: Room> Model for State<S, B> {
         × (s.keeper.keeps ≡ true) × (s.keeper.all ≡ s.known) × IfSome s.feed (λ p. p ≡ seeing false true nothing) };
 }
 
-impl<S: Alter, B: Room> State<S, B> {
+impl<B: Room> State<B> {
     /// A hub to which nothing was submitted, and its publisher's seat. All room is asked for here.
     pub(crate) fn new(
         alloc: Global,
-        named: Named<S, B>,
-    ) -> Result<(Seats<S, B>, State<S, B>, Pass<S, B>), AllocError>
+        named: Named<B>,
+    ) -> Result<(Seats<B>, State<B>, Pass<B>), AllocError>
         requires seat { named.seat ≡ opener }
         requires tickets { named.tickets.total ≡ 0 }
         requires share { (named.share.parts ≡ 2 ^ 62) × (named.share.amount ≡ 0) }
@@ -130,7 +129,7 @@ impl<S: Alter, B: Room> State<S, B> {
     }
 
     /// The seat sees what lies here, and nothing changes.
-    fn see(&mut self, seats: &Seats<S, B>, me: Pass<S, B>) -> Pass<S, B>
+    fn see(&mut self, seats: &Seats<B>, me: Pass<B>) -> Pass<B>
         ensures same { self.new ≡ self.old }
         ensures seat { result ≡ seeing me.pubs me.gives self.new.known }
         ensures before { IsBefore me.was result.was }
@@ -142,10 +141,7 @@ impl<S: Alter, B: Room> State<S, B> {
 
     /// One more submitter: its number, the seat that has this number, the seat that sees, and its part of the ledger. None where as
     /// many were given as there are parts.
-    pub(crate) fn enroll(
-        &mut self,
-        seats: &Seats<S, B>,
-    ) -> Option<(u64, Pass<S, B>, Pass<S, B>, Share<B>)>
+    pub(crate) fn enroll(&mut self, seats: &Seats<B>) -> Option<(u64, Pass<B>, Pass<B>, Share<B>)>
         ensures enrolled { IfSome result (λ m. (m.0 ≡ self.old.known.members) × (self.new ≡ enrolled self.old)) }
         ensures badge { IfSome result (λ m. m.1 ≡ badge_of m.0) }
         ensures seat { IfSome result (λ m. m.2 ≡ seeing false false self.new.known) }
@@ -188,11 +184,11 @@ impl<S: Alter, B: Room> State<S, B> {
     /// The ticket, or the command back.
     pub(crate) fn submit(
         &mut self,
-        seats: &Seats<S, B>,
-        me: Pass<S, B>,
+        seats: &Seats<B>,
+        me: Pass<B>,
         mine: &mut Share<B>,
         command: Command,
-    ) -> (Pass<S, B>, Result<u64, (Command, Denied)>)
+    ) -> (Pass<B>, Result<u64, (Command, Denied)>)
         requires share { 0 < mine.old.parts }
         requires seat { IsSubmitters me }
         ensures ok { IfOk result.1 (λ t. (t ≡ self.old.given) × (self.new ≡ submitted self.old command) × (mine.new.amount ≡ mine.old.amount + 1)) }
@@ -221,11 +217,11 @@ impl<S: Alter, B: Room> State<S, B> {
     /// The first that wait, as many as there are, and `most` at most.
     pub(crate) fn take(
         &mut self,
-        seats: &Seats<S, B>,
-        me: Pass<S, B>,
+        seats: &Seats<B>,
+        me: Pass<B>,
         into: &mut Vec<Taken>,
         most: usize,
-    ) -> Pass<S, B>
+    ) -> Pass<B>
         requires seat { IsPublishers me }
         requires most { 1 ≤ most }
         requires room { (into.old.items ≡ []) × (most ≤ vec_capacity into.old) }
@@ -245,21 +241,21 @@ impl<S: Alter, B: Room> State<S, B> {
     /// Answers all that was taken. What the publisher must show it shows of its own seat.
     pub(crate) fn publish(
         &mut self,
-        seats: &Seats<S, B>,
-        me: Pass<S, B>,
+        seats: &Seats<B>,
+        me: Pass<B>,
         receipts: Vec<Receipt>,
-        stamp: Stamp<S>,
-    ) -> Pass<S, B>
+        stamp: Stamp,
+    ) -> Pass<B>
         requires seat { IsPublishers me }
         requires answers { Answers me.was stamp receipts.items }
-        ensures published { self.new ≡ published self.old stamp.keeper receipts.items }
+        ensures published { self.new ≡ published self.old stamp.account receipts.items }
         ensures seat { result ≡ seeing true false self.new.known }
         ensures seen { HasPublished me.was result.was stamp receipts.items }
         ensures grows { IsBefore me.was result.was }
-        ensures legal { IsHistory S.Store result.was }
+        ensures legal { IsHistory result.was }
     {
         let old = self.places;
-        // That the stamp is over the last one's tables the publisher has shown of what its seat knows.
+        // That the stamp is over what the last one was over the publisher has shown of what its seat knows.
         let seen = seats.tell(&mut self.keeper, me, old, old, &self.known);
         self.places += receipts.len() as u64;
         self.known.publish(&receipts, &stamp);
@@ -273,11 +269,11 @@ impl<S: Alter, B: Room> State<S, B> {
     /// Answers all that was taken by a code.
     pub(crate) fn refuse(
         &mut self,
-        seats: &Seats<S, B>,
-        me: Pass<S, B>,
+        seats: &Seats<B>,
+        me: Pass<B>,
         all: Vec<Taken>,
         code: Code,
-    ) -> Pass<S, B>
+    ) -> Pass<B>
         requires seat { IsPublishers me }
         requires all { all.items ≡ me.was.held }
         ensures refused { self.new ≡ refused_all self.old code }
@@ -296,13 +292,13 @@ impl<S: Alter, B: Room> State<S, B> {
     /// The receipt for a ticket, if it came.
     fn fetch_receipt(
         &mut self,
-        seats: &Seats<S, B>,
-        me: Pass<S, B>,
+        seats: &Seats<B>,
+        me: Pass<B>,
         ticket: u64,
-    ) -> (Pass<S, B>, Option<Receipt>)
+    ) -> (Pass<B>, Option<Receipt>)
         requires seat { IsSubmitters me }
         ensures own { IfSome result.1 (λ r. (r.ticket ≡ ticket) × IsOwn result.0.was.asked r × Stands result.0.was.history r) }
-        ensures legal { IfSome result.1 (λ r. IsHistory S.Store result.0.was) }
+        ensures legal { IfSome result.1 (λ r. IsHistory result.0.was) }
         ensures fetched { MatchOption result.1 (self.new ≡ self.old) (λ r. (k : ℕ) × (slice_get self.old.answered k ≡ Some r) × (self.new ≡ fetched_receipt self.old (remove self.old.answered k))) }
         ensures one_more { IfSome result.1 (λ r. me.was.fetched < result.0.was.fetched) }
         ensures seat { IsSubmitters result.0 }
@@ -320,10 +316,10 @@ impl<S: Alter, B: Room> State<S, B> {
     /// The refusal of a ticket, if it came.
     fn fetch_refusal(
         &mut self,
-        seats: &Seats<S, B>,
-        me: Pass<S, B>,
+        seats: &Seats<B>,
+        me: Pass<B>,
         ticket: u64,
-    ) -> (Pass<S, B>, Option<Refused>)
+    ) -> (Pass<B>, Option<Refused>)
         requires seat { IsSubmitters me }
         ensures own { IfSome result.1 (λ r. (r.asked.ticket ≡ ticket) × IsGone result.0.was.asked r × IsTold result.0.was.refused r) }
         ensures fetched { MatchOption result.1 (self.new ≡ self.old) (λ r. (k : ℕ) × (slice_get self.old.refused k ≡ Some r) × (self.new ≡ fetched_refusal self.old (remove self.old.refused k))) }
@@ -344,13 +340,13 @@ impl<S: Alter, B: Room> State<S, B> {
     #[tactic(auto, using(crate::proofs::Growing::before_trans))]
     pub(crate) fn answer(
         &mut self,
-        seats: &Seats<S, B>,
-        me: Pass<S, B>,
+        seats: &Seats<B>,
+        me: Pass<B>,
         ticket: u64,
-    ) -> (Pass<S, B>, Option<Result<Receipt, Refused>>)
+    ) -> (Pass<B>, Option<Result<Receipt, Refused>>)
         requires seat { IsSubmitters me }
         ensures receipt { IfSome result.1 (λ a. IfOk a (λ r. (r.ticket ≡ ticket) × IsOwn result.0.was.asked r × Stands result.0.was.history r)) }
-        ensures legal { IfSome result.1 (λ a. IfOk a (λ r. IsHistory S.Store result.0.was)) }
+        ensures legal { IfSome result.1 (λ a. IfOk a (λ r. IsHistory result.0.was)) }
         ensures refused { IfSome result.1 (λ a. IfErr a (λ r. (r.asked.ticket ≡ ticket) × IsGone result.0.was.asked r × IsTold result.0.was.refused r)) }
         ensures one_more { IfSome result.1 (λ a. me.was.fetched < result.0.was.fetched) }
         ensures seat { IsSubmitters result.0 }
@@ -370,11 +366,11 @@ impl<S: Alter, B: Room> State<S, B> {
     /// What became of the tickets, where this share has so many parts and there are no more.
     pub(crate) fn settle(
         &mut self,
-        seats: &Seats<S, B>,
-        me: Pass<S, B>,
+        seats: &Seats<B>,
+        me: Pass<B>,
         all: &mut Share<B>,
         parts: u64,
-    ) -> (Pass<S, B>, Option<Settled>)
+    ) -> (Pass<B>, Option<Settled>)
         requires parts { all.old.parts ≡ parts }
         ensures same { self.new ≡ self.old }
         ensures share { (all.new.parts ≡ all.old.parts) × (all.new.amount ≡ all.old.amount) }
@@ -405,12 +401,7 @@ impl<S: Alter, B: Room> State<S, B> {
 
     /// What waits is still taken, and nothing more is taken in. Whoever closes must have the right to: else each call that may answer
     /// that the hub is closed could close it first.
-    pub(crate) fn close(
-        &mut self,
-        seats: &Seats<S, B>,
-        me: Pass<S, B>,
-        _closer: &Closer,
-    ) -> Pass<S, B>
+    pub(crate) fn close(&mut self, seats: &Seats<B>, me: Pass<B>, _closer: &Closer) -> Pass<B>
         ensures closed { self.new ≡ closed self.old }
         ensures seat { result ≡ seeing me.pubs me.gives self.new.known }
         ensures grows { IsBefore me.was result.was }

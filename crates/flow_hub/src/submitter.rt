@@ -17,7 +17,6 @@ use flow_base::number::Moment;
 use flow_machine::submission::Receipt;
 use flow_queues::refused::Refused;
 use flow_timers::{Clock, tick_due};
-use sqlite::Alter;
 use std::marker::Model;
 use std::sync::ledger::Share;
 use std::sync::{Arc, Wait};
@@ -26,25 +25,25 @@ use std::time::{Clock as Timing, Duration};
 /// Submits commands to a hub, and waits for their receipts. To a contract it is its number, what it has seen of the hub, and its
 /// share of the tickets.
 #[derive(Drop)]
-pub struct Submitter<S: Alter, B: Room> {
-    shared: Arc<Shared<S, B>>,
+pub struct Submitter<B: Room> {
+    shared: Arc<Shared<B>>,
     id: u64,
     /// The seat that has its number. No other seat of the hub does.
-    badge: Pass<S, B>,
-    seat: Pass<S, B>,
+    badge: Pass<B>,
+    seat: Pass<B>,
     share: Share<B>,
     /// How many submitters' parts of the ledger its share has.
     parts: u64,
 }
 
-impl<S: Alter, B: Room> Model for Submitter<S, B> {
+impl<B: Room> Model for Submitter<B> {
     ghost use Rattle.std.specs.Prelude.{◌≡◌, ◌<◌, ◌≤◌, ◌^◌, Some};
     ghost use Rattle.flow_hub.specs.Seating.{IsSubmitters};
     ghost use Rattle.flow_hub.specs.Submitting.{Member, member_code};
 
-    ghost Value = { Member S };
+    ghost Value = { Member };
 
-    ghost coded = { member_code S.code };
+    ghost coded = { member_code };
 
     ghost view = { λ m. record { id = m.id; was = m.seat.was; parts = m.parts; amount = m.share.amount } };
 
@@ -52,15 +51,15 @@ impl<S: Alter, B: Room> Model for Submitter<S, B> {
 }
 
 /// Waits until a ticket has its answer.
-fn awaited<S: Alter, B: Room, R: Wait>(
+fn awaited<B: Room, R: Wait>(
     rt: &R,
-    shared: &Shared<S, B>,
-    seat: Pass<S, B>,
+    shared: &Shared<B>,
+    seat: Pass<B>,
     ticket: u64,
-) -> (Pass<S, B>, Result<Receipt, Refused>)
+) -> (Pass<B>, Result<Receipt, Refused>)
     requires seat { IsSubmitters seat }
     ensures receipt { IfOk result.1 (λ r. (r.ticket ≡ ticket) × IsOwn result.0.was.asked r × Stands result.0.was.history r) }
-    ensures legal { IfOk result.1 (λ r. IsHistory S.Store result.0.was) }
+    ensures legal { IfOk result.1 (λ r. IsHistory result.0.was) }
     ensures refused { IfErr result.1 (λ r. (r.asked.ticket ≡ ticket) × IsGone result.0.was.asked r × IsTold result.0.was.refused r) }
     ensures one_more { seat.was.fetched < result.0.was.fetched }
     ensures seat { IsSubmitters result.0 }
@@ -102,12 +101,12 @@ fn tick_or_pause<C: Clock>(due: Option<Moment>, clock: &C) -> Result<Command, Du
 
 /// Sleeps until something is due by the clock, or the hub is closed. Where no board says what is due it asks after one whole pause,
 /// and not at once: what is wrong with the store may last.
-fn ticked<S: Alter, B: Room, R: Wait + Timing, C: Clock>(
+fn ticked<B: Room, R: Wait + Timing, C: Clock>(
     rt: &R,
-    shared: &Shared<S, B>,
-    seat: Pass<S, B>,
+    shared: &Shared<B>,
+    seat: Pass<B>,
     clock: &C,
-) -> (Pass<S, B>, Option<Command>)
+) -> (Pass<B>, Option<Command>)
     requires seat { IsSubmitters seat }
     ensures tick { IfSome result.1 (λ c. IsTickOf (C.tells clock.now) result.0.was c) }
     ensures none { IfNone result.1 (result.0.was.closed ≡ true) }
@@ -139,11 +138,7 @@ fn ticked<S: Alter, B: Room, R: Wait + Timing, C: Clock>(
 }
 
 /// Waits until nothing is left to be done, or the hub is closed.
-fn rested<S: Alter, B: Room, R: Wait>(
-    rt: &R,
-    shared: &Shared<S, B>,
-    seat: Pass<S, B>,
-) -> (Pass<S, B>, bool)
+fn rested<B: Room, R: Wait>(rt: &R, shared: &Shared<B>, seat: Pass<B>) -> (Pass<B>, bool)
     requires seat { IsSubmitters seat }
     ensures idle { result.1 ≡ true → IsIdle result.0.was }
     ensures closed { result.1 ≡ false → (result.0.was.closed ≡ true) × (IsIdle result.0.was → ⊥) }
@@ -166,12 +161,12 @@ fn rested<S: Alter, B: Room, R: Wait>(
 }
 
 /// Waits once, for a pause at most, unless nothing is left to be done or the hub is closed, and looks again then.
-fn rested_for<S: Alter, B: Room, R: Wait + Timing>(
+fn rested_for<B: Room, R: Wait + Timing>(
     rt: &R,
-    shared: &Shared<S, B>,
-    seat: Pass<S, B>,
+    shared: &Shared<B>,
+    seat: Pass<B>,
     pause: Duration,
-) -> (Pass<S, B>, Rested)
+) -> (Pass<B>, Rested)
     requires seat { IsSubmitters seat }
     ensures rested { IsRested result.0.was result.1 }
     ensures seat { IsSubmitters result.0 }
@@ -187,14 +182,14 @@ fn rested_for<S: Alter, B: Room, R: Wait + Timing>(
     (me, rest)
 }
 
-impl<S: Alter, B: Room> Submitter<S, B> {
+impl<B: Room> Submitter<B> {
     pub(crate) fn over(
-        shared: Arc<Shared<S, B>>,
+        shared: Arc<Shared<B>>,
         id: u64,
-        badge: Pass<S, B>,
-        seat: Pass<S, B>,
+        badge: Pass<B>,
+        seat: Pass<B>,
         share: Share<B>,
-    ) -> Submitter<S, B>
+    ) -> Submitter<B>
         requires badge { badge.member ≡ Some id }
         requires seat { IsSubmitters seat }
         requires share { share.parts ≡ 1 }
@@ -254,7 +249,7 @@ impl<S: Alter, B: Room> Submitter<S, B> {
     /// # Failure
     /// E92 where the ticket is another submitter's; else the code that its command was answered by.
     pub fn wait<R: Wait>(&mut self, rt: &R, ticket: Ticket) -> Result<Receipt, NotDone>
-        ensures receipt { IfOk result (λ r. IsReceipt S.Store self.new ticket r) }
+        ensures receipt { IfOk result (λ r. IsReceipt self.new ticket r) }
         ensures not_done { IfErr result (λ n. IsNotDone self.new ticket n) }
         ensures fetched { ticket.owner ≡ self.old.id → self.old.was.fetched < self.new.was.fetched }
         ensures grows { IsBefore self.old.was self.new.was }
@@ -334,7 +329,7 @@ impl<S: Alter, B: Room> Submitter<S, B> {
     }
 
     /// Takes over the share of another submitter, which is no more. Its number was another one.
-    pub fn gather(&mut self, other: Submitter<S, B>)
+    pub fn gather(&mut self, other: Submitter<B>)
         ensures share { (self.new.parts ≡ self.old.parts + other.parts) × (self.new.amount ≡ self.old.amount + other.amount) }
         ensures apart { self.old.id ≢ other.id }
         ensures same { (self.new.id ≡ self.old.id) × (self.new.was ≡ self.old.was) }

@@ -24,12 +24,11 @@ use Rattle.flow_recover.specs.Positions.{ArePositions, IsLeastMismatch, Names}
 
 -- The keeper keeps the book that was found, and these are the positions of its open runs.
 pub record IsRecovered {S : Type 0} (g : Ghosts S) (from : State) (k : Keeping S) (qs : List Position) : Type 0 where
-  pub book : Book
-  pub found : IsFound from book
-  pub kept : KeepsBook g k book
+  pub found : IsFound from k.found
+  pub kept : KeepsBook g k k.found
   -- its texts are programs, and its runs keep the rules
-  pub stands : IsOfRows is_program book
-  pub positions : ArePositions meaning_of book qs
+  pub stands : IsOfRows is_program k.found
+  pub positions : ArePositions meaning_of k.found qs
 
 -- A store holds nothing that could be refused: its tables stand for a sound book, or it has none.
 abbrev pub HoldsSound : State → Type 0

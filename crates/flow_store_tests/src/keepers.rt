@@ -1,5 +1,8 @@
 //! What is done with a keeper, and what is told of it. Whoever owns one has a single exit on which it is let go: it is lent to
 //! what asks it, and closed.
+ghost use Rattle.flow_rows.specs.Whole.{shown_book};
+ghost use Rattle.flow_tables.specs.Owned.{state_of, IsFit, Keeps};
+
 use crate::calls::{Call, Calls, Told, Want, add_receipts, command, is_as};
 use flow_base::number::Moment;
 use flow_check::language::Language;
@@ -9,6 +12,7 @@ use flow_commit::keeper::Keeper;
 use flow_commit::outcome::Outcome;
 use flow_machine::submission::{Receipt, Taken};
 use flow_machine::task::{Posted, Task};
+use flow_rows::book::WholeBook;
 use flow_tables::tables::Tables;
 use flow_view::fault::ViewFault;
 use sqlite::{Alter, Connection};
@@ -99,7 +103,7 @@ fn code_of_end(fault: &ViewFault) -> u8 {
 }
 
 /// The receipts of a batch that is kept, or the code of its refusal.
-fn ended<S: Alter>(outcome: Outcome<S>) -> Result<Vec<Receipt>, u8> {
+fn ended(outcome: Outcome) -> Result<Vec<Receipt>, u8> {
     match outcome {
         Outcome::Kept(receipts, stamp) => {
             stamp.discard();
@@ -254,9 +258,12 @@ pub fn closed<S: Alter>(keeper: Keeper<S>) -> Connection<S> {
 fn over_tables<S: Alter>(
     alloc: Global,
     tables: Tables<S>,
+    book: &WholeBook,
     keeping: Keeping,
-) -> (bool, Connection<S>) {
-    match Keeper::anew(alloc, tables, 2) {
+) -> (bool, Connection<S>)
+    requires { IsFit S.Store tables → Keeps (state_of S.Store tables) (shown_book book.now) }
+{
+    match Keeper::anew(alloc, tables, book, 2) {
         Ok(keeper) => {
             let mut keeper = keeper;
             let is = is_kept_so(alloc, &mut keeper, keeping);
@@ -273,7 +280,7 @@ pub fn keeps<S: Alter>(
     keeping: Keeping,
 ) -> (bool, Connection<S>) {
     match Tables::open(alloc, &Language, conn) {
-        Ok((tables, _)) => over_tables(alloc, tables, keeping),
+        Ok((tables, book)) => over_tables(alloc, tables, &book, keeping),
         Err((_, conn)) => (false, conn),
     }
 }

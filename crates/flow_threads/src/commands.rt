@@ -1,10 +1,10 @@
 //! The commands of a race by their numbers, and what is noted of their answers.
+use crate::note::Note;
 use flow_base::command::{Command, Reply};
 use flow_base::number::{Moment, TextNo};
 use flow_base::sequence::Sequence;
 use flow_base::text::{Key, RawText};
 use flow_machine::submission::Receipt;
-use flow_races::note::Note;
 use std::alloc::Global;
 
 fn register(alloc: Global) -> Option<Command> {

@@ -6,17 +6,21 @@
 #![tactic(auto)]
 
 mod commands;
+mod course;
 mod driving;
+mod judging;
+mod note;
+mod plan;
 mod racing;
 mod stores;
 mod submitting;
 mod telling;
 
+use crate::course::{Course, turn_at};
+use crate::plan::asked_by;
 use crate::racing::play;
 use crate::stores::{clear, close, open};
 use crate::telling::tell;
-use flow_races::course::{Course, turn_at};
-use flow_races::plan::asked_by;
 use std::time::Instant;
 use std::{env, io};
 

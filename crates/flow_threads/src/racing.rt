@@ -2,7 +2,10 @@
 ghost use Rattle.std.specs.Prelude.{◌≡◌, ◌≤◌, []};
 ghost use Rattle.flow_hub.specs.Seating.{IsRoomOf};
 
+use crate::course::{Course, Turn};
 use crate::driving::driven;
+use crate::note::Raced;
+use crate::plan::Plan;
 use crate::submitting::{Brought, run_race};
 use flow_base::fault::Fault;
 use flow_base::number::Moment;
@@ -10,9 +13,6 @@ use flow_engine::engine::Engine;
 use flow_hub::hub::Hub;
 use flow_hub::publisher::Publisher;
 use flow_hub::seats::{Opened, Room};
-use flow_races::course::{Course, Turn};
-use flow_races::note::Raced;
-use flow_races::plan::Plan;
 use flow_settings::settings::Settings;
 use flow_timers::Clock;
 use sqlite::{Alter, Connection};
@@ -55,7 +55,7 @@ pub fn limited(most: usize) -> usize
 fn serve<S: Alter, B: Room, R: Wait>(
     rt: &R,
     engine: &mut Engine<S>,
-    publisher: &mut Publisher<S, B>,
+    publisher: &mut Publisher<B>,
     clock: Still,
     most: usize,
 ) -> u8
@@ -76,8 +76,8 @@ fn serve_race<S: Alter + Send, B: Room + Send + Sync, R: Threads + Wait + time::
     rt: &R,
     alloc: Global,
     engine: &mut Engine<S>,
-    publisher: &mut Publisher<S, B>,
-    hub: &Hub<S, B>,
+    publisher: &mut Publisher<B>,
+    hub: &Hub<B>,
     clock: Still,
     plan: Plan,
 ) -> (Option<Brought>, u8)
@@ -98,14 +98,14 @@ fn race_named<S: Alter + Send, B: Room + Send + Sync, R: Threads + Wait + time::
     rt: &R,
     alloc: Global,
     engine: &mut Engine<S>,
-    opened: Opened<S>,
+    opened: Opened,
     clock: Still,
     plan: Plan,
 ) -> Option<(Option<Brought>, u8)>
     requires room { IsRoomOf opened B.table B.name B.parts }
     requires anew { engine.old.log ≡ [] }
 {
-    let (mut publisher, hub) = Hub::<S, B>::new(alloc, opened).ok()?;
+    let (mut publisher, hub) = Hub::<B>::new(alloc, opened).ok()?;
     let raced = serve_race(rt, alloc, engine, &mut publisher, &hub, clock, plan);
     publisher.leave();
     hub.leave();

@@ -1,18 +1,17 @@
 //! What a thread does that submits.
 use crate::commands::{command, note_of, refused_by};
+use crate::note::Note;
+use crate::plan::Plan;
 use flow_hub::hub::Hub;
 use flow_hub::seats::Room;
 use flow_hub::submitter::Submitter;
 use flow_hub::ticket::{NotDone, Ticket};
 use flow_machine::submission::Receipt;
-use flow_races::note::Note;
-use flow_races::plan::Plan;
-use sqlite::Alter;
 use std::alloc::Global;
 use std::collections::VecDeque;
 use std::sync::Wait;
-use std::thread;
 use std::thread::Threads;
+use std::thread;
 use std::time::Clock;
 
 /// What all threads bring back of a race.
@@ -33,9 +32,9 @@ fn noted(answer: Result<Receipt, NotDone>) -> Note {
 }
 
 /// Waits with the first ticket. None: there is none, or memory was refused.
-fn fetch_first<S: Alter, B: Room, R: Wait>(
+fn fetch_first<B: Room, R: Wait>(
     rt: &R,
-    submitter: &mut Submitter<S, B>,
+    submitter: &mut Submitter<B>,
     open: &mut VecDeque<Ticket>,
     notes: &mut Vec<Note>,
 ) -> Option<()> {
@@ -44,10 +43,10 @@ fn fetch_first<S: Alter, B: Room, R: Wait>(
 }
 
 /// Submits a command, and puts its ticket behind the others. None: memory was refused.
-fn submit<S: Alter, B: Room, R: Wait>(
+fn submit<B: Room, R: Wait>(
     rt: &R,
     alloc: Global,
-    submitter: &mut Submitter<S, B>,
+    submitter: &mut Submitter<B>,
     number: u64,
     open: &mut VecDeque<Ticket>,
     notes: &mut Vec<Note>,
@@ -59,10 +58,10 @@ fn submit<S: Alter, B: Room, R: Wait>(
 }
 
 /// Submits the commands from `first` to before `end`, and fetches as it goes.
-fn submit_all<S: Alter, B: Room, R: Wait>(
+fn submit_all<B: Room, R: Wait>(
     rt: &R,
     alloc: Global,
-    submitter: &mut Submitter<S, B>,
+    submitter: &mut Submitter<B>,
     first: u64,
     end: u64,
     window: usize,
@@ -82,10 +81,10 @@ fn submit_all<S: Alter, B: Room, R: Wait>(
 }
 
 /// What the thread of this number does.
-fn work<S: Alter, B: Room, R: Wait>(
+fn work<B: Room, R: Wait>(
     rt: &R,
     alloc: Global,
-    hub: &Hub<S, B>,
+    hub: &Hub<B>,
     plan: Plan,
     thread: u64,
 ) -> Option<Vec<Note>> {
@@ -106,11 +105,11 @@ fn add_all(notes: &mut Vec<Vec<Note>>, more: Vec<Option<Vec<Note>>>) -> Option<(
 }
 
 /// Registers the text, and then submits and fetches on all threads.
-fn submit_race<S: Alter + Send, B: Room + Send + Sync, R: Threads + Wait + Clock + Sync>(
+fn submit_race<B: Room + Send + Sync, R: Threads + Wait + Clock + Sync>(
     rt: &R,
     alloc: Global,
-    hub: &Hub<S, B>,
-    registrar: &mut Submitter<S, B>,
+    hub: &Hub<B>,
+    registrar: &mut Submitter<B>,
     plan: Plan,
 ) -> Option<Brought> {
     let mut notes = Vec::new(alloc);
@@ -126,10 +125,10 @@ fn submit_race<S: Alter + Send, B: Room + Send + Sync, R: Threads + Wait + Clock
 }
 
 /// The same, and closes the hub behind all of them.
-pub fn run_race<S: Alter + Send, B: Room + Send + Sync, R: Threads + Wait + Clock + Sync>(
+pub fn run_race<B: Room + Send + Sync, R: Threads + Wait + Clock + Sync>(
     rt: &R,
     alloc: Global,
-    hub: &Hub<S, B>,
+    hub: &Hub<B>,
     plan: Plan,
 ) -> Option<Brought> {
     let brought = match hub.submitter(rt) {

@@ -1,8 +1,8 @@
 //! What the program prints.
-use flow_races::course::{Course, Turn};
-use flow_races::judging::count;
-use flow_races::note::Raced;
-use flow_races::plan::{Asked, Plan, name_at};
+use crate::course::{Course, Turn};
+use crate::judging::count;
+use crate::note::Raced;
+use crate::plan::{Asked, Plan, name_at};
 use std::io;
 use std::time::Instant;
 

@@ -1,7 +1,6 @@
 -- What the thread that fires timers has told, one tick more.
 use Rattle.std.proofs.Common.{◌≡◌, ℕ, Bool, true, false, List, [], ◌∷◌, ◌++◌, Result, inl, inr, refl, sym, ap, ◌∙◌, subst, append_assoc, append-nil}
 use Rattle.std.specs.List.{AllByRecursion}
-use Rattle.sqlite_trees.specs.declared.store.Store.{Ghosts}
 use Rattle.flow_base.specs.declared.command.Command.{Command}
 use Rattle.flow_base.specs.declared.command.Reply.{Reply}
 use Rattle.flow_hub.specs.declared.known.Known.{Known}
@@ -18,9 +17,9 @@ all_next : {A : Type 0} (P : A → Type 0) (xs : List A) (x : A) → AllByRecurs
 all_next P [] x all one = (one, tt)
 all_next P (y ∷ ys) x all one = (all.0, all_next P ys x all.1 one)
 
-module _ {S : Type 0} (g : Ghosts S) (tells : ℕ → Type 0) where
+module _ (tells : ℕ → Type 0) where
   -- a tick that was told, by what is seen at once behind its answer
-  fired : (asked behind : Member S) (c : Command) (heard : Result Reply (Command × Unheard)) → IsTickOf tells asked.was c → IsHeard g asked behind c heard → IsFired g tells behind.was (c, came_of heard)
+  fired : (asked behind : Member) (c : Command) (heard : Result Reply (Command × Unheard)) → IsTickOf tells asked.was c → IsHeard asked behind c heard → IsFired tells behind.was (c, came_of heard)
   fired asked behind c heard tick comes = record {
     asked = asked;
     behind = behind;
@@ -32,7 +31,7 @@ module _ {S : Type 0} (g : Ghosts S) (tells : ℕ → Type 0) where
     before = before_self behind.was;
   }
 
-  fired_later : (k l : Known S) (x : Telling) → IsBefore k l → IsFired g tells k x → IsFired g tells l x
+  fired_later : (k l : Known) (x : Telling) → IsBefore k l → IsFired tells k x → IsFired tells l x
   fired_later k l x later f = record {
     asked = f.asked;
     behind = f.behind;
@@ -44,33 +43,33 @@ module _ {S : Type 0} (g : Ghosts S) (tells : ℕ → Type 0) where
     before = before_trans f.behind.was k l f.before later;
   }
 
-  all_later : (k l : Known S) (xs : List Telling) → IsBefore k l → AllByRecursion (FiresOn g tells k) xs → AllByRecursion (FiresOn g tells l) xs
+  all_later : (k l : Known) (xs : List Telling) → IsBefore k l → AllByRecursion (FiresOn tells k) xs → AllByRecursion (FiresOn tells l) xs
   all_later k l [] later all = tt
   all_later k l (x ∷ xs) later all = ((fired_later k l x later all.0.0, all.0.1), all_later k l xs later all.1)
 
   -- nothing was told, since the hub is closed
-  pub fires_nothing : (k : Known S) (was now : List Telling) → now ≡ was → k.closed ≡ true → FiresOne g tells k was now false
+  pub fires_nothing : (k : Known) (was now : List Telling) → now ≡ was → k.closed ≡ true → FiresOne tells k was now false
   fires_nothing k was now same closed = ([], same ∙ sym (append-nil was), inl (refl, closed))
 
   -- one tick was told, and more may be
-  pub fires_one : (asked behind : Member S) (c : Command) (heard : Result Reply (Command × Unheard)) (was now : List Telling) → IsTickOf tells asked.was c → IsHeard g asked behind c heard
-      → now ≡ was ++ (c, came_of heard) ∷ [] → is_last (came_of heard) ≡ false → FiresOne g tells behind.was was now true
+  pub fires_one : (asked behind : Member) (c : Command) (heard : Result Reply (Command × Unheard)) (was now : List Telling) → IsTickOf tells asked.was c → IsHeard asked behind c heard
+      → now ≡ was ++ (c, came_of heard) ∷ [] → is_last (came_of heard) ≡ false → FiresOne tells behind.was was now true
   fires_one asked behind c heard was now tick comes told on = ((c, came_of heard), told, (fired asked behind c heard tick comes, on))
 
   -- or none is any more
-  pub fires_last : (asked behind : Member S) (c : Command) (heard : Result Reply (Command × Unheard)) (was now : List Telling) → IsTickOf tells asked.was c → IsHeard g asked behind c heard
-      → now ≡ was ++ (c, came_of heard) ∷ [] → is_last (came_of heard) ≡ true → FiresOne g tells behind.was was now false
+  pub fires_last : (asked behind : Member) (c : Command) (heard : Result Reply (Command × Unheard)) (was now : List Telling) → IsTickOf tells asked.was c → IsHeard asked behind c heard
+      → now ≡ was ++ (c, came_of heard) ∷ [] → is_last (came_of heard) ≡ true → FiresOne tells behind.was was now false
   fires_last asked behind c heard was now tick comes told ends = ((c, came_of heard) ∷ [], told, inr ((c, came_of heard), refl, fired asked behind c heard tick comes, ends))
 
-  pub fires_none : (k : Known S) (was : List Telling) → FiresSoFar g tells k was was
+  pub fires_none : (k : Known) (was : List Telling) → FiresSoFar tells k was was
   fires_none k was = ([], sym (append-nil was), tt)
 
-  pub fires_more : (k l : Known S) (was mid now : List Telling) (on : Bool) → on ≡ true → IsBefore k l → FiresSoFar g tells k was mid → FiresOne g tells l mid now on → FiresSoFar g tells l was now
+  pub fires_more : (k l : Known) (was mid now : List Telling) (on : Bool) → on ≡ true → IsBefore k l → FiresSoFar tells k was mid → FiresOne tells l mid now on → FiresSoFar tells l was now
   fires_more k l was mid now false is later so one = absurd (cc is)
   fires_more k l was mid now true is later so one =
-      (so.0 ++ one.0 ∷ [], one.1 ∙ (ap (λ w. w ++ one.0 ∷ []) so.1 ∙ append_assoc was so.0 (one.0 ∷ [])), all_next (FiresOn g tells l) so.0 one.0 (all_later k l so.0 later so.2) one.2)
+      (so.0 ++ one.0 ∷ [], one.1 ∙ (ap (λ w. w ++ one.0 ∷ []) so.1 ∙ append_assoc was so.0 (one.0 ∷ [])), all_next (FiresOn tells l) so.0 one.0 (all_later k l so.0 later so.2) one.2)
 
   -- and nothing more
-  pub fires_end : (k l : Known S) (was mid now : List Telling) (on : Bool) → on ≡ false → IsBefore k l → FiresSoFar g tells k was mid → FiresOne g tells l mid now on → Fires g tells l was now
+  pub fires_end : (k l : Known) (was mid now : List Telling) (on : Bool) → on ≡ false → IsBefore k l → FiresSoFar tells k was mid → FiresOne tells l mid now on → Fires tells l was now
   fires_end k l was mid now true is later so one = absurd (cc is)
   fires_end k l was mid now false is later so one = (so.0, one.0, one.1 ∙ ap (λ w. w ++ one.0) so.1, all_later k l so.0 later so.2, one.2)

@@ -1,6 +1,5 @@
 -- What comes of a command that is submitted and waited for.
 use Rattle.std.proofs.Common.{◌≡◌, refl, ap, sym, ◌∙◌, subst, Option, Some, slice_get}
-use Rattle.sqlite_trees.specs.declared.store.Store.{Ghosts}
 use Rattle.flow_base.specs.declared.command.Command.{Command}
 use Rattle.flow_machine.specs.declared.submission.Receipt.{Receipt}
 use Rattle.flow_machine.specs.declared.submission.Taken.{Taken}
@@ -18,46 +17,45 @@ use Rattle.flow_work.specs.Hearing.{HasReply, HasCode}
 same_command : (o : Option Taken) (x y : Taken) → o ≡ Some x → o ≡ Some y → x.command ≡ y.command
 same_command o x y p q = let same : x ≡ y = cc (p, q) in ap (λ (t : Taken). t.command) same
 
-module _ {S : Type 0} where
-  -- what was submitted at a ticket stands there still
-  still_asked : (old mid new : Member S) (c : Command) (t : Ticket) → IsTicket old mid c t → IsBefore mid.was new.was → slice_get new.was.asked t.number ≡ Some (record { ticket = t.number; command = c })
-  still_asked old mid new c t given later =
-      let x : Taken = record { ticket = t.number; command = c } in
-      subst (λ l. slice_get l t.number ≡ Some x) later.asked.1 (get_front mid.was.asked later.asked.0 t.number x given.asked)
+-- what was submitted at a ticket stands there still
+still_asked : (old mid new : Member) (c : Command) (t : Ticket) → IsTicket old mid c t → IsBefore mid.was new.was → slice_get new.was.asked t.number ≡ Some (record { ticket = t.number; command = c })
+still_asked old mid new c t given later =
+    let x : Taken = record { ticket = t.number; command = c } in
+    subst (λ l. slice_get l t.number ≡ Some x) later.asked.1 (get_front mid.was.asked later.asked.0 t.number x given.asked)
 
-  pub has_reply : (g : Ghosts S) (old mid new : Member S) (c : Command) (t : Ticket) (r : Receipt) → IsTicket old mid c t → IsBefore mid.was new.was → IsReceipt g new t r → HasReply g old new c r.reply
-  has_reply g old mid new c t r given later is =
-      let there = still_asked old mid new c t given later in
-      let own : slice_get new.was.asked t.number ≡ Some (record { ticket = r.ticket; command = r.command }) = subst (λ n. slice_get new.was.asked n ≡ Some (record { ticket = r.ticket; command = r.command })) is.number is.own in
-      record {
-        ticket = t;
-        receipt = r;
-        meanwhile = given.rises;
-        is = is;
-        command = sym (same_command (slice_get new.was.asked t.number) (record { ticket = t.number; command = c }) (record { ticket = r.ticket; command = r.command }) there own);
-        told = refl;
-      }
+pub has_reply : (old mid new : Member) (c : Command) (t : Ticket) (r : Receipt) → IsTicket old mid c t → IsBefore mid.was new.was → IsReceipt new t r → HasReply old new c r.reply
+has_reply old mid new c t r given later is =
+    let there = still_asked old mid new c t given later in
+    let own : slice_get new.was.asked t.number ≡ Some (record { ticket = r.ticket; command = r.command }) = subst (λ n. slice_get new.was.asked n ≡ Some (record { ticket = r.ticket; command = r.command })) is.number is.own in
+    record {
+      ticket = t;
+      receipt = r;
+      meanwhile = given.rises;
+      is = is;
+      command = sym (same_command (slice_get new.was.asked t.number) (record { ticket = t.number; command = c }) (record { ticket = r.ticket; command = r.command }) there own);
+      told = refl;
+    }
 
-  by_code : (old mid new : Member S) (c b : Command) (t : Ticket) (n : NotDone) (w : Why) → IsTicket old mid c t → new.id ≡ old.id → IsBefore mid.was new.was → n.command ≡ Some b → IsFor new t n w → b ≡ c
-  by_code old mid new c b t n why.NotMine given same later back is = absurd (is.0 (given.owner ∙ sym same))
-  by_code old mid new c b t n (why.Refused code) given same later back is =
-      let r = is.1.0 in
-      let there = still_asked old mid new c t given later in
-      let own : slice_get new.was.asked t.number ≡ Some r.asked = subst (λ k. slice_get new.was.asked k ≡ Some r.asked) is.1.2 is.1.4 in
-      let named : Some b ≡ Some r.asked.command = sym back ∙ is.1.3 in
-      let same : b ≡ r.asked.command = cc named in
-      same ∙ sym (same_command (slice_get new.was.asked t.number) (record { ticket = t.number; command = c }) r.asked there own)
+by_code : (old mid new : Member) (c b : Command) (t : Ticket) (n : NotDone) (w : Why) → IsTicket old mid c t → new.id ≡ old.id → IsBefore mid.was new.was → n.command ≡ Some b → IsFor new t n w → b ≡ c
+by_code old mid new c b t n why.NotMine given same later back is = absurd (is.0 (given.owner ∙ sym same))
+by_code old mid new c b t n (why.Refused code) given same later back is =
+    let r = is.1.0 in
+    let there = still_asked old mid new c t given later in
+    let own : slice_get new.was.asked t.number ≡ Some r.asked = subst (λ k. slice_get new.was.asked k ≡ Some r.asked) is.1.2 is.1.4 in
+    let named : Some b ≡ Some r.asked.command = sym back ∙ is.1.3 in
+    let same : b ≡ r.asked.command = cc named in
+    same ∙ sym (same_command (slice_get new.was.asked t.number) (record { ticket = t.number; command = c }) r.asked there own)
 
-  -- the command that comes back is the one that was submitted
-  pub comes_back : (old mid new : Member S) (c b : Command) (t : Ticket) (n : NotDone) → IsTicket old mid c t → new.id ≡ old.id → IsBefore mid.was new.was → n.command ≡ Some b → IsNotDone new t n → b ≡ c
-  comes_back old mid new c b t n given same later back is = by_code old mid new c b t n n.code given same later back is.1
+-- the command that comes back is the one that was submitted
+pub comes_back : (old mid new : Member) (c b : Command) (t : Ticket) (n : NotDone) → IsTicket old mid c t → new.id ≡ old.id → IsBefore mid.was new.was → n.command ≡ Some b → IsNotDone new t n → b ≡ c
+comes_back old mid new c b t n given same later back is = by_code old mid new c b t n n.code given same later back is.1
 
-  pub has_code : (old mid new : Member S) (c b : Command) (t : Ticket) (n : NotDone) → IsTicket old mid c t → new.id ≡ old.id → IsBefore mid.was new.was → n.command ≡ Some b → IsNotDone new t n → HasCode old new c (unheard_why n.code)
-  has_code old mid new c b t n given same later back is = record {
-    ticket = t;
-    instead = n;
-    meanwhile = given.rises;
-    is = is;
-    command = back ∙ ap Some (comes_back old mid new c b t n given same later back is);
-    told = refl;
-  }
+pub has_code : (old mid new : Member) (c b : Command) (t : Ticket) (n : NotDone) → IsTicket old mid c t → new.id ≡ old.id → IsBefore mid.was new.was → n.command ≡ Some b → IsNotDone new t n → HasCode old new c (unheard_why n.code)
+has_code old mid new c b t n given same later back is = record {
+  ticket = t;
+  instead = n;
+  meanwhile = given.rises;
+  is = is;
+  command = back ∙ ap Some (comes_back old mid new c b t n given same later back is);
+  told = refl;
+}

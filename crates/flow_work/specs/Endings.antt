@@ -40,9 +40,9 @@ line_instead (why.Refused code.StoreRefused) = Some (line.NotApplied code.StoreR
 line_instead _ = None
 
 -- The line is that of the ticket's receipt; or the ticket has none, and the line says why.
-abbrev pub IsToldOf : {S : Type 0} → Ghosts S → Member S → Ticket → Option Line → Type 0
-IsToldOf g m ticket told =
-    ((r : Receipt) × IsReceipt g m ticket r × (told ≡ Some (line.Of r.reply)))
+abbrev pub IsToldOf : Member → Ticket → Option Line → Type 0
+IsToldOf m ticket told =
+    ((r : Receipt) × IsReceipt m ticket r × (told ≡ Some (line.Of r.reply)))
     ⊎ ((n : NotDone) × IsNotDone m ticket n × (told ≡ line_instead n.code))
 
 -- An engine that ran has served to the end: what it took was committed batch by batch, each over the book that those before it left,

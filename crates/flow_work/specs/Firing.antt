@@ -1,7 +1,6 @@
 -- What the thread that fires timers tells, and why it ends.
 use Rattle.std.specs.Prelude.{◌≡◌, ◌⊎◌, ℕ, List, [], ◌∷◌, ◌++◌, Bool, true, false, Result, Ok, Err, MatchBool}
 use Rattle.std.specs.List.{AllByRecursion}
-use Rattle.sqlite_trees.specs.declared.store.Store.{Ghosts}
 use Rattle.flow_base.specs.declared.command.Command.{Command}
 use Rattle.flow_base.specs.declared.command.Reply.{Reply}
 use Rattle.flow_hub.specs.declared.known.Known.{Known}
@@ -14,14 +13,14 @@ use Rattle.flow_work.specs.Hearing.{IsHeard}
 
 -- What was told is a tick, at a moment that the clock told, that fires what was due by what its submitter had seen then, and what came of it is so by what it saw behind
 -- that, a beginning of what it sees now.
-pub record IsFired {S : Type 0} (g : Ghosts S) (tells : ℕ → Type 0) (now : Known S) (told : Telling) : Type 0 where
-  pub asked : Member S
-  pub behind : Member S
+pub record IsFired (tells : ℕ → Type 0) (now : Known) (told : Telling) : Type 0 where
+  pub asked : Member
+  pub behind : Member
   pub command : Command
   pub heard : Result Reply (Command × Unheard)
   pub is : told ≡ (command, came_of heard)
   pub tick : IsTickOf tells asked.was command
-  pub comes : IsHeard g asked behind command heard
+  pub comes : IsHeard asked behind command heard
   pub before : IsBefore behind.was now
 
 -- nothing is answered behind it: E84, E85 or E91
@@ -30,23 +29,23 @@ is_last (Ok reply) = false
 is_last (Err unheard) = is_final unheard
 
 -- it was fired, and more may be
-abbrev pub FiresOn : {S : Type 0} → Ghosts S → (ℕ → Type 0) → Known S → Telling → Type 0
-FiresOn g tells now told = IsFired g tells now told × (is_last told.1 ≡ false)
+abbrev pub FiresOn : (ℕ → Type 0) → Known → Telling → Type 0
+FiresOn tells now told = IsFired tells now told × (is_last told.1 ≡ false)
 
 -- Why nothing more is fired: the hub is closed; or this one was fired, and nothing is answered behind it.
-abbrev pub EndsFiring : {S : Type 0} → Ghosts S → (ℕ → Type 0) → Known S → List Telling → Type 0
-EndsFiring g tells now last = ((last ≡ []) × (now.closed ≡ true)) ⊎ ((told : Telling) × (last ≡ told ∷ []) × IsFired g tells now told × (is_last told.1 ≡ true))
+abbrev pub EndsFiring : (ℕ → Type 0) → Known → List Telling → Type 0
+EndsFiring tells now last = ((last ≡ []) × (now.closed ≡ true)) ⊎ ((told : Telling) × (last ≡ told ∷ []) × IsFired tells now told × (is_last told.1 ≡ true))
 
 -- One more was fired and more may be, or nothing more is.
-abbrev pub FiresOne : {S : Type 0} → Ghosts S → (ℕ → Type 0) → Known S → (was now : List Telling) → Bool → Type 0
-FiresOne g tells known was now goes_on =
-    MatchBool goes_on ((told : Telling) × (now ≡ was ++ told ∷ []) × FiresOn g tells known told) ((last : List Telling) × (now ≡ was ++ last) × EndsFiring g tells known last)
+abbrev pub FiresOne : (ℕ → Type 0) → Known → (was now : List Telling) → Bool → Type 0
+FiresOne tells known was now goes_on =
+    MatchBool goes_on ((told : Telling) × (now ≡ was ++ told ∷ []) × FiresOn tells known told) ((last : List Telling) × (now ≡ was ++ last) × EndsFiring tells known last)
 
 -- These were fired one after the other, and more may be.
-abbrev pub FiresSoFar : {S : Type 0} → Ghosts S → (ℕ → Type 0) → Known S → (was now : List Telling) → Type 0
-FiresSoFar g tells known was now = (ticks : List Telling) × (now ≡ was ++ ticks) × AllByRecursion (FiresOn g tells known) ticks
+abbrev pub FiresSoFar : (ℕ → Type 0) → Known → (was now : List Telling) → Type 0
+FiresSoFar tells known was now = (ticks : List Telling) × (now ≡ was ++ ticks) × AllByRecursion (FiresOn tells known) ticks
 
 -- These were, and then nothing more.
-abbrev pub Fires : {S : Type 0} → Ghosts S → (ℕ → Type 0) → Known S → (was now : List Telling) → Type 0
-Fires g tells known was now =
-    (ticks : List Telling) × (last : List Telling) × (now ≡ was ++ ticks ++ last) × AllByRecursion (FiresOn g tells known) ticks × EndsFiring g tells known last
+abbrev pub Fires : (ℕ → Type 0) → Known → (was now : List Telling) → Type 0
+Fires tells known was now =
+    (ticks : List Telling) × (last : List Telling) × (now ≡ was ++ ticks ++ last) × AllByRecursion (FiresOn tells known) ticks × EndsFiring tells known last

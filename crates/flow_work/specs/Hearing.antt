@@ -1,6 +1,5 @@
 -- What comes of a command that is submitted and waited for.
 use Rattle.std.specs.Prelude.{◌≡◌, ◌⊎◌, ◌≤◌, length, Some, Result, Ok, Err}
-use Rattle.sqlite_trees.specs.declared.store.Store.{Ghosts}
 use Rattle.flow_base.specs.declared.command.Command.{Command}
 use Rattle.flow_base.specs.declared.command.Reply.{Reply}
 use Rattle.flow_machine.specs.declared.submission.Receipt.{Receipt}
@@ -12,16 +11,16 @@ use Rattle.flow_pool.specs.declared.report.Unheard.{Unheard}
 use Rattle.flow_work.specs.Endings.{unheard_denied, unheard_why}
 
 -- The reply is that of a receipt of this command, whose ticket was given meanwhile.
-pub record HasReply {S : Type 0} (g : Ghosts S) (old new : Member S) (c : Command) (reply : Reply) : Type 0 where
+pub record HasReply (old new : Member) (c : Command) (reply : Reply) : Type 0 where
   pub ticket : Ticket
   pub receipt : Receipt
   pub meanwhile : length old.was.asked ≤ ticket.number
-  pub is : IsReceipt g new ticket receipt
+  pub is : IsReceipt new ticket receipt
   pub command : receipt.command ≡ c
   pub told : reply ≡ receipt.reply
 
 -- A ticket that was given meanwhile for this command was answered by a code, which says why.
-pub record HasCode {S : Type 0} (old new : Member S) (c : Command) (why : Unheard) : Type 0 where
+pub record HasCode (old new : Member) (c : Command) (why : Unheard) : Type 0 where
   pub ticket : Ticket
   pub instead : NotDone
   pub meanwhile : length old.was.asked ≤ ticket.number
@@ -30,12 +29,12 @@ pub record HasCode {S : Type 0} (old new : Member S) (c : Command) (why : Unhear
   pub told : why ≡ unheard_why instead.code
 
 -- it wasn't taken in, by what was seen then
-pub record HasNoTicket {S : Type 0} (new : Member S) (why : Unheard) : Type 0 where
+pub record HasNoTicket (new : Member) (why : Unheard) : Type 0 where
   pub denied : Denied
   pub is : IsDenied new.was denied
   pub told : why ≡ unheard_denied denied
 
 -- What comes of a command by a submitter, as it was before and is behind: its reply; or it comes back, and why.
-abbrev pub IsHeard : {S : Type 0} → Ghosts S → Member S → Member S → Command → Result Reply (Command × Unheard) → Type 0
-IsHeard g old new c (Ok reply) = HasReply g old new c reply
-IsHeard g old new c (Err e) = (e.0 ≡ c) × (HasNoTicket new e.1 ⊎ HasCode old new c e.1)
+abbrev pub IsHeard : Member → Member → Command → Result Reply (Command × Unheard) → Type 0
+IsHeard old new c (Ok reply) = HasReply old new c reply
+IsHeard old new c (Err e) = (e.0 ≡ c) × (HasNoTicket new e.1 ⊎ HasCode old new c e.1)

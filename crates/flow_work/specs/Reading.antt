@@ -12,11 +12,11 @@ use Rattle.flow_work.specs.declared.queue.Pending.{Pending}
 use Rattle.flow_work.specs.declared.queue.Pending.TheVariants as pending
 
 -- the ticket is this submitter's own, and this was submitted at it
-abbrev pub IsOf : {S : Type 0} → Member S → Command → Ticket → Type 0
+abbrev pub IsOf : Member → Command → Ticket → Type 0
 IsOf m c t = (t.owner ≡ m.id) × (slice_get m.was.asked t.number ≡ Some (record { ticket = t.number; command = c }))
 
 -- the line is this command, which was submitted with a moment that the clock told
-pub record IsSubmitted {S : Type 0} (tells : ℕ → Type 0) (m : Member S) (bytes : List ℕ) (t : Ticket) : Type 0 where
+pub record IsSubmitted (tells : ℕ → Type 0) (m : Member) (bytes : List ℕ) (t : Ticket) : Type 0 where
   pub command : Command
   pub at : ℕ
   pub told : tells at
@@ -28,6 +28,6 @@ abbrev pub IsKnown : List ℕ → Line → Type 0
 IsKnown bytes told = ((told ≡ line.Bad) × (line_command bytes ≡ None)) ⊎ (told ≡ line.NotApplied code.NoMemory)
 
 -- what is waited for behind a line
-abbrev pub IsPendingOf : {S : Type 0} → (ℕ → Type 0) → Member S → List ℕ → Pending → Type 0
+abbrev pub IsPendingOf : (ℕ → Type 0) → Member → List ℕ → Pending → Type 0
 IsPendingOf tells m bytes (pending.Submitted ticket) = IsSubmitted tells m bytes ticket
 IsPendingOf tells m bytes (pending.Known told) = IsKnown bytes told

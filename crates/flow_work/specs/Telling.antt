@@ -1,6 +1,5 @@
 -- What is told of the lines that wait.
 use Rattle.std.specs.Prelude.{◌≡◌, ℕ, List, [], ◌∷◌, ◌++◌, Bool, true, Option, Some, None, is_some}
-use Rattle.sqlite_trees.specs.declared.store.Store.{Ghosts}
 use Rattle.flow_cli.specs.declared.reply.Line.{Line}
 use Rattle.flow_hub.specs.Knowing.{IsBefore}
 use Rattle.flow_hub.specs.Submitting.{Member}
@@ -10,15 +9,15 @@ use Rattle.flow_work.specs.declared.queue.Pending.{Pending}
 use Rattle.flow_work.specs.declared.queue.Pending.TheVariants as pending
 
 -- what a line is answered: by its ticket, or as it was known when the line was read
-abbrev pub IsAnswer : {S : Type 0} → Ghosts S → Member S → Pending → Option Line → Type 0
-IsAnswer g m (pending.Submitted ticket) told = IsToldOf g m ticket told
-IsAnswer g m (pending.Known known) told = told ≡ Some known
+abbrev pub IsAnswer : Member → Pending → Option Line → Type 0
+IsAnswer m (pending.Submitted ticket) told = IsToldOf m ticket told
+IsAnswer m (pending.Known known) told = told ≡ Some known
 
 -- Of the lines that waited the oldest is answered, and the others wait on; it goes on where there is an answer. Where none waited
 -- there is nothing to tell.
-abbrev pub AnswersFirst : {S : Type 0} → Ghosts S → Member S → (was now : List Pending) → Option Line → Bool → Type 0
-AnswersFirst g m [] now told goes_on = (now ≡ []) × (told ≡ None) × (goes_on ≡ true)
-AnswersFirst g m (p ∷ ps) now told goes_on = (now ≡ ps) × IsAnswer g m p told × (goes_on ≡ is_some told)
+abbrev pub AnswersFirst : Member → (was now : List Pending) → Option Line → Bool → Type 0
+AnswersFirst m [] now told goes_on = (now ≡ []) × (told ≡ None) × (goes_on ≡ true)
+AnswersFirst m (p ∷ ps) now told goes_on = (now ≡ ps) × IsAnswer m p told × (goes_on ≡ is_some told)
 
 -- What was printed so far: whether a write has failed, the status, and what the writer holds, where that is known.
 pub record Printed : Type 0 where
@@ -36,23 +35,23 @@ PrintsAnswer (Some line) old new = PrintsLine line old new
 PrintsAnswer None old new = new ≡ old
 
 -- A line is answered by what was seen then, a beginning of what is seen now, and the answer is printed.
-pub record Tells {S : Type 0} (g : Ghosts S) (m : Member S) (p : Pending) (old new : Printed) : Type 0 where
-  pub seen : Member S
+pub record Tells (m : Member) (p : Pending) (old new : Printed) : Type 0 where
+  pub seen : Member
   pub line : Line
   pub same : seen.id ≡ m.id
   pub before : IsBefore seen.was m.was
-  pub answer : IsAnswer g seen p (Some line)
+  pub answer : IsAnswer seen p (Some line)
   pub printed : PrintsLine line old new
 
 -- these lines are, one after the other, and nothing else is printed
-abbrev pub TellsAll : {S : Type 0} → Ghosts S → Member S → List Pending → Printed → Printed → Type 0
-TellsAll g m [] old new = new ≡ old
-TellsAll g m (p ∷ ps) old new = (mid : Printed) × Tells g m p old mid × TellsAll g m ps mid new
+abbrev pub TellsAll : Member → List Pending → Printed → Printed → Type 0
+TellsAll m [] old new = new ≡ old
+TellsAll m (p ∷ ps) old new = (mid : Printed) × Tells m p old mid × TellsAll m ps mid new
 
 -- Of the lines that waited the oldest were told of, and these wait on. Where it doesn't go on the next ones may have no answer.
-pub record HasTold {S : Type 0} (g : Ghosts S) (m : Member S) (goes_on : Bool) (was now : List Pending) (old new : Printed) : Type 0 where
+pub record HasTold (m : Member) (goes_on : Bool) (was now : List Pending) (old new : Printed) : Type 0 where
   pub told : List Pending
   pub silent : List Pending
   pub rest : told ++ (silent ++ now) ≡ was
   pub all : goes_on ≡ true → silent ≡ []
-  pub printed : TellsAll g m told old new
+  pub printed : TellsAll m told old new

@@ -18,7 +18,6 @@ use flow_pool::dispatcher::dispatcher;
 use flow_pool::ends::{TaskReceiver, TaskSender};
 use flow_pool::worker::worker;
 use flow_timers::Clock;
-use sqlite::Alter;
 use std::alloc::{AllocError, Global};
 use std::io::{BufRead, Write};
 use std::sync::{Arc, Wait};
@@ -26,12 +25,12 @@ use std::thread::{JoinHandle, Threads};
 use std::{thread, time};
 
 /// Makes attempts until no task comes any more, or nothing is answered.
-fn run_worker<S: Alter, B: Room, R: Wait, A: Activity + Drop, C: Clock>(
+fn run_worker<B: Room, R: Wait, A: Activity + Drop, C: Clock>(
     rt: &R,
     alloc: Global,
     activities: Vec<A>,
     receiver: TaskReceiver,
-    reports: Reporter<S, B>,
+    reports: Reporter<B>,
     clock: &C,
     group: WaitGroup,
 ) {
@@ -40,19 +39,14 @@ fn run_worker<S: Alter, B: Room, R: Wait, A: Activity + Drop, C: Clock>(
 }
 
 /// Hands tasks to the workers until none is posted any more. The workers end when its end of the channel is gone.
-fn run_dispatcher<S: Alter, B: Room, R: Wait>(
-    rt: &R,
-    tasks: Tasks<S, B>,
-    sender: TaskSender,
-    group: WaitGroup,
-) {
+fn run_dispatcher<B: Room, R: Wait>(rt: &R, tasks: Tasks<B>, sender: TaskSender, group: WaitGroup) {
     drop(dispatcher(rt, tasks, sender));
     drop(group);
 }
 
-fn run_timer<S: Alter, B: Room, R: Wait + time::Clock, C: Clock>(
+fn run_timer<B: Room, R: Wait + time::Clock, C: Clock>(
     rt: &R,
-    reports: Reporter<S, B>,
+    reports: Reporter<B>,
     clock: &C,
     group: WaitGroup,
 ) {
@@ -62,17 +56,17 @@ fn run_timer<S: Alter, B: Room, R: Wait + time::Clock, C: Clock>(
 
 /// All that the thread has that answers lines.
 #[derive(Drop)]
-pub(crate) struct Answerer<S: Alter, B: Room, W: Write, P: Write> {
-    pub(crate) desk: Desk<S, B, W>,
+pub(crate) struct Answerer<B: Room, W: Write, P: Write> {
+    pub(crate) desk: Desk<B, W>,
     pub(crate) inputs: Receiver<Input>,
-    pub(crate) hub: Arc<Hub<S, B>, Global>,
+    pub(crate) hub: Arc<Hub<B>, Global>,
     pub(crate) progress: Option<Progress<P>>,
 }
 
 /// Answers lines until the input has ended and no run is open, and then closes the hub. The greatest status of what was printed.
-fn run_desk<S: Alter, B: Room, W: Write + Drop, R: Wait + time::Clock, C: Clock, P: Write + Drop>(
+fn run_desk<B: Room, W: Write + Drop, R: Wait + time::Clock, C: Clock, P: Write + Drop>(
     rt: &R,
-    answerer: Answerer<S, B, W, P>,
+    answerer: Answerer<B, W, P>,
     clock: &C,
 ) -> (W, Status) {
     let Answerer {
@@ -88,17 +82,16 @@ fn run_desk<S: Alter, B: Room, W: Write + Drop, R: Wait + time::Clock, C: Clock,
 }
 
 /// Starts a thread that runs a worker. E01 where there is none.
-pub(crate) fn start_worker<S, B, R, A, C>(
+pub(crate) fn start_worker<B, R, A, C>(
     rt: &R,
     alloc: Global,
     activities: Vec<A>,
     receiver: TaskReceiver,
-    reports: Reporter<S, B>,
+    reports: Reporter<B>,
     clock: C,
     group: WaitGroup,
 ) -> Result<(), Fault>
 where
-    S: Alter + Send + 'static,
     B: Room + Send + Sync + 'static,
     R: Threads + Wait + Copy + Send + Drop + 'static,
     A: Activity + Drop + Send + 'static,
@@ -116,14 +109,13 @@ where
 }
 
 /// Starts the thread that hands tasks to workers. E01 where there is none.
-pub(crate) fn start_dispatcher<S, B, R>(
+pub(crate) fn start_dispatcher<B, R>(
     rt: &R,
-    tasks: Tasks<S, B>,
+    tasks: Tasks<B>,
     sender: TaskSender,
     group: WaitGroup,
 ) -> Result<(), Fault>
 where
-    S: Alter + Send + 'static,
     B: Room + Send + Sync + 'static,
     R: Threads + Wait + Copy + Send + Drop + 'static,
     ensures { IfErr result (λ f. f ≡ Fault.NoMemory _) }
@@ -136,14 +128,13 @@ where
 }
 
 /// Starts the thread that fires what is due. E01 where there is none.
-pub(crate) fn start_timer<S, B, R, C>(
+pub(crate) fn start_timer<B, R, C>(
     rt: &R,
-    reports: Reporter<S, B>,
+    reports: Reporter<B>,
     clock: C,
     group: WaitGroup,
 ) -> Result<(), Fault>
 where
-    S: Alter + Send + 'static,
     B: Room + Send + Sync + 'static,
     R: Threads + Wait + time::Clock + Copy + Send + Drop + 'static,
     C: Clock + Copy + Send + Drop + 'static,
@@ -176,13 +167,12 @@ where
 }
 
 /// Starts the thread that answers lines. E01 where there is none.
-pub(crate) fn start_desk<S, B, R, W, C, P>(
+pub(crate) fn start_desk<B, R, W, C, P>(
     rt: &R,
-    answerer: Answerer<S, B, W, P>,
+    answerer: Answerer<B, W, P>,
     clock: C,
 ) -> Result<JoinHandle<(W, Status)>, Fault>
 where
-    S: Alter + Send + 'static,
     B: Room + Send + Sync + 'static,
     R: Threads + Wait + time::Clock + Copy + Send + Drop + 'static,
     W: Write + Drop + Send + 'static,

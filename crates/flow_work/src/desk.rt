@@ -26,7 +26,6 @@ use flow_hub::seats::Room;
 use flow_hub::submitter::Submitter;
 use flow_hub::ticket::{NotDone, Ticket, Why};
 use flow_timers::Clock;
-use sqlite::Alter;
 use std::alloc::Global;
 use std::io::Write;
 use std::sync::Wait;
@@ -38,9 +37,9 @@ const LONGEST_REST: u64 = 1_000;
 
 /// Lines that were read and of which nothing is printed yet, and where their replies go.
 #[derive(Drop)]
-pub(crate) struct Desk<S: Alter, B: Room, W: Write> {
+pub(crate) struct Desk<B: Room, W: Write> {
     alloc: Global,
-    submitter: Submitter<S, B>,
+    submitter: Submitter<B>,
     pending: Queue,
     writer: W,
     /// A write has failed: nothing more is printed.
@@ -60,12 +59,8 @@ fn line_instead(why: Why) -> Option<Line>
 }
 
 /// The answer to a ticket. None where nothing is answered any more.
-fn answer_to<S: Alter, B: Room, R: Wait>(
-    rt: &R,
-    submitter: &mut Submitter<S, B>,
-    ticket: Ticket,
-) -> Option<Line>
-    ensures told { IsToldOf S.Store submitter.new ticket result }
+fn answer_to<B: Room, R: Wait>(rt: &R, submitter: &mut Submitter<B>, ticket: Ticket) -> Option<Line>
+    ensures told { IsToldOf submitter.new ticket result }
     ensures grows { IsBefore submitter.old.was submitter.new.was }
     ensures same { submitter.new.id ≡ submitter.old.id }
 {
@@ -77,12 +72,12 @@ fn answer_to<S: Alter, B: Room, R: Wait>(
 
 /// The answer to a line that waits. None where nothing is answered any more.
 #[tactic(auto, using(flow_hub::proofs::Growing::before_self))]
-fn answer_of<S: Alter, B: Room, R: Wait>(
+fn answer_of<B: Room, R: Wait>(
     rt: &R,
-    submitter: &mut Submitter<S, B>,
+    submitter: &mut Submitter<B>,
     pending: Pending,
 ) -> Option<Line>
-    ensures answer { IsAnswer S.Store submitter.new pending result }
+    ensures answer { IsAnswer submitter.new pending result }
     ensures grows { IsBefore submitter.old.was submitter.new.was }
     ensures same { submitter.new.id ≡ submitter.old.id }
 {
@@ -92,14 +87,14 @@ fn answer_of<S: Alter, B: Room, R: Wait>(
     }
 }
 
-impl<S: Alter, B: Room, W: Write + Drop> Desk<S, B, W> {
+impl<B: Room, W: Write + Drop> Desk<B, W> {
     /// Submits by this submitter, with these lines to be told of, and prints to this writer.
     pub(crate) fn new(
         alloc: Global,
-        submitter: Submitter<S, B>,
+        submitter: Submitter<B>,
         pending: Queue,
         writer: W,
-    ) -> Desk<S, B, W>
+    ) -> Desk<B, W>
         ensures { (result.submitter ≡ submitter) × (result.writer ≡ writer) × (result.pending ≡ pending) × (result.is_mute ≡ false) × (result.status ≡ 0) }
     {
         Desk {
@@ -174,9 +169,9 @@ impl<S: Alter, B: Room, W: Write + Drop> Desk<S, B, W> {
     /// Waits for the answer of the oldest line and prints it. No where nothing is answered any more.
     #[tactic(auto, using(flow_hub::proofs::Growing::before_self))]
     fn tell_oldest<R: Wait>(&mut self, rt: &R) -> bool
-        ensures oldest { (told : Option ALine) × AnswersFirst S.Store self.new.submitter self.old.pending.lines.items self.new.pending.lines.items told result
+        ensures oldest { (told : Option ALine) × AnswersFirst self.new.submitter self.old.pending.lines.items self.new.pending.lines.items told result
             × PrintsAnswer told (record { is_mute = self.old.is_mute; status = self.old.status; bytes = W.contents self.old.writer }) (record { is_mute = self.new.is_mute; status = self.new.status; bytes = W.contents self.new.writer }) }
-        ensures told { HasTold S.Store self.new.submitter result self.old.pending.lines.items self.new.pending.lines.items (record { is_mute = self.old.is_mute; status = self.old.status; bytes = W.contents self.old.writer }) (record { is_mute = self.new.is_mute; status = self.new.status; bytes = W.contents self.new.writer }) }
+        ensures told { HasTold self.new.submitter result self.old.pending.lines.items self.new.pending.lines.items (record { is_mute = self.old.is_mute; status = self.old.status; bytes = W.contents self.old.writer }) (record { is_mute = self.new.is_mute; status = self.new.status; bytes = W.contents self.new.writer }) }
         ensures grows { IsBefore self.old.submitter.was self.new.submitter.was }
         ensures same { self.new.submitter.id ≡ self.old.submitter.id }
         ensures fewer { length self.new.pending.lines.items ≤ length self.old.pending.lines.items }
@@ -192,7 +187,7 @@ impl<S: Alter, B: Room, W: Write + Drop> Desk<S, B, W> {
     #[tactic(auto, using(crate::proofs::Telling::told_none, crate::proofs::Telling::told_then, crate::proofs::Telling::told_later, crate::proofs::Telling::told_ends, flow_hub::proofs::Growing::before_trans))]
     fn submit<R: Wait>(&mut self, rt: &R, command: Command) -> Option<Ticket>
         ensures ticket { IfSome result (λ t. IsOf self.new.submitter command t) }
-        ensures told { HasTold S.Store self.new.submitter (is_some result) self.old.pending.lines.items self.new.pending.lines.items (record { is_mute = self.old.is_mute; status = self.old.status; bytes = W.contents self.old.writer }) (record { is_mute = self.new.is_mute; status = self.new.status; bytes = W.contents self.new.writer }) }
+        ensures told { HasTold self.new.submitter (is_some result) self.old.pending.lines.items self.new.pending.lines.items (record { is_mute = self.old.is_mute; status = self.old.status; bytes = W.contents self.old.writer }) (record { is_mute = self.new.is_mute; status = self.new.status; bytes = W.contents self.new.writer }) }
         ensures grows { IsBefore self.old.submitter.was self.new.submitter.was }
         ensures same { self.new.submitter.id ≡ self.old.submitter.id }
         ensures fewer { length self.new.pending.lines.items ≤ length self.old.pending.lines.items }
@@ -215,7 +210,7 @@ impl<S: Alter, B: Room, W: Write + Drop> Desk<S, B, W> {
     /// What becomes of a line. None where nothing is answered any more.
     fn pending_of<R: Wait, C: Clock>(&mut self, rt: &R, clock: &C, line: Vec<u8>) -> Option<Pending>
         ensures pending { IfSome result (λ p. IsPendingOf (C.tells clock.now) self.new.submitter line.items p) }
-        ensures told { HasTold S.Store self.new.submitter (is_some result) self.old.pending.lines.items self.new.pending.lines.items (record { is_mute = self.old.is_mute; status = self.old.status; bytes = W.contents self.old.writer }) (record { is_mute = self.new.is_mute; status = self.new.status; bytes = W.contents self.new.writer }) }
+        ensures told { HasTold self.new.submitter (is_some result) self.old.pending.lines.items self.new.pending.lines.items (record { is_mute = self.old.is_mute; status = self.old.status; bytes = W.contents self.old.writer }) (record { is_mute = self.new.is_mute; status = self.new.status; bytes = W.contents self.new.writer }) }
         ensures grows { IsBefore self.old.submitter.was self.new.submitter.was }
         ensures same { self.new.submitter.id ≡ self.old.submitter.id }
         ensures fewer { length self.new.pending.lines.items ≤ length self.old.pending.lines.items }
@@ -236,8 +231,8 @@ impl<S: Alter, B: Room, W: Write + Drop> Desk<S, B, W> {
     fn take_line<R: Wait, C: Clock>(&mut self, rt: &R, clock: &C, line: Vec<u8>) -> bool
         requires { length self.old.pending.lines.items < 64 }
         ensures taken { result ≡ true → (p : APending) × (rest : List APending) × IsPendingOf (C.tells clock.now) self.new.submitter line.items p × (self.new.pending.lines.items ≡ rest ++ p ∷ [])
-            × HasTold S.Store self.new.submitter true self.old.pending.lines.items rest (record { is_mute = self.old.is_mute; status = self.old.status; bytes = W.contents self.old.writer }) (record { is_mute = self.new.is_mute; status = self.new.status; bytes = W.contents self.new.writer }) }
-        ensures not_taken { result ≡ false → HasTold S.Store self.new.submitter false self.old.pending.lines.items self.new.pending.lines.items (record { is_mute = self.old.is_mute; status = self.old.status; bytes = W.contents self.old.writer }) (record { is_mute = self.new.is_mute; status = self.new.status; bytes = W.contents self.new.writer }) }
+            × HasTold self.new.submitter true self.old.pending.lines.items rest (record { is_mute = self.old.is_mute; status = self.old.status; bytes = W.contents self.old.writer }) (record { is_mute = self.new.is_mute; status = self.new.status; bytes = W.contents self.new.writer }) }
+        ensures not_taken { result ≡ false → HasTold self.new.submitter false self.old.pending.lines.items self.new.pending.lines.items (record { is_mute = self.old.is_mute; status = self.old.status; bytes = W.contents self.old.writer }) (record { is_mute = self.new.is_mute; status = self.new.status; bytes = W.contents self.new.writer }) }
     {
         match self.pending_of(rt, clock, line) {
             Some(pending) => {
@@ -264,7 +259,7 @@ impl<S: Alter, B: Room, W: Write + Drop> Desk<S, B, W> {
 
     /// Prints all replies that are to come.
     fn tell_all<R: Wait>(&mut self, rt: &R)
-        ensures told { HasTold S.Store self.new.submitter false self.old.pending.lines.items self.new.pending.lines.items (record { is_mute = self.old.is_mute; status = self.old.status; bytes = W.contents self.old.writer }) (record { is_mute = self.new.is_mute; status = self.new.status; bytes = W.contents self.new.writer }) }
+        ensures told { HasTold self.new.submitter false self.old.pending.lines.items self.new.pending.lines.items (record { is_mute = self.old.is_mute; status = self.old.status; bytes = W.contents self.old.writer }) (record { is_mute = self.new.is_mute; status = self.new.status; bytes = W.contents self.new.writer }) }
     {
         'lines: for _ in rt.forever() {
             if self.pending.len() == 0 {

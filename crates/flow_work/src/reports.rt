@@ -17,7 +17,6 @@ use flow_hub::submitter::Submitter;
 use flow_hub::ticket::{NotDone, Why};
 use flow_pool::report::{Reports, Unheard};
 use flow_timers::Clock;
-use sqlite::Alter;
 use std::snapshot::Snapshot;
 use std::sync::Wait;
 use std::time;
@@ -31,8 +30,8 @@ type Heard = Result<Reply, (Command, Unheard)>;
 
 /// Reports to a hub.
 #[derive(Drop)]
-pub(crate) struct Reporter<S: Alter, B: Room> {
-    submitter: Submitter<S, B>,
+pub(crate) struct Reporter<B: Room> {
+    submitter: Submitter<B>,
     /// How many tasks aren't reported yet, where it reports them.
     tally: Option<Tally>,
     /// All that was told, for contracts alone.
@@ -107,12 +106,8 @@ fn unheard_of(instead: NotDone) -> (Command, Unheard)
 
 /// Submits a command and waits for its reply.
 #[tactic(auto, using(crate::proofs::Hearing::has_reply, flow_hub::proofs::Growing::before_trans))]
-fn heard<S: Alter, B: Room, R: Wait>(
-    rt: &R,
-    submitter: &mut Submitter<S, B>,
-    command: Command,
-) -> Heard
-    ensures heard { IsHeard S.Store submitter.old submitter.new command result }
+fn heard<B: Room, R: Wait>(rt: &R, submitter: &mut Submitter<B>, command: Command) -> Heard
+    ensures heard { IsHeard submitter.old submitter.new command result }
     ensures back { IfErr result (λ e. e.0 ≡ command) }
     ensures grows { IsBefore submitter.old.was submitter.new.was }
 {
@@ -144,8 +139,8 @@ fn is_last(heard: &Heard) -> bool
     }
 }
 
-impl<S: Alter, B: Room> Reporter<S, B> {
-    pub(crate) fn new(submitter: Submitter<S, B>, tally: Option<Tally>) -> Reporter<S, B>
+impl<B: Room> Reporter<B> {
+    pub(crate) fn new(submitter: Submitter<B>, tally: Option<Tally>) -> Reporter<B>
         ensures { (result.submitter ≡ submitter) × (result.told ≡ []) }
     {
         Reporter {
@@ -177,7 +172,7 @@ impl<S: Alter, B: Room> Reporter<S, B> {
 
     /// Submits a command and waits for its reply.
     fn report<R: Wait>(&mut self, rt: &R, command: Command) -> Heard
-        ensures heard { IsHeard S.Store self.old.submitter self.new.submitter command result }
+        ensures heard { IsHeard self.old.submitter self.new.submitter command result }
         ensures told { self.new.told ≡ self.old.told ++ (command, came_of result) ∷ [] }
         ensures back { IfErr result (λ e. e.0 ≡ command) }
         ensures grows { IsBefore self.old.submitter.was self.new.submitter.was }
@@ -193,7 +188,7 @@ impl<S: Alter, B: Room> Reporter<S, B> {
     /// any more.
     #[tactic(auto, using(crate::proofs::Firing::fires_nothing, flow_hub::proofs::Growing::before_trans))]
     pub(crate) fn fire<R: Wait + time::Clock, C: Clock>(&mut self, rt: &R, clock: &C) -> bool
-        ensures fires { FiresOne S.Store (C.tells clock.now) self.new.submitter.was self.old.told self.new.told result }
+        ensures fires { FiresOne (C.tells clock.now) self.new.submitter.was self.old.told self.new.told result }
         ensures grows { IsBefore self.old.submitter.was self.new.submitter.was }
     {
         let Some(tick) = self.next_tick(rt, clock) else {
@@ -209,7 +204,7 @@ impl<S: Alter, B: Room> Reporter<S, B> {
     }
 }
 
-impl<S: Alter, B: Room> Reports for Reporter<S, B> {
+impl<B: Room> Reports for Reporter<B> {
     ghost told = { λ r. r.told };
 
     fn tell<R: Wait>(&mut self, rt: &R, command: Command) -> Result<Reply, (Command, Unheard)> {

@@ -74,11 +74,11 @@ fn unseated_fault(unseated: Unseated) -> Fault
 }
 
 /// One who reports to a hub. E01 where there's no memory for it.
-fn reporter<S: Alter, B: Room, R: Wait>(
+fn reporter<B: Room, R: Wait>(
     rt: &R,
-    hub: &Hub<S, B>,
+    hub: &Hub<B>,
     tally: Option<Tally>,
-) -> Result<Reporter<S, B>, Fault>
+) -> Result<Reporter<B>, Fault>
     ensures { IfErr result (λ f. f ≡ Fault.NoMemory _) }
 {
     match hub.submitter(rt) {
@@ -88,10 +88,10 @@ fn reporter<S: Alter, B: Room, R: Wait>(
 }
 
 /// Starts the thread of one worker.
-fn start_one<S, B, R, A, K, C>(
+fn start_one<B, R, A, K, C>(
     rt: &R,
     alloc: Global,
-    hub: &Hub<S, B>,
+    hub: &Hub<B>,
     receiver: TaskReceiver,
     skills: &K,
     clock: C,
@@ -99,7 +99,6 @@ fn start_one<S, B, R, A, K, C>(
     group: &WaitGroup,
 ) -> Result<(), Fault>
 where
-    S: Alter + Send + 'static,
     B: Room + Send + Sync + 'static,
     R: Threads + Wait + Copy + Send + Drop + 'static,
     A: Activity + Drop + Send + 'static,
@@ -115,10 +114,10 @@ where
 }
 
 /// Starts a thread for each worker.
-fn start_workers<S, B, R, A, K, C>(
+fn start_workers<B, R, A, K, C>(
     rt: &R,
     alloc: Global,
-    hub: &Hub<S, B>,
+    hub: &Hub<B>,
     receivers: Vec<TaskReceiver>,
     skills: &K,
     clock: C,
@@ -126,7 +125,6 @@ fn start_workers<S, B, R, A, K, C>(
     group: &WaitGroup,
 ) -> Result<(), Fault>
 where
-    S: Alter + Send + 'static,
     B: Room + Send + Sync + 'static,
     R: Threads + Wait + Copy + Send + Drop + 'static,
     A: Activity + Drop + Send + 'static,
@@ -141,10 +139,10 @@ where
 }
 
 /// Starts those who make attempts of the tasks that are posted, and who hands the tasks to them.
-fn start_pool<S, B, R, A, K, C>(
+fn start_pool<B, R, A, K, C>(
     rt: &R,
     alloc: Global,
-    hub: &Hub<S, B>,
+    hub: &Hub<B>,
     workers: usize,
     skills: &K,
     clock: C,
@@ -152,7 +150,6 @@ fn start_pool<S, B, R, A, K, C>(
     group: &WaitGroup,
 ) -> Result<(), Fault>
 where
-    S: Alter + Send + 'static,
     B: Room + Send + Sync + 'static,
     R: Threads + Wait + Copy + Send + Drop + 'static,
     A: Activity + Drop + Send + 'static,
@@ -172,21 +169,21 @@ where
 }
 
 /// What those who read and answer lines have beside where the lines come from and where the replies go.
-struct Opening<S: Alter, B: Room> {
+struct Opening<B: Room> {
     lines: Sender<Input>,
     own_lines: Sender<Input>,
     inputs: Receiver<Input>,
     pending: Queue,
-    submitter: Submitter<S, B>,
-    hub: Arc<Hub<S, B>, Global>,
+    submitter: Submitter<B>,
+    hub: Arc<Hub<B>, Global>,
 }
 
 /// All that may be refused of it is asked for here, where nothing else is held.
-fn open_lines<S: Alter, B: Room, R: Wait>(
+fn open_lines<B: Room, R: Wait>(
     rt: &R,
     alloc: Global,
-    hub: &Arc<Hub<S, B>, Global>,
-) -> Result<Opening<S, B>, Fault>
+    hub: &Arc<Hub<B>, Global>,
+) -> Result<Opening<B>, Fault>
     ensures { IfErr result (λ f. f ≡ Fault.NoMemory _) }
 {
     let pending = Queue::new(alloc)?;
@@ -207,17 +204,16 @@ fn open_lines<S: Alter, B: Room, R: Wait>(
 }
 
 /// Starts who reads lines and who answers them. Who answers gives back where the replies went.
-fn start_lines<S, B, R, I, W, C, P>(
+fn start_lines<B, R, I, W, C, P>(
     rt: &R,
     alloc: Global,
-    opening: Opening<S, B>,
+    opening: Opening<B>,
     reader: I,
     writer: W,
     clock: C,
     progress: Option<Progress<P>>,
 ) -> Result<(JoinHandle<(W, Status)>, Sender<Input>), Fault>
 where
-    S: Alter + Send + 'static,
     B: Room + Send + Sync + 'static,
     R: Threads + Wait + time::Clock + Copy + Send + Drop + 'static,
     I: BufRead + Drop + Send + 'static,
@@ -246,17 +242,16 @@ where
 }
 
 /// Starts those who need no line, and counts the tasks that are with workers.
-fn start_others<S, B, R, A, K, C>(
+fn start_others<B, R, A, K, C>(
     rt: &R,
     alloc: Global,
-    hub: &Hub<S, B>,
+    hub: &Hub<B>,
     workers: usize,
     skills: &K,
     clock: C,
     group: &WaitGroup,
 ) -> Result<Tally, Fault>
 where
-    S: Alter + Send + 'static,
     B: Room + Send + Sync + 'static,
     R: Threads + Wait + time::Clock + Copy + Send + Drop + 'static,
     A: Activity + Drop + Send + 'static,
@@ -285,17 +280,16 @@ fn progress_on<P: Write + Drop>(
 }
 
 /// Starts those who need no line, and opens what those need who do.
-fn start_first<S, B, R, A, K, C>(
+fn start_first<B, R, A, K, C>(
     rt: &R,
     alloc: Global,
-    hub: &Arc<Hub<S, B>, Global>,
+    hub: &Arc<Hub<B>, Global>,
     workers: usize,
     skills: &K,
     clock: C,
     group: &WaitGroup,
-) -> Result<(Opening<S, B>, Tally), Fault>
+) -> Result<(Opening<B>, Tally), Fault>
 where
-    S: Alter + Send + 'static,
     B: Room + Send + Sync + 'static,
     R: Threads + Wait + time::Clock + Copy + Send + Drop + 'static,
     A: Activity + Drop + Send + 'static,
@@ -309,10 +303,10 @@ where
 }
 
 /// Starts all threads but the one that serves.
-fn start_all<S, B, R, I, W, A, K, C, P>(
+fn start_all<B, R, I, W, A, K, C, P>(
     rt: &R,
     alloc: Global,
-    hub: &Arc<Hub<S, B>, Global>,
+    hub: &Arc<Hub<B>, Global>,
     reader: I,
     writer: W,
     terminal: Option<P>,
@@ -322,7 +316,6 @@ fn start_all<S, B, R, I, W, A, K, C, P>(
     group: &WaitGroup,
 ) -> Result<(JoinHandle<(W, Status)>, Sender<Input>), Fault>
 where
-    S: Alter + Send + 'static,
     B: Room + Send + Sync + 'static,
     R: Threads + Wait + time::Clock + Copy + Send + Drop + 'static,
     I: BufRead + Drop + Send + 'static,
@@ -354,7 +347,7 @@ pub fn work<S, R, I, W, A, K, C>(
     clock: C,
 ) -> Result<Ended<W>, Fault>
 where
-    S: Alter + Send + 'static,
+    S: Alter,
     R: Threads + Wait + time::Clock + Copy + Send + Drop + 'static,
     I: BufRead + Drop + Send + 'static,
     W: Write + Drop + Send + 'static,
@@ -368,7 +361,7 @@ where
     ensures ends { IfOk result (λ e. IfErr e.served (EndsServing S.Store engine.old engine.new)) }
     ensures goes_on { IfOk result (λ e. OnOk e.served (engine.new.halted ≡ engine.old.halted)) }
     ensures unserved { IfErr result (λ f. (f ≡ Fault.NoMemory _) × (engine.new ≡ engine.old)) }
-    ensures base { engine.new.base ≡ engine.old.base }
+    ensures found { engine.new.found ≡ engine.old.found }
     ensures follows { Follows S.Store engine.old engine.new }
 {
     work_shown(
@@ -397,7 +390,7 @@ pub fn work_shown<S, R, I, W, A, K, C, P>(
     clock: C,
 ) -> Result<Ended<W>, Fault>
 where
-    S: Alter + Send + 'static,
+    S: Alter,
     R: Threads + Wait + time::Clock + Copy + Send + Drop + 'static,
     I: BufRead + Drop + Send + 'static,
     W: Write + Drop + Send + 'static,
@@ -410,7 +403,7 @@ where
     ensures ends { IfOk result (λ e. IfErr e.served (EndsServing S.Store engine.old engine.new)) }
     ensures goes_on { IfOk result (λ e. OnOk e.served (engine.new.halted ≡ engine.old.halted)) }
     ensures unserved { IfErr result (λ f. (f ≡ Fault.NoMemory _) × (engine.new ≡ engine.old)) }
-    ensures base { engine.new.base ≡ engine.old.base }
+    ensures found { engine.new.found ≡ engine.old.found }
     ensures follows { Follows S.Store engine.old engine.new }
 {
     let (group, opened) = begin(alloc)?;
@@ -420,20 +413,20 @@ where
 }
 
 /// The group of the threads that are waited for, and what a hub is made of.
-fn begin<S: Alter>(alloc: Global) -> Result<(WaitGroup, Opened<S>), AllocError> {
+fn begin(alloc: Global) -> Result<(WaitGroup, Opened), AllocError> {
     let group = WaitGroup::new(alloc)?;
     let opened = Opened::new(alloc)?;
     Ok((group, opened))
 }
 
 /// A hub that threads share, and its publisher.
-type Parts<S, B> = (Publisher<S, B>, Arc<Hub<S, B>, Global>);
+type Parts<B> = (Publisher<B>, Arc<Hub<B>, Global>);
 
-fn open_hub<S: Alter, B: Room>(alloc: Global, opened: Opened<S>) -> Result<Parts<S, B>, AllocError>
+fn open_hub<B: Room>(alloc: Global, opened: Opened) -> Result<Parts<B>, AllocError>
     requires room { IsRoomOf opened B.table B.name B.parts }
     ensures { IfOk result (λ p. p.0 ≡ nothing) }
 {
-    let (publisher, hub) = Hub::<S, B>::new(alloc, opened)?;
+    let (publisher, hub) = Hub::<B>::new(alloc, opened)?;
     let hub = Arc::new(alloc, hub)?;
     Ok((publisher, hub))
 }
@@ -442,7 +435,7 @@ fn open_hub<S: Alter, B: Room>(alloc: Global, opened: Opened<S>) -> Result<Parts
 fn serve_new<S: Alter, B: Room, R: Wait, C: Clock>(
     rt: &R,
     engine: &mut Engine<S>,
-    publisher: &mut Publisher<S, B>,
+    publisher: &mut Publisher<B>,
     clock: &C,
     most: usize,
 ) -> Result<(), Fault>
@@ -452,7 +445,7 @@ fn serve_new<S: Alter, B: Room, R: Wait, C: Clock>(
     ensures served { OnOk result (HasServedAll S.Store engine.old engine.new) }
     ensures ends { IfErr result (EndsServing S.Store engine.old engine.new) }
     ensures goes_on { OnOk result (engine.new.halted ≡ engine.old.halted) }
-    ensures base { engine.new.base ≡ engine.old.base }
+    ensures found { engine.new.found ≡ engine.old.found }
     ensures follows { Follows S.Store engine.old engine.new }
 {
     match engine.serve(rt, publisher, clock, most) {
@@ -464,7 +457,7 @@ fn serve_new<S: Alter, B: Room, R: Wait, C: Clock>(
 fn work_in<S, B, R, I, W, A, K, C, P>(
     rt: &R,
     alloc: Global,
-    opened: Opened<S>,
+    opened: Opened,
     group: WaitGroup,
     engine: &mut Engine<S>,
     reader: I,
@@ -475,7 +468,7 @@ fn work_in<S, B, R, I, W, A, K, C, P>(
     clock: C,
 ) -> Result<Ended<W>, Fault>
 where
-    S: Alter + Send + 'static,
+    S: Alter,
     B: Room + Send + Sync + 'static,
     R: Threads + Wait + time::Clock + Copy + Send + Drop + 'static,
     I: BufRead + Drop + Send + 'static,
@@ -490,10 +483,10 @@ where
     ensures ends { IfOk result (λ e. IfErr e.served (EndsServing S.Store engine.old engine.new)) }
     ensures goes_on { IfOk result (λ e. OnOk e.served (engine.new.halted ≡ engine.old.halted)) }
     ensures unserved { IfErr result (λ f. (f ≡ Fault.NoMemory _) × (engine.new ≡ engine.old)) }
-    ensures base { engine.new.base ≡ engine.old.base }
+    ensures found { engine.new.found ≡ engine.old.found }
     ensures follows { Follows S.Store engine.old engine.new }
 {
-    let (mut publisher, hub) = open_hub::<S, B>(alloc, opened)?;
+    let (mut publisher, hub) = open_hub::<B>(alloc, opened)?;
     let started = start_all(
         rt,
         alloc,

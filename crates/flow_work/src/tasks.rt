@@ -6,26 +6,25 @@ use flow_hub::feed::Feed;
 use flow_hub::seats::Room;
 use flow_machine::task::Task;
 use flow_pool::dispatcher::Posted;
-use sqlite::Alter;
 use std::sync::Wait;
 
 /// The tasks that are posted to a hub.
 #[derive(Drop)]
-pub(crate) struct Tasks<S: Alter, B: Room> {
-    feed: Feed<S, B>,
+pub(crate) struct Tasks<B: Room> {
+    feed: Feed<B>,
     tally: Tally,
 }
 
-impl<S: Alter, B: Room> Tasks<S, B> {
+impl<B: Room> Tasks<B> {
     /// The tasks that this hub gives out, counted.
-    pub(crate) fn new(feed: Feed<S, B>, tally: Tally) -> Tasks<S, B>
+    pub(crate) fn new(feed: Feed<B>, tally: Tally) -> Tasks<B>
         ensures { result.feed ≡ feed }
     {
         Tasks { feed, tally }
     }
 }
 
-impl<S: Alter, B: Room> Posted for Tasks<S, B> {
+impl<B: Room> Posted for Tasks<B> {
     ghost use Rattle.std.specs.Prelude.{◌≡◌, true};
 
     // All that the hub has given out.

@@ -4,19 +4,18 @@ ghost use Rattle.flow_work.specs.Firing.{Fires};
 use crate::reports::Reporter;
 use flow_hub::seats::Room;
 use flow_timers::Clock;
-use sqlite::Alter;
 use std::sync::Wait;
 use std::{thread, time};
 
 /// Submits a tick as soon as something is due by the clock, waits for its answer, and goes on, until nothing is answered any more.
 /// After E01, E80 and E90 it asks again what is due.
 #[tactic(auto, using(crate::proofs::Firing::fires_none))]
-pub(crate) fn fire_timers<R: Wait + time::Clock, S: Alter, B: Room, C: Clock>(
+pub(crate) fn fire_timers<R: Wait + time::Clock, B: Room, C: Clock>(
     rt: &R,
-    reports: Reporter<S, B>,
+    reports: Reporter<B>,
     clock: &C,
-) -> Reporter<S, B>
-    ensures { Fires S.Store (C.tells clock.now) result.submitter.was reports.told result.told }
+) -> Reporter<B>
+    ensures { Fires (C.tells clock.now) result.submitter.was reports.told result.told }
 {
     let mut reports = reports;
     'ticks: for _ in rt.forever() {

@@ -6,7 +6,6 @@ use flow_hub::feed::Feed;
 use flow_hub::hub::Hub;
 use flow_hub::seats::{Opened, Room};
 use flow_hub::submitter::Submitter;
-use sqlite::{Alter, MemStore};
 use std::alloc::Global;
 use std::marker::Brand;
 use std::sync::Wait;
@@ -14,10 +13,10 @@ use std::test::*;
 use std::time::Clock as Timing;
 
 /// Whether there is a task, a tick, and an end to rest for.
-fn asked_all<S: Alter, B: Room, R: Wait + Timing>(
+fn asked_all<B: Room, R: Wait + Timing>(
     rt: &R,
-    feed: &mut Feed<S, B>,
-    submitter: &mut Submitter<S, B>,
+    feed: &mut Feed<B>,
+    submitter: &mut Submitter<B>,
     clock: &Still,
 ) -> [bool; 3] {
     let task = feed.next(rt).is_some();
@@ -29,11 +28,11 @@ fn asked_all<S: Alter, B: Room, R: Wait + Timing>(
 fn closed<B: Room, R: Wait + Timing>(
     rt: &R,
     alloc: Global,
-    opened: Opened<MemStore>,
+    opened: Opened,
 ) -> Option<(bool, [bool; 3])>
     requires { IsRoomOf opened B.table B.name B.parts }
 {
-    let (_publisher, hub) = Hub::<MemStore, B>::new(alloc, opened).ok()?;
+    let (_publisher, hub) = Hub::<B>::new(alloc, opened).ok()?;
     let clock = Still::at(1000)?;
     let mut feed = hub.feed(rt).ok()??;
     let second = hub.feed(rt).ok()?.is_some();

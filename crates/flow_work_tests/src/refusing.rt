@@ -8,15 +8,14 @@ use flow_hub::publisher::Publisher;
 use flow_hub::seats::Room;
 use flow_hub::submitter::Submitter;
 use flow_hub::ticket::{NotDone, Ticket};
-use sqlite::Alter;
 use std::alloc::Global;
 use std::sync::Wait;
 
 /// Waits for commands, takes up to `most`, and answers them by a code. False: the hub is closed, and nothing waited.
-pub fn refuse_next<S: Alter, B: Room, R: Wait>(
+pub fn refuse_next<B: Room, R: Wait>(
     rt: &R,
     alloc: Global,
-    publisher: &mut Publisher<S, B>,
+    publisher: &mut Publisher<B>,
     most: usize,
     code: Code,
 ) -> Option<bool>
@@ -32,10 +31,10 @@ pub fn refuse_next<S: Alter, B: Room, R: Wait>(
 }
 
 /// Answers by E84 so often, or until the hub is closed and nothing waits. False where memory was refused.
-pub fn refuse_often<S: Alter, B: Room, R: Wait>(
+pub fn refuse_often<B: Room, R: Wait>(
     rt: &R,
     alloc: Global,
-    publisher: &mut Publisher<S, B>,
+    publisher: &mut Publisher<B>,
     times: u64,
 ) -> bool
     requires { publisher.old.held ≡ [] }
@@ -52,9 +51,9 @@ pub fn refuse_often<S: Alter, B: Room, R: Wait>(
 }
 
 /// Submits a command that asks for this run, or gives the number of the refusal and the run of the command that comes back.
-pub fn submit<S: Alter, B: Room, R: Wait>(
+pub fn submit<B: Room, R: Wait>(
     rt: &R,
-    submitter: &mut Submitter<S, B>,
+    submitter: &mut Submitter<B>,
     run: u64,
 ) -> Result<Ticket, (u8, u64)> {
     let command = describe(run).ok_or((0, 0))?;
@@ -65,11 +64,7 @@ pub fn submit<S: Alter, B: Room, R: Wait>(
 }
 
 /// The same, of which only the refusal is told: `(0, 0)` where it is taken in.
-pub fn denied<S: Alter, B: Room, R: Wait>(
-    rt: &R,
-    submitter: &mut Submitter<S, B>,
-    run: u64,
-) -> (u8, u64) {
+pub fn denied<B: Room, R: Wait>(rt: &R, submitter: &mut Submitter<B>, run: u64) -> (u8, u64) {
     match submit(rt, submitter, run) {
         Ok(_ticket) => (0, 0),
         Err(told) => told,
@@ -89,11 +84,7 @@ pub fn told_instead(instead: &NotDone) -> (u8, u64) {
 }
 
 /// Waits with a ticket: `(0, 0)` where there is a receipt.
-pub fn told<S: Alter, B: Room, R: Wait>(
-    rt: &R,
-    submitter: &mut Submitter<S, B>,
-    ticket: Ticket,
-) -> (u8, u64) {
+pub fn told<B: Room, R: Wait>(rt: &R, submitter: &mut Submitter<B>, ticket: Ticket) -> (u8, u64) {
     match submitter.wait(rt, ticket) {
         Ok(_receipt) => (0, 0),
         Err(instead) => told_instead(&instead),

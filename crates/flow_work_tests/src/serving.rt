@@ -15,7 +15,7 @@ use flow_hub::submitter::Submitter;
 use flow_hub::ticket::Ticket;
 use flow_machine::submission::Receipt;
 use flow_settings::settings::Settings;
-use sqlite::{Alter, Connection, MemStore};
+use sqlite::Connection;
 use std::alloc::Global;
 use std::marker::Brand;
 use std::sync::Wait;
@@ -56,19 +56,15 @@ fn told_of(receipt: &Receipt) -> Told {
     }
 }
 
-pub fn submitted<S: Alter, B: Room, R: Wait>(
+pub fn submitted<B: Room, R: Wait>(
     rt: &R,
-    submitter: &mut Submitter<S, B>,
+    submitter: &mut Submitter<B>,
     command: Command,
 ) -> Option<Ticket> {
     submitter.submit(rt, command).ok()
 }
 
-pub fn fetched<S: Alter, B: Room, R: Wait>(
-    rt: &R,
-    submitter: &mut Submitter<S, B>,
-    ticket: Ticket,
-) -> Told {
+pub fn fetched<B: Room, R: Wait>(rt: &R, submitter: &mut Submitter<B>, ticket: Ticket) -> Told {
     match submitter.wait(rt, ticket) {
         Ok(receipt) => told_of(&receipt),
         Err(_instead) => Told { place: 0, named: 0 },
@@ -79,7 +75,7 @@ pub fn fetched<S: Alter, B: Room, R: Wait>(
 pub fn serve<B: Room, R: Wait>(
     rt: &R,
     alloc: Global,
-    publisher: &mut Publisher<MemStore, B>,
+    publisher: &mut Publisher<B>,
     clock: Still,
 ) -> Option<bool>
     requires { (publisher.old.history ≡ []) × (publisher.old.last ≡ []) × (publisher.old.held ≡ []) }
@@ -99,8 +95,8 @@ pub fn serve<B: Room, R: Wait>(
 fn served_over<B: Room, R: Wait>(
     rt: &R,
     alloc: Global,
-    publisher: &mut Publisher<MemStore, B>,
-    hub: &Hub<MemStore, B>,
+    publisher: &mut Publisher<B>,
+    hub: &Hub<B>,
 ) -> Option<(Told, Told, u64)>
     requires { (publisher.old.history ≡ []) × (publisher.old.last ≡ []) × (publisher.old.held ≡ []) }
 {
@@ -117,14 +113,10 @@ fn served_over<B: Room, R: Wait>(
     Some((first, second, submitter.published()))
 }
 
-fn served<B: Room, R: Wait>(
-    rt: &R,
-    alloc: Global,
-    opened: Opened<MemStore>,
-) -> Option<(Told, Told, u64)>
+fn served<B: Room, R: Wait>(rt: &R, alloc: Global, opened: Opened) -> Option<(Told, Told, u64)>
     requires { IsRoomOf opened B.table B.name B.parts }
 {
-    let (mut publisher, hub) = Hub::<MemStore, B>::new(alloc, opened).ok()?;
+    let (mut publisher, hub) = Hub::<B>::new(alloc, opened).ok()?;
     served_over(rt, alloc, &mut publisher, &hub)
 }
 

@@ -8,7 +8,6 @@ use flow_hub::publisher::Publisher;
 use flow_hub::seats::{Opened, Room};
 use flow_hub::settled::Settled;
 use flow_hub::submitter::Submitter;
-use sqlite::{Alter, MemStore};
 use std::alloc::Global;
 use std::marker::Brand;
 use std::sync::Wait;
@@ -16,11 +15,7 @@ use std::test::*;
 use std::thread::{Threads, join};
 
 /// Submits a command that asks for this run, and waits: whether that command comes back, answered by E84.
-fn comes_back<S: Alter, B: Room, R: Wait>(
-    rt: &R,
-    submitter: &mut Submitter<S, B>,
-    run: u64,
-) -> bool {
+fn comes_back<B: Room, R: Wait>(rt: &R, submitter: &mut Submitter<B>, run: u64) -> bool {
     match submit(rt, submitter, run) {
         Ok(ticket) => {
             let (code, back) = told(rt, submitter, ticket);
@@ -31,12 +26,7 @@ fn comes_back<S: Alter, B: Room, R: Wait>(
 }
 
 /// Asks for the runs from `first` to before `end` one after the other, and counts the commands that come back.
-fn counted<S: Alter, B: Room, R: Wait>(
-    rt: &R,
-    submitter: &mut Submitter<S, B>,
-    first: u64,
-    end: u64,
-) -> u64 {
+fn counted<B: Room, R: Wait>(rt: &R, submitter: &mut Submitter<B>, first: u64, end: u64) -> u64 {
     let mut count: u64 = 0;
     for run in first..end {
         if comes_back(rt, submitter, run) {
@@ -49,9 +39,9 @@ fn counted<S: Alter, B: Room, R: Wait>(
 /// Submits on two threads, counts the tickets, and closes the hub.
 fn raced<B: Room + Send + Sync, R: Threads + Wait + Sync>(
     rt: &R,
-    hub: &Hub<MemStore, B>,
-    mut a: Submitter<MemStore, B>,
-    mut b: Submitter<MemStore, B>,
+    hub: &Hub<B>,
+    mut a: Submitter<B>,
+    mut b: Submitter<B>,
 ) -> (u64, u64, Option<Settled>) {
     let (one, two) = join(
         rt,
@@ -76,8 +66,8 @@ fn raced<B: Room + Send + Sync, R: Threads + Wait + Sync>(
 fn served_over<B: Room + Send + Sync, R: Threads + Wait + Sync>(
     rt: &R,
     alloc: Global,
-    publisher: Publisher<MemStore, B>,
-    hub: &Hub<MemStore, B>,
+    publisher: Publisher<B>,
+    hub: &Hub<B>,
 ) -> Option<(u64, u64, Option<Settled>)>
     requires { publisher.held ≡ [] }
 {
@@ -97,11 +87,11 @@ fn served_over<B: Room + Send + Sync, R: Threads + Wait + Sync>(
 fn served<B: Room + Send + Sync, R: Threads + Wait + Sync>(
     rt: &R,
     alloc: Global,
-    opened: Opened<MemStore>,
+    opened: Opened,
 ) -> Option<(u64, u64, Option<Settled>)>
     requires { IsRoomOf opened B.table B.name B.parts }
 {
-    let (publisher, hub) = Hub::<MemStore, B>::new(alloc, opened).ok()?;
+    let (publisher, hub) = Hub::<B>::new(alloc, opened).ok()?;
     served_over(rt, alloc, publisher, &hub)
 }
 

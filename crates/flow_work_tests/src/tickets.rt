@@ -9,18 +9,13 @@ use flow_hub::publisher::Publisher;
 use flow_hub::seats::{Opened, Room};
 use flow_hub::submitter::Submitter;
 use flow_hub::ticket::{NotDone, Ticket};
-use sqlite::{Alter, MemStore};
 use std::alloc::Global;
 use std::marker::Brand;
 use std::sync::Wait;
 use std::test::*;
 
 /// Submits so many commands, and keeps the first ticket.
-fn fill<S: Alter, B: Room, R: Wait>(
-    rt: &R,
-    submitter: &mut Submitter<S, B>,
-    count: u64,
-) -> Option<Ticket> {
+fn fill<B: Room, R: Wait>(rt: &R, submitter: &mut Submitter<B>, count: u64) -> Option<Ticket> {
     let first = submit(rt, submitter, 1).ok()?;
     for n in 1..count {
         if denied(rt, submitter, n) != (0, 0) {
@@ -32,11 +27,11 @@ fn fill<S: Alter, B: Room, R: Wait>(
 
 /// What is told where 1,024 commands are submitted and none is taken, where all are answered and none is fetched, of the first
 /// one's ticket, and then.
-fn overfilled<S: Alter, B: Room, R: Wait>(
+fn overfilled<B: Room, R: Wait>(
     rt: &R,
     alloc: Global,
-    publisher: &mut Publisher<S, B>,
-    submitter: &mut Submitter<S, B>,
+    publisher: &mut Publisher<B>,
+    submitter: &mut Submitter<B>,
 ) -> Option<[(u8, u64); 4]>
     requires { publisher.old.held ≡ [] }
 {
@@ -50,10 +45,10 @@ fn overfilled<S: Alter, B: Room, R: Wait>(
     Some([untaken, unfetched, fetched, denied(rt, submitter, 2002)])
 }
 
-fn full<B: Room, R: Wait>(rt: &R, alloc: Global, opened: Opened<MemStore>) -> Option<[(u8, u64); 4]>
+fn full<B: Room, R: Wait>(rt: &R, alloc: Global, opened: Opened) -> Option<[(u8, u64); 4]>
     requires { IsRoomOf opened B.table B.name B.parts }
 {
-    let (mut publisher, hub) = Hub::<MemStore, B>::new(alloc, opened).ok()?;
+    let (mut publisher, hub) = Hub::<B>::new(alloc, opened).ok()?;
     let mut submitter = hub.submitter(rt).ok()?;
     overfilled(rt, alloc, &mut publisher, &mut submitter)
 }
@@ -67,12 +62,12 @@ fn a_full_hub_takes_nothing_in(rt: HostRuntime) -> Result<(), Fail> {
 }
 
 /// What is told of an answered ticket with another submitter, and then with its own.
-fn lent_ticket<S: Alter, B: Room, R: Wait>(
+fn lent_ticket<B: Room, R: Wait>(
     rt: &R,
     alloc: Global,
-    publisher: &mut Publisher<S, B>,
-    owner: &mut Submitter<S, B>,
-    other: &mut Submitter<S, B>,
+    publisher: &mut Publisher<B>,
+    owner: &mut Submitter<B>,
+    other: &mut Submitter<B>,
 ) -> Option<[(u8, u64); 2]>
     requires { publisher.old.held ≡ [] }
 {
@@ -92,8 +87,8 @@ fn lent_ticket<S: Alter, B: Room, R: Wait>(
 fn lent_between<B: Room, R: Wait>(
     rt: &R,
     alloc: Global,
-    publisher: &mut Publisher<MemStore, B>,
-    hub: &Hub<MemStore, B>,
+    publisher: &mut Publisher<B>,
+    hub: &Hub<B>,
 ) -> Option<[(u8, u64); 2]>
     requires { publisher.old.held ≡ [] }
 {
@@ -102,10 +97,10 @@ fn lent_between<B: Room, R: Wait>(
     lent_ticket(rt, alloc, publisher, &mut owner, &mut other)
 }
 
-fn lent<B: Room, R: Wait>(rt: &R, alloc: Global, opened: Opened<MemStore>) -> Option<[(u8, u64); 2]>
+fn lent<B: Room, R: Wait>(rt: &R, alloc: Global, opened: Opened) -> Option<[(u8, u64); 2]>
     requires { IsRoomOf opened B.table B.name B.parts }
 {
-    let (mut publisher, hub) = Hub::<MemStore, B>::new(alloc, opened).ok()?;
+    let (mut publisher, hub) = Hub::<B>::new(alloc, opened).ok()?;
     lent_between(rt, alloc, &mut publisher, &hub)
 }
 
@@ -118,10 +113,10 @@ fn a_ticket_is_its_submitters_own(rt: HostRuntime) -> Result<(), Fail> {
 }
 
 /// One command is taken and answered E84, the hub closed, and what waits answered E85. Whether more can come.
-fn refuse_and_close<S: Alter, B: Room, R: Wait>(
+fn refuse_and_close<B: Room, R: Wait>(
     rt: &R,
     alloc: Global,
-    publisher: &mut Publisher<S, B>,
+    publisher: &mut Publisher<B>,
 ) -> Option<bool>
     requires { publisher.old.held ≡ [] }
 {
@@ -132,11 +127,11 @@ fn refuse_and_close<S: Alter, B: Room, R: Wait>(
 }
 
 /// What is told of two commands before the closing and of one after it, where nothing more can come.
-fn closed_on<S: Alter, B: Room, R: Wait>(
+fn closed_on<B: Room, R: Wait>(
     rt: &R,
     alloc: Global,
-    publisher: &mut Publisher<S, B>,
-    submitter: &mut Submitter<S, B>,
+    publisher: &mut Publisher<B>,
+    submitter: &mut Submitter<B>,
 ) -> Option<[(u8, u64); 3]>
     requires { publisher.old.held ≡ [] }
 {
@@ -150,14 +145,10 @@ fn closed_on<S: Alter, B: Room, R: Wait>(
     Some([first, second, denied(rt, submitter, 3)])
 }
 
-fn halted<B: Room, R: Wait>(
-    rt: &R,
-    alloc: Global,
-    opened: Opened<MemStore>,
-) -> Option<[(u8, u64); 3]>
+fn halted<B: Room, R: Wait>(rt: &R, alloc: Global, opened: Opened) -> Option<[(u8, u64); 3]>
     requires { IsRoomOf opened B.table B.name B.parts }
 {
-    let (mut publisher, hub) = Hub::<MemStore, B>::new(alloc, opened).ok()?;
+    let (mut publisher, hub) = Hub::<B>::new(alloc, opened).ok()?;
     let mut submitter = hub.submitter(rt).ok()?;
     closed_on(rt, alloc, &mut publisher, &mut submitter)
 }

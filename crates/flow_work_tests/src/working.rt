@@ -16,7 +16,6 @@ use flow_hub::publisher::Publisher;
 use flow_hub::seats::{Opened, Room};
 use flow_hub::submitter::Submitter;
 use flow_machine::task::Task;
-use sqlite::{Alter, MemStore};
 use std::alloc::Global;
 use std::marker::Brand;
 use std::sync::Wait;
@@ -54,9 +53,9 @@ fn report(task: &Task) -> Option<Command> {
 }
 
 /// Submits a command and waits for its receipt.
-fn answered<S: Alter, B: Room, R: Wait>(
+fn answered<B: Room, R: Wait>(
     rt: &R,
-    submitter: &mut Submitter<S, B>,
+    submitter: &mut Submitter<B>,
     command: Option<Command>,
 ) -> Option<Told> {
     let ticket = submitted(rt, submitter, command?)?;
@@ -64,10 +63,10 @@ fn answered<S: Alter, B: Room, R: Wait>(
 }
 
 /// Fetches the next task and reports it.
-fn done_next<S: Alter, B: Room, R: Wait>(
+fn done_next<B: Room, R: Wait>(
     rt: &R,
-    feed: &mut Feed<S, B>,
-    submitter: &mut Submitter<S, B>,
+    feed: &mut Feed<B>,
+    submitter: &mut Submitter<B>,
 ) -> Option<(u64, u64, u64)> {
     let task = feed.next(rt)?;
     answered(rt, submitter, report(&task))?;
@@ -75,11 +74,11 @@ fn done_next<S: Alter, B: Room, R: Wait>(
 }
 
 /// Submits what there is to do, does it, and rests.
-fn worked<S: Alter, B: Room, R: Wait + Timing>(
+fn worked<B: Room, R: Wait + Timing>(
     rt: &R,
     alloc: Global,
-    feed: &mut Feed<S, B>,
-    submitter: &mut Submitter<S, B>,
+    feed: &mut Feed<B>,
+    submitter: &mut Submitter<B>,
     clock: &Still,
 ) -> Option<Seen> {
     answered(rt, submitter, register(alloc))?;
@@ -99,8 +98,8 @@ fn worked<S: Alter, B: Room, R: Wait + Timing>(
 fn served_over<B: Room + Send + Sync, R: Threads + Wait + Timing + Sync>(
     rt: &R,
     alloc: Global,
-    publisher: Publisher<MemStore, B>,
-    hub: &Hub<MemStore, B>,
+    publisher: Publisher<B>,
+    hub: &Hub<B>,
 ) -> Option<Seen>
     requires { (publisher.history ≡ []) × (publisher.last ≡ []) × (publisher.held ≡ []) }
 {
@@ -126,11 +125,11 @@ fn served_over<B: Room + Send + Sync, R: Threads + Wait + Timing + Sync>(
 fn served<B: Room + Send + Sync, R: Threads + Wait + Timing + Sync>(
     rt: &R,
     alloc: Global,
-    opened: Opened<MemStore>,
+    opened: Opened,
 ) -> Option<Seen>
     requires { IsRoomOf opened B.table B.name B.parts }
 {
-    let (publisher, hub) = Hub::<MemStore, B>::new(alloc, opened).ok()?;
+    let (publisher, hub) = Hub::<B>::new(alloc, opened).ok()?;
     served_over(rt, alloc, publisher, &hub)
 }
 

@@ -69,10 +69,11 @@ fn engine_over<S: Alter + Drop>(rt: &HostRuntime, conn: Connection<S>) -> Result
 }
 
 /// Runs the engine from standard input to standard output.
-fn keep_running<
-    S: Alter + Send + 'static,
-    T: Threads + Wait + Clock + Copy + Send + Drop + 'static,
->(rt: &HostRuntime, threads: &T, engine: &mut Engine<S>) -> Result<u8, Fault>
+fn keep_running<S: Alter, T: Threads + Wait + Clock + Copy + Send + Drop + 'static>(
+    rt: &HostRuntime,
+    threads: &T,
+    engine: &mut Engine<S>,
+) -> Result<u8, Fault>
     requires { engine.old.log ≡ [] }
 {
     let reader = match BufReader::new(rt.alloc(), rt.reader()) {

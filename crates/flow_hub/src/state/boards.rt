@@ -16,20 +16,19 @@ use flow_base::number::Moment;
 use flow_commit::board::Board;
 use flow_machine::task::Task;
 use flow_queues::posting::{Keys, add_all, push_marked};
-use sqlite::Alter;
 use std::alloc::{AllocError, Global};
 
-impl<S: Alter, B: Room> State<S, B> {
+impl<B: Room> State<B> {
     /// Posts those of the board's tasks that weren't posted before, and joins their keys to those of all that was. Where room for
     /// them is refused the board comes back, and nothing is posted.
     pub(crate) fn post(
         &mut self,
         alloc: Global,
-        seats: &Seats<S, B>,
-        me: Pass<S, B>,
+        seats: &Seats<B>,
+        me: Pass<B>,
         keys: &mut Keys,
         board: Board,
-    ) -> (Pass<S, B>, Result<(), (Board, AllocError)>)
+    ) -> (Pass<B>, Result<(), (Board, AllocError)>)
         requires seat { IsPublishers me }
         requires keys { HasKeys keys.old me.was.posted }
         ensures posted { OnOk result.1 (self.new ≡ posted_on self.old board.tasks (record { due = board.due; open_runs = board.open_runs })) }
@@ -57,7 +56,7 @@ impl<S: Alter, B: Room> State<S, B> {
     }
 
     /// No board this time.
-    pub(crate) fn skip(&mut self, seats: &Seats<S, B>, me: Pass<S, B>) -> Pass<S, B>
+    pub(crate) fn skip(&mut self, seats: &Seats<B>, me: Pass<B>) -> Pass<B>
         requires seat { IsPublishers me }
         ensures skipped { self.new ≡ skipped self.old }
         ensures seat { result ≡ seeing true false self.new.known }
@@ -69,7 +68,7 @@ impl<S: Alter, B: Room> State<S, B> {
     }
 
     /// The seat that gives tasks out, where nobody has it yet.
-    pub(crate) fn take_feed(&mut self) -> Option<Pass<S, B>>
+    pub(crate) fn take_feed(&mut self) -> Option<Pass<B>>
         ensures same { self.new ≡ self.old }
         ensures seat { IfSome result (λ p. p ≡ seeing false true nothing) }
     {
@@ -77,7 +76,7 @@ impl<S: Alter, B: Room> State<S, B> {
     }
 
     /// The next task that waits, if one does and the hub isn't closed.
-    pub(crate) fn give(&mut self, seats: &Seats<S, B>, me: Pass<S, B>) -> (Pass<S, B>, Option<Task>)
+    pub(crate) fn give(&mut self, seats: &Seats<B>, me: Pass<B>) -> (Pass<B>, Option<Task>)
         requires seat { IsGivers me }
         ensures given { MatchOption result.1 (self.new ≡ self.old) (λ t. (self.old.tasks ≡ t ∷ self.new.tasks) × (self.new ≡ gave self.old t self.new.tasks)) }
         ensures seat { result.0 ≡ seeing false true self.new.known }
@@ -96,11 +95,7 @@ impl<S: Alter, B: Room> State<S, B> {
     }
 
     /// When more is to be done, as the last board says, if nothing was answered since.
-    pub(crate) fn due(
-        &mut self,
-        seats: &Seats<S, B>,
-        me: Pass<S, B>,
-    ) -> (Pass<S, B>, Option<Moment>)
+    pub(crate) fn due(&mut self, seats: &Seats<B>, me: Pass<B>) -> (Pass<B>, Option<Moment>)
         requires seat { IsSubmitters me }
         ensures same { self.new ≡ self.old }
         ensures due { result.1 ≡ due_in result.0.was }
@@ -125,7 +120,7 @@ impl<S: Alter, B: Room> State<S, B> {
     }
 
     /// Whether all that was submitted is answered, and the board that was made then says that no run is open.
-    pub(crate) fn is_idle(&mut self, seats: &Seats<S, B>, me: Pass<S, B>) -> (Pass<S, B>, bool)
+    pub(crate) fn is_idle(&mut self, seats: &Seats<B>, me: Pass<B>) -> (Pass<B>, bool)
         requires seat { IsSubmitters me }
         ensures same { self.new ≡ self.old }
         ensures idle { result.1 ≡ true → IsIdle result.0.was }
@@ -150,7 +145,7 @@ impl<S: Alter, B: Room> State<S, B> {
     }
 
     /// Whether nothing is left to be done, and what is if not.
-    pub(crate) fn rest(&mut self, seats: &Seats<S, B>, me: Pass<S, B>) -> (Pass<S, B>, Rested)
+    pub(crate) fn rest(&mut self, seats: &Seats<B>, me: Pass<B>) -> (Pass<B>, Rested)
         requires seat { IsSubmitters me }
         ensures same { self.new ≡ self.old }
         ensures rested { IsRested result.0.was result.1 }

@@ -6,26 +6,30 @@ use Rattle.flow_view.specs.Codes.{view_fault_code}
 use Rattle.flow_queues.specs.Refusing.{refused_by}
 use Rattle.flow_hub.specs.Publishing.{InHand}
 use Rattle.flow_hub.proofs.Serving.{receipts_answer, refused_together}
-use Rattle.flow_commit.specs.Keeping.{Keeping}
+use Rattle.flow_commit.specs.Keeping.{Keeping, account_of}
 use Rattle.flow_commit.specs.Committing.{IsRefusedFor}
 use Rattle.flow_commit.specs.declared.outcome.Outcome.TheVariants as outcomes
 use Rattle.flow_engine.specs.declared.done.Done.TheVariants as dones
 use Rattle.flow_engine.proofs.GivingUp.{refused_done}
-use Rattle.flow_engine.proofs.Serving.{gives_these}
+use Rattle.flow_engine.proofs.Serving.{gives_these, same_base}
 use Rattle.flow_engine.proofs.serve.commit_taken.Goals as goal
 
 -- the receipts are those of the stamp, and answer what was taken
 pub publish-requires : goal.publish-requires
 publish-requires g c =
     let noted = c.in-Kept.ensures.noted in
-    record { answers = receipts_answer c.args.engine.now c.commit.new.self c.args.publisher.now c.in-Kept.stamp c.args.batch c.in-Kept.receipts.items c.requires.hand c.commit.ensures.base noted.3 noted.4 noted.5 }
+    let old = account_of g.S.Store c.args.engine.now in
+    let new = account_of g.S.Store c.commit.new.self in
+    let base = same_base g.S.Store c.args.engine.now c.commit.new.self c.commit.ensures.found c.commit.ensures.same in
+    record { answers = receipts_answer old new c.args.publisher.now c.in-Kept.stamp c.args.batch c.in-Kept.receipts.items c.requires.hand base noted.3 noted.4 noted.5 }
 
 pub returns-in-NotApplied-clause-together : goal.returns-in-NotApplied-clause-together
 returns-in-NotApplied-clause-together g c =
+    let old = account_of g.S.Store c.args.engine.now in
     let noted = c.in-NotApplied.ensures.noted in
     let same = c.into_taken.ensures.same ∙ noted.3 in
-    let hand = subst (λ (ts : List Taken). InHand c.args.engine.now c.args.publisher.now ts) (sym same) c.requires.hand in
-    refused_together c.args.engine.now c.commit.new.self c.args.publisher.now c.refuse.new.self c.into_taken.result.items c.code.result hand noted.2 c.commit.ensures.base c.refuse.ensures.refused
+    let hand = subst (λ (ts : List Taken). InHand old c.args.publisher.now ts) (sym same) c.requires.hand in
+    refused_together old (account_of g.S.Store c.commit.new.self) c.args.publisher.now c.refuse.new.self c.into_taken.result.items c.code.result hand noted.2 (same_base g.S.Store c.args.engine.now c.commit.new.self c.commit.ensures.found c.commit.ensures.same) c.refuse.ensures.refused
 
 pub returns-in-NotApplied-clause-given_up : goal.returns-in-NotApplied-clause-given_up
 returns-in-NotApplied-clause-given_up g c =
@@ -35,10 +39,11 @@ returns-in-NotApplied-clause-given_up g c =
 
 pub returns-in-Unknown-clause-together : goal.returns-in-Unknown-clause-together
 returns-in-Unknown-clause-together g c =
+    let old = account_of g.S.Store c.args.engine.now in
     let noted = c.in-Unknown.ensures.noted in
     let same = c.into_taken-in-Unknown.ensures.same ∙ noted.3 in
-    let hand = subst (λ (ts : List Taken). InHand c.args.engine.now c.args.publisher.now ts) (sym same) c.requires.hand in
-    refused_together c.args.engine.now c.commit.new.self c.args.publisher.now c.refuse-in-Unknown.new.self c.into_taken-in-Unknown.result.items _ hand noted.2 c.commit.ensures.base c.refuse-in-Unknown.ensures.refused
+    let hand = subst (λ (ts : List Taken). InHand old c.args.publisher.now ts) (sym same) c.requires.hand in
+    refused_together old (account_of g.S.Store c.commit.new.self) c.args.publisher.now c.refuse-in-Unknown.new.self c.into_taken-in-Unknown.result.items _ hand noted.2 (same_base g.S.Store c.args.engine.now c.commit.new.self c.commit.ensures.found c.commit.ensures.same) c.refuse-in-Unknown.ensures.refused
 
 -- what has become of the batch
 pub returns-in-Kept-clause-answered : goal.returns-in-Kept-clause-answered

@@ -60,7 +60,7 @@ loop-init g c =
       served = served_still g.S.Store c.args.engine.now c.args.engine.now c.post_board.new.engine c.args.publisher.now.refused c.args.publisher.now.refused c.post_board.new.publisher.refused
           (none_served g.S.Store c.args.engine.now c.args.publisher.now.refused) b.still b.refused;
       gives = gives_none c.args.publisher.now.refused c.post_board.new.publisher.refused b.refused;
-      base = b.still.base;
+      found = b.still.found;
       follows = b.still.follows;
       grows = b.grows;
       boarded = b.boarded;
@@ -89,7 +89,7 @@ loop-preserved g c =
       gives = subst (GivesUp was) (sym b.refused) gives;
       served = served_still g.S.Store old kept c.post_board-in-loop.new.engine was told.refused c.post_board-in-loop.new.publisher.refused
           (served_more g.S.Store old c.loop.engine kept was c.loop.publisher.refused told.refused i.served c.of.result one) b.still b.refused;
-      base = b.still.base ∙ (c.commit_taken.ensures.base ∙ i.base);
+      found = b.still.found ∙ (c.commit_taken.ensures.found ∙ i.found);
       follows = follows_then g.S.Store c.args.engine.now kept c.post_board-in-loop.new.engine (follows_then g.S.Store c.args.engine.now c.loop.engine kept i.follows c.commit_taken.ensures.follows) b.still.follows;
       grows =
           before_trans c.args.publisher.now told c.post_board-in-loop.new.publisher

@@ -1,5 +1,6 @@
 use Rattle.std.proofs.Common.{◌≡◌, ◌≤◌, true, []}
 use Rattle.std.specs.Vec.{vec_capacity}
+use Rattle.flow_commit.specs.Keeping.{account_of}
 use Rattle.flow_hub.specs.Knowing.{IsBefore}
 use Rattle.flow_hub.specs.Publishing.{Together}
 use Rattle.flow_engine.specs.Answering.{Follows}
@@ -11,12 +12,12 @@ use Rattle.flow_engine.proofs.serve.serve_all.Given as goal
 abbrev pub invariant-loop : goal.invariant-loop
 invariant-loop g l =
     record {
-      together : Together l.engine l.publisher;
+      together : Together (account_of g.S.Store l.engine) l.publisher;
       halted : l.engine.halted ≡ l.fn.engine.halted;
       still : l.engine.halted ≡ true → (l.engine ≡ l.fn.engine) × (l.publisher.refused ≡ l.fn.publisher.refused);
       gives : GivesUp l.fn.publisher.refused l.publisher.refused;
       served : Served g.S.Store l.fn.engine l.engine l.fn.publisher.refused l.publisher.refused;
-      base : l.engine.base ≡ l.fn.engine.base;
+      found : l.engine.found ≡ l.fn.engine.found;
       follows : Follows g.S.Store l.fn.engine l.engine;
       grows : IsBefore l.fn.publisher l.publisher;
       boarded : l.publisher.boarded ≡ true;

@@ -6,7 +6,7 @@ pub returns-then-not-fire : goal.returns-then-not-fire
 returns-then-not-fire g c =
     let old = c.ticks.reports in
     let new = c.fire.new.self in
-    fires_end g.S.Store (g.C.Clock.tells c.args.clock.now) old.submitter.was new.submitter.was c.args.reports.told old.told new.told c.fire.result c.if-not-fire.true c.fire.ensures.grows c.ticks.invariant.2 c.fire.ensures.fires
+    fires_end (g.C.Clock.tells c.args.clock.now) old.submitter.was new.submitter.was c.args.reports.told old.told new.told c.fire.result c.if-not-fire.true c.fire.ensures.grows c.ticks.invariant.2 c.fire.ensures.fires
 
 pub ticks-preserved : goal.ticks-preserved
 ticks-preserved g c =
@@ -14,5 +14,5 @@ ticks-preserved g c =
     let new = c.fire.new.self in (
       search rules,
       search rules,
-      fires_more g.S.Store (g.C.Clock.tells c.args.clock.now) old.submitter.was new.submitter.was c.args.reports.told old.told new.told c.fire.result c.if-not-fire.false c.fire.ensures.grows c.ticks.invariant.2 c.fire.ensures.fires,
+      fires_more (g.C.Clock.tells c.args.clock.now) old.submitter.was new.submitter.was c.args.reports.told old.told new.told c.fire.result c.if-not-fire.false c.fire.ensures.grows c.ticks.invariant.2 c.fire.ensures.fires,
     )

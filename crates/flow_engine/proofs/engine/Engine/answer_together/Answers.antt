@@ -1,7 +1,10 @@
 use Rattle.std.proofs.Common.{sym, subst}
-use Rattle.std.specs.Prelude.{OnOk}
+use Rattle.std.specs.Prelude.{IfErr, OnOk}
 use Rattle.std.proofs.lemmas.Result.{IfOk-weaker}
-use Rattle.flow_commit.specs.Keeping.{Keeping, KeepsBook, rules, commands_of, kept_book}
+use Rattle.flow_model.specs.Apply.{after}
+use Rattle.flow_model.specs.Book.{Book}
+use Rattle.flow_tables.specs.Owned.{state_of, LeavesEither}
+use Rattle.flow_commit.specs.Keeping.{Keeping, IsFit, KeepsBook, rules, commands_of, kept_book}
 use Rattle.flow_machine.specs.Answers.{AnswersTogether, CausedTogether}
 use Rattle.flow_engine.specs.Answering.{HasAnswered}
 use Rattle.flow_engine.specs.GivingUp.{GivesUp}
@@ -41,3 +44,10 @@ returns-in-Ok-one_batch-clause-cause g c =
     subst (λ cs. CausedTogether (GivesUp g.S.Store c.args.self.now new (kept_book g.S.Store c.args.self.now) cs) t) c.in-Ok-taken_of.ensures
     (subst (λ (k : Keeping g.row.S.Denot). CausedTogether (GivesUp g.S.Store k new (kept_book g.S.Store k) (commands_of c.in-Ok-taken_of.taken.items)) t) c.tickets-first.ensures h))
     its.cause
+
+pub returns-in-Ok-one_batch-clause-leaves : goal.returns-in-Ok-one_batch-clause-leaves
+returns-in-Ok-one_batch-clause-leaves g c =
+    let its = c.answered.ensures c.in-Ok-taken_of.taken.items c.in-Ok-one_batch.ensures in
+    let new = c.answered.new.engine in
+    subst (λ cs. IfErr c.answered.result (λ s. IsFit g.S.Store new → (b : Book) → KeepsBook g.S.Store c.args.self.now b → LeavesEither (state_of g.S.Store new.stored) b (after rules b cs))) c.in-Ok-taken_of.ensures
+    (subst (λ (k : Keeping g.row.S.Denot). IfErr c.answered.result (λ s. IsFit g.S.Store new → (b : Book) → KeepsBook g.S.Store k b → LeavesEither (state_of g.S.Store new.stored) b (after rules b (commands_of c.in-Ok-taken_of.taken.items)))) c.tickets-first.ensures its.leaves)

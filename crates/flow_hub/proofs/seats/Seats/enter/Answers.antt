@@ -5,4 +5,4 @@ use Rattle.flow_hub.proofs.Moves.{enters}
 use Rattle.flow_hub.proofs.seats.Seats.enter.Goals as goal
 
 pub load_new_seat-seat-requires : goal.load_new_seat-seat-requires
-load_new_seat-seat-requires g c = (search rules, rw c.args.self.now.no_slot (enters (λ (n : ℕ) (w : Sight g.row.S.Denot). w ≡ nobody) (λ n. refl)))
+load_new_seat-seat-requires g c = (search rules, rw c.args.self.now.no_slot (enters (λ (n : ℕ) (w : Sight). w ≡ nobody) (λ n. refl)))

@@ -5,7 +5,7 @@ use Rattle.flow_hub.proofs.state.State.close.Goals as goal
 
 pub invariant_of-self : goal.invariant_of-self
 invariant_of-self g c = (
-  closes g.S.Store _ c.self.invariant.0,
+  closes _ c.self.invariant.0,
   search rules,
   search rules,
   search rules,

@@ -6,7 +6,7 @@ use Rattle.flow_hub.proofs.state.State.enroll.Goals as goal
 
 pub invariant_of-self : goal.invariant_of-self
 invariant_of-self g c = (
-  enrolls g.S.Store _ c.self.invariant.0,
+  enrolls _ c.self.invariant.0,
   search rules,
   search rules,
   search rules,

@@ -6,7 +6,7 @@ use Rattle.flow_hub.proofs.state.State.fetch_receipt.Goals as goal
 
 pub invariant_of-self : goal.invariant_of-self
 invariant_of-self g c = (
-  fetches g.S.Store _ c.take_receipt-receipt.new.answered.items c.in-Some.k c.take_receipt-receipt.ensures.parts
+  fetches _ c.take_receipt-receipt.new.answered.items c.in-Some.k c.take_receipt-receipt.ensures.parts
       (omega (arith, c.take_receipt-receipt.ensures.len, c.take_receipt-receipt.new.answered.ok.0, c.self.inside.answered.ok.0)) c.self.invariant.0,
   search rules,
   search rules,

@@ -6,7 +6,7 @@ use Rattle.flow_hub.proofs.state.State.fetch_refusal.Goals as goal
 
 pub invariant_of-self : goal.invariant_of-self
 invariant_of-self g c = (
-  lets_go g.S.Store _ c.remove-refused.new.self.items c.in-Some.k c.remove-refused.ensures.by_index.2
+  lets_go _ c.remove-refused.new.self.items c.in-Some.k c.remove-refused.ensures.by_index.2
       (omega (arith, c.remove-refused.ensures.len, c.remove-refused.new.self.ok.0, c.self.inside.refused.ok.0)) c.self.invariant.0,
   search rules,
   search rules,

@@ -9,4 +9,4 @@ returns-clause-idle g c idle =
     let is : c.see-me.result.was ≡ i.known = search rules in
     let waits : i.waiting.items ≡ [] = no_length i.waiting.items (search rules) in
     let held : i.known.held ≡ [] = no_length i.known.held (search rules) in
-    idle_by c.see-me.result.was _ is (is_idle g.S.Store _ c.in-Some.outlook (search rules) (search rules) waits held c.self.invariant.0)
+    idle_by c.see-me.result.was _ is (is_idle _ c.in-Some.outlook (search rules) (search rules) waits held c.self.invariant.0)

@@ -23,7 +23,7 @@ invariant_of-self-2 g c =
     c.post.ensures ∙ (λ j. with_posted i.known (chose j) (record { due = into.ensures.due j; open_runs = into.ensures.open_runs j })) in
     let was : c.tell-me.result.was ≡ _ = was_of c.tell-me.result _ _ c.post.new.self c.tell-me.ensures.told ∙ known in
     let queue : c.push_marked.new.waiting.items ≡ i.tasks.items ++ new_ones posted ts = c.push_marked.ensures.items ∙ (ap (λ us. us ++ chosen into.result.0.items c.in-Ok.marks.items) c.reserve.ensures.items ∙ ap (λ us. i.tasks.items ++ us) chose) in (
-      rw (known, queue) (posts g.S.Store _ ts _ c.self.invariant.0),
+      rw (known, queue) (posts _ ts _ c.self.invariant.0),
       search rules,
       search rules,
       search rules,
@@ -70,7 +70,7 @@ returns-clause-keys g c =
     c.post.ensures ∙ (λ j. with_posted i.known (chose j) (record { due = into.ensures.due j; open_runs = into.ensures.open_runs j })) in
     let was : c.tell-me.result.was ≡ _ = was_of c.tell-me.result _ _ c.post.new.self c.tell-me.ensures.told ∙ known in
     let queue : c.push_marked.new.waiting.items ≡ i.tasks.items ++ new_ones posted ts = c.push_marked.ensures.items ∙ (ap (λ us. us ++ chosen into.result.0.items c.in-Ok.marks.items) c.reserve.ensures.items ∙ ap (λ us. i.tasks.items ++ us) chose) in
-    subst (λ (k : Known g.row.S.Denot). HasKeys c.add_all.new.keys k.posted) (sym was) marked.1
+    subst (λ (k : Known). HasKeys c.add_all.new.keys k.posted) (sym was) marked.1
 
 pub returns-clause-seen : goal.returns-clause-seen
 returns-clause-seen g c =
@@ -86,7 +86,7 @@ returns-clause-seen g c =
     c.post.ensures ∙ (λ j. with_posted i.known (chose j) (record { due = into.ensures.due j; open_runs = into.ensures.open_runs j })) in
     let was : c.tell-me.result.was ≡ _ = was_of c.tell-me.result _ _ c.post.new.self c.tell-me.ensures.told ∙ known in
     let queue : c.push_marked.new.waiting.items ≡ i.tasks.items ++ new_ones posted ts = c.push_marked.ensures.items ∙ (ap (λ us. us ++ chosen into.result.0.items c.in-Ok.marks.items) c.reserve.ensures.items ∙ ap (λ us. i.tasks.items ++ us) chose) in
-    posted_by c.args.me.was c.tell-me.result.was _ c.args.board was (has_posted g.S.Store i.known c.args.me.was c.args.board same)
+    posted_by c.args.me.was c.tell-me.result.was _ c.args.board was (has_posted i.known c.args.me.was c.args.board same)
 
 pub returns-clause-once : goal.returns-clause-once
 returns-clause-once g c =

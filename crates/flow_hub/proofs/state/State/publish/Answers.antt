@@ -13,13 +13,13 @@ invariant_of-self g c =
     let rs = c.args.receipts.items in
     let i = c.self.inside in
     let same : IsSamePart c.args.me.was i.known = search rules in
-    let asked : Answers i.known c.args.stamp rs = same_answers g.S.Store c.args.me.was i.known c.args.stamp rs same c.requires.answers in
+    let asked : Answers i.known c.args.stamp rs = same_answers c.args.me.was i.known c.args.stamp rs same c.requires.answers in
     let answered : c.push_receipts.new.answered.items ≡ i.answered.items ++ rs = search rules in
     let count : c.len.result ≡ length rs = search rules in
     let len : vec_len c.push_receipts.new.answered ≡ vec_len i.answered + length rs = search rules in
     let held : length i.known.held ≡ length rs = sym (ap length asked.asked) ∙ length-mapped taken_of rs in
     let longer : length (i.known.history ++ rs) ≡ length i.known.history + length rs = length-append i.known.history rs in (
-      rw (c.publish.ensures, answered) (publishes g.S.Store _ c.args.stamp rs c.self.invariant.0 asked c.spend.ensures.lawful),
+      rw (c.publish.ensures, answered) (publishes _ c.args.stamp rs c.self.invariant.0 asked c.spend.ensures.lawful),
       search rules,
       rw c.publish.ensures (omega (arith, c.self.invariant.2, count, longer)),
       search rules,
@@ -43,7 +43,7 @@ pub tell-me-requires-clause-grows : goal.tell-me-requires-clause-grows
 tell-me-requires-clause-grows g c =
     let i = c.self.inside in
     let same : IsSamePart c.args.me.was i.known = search rules in
-    let asked : Answers i.known c.args.stamp c.args.receipts.items = same_answers g.S.Store c.args.me.was i.known c.args.stamp c.args.receipts.items same c.requires.answers in
+    let asked : Answers i.known c.args.stamp c.args.receipts.items = same_answers c.args.me.was i.known c.args.stamp c.args.receipts.items same c.requires.answers in
     grows_by c.tell-seen.new.keeper.all i.known _ c.publish.new.self (all_of c.tell-seen.new.keeper i.known c.tell-seen.ensures.keeper) c.publish.ensures (publishes_on i.known _ _ asked.over)
 
 pub returns-clause-legal : goal.returns-clause-legal
@@ -51,9 +51,9 @@ returns-clause-legal g c =
     let i = c.self.inside in
     let rs = c.args.receipts.items in
     let same : IsSamePart c.args.me.was i.known = search rules in
-    let asked : Answers i.known c.args.stamp rs = same_answers g.S.Store c.args.me.was i.known c.args.stamp rs same c.requires.answers in
+    let asked : Answers i.known c.args.stamp rs = same_answers c.args.me.was i.known c.args.stamp rs same c.requires.answers in
     let was = was_of c.tell-me.result _ _ c.publish.new.self c.tell-me.ensures.told ∙ c.publish.ensures in
-    history_by g.S.Store c.tell-me.result.was _ was (published_history g.S.Store _ c.args.stamp rs c.self.invariant.0 asked c.spend.ensures.lawful)
+    history_by c.tell-me.result.was _ was (published_history _ c.args.stamp rs c.self.invariant.0 asked c.spend.ensures.lawful)
 
 pub returns-clause-seen : goal.returns-clause-seen
 returns-clause-seen g c =
@@ -61,4 +61,4 @@ returns-clause-seen g c =
     let rs = c.args.receipts.items in
     let same : IsSamePart c.args.me.was i.known = search rules in
     let was = was_of c.tell-me.result _ _ c.publish.new.self c.tell-me.ensures.told ∙ c.publish.ensures in
-    published_by c.args.me.was c.tell-me.result.was _ c.args.stamp rs was (has_published g.S.Store i.known c.args.me.was c.args.stamp rs same c.requires.answers)
+    published_by c.args.me.was c.tell-me.result.was _ c.args.stamp rs was (has_published i.known c.args.me.was c.args.stamp rs same c.requires.answers)

@@ -18,7 +18,7 @@ invariant_of-self g c =
     let size : length c.refuse_all.new.refused.items ≡ length i.refused.items + length held = ap length refused ∙ (length-append i.refused.items (map by held) ∙ ap (λ n. length i.refused.items + n) (length-mapped by held)) in
     let len : vec_len c.refuse_all.new.refused ≡ vec_len i.refused + length held = c.refuse_all.new.refused.ok.0 ∙ (size ∙ ap (λ n. n + length held) (sym i.refused.ok.0)) in
     let longer : length (i.known.refused ++ map by held) ≡ length i.known.refused + length held = length-append i.known.refused (map by held) ∙ ap (λ n. length i.known.refused + n) (length-mapped by held) in (
-      rw (c.refuse.ensures, all, refused) (refuses g.S.Store _ c.args.code c.self.invariant.0),
+      rw (c.refuse.ensures, all, refused) (refuses _ c.args.code c.self.invariant.0),
       search rules,
       search rules,
       rw (c.refuse.ensures, all) (omega (arith, c.self.invariant.3, count, longer)),

@@ -5,7 +5,7 @@ use Rattle.flow_hub.proofs.state.State.submit.Goals as goal
 
 pub invariant_of-self : goal.invariant_of-self
 invariant_of-self g c = (
-  rw (c.ask.ensures, c.push_back_reserved.ensures.items, c.add.ensures.total) (submits g.S.Store _ c.args.command c.self.invariant.0),
+  rw (c.ask.ensures, c.push_back_reserved.ensures.items, c.add.ensures.total) (submits _ c.args.command c.self.invariant.0),
   search rules,
   search rules,
   search rules,

@@ -12,7 +12,7 @@ invariant_of-self g c =
     let parts : c.self.inside.waiting.items ≡ xs ++ c.move_front.new.waiting.items = search rules in
     let longer : length (held ++ xs) ≡ length held + length xs = length-append held xs in
     let count : c.len.result ≡ length xs = search rules in (
-      rw c.take.ensures (takes g.S.Store _ xs c.move_front.new.waiting.items parts c.self.invariant.0),
+      rw c.take.ensures (takes _ xs c.move_front.new.waiting.items parts c.self.invariant.0),
       rw c.take.ensures (omega (arith, longer, c.self.invariant.1, count)),
       search rules,
       search rules,
@@ -39,4 +39,4 @@ returns-clause-seen g c =
     let same : IsSamePart c.args.me.was i.known = search rules in
     let parts : i.waiting.items ≡ xs ++ c.move_front.new.waiting.items = search rules in
     let was = was_of c.tell.result _ _ c.take.new.self c.tell.ensures.told ∙ c.take.ensures in
-    taken_by c.args.me.was c.tell.result.was _ xs was (has_taken g.S.Store _ c.args.me.was xs c.move_front.new.waiting.items parts c.self.invariant.0 same)
+    taken_by c.args.me.was c.tell.result.was _ xs was (has_taken _ c.args.me.was xs c.move_front.new.waiting.items parts c.self.invariant.0 same)

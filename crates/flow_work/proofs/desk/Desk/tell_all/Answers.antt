@@ -4,14 +4,14 @@ use Rattle.flow_work.proofs.Telling.{told_as, told_ends, told_then}
 use Rattle.flow_work.proofs.desk.Desk.tell_all.Goals as goal
 
 pub returns-then-len-eq0 : goal.returns-then-len-eq0
-returns-then-len-eq0 g c = record { told = told_ends g.S.Store c.lines.self.submitter false c.lines.invariant.2 }
+returns-then-len-eq0 g c = record { told = told_ends c.lines.self.submitter false c.lines.invariant.2 }
 
 pub returns-then-not-tell_oldest : goal.returns-then-not-tell_oldest
 returns-then-not-tell_oldest g c =
     let new = c.tell_oldest.new.self.submitter in
     record {
-      told = told_then g.S.Store c.lines.self.submitter new c.tell_oldest.ensures.same c.tell_oldest.ensures.grows c.lines.invariant.2
-          (told_as g.S.Store new c.tell_oldest.result false c.if-not-tell_oldest.true c.tell_oldest.ensures.told);
+      told = told_then c.lines.self.submitter new c.tell_oldest.ensures.same c.tell_oldest.ensures.grows c.lines.invariant.2
+          (told_as new c.tell_oldest.result false c.if-not-tell_oldest.true c.tell_oldest.ensures.told);
     }
 
 pub lines-preserved : goal.lines-preserved
@@ -20,8 +20,8 @@ lines-preserved g c =
     let new = c.tell_oldest.new.self.submitter in (
       search rules,
       search rules,
-      told_then g.S.Store old new c.tell_oldest.ensures.same c.tell_oldest.ensures.grows c.lines.invariant.2
-          (told_as g.S.Store new c.tell_oldest.result true c.if-not-tell_oldest.false c.tell_oldest.ensures.told),
+      told_then old new c.tell_oldest.ensures.same c.tell_oldest.ensures.grows c.lines.invariant.2
+          (told_as new c.tell_oldest.result true c.if-not-tell_oldest.false c.tell_oldest.ensures.told),
       before_trans c.args.self.now.submitter.was old.was new.was c.lines.invariant.3 c.tell_oldest.ensures.grows,
       c.tell_oldest.ensures.same ∙ c.lines.invariant.4,
     )

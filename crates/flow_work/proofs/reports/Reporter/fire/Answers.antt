@@ -8,7 +8,7 @@ returns-then-ends-clause-fires g c =
     let asked = c.next_tick.new.self in
     let behind = c.report-heard.new.self in
     let told = c.report-heard.ensures.told ∙ ap (λ w. w ++ (c.in-Some.tick, came_of c.report-heard.result) ∷ []) c.next_tick.ensures.told in
-    fires_last g.S.Store (g.C.Clock.tells c.args.clock.now) asked.submitter behind.submitter c.in-Some.tick c.report-heard.result c.args.self.now.told behind.told (c.in-Some.ensures {u = tt}).tick c.report-heard.ensures.heard told
+    fires_last (g.C.Clock.tells c.args.clock.now) asked.submitter behind.submitter c.in-Some.tick c.report-heard.result c.args.self.now.told behind.told (c.in-Some.ensures {u = tt}).tick c.report-heard.ensures.heard told
     (sym c.is_last-ends.ensures ∙ c.if-ends.true)
 
 pub returns-clause-fires : goal.returns-clause-fires
@@ -16,5 +16,5 @@ returns-clause-fires g c =
     let asked = c.next_tick.new.self in
     let behind = c.report-heard.new.self in
     let told = c.report-heard.ensures.told ∙ ap (λ w. w ++ (c.in-Some.tick, came_of c.report-heard.result) ∷ []) c.next_tick.ensures.told in
-    fires_one g.S.Store (g.C.Clock.tells c.args.clock.now) asked.submitter behind.submitter c.in-Some.tick c.report-heard.result c.args.self.now.told behind.told (c.in-Some.ensures {u = tt}).tick c.report-heard.ensures.heard told
+    fires_one (g.C.Clock.tells c.args.clock.now) asked.submitter behind.submitter c.in-Some.tick c.report-heard.result c.args.self.now.told behind.told (c.in-Some.ensures {u = tt}).tick c.report-heard.ensures.heard told
     (sym c.is_last-ends.ensures ∙ c.if-ends.false)
