@@ -56,21 +56,31 @@ def note(program, made_of, read_at):
     os.utime(program, (read_at, read_at))
 
 
+def noted(program):
+    """What a program was made of, if a note says so. A note that is older than the program is of another one: `rt` leaves none."""
+    try:
+        if os.stat(f"{program}.made-of").st_mtime < os.stat(program).st_mtime:
+            return None
+        with open(f"{program}.made-of", encoding="utf-8") as it:
+            return it.read()
+    except FileNotFoundError:
+        return None
+
+
 def is_new(program, crate, ends):
     """Whether a program is there, made of the sources as they are now.
 
-    `rt` leaves no note of what it was made of: then no source may have a later date. A program that is found to be as new as its
-    sources is dated anew, so that the next call of the script `flow` need look at dates alone."""
+    Without a note of what it was made of no source may have a later date, nor a folder, from which one may be gone. A program that
+    is found to be as new as its sources is dated anew, so that the next call of the script `flow` need look at dates alone."""
     if not os.access(program, os.X_OK):
         return False
-    now = time.time()
-    found = digest(crate, ends)
-    try:
-        with open(f"{program}.made-of", encoding="utf-8") as it:
-            is_same = it.read() == found
-    except FileNotFoundError:
-        made_at = os.stat(program).st_mtime
-        is_same = all(os.stat(it).st_mtime <= made_at for it in sources(crate, ends))
+    now, found, made_of = time.time(), digest(crate, ends), noted(program)
+    if made_of is None:
+        files = sources(crate, ends)
+        dated = {f"{HERE}/crates.txt", *files, *map(os.path.dirname, files)}
+        is_same = max(os.stat(it).st_mtime for it in dated) <= os.stat(program).st_mtime
+    else:
+        is_same = made_of == found
     if is_same:
         try:
             note(program, found, now)
