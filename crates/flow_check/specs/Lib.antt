@@ -1,5 +1,4 @@
 pub mod Faults
 pub mod Language
-pub mod Shown
 pub mod Tables
 pub mod Typed

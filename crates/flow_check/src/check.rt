@@ -1,10 +1,9 @@
 ghost use Rattle.std.specs.Prelude.{◌≡◌, None, OnOk, IfOk, IfErr};
 ghost use Rattle.flow_base.specs.Shown.{shown_program};
 ghost use Rattle.flow_model.specs.WellFormed.{WellFormed, first_fault as first_fault_of};
-ghost use Rattle.flow_check.specs.Shown.{shown_checked};
+ghost use Rattle.flow_model.specs.Checked.{shown_checked};
 ghost use Rattle.flow_check.specs.Faults.{IsCheckFault};
 
-use crate::checked::Checked;
 use crate::fault::CheckFault;
 use crate::first::FirstFault;
 use crate::names::{check_names, check_types};
@@ -12,6 +11,7 @@ use crate::scope::Scope;
 use crate::statement::check_statements;
 use flow_base::command::TextFault;
 use flow_base::syntax::Program;
+use flow_model::checked::Checked;
 use std::alloc::{AllocError, Global};
 
 /// The program, if it keeps the checking rules.

@@ -1,32 +1,3 @@
-ghost use Rattle.std.specs.Prelude.{◌≡◌};
-ghost use Rattle.flow_base.specs.Shown.{shown_program};
-ghost use Rattle.flow_model.specs.WellFormed.{WellFormed};
+//! The programs that `check` gives.
 
-use flow_base::syntax::Program;
-
-/// A program that keeps the checking rules.
-#[derive(Debug, Drop)]
-pub struct Checked {
-    program: Program,
-    pub ghost well_formed: { WellFormed (shown_program program) },
-}
-
-impl Checked {
-    ghost use Rattle.flow_check.specs.Shown.{shown_checked};
-
-    /// A program that was found to keep the rules; for `check` alone.
-    pub(crate) fn of(program: Program) -> Checked
-        requires { WellFormed (shown_program program) }
-        ensures { shown_checked result ≡ shown_program program }
-    {
-        Checked { program }
-    }
-
-    /// The program that was checked.
-    pub fn program(&self) -> &Program
-        ensures same { shown_program result.now ≡ shown_checked self.now }
-        ensures well_formed { WellFormed (shown_checked self.now) }
-    {
-        &self.program
-    }
-}
+pub use flow_model::checked::Checked;

@@ -5,11 +5,11 @@ ghost use Rattle.flow_check.specs.Language.{meaning_of};
 ghost use Rattle.flow_model.specs.Meaning.{Means};
 
 use crate::check::check;
-use crate::checked::Checked;
 use crate::fault::CheckFault;
-use crate::texts::Texts;
 use flow_base::command::TextFault;
 use flow_base::text::RawText;
+use flow_model::checked::Checked;
+use flow_model::texts::Texts;
 use flow_syntax::parse::parse;
 use std::alloc::{AllocError, Global};
 

@@ -10,7 +10,7 @@ use crate::drive::{Stopped, write_text};
 use flow_base::command::TextFault;
 use flow_base::fault::Fault;
 use flow_base::text::RawText;
-use flow_check::texts::Texts;
+use flow_model::texts::Texts;
 use std::alloc::{AllocError, Global};
 use std::io::Write;
 

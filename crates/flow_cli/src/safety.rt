@@ -1,7 +1,7 @@
 //! What `flow safe` says of two texts.
 ghost use Rattle.std.specs.Prelude.{◌≡◌, ◌↔◌, ◌++◌, ◌∷◌, [], IfOk, IfErr, string_bytes};
 ghost use Rattle.std.specs.Io.KnownBytes.{Appends};
-ghost use Rattle.flow_check.specs.Shown.{shown_checked};
+ghost use Rattle.flow_model.specs.Checked.{shown_checked};
 ghost use Rattle.flow_cli.specs.Answering.{WritesPart};
 ghost use Rattle.flow_cli.specs.Driving.{stopped_status};
 ghost use Rattle.flow_cli.specs.Safety.{of_difference, place_text, safety_of, safety_status, safety_text, MeansWrap};
@@ -12,8 +12,8 @@ use crate::drive::{Stopped, write_text};
 use flow_base::command::TextFault;
 use flow_base::fault::Fault;
 use flow_base::text::RawText;
-use flow_check::checked::Checked;
-use flow_check::texts::Texts;
+use flow_model::checked::Checked;
+use flow_model::texts::Texts;
 use flow_patch::change::safe_change;
 use flow_patch::fault::Unsafe;
 use std::alloc::{AllocError, Global};

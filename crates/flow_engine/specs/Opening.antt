@@ -6,7 +6,7 @@ use Rattle.sqlite.specs.Held.{Held, state}
 use Rattle.flow_base.specs.declared.book.Run.{Run}
 use Rattle.flow_base.specs.declared.fault.Fault.{Fault}
 use Rattle.flow_base.specs.declared.fault.Fault.TheVariants as fault
-use Rattle.flow_check.specs.Language.{meaning_of}
+use Rattle.flow_check.specs.Language.{is_program, meaning_of}
 use Rattle.flow_model.specs.Book.{Book}
 use Rattle.flow_tables.specs.Faults.{Since}
 use Rattle.flow_tables.specs.Opening.{HasCause, HasOtherFormat, IsFirstDamage, IsOfRows, IsOfStore, StopsOpening}
@@ -35,7 +35,7 @@ pub record IsOpened {S : Type 0} (g : Ghosts S) (from : State) (k : Keeping S) :
   pub found : IsFound from book
   pub kept : KeepsBook g k book
   -- its texts are programs, and its runs keep the rules
-  pub of_rows : IsOfRows book
+  pub of_rows : IsOfRows is_program book
   pub stands : AllStand book
 
 -- The engine keeps this book again, as an engine before it did.
@@ -49,7 +49,7 @@ pub record IsUnopened {S : Type 0} (g : Ghosts S) (from to : State) (f : Fault) 
   -- E01, E68 and E80 to E83 alone are told: E82 and E83 only where the tables say so.
   pub among : IsOfRecovery f
   pub version : HasCleanDisk to → f ≡ fault.BadVersion → HasOtherFormat g to
-  pub damaged : HasCleanDisk to → (HasCleanDisk from → HasTables from.committed) → IsFirstDamage (tables_in from.committed.trees) f
+  pub damaged : HasCleanDisk to → (HasCleanDisk from → HasTables from.committed) → IsFirstDamage is_program (tables_in from.committed.trees) f
   pub cause : HasCleanDisk to → HasCause g f
   -- Over our tables, or none, E80 and E81 come of the disk, of a limit on steps or of a text that isn't UTF-8.
   pub why : HasCleanDisk to → IsOurs from → StopsOpening g from to f

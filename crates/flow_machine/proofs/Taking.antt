@@ -6,7 +6,7 @@ use Rattle.flow_base.specs.declared.event.Event.{Event}
 use Rattle.flow_base.specs.declared.event.Input.{Input}
 use Rattle.flow_base.specs.declared.book.Change.{Change}
 use Rattle.flow_base.specs.declared.command.Reply.{Reply}
-use Rattle.flow_check.specs.Shown.{shown_checked}
+use Rattle.flow_model.specs.Checked.{shown_checked}
 use Rattle.flow_model.specs.Configuration.{Configuration}
 use Rattle.flow_model.specs.Turned.{position_by_inputs}
 use Rattle.flow_model.specs.Stands.{Stands}

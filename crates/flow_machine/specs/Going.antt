@@ -1,6 +1,6 @@
 -- What a command comes to before any turn is taken.
 use Rattle.std.specs.Prelude.{◌≡◌, Some}
-use Rattle.flow_check.specs.Shown.{shown_checked}
+use Rattle.flow_model.specs.Checked.{shown_checked}
 use Rattle.flow_model.specs.Book.{Book}
 use Rattle.flow_model.specs.Apply.{Rules, Outcome, program_at}
 use Rattle.flow_view.specs.Heads.{head_at}

@@ -1,12 +1,12 @@
 //! The program that a text of a view is.
 ghost use Rattle.std.specs.Prelude.{◌≡◌, ◌⊎◌, IfOk, OnOk, Ok, Some, None};
-ghost use Rattle.flow_check.specs.Shown.{shown_checked};
+ghost use Rattle.flow_model.specs.Checked.{shown_checked};
 ghost use Rattle.flow_model.specs.Apply.{program_at, program_if};
 ghost use Rattle.flow_view.specs.Reading.{Caused, Reads};
 
 use flow_base::number::TextNo;
 use flow_base::text::RawText;
-use flow_check::checked::Checked;
+use flow_model::checked::Checked;
 use flow_programs::programs::Programs;
 use flow_view::fault::ViewFault;
 use flow_view::view::View;

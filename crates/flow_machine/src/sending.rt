@@ -1,7 +1,7 @@
 //! A signal for a run whose program is known.
 ghost use Rattle.std.specs.Prelude.{◌≡◌, IfOk, IfErr, IfSome, MatchOption, None, Some, bytes_eq, map, true};
 ghost use Rattle.flow_base.specs.Shown.{shown_declaration};
-ghost use Rattle.flow_check.specs.Shown.{shown_checked};
+ghost use Rattle.flow_model.specs.Checked.{shown_checked};
 ghost use Rattle.flow_machine.specs.ByHead as by_head;
 ghost use Rattle.flow_model.specs.WellFormed as declared;
 
@@ -10,7 +10,7 @@ use flow_base::event::Input;
 use flow_base::syntax::Declaration;
 use flow_base::text::{Key, RawText};
 use flow_base::value::{Kind, Value};
-use flow_check::checked::Checked;
+use flow_model::checked::Checked;
 use flow_model::kinds::has_kind;
 use std::alloc::{AllocError, Global};
 

@@ -1,6 +1,6 @@
 //! Another text of a run: the run goes on under it where its history stands under it.
 ghost use Rattle.std.specs.Prelude.{IfOk};
-ghost use Rattle.flow_check.specs.Shown.{shown_checked};
+ghost use Rattle.flow_model.specs.Checked.{shown_checked};
 ghost use Rattle.flow_machine.specs.Deciding.{Gives};
 ghost use Rattle.flow_model.specs.Apply as apply;
 ghost use Rattle.flow_model.specs.Verdict.{verdict};
@@ -11,9 +11,9 @@ use flow_base::book::Change;
 use flow_base::command::Reply;
 use flow_base::event::Event;
 use flow_base::number::{RunId, TextNo};
-use flow_check::checked::Checked;
 use flow_match::fault::ReplayFault;
 use flow_match::replay::replay;
+use flow_model::checked::Checked;
 use flow_view::fault::ViewFault;
 use std::alloc::Global;
 

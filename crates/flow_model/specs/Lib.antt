@@ -22,3 +22,4 @@ pub mod Parse
 pub mod Meaning
 pub mod World
 pub mod Logs
+pub mod Checked

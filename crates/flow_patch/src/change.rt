@@ -1,5 +1,5 @@
 ghost use Rattle.std.specs.Prelude.{◌≡◌, Some, None, IfErr, OnErr, OnOk};
-ghost use Rattle.flow_check.specs.Shown.{shown_checked};
+ghost use Rattle.flow_model.specs.Checked.{shown_checked};
 ghost use Rattle.flow_patch.specs.Difference.{first_difference};
 ghost use Rattle.flow_patch.specs.Upgrades.{IsUpgraded, KeepsStanding, NeverFails};
 ghost use Rattle.flow_patch.specs.Wrap.{Wrap};
@@ -7,7 +7,7 @@ ghost use Rattle.flow_patch.specs.Wrap.{Wrap};
 use crate::compare::compare;
 use crate::fault::Unsafe;
 use flow_base::code::Code;
-use flow_check::checked::Checked;
+use flow_model::checked::Checked;
 
 /// Whether the new text wraps the old one: some lists of statements of the old text stand in the new one as the second lists
 /// of patches with new ids, and it may declare more at the end. Both texts are read, and no memory is taken.

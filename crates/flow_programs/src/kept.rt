@@ -1,14 +1,14 @@
 //! Programs that were read, kept by their texts.
 ghost use Rattle.std.specs.Prelude.{◌≡◌, ◌+◌, ◌-◌, ◌≤◌, ◌<◌, ◌∷◌, [], length, take, remove, slice_get, vec_len, vec_capacity, IfOk, IfErr, IfSome, OnOk, OnErr, MatchOption, MatchResult, Ok, Err, Some, None, true, false};
-ghost use Rattle.flow_check.specs.Shown.{shown_checked};
+ghost use Rattle.flow_model.specs.Checked.{shown_checked};
 ghost use Rattle.flow_programs.specs.Keeping.{IsKeptAnew, IsPlace, fitting, is_kept, weight, without};
 
 use crate::known::{Known, weight_of};
 use crate::programs::Programs;
 use flow_base::command::TextFault;
 use flow_base::text::RawText;
-use flow_check::checked::Checked;
-use flow_check::texts::Texts;
+use flow_model::checked::Checked;
+use flow_model::texts::Texts;
 use std::alloc::{AllocError, Global};
 use std::marker::Model;
 use std::sync::Arc;

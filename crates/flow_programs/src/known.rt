@@ -1,9 +1,9 @@
 ghost use Rattle.std.specs.Prelude.{◌≡◌, ◌+◌, IfOk, IsTrue, ◌↔◌, bytes_eq, length, Ok};
-ghost use Rattle.flow_check.specs.Shown.{shown_checked};
+ghost use Rattle.flow_model.specs.Checked.{shown_checked};
 
 use flow_base::text::RawText;
-use flow_check::checked::Checked;
-use flow_check::texts::Texts;
+use flow_model::checked::Checked;
+use flow_model::texts::Texts;
 use std::alloc::{AllocError, Global};
 use std::marker::{Model, PhantomData};
 use std::sync::Arc;
@@ -23,7 +23,7 @@ pub(crate) struct Known<T: Texts> {
 impl<T: Texts> Model for Known<T> {
     ghost use Rattle.std.specs.Prelude.{◌≡◌, Ok};
     ghost use Rattle.flow_base.specs.Syntax.{Bytes};
-    ghost use Rattle.flow_check.specs.Shown.{shown_checked};
+    ghost use Rattle.flow_model.specs.Checked.{shown_checked};
 
     ghost Value = { Bytes };
 

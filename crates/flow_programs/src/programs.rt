@@ -1,11 +1,11 @@
 ghost use Rattle.std.specs.Prelude.{◌≡◌, IfOk, MatchResult, Result, Ok, Err};
 ghost use Rattle.flow_base.specs.Syntax.{Bytes, Program};
 ghost use Rattle.flow_base.specs.declared.command.TextFault.{TextFault as AFault};
-ghost use Rattle.flow_check.specs.Shown.{shown_checked};
+ghost use Rattle.flow_model.specs.Checked.{shown_checked};
 
 use flow_base::command::TextFault;
 use flow_base::text::RawText;
-use flow_check::checked::Checked;
+use flow_model::checked::Checked;
 use std::alloc::{AllocError, Global};
 use std::sync::Arc;
 

@@ -14,7 +14,8 @@ use Rattle.sqlite.specs.Steps.{FailsToOpen}
 use Rattle.sqlite.specs.declared.error.Error.{Error}
 use Rattle.flow_base.specs.declared.fault.Fault.{Fault}
 use Rattle.flow_base.specs.declared.fault.Fault.TheVariants as fault
-use Rattle.flow_check.specs.Language.{meaning_of}
+use Rattle.flow_check.specs.Language.{is_program, meaning_of}
+use Rattle.flow_check.proofs.Meaning.{meaning_is}
 use Rattle.flow_model.specs.Book.{Book, no_book}
 use Rattle.flow_model.specs.Sound.{IsSound}
 use Rattle.flow_machine.proofs.Keeps.{nothing_sound}
@@ -50,7 +51,7 @@ pub found_ours : (s : State) (b : Book) → (HasCleanDisk s → IsFound s b) →
 found_ours s b found clean = elim (found clean) [ inl h ↦ inl h.0 | inr h ↦ inr h.0 ]
 
 -- tables that stand for a book tell it
-stand_tell : (t : Tables) (b : Book) → StandFor t b → Tells t b
+stand_tell : (t : Tables) (b : Book) → StandFor is_program t b → Tells t b
 stand_tell t b h = record { same = h.same; runs = all_told (length b.texts) b.runs (kept_all (length b.texts) [] b.runs h.runs) }
 
 pub sound_found : (s : State) → HoldsSound s → (b : Book) × IsFound s b × IsSound rules b
@@ -109,8 +110,8 @@ pub kept_found : (s : State) (b : Book) → IsTrue s.is_open × Keeps s b → Is
 kept_found s b h = inl (h.1.kept h.0)
 
 -- Tables that tell a book which is well stand for it.
-well_stands : (t : Tables) (b : Book) → Tells t b → IsWell b → StandFor t b
-well_stands t b tells well = let stands = stood b tells.runs well.sound well.orderly in record { texts = stands.0; runs = stands.1; same = tells.same }
+well_stands : (t : Tables) (b : Book) → Tells t b → IsWell b → StandFor is_program t b
+well_stands t b tells well = let stands = stood meaning_of meaning_is b tells.runs well.sound well.orderly in record { texts = stands.0; runs = stands.1; same = tells.same }
 
 pub well_sound : (s : State) (b : Book) → IsFound s b → IsWell b → HoldsSound s
 well_sound s b (inl h) well = inl (b, h.0, well_stands (tables_in s.committed.trees) b h.1 well, well.sound)
@@ -192,7 +193,7 @@ past_among (fault.NoMemory _) of = tt
 past_among (fault.Mismatch run place name) of = tt
 past_among _ of = absurd of
 
-pub past_damage : (t : Tables) (f : Fault) → IsPastTables f → IsFirstDamage t f
+pub past_damage : (t : Tables) (f : Fault) → IsPastTables f → IsFirstDamage is_program t f
 past_damage t (fault.NoMemory _) of = tt
 past_damage t (fault.Mismatch run place name) of = tt
 past_damage t _ of = absurd of

@@ -10,7 +10,7 @@ use Rattle.sqlite.specs.declared.error.Error.{Error}
 use Rattle.sqlite.specs.State.{State, Opens, IsLive, store_error}
 use Rattle.flow_base.specs.declared.fault.Fault.{Fault}
 use Rattle.flow_base.specs.declared.fault.Fault.TheVariants as fault
-use Rattle.flow_check.specs.Language.{meaning_of}
+use Rattle.flow_check.specs.Language.{is_program, meaning_of}
 use Rattle.flow_model.specs.Book.{Book, no_book}
 use Rattle.flow_model.specs.Sound.{IsSound}
 use Rattle.flow_tables.specs.Layout.{no_schema}
@@ -27,12 +27,12 @@ pub record IsRecovered {S : Type 0} (g : Ghosts S) (from : State) (k : Keeping S
   pub found : IsFound from k.found
   pub kept : KeepsBook g k k.found
   -- its texts are programs, and its runs keep the rules
-  pub stands : IsOfRows k.found
+  pub stands : IsOfRows is_program k.found
   pub positions : ArePositions meaning_of k.found qs
 
 -- A store holds nothing that could be refused: its tables stand for a sound book, or it has none.
 abbrev pub HoldsSound : State → Type 0
-HoldsSound s = ((b : Book) × HasTables s.committed × StandFor (tables_in s.committed.trees) b × IsSound rules b) ⊎ (s.committed.schema ≡ no_schema)
+HoldsSound s = ((b : Book) × HasTables s.committed × StandFor is_program (tables_in s.committed.trees) b × IsSound rules b) ⊎ (s.committed.schema ≡ no_schema)
 
 ---- A book that is there
 

@@ -1,4 +1,5 @@
--- Tables stand for a sound and orderly book that they tell: its texts are programs, and its runs keep the rules of the tables.
+-- Tables stand for a sound and orderly book that they tell: its texts are programs, and its runs keep the rules of the tables. What texts
+-- mean is whatever keeps to `Means`.
 use Rattle.std.proofs.Common.{◌≡◌, ℕ, zero, suc, ◌+◌, ◌<◌, ◌≤◌, pos, List, [], ◌∷◌, ◌++◌, map, length, Bool, true, false, not, if◌then◌else◌, Option, Some, None, Result, Ok, Err, is_ok, slice_get, refl, sym, ap, ◌∙◌, subst, arith}
 use Rattle.std.specs.Prelude.{All}
 use Rattle.std.specs.List.{AllByRecursion}
@@ -27,8 +28,7 @@ use Rattle.flow_model.specs.Apply.{Rules, rules_of, program_if, program_at}
 use Rattle.flow_model.specs.Sound.{IsSoundTask, IsSoundRun, IsSound, IsProgram, IsOrderly}
 use Rattle.flow_model.proofs.Tries.{well_formed_tried}
 use Rattle.flow_model.proofs.Starts.{is_start, StartNone, StartsOnce, starts_once, none_left}
-use Rattle.flow_check.specs.Language.{meaning_of, is_program}
-use Rattle.flow_check.proofs.Meaning.{meaning_is}
+use Rattle.flow_model.specs.Checked.{is_program_by}
 use Rattle.flow_rows.specs.Rows.{activities_left}
 use Rattle.flow_rows.specs.Damages.{tries_of, tries_at}
 use Rattle.flow_rows.specs.Standing.{AreEvents, AreTasks, IsKept, AreApart, AreKept}
@@ -40,14 +40,14 @@ use Rattle.flow_rows.proofs.Openness.{later}
 
 ---- The text of a run
 
-abbrev program_by : Option Bytes → Option Program
-program_by o = elim o [ None ↦ None | Some body ↦ program_if (meaning_of body) ]
+abbrev program_by : (Bytes → Result Program TextFault) → Option Bytes → Option Program
+program_by meaning o = elim o [ None ↦ None | Some body ↦ program_if (meaning body) ]
 
 -- a text of the book, with its number, that is this program
-record IsThere (b : Book) (n : ℕ) (p : Program) : Type 0 where
+record IsThere (meaning : Bytes → Result Program TextFault) (b : Book) (n : ℕ) (p : Program) : Type 0 where
   place : Within 1 (length b.texts) n
   body : Bytes
-  means : meaning_of body ≡ Ok p
+  means : meaning body ≡ Ok p
 
 place_of : {A : Type 0} (xs : List A) (n : ℕ) (x : A) → nth xs n ≡ Some x → Within 1 (length xs) n
 place_of xs zero x h = absurd (none-some x h)
@@ -57,15 +57,15 @@ of_program : (r : Result Program TextFault) (p : Program) → program_if r ≡ S
 of_program (Ok q) p h = ap Ok (same_Some q p h)
 of_program (Err f) p h = absurd (none-some p h)
 
-text_there : (b : Book) (n : ℕ) (p : Program) → program_at meaning_of b n ≡ Some p → IsThere b n p
-text_there b n p h =
-    elim (nth b.texts n) as (λ o. nth b.texts n ≡ o → program_by o ≡ Some p → IsThere b n p) [
+text_there : (meaning : Bytes → Result Program TextFault) (b : Book) (n : ℕ) (p : Program) → program_at meaning b n ≡ Some p → IsThere meaning b n p
+text_there meaning b n p h =
+    elim (nth b.texts n) as (λ o. nth b.texts n ≡ o → program_by meaning o ≡ Some p → IsThere meaning b n p) [
       | None ↦ λ e v. absurd (none-some p v)
-      | Some body ↦ λ e v. record { place = place_of b.texts n body e; body = body; means = of_program (meaning_of body) p v }
+      | Some body ↦ λ e v. record { place = place_of b.texts n body e; body = body; means = of_program (meaning body) p v }
     ] refl h
 
-text_well_formed : (b : Book) (n : ℕ) (p : Program) → IsThere b n p → WellFormed p
-text_well_formed b n p there = (subst (Means there.body) there.means (meaning_is there.body)).1
+text_well_formed : (meaning : Bytes → Result Program TextFault) → ((text : Bytes) → Means text (meaning text)) → (b : Book) (n : ℕ) (p : Program) → IsThere meaning b n p → WellFormed p
+text_well_formed meaning means b n p there = (subst (Means there.body) there.means (means there.body)).1
 
 ---- Its events
 
@@ -135,10 +135,10 @@ left_is false ts none = none refl
 
 ---- Each run
 
-kept_run : (b : Book) (r : Run) → IsSoundRun (rules_of meaning_of) b r → IsTold r → IsKept (length b.texts) r
-kept_run b r sound told =
-    let there = text_there b r.text sound.program sound.its_text in
-    let tried = well_formed_tried sound.program (text_well_formed b r.text sound.program there) in
+kept_run : (meaning : Bytes → Result Program TextFault) → ((text : Bytes) → Means text (meaning text)) → (b : Book) (r : Run) → IsSoundRun (rules_of meaning) b r → IsTold r → IsKept (length b.texts) r
+kept_run meaning means b r sound told =
+    let there = text_there meaning b r.text sound.program sound.its_text in
+    let tried = well_formed_tried sound.program (text_well_formed meaning means b r.text sound.program there) in
     let left : open_activities r.history ≡ activities_left r.history =
     left_is (is_open (state_of r.history)) (open_activities r.history) (none_left sound.program r.history sound.place tried sound.stands)
     in
@@ -151,10 +151,10 @@ kept_run b r sound told =
       tasks = are_tasks r r.tasks (activities_left r.history) (sound.activities ∙ ap (map (λ (t : Task). t.event)) left) sound.attempts told.types.tasks;
     }
 
-kept_runs : (b : Book) (rs : List Run) → AllByRecursion (IsSoundRun (rules_of meaning_of) b) rs → AllByRecursion IsTold rs
+kept_runs : (meaning : Bytes → Result Program TextFault) → ((text : Bytes) → Means text (meaning text)) → (b : Book) (rs : List Run) → AllByRecursion (IsSoundRun (rules_of meaning) b) rs → AllByRecursion IsTold rs
     → AllByRecursion (IsKept (length b.texts)) rs
-kept_runs b [] sound told = tt
-kept_runs b (r ∷ rs) sound told = (kept_run b r sound.0 told.0, kept_runs b rs sound.1 told.1)
+kept_runs meaning means b [] sound told = tt
+kept_runs meaning means b (r ∷ rs) sound told = (kept_run meaning means b r sound.0 told.0, kept_runs meaning means b rs sound.1 told.1)
 
 ---- One run beside another
 
@@ -192,14 +192,15 @@ module _ (u : Rules) (b : Book) (sound : IsSound u b) (orderly : IsOrderly u b) 
 
 ---- The book
 
-texts_are : (ts : List Bytes) → AllByRecursion (IsProgram (rules_of meaning_of)) ts → AllByRecursion (λ text. is_program text ≡ true) ts
-texts_are [] all = tt
-texts_are (t ∷ ts) all = (ap is_ok all.0.1, texts_are ts all.1)
+texts_are : (meaning : Bytes → Result Program TextFault) (ts : List Bytes) → AllByRecursion (IsProgram (rules_of meaning)) ts → AllByRecursion (λ text. is_program_by meaning text ≡ true) ts
+texts_are meaning [] all = tt
+texts_are meaning (t ∷ ts) all = (ap is_ok all.0.1, texts_are meaning ts all.1)
 
-pub stood : (b : Book) → AllByRecursion IsTold b.runs → IsSound (rules_of meaning_of) b → IsOrderly (rules_of meaning_of) b
-    → AllByRecursion (λ text. is_program text ≡ true) b.texts × AreKept (length b.texts) [] b.runs
-stood b told sound orderly = (
-  texts_are b.texts (recursion_from_All (IsProgram (rules_of meaning_of)) b.texts orderly.texts),
-  runs_kept (rules_of meaning_of) b sound orderly (length b.texts) [] b.runs refl
-      (kept_runs b b.runs (recursion_from_All (IsSoundRun (rules_of meaning_of) b) b.runs sound.runs) told),
+pub stood : (meaning : Bytes → Result Program TextFault) → ((text : Bytes) → Means text (meaning text)) → (b : Book)
+    → AllByRecursion IsTold b.runs → IsSound (rules_of meaning) b → IsOrderly (rules_of meaning) b
+    → AllByRecursion (λ text. is_program_by meaning text ≡ true) b.texts × AreKept (length b.texts) [] b.runs
+stood meaning means b told sound orderly = (
+  texts_are meaning b.texts (recursion_from_All (IsProgram (rules_of meaning)) b.texts orderly.texts),
+  runs_kept (rules_of meaning) b sound orderly (length b.texts) [] b.runs refl
+      (kept_runs meaning means b b.runs (recursion_from_All (IsSoundRun (rules_of meaning) b) b.runs sound.runs) told),
 )

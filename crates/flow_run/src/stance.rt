@@ -2,7 +2,7 @@
 
 ghost use Rattle.std.specs.Prelude.{◌≡◌, ◌≢◌, ◌<◌, ◌+◌, ◌^◌, ◌↔◌, length, IfOk, OnErr, MatchOption, Some, None, true, false};
 ghost use Rattle.flow_base.specs.Syntax.{Program as Tree};
-ghost use Rattle.flow_check.specs.Shown.{shown_checked};
+ghost use Rattle.flow_model.specs.Checked.{shown_checked};
 ghost use Rattle.flow_model.specs.Configuration.{first_configuration, is_closed};
 ghost use Rattle.flow_model.specs.Deliver.{deliver, all_fit};
 ghost use Rattle.flow_model.specs.Turn.{Turn};
@@ -18,7 +18,7 @@ use flow_base::event::{Cmd, Input, State, copy_values};
 use flow_base::number::Moment;
 use flow_base::text::Key;
 use flow_base::value::Value;
-use flow_check::checked::Checked;
+use flow_model::checked::Checked;
 use std::alloc::{AllocError, Global};
 
 /// The position of a run between two turns. It is used with the program with which it was made, by the caller's

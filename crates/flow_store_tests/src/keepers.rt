@@ -5,6 +5,7 @@ ghost use Rattle.flow_tables.specs.Owned.{state_of, IsFit, Keeps};
 
 use crate::calls::{Call, Calls, Told, Want, add_receipts, command, is_as};
 use flow_base::number::Moment;
+use flow_check::language::Language;
 use flow_commit::batch::Batch;
 use flow_commit::board::Board;
 use flow_commit::keeper::Keeper;
@@ -278,7 +279,7 @@ pub fn keeps<S: Alter>(
     conn: Connection<S>,
     keeping: Keeping,
 ) -> (bool, Connection<S>) {
-    match Tables::open(alloc, conn) {
+    match Tables::open(alloc, &Language, conn) {
         Ok((tables, book)) => over_tables(alloc, tables, &book, keeping),
         Err((_, conn)) => (false, conn),
     }

@@ -156,7 +156,7 @@ pub fn has_positions<S: Alter>(
     conn: Connection<S>,
     case: Case,
 ) -> (bool, Connection<S>) {
-    match Tables::open(alloc, conn) {
+    match Tables::open(alloc, &Language, conn) {
         Ok((tables, book)) => (is_so(alloc, book, case), tables.into_connection()),
         Err((_, conn)) => (false, conn),
     }

@@ -5,6 +5,7 @@ use crate::reads::{Read, is_read};
 use crate::rows::{Memory, Row, is_changed, run};
 use flow_base::fault::{Damage, Fault};
 use flow_base::memory::NoMemory;
+use flow_check::language::Language;
 use flow_sql::transaction::{begin, commit, rollback, undo};
 use flow_tables::book_changes::put_change;
 use flow_tables::create::create;
@@ -66,7 +67,7 @@ fn makes(conn: &mut Memory) -> bool {
 
 /// How many texts and runs the book has that opening gives.
 fn opened(alloc: Global, conn: &mut Memory) -> Result<(usize, usize), Fault> {
-    match open(alloc, conn) {
+    match open(alloc, &Language, conn) {
         Ok(book) => Ok((book.texts.as_slice().len(), book.runs.as_slice().len())),
         Err(fault) => Err(fault),
     }

@@ -6,6 +6,7 @@ use crate::statements::is_told;
 use flow_base::book::Due;
 use flow_base::number::{EventId, RunId};
 use flow_base::text::RawText;
+use flow_check::language::Language;
 use flow_tables::tables::Tables;
 use flow_view::fault::ViewFault;
 use flow_view::head::Head;
@@ -277,7 +278,7 @@ fn all_so(alloc: Global, tables: &mut Memory, steps: &[Step]) -> bool {
 }
 
 fn opened_over(alloc: Global, conn: Connection<MemStore>) -> Option<Memory> {
-    match Tables::open(alloc, conn) {
+    match Tables::open(alloc, &Language, conn) {
         Ok((tables, _)) => Some(tables),
         Err(_) => None,
     }

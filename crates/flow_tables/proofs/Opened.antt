@@ -1,6 +1,6 @@
 -- What opening finds, and why it is refused.
 use Rattle.std.specs.Prelude.{◌≡◌, ◌∷◌, ◌⊎◌, ◌≢◌, ◌≤◌}
-use Rattle.flow_tables.proofs.Names.{Run, Fault, Damaged, NoMemory, NotOurs, StoreRefused, is_program, Book, no_book, event_row, of_run, task_row, timer_row, timers_left, Tells, format_sql, no_schema, Database, Held, state, HasCleanDisk, Survives, Row, State, Error, Int, Ghosts, IsTrue, IsUnchanged, List, map, pos, false, true, HasEnded, HasTables, IsAtRest, no_tables, tables_in, SqliteFailure, Err, Ok, ℤ, [], refl, column, eqb as nat_eq, negsuc, QueriesRow, subst, ◌∙◌, sym, ap, inl, inr}
+use Rattle.flow_tables.proofs.Names.{Bytes, Bool, Run, Fault, Damaged, NoMemory, NotOurs, StoreRefused, Book, no_book, event_row, of_run, task_row, timer_row, timers_left, Tells, format_sql, no_schema, Database, Held, state, HasCleanDisk, Survives, Row, State, Error, Int, Ghosts, IsTrue, IsUnchanged, List, map, pos, false, true, HasEnded, HasTables, IsAtRest, no_tables, tables_in, SqliteFailure, Err, Ok, ℤ, [], refl, column, eqb as nat_eq, negsuc, QueriesRow, subst, ◌∙◌, sym, ap, inl, inr}
 use Rattle.flow_tables.specs.Names.{QueryReturnedNoRows}
 use Rattle.sqlite.specs.declared.error.ErrorCode.TheVariants as code
 use Rattle.sqlite_trees.specs.declared.error.StoreError.{StoreError}
@@ -41,21 +41,21 @@ told_otherwise _ is = let e = is in cc
 pub never_both : {A : Type 0} (db : Database) → HasTables db → db.schema ≡ no_schema → A
 never_both db has none = absurd (let clash = sym (ap (λ (s : Schema). s.tables) has.laid_out) ∙ ap (λ (s : Schema). s.tables) none in cc)
 
-module _ (db : Database) (f : Fault) where
-  pub told_blank : db.schema ≡ no_schema → IsToldOf db f → IsOfStore f
+module _ (is_program : Bytes → Bool) (db : Database) (f : Fault) where
+  pub told_blank : db.schema ≡ no_schema → IsToldOf is_program db f → IsOfStore f
   told_blank none (inl of) = of
   told_blank none (inr damage) = never_both db damage.0 none
 
-  pub told_first : IsToldOf db f → IsFirstDamage (tables_in db.trees) f
+  pub told_first : IsToldOf is_program db f → IsFirstDamage is_program (tables_in db.trees) f
   told_first (inl of) = harmless f of
     where
-      harmless : (f : Fault) → IsOfStore f → IsFirstDamage (tables_in db.trees) f
+      harmless : (f : Fault) → IsOfStore f → IsFirstDamage is_program (tables_in db.trees) f
       harmless (Damaged d) of = absurd of
       harmless _ of = tt
-  told_first (inr damage) = subst (IsFirstDamage (tables_in db.trees)) (sym damage.2.1) (damage.1, damage.3, damage.2.2)
+  told_first (inr damage) = subst (IsFirstDamage is_program (tables_in db.trees)) (sym damage.2.1) (damage.1, damage.3, damage.2.2)
 
   -- tables that stand for a book have none
-  pub told_whole : (b : Book) → StandFor (tables_in db.trees) b → IsToldOf db f → IsOfStore f
+  pub told_whole : (b : Book) → StandFor is_program (tables_in db.trees) b → IsToldOf is_program db f → IsOfStore f
   told_whole b stand (inl of) = of
   told_whole b stand (inr damage) =
       absurd (let some = damage.2.2 in let none = book_undamaged is_program damage.1 b stand.texts stand.runs (damage.3 ∙ stand.same) in cc)
@@ -109,8 +109,8 @@ module _ {S : Type 0} (g : Ghosts S) (old : State) (mid new : Held S) (ended : H
 
 ---- No tables
 
-pub empty_of_rows : IsOfRows no_book
-empty_of_rows = record { texts = tt; runs = tt; same = refl }
+pub empty_of_rows : (is_program : Bytes → Bool) → IsOfRows is_program no_book
+empty_of_rows is_program = record { texts = tt; runs = tt; same = refl }
 
 none_there : {A : Type 0} (f : Run → List A) (z : ℤ) → [] ≡ of_run (run_at no_book z) f
 none_there f (pos n) = elim (cases_Bool (nat_eq n 0)) [ inl zeroth ↦ rw zeroth refl | inr other ↦ rw other refl ]

@@ -15,7 +15,6 @@ pub use Rattle.flow_base.specs.declared.event.Input.TheVariants.{Started}
 pub use Rattle.flow_base.specs.declared.event.What.TheVariants.{Came, Asked}
 pub use Rattle.flow_base.specs.declared.fault.Fault.{Fault}
 pub use Rattle.flow_base.specs.declared.fault.Fault.TheVariants.{BadVersion, Damaged, NoMemory, NotOurs, StoreRefused}
-pub use Rattle.flow_check.specs.Language.{is_program}
 pub use Rattle.flow_model.specs.Book.{Book, nth, no_book, changed}
 pub use Rattle.flow_model.specs.Configuration.{is_open}
 pub use Rattle.flow_model.specs.Open.{state_of}

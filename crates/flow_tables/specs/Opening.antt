@@ -1,7 +1,8 @@
 -- What opening reads and finds, and why it is refused.
 use Rattle.std.specs.Prelude.{◌≡◌, ◌⊎◌, ◌≢◌}
 use Rattle.sqlite_disk.specs.Disk.{MoreFaults}
-use Rattle.flow_tables.specs.Names.{schema, no_schema, Fault, BadVersion, Damaged, NoMemory, NotOurs, StoreRefused, is_program, Book, first_damage, by_run, StoreRows, format_sql, Read, read_sql, Tables, Database, Held, state, Row, Executes, State, Error, Int, Ghosts, column, AllByRecursion, Bool, List, false, pos, true, ℕ, HasEnded, HasTables, tables_in, IsReadError, QueriesRow, QueryReturnedNoRows, SqliteFailure, Err, Ok, Some, length, ℤ, [], IsSome, ⊤, IsOver, IsBlank, Tells, AreUtf8, AreNew, Trees}
+use Rattle.flow_tables.specs.Names.{schema, no_schema, Fault, BadVersion, Damaged, NoMemory, NotOurs, StoreRefused, Book, first_damage, by_run, StoreRows, format_sql, Read, read_sql, Tables, Database, Held, state, Row, Executes, State, Error, Int, Ghosts, column, AllByRecursion, Bool, List, false, pos, true, ℕ, HasEnded, HasTables, tables_in, IsReadError, QueriesRow, QueryReturnedNoRows, SqliteFailure, Err, Ok, Some, length, ℤ, [], IsSome, ⊤, IsOver, IsBlank, Tells, AreUtf8, AreNew, Trees}
+use Rattle.flow_base.specs.Syntax.{Bytes}
 use Rattle.flow_base.specs.declared.fault.Damage.{Damage}
 use Rattle.flow_tables.specs.Owned.{IsFound}
 use Rattle.sqlite.specs.declared.error.ErrorCode.TheVariants as code
@@ -42,19 +43,19 @@ HasFormat {S} g start is_there = (old new : Held S) × HasEnded start (state g o
 ---- What the rows say
 
 -- Tables stand for a book: they are its rows, its texts are programs, and its runs keep the rules.
-pub record StandFor (t : Tables) (b : Book) : Type 0 where
+pub record StandFor (is_program : Bytes → Bool) (t : Tables) (b : Book) : Type 0 where
   pub texts : AllByRecursion (λ text. is_program text ≡ true) b.texts
   pub runs : AreKept (length b.texts) [] b.runs
   pub same : t ≡ rows_of b
 
 -- Its own rows stand for a book: its texts are programs, and its runs keep the rules.
-abbrev pub IsOfRows : Book → Type 0
-IsOfRows b = StandFor (rows_of b) b
+abbrev pub IsOfRows : (Bytes → Bool) → Book → Type 0
+IsOfRows is_program b = StandFor is_program (rows_of b) b
 
 -- A damage that is told is the first one.
-abbrev pub IsFirstDamage : Tables → Fault → Type 0
-IsFirstDamage t (Damaged d) = (rows : StoreRows) × (by_run rows ≡ t) × (first_damage is_program rows ≡ Some d)
-IsFirstDamage t _ = ⊤
+abbrev pub IsFirstDamage : (Bytes → Bool) → Tables → Fault → Type 0
+IsFirstDamage is_program t (Damaged d) = (rows : StoreRows) × (by_run rows ≡ t) × (first_damage is_program rows ≡ Some d)
+IsFirstDamage is_program t _ = ⊤
 
 -- The rows and the format are as they should be.
 abbrev pub IsOfStore : Fault → Type 0
@@ -64,12 +65,12 @@ IsOfStore NotOurs = ⊤
 IsOfStore _ = ⊥
 
 -- It is the first damage of these rows.
-abbrev pub IsDamageOf : StoreRows → Fault → Type 0
-IsDamageOf rows f = (d : Damage) × (f ≡ Damaged d) × (first_damage is_program rows ≡ Some d)
+abbrev pub IsDamageOf : (Bytes → Bool) → StoreRows → Fault → Type 0
+IsDamageOf is_program rows f = (d : Damage) × (f ≡ Damaged d) × (first_damage is_program rows ≡ Some d)
 
 -- What is told where the last commit left our tables, or none: a fault of the store, or the first damage of our tables.
-abbrev pub IsToldOf : Database → Fault → Type 0
-IsToldOf db f = IsOfStore f ⊎ (HasTables db × (rows : StoreRows) × IsDamageOf rows f × (by_run rows ≡ tables_in db.trees))
+abbrev pub IsToldOf : (Bytes → Bool) → Database → Fault → Type 0
+IsToldOf is_program db f = IsOfStore f ⊎ (HasTables db × (rows : StoreRows) × IsDamageOf is_program rows f × (by_run rows ≡ tables_in db.trees))
 
 -- What opening tells at all: E01, E80 to E83.
 abbrev pub IsOfOpening : Fault → Type 0

@@ -1,7 +1,7 @@
 use Rattle.std.proofs.Common.{sym, subst, inl}
 use Rattle.std.specs.Prelude.{◌⊎◌}
 use Rattle.std.proofs.lemmas.Result.{err_from_is_err_and}
-use Rattle.flow_check.specs.Shown.{shown_checked}
+use Rattle.flow_model.specs.Checked.{shown_checked}
 use Rattle.flow_model.specs.Apply.{Rules, Outcome, event_limit, rules_of, fired}
 use Rattle.flow_machine.specs.ByHead.{StuckFiredAt, fired_at, history_at, recorded_at}
 use Rattle.flow_machine.specs.Deciding.{Decides}

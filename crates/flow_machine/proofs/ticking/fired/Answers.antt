@@ -1,5 +1,5 @@
 use Rattle.std.proofs.Common.{rules, ◌≡◌, Some}
-use Rattle.flow_check.specs.Shown.{shown_checked}
+use Rattle.flow_model.specs.Checked.{shown_checked}
 use Rattle.flow_view.specs.Heads.{head_at}
 use Rattle.flow_machine.proofs.Stepping.{fired_sticks}
 use Rattle.flow_machine.proofs.ticking.fired.Goals as goal

@@ -1,5 +1,5 @@
 use Rattle.std.proofs.Common.{rules, ◌≡◌, Some, None}
-use Rattle.flow_check.specs.Shown.{shown_checked}
+use Rattle.flow_model.specs.Checked.{shown_checked}
 use Rattle.flow_patch.specs.Difference.{first_difference}
 use Rattle.flow_patch.proofs.Wrapping.{wraps_then, wraps_never, stands_then, never_then, upgraded_then}
 use Rattle.flow_patch.proofs.change.safe_change.Goals as goal

@@ -1,6 +1,7 @@
 use Rattle.std.specs.Prelude.{◌≡◌}
 use Rattle.flow_sql.specs.Stored.{AreUtf8}
-use Rattle.flow_tables.proofs.Names.{is_program, first_damage, by_run, Tells, shown_book, state, false, Some, refl, subst, ◌∙◌, sym, ap, inl, inr}
+use Rattle.flow_tables.proofs.Names.{first_damage, by_run, Tells, shown_book, state, false, Some, refl, subst, ◌∙◌, sym, ap, inl, inr}
+use Rattle.flow_model.specs.Checked.{is_program_by}
 use Rattle.std.proofs.lemmas.Result.{IfOk-at_ok, IfErr-at_err}
 use Rattle.flow_rows.specs.Standing.{StandsFor}
 use Rattle.flow_tables.specs.Asking.{StopsAsk}
@@ -18,12 +19,12 @@ returns-in-Ok-Ok-clause-reads g c clean was =
 
 pub returns-in-Ok-Ok-clause-stands : goal.returns-in-Ok-Ok-clause-stands
 returns-in-Ok-Ok-clause-stands g c =
-    let its = IfOk-at_ok (λ b. StandsFor is_program c.in-Ok.rows (shown_book b)) c.in-Ok-Ok.field-0-is c.in-Ok-Ok.ensures.stands in
+    let its = IfOk-at_ok (λ b. StandsFor (is_program_by g.T.Texts.meaning) c.in-Ok.rows (shown_book b)) c.in-Ok-Ok.field-0-is c.in-Ok-Ok.ensures.stands in
     record { texts = its.texts; runs = its.runs; same = refl }
 
 pub returns-in-Ok-Err-clause-told : goal.returns-in-Ok-Err-clause-told
 returns-in-Ok-Err-clause-told g c =
-    let first = IfErr-at_err (λ d. first_damage is_program c.in-Ok.rows ≡ Some d) c.in-Ok-Err.field-0-is c.in-Ok-Err.ensures.first in
+    let first = IfErr-at_err (λ d. first_damage (is_program_by g.T.Texts.meaning) c.in-Ok.rows ≡ Some d) c.in-Ok-Err.field-0-is c.in-Ok-Err.ensures.first in
     inr (c.in-Ok.rows, (c.in-Ok-Err.found, refl, first), λ clean was. (c.in-Ok.ensures.reads false was clean).1)
 
 pub returns-in-Err-Refused-clause-cause : goal.returns-in-Err-Refused-clause-cause

@@ -1,7 +1,7 @@
 use Rattle.std.proofs.Common.{◌≡◌, ◌≤◌, ◌∷◌, ℕ, List, Ok, sym, ap, subst, ◌∙◌}
 use Rattle.std.proofs.lemmas.Option.{get_or_from_slice_get}
 use Rattle.flow_base.specs.Syntax.{Bytes}
-use Rattle.flow_check.specs.Shown.{shown_checked}
+use Rattle.flow_model.specs.Checked.{shown_checked}
 use Rattle.flow_programs.specs.Keeping.{IsPlace, total}
 use Rattle.flow_programs.proofs.Listing.{total_forward}
 use Rattle.flow_programs.proofs.kept.Kept.take.Goals as goal

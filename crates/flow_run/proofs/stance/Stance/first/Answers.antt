@@ -1,5 +1,5 @@
 use Rattle.std.proofs.Common.{◌≡◌, arith, ap, Err}
-use Rattle.flow_check.specs.Shown.{shown_checked}
+use Rattle.flow_model.specs.Checked.{shown_checked}
 use Rattle.flow_run.specs.Shown.{shown_answers}
 use Rattle.flow_run.specs.declared.fault.RunFault.TheVariants as fault
 use Rattle.flow_run.specs.Position.{config_of}
