@@ -40,6 +40,7 @@ code_number c.InputNotAwaited = 54
 code_number c.AfterClose = 55
 code_number c.BadNumbering = 56
 code_number c.NotAWrap = 57
+code_number c.NotSettled = 58
 code_number c.NoText = 60
 code_number c.BadArguments = 61
 code_number c.AlreadyOpen = 62
@@ -58,6 +59,9 @@ code_number c.Damaged = 83
 code_number c.Unknown = 84
 code_number c.Halted = 85
 code_number c.NoFile = 93
+code_number c.InputFailed = 94
+code_number c.OutputFailed = 95
+code_number c.BadSettings = 96
 code_number c.BadUsage = 97
 
 -- a refusal as it is written: E and two digits
@@ -86,6 +90,9 @@ fault_code (fault.Damaged d) = c.Damaged
 fault_code fault.Unknown = c.Unknown
 fault_code fault.Halted = c.Halted
 fault_code fault.NoFile = c.NoFile
+fault_code fault.InputFailed = c.InputFailed
+fault_code fault.OutputFailed = c.OutputFailed
+fault_code fault.BadSettings = c.BadSettings
 fault_code fault.BadUsage = c.BadUsage
 
 -- a table's name in the store

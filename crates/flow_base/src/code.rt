@@ -66,6 +66,8 @@ pub enum Code {
     BadNumbering,
     /// E57: the text isn't the old one with lists wrapped in patches.
     NotAWrap,
+    /// E58: the text isn't the old one with patches retired.
+    NotSettled,
     /// E60: no such text.
     NoText,
     /// E61: the arguments don't fit the parameters.
@@ -102,6 +104,12 @@ pub enum Code {
     Halted,
     /// E93: a program file can't be read.
     NoFile,
+    /// E94: a read of an input failed.
+    InputFailed,
+    /// E95: a write to an output failed.
+    OutputFailed,
+    /// E96: a file gives no settings.
+    BadSettings,
     /// E97: bad usage.
     BadUsage,
 }
@@ -142,6 +150,7 @@ impl Code {
             Code::AfterClose => 55,
             Code::BadNumbering => 56,
             Code::NotAWrap => 57,
+            Code::NotSettled => 58,
             Code::NoText => 60,
             Code::BadArguments => 61,
             Code::AlreadyOpen => 62,
@@ -160,6 +169,9 @@ impl Code {
             Code::Unknown => 84,
             Code::Halted => 85,
             Code::NoFile => 93,
+            Code::InputFailed => 94,
+            Code::OutputFailed => 95,
+            Code::BadSettings => 96,
             Code::BadUsage => 97,
         }
     }

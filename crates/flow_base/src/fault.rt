@@ -77,6 +77,15 @@ pub enum Fault {
     Halted,
     #[error("{} no program file", self.code())]
     NoFile,
+    /// A read of an input failed, other than for want of memory.
+    #[error("{} the input can't be read", self.code())]
+    InputFailed,
+    /// A write to an output failed, other than for want of memory.
+    #[error("{} the output can't be written", self.code())]
+    OutputFailed,
+    /// A file gives no settings.
+    #[error("{} bad settings", self.code())]
+    BadSettings,
     #[error("{} bad usage", self.code())]
     BadUsage,
 }
@@ -97,6 +106,9 @@ impl Fault {
             Fault::Unknown => Code::Unknown,
             Fault::Halted => Code::Halted,
             Fault::NoFile => Code::NoFile,
+            Fault::InputFailed => Code::InputFailed,
+            Fault::OutputFailed => Code::OutputFailed,
+            Fault::BadSettings => Code::BadSettings,
             Fault::BadUsage => Code::BadUsage,
         }
     }

@@ -88,6 +88,9 @@ memory_alone (fault.Damaged d) cause = absurd cause
 memory_alone fault.Unknown cause = absurd cause
 memory_alone fault.Halted cause = absurd cause
 memory_alone fault.NoFile cause = absurd cause
+memory_alone fault.InputFailed cause = absurd cause
+memory_alone fault.OutputFailed cause = absurd cause
+memory_alone fault.BadSettings cause = absurd cause
 memory_alone fault.BadUsage cause = absurd cause
 
 -- A read that failed ends between parts.
@@ -143,6 +146,9 @@ module _ (u : Rules) (given_up : Book → List Command → Code → Type 0) wher
   fault_at stops fault.Unknown b b1 lines old new cause t = absurd cause
   fault_at stops fault.Halted b b1 lines old new cause t = absurd cause
   fault_at stops fault.NoFile b b1 lines old new cause t = absurd cause
+  fault_at stops fault.InputFailed b b1 lines old new cause t = absurd cause
+  fault_at stops fault.OutputFailed b b1 lines old new cause t = absurd cause
+  fault_at stops fault.BadSettings b b1 lines old new cause t = absurd cause
   fault_at stops fault.BadUsage b b1 lines old new cause t = absurd cause
 
   -- of its answers some were written

@@ -18,6 +18,9 @@ two_digits (fault.Damaged d) = omega arith
 two_digits fault.Unknown = omega arith
 two_digits fault.Halted = omega arith
 two_digits fault.NoFile = omega arith
+two_digits fault.InputFailed = omega arith
+two_digits fault.OutputFailed = omega arith
+two_digits fault.BadSettings = omega arith
 two_digits fault.BadUsage = omega arith
 
 spelled : (n : ℕ) → n < 100 → codes "flow: " ++ (codes "E" ++ (decimal (n / 10) ++ decimal (n % 10))) ≡ codes "flow: E" ++ ((48 + n / 10) ∷ (48 + n % 10) ∷ [])

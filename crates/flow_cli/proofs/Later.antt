@@ -69,6 +69,9 @@ module _ (one two : Book → List Command → Code → Type 0) (on : Gives one t
       fault_too fault.Unknown b b1 lines old new h = (gives b (commands_in lines) stop.Unknown h.0, h.1)
       fault_too fault.Halted b b1 lines old new h = (gives b (commands_in lines) stop.Halted h.0, h.1)
       fault_too fault.NoFile b b1 lines old new h = h
+      fault_too fault.InputFailed b b1 lines old new h = h
+      fault_too fault.OutputFailed b b1 lines old new h = h
+      fault_too fault.BadSettings b b1 lines old new h = h
       fault_too fault.BadUsage b b1 lines old new h = h
 
       at_too : (e : Stopped) (b b1 : Book) (lines : List (List ℕ)) (old new : Option (List ℕ)) → StopsAtPart u one stops e b b1 lines old new → StopsAtPart u two since e b b1 lines old new

@@ -165,6 +165,9 @@ module _ (u : Rules) (given_up : Book → List Command → Code → Type 0) (mos
     fault_unwritten fault.Unknown b b1 lines old new h = (h.0, tt)
     fault_unwritten fault.Halted b b1 lines old new h = (h.0, tt)
     fault_unwritten fault.NoFile b b1 lines old new h = h
+    fault_unwritten fault.InputFailed b b1 lines old new h = h
+    fault_unwritten fault.OutputFailed b b1 lines old new h = h
+    fault_unwritten fault.BadSettings b b1 lines old new h = h
     fault_unwritten fault.BadUsage b b1 lines old new h = h
 
     part_unwritten : (e : Stopped) (b b1 : Book) (lines : List (List ℕ)) (old new : Option (List ℕ)) → StopsAtPart u given_up stops e b b1 lines old new → StopsAtPart u given_up stops e b b1 lines None None

@@ -38,6 +38,9 @@ fault_by (fault.Damaged d) X Y P Q g h c = absurd c
 fault_by fault.Unknown X Y P Q g h c = g stop.Unknown c
 fault_by fault.Halted X Y P Q g h c = g stop.Halted c
 fault_by fault.NoFile X Y P Q g h c = absurd c
+fault_by fault.InputFailed X Y P Q g h c = absurd c
+fault_by fault.OutputFailed X Y P Q g h c = absurd c
+fault_by fault.BadSettings X Y P Q g h c = absurd c
 fault_by fault.BadUsage X Y P Q g h c = absurd c
 
 -- An early end has every cause that follows from its cause.

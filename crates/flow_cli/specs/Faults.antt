@@ -44,6 +44,7 @@ abbrev pub fault_status : Fault → ℕ
 fault_status (fault.Mismatch run place name) = 1
 fault_status fault.NoRun = 1
 fault_status fault.NoFile = 2
+fault_status fault.BadSettings = 2
 fault_status fault.BadUsage = 2
 fault_status f = 3
 

@@ -63,14 +63,16 @@ pub fn status(fault: &Fault) -> u8
 {
     match fault {
         Fault::Mismatch { .. } | Fault::NoRun => 1,
-        Fault::NoFile | Fault::BadUsage => 2,
+        Fault::NoFile | Fault::BadSettings | Fault::BadUsage => 2,
         Fault::NoMemory(_)
         | Fault::StoreRefused
         | Fault::NotOurs
         | Fault::BadVersion
         | Fault::Damaged(_)
         | Fault::Unknown
-        | Fault::Halted => 3,
+        | Fault::Halted
+        | Fault::InputFailed
+        | Fault::OutputFailed => 3,
     }
 }
 

@@ -5,7 +5,7 @@ use Rattle.flow_base.specs.declared.code.Code.{Code}
 use Rattle.flow_base.specs.declared.code.Code.TheVariants as code
 
 all : List Code
-all = code.NoMemory ∷ code.NotAValue ∷ code.TooLong ∷ code.BadToken ∷ code.Unexpected ∷ code.TextTooLong ∷ code.TooDeep ∷ code.NotVisible ∷ code.DeclaredTwice ∷ code.BadType ∷ code.BadCount ∷ code.EndsInParallel ∷ code.PatchTwice ∷ code.TooManyNames ∷ code.TooManyBranches ∷ code.BadRetry ∷ code.NotDeclared ∷ code.BadKind ∷ code.BadBody ∷ code.SecondSpelling ∷ code.NotAwaited ∷ code.Closed ∷ code.OtherKind ∷ code.OtherContent ∷ code.MissingEvent ∷ code.ExtraEvent ∷ code.InputNotAwaited ∷ code.AfterClose ∷ code.BadNumbering ∷ code.NotAWrap ∷ code.NoText ∷ code.BadArguments ∷ code.AlreadyOpen ∷ code.NoOpenRun ∷ code.NotOpen ∷ code.OldAttempt ∷ code.WrongType ∷ code.NoSuchSignal ∷ code.Mismatch ∷ code.HistoryFull ∷ code.NoRun ∷ code.StoreRefused ∷ code.NotOurs ∷ code.BadVersion ∷ code.Damaged ∷ code.Unknown ∷ code.Halted ∷ code.NoFile ∷ code.BadUsage ∷ []
+all = code.NoMemory ∷ code.NotAValue ∷ code.TooLong ∷ code.BadToken ∷ code.Unexpected ∷ code.TextTooLong ∷ code.TooDeep ∷ code.NotVisible ∷ code.DeclaredTwice ∷ code.BadType ∷ code.BadCount ∷ code.EndsInParallel ∷ code.PatchTwice ∷ code.TooManyNames ∷ code.TooManyBranches ∷ code.BadRetry ∷ code.NotDeclared ∷ code.BadKind ∷ code.BadBody ∷ code.SecondSpelling ∷ code.NotAwaited ∷ code.Closed ∷ code.OtherKind ∷ code.OtherContent ∷ code.MissingEvent ∷ code.ExtraEvent ∷ code.InputNotAwaited ∷ code.AfterClose ∷ code.BadNumbering ∷ code.NotAWrap ∷ code.NotSettled ∷ code.NoText ∷ code.BadArguments ∷ code.AlreadyOpen ∷ code.NoOpenRun ∷ code.NotOpen ∷ code.OldAttempt ∷ code.WrongType ∷ code.NoSuchSignal ∷ code.Mismatch ∷ code.HistoryFull ∷ code.NoRun ∷ code.StoreRefused ∷ code.NotOurs ∷ code.BadVersion ∷ code.Damaged ∷ code.Unknown ∷ code.Halted ∷ code.NoFile ∷ code.InputFailed ∷ code.OutputFailed ∷ code.BadSettings ∷ code.BadUsage ∷ []
 
 -- the refusal of a number
 abbrev numbered : List Code → ℕ → Option Code
