@@ -14,6 +14,7 @@ use flow_cli::drive::Stopped;
 use flow_cli::ending::ended;
 use flow_cli::fault::fault_of_error;
 use flow_cli::safety::tell_safety;
+use flow_cli::totals::tell_totals;
 use flow_cli::work::{Work, perform_here};
 use flow_settings::settings::Settings;
 use std::process::ExitCode;
@@ -66,6 +67,8 @@ fn answer<T: Threads + Wait + Clock + Copy + Send + Drop + 'static>(
         Call::Safe { old, new } => done(safe(rt, old, new)),
         Call::Over("-", work) => done(over_memory(rt, work)),
         Call::Over(file, work) => done(over_file(rt, file, work)),
+        Call::Verify("-") => done(verify_memory(rt)),
+        Call::Verify(file) => done(verify_file(rt, file)),
         Call::Work { base, settings } => keep_running(rt, threads, base, *settings),
     }
 }
@@ -108,4 +111,22 @@ fn over_file(rt: &HostRuntime, file: &str, work: &Work) -> Result<u8, Stopped> {
 fn over_memory(rt: &HostRuntime, work: &Work) -> Result<u8, Stopped> {
     let mut engine = open_memory(rt, Settings::usual())?;
     perform_here(rt, &mut engine, work)
+}
+
+fn verify_file(rt: &HostRuntime, file: &str) -> Result<u8, Stopped> {
+    let mut engine = open_file(rt, file, Settings::usual())?;
+    let outcome = engine.verify();
+    close_file(engine);
+    match outcome {
+        Ok(totals) => tell_totals(rt.alloc(), &mut io::writer(rt), &totals),
+        Err(fault) => Err(Stopped::Refused(fault)),
+    }
+}
+
+fn verify_memory(rt: &HostRuntime) -> Result<u8, Stopped> {
+    let mut engine = open_memory(rt, Settings::usual())?;
+    match engine.verify() {
+        Ok(totals) => tell_totals(rt.alloc(), &mut io::writer(rt), &totals),
+        Err(fault) => Err(Stopped::Refused(fault)),
+    }
 }

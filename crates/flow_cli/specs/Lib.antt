@@ -11,3 +11,4 @@ pub mod Stopping
 pub mod Histories
 pub mod Ending
 pub mod Working
+pub mod Totals
