@@ -4,6 +4,8 @@ A `.damage` file has blocks as a `.case` file. One with lines and replies makes 
 
     sql STATEMENT                    changes the copy
     ! STATUS TEXT                    what its opening says, if it is refused. It changes nothing then
+    verify STATUS TEXT               what `flow verify` says, if it is opened and a run doesn't replay. Else it says how much the copy holds,
+                                     and of one that isn't opened the same as the opening
     RUN: a line of its history, if it is opened
     = [a row]                        the rows that the one statement, a SELECT, gives
     > a line of input and < the line that answers it, over the changed copy, each in a life of its own
@@ -16,7 +18,7 @@ import os
 import shutil
 import sqlite3
 
-from lines import blocks, joined, outcome, read_case
+from lines import blocks, check_verified, joined, outcome, read_case
 from program import flow
 
 # the run of one activity whose history is: started, scheduled, completed, and its end
@@ -52,6 +54,7 @@ def changed(base, statements):
 def made(tally, what, pairs, base):
     """A store behind these lines."""
     tally.check(f"{what}, the store", flow(["drive", base], joined(line for line, _ in pairs)), outcome(pairs))
+    check_verified(tally, what, base)
 
 
 def copied(base, to):
@@ -72,6 +75,13 @@ def opened(tally, what, base, statements, status, says, histories=None):
     tally.check(f"{what}, its rows", contents(base), before)
 
 
+def verified(tally, case, base):
+    """What `flow verify` says of the changed store, and that its rows stay as they are."""
+    before = contents(base)
+    check_verified(tally, case.what, base, (case.status, b"", case.says) if case.status else case.verified)
+    tally.check(f"{case.what}, its rows behind that", contents(base), before)
+
+
 def found(base, statement):
     conn = sqlite3.connect(base)
     try:
@@ -88,10 +98,12 @@ def damage(tally, case, sound, base):
     statements = [(text, {}) for text in case.statements]
     if not case.pairs:
         opened(tally, case.what, base, statements, case.status, case.says, case.histories)
+        verified(tally, case, base)
         return
     changed(base, statements)
     for pair in case.pairs:
         tally.check(case.what, flow(["drive", base], joined(pair[:1])), outcome([pair]))
+    check_verified(tally, case.what, base)
 
 
 def body(tally, what, row, sound, base):

@@ -49,4 +49,6 @@ mod stopping;
 #[cfg(test)]
 mod two_batches;
 #[cfg(test)]
+mod verifying;
+#[cfg(test)]
 mod worked_rows;
