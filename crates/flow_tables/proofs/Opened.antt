@@ -50,7 +50,7 @@ module _ (is_program : Bytes → Bool) (db : Database) (f : Fault) where
   pub told_whole : (b : Book) → StandFor is_program (tables_in db.trees) b → IsToldOf is_program db f → IsOfStore f
   told_whole b stand (inl of) = of
   told_whole b stand (inr damage) =
-      absurd (let some = damage.2.2 in let none = book_undamaged is_program damage.1 b stand.texts stand.runs (damage.3 ∙ stand.same) in cc)
+      absurd (let some = damage.2.2 in let none = book_undamaged is_program damage.1 b stand.texts stand.runs (damage.3.0 ∙ stand.same) in cc)
 
 ---- One call after another
 

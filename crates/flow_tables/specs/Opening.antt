@@ -6,11 +6,12 @@ use Rattle.flow_base.specs.Syntax.{Bytes}
 use Rattle.flow_base.specs.declared.fault.Damage.{Damage}
 use Rattle.flow_tables.specs.Owned.{IsFound}
 use Rattle.sqlite.specs.declared.error.ErrorCode.TheVariants as code
+use Rattle.flow_rows.specs.Damages.{event_place, task_place, timer_place}
 use Rattle.flow_rows.specs.Rows.{rows_of}
 use Rattle.flow_rows.specs.Standing.{AreKept}
 use Rattle.flow_tables.specs.declared.fault.StoreFault.TheVariants as read
 use Rattle.flow_sql.specs.States.{Since, TellsFailure}
-use Rattle.flow_sql.specs.Stored.{HasOddText, kinds_of}
+use Rattle.flow_sql.specs.Stored.{HasOddText, kinds_of, LieByRun}
 use Rattle.flow_tables.specs.Reads.{IsReadFault}
 
 ---- The format
@@ -52,9 +53,13 @@ pub record StandFor (is_program : Bytes → Bool) (t : Tables) (b : Book) : Type
 abbrev pub IsOfRows : (Bytes → Bool) → Book → Type 0
 IsOfRows is_program b = StandFor is_program (rows_of b) b
 
+-- The rows are those of the tables, and each table's lie by rising run: no other rows do.
+abbrev pub AreReadOff : StoreRows → Tables → Type 0
+AreReadOff rows t = (by_run rows ≡ t) × LieByRun event_place rows.events × LieByRun timer_place rows.timers × LieByRun task_place rows.outbox
+
 -- A damage that is told is the first one.
 abbrev pub IsFirstDamage : (Bytes → Bool) → Tables → Fault → Type 0
-IsFirstDamage is_program t (Damaged d) = (rows : StoreRows) × (by_run rows ≡ t) × (first_damage is_program rows ≡ Some d)
+IsFirstDamage is_program t (Damaged d) = (rows : StoreRows) × AreReadOff rows t × (first_damage is_program rows ≡ Some d)
 IsFirstDamage is_program t _ = ⊤
 
 -- The rows and the format are as they should be.
@@ -70,7 +75,7 @@ IsDamageOf is_program rows f = (d : Damage) × (f ≡ Damaged d) × (first_damag
 
 -- What is told where the last commit left our tables, or none: a fault of the store, or the first damage of our tables.
 abbrev pub IsToldOf : (Bytes → Bool) → Database → Fault → Type 0
-IsToldOf is_program db f = IsOfStore f ⊎ (HasTables db × (rows : StoreRows) × IsDamageOf is_program rows f × (by_run rows ≡ tables_in db.trees))
+IsToldOf is_program db f = IsOfStore f ⊎ (HasTables db × (rows : StoreRows) × IsDamageOf is_program rows f × AreReadOff rows (tables_in db.trees))
 
 -- What opening tells at all: E01, E80 to E83.
 abbrev pub IsOfOpening : Fault → Type 0

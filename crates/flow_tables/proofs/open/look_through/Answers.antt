@@ -15,7 +15,7 @@ pub returns-in-Ok-Ok-clause-reads : goal.returns-in-Ok-Ok-clause-reads
 returns-in-Ok-Ok-clause-reads g c clean was =
     let read = c.in-Ok.ensures.reads false was clean in
     let tells = IfOk-at_ok (λ b. Tells (by_run c.in-Ok.rows) (shown_book b)) c.in-Ok-Ok.field-0-is c.in-Ok-Ok.ensures.tells in
-    (read.0, subst (λ t. Tells t (shown_book c.in-Ok-Ok.book)) read.1 tells, subst AreUtf8 read.1 c.rows_are_utf8.ensures)
+    (read.0, subst (λ t. Tells t (shown_book c.in-Ok-Ok.book)) read.1.0 tells, subst AreUtf8 read.1.0 c.rows_are_utf8.ensures)
 
 pub returns-in-Ok-Ok-clause-stands : goal.returns-in-Ok-Ok-clause-stands
 returns-in-Ok-Ok-clause-stands g c =
