@@ -2,13 +2,15 @@
 
 A `.damage` file has blocks as a `.case` file. One with lines and replies makes a sound store; each later one is about a copy of it:
 
+    file EXPRESSION                  the bytes of a file, as Python makes them, in place of the copy
     sql STATEMENT                    changes the copy
     ! STATUS TEXT                    what its opening says, if it is refused. It changes nothing then
     verify STATUS TEXT               what `flow verify` says, if it is opened and a run doesn't replay. Else it says how much the copy holds,
                                      and of one that isn't opened the same as the opening
     RUN: a line of its history, if it is opened
     = [a row]                        the rows that the one statement, a SELECT, gives
-    > a line of input and < the line that answers it, over the changed copy, each in a life of its own
+    > a line of input and < the line that answers it, over the changed copy, each in a life of its own. Tables of other names keep
+                                     their rows
 
 A `.bodies` file has a JSON object a line: the `kind` and the `body` of an event (or `make`, an expression of Python), which takes the place of
 one of a run that is closed, and what its reading `says`: ok, and the history has that body, or the code of its refusal.
@@ -32,13 +34,30 @@ CLOSED = [
 ]
 
 
+OURS = {"meta", "text", "run", "event", "timer", "outbox"}
+
+
 def contents(base):
+    """The rows of each table."""
     conn = sqlite3.connect(base)
     try:
         names = [name for (name,) in conn.execute("SELECT name FROM sqlite_schema WHERE type = 'table' ORDER BY name")]
         return {name: sorted(conn.execute(f"SELECT * FROM {name}").fetchall()) for name in names}
     finally:
         conn.close()
+
+
+def held(base):
+    """The rows of a store, or the bytes of a file that is none."""
+    try:
+        return contents(base)
+    except sqlite3.DatabaseError:
+        with open(base, "rb") as it:
+            return it.read()
+
+
+def of_others(base):
+    return {name: rows for name, rows in contents(base).items() if name not in OURS}
 
 
 def changed(base, statements):
@@ -57,6 +76,15 @@ def made(tally, what, pairs, base):
     check_verified(tally, what, base)
 
 
+def placed(case, sound, base):
+    """The file that a case is about, before it is changed."""
+    if case.content is None:
+        copied(sound, base)
+    else:
+        with open(base, "wb") as it:
+            it.write(case.content)
+
+
 def copied(base, to):
     for end in ("", "-wal"):
         if os.path.exists(base + end):
@@ -65,14 +93,15 @@ def copied(base, to):
 
 def opened(tally, what, base, statements, status, says, histories=None):
     """What is said of a store that is changed so, and that its rows stay as they are."""
-    changed(base, statements)
-    before = contents(base)
+    if statements:
+        changed(base, statements)
+    before = held(base)
     for words in (["drive", base], ["history", base, "1"]):
         ended = flow(words)
         tally.check(f"{what}, {words[0]}", (ended[0], ended[2]), (status, says))
     for run, history in (histories or {}).items():
         tally.check(f"{what}, history of {run}", flow(["history", base, str(run)]), (0, joined(history), b""))
-    tally.check(f"{what}, its rows", contents(base), before)
+    tally.check(f"{what}, its rows", held(base), before)
 
 
 def verified(tally, case, base):
@@ -91,7 +120,7 @@ def found(base, statement):
 
 
 def damage(tally, case, sound, base):
-    copied(sound, base)
+    placed(case, sound, base)
     if case.rows:
         tally.check(case.what, found(base, *case.statements), case.rows)
         return
@@ -101,9 +130,11 @@ def damage(tally, case, sound, base):
         verified(tally, case, base)
         return
     changed(base, statements)
+    others = of_others(base)
     for pair in case.pairs:
         tally.check(case.what, flow(["drive", base], joined(pair[:1])), outcome([pair]))
     check_verified(tally, case.what, base)
+    tally.check(f"{case.what}, the rows of others", of_others(base), others)
 
 
 def body(tally, what, row, sound, base):
@@ -138,7 +169,7 @@ def jobs(tally, paths, folder):
         for first, block in blocks(path):
             case = read_case(f"{name}:{first}", block)
             to = f"{base}.{first}.db"
-            if case.pairs and not case.statements:
+            if case.pairs and not case.statements and case.content is None:
                 sound = to
                 made(tally, case.what, case.pairs, sound)
             else:

@@ -47,7 +47,10 @@ class Call:
 
 @dataclass
 class Case:
-    """Lines with their replies, the status of them all, and the histories of runs by their numbers; or calls with the files that they read."""
+    """Lines with their replies, the status of them all, and the histories of runs by their numbers; or calls with the files that they read.
+
+    Of a damaged store also the statements that change it, the rows that are found in it, and the bytes of a file in its place.
+    """
 
     what: str
     pairs: list = field(default_factory=list)
@@ -59,6 +62,7 @@ class Case:
     rows: list = field(default_factory=list)
     says: bytes = b""
     verified: tuple = None
+    content: bytes | None = None
 
 
 def blocks(path):
@@ -117,6 +121,8 @@ def read_case(place, block):
         elif mark == "verify":
             status, _, says = rest.partition(" ")
             case.verified = (int(status), b"", (says + "\n").encode())
+        elif mark == "file":
+            case.content = eval(rest)
         elif mark == "sql":
             case.statements.append(rest)
         elif mark == "=":
@@ -127,7 +133,7 @@ def read_case(place, block):
             raise ValueError(f"{place}: {line}")
     if waiting is not None:
         raise ValueError(f"{place}: the last line has no reply")
-    if not (case.pairs or case.calls or case.statements or case.histories):
+    if not (case.pairs or case.calls or case.statements or case.histories or case.content is not None):
         raise ValueError(f"{place}: nothing is asked")
     case.files = {name: value if isinstance(value, bytes) else value.encode() for name, value in names.items()} if case.calls else {}
     return case

@@ -19,6 +19,8 @@ mod histories;
 #[cfg(test)]
 mod lines_deciding;
 #[cfg(test)]
+mod lines_ends;
+#[cfg(test)]
 mod lines_faults;
 #[cfg(test)]
 mod lines_stops;

@@ -6,6 +6,7 @@ pub mod Replies
 pub mod Verdicts
 pub mod Safety
 pub mod Driving
+pub mod Ends
 pub mod Answering
 pub mod Stopping
 pub mod Histories

@@ -7,8 +7,9 @@ use flow_base::command::Command;
 use flow_base::fault::Fault;
 use flow_base::number::RunId;
 use flow_cli::batch::BatchSize;
-use flow_cli::drive::{drive_lines, end_status};
+use flow_cli::drive::drive_lines;
 use flow_cli::history::history_from;
+use flow_cli::streams::{Reading, Writing};
 use flow_commit::batch::Batch;
 use flow_engine::done::{Done, Unanswered};
 use flow_engine::drive::drive;
@@ -206,9 +207,12 @@ fn status<S: Alter>(
     size: BatchSize,
     out: &mut Vec<u8>,
 ) -> u8 {
-    let mut reader = lines;
-    let outcome = drive_lines(alloc, engine, &mut reader, out, size);
-    end_status(&outcome)
+    let mut input = Reading::new(lines);
+    let mut output = Writing::new(out);
+    match drive_lines(alloc, engine, &mut input, &mut output, size) {
+        Ok(done) => done,
+        Err(fault) => flow_cli::fault::status(&fault),
+    }
 }
 
 fn lines_end<S: Alter>(
