@@ -1,6 +1,6 @@
 use Rattle.std.proofs.Common.{◌<◌, length, rules}
 use Rattle.flow_cli.proofs.Lines.{first_line_read}
-use Rattle.flow_cli.proofs.drive.next_line.Goals as goal
+use Rattle.flow_cli.proofs.streams.next_line.Goals as goal
 
 pub returns-clause-line : goal.returns-clause-line
 returns-clause-line g c =
