@@ -14,8 +14,10 @@ use flow_cli::ending::ended;
 use flow_cli::fault::fault_of_error;
 use flow_cli::safety::tell_safety;
 use flow_cli::streams::{Reading, Writing};
+use flow_cli::totals::tell_totals;
 use flow_cli::work::{Work, perform};
 use flow_machine::answer::Answering;
+use flow_machine::verify::Totals;
 use flow_settings::settings::Settings;
 use std::io::BufReader;
 use std::process::ExitCode;
@@ -68,6 +70,8 @@ fn answer<T: Threads + Wait + Clock + Copy + Send + Drop + 'static>(
         Call::Safe { old, new } => done(safe(rt, old, new)),
         Call::Over("-", work) => done(over_memory(rt, work)),
         Call::Over(file, work) => done(over_file(rt, file, work)),
+        Call::Verify("-") => done(verify_memory(rt)),
+        Call::Verify(file) => done(verify_file(rt, file)),
         Call::Work { base, settings } => keep_running(rt, threads, base, *settings),
     }
 }
@@ -121,4 +125,24 @@ fn over_file(rt: &HostRuntime, file: &str, work: &Work) -> Result<u8, Fault> {
 fn over_memory(rt: &HostRuntime, work: &Work) -> Result<u8, Fault> {
     let mut engine = open_memory(rt, Settings::usual())?;
     performed(rt, &mut engine, work)
+}
+
+/// Writes what a verify found, or hands its fault on.
+fn verified(rt: &HostRuntime, outcome: Result<Totals, Fault>) -> Result<u8, Fault> {
+    let totals = outcome?;
+    let mut output = Writing::new(io::writer(rt));
+    tell_totals(rt.alloc(), &mut output, &totals)
+}
+
+fn verify_file(rt: &HostRuntime, file: &str) -> Result<u8, Fault> {
+    let mut engine = open_file(rt, file, Settings::usual())?;
+    let outcome = engine.verify();
+    close_file(engine);
+    verified(rt, outcome)
+}
+
+fn verify_memory(rt: &HostRuntime) -> Result<u8, Fault> {
+    let mut engine = open_memory(rt, Settings::usual())?;
+    let outcome = engine.verify();
+    verified(rt, outcome)
 }

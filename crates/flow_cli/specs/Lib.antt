@@ -12,3 +12,4 @@ pub mod Stopping
 pub mod Histories
 pub mod Ending
 pub mod Working
+pub mod Totals

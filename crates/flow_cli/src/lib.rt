@@ -14,4 +14,4 @@ pub mod output;
 pub mod reply;
 pub mod safety;
 pub mod streams;
-pub mod work;
+pub mod totals;

@@ -2,6 +2,7 @@
 use crate::calls::{Call, Calls, Told, Want, add_receipts, command, commands, is_as, named_by};
 use crate::keepers::{batch, code_of};
 use crate::positions::are_waiting;
+use crate::verifying::{Verdict, is_reported};
 use flow_base::command::Command;
 use flow_base::fault::Fault;
 use flow_base::number::RunId;
@@ -35,6 +36,8 @@ pub enum Asking {
     Finds(&'static [u64], &'static [Call]),
     /// Run 1 isn't there.
     HasNoRun,
+    /// It answers calls one by one, of which this is told, and then reports this of its store.
+    Verifies(&'static [Call], Want, Verdict),
     /// It isn't opened: the code.
     Refuses(u8),
 }
@@ -255,6 +258,9 @@ fn is_answered_so<S: Alter>(
         Asking::Lines(size, lines, status) => lines_end(alloc, engine, lines, size, status, out),
         Asking::Finds(runs, calls) => finds(alloc, engine, runs, calls),
         Asking::HasNoRun => has_no_run(engine),
+        Asking::Verifies(calls, want, verdict) => {
+            answers(alloc, engine, calls, want) && is_reported(engine, verdict)
+        }
         Asking::Refuses(_) => false,
     }
 }
