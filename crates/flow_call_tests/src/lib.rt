@@ -35,6 +35,8 @@ mod rows_read;
 #[cfg(test)]
 mod rows_store;
 #[cfg(test)]
+mod rows_written;
+#[cfg(test)]
 mod texts;
 #[cfg(test)]
 mod turns;
