@@ -19,6 +19,8 @@ mod histories;
 #[cfg(test)]
 mod lines_deciding;
 #[cfg(test)]
+mod lines_ends;
+#[cfg(test)]
 mod lines_faults;
 #[cfg(test)]
 mod lines_stops;
@@ -36,6 +38,8 @@ mod rows_read;
 mod rows_store;
 #[cfg(test)]
 mod rows_written;
+#[cfg(test)]
+mod runs_verified;
 #[cfg(test)]
 mod texts;
 #[cfg(test)]

@@ -2,12 +2,14 @@
 use crate::calls::{Call, Calls, Told, Want, add_receipts, command, commands, is_as, named_by};
 use crate::keepers::{batch, code_of};
 use crate::positions::are_waiting;
+use crate::verifying::{Verdict, is_reported};
 use flow_base::command::Command;
 use flow_base::fault::Fault;
 use flow_base::number::RunId;
 use flow_cli::batch::BatchSize;
-use flow_cli::drive::{drive_lines, end_status};
+use flow_cli::drive::drive_lines;
 use flow_cli::history::history_from;
+use flow_cli::streams::{Reading, Writing};
 use flow_commit::batch::Batch;
 use flow_engine::done::{Done, Unanswered};
 use flow_engine::drive::drive;
@@ -34,6 +36,8 @@ pub enum Asking {
     Finds(&'static [u64], &'static [Call]),
     /// Run 1 isn't there.
     HasNoRun,
+    /// It answers calls one by one, of which this is told, and then reports this of its store.
+    Verifies(&'static [Call], Want, Verdict),
     /// It isn't opened: the code.
     Refuses(u8),
 }
@@ -203,9 +207,12 @@ fn status<S: Alter>(
     size: BatchSize,
     out: &mut Vec<u8>,
 ) -> u8 {
-    let mut reader = lines;
-    let outcome = drive_lines(alloc, engine, &mut reader, out, size);
-    end_status(&outcome)
+    let mut input = Reading::new(lines);
+    let mut output = Writing::new(out);
+    match drive_lines(alloc, engine, &mut input, &mut output, size) {
+        Ok(done) => done,
+        Err(fault) => flow_cli::fault::status(&fault),
+    }
 }
 
 fn lines_end<S: Alter>(
@@ -251,6 +258,9 @@ fn is_answered_so<S: Alter>(
         Asking::Lines(size, lines, status) => lines_end(alloc, engine, lines, size, status, out),
         Asking::Finds(runs, calls) => finds(alloc, engine, runs, calls),
         Asking::HasNoRun => has_no_run(engine),
+        Asking::Verifies(calls, want, verdict) => {
+            answers(alloc, engine, calls, want) && is_reported(engine, verdict)
+        }
         Asking::Refuses(_) => false,
     }
 }

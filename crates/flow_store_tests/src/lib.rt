@@ -1,5 +1,5 @@
-//! Tests over a store: what a keeper keeps in it, what is found when it is opened, what an engine does with batches and commands, and
-//! disks that stop or fail at one call, each one in turn, with an engine over a file on such a disk.
+//! Tests over a store: what a keeper keeps in it, what is found when it is opened, the damage of its rows, what an engine does with
+//! batches and commands, and disks that stop or fail at one call, each one in turn, with an engine over a file on such a disk.
 #![tactic(auto)]
 
 #[cfg(test)]
@@ -16,6 +16,8 @@ mod boards;
 mod calls;
 #[cfg(test)]
 mod capacities;
+#[cfg(test)]
+mod damages;
 #[cfg(test)]
 mod disk_calls;
 #[cfg(test)]
@@ -48,5 +50,7 @@ mod stopped_disk;
 mod stopping;
 #[cfg(test)]
 mod two_batches;
+#[cfg(test)]
+mod verifying;
 #[cfg(test)]
 mod worked_rows;

@@ -9,6 +9,7 @@ use flow_hub::seats::Room;
 use flow_hub::submitter::Submitter;
 use flow_hub::ticket::Ticket;
 use flow_machine::submission::Receipt;
+use flow_serve::serve;
 use flow_settings::settings::Settings;
 use sqlite::Connection;
 use std::alloc::Global;
@@ -53,7 +54,7 @@ pub fn fetched<B: Room, R: Wait>(rt: &R, submitter: &mut Submitter<B>, ticket: T
 }
 
 /// Opens an engine over memory, and serves what was submitted. Whether it ended with all answered.
-pub fn serve<B: Room, R: Wait>(
+pub fn serve_over_memory<B: Room, R: Wait>(
     rt: &R,
     alloc: Global,
     publisher: &mut Publisher<B>,
@@ -65,7 +66,7 @@ pub fn serve<B: Room, R: Wait>(
     match Engine::open(alloc, conn, Settings::usual()) {
         Ok(engine) => {
             let mut engine = engine;
-            let ended = engine.serve(rt, publisher, &clock, 16);
+            let ended = serve(&mut engine, rt, publisher, &clock, 16);
             Some(ended.is_ok())
         }
         Err((_fault, _conn)) => None,
