@@ -132,20 +132,18 @@ def line_of(source, statement):
     return source.count("\n", 0, statement.start) + 1
 
 
-def edges_of(certain, possible):
-    """Where a mark begins or ends, as HTML by its place."""
-    edges = {}
-    for kind, statements in (("at", certain), ("may", possible)):
-        for it in statements:
-            edges[it.start], edges[it.end] = f"<mark class={kind}>", "</mark>"
-    return edges
+def marks(certain, possible):
+    """The class of each statement that is marked, by where it begins, and where these statements end."""
+    kinds = {it.start: kind for kind, statements in (("at", certain), ("may", possible)) for it in statements}
+    return kinds, {it.end for it in (*certain, *possible)}
 
 
 def coloured(source, certain=(), possible=()):
     """A text in HTML: its keywords, quoted texts and comments in colours, and the statements marked at which a run waits, or may wait."""
-    edges, parts, last = edges_of(certain, possible), [], 0
+    (kinds, ends), parts, last = marks(certain, possible), [], 0
     for token in TOKEN.finditer(source):
-        before, after = edges.get(token.start(), ""), edges.get(token.end(), "")
+        before = f"<mark class={kinds[token.start()]}>" if token.start() in kinds else ""
+        after = "</mark>" if token.end() in ends else ""
         kind = "word" if token[0] in KEYWORDS else token.lastgroup if token.lastgroup in ("comment", "string") else ""
         shown = escaped(token[0], "\t")
         parts += [escaped(source[last : token.start()], "\t\n"), before, f"<i class={kind}>{shown}</i>" if kind else shown, after]

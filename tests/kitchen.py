@@ -171,13 +171,13 @@ def fill(path):
 
 
 def fill_many(path, count):
-    """Writes a store of so many runs, a third of them open."""
+    """Writes a store of so many runs, two thirds of them open."""
     lines = [json.dumps({"do": "register", "src": source_of("refund")})]
     for run in range(1, count + 1):
         at, keys = DAY_ONE + run * SECOND, {"run": run, "attempt": 1}
         lines.append(json.dumps({"do": "start", "flow": f"order-{run}", "req": f"q{run}", "text": 1, "args": [run, 80], "at": at}))
         lines.append(json.dumps({"do": "complete", "event": 2, "value": f"payment {run}", "at": at + 1, **keys}))
-        if run % 3:
+        if run % 3 == 0:
             lines.append(json.dumps({"do": "complete", "event": 4, "value": f"parcel {run}", "at": at + 2, **keys}))
     driven = subprocess.run([FLOW, "drive", path, "--batch", "64"], input="\n".join(lines).encode(), stdout=subprocess.DEVNULL)
     return driven.returncode
