@@ -60,10 +60,10 @@ over_texts = with_subcommand (with_subcommand (on_top (λ s. record s { subcomma
 
 -- with those that answer what is asked and end
 abbrev pub answering : App
-answering = with_subcommand (with_subcommand (with_subcommand over_texts drive.top) history.top) verify.top
+answering = with_subcommand (with_subcommand over_texts drive.top) history.top
 
 abbrev pub flow : App
-flow = with_subcommand answering work.top
+flow = with_subcommand (with_subcommand answering verify.top) work.top
 
 -- ---- a call, without where its texts lie in memory
 

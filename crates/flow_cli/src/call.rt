@@ -145,22 +145,17 @@ fn answering_command<'a>(alloc: Global) -> Result<Command<'a>, AllocError>
 {
     let drive = drive_command(alloc)?;
     let history = history_command(alloc)?;
-    let verify = verify_command(alloc)?;
     let texts = text_command(alloc)?;
-    Ok(
-        texts
-            .subcommand(drive)?
-            .subcommand(history)?
-            .subcommand(verify)?,
-    )
+    Ok(texts.subcommand(drive)?.subcommand(history)?)
 }
 
 fn flow_command<'a>(alloc: Global) -> Result<Command<'a>, AllocError>
     ensures app { IfOk result (λ c. app_of c ≡ flow) }
 {
+    let verify = verify_command(alloc)?;
     let work = work_command(alloc)?;
     let answering = answering_command(alloc)?;
-    Ok(answering.subcommand(work)?)
+    Ok(answering.subcommand(verify)?.subcommand(work)?)
 }
 
 #[tactic(auto, using(crate::proofs::Rows::first_in_rows))]
