@@ -58,13 +58,13 @@ work = with_rule (with_rule (new_app (codes "work")) base) settings
 abbrev pub over_texts : App
 over_texts = with_subcommand (with_subcommand (on_top (λ s. record s { subcommand_required = true }) (new_app (codes "flow"))) check.top) safe.top
 
--- with those over runs that answer what is asked
-abbrev pub over_runs : App
-over_runs = with_subcommand (with_subcommand over_texts drive.top) history.top
+-- with those that read and write lines over a store
+abbrev pub over_lines : App
+over_lines = with_subcommand (with_subcommand over_texts drive.top) history.top
 
--- with all that end by themselves
+-- with all that answer what is asked and end
 abbrev pub answering : App
-answering = with_subcommand over_runs verify.top
+answering = with_subcommand over_lines verify.top
 
 abbrev pub flow : App
 flow = with_subcommand answering work.top

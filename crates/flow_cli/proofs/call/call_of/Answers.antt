@@ -1,5 +1,7 @@
-use Rattle.std.proofs.Common.{◌≡◌, map, option_and_then, true, [], sym, ap, ◌∙◌, subst, refl, inl, inr}
-use Rattle.clap.specs.Words.{HasKind, app_of, is_simple, is_simple_and_free, fault_of, subcommand_of, subcommand_rows_of}
+use Rattle.std.proofs.Common.{◌≡◌, inl, inr, map, option_and_then, true, [], sym, ap, ◌∙◌, subst, refl}
+use Rattle.clap.specs.Values.{kind_of}
+use Rattle.clap.specs.Words.{app_of, is_simple, is_simple_and_free, fault_of, subcommand_of, subcommand_rows_of, HasKind}
+use Rattle.clap.specs.declared.error.kind.ErrorKind.TheVariants.{OutOfMemory}
 use Rattle.flow_cli.specs.Calls.{flow, named_call}
 use Rattle.flow_cli.proofs.call.call_of.Goals as goal
 
@@ -18,10 +20,6 @@ returns-clause-only g c call is =
     let words = map g.S.AsStr.text c.args.words.now in
     let error = c.in-Err-try_get_matches_from.error in
     let app : app_of c.in-Ok.command ≡ flow = c.in-Ok.ensures.app in
-    let fails : HasKind (fault_of flow words) error =
-    subst (λ a. is_simple_and_free a ≡ true → HasKind (fault_of a words) error) app c.in-Err-try_get_matches_from.ensures.kinds refl in
-    let alone : HasKind [] error = subst (λ kinds. HasKind kinds error) is.taken fails in
-    elim alone [
-      | inl ran ↦ c.fault_of_kind.ensures.memory (c.kind.ensures ∙ ran)
-      | inr none ↦ absurd none
-    ]
+    let has : HasKind (fault_of flow words) error = subst (λ a. is_simple_and_free a ≡ true → HasKind (fault_of a words) error) app c.in-Err-try_get_matches_from.ensures.kinds refl in
+    let memory : kind_of error ≡ OutOfMemory = elim (subst (λ ks. HasKind ks error) is.taken has) [ inl is ↦ is | inr none ↦ absurd none ] in
+    c.fault_of_kind.ensures.memory (c.kind.ensures ∙ memory)
