@@ -1,8 +1,7 @@
 //! Commands answered by an engine, with ample memory.
-use crate::acts::{Act, are_so, are_so_failing};
+use crate::acts::{Act, are_so};
 use crate::calls::{Call, Named, Told, Want};
 use crate::engines::Asking;
-use flow_machine::answer::Stop;
 use std::test::Fail;
 
 // The last one is E64.
@@ -27,31 +26,23 @@ fn each_command_has_its_answer(rt: HostRuntime) -> Result<(), Fail> {
     Ok(())
 }
 
-const STOPPED: &[Act] = &[Act::Asks(Asking::Answers(
-    &[Call::Register, Call::Start("f"), Call::Complete(1)],
-    Want::Told(&[
-        Told::Replied(Named::Text(1)),
-        Told::Stopped(Stop::Unknown),
-        Told::Stopped(Stop::Halted),
-    ]),
-))];
+const OPEN: &[Act] = &[
+    Act::Asks(Asking::Finds(
+        &[],
+        &[
+            Call::Register,
+            Call::Start("f"),
+            Call::Start("g"),
+            Call::Start("h"),
+            Call::Complete(1),
+        ],
+    )),
+    Act::Asks(Asking::Finds(&[2, 3], &[])),
+];
 
-// The commit of the second command fails: nobody knows of it, and nothing more is answered.
+// The first of three runs has completed, the others wait. An engine over an empty store found none, whatever it answered.
 #[test]
-fn a_commit_that_fails_stops_all(rt: HostRuntime) -> Result<(), Fail> {
-    assert!(rt; are_so_failing(rt.alloc(), 30, 2000, STOPPED));
-    Ok(())
-}
-
-// The last one is E80.
-const GIVEN_UP: &[Act] = &[Act::Asks(Asking::Answers(
-    &[Call::Register, Call::Start("f")],
-    Want::Told(&[Told::Replied(Named::Text(1)), Told::NotApplied(80)]),
-))];
-
-// With one page in memory a read of the second command fails: it is given up.
-#[test]
-fn a_read_that_fails_gives_it_up(rt: HostRuntime) -> Result<(), Fail> {
-    assert!(rt; are_so_failing(rt.alloc(), 34, 1, GIVEN_UP));
+fn each_open_run_is_found(rt: HostRuntime) -> Result<(), Fail> {
+    assert!(rt; are_so(rt.alloc(), OPEN));
     Ok(())
 }

@@ -92,17 +92,3 @@ fn a_flow_with_nothing_to_do_ends(rt: HostRuntime) -> Result<(), Fail> {
     assert!(rt; are_so(rt.alloc(), NOTHING_TO_DO));
     Ok(())
 }
-
-// E68.
-const OTHER_ARGUMENT: &[Act] = &[
-    Act::Asks(Asking::Keeps(BEGUN)),
-    Act::Changes("UPDATE event SET body = replace(body, 'eur', 'usd') WHERE id = 2"),
-    Act::Asks(Asking::Refuses(68)),
-];
-
-// Its rows tell a book, but the program asks for another argument than its second event has.
-#[test]
-fn a_run_that_does_not_replay_is_refused(rt: HostRuntime) -> Result<(), Fail> {
-    assert!(rt; are_so(rt.alloc(), OTHER_ARGUMENT));
-    Ok(())
-}

@@ -3,11 +3,8 @@ use crate::calls::{Call, Calls, Told, Want, add_receipts, command, commands, is_
 use crate::keepers::{batch, code_of};
 use crate::positions::are_waiting;
 use flow_base::command::Command;
-use flow_base::fault::Fault;
-use flow_base::number::RunId;
 use flow_cli::batch::BatchSize;
 use flow_cli::drive::{drive_lines, end_status};
-use flow_cli::history::history_from;
 use flow_commit::batch::Batch;
 use flow_engine::done::{Done, Unanswered};
 use flow_engine::drive::drive;
@@ -32,10 +29,6 @@ pub enum Asking {
     Lines(u64, &'static [u8], u8),
     /// These runs are found open, each waiting on its activity, and are so again when it has answered these calls.
     Finds(&'static [u64], &'static [Call]),
-    /// Run 1 isn't there.
-    HasNoRun,
-    /// It isn't opened: the code.
-    Refuses(u8),
 }
 
 fn told_of(answer: &Answer) -> Told {
@@ -228,13 +221,6 @@ fn finds<S: Alter>(alloc: Global, engine: &mut Engine<S>, runs: &[u64], calls: &
         && are_waiting(engine.found(), runs)
 }
 
-fn has_no_run<S: Alter>(engine: &mut Engine<S>) -> bool {
-    match RunId::new(1) {
-        Some(run) => matches!(&history_from(engine, run), Err(Fault::NoRun)),
-        None => false,
-    }
-}
-
 fn is_answered_so<S: Alter>(
     alloc: Global,
     engine: &mut Engine<S>,
@@ -250,15 +236,6 @@ fn is_answered_so<S: Alter>(
         Asking::Keeps(calls) => drives(alloc, engine, calls, &[], Want::Kept),
         Asking::Lines(size, lines, status) => lines_end(alloc, engine, lines, size, status, out),
         Asking::Finds(runs, calls) => finds(alloc, engine, runs, calls),
-        Asking::HasNoRun => has_no_run(engine),
-        Asking::Refuses(_) => false,
-    }
-}
-
-fn is_refused_so(fault: &Fault, asking: Asking) -> bool {
-    match asking {
-        Asking::Refuses(code) => fault.code().number() == code,
-        _ => false,
     }
 }
 
@@ -276,6 +253,6 @@ pub fn answers_so<S: Alter>(
             let is = is_answered_so(alloc, &mut engine, asking, out);
             (is, engine.close())
         }
-        Err((fault, conn)) => (is_refused_so(&fault, asking), conn),
+        Err((_fault, conn)) => (false, conn),
     }
 }

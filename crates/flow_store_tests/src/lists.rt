@@ -6,25 +6,12 @@ use flow_machine::answer::Stop;
 use std::test::Fail;
 
 // examples/payment.jsonl
-const REGISTER: &[u8] =
-    b"{\"do\":\"register\",\"src\":\"workflow a(n: int) { activity c(int, text) -> int; let r = 0; r = call c(n, \\\"eur\\\"); return r + 1; }\"}";
-
-const START: &[u8] =
-    b"{\"args\":[7],\"at\":1000,\"do\":\"start\",\"flow\":\"f\",\"req\":\"q1\",\"text\":1}";
-
-const COMPLETE: &[u8] =
-    b"{\"at\":1500,\"attempt\":1,\"do\":\"complete\",\"event\":2,\"run\":1,\"value\":41}";
-
-const HISTORY: &[u8] = b"{\"do\":\"history\",\"run\":1}";
-
-const DESCRIBE: &[u8] = b"{\"do\":\"describe\",\"run\":1}";
-
 const PAYMENT: &[Call] = &[
-    Call::Line(REGISTER),
-    Call::Line(START),
-    Call::Line(COMPLETE),
-    Call::Line(HISTORY),
-    Call::Line(DESCRIBE),
+    Call::Register,
+    Call::Start("f"),
+    Call::Complete(1),
+    Call::History(1),
+    Call::Describe,
 ];
 
 const PAID: Want = Want::Told(&[
