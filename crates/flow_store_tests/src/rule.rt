@@ -10,7 +10,8 @@ use std::string::ToString;
 
 /// What each round has a run of.
 const WAITS: &str =
-    "workflow a(n: int) { activity c(int) -> int; signal s: int; let r = 0; let v = 0; r = call c(n) retry 2 every 500; v = wait signal s for 100 else { v = 0 - 1; }; sleep 150; return r + v; }";
+    "workflow a(n: int) { activity c(int) -> int; signal s: int; let r = 0; let v = 0; \
+r = call c(n) retry 2 every 500; v = wait signal s for 100 else { v = 0 - 1; }; sleep 150; return r + v; }";
 
 /// A text of which there is no run.
 const ENDS: &str = "workflow b() {}";

@@ -2,10 +2,10 @@
 use std::alloc::Alloc;
 use std::env::{self, Env};
 
-/// The usual step of a sweep, or 1 where the environment has the word `SWEEP`: then each call is met in each way.
+/// The usual step of a sweep, or the number that the environment has as `SWEEP`: with 1 each call is met in each way.
 pub fn stride<R: Env + Alloc>(rt: &R, usual: u64) -> u64 {
     match env::var(rt, "SWEEP") {
-        Ok(_word) => 1,
+        Ok(word) => word.as_str().parse::<u64>().unwrap_or(usual),
         Err(_) => usual,
     }
 }
