@@ -2,11 +2,15 @@
 
 A `.damage` file has blocks as a `.case` file. One with lines and replies makes a sound store; each later one is about a copy of it:
 
+    file EXPRESSION                  the bytes of a file, as Python makes them, in place of the copy
     sql STATEMENT                    changes the copy
     ! STATUS TEXT                    what its opening says, if it is refused. It changes nothing then
+    verify STATUS TEXT               what `flow verify` says, if it is opened and a run doesn't replay. Else it says how much the copy holds,
+                                     and of one that isn't opened the same as the opening
     RUN: a line of its history, if it is opened
     = [a row]                        the rows that the one statement, a SELECT, gives
-    > a line of input and < the line that answers it, over the changed copy, each in a life of its own
+    > a line of input and < the line that answers it, over the changed copy, each in a life of its own. Tables of other names keep
+                                     their rows
 
 A `.bodies` file has a JSON object a line: the `kind` and the `body` of an event (or `make`, an expression of Python), which takes the place of
 one of a run that is closed, and what its reading `says`: ok, and the history has that body, or the code of its refusal.
@@ -16,7 +20,7 @@ import os
 import shutil
 import sqlite3
 
-from lines import blocks, joined, outcome, read_case
+from lines import blocks, check_verified, joined, outcome, read_case
 from program import flow
 
 # the run of one activity whose history is: started, scheduled, completed, and its end
@@ -30,13 +34,30 @@ CLOSED = [
 ]
 
 
+OURS = {"meta", "text", "run", "event", "timer", "outbox"}
+
+
 def contents(base):
+    """The rows of each table."""
     conn = sqlite3.connect(base)
     try:
         names = [name for (name,) in conn.execute("SELECT name FROM sqlite_schema WHERE type = 'table' ORDER BY name")]
         return {name: sorted(conn.execute(f"SELECT * FROM {name}").fetchall()) for name in names}
     finally:
         conn.close()
+
+
+def held(base):
+    """The rows of a store, or the bytes of a file that is none."""
+    try:
+        return contents(base)
+    except sqlite3.DatabaseError:
+        with open(base, "rb") as it:
+            return it.read()
+
+
+def of_others(base):
+    return {name: rows for name, rows in contents(base).items() if name not in OURS}
 
 
 def changed(base, statements):
@@ -52,6 +73,16 @@ def changed(base, statements):
 def made(tally, what, pairs, base):
     """A store behind these lines."""
     tally.check(f"{what}, the store", flow(["drive", base], joined(line for line, _ in pairs)), outcome(pairs))
+    check_verified(tally, what, base)
+
+
+def placed(case, sound, base):
+    """The file that a case is about, before it is changed."""
+    if case.content is None:
+        copied(sound, base)
+    else:
+        with open(base, "wb") as it:
+            it.write(case.content)
 
 
 def copied(base, to):
@@ -62,14 +93,22 @@ def copied(base, to):
 
 def opened(tally, what, base, statements, status, says, histories=None):
     """What is said of a store that is changed so, and that its rows stay as they are."""
-    changed(base, statements)
-    before = contents(base)
+    if statements:
+        changed(base, statements)
+    before = held(base)
     for words in (["drive", base], ["history", base, "1"]):
         ended = flow(words)
         tally.check(f"{what}, {words[0]}", (ended[0], ended[2]), (status, says))
     for run, history in (histories or {}).items():
         tally.check(f"{what}, history of {run}", flow(["history", base, str(run)]), (0, joined(history), b""))
-    tally.check(f"{what}, its rows", contents(base), before)
+    tally.check(f"{what}, its rows", held(base), before)
+
+
+def verified(tally, case, base):
+    """What `flow verify` says of the changed store, and that its rows stay as they are."""
+    before = contents(base)
+    check_verified(tally, case.what, base, (case.status, b"", case.says) if case.status else case.verified)
+    tally.check(f"{case.what}, its rows behind that", contents(base), before)
 
 
 def found(base, statement):
@@ -81,17 +120,21 @@ def found(base, statement):
 
 
 def damage(tally, case, sound, base):
-    copied(sound, base)
+    placed(case, sound, base)
     if case.rows:
         tally.check(case.what, found(base, *case.statements), case.rows)
         return
     statements = [(text, {}) for text in case.statements]
     if not case.pairs:
         opened(tally, case.what, base, statements, case.status, case.says, case.histories)
+        verified(tally, case, base)
         return
     changed(base, statements)
+    others = of_others(base)
     for pair in case.pairs:
         tally.check(case.what, flow(["drive", base], joined(pair[:1])), outcome([pair]))
+    check_verified(tally, case.what, base)
+    tally.check(f"{case.what}, the rows of others", of_others(base), others)
 
 
 def body(tally, what, row, sound, base):
@@ -126,7 +169,7 @@ def jobs(tally, paths, folder):
         for first, block in blocks(path):
             case = read_case(f"{name}:{first}", block)
             to = f"{base}.{first}.db"
-            if case.pairs and not case.statements:
+            if case.pairs and not case.statements and case.content is None:
                 sound = to
                 made(tally, case.what, case.pairs, sound)
             else:

@@ -1,5 +1,4 @@
 """Inputs and outputs that fail: what `flow drive` writes until then, what it says, and its status."""
-import errno
 import os
 import resource
 import signal
@@ -11,11 +10,6 @@ ASKS = b'{"do":"history","run":1}\nx\n'
 REFUSED = b'{"code":"E70","reply":"refused"}\n'
 # the reply to the second line has no room behind so many bytes
 ROOM = 39
-
-
-def said(what, number):
-    """The line on standard error of an error of the system."""
-    return f"flow: the {what}: {os.strerror(number)} (os error {number})\n".encode()
 
 
 def called(words, **streams):
@@ -35,7 +29,7 @@ def input_fails(tally, folder):
     at = os.open(folder, os.O_RDONLY)
     status, says = called(["drive", "-"], stdin=at)
     os.close(at)
-    tally.check("an input that can't be read", (status, says), (3, said("input can't be read", errno.EISDIR)))
+    tally.check("an input that can't be read", (status, says), (3, b"flow: E94\n"))
 
 
 def output_fills(tally, folder):
@@ -47,7 +41,7 @@ def output_fills(tally, folder):
         status, says = called(["drive", "-"], stdin=lines, stdout=out, preexec_fn=small_files)
     with open(paper, "rb") as it:
         tally.check("an output that fills up", it.read(), (REFUSED + b'{"code":"E02","reply":"refused"}\n')[:ROOM])
-    tally.check("an output that fills up, its end", (status, says), (3, said("output can't be written", errno.EFBIG)))
+    tally.check("an output that fills up, its end", (status, says), (3, b"flow: E95\n"))
 
 
 def output_is_closed(tally):
@@ -57,7 +51,7 @@ def output_is_closed(tally):
     tally.check("no output is needed", (status, says), (1, b"flow: E70\n"))
     status, says = called(["check", "/dev/null"], stdout=writes)
     os.close(writes)
-    tally.check("an output that is closed", (status, says), (3, said("output can't be written", errno.EPIPE)))
+    tally.check("an output that is closed", (status, says), (3, b"flow: E95\n"))
 
 
 def errors_fail(tally, folder):

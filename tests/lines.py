@@ -10,7 +10,7 @@ A file has blocks with a blank line between two. A block begins with a comment a
     RUN: a line of `flow history DB RUN`, behind all lines of input
     ! STATUS TEXT                    the status if it isn't 0, and the line on standard error
 
-Each case is driven over memory and over a file. Over a file it is cut into lives of the program, a short one in every way, so that the store
+All runs of each store that a case makes replay, and `flow verify` says how many there are. Each case is driven over memory and over a file. Over a file it is cut into lives of the program, a short one in every way, so that the store
 is closed and opened again between any two of its lines. Both are applied in batches of several sizes: the replies and the histories are
 always the same.
 
@@ -21,6 +21,7 @@ import json
 import os
 import re
 import shlex
+import sqlite3
 from dataclasses import dataclass, field
 
 from program import flow
@@ -46,7 +47,10 @@ class Call:
 
 @dataclass
 class Case:
-    """Lines with their replies, the status of them all, and the histories of runs by their numbers; or calls with the files that they read."""
+    """Lines with their replies, the status of them all, and the histories of runs by their numbers; or calls with the files that they read.
+
+    Of a damaged store also the statements that change it, the rows that are found in it, and the bytes of a file in its place.
+    """
 
     what: str
     pairs: list = field(default_factory=list)
@@ -57,6 +61,8 @@ class Case:
     statements: list = field(default_factory=list)
     rows: list = field(default_factory=list)
     says: bytes = b""
+    verified: tuple = None
+    content: bytes | None = None
 
 
 def blocks(path):
@@ -112,6 +118,11 @@ def read_case(place, block):
             status, _, says = rest.partition(" ")
             of = case.calls[-1] if case.calls else case
             of.status, of.says = int(status), (says + "\n").encode() if says else b""
+        elif mark == "verify":
+            status, _, says = rest.partition(" ")
+            case.verified = (int(status), b"", (says + "\n").encode())
+        elif mark == "file":
+            case.content = eval(rest)
         elif mark == "sql":
             case.statements.append(rest)
         elif mark == "=":
@@ -122,7 +133,7 @@ def read_case(place, block):
             raise ValueError(f"{place}: {line}")
     if waiting is not None:
         raise ValueError(f"{place}: the last line has no reply")
-    if not (case.pairs or case.calls or case.statements or case.histories):
+    if not (case.pairs or case.calls or case.statements or case.histories or case.content is not None):
         raise ValueError(f"{place}: nothing is asked")
     case.files = {name: value if isinstance(value, bytes) else value.encode() for name, value in names.items()} if case.calls else {}
     return case
@@ -194,11 +205,26 @@ def check_histories(tally, what, base, histories):
         tally.check(f"{what}, history of {run}", flow(["history", base, str(run)]), (0, joined(history), b""))
 
 
+def totals(base):
+    """What `flow verify` says of a store whose runs all replay, counted by SQLite."""
+    conn = sqlite3.connect(base)
+    try:
+        counts = [conn.execute(f"SELECT count(*) FROM {table}").fetchone()[0] for table in ("text", "run", "event")]
+    finally:
+        conn.close()
+    return (0, b"ok texts=%d runs=%d events=%d\n" % tuple(counts), b"")
+
+
+def check_verified(tally, what, base, wanted=None):
+    tally.check(f"{what}, verified", flow(["verify", base]), wanted or totals(base))
+
+
 def over_a_file(tally, case, parts, size, base):
     what = f"{case.what}, over a file in lives of {[len(part) for part in parts]} lines and batches of {size}"
     for part in parts:
         tally.check(what, flow(["drive", base, "--batch", str(size)], joined(line for line, _ in part)), outcome(part))
     check_histories(tally, what, base, case.histories)
+    check_verified(tally, what, base)
     for left in (base, base + "-wal"):
         if os.path.exists(left):
             os.remove(left)

@@ -1,13 +1,11 @@
 //! The call that keeps an engine running.
 ghost use Rattle.std.specs.Prelude.{◌≡◌, ◌≤◌, [], IfOk};
-ghost use Rattle.flow.specs.Nexts.{IsWithin, next_of, stopped_of};
+ghost use Rattle.flow.specs.Nexts.{IsWithin, next_of};
 
 use crate::store::open_memory;
 use flow_base::fault::Fault;
-use flow_cli::drive::Stopped;
 use flow_cli::fault::fault_of_error;
 use flow_engine::engine::Engine;
-use flow_settings::fault::SettingsFault;
 use flow_settings::settings::Settings;
 use flow_work::clock::SystemClock;
 use flow_work::running::work_shown;
@@ -21,7 +19,7 @@ use std::thread::Threads;
 use std::time::Clock;
 
 /// The settings of this file, and the usual ones where none is named.
-fn settings_in(rt: &HostRuntime, file: Option<&str>) -> Result<Settings, SettingsFault> {
+fn settings_in(rt: &HostRuntime, file: Option<&str>) -> Result<Settings, Fault> {
     match file {
         Some(file) => settings_of(rt.alloc(), fs::read_to_string(rt, file)),
         None => Ok(Settings::usual()),
@@ -75,23 +73,12 @@ pub enum Next {
 }
 
 /// Nothing is left to be done, whatever came of it.
-pub fn done(outcome: Result<u8, Stopped>) -> Result<Next, Stopped>
+pub fn done(outcome: Result<u8, Fault>) -> Result<Next, Fault>
     ensures { result ≡ next_of outcome }
 {
     match outcome {
         Ok(status) => Ok(Next::Done(status)),
-        Err(stopped) => Err(stopped),
-    }
-}
-
-/// What came of an engine that ran, as the program ends with it.
-pub fn stopped_by(outcome: Result<u8, Fault>) -> Result<u8, Stopped>
-    ensures is { result ≡ stopped_of outcome }
-    ensures within { IfOk outcome (λ n. n ≤ 3) → IfOk result (λ n. n ≤ 3) }
-{
-    match outcome {
-        Ok(status) => Ok(status),
-        Err(fault) => Err(Stopped::Refused(fault)),
+        Err(fault) => Err(fault),
     }
 }
 
@@ -99,11 +86,12 @@ fn run_in_memory<T: Threads + Wait + Clock + Copy + Send + Drop + 'static>(
     rt: &HostRuntime,
     threads: &T,
     settings: Settings,
-) -> Result<u8, Stopped>
+) -> Result<u8, Fault>
     ensures { IfOk result (λ n. n ≤ 3) }
 {
     let mut engine = open_memory(rt, settings)?;
-    stopped_by(run(rt, threads, &mut engine, settings))
+    let status = run(rt, threads, &mut engine, settings)?;
+    Ok(status)
 }
 
 /// Keeps an engine running over a store in memory; one over a file is left to the caller. Settings that aren't allowed are E96, and
@@ -113,7 +101,7 @@ pub fn keep_running<T: Threads + Wait + Clock + Copy + Send + Drop + 'static>(
     threads: &T,
     base: &str,
     file: Option<&str>,
-) -> Result<Next, Stopped>
+) -> Result<Next, Fault>
     ensures { IfOk result IsWithin }
 {
     match settings_in(rt, file) {
@@ -121,9 +109,6 @@ pub fn keep_running<T: Threads + Wait + Clock + Copy + Send + Drop + 'static>(
             "-" => done(run_in_memory(rt, threads, settings)),
             _ => Ok(Next::Keep(String::from_str(rt.alloc(), base)?, settings)),
         },
-        Err(SettingsFault::NoMemory(no_memory)) => Err(Stopped::Refused(Fault::NoMemory(
-            no_memory,
-        ))),
-        Err(SettingsFault::BadSettings) => Err(Stopped::BadSettings),
+        Err(fault) => Err(fault),
     }
 }

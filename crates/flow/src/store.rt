@@ -9,7 +9,6 @@ ghost use Rattle.flow.specs.Openings.{IsHandedOn};
 
 use flow_base::fault::Fault;
 use flow_base::memory::NoMemory;
-use flow_cli::drive::Stopped;
 use flow_engine::engine::Engine;
 use flow_settings::settings::Settings;
 use sqlite::{Alter, Connection, Error, ErrorCode, File, FileStore, MemStore};
@@ -19,17 +18,18 @@ fn open<S: Alter + Drop>(
     rt: &HostRuntime,
     conn: Connection<S>,
     settings: Settings,
-) -> Result<Engine<S>, Stopped>
+) -> Result<Engine<S>, Fault>
     ensures opened { IfOk result (λ e. e.stored.opened ≡ conn) }
     ensures anew { IfOk result (λ e. (e.kept ≡ 0) × (e.halted ≡ false) × (e.log ≡ [])) }
     ensures found { IfOk result (λ e. IsFit S.Store e → IsOpened S.Store (state S.Store conn) e) }
     // The book over which it answers first is the one that the store held.
     ensures book { IfOk result (λ e. IsSure S.Store e → IsFound (state S.Store conn) (kept_book S.Store e)) }
+    // The fault is that of the engine, with all that the engine tells of it.
     ensures refused { IfErr result (IsHandedOn S.Store (state S.Store conn)) }
 {
     match Engine::open(rt.alloc(), conn, settings) {
         Ok(engine) => Ok(engine),
-        Err((fault, _held)) => Err(Stopped::Refused(fault)),
+        Err((fault, _held)) => Err(fault),
     }
 }
 
@@ -38,15 +38,15 @@ pub fn open_file(
     rt: &HostRuntime,
     file: &str,
     settings: Settings,
-) -> Result<Engine<FileStore<File>>, Stopped>
+) -> Result<Engine<FileStore<File>>, Fault>
     ensures { IfOk result (λ e. e.log ≡ []) }
 {
     match Connection::open(rt, file) {
         Ok(conn) => open(rt, conn, settings),
         Err(Error::SqliteFailure(ErrorCode::OutOfMemory)) => {
-            Err(Stopped::Refused(Fault::NoMemory(NoMemory::told())))
+            Err(Fault::NoMemory(NoMemory::told()))
         }
-        Err(_) => Err(Stopped::Refused(Fault::StoreRefused)),
+        Err(_) => Err(Fault::StoreRefused),
     }
 }
 
@@ -56,7 +56,7 @@ pub fn close_file(engine: Engine<FileStore<File>>) {
 }
 
 /// A new store in memory.
-pub fn open_memory(rt: &HostRuntime, settings: Settings) -> Result<Engine<MemStore>, Stopped>
+pub fn open_memory(rt: &HostRuntime, settings: Settings) -> Result<Engine<MemStore>, Fault>
     ensures { IfOk result (λ e. e.log ≡ []) }
 {
     open(rt, Connection::open_in_memory(rt.alloc())?, settings)

@@ -19,6 +19,8 @@ mod histories;
 #[cfg(test)]
 mod lines_deciding;
 #[cfg(test)]
+mod lines_ends;
+#[cfg(test)]
 mod lines_faults;
 #[cfg(test)]
 mod lines_stops;
@@ -34,6 +36,8 @@ mod replays;
 mod rows_read;
 #[cfg(test)]
 mod rows_store;
+#[cfg(test)]
+mod runs_verified;
 #[cfg(test)]
 mod texts;
 #[cfg(test)]

@@ -7,10 +7,10 @@ use flow_base::memory::NoMemory;
 use flow_base::number::{EventId, TextNo};
 use flow_base::sequence::Sequence;
 use flow_base::text::Key;
-use flow_cli::drive::Stopped;
 use flow_cli::ending::ended;
 use flow_cli::fault::{fault_line, fault_of_error, short_line, status};
 use flow_cli::reply::{Line, reply_line};
+use flow_cli::streams::Writing;
 use std::alloc::Global;
 use std::io::ErrorKind;
 use std::test::Fail;
@@ -38,7 +38,7 @@ fn faults_have_lines(rt: HostRuntime) -> Result<(), Fail> {
 /// The status of a fault, where this is said of it.
 fn said(alloc: Global, fault: Fault, wanted: &[u8]) -> Option<u8> {
     let mut errors = Vec::new(alloc);
-    let status = ended(alloc, &mut errors, &Err(Stopped::Refused(fault)));
+    let status = ended(alloc, &mut Writing::new(&mut errors), &Err(fault));
     if errors.as_slice() == wanted {
         Some(status)
     } else {

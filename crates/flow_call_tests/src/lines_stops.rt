@@ -4,8 +4,9 @@ use flow_base::code::Code;
 use flow_base::command::Command;
 use flow_base::fault::Fault;
 use flow_cli::batch::BatchSize;
-use flow_cli::drive::{drive_lines, end_status};
-use flow_cli::fault::fault_of_stop;
+use flow_cli::drive::drive_lines;
+use flow_cli::fault::{fault_of_stop, status};
+use flow_cli::streams::{Reading, Writing};
 use flow_machine::answer::{Answer, Answering, Stop, Together};
 use std::alloc::Global;
 use std::test::Fail;
@@ -83,6 +84,14 @@ impl<E: Answering + Drop> Answering for Failing<E> {
     }
 }
 
+/// The status that lines ended with.
+fn ended_with(outcome: &Result<u8, Fault>) -> u8 {
+    match outcome {
+        Ok(done) => *done,
+        Err(fault) => status(fault),
+    }
+}
+
 /// The final status, with the batch behind so many others given up or without an answer, where this is written.
 fn failed_at(
     alloc: Global,
@@ -92,8 +101,7 @@ fn failed_at(
     input: &[u8],
     wanted: &[u8],
 ) -> Option<u8> {
-    let mut reader = input;
-    let mut writer = Vec::new(alloc);
+    let mut written = Vec::new(alloc);
     let mut engine = Failing {
         inner: over_lists(alloc),
         before,
@@ -102,12 +110,12 @@ fn failed_at(
     let outcome = drive_lines(
         alloc,
         &mut engine,
-        &mut reader,
-        &mut writer,
+        &mut Reading::new(input),
+        &mut Writing::new(&mut written),
         BatchSize::new(most)?,
     );
-    if writer.as_slice() == wanted {
-        Some(end_status(&outcome))
+    if written.as_slice() == wanted {
+        Some(ended_with(&outcome))
     } else {
         None
     }

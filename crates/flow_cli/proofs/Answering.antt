@@ -8,15 +8,12 @@ use Rattle.flow_base.specs.declared.command.Command.{Command}
 use Rattle.flow_model.specs.Apply.{Rules}
 use Rattle.flow_model.specs.Book.{Book}
 use Rattle.flow_cli.specs.Driving.{lines_of, written, answer_status, final_status, WritesBeginning}
-use Rattle.flow_cli.specs.Answering.{Part, Lone, Applied, GivenUp, IsCut, AreParts, FirstLine, Answered, AllAnswered, FaultAt, StatusWithin, StopsAtPart, StopsBetween, StopsNext, StopsWithin, TellsPart, WritesFront, WritesPart, WritesSome, answers_by, answers_in, book_behind, book_by, commands_in, lines_by, lines_in}
+use Rattle.flow_cli.specs.Answering.{Part, Lone, Applied, GivenUp, IsCut, AreParts, FirstLine, Answered, AllAnswered, StatusWithin, StopsAtPart, StopsBetween, StopsNext, StopsWithin, TellsPart, WritesFront, WritesPart, WritesSome, answers_by, answers_in, book_behind, book_by, commands_in, lines_by, lines_in}
 use Rattle.flow_cli.specs.Commands.{line_command}
 use Rattle.flow_cli.specs.Faults.{fault_of_stop}
 use Rattle.flow_cli.specs.Replies.{line_text}
-use Rattle.flow_cli.specs.Stopping.{CausedFault, CausedStop, StopsReading}
 use Rattle.flow_machine.specs.declared.answer.Stop.{Stop}
 use Rattle.flow_machine.specs.declared.answer.Stop.TheVariants as stop
-use Rattle.flow_cli.specs.declared.drive.Stopped.{Stopped}
-use Rattle.flow_cli.specs.declared.drive.Stopped.TheVariants as stopped
 use Rattle.flow_base.specs.declared.fault.Fault.{Fault}
 use Rattle.flow_base.specs.declared.fault.Fault.TheVariants as fault
 use Rattle.flow_cli.specs.declared.reply.Line.{Line}
@@ -32,7 +29,7 @@ status-append [] ys = omega arith
 status-append (x ∷ xs) ys = let e = status-append xs ys in omega arith
 
 -- of an error two things are known
-pub both_errs : {X : Type 0} (r : Result X Stopped) (P Q R : Stopped → Type 0) → ((e : Stopped) → P e → Q e → R e) → IfErr r P → IfErr r Q → IfErr r R
+pub both_errs : {X : Type 0} (r : Result X Fault) (P Q R : Fault → Type 0) → ((e : Fault) → P e → Q e → R e) → IfErr r P → IfErr r Q → IfErr r R
 both_errs (Ok x) P Q R h p q = tt
 both_errs (Err e) P Q R h p q = h e p q
 
@@ -76,29 +73,41 @@ as_cut cut (Lone l) lines later is h = tt
 as_cut cut (Applied ls) lines later is h = subst (λ l. cut l later) is h
 as_cut cut (GivenUp ls k) lines later is h = subst (λ l. cut l later) is h
 
--- where no cause is left, it is want of memory
-memory_alone : (f : Fault) → CausedFault f (λ s. ⊥) ⊥ → f ≡ fault.NoMemory _
-memory_alone (fault.NoMemory _) cause = refl
-memory_alone (fault.Mismatch run place name) cause = absurd cause
-memory_alone fault.NoRun cause = absurd cause
-memory_alone fault.StoreRefused cause = absurd cause
-memory_alone fault.NotOurs cause = absurd cause
-memory_alone fault.BadVersion cause = absurd cause
-memory_alone (fault.Damaged d) cause = absurd cause
-memory_alone fault.Unknown cause = absurd cause
-memory_alone fault.Halted cause = absurd cause
-memory_alone fault.NoFile cause = absurd cause
-memory_alone fault.InputFailed cause = absurd cause
-memory_alone fault.OutputFailed cause = absurd cause
-memory_alone fault.BadSettings cause = absurd cause
-memory_alone fault.BadUsage cause = absurd cause
+-- ---- what was written where writing ended early
 
--- A read that failed ends between parts.
-pub reading_between : (e : Stopped) → StopsReading e → StopsBetween e
-reading_between (stopped.Refused f) h = inl h
-reading_between (stopped.Input e) h = tt
-reading_between (stopped.Output e) h = absurd h
-reading_between stopped.BadSettings h = absurd h
+-- of one text: none of it where memory ran out, and else a beginning
+pub part_by : (f : Fault) (old new : Option (List ℕ)) (bytes : List ℕ) (G : Fault → Type 0) → WritesPart f old new bytes → (Keeps old new → G (fault.NoMemory _)) → (WritesBeginning old new bytes → G fault.OutputFailed) → G f
+part_by (fault.NoMemory _) old new bytes G w none some = none w
+part_by (fault.Mismatch run place name) old new bytes G w none some = absurd w
+part_by fault.NoRun old new bytes G w none some = absurd w
+part_by fault.StoreRefused old new bytes G w none some = absurd w
+part_by fault.NotOurs old new bytes G w none some = absurd w
+part_by fault.BadVersion old new bytes G w none some = absurd w
+part_by (fault.Damaged d) old new bytes G w none some = absurd w
+part_by fault.Unknown old new bytes G w none some = absurd w
+part_by fault.Halted old new bytes G w none some = absurd w
+part_by fault.NoFile old new bytes G w none some = absurd w
+part_by fault.InputFailed old new bytes G w none some = absurd w
+part_by fault.OutputFailed old new bytes G w none some = some w
+part_by fault.BadSettings old new bytes G w none some = absurd w
+part_by fault.BadUsage old new bytes G w none some = absurd w
+
+-- of answers: the first of them, and else a beginning
+pub some_by : (f : Fault) (old new : Option (List ℕ)) (answers : List Line) (G : Fault → Type 0) → WritesSome f old new answers → (WritesFront old new answers → G (fault.NoMemory _)) → (WritesBeginning old new (written answers) → G fault.OutputFailed) → G f
+some_by (fault.NoMemory _) old new answers G w front some = front w
+some_by (fault.Mismatch run place name) old new answers G w front some = absurd w
+some_by fault.NoRun old new answers G w front some = absurd w
+some_by fault.StoreRefused old new answers G w front some = absurd w
+some_by fault.NotOurs old new answers G w front some = absurd w
+some_by fault.BadVersion old new answers G w front some = absurd w
+some_by (fault.Damaged d) old new answers G w front some = absurd w
+some_by fault.Unknown old new answers G w front some = absurd w
+some_by fault.Halted old new answers G w front some = absurd w
+some_by fault.NoFile old new answers G w front some = absurd w
+some_by fault.InputFailed old new answers G w front some = absurd w
+some_by fault.OutputFailed old new answers G w front some = some w
+some_by fault.BadSettings old new answers G w front some = absurd w
+some_by fault.BadUsage old new answers G w front some = absurd w
 
 module _ (u : Rules) where
   answers-append : (b : Book) (ps qs : List Part) → answers_in u b (ps ++ qs) ≡ answers_in u b ps ++ answers_in u (book_behind u b ps) qs
@@ -135,31 +144,15 @@ module _ (u : Rules) (given_up : Book → List Command → Code → Type 0) wher
 
   -- ---- what is left of a part
 
-  fault_at : (stops : Book → List Command → Stop → Type 0) (f : Fault) (b b1 : Book) (lines : List (List ℕ)) (old new : Option (List ℕ)) → CausedFault f (λ s. ⊥) ⊥ → TellsPart u given_up b b1 lines (λ answers. WritesFront old new answers) → FaultAt u given_up stops f b b1 lines old new
-  fault_at stops (fault.NoMemory _) b b1 lines old new cause t = t
-  fault_at stops (fault.Mismatch run place name) b b1 lines old new cause t = absurd cause
-  fault_at stops fault.NoRun b b1 lines old new cause t = absurd cause
-  fault_at stops fault.StoreRefused b b1 lines old new cause t = absurd cause
-  fault_at stops fault.NotOurs b b1 lines old new cause t = absurd cause
-  fault_at stops fault.BadVersion b b1 lines old new cause t = absurd cause
-  fault_at stops (fault.Damaged d) b b1 lines old new cause t = absurd cause
-  fault_at stops fault.Unknown b b1 lines old new cause t = absurd cause
-  fault_at stops fault.Halted b b1 lines old new cause t = absurd cause
-  fault_at stops fault.NoFile b b1 lines old new cause t = absurd cause
-  fault_at stops fault.InputFailed b b1 lines old new cause t = absurd cause
-  fault_at stops fault.OutputFailed b b1 lines old new cause t = absurd cause
-  fault_at stops fault.BadSettings b b1 lines old new cause t = absurd cause
-  fault_at stops fault.BadUsage b b1 lines old new cause t = absurd cause
-
   -- of its answers some were written
-  pub part_written : (stops : Book → List Command → Stop → Type 0) (e : Stopped) (b b1 : Book) (lines : List (List ℕ)) (old new : Option (List ℕ)) → CausedStop e (λ s. ⊥) ⊥ → TellsPart u given_up b b1 lines (λ answers. WritesSome e old new answers) → StopsAtPart u given_up stops e b b1 lines old new
-  part_written stops (stopped.Refused f) b b1 lines old new cause t = fault_at stops f b b1 lines old new cause t
-  part_written stops (stopped.Input e) b b1 lines old new cause t = t.told
-  part_written stops (stopped.Output e) b b1 lines old new cause t = t
-  part_written stops stopped.BadSettings b b1 lines old new cause t = absurd cause
+  pub part_written : (stops : Book → List Command → Stop → Type 0) (e : Fault) (b b1 : Book) (lines : List (List ℕ)) (old new : Option (List ℕ)) → TellsPart u given_up b b1 lines (λ answers. WritesSome e old new answers) → StopsAtPart u given_up stops e b b1 lines old new
+  part_written stops e b b1 lines old new t =
+      some_by e old new (answers_by u b t.part) (λ f. StopsAtPart u given_up stops f b b1 lines old new) t.told
+      (λ front. record { part = t.part; lines_are = t.lines_are; part_is = t.part_is; book_is = t.book_is; told = front })
+      (λ some. record { part = t.part; lines_are = t.lines_are; part_is = t.part_is; book_is = t.book_is; told = some })
 
   -- its commands have no answer
-  pub none_replied : (stops : Book → List Command → Stop → Type 0) (b b1 : Book) (lines : List (List ℕ)) (out : Option (List ℕ)) (s : Stop) → stops b (commands_in lines) s → StopsAtPart u given_up stops (stopped.Refused (fault_of_stop s)) b b1 lines out out
+  pub none_replied : (stops : Book → List Command → Stop → Type 0) (b b1 : Book) (lines : List (List ℕ)) (out : Option (List ℕ)) (s : Stop) → stops b (commands_in lines) s → StopsAtPart u given_up stops (fault_of_stop s) b b1 lines out out
   none_replied stops b b1 lines out stop.Unknown is = (is, keeps_self out)
   none_replied stops b b1 lines out stop.Halted is = (is, keeps_self out)
 
@@ -230,56 +223,42 @@ module _ (u : Rules) (given_up : Book → List Command → Code → Type 0) wher
 
     module _ (stops : Book → List Command → Stop → Type 0) where
       -- nothing was answered
-      pub none_answered : (b : Book) (e : Stopped) (whole : List (List ℕ)) (out : Option (List ℕ)) → StopsBetween e → StopsWithin u given_up stops cut b b e whole out out
+      pub none_answered : (b : Book) (e : Fault) (whole : List (List ℕ)) (out : Option (List ℕ)) → StopsBetween e → StopsWithin u given_up stops cut b b e whole out out
       none_answered b e whole out between =
           record { parts = []; later = whole; out = out; lines_are = refl; parts_are = tt; written_are = Appends-nil out; ends = inl (between, (refl, keeps_self out)) }
 
       -- it ended in the first part
-      pub first_stops : (b b1 : Book) (e : Stopped) (whole next rest : List (List ℕ)) (old new : Option (List ℕ)) → whole ≡ next ++ rest → cut next rest → StopsAtPart u given_up stops e b b1 next old new → StopsWithin u given_up stops cut b b1 e whole old new
+      pub first_stops : (b b1 : Book) (e : Fault) (whole next rest : List (List ℕ)) (old new : Option (List ℕ)) → whole ≡ next ++ rest → cut next rest → StopsAtPart u given_up stops e b b1 next old new → StopsWithin u given_up stops cut b b1 e whole old new
       first_stops b b1 e whole next rest old new lines is at =
           record { parts = []; later = whole; out = old; lines_are = refl; parts_are = tt; written_are = Appends-nil old; ends = inr (record { next = next; rest = rest; lines_are = lines; cut_is = inl is; stops_at = at }) }
 
       -- the answer to a line that is no command wasn't all written
-      pub bad_stops : (b : Book) (e : Stopped) (whole rest : List (List ℕ)) (old new : Option (List ℕ)) (line : List ℕ) → whole ≡ line ∷ rest → line_command line ≡ None → WritesPart e old new (line_text a_line.Bad ++ 10 ∷ []) → CausedStop e (λ s. ⊥) ⊥ → StopsWithin u given_up stops cut b b e whole old new
-      bad_stops b (stopped.Refused f) whole rest old new line lines bad w cause =
-          record { parts = []; later = whole; out = old; lines_are = refl; parts_are = tt; written_are = Appends-nil old; ends = inl (inl (memory_alone f cause), (refl, w)) }
-      bad_stops b (stopped.Input f) whole rest old new line lines bad w cause = absurd w
-      bad_stops b stopped.BadSettings whole rest old new line lines bad w cause = absurd w
-      bad_stops b (stopped.Output f) whole rest old new line lines bad w cause = record {
-        parts = [];
-        later = whole;
-        out = old;
-        lines_are = refl;
-        parts_are = tt;
-        written_are = Appends-nil old;
-        ends = inr (record {
-          next = line ∷ [];
-          rest = rest;
-          lines_are = lines;
-          cut_is = inr (line, (refl, bad));
-          stops_at = record { part = Lone line; lines_are = refl; part_is = bad; book_is = refl; told = subst (WritesBeginning old new) (sym (append-nil (line_text a_line.Bad ++ 10 ∷ []))) w };
-        });
-      }
+      pub bad_stops : (b : Book) (e : Fault) (whole rest : List (List ℕ)) (old new : Option (List ℕ)) (line : List ℕ) → whole ≡ line ∷ rest → line_command line ≡ None → WritesPart e old new (line_text a_line.Bad ++ 10 ∷ []) → StopsWithin u given_up stops cut b b e whole old new
+      bad_stops b e whole rest old new line lines bad w =
+          part_by e old new (line_text a_line.Bad ++ 10 ∷ []) (λ f. StopsWithin u given_up stops cut b b f whole old new) w
+          (λ kept. record { parts = []; later = whole; out = old; lines_are = refl; parts_are = tt; written_are = Appends-nil old; ends = inl (inl refl, (refl, kept)) })
+          (λ begun. record {
+            parts = [];
+            later = whole;
+            out = old;
+            lines_are = refl;
+            parts_are = tt;
+            written_are = Appends-nil old;
+            ends = inr (record {
+              next = line ∷ [];
+              rest = rest;
+              lines_are = lines;
+              cut_is = inr (line, (refl, bad));
+              stops_at = record { part = Lone line; lines_are = refl; part_is = bad; book_is = refl; told = subst (WritesBeginning old new) (sym (append-nil (line_text a_line.Bad ++ 10 ∷ []))) begun };
+            });
+          })
 
-      pub bad_written : (b : Book) (e : Stopped) (known left old new : Option (List ℕ)) (found line : List ℕ) → IfSome known (λ bytes. FirstLine bytes found left) → line ≡ found → line_command line ≡ None → WritesPart e old new (line_text a_line.Bad ++ 10 ∷ []) → CausedStop e (λ s. ⊥) ⊥ → IfSome known (λ bytes. StopsWithin u given_up stops cut b b e (lines_of bytes) old new)
-      bad_written b e None left old new found line first same bad w cause = tt
-      bad_written b e (Some bytes) left old new found line first same bad w cause =
-          bad_stops b e (lines_of bytes) (lines_of (drop_through 10 bytes)) old new line (first.lines_are ∙ ap (λ l. l ∷ lines_of (drop_through 10 bytes)) (sym same)) bad w cause
+      pub bad_written : (b : Book) (e : Fault) (known left old new : Option (List ℕ)) (found line : List ℕ) → IfSome known (λ bytes. FirstLine bytes found left) → line ≡ found → line_command line ≡ None → WritesPart e old new (line_text a_line.Bad ++ 10 ∷ []) → IfSome known (λ bytes. StopsWithin u given_up stops cut b b e (lines_of bytes) old new)
+      bad_written b e None left old new found line first same bad w = tt
+      bad_written b e (Some bytes) left old new found line first same bad w =
+          bad_stops b e (lines_of bytes) (lines_of (drop_through 10 bytes)) old new line (first.lines_are ∙ ap (λ l. l ∷ lines_of (drop_through 10 bytes)) (sym same)) bad w
 
-      -- as many lines as can be counted were answered
-      pub all_counted : (b b1 : Book) (known left old new : Option (List ℕ)) (n : ℕ) → IfSome known (λ bytes. Answered u given_up cut b b1 bytes left old new n) → IfSome known (λ bytes. StopsWithin u given_up stops cut b b1 (stopped.Refused fault.StoreRefused) (lines_of bytes) old new)
-      all_counted b b1 None left old new n f = tt
-      all_counted b b1 (Some bytes) left old new n f = record {
-        parts = f.parts;
-        later = lines_of f.rest;
-        out = new;
-        lines_are = f.lines_are;
-        parts_are = f.parts_are;
-        written_are = f.written_are;
-        ends = inl (inr refl, (f.book_is, keeps_self new));
-      }
-
-      stops_behind : (b b1 b2 : Book) (e : Stopped) (bytes : List ℕ) (left old new new1 : Option (List ℕ)) (n : ℕ) (f : Answered u given_up cut b b1 bytes left old new n) → StopsWithin u given_up stops cut b1 b2 e (lines_of f.rest) new new1 → StopsWithin u given_up stops cut b b2 e (lines_of bytes) old new1
+      stops_behind : (b b1 b2 : Book) (e : Fault) (bytes : List ℕ) (left old new new1 : Option (List ℕ)) (n : ℕ) (f : Answered u given_up cut b b1 bytes left old new n) → StopsWithin u given_up stops cut b1 b2 e (lines_of f.rest) new new1 → StopsWithin u given_up stops cut b b2 e (lines_of bytes) old new1
       stops_behind b b1 b2 e bytes left old new new1 n f w = record {
         parts = f.parts ++ w.parts;
         later = w.later;
@@ -291,7 +270,7 @@ module _ (u : Rules) (given_up : Book → List Command → Code → Type 0) wher
       }
 
       -- what stops the lines behind stops them all
-      pub stops_later : (b b1 b2 : Book) (e : Stopped) (known left old new new1 : Option (List ℕ)) (n : ℕ) → IfSome known (λ bytes. Answered u given_up cut b b1 bytes left old new n) → IfSome left (λ bytes. StopsWithin u given_up stops cut b1 b2 e (lines_of bytes) new new1) → IfSome known (λ bytes. StopsWithin u given_up stops cut b b2 e (lines_of bytes) old new1)
+      pub stops_later : (b b1 b2 : Book) (e : Fault) (known left old new new1 : Option (List ℕ)) (n : ℕ) → IfSome known (λ bytes. Answered u given_up cut b b1 bytes left old new n) → IfSome left (λ bytes. StopsWithin u given_up stops cut b1 b2 e (lines_of bytes) new new1) → IfSome known (λ bytes. StopsWithin u given_up stops cut b b2 e (lines_of bytes) old new1)
       stops_later b b1 b2 e None left old new new1 n f w = tt
       stops_later b b1 b2 e (Some bytes) left old new new1 n f w =
           stops_behind b b1 b2 e bytes left old new new1 n f (subst (λ k. IfSome k (λ bytes. StopsWithin u given_up stops cut b1 b2 e (lines_of bytes) new new1)) f.left_is w)

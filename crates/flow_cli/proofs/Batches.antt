@@ -9,6 +9,7 @@ use Rattle.flow_base.specs.declared.code.Code.{Code}
 use Rattle.flow_base.specs.declared.command.Command.{Command}
 use Rattle.flow_base.specs.declared.command.Reply.{Reply}
 use Rattle.flow_model.specs.Apply.{Rules, outcome, after, after_one, replies}
+use Rattle.flow_base.specs.declared.fault.Fault.{Fault}
 use Rattle.flow_model.specs.Book.{Book}
 use Rattle.flow_machine.specs.Answers.{IsGivenUp}
 use Rattle.flow_machine.specs.declared.answer.Stop.{Stop}
@@ -16,13 +17,11 @@ use Rattle.flow_cli.specs.Answering.{Applied, GivenUp, FirstLine, Answered, Batc
 use Rattle.flow_cli.specs.Commands.{line_command}
 use Rattle.flow_cli.specs.Driving.{lines_of, written, answer_status, final_status}
 use Rattle.flow_cli.specs.Replies.{line_text}
-use Rattle.flow_cli.specs.Stopping.{CausedStop, ComeNext, BeginWith, ReadLines, StoppedBy, StopsAt}
-use Rattle.flow_cli.specs.declared.drive.Stopped.{Stopped}
-use Rattle.flow_cli.specs.declared.drive.Stopped.TheVariants as stopped
+use Rattle.flow_cli.specs.Stopping.{CausedFault, ComeNext, BeginWith, StoppedBy, StopsAt}
 use Rattle.flow_cli.specs.declared.reply.Line.{Line}
 use Rattle.flow_cli.specs.declared.reply.Line.TheVariants as a_line
-use Rattle.flow_cli.proofs.Answering.{as_cut, first_stops, kept_appends, none_answered, status-append, written-append}
-use Rattle.flow_cli.proofs.Stopping.{stop_by}
+use Rattle.flow_cli.proofs.Answering.{as_cut, first_stops, kept_appends, none_answered, part_by, status-append, written-append}
+use Rattle.flow_cli.proofs.Stopping.{fault_by}
 
 -- what stands behind commands stands behind a batch of them
 pub caused_batch : {X : Type 0} (most : ℕ) (cause : Book → List Command → X → Type 0) (b : Book) (commands : List Command) (x : X) → 1 ≤ length commands → length commands ≤ most → cause b commands x → OfBatch most cause b commands x
@@ -97,7 +96,7 @@ module _ (u : Rules) (given_up : Book → List Command → Code → Type 0) wher
         tells = all (first ∷ g.lines) holds;
       }
 
-  pub stops_batch : (stops : Book → List Command → Stop → Type 0) (most : ℕ) (b b1 : Book) (e : Stopped) (c : Command) (commands : List Command) (marks : List Bool) (known left old new : Option (List ℕ)) → Gathered (c ∷ []) commands (true ∷ []) marks known left → 1 ≤ length commands → length commands ≤ most → IsFilled most commands marks known left
+  pub stops_batch : (stops : Book → List Command → Stop → Type 0) (most : ℕ) (b b1 : Book) (e : Fault) (c : Command) (commands : List Command) (marks : List Bool) (known left old new : Option (List ℕ)) → Gathered (c ∷ []) commands (true ∷ []) marks known left → 1 ≤ length commands → length commands ≤ most → IsFilled most commands marks known left
       → ((ls : List (List ℕ)) → HoldsLines ls commands marks → StopsAtPart u given_up stops e b b1 ls old new) → IfSome known (λ bytes. (first : List ℕ) → line_command first ≡ Some c → StopsWithin u given_up stops (IsFull most) b b1 e (first ∷ lines_of bytes) old new)
   stops_batch stops most b b1 e c commands marks None left old new g some few filled ends = tt
   stops_batch stops most b b1 e c commands marks (Some bytes) left old new g some few filled ends = λ first given.
@@ -107,7 +106,7 @@ module _ (u : Rules) (given_up : Book → List Command → Code → Type 0) wher
 
   module _ (cut : List (List ℕ) → List (List ℕ) → Type 0) where
     -- nothing of a batch is answered that wasn't begun
-    pub none_begun : (stops : Book → List Command → Stop → Type 0) (b : Book) (e : Stopped) (c : Command) (known out : Option (List ℕ)) → StopsBetween e → IfSome known (λ bytes. (first : List ℕ) → line_command first ≡ Some c → StopsWithin u given_up stops cut b b e (first ∷ lines_of bytes) out out)
+    pub none_begun : (stops : Book → List Command → Stop → Type 0) (b : Book) (e : Fault) (c : Command) (known out : Option (List ℕ)) → StopsBetween e → IfSome known (λ bytes. (first : List ℕ) → line_command first ≡ Some c → StopsWithin u given_up stops cut b b e (first ∷ lines_of bytes) out out)
     none_begun stops b e c None out between = tt
     none_begun stops b e c (Some bytes) out between = λ first given. none_answered u given_up cut stops b e (first ∷ lines_of bytes) out between
 
@@ -131,7 +130,7 @@ module _ (u : Rules) (given_up : Book → List Command → Code → Type 0) wher
           status_is = its.tells.told.status_is ∙ ap final_status (sym (append-nil (answers_by u b p)));
         }
 
-    pub next_stops : (stops : Book → List Command → Stop → Type 0) (b b1 : Book) (e : Stopped) (known left old new : Option (List ℕ)) (found line : List ℕ) (c : Command) → IfSome known (λ bytes. FirstLine bytes found left) → line ≡ found → line_command line ≡ Some c → IfSome left (λ bytes. (first : List ℕ) → line_command first ≡ Some c → StopsWithin u given_up stops cut b b1 e (first ∷ lines_of bytes) old new)
+    pub next_stops : (stops : Book → List Command → Stop → Type 0) (b b1 : Book) (e : Fault) (known left old new : Option (List ℕ)) (found line : List ℕ) (c : Command) → IfSome known (λ bytes. FirstLine bytes found left) → line ≡ found → line_command line ≡ Some c → IfSome left (λ bytes. (first : List ℕ) → line_command first ≡ Some c → StopsWithin u given_up stops cut b b1 e (first ∷ lines_of bytes) old new)
         → IfSome known (λ bytes. StopsWithin u given_up stops cut b b1 e (lines_of bytes) old new)
     next_stops stops b b1 e None left old new found line c first same given ends = tt
     next_stops stops b b1 e (Some bytes) left old new found line c first same given ends =
@@ -153,25 +152,19 @@ module _ (u : Rules) (given_up : Book → List Command → Code → Type 0) wher
           commands_are = its.commands_are ∙ ap (λ o. with_command o (commands_in its.lines)) (sym given);
         }
 
-    pub next_cause : (b : Book) (e : Stopped) (stops : Book → List Command → Stop → Type 0) (sure : Type 0) (known left : Option (List ℕ)) (found line : List ℕ) (c : Command) → IfSome known (λ bytes. FirstLine bytes found left) → line ≡ found → line_command line ≡ Some c
-        → CausedStop e (StopsAt (stops b) c left) ⊥ → CausedStop e (StoppedBy u given_up stops cut sure b known) ⊥
+    pub next_cause : (b : Book) (e : Fault) (stops : Book → List Command → Stop → Type 0) (sure : Type 0) (known left : Option (List ℕ)) (found line : List ℕ) (c : Command) → IfSome known (λ bytes. FirstLine bytes found left) → line ≡ found → line_command line ≡ Some c
+        → CausedFault e (StopsAt (stops b) c left) → CausedFault e (StoppedBy u given_up stops cut sure b known)
     next_cause b e stops sure known left found line c first same given cause =
-        stop_by e (StopsAt (stops b) c left) (StoppedBy u given_up stops cut sure b known) ⊥ ⊥
-        (λ s x. (b, (x.0, (x.1.0, λ _. come_next b known left found line c x.0 first same given x.1.1)))) (λ x. x) cause
+        fault_by e (StopsAt (stops b) c left) (StoppedBy u given_up stops cut sure b known)
+        (λ s x. (b, (x.0, (x.1.0, λ _. come_next b known left found line c x.0 first same given x.1.1)))) cause
 
-pub begin_cause : (e : Stopped) (most : ℕ) (b : Book) (stops : Book → List Command → Stop → Type 0) (c : Command) (commands : List Command) (marks : List Bool) (known left : Option (List ℕ)) → 1 ≤ length commands → length commands ≤ most → Gathered (c ∷ []) commands (true ∷ []) marks known left → CausedStop e (stops b commands) ⊥ → CausedStop e (StopsAt (OfBatch most stops b) c known) ⊥
+pub begin_cause : (e : Fault) (most : ℕ) (b : Book) (stops : Book → List Command → Stop → Type 0) (c : Command) (commands : List Command) (marks : List Bool) (known left : Option (List ℕ)) → 1 ≤ length commands → length commands ≤ most → Gathered (c ∷ []) commands (true ∷ []) marks known left → CausedFault e (stops b commands) → CausedFault e (StopsAt (OfBatch most stops b) c known)
 begin_cause e most b stops c commands marks known left some few g cause =
-    stop_by e (stops b commands) (StopsAt (OfBatch most stops b) c known) ⊥ ⊥ (λ s x. (commands, (caused_batch most stops b commands s some few x, begins known g))) (λ x. x) cause
+    fault_by e (stops b commands) (StopsAt (OfBatch most stops b) c known) (λ s x. (commands, (caused_batch most stops b commands s some few x, begins known g))) cause
   where
     begins : (known1 : Option (List ℕ)) → Gathered (c ∷ []) commands (true ∷ []) marks known1 left → IfSome known1 (λ bytes. BeginWith c bytes commands)
     begins None g1 = tt
     begins (Some bytes) g1 = record { lines = g1.lines; later = lines_of g1.read.rest; lines_are = g1.read.lines_are; commands_are = g1.commands_are }
-
-pub batch_counted : (c : Command) (commands : List Command) (marks : List Bool) (known left : Option (List ℕ)) → Gathered (c ∷ []) commands (true ∷ []) marks known left → IfSome known (λ bytes. ReadLines 0 bytes left)
-batch_counted c commands marks None left g = tt
-batch_counted c commands marks (Some bytes) left g =
-    let long : length (lines_of bytes) ≡ length g.lines + length (lines_of g.read.rest) = ap length g.read.lines_are ∙ length-append g.lines (lines_of g.read.rest) in
-    record { rest = g.read.rest; left_is = g.read.left_is; count_is = omega (arith, long) }
 
 -- ---- statuses
 
@@ -313,18 +306,17 @@ telling_done whole left old now n was none =
     let all : was.front ≡ whole = sym (was.split ∙ ap (λ l. was.front ++ l) none ∙ append-nil was.front) in
     (subst (λ l. Appends old now (written l)) all was.written_are, was.status_is ∙ ap final_status all)
 
-pub telling_stops : (e : Stopped) (whole now left : List Line) (a : Line) (old mid new : Option (List ℕ)) (n : ℕ) → now ≡ a ∷ left → Telling whole now old mid n → WritesPart e mid new (line_text a ++ 10 ∷ []) → WritesSome e old new whole
-telling_stops (stopped.Refused f) whole now left a old mid new n next was w =
-    (was.front, (now, (was.split, subst (Appends old new) (append-nil (written was.front)) (Appends-trans old mid new _ _ was.written_are (kept_appends mid new w)))))
-telling_stops (stopped.Input f) whole now left a old mid new n next was w = absurd w
-telling_stops stopped.BadSettings whole now left a old mid new n next was w = absurd w
-telling_stops (stopped.Output f) whole now left a old mid new n next was w = record {
-  front = written was.front ++ w.front;
-  back = w.back ++ written left;
-  bytes_are =
-      ap written (was.split ∙ ap (λ l. was.front ++ l) next) ∙ written-append was.front (a ∷ left)
-      ∙ ap (λ l. written was.front ++ (l ++ written left)) w.bytes_are
-      ∙ ap (λ l. written was.front ++ l) (append_assoc w.front w.back (written left))
-      ∙ sym (append_assoc (written was.front) w.front (w.back ++ written left));
-  written_are = Appends-trans old mid new _ _ was.written_are w.written_are;
-}
+pub telling_stops : (e : Fault) (whole now left : List Line) (a : Line) (old mid new : Option (List ℕ)) (n : ℕ) → now ≡ a ∷ left → Telling whole now old mid n → WritesPart e mid new (line_text a ++ 10 ∷ []) → WritesSome e old new whole
+telling_stops e whole now left a old mid new n next was w =
+    part_by e mid new (line_text a ++ 10 ∷ []) (λ f. WritesSome f old new whole) w
+    (λ kept. (was.front, (now, (was.split, subst (Appends old new) (append-nil (written was.front)) (Appends-trans old mid new _ _ was.written_are (kept_appends mid new kept))))))
+    (λ begun. record {
+      front = written was.front ++ begun.front;
+      back = begun.back ++ written left;
+      bytes_are =
+          ap written (was.split ∙ ap (λ l. was.front ++ l) next) ∙ written-append was.front (a ∷ left)
+          ∙ ap (λ l. written was.front ++ (l ++ written left)) begun.bytes_are
+          ∙ ap (λ l. written was.front ++ l) (append_assoc begun.front begun.back (written left))
+          ∙ sym (append_assoc (written was.front) begun.front (begun.back ++ written left));
+      written_are = Appends-trans old mid new _ _ was.written_are begun.written_are;
+    })

@@ -1,7 +1,7 @@
 -- What is written at the end of the program.
-use Rattle.std.proofs.Common.{ℕ, List, ◌++◌, Option, Some, None, refl, sym, ap, ◌∙◌, append_assoc}
+use Rattle.std.proofs.Common.{ℕ, List, [], ◌++◌, Option, Some, None, refl, sym, ap, ◌∙◌, subst, append_assoc}
 use Rattle.std.specs.Io.KnownBytes.{Appends, Keeps}
-use Rattle.std.proofs.KnownBytes.{Appends-trans}
+use Rattle.std.proofs.KnownBytes.{Appends-nil, Appends-trans}
 use Rattle.flow_cli.specs.Driving.{WritesBeginning}
 
 pub same_kept : (out : Option (List ℕ)) → Keeps out out
@@ -22,3 +22,11 @@ both_begun old mid new first then all w =
       bytes_are = ap (λ l. first ++ l) w.bytes_are ∙ sym (append_assoc first w.front w.back);
       written_are = Appends-trans old mid new _ _ all w.written_are;
     }
+
+-- both texts
+pub both_written : (old mid new : Option (List ℕ)) (first then : List ℕ) → Appends old mid first → Appends mid new then → Appends old new (first ++ then)
+both_written old mid new first then all more = Appends-trans old mid new _ _ all more
+
+-- nothing is a beginning
+pub none_written : (out : Option (List ℕ)) (bytes : List ℕ) → WritesBeginning out out bytes
+none_written out bytes = record { front = []; back = bytes; bytes_are = refl; written_are = Appends-nil out }

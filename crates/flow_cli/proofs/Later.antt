@@ -8,13 +8,11 @@ use Rattle.flow_model.specs.Apply.{Rules}
 use Rattle.flow_model.specs.Book.{Book}
 use Rattle.flow_machine.specs.declared.answer.Stop.{Stop}
 use Rattle.flow_machine.specs.declared.answer.Stop.TheVariants as stop
-use Rattle.flow_cli.specs.Answering.{Part, Lone, Applied, GivenUp, AreParts, Answered, FaultAt, IsPart, OfBatch, SomeAnswered, StatusWithin, StopsAmong, StopsAtPart, StopsNext, StopsWithin, TellsPart, book_behind, book_by, commands_in}
+use Rattle.flow_cli.specs.Answering.{Part, Lone, Applied, GivenUp, AreParts, Answered, IsPart, OfBatch, SomeAnswered, StatusWithin, StopsAmong, StopsAtPart, StopsNext, StopsWithin, TellsPart, book_behind, book_by, commands_in}
 use Rattle.flow_cli.specs.Driving.{lines_of}
-use Rattle.flow_cli.specs.Stopping.{CausedStop, ComeNext, StoppedBy}
-use Rattle.flow_cli.specs.declared.drive.Stopped.{Stopped}
-use Rattle.flow_cli.specs.declared.drive.Stopped.TheVariants as stopped
+use Rattle.flow_cli.specs.Stopping.{CausedFault, ComeNext, StoppedBy}
 use Rattle.flow_cli.specs.declared.reply.Line.{Line}
-use Rattle.flow_cli.proofs.Stopping.{stop_by}
+use Rattle.flow_cli.proofs.Stopping.{fault_by}
 
 -- this follows from a cause
 abbrev pub Gives : {X : Type 0} → (Book → List Command → X → Type 0) → (Book → List Command → X → Type 0) → Type 0
@@ -58,34 +56,28 @@ module _ (one two : Book → List Command → Code → Type 0) (on : Gives one t
     told_too b b1 lines tells h = record { part = h.part; lines_are = h.lines_are; part_is = part_too b h.part h.part_is; book_is = h.book_is; told = h.told }
 
     module _ (stops since : Book → List Command → Stop → Type 0) (gives : Gives stops since) where
-      fault_too : (f : Fault) (b b1 : Book) (lines : List (List ℕ)) (old new : Option (List ℕ)) → FaultAt u one stops f b b1 lines old new → FaultAt u two since f b b1 lines old new
-      fault_too (fault.NoMemory _) b b1 lines old new h = told_too b b1 lines _ h
-      fault_too (fault.Mismatch run place name) b b1 lines old new h = h
-      fault_too fault.NoRun b b1 lines old new h = h
-      fault_too fault.StoreRefused b b1 lines old new h = h
-      fault_too fault.NotOurs b b1 lines old new h = h
-      fault_too fault.BadVersion b b1 lines old new h = h
-      fault_too (fault.Damaged d) b b1 lines old new h = h
-      fault_too fault.Unknown b b1 lines old new h = (gives b (commands_in lines) stop.Unknown h.0, h.1)
-      fault_too fault.Halted b b1 lines old new h = (gives b (commands_in lines) stop.Halted h.0, h.1)
-      fault_too fault.NoFile b b1 lines old new h = h
-      fault_too fault.InputFailed b b1 lines old new h = h
-      fault_too fault.OutputFailed b b1 lines old new h = h
-      fault_too fault.BadSettings b b1 lines old new h = h
-      fault_too fault.BadUsage b b1 lines old new h = h
+      at_too : (f : Fault) (b b1 : Book) (lines : List (List ℕ)) (old new : Option (List ℕ)) → StopsAtPart u one stops f b b1 lines old new → StopsAtPart u two since f b b1 lines old new
+      at_too (fault.NoMemory _) b b1 lines old new h = told_too b b1 lines _ h
+      at_too (fault.Mismatch run place name) b b1 lines old new h = h
+      at_too fault.NoRun b b1 lines old new h = h
+      at_too fault.StoreRefused b b1 lines old new h = h
+      at_too fault.NotOurs b b1 lines old new h = h
+      at_too fault.BadVersion b b1 lines old new h = h
+      at_too (fault.Damaged d) b b1 lines old new h = h
+      at_too fault.Unknown b b1 lines old new h = (gives b (commands_in lines) stop.Unknown h.0, h.1)
+      at_too fault.Halted b b1 lines old new h = (gives b (commands_in lines) stop.Halted h.0, h.1)
+      at_too fault.NoFile b b1 lines old new h = h
+      at_too fault.InputFailed b b1 lines old new h = h
+      at_too fault.OutputFailed b b1 lines old new h = told_too b b1 lines _ h
+      at_too fault.BadSettings b b1 lines old new h = h
+      at_too fault.BadUsage b b1 lines old new h = h
 
-      at_too : (e : Stopped) (b b1 : Book) (lines : List (List ℕ)) (old new : Option (List ℕ)) → StopsAtPart u one stops e b b1 lines old new → StopsAtPart u two since e b b1 lines old new
-      at_too (stopped.Refused f) b b1 lines old new h = fault_too f b b1 lines old new h
-      at_too (stopped.Input e) b b1 lines old new h = h
-      at_too (stopped.Output e) b b1 lines old new h = told_too b b1 lines _ h
-      at_too stopped.BadSettings b b1 lines old new h = h
-
-      ends_too : (e : Stopped) (b b1 : Book) (later : List (List ℕ)) (old new : Option (List ℕ)) → StopsNext u one stops cut e b b1 later old new → StopsNext u two since cut e b b1 later old new
+      ends_too : (e : Fault) (b b1 : Book) (later : List (List ℕ)) (old new : Option (List ℕ)) → StopsNext u one stops cut e b b1 later old new → StopsNext u two since cut e b b1 later old new
       ends_too e b b1 later old new (inl h) = inl h
       ends_too e b b1 later old new (inr h) =
           inr (record { next = h.next; rest = h.rest; lines_are = h.lines_are; cut_is = h.cut_is; stops_at = at_too e b b1 h.next old new h.stops_at })
 
-      stops_within_too : (b b1 : Book) (e : Stopped) (whole : List (List ℕ)) (old new : Option (List ℕ)) → StopsWithin u one stops cut b b1 e whole old new → StopsWithin u two since cut b b1 e whole old new
+      stops_within_too : (b b1 : Book) (e : Fault) (whole : List (List ℕ)) (old new : Option (List ℕ)) → StopsWithin u one stops cut b b1 e whole old new → StopsWithin u two since cut b b1 e whole old new
       stops_within_too b b1 e whole old new h = record {
         parts = h.parts;
         later = h.later;
@@ -96,11 +88,11 @@ module _ (one two : Book → List Command → Code → Type 0) (on : Gives one t
         ends = ends_too e (book_behind u b h.parts) b1 h.later h.out new h.ends;
       }
 
-      pub stops_too : (b b1 : Book) (e : Stopped) (known old new : Option (List ℕ)) → IfSome known (λ bytes. StopsWithin u one stops cut b b1 e (lines_of bytes) old new) → IfSome known (λ bytes. StopsWithin u two since cut b b1 e (lines_of bytes) old new)
+      pub stops_too : (b b1 : Book) (e : Fault) (known old new : Option (List ℕ)) → IfSome known (λ bytes. StopsWithin u one stops cut b b1 e (lines_of bytes) old new) → IfSome known (λ bytes. StopsWithin u two since cut b b1 e (lines_of bytes) old new)
       stops_too b b1 e None old new h = tt
       stops_too b b1 e (Some bytes) old new h = stops_within_too b b1 e (lines_of bytes) old new h
 
-      pub among_too : (b b1 : Book) (e : Stopped) (old new : Option (List ℕ)) → StopsAmong u one stops cut b b1 e old new → StopsAmong u two since cut b b1 e old new
+      pub among_too : (b b1 : Book) (e : Fault) (old new : Option (List ℕ)) → StopsAmong u one stops cut b b1 e old new → StopsAmong u two since cut b b1 e old new
       among_too b b1 e old new h = record { whole = h.whole; stops_are = stops_within_too b b1 e h.whole old new h.stops_are }
 
       next_too : (b book : Book) (cs : List Command) (known : Option (List ℕ)) → IfSome known (λ bytes. ComeNext u one cut b bytes book cs) → IfSome known (λ bytes. ComeNext u two cut b bytes book cs)
@@ -108,6 +100,6 @@ module _ (one two : Book → List Command → Code → Type 0) (on : Gives one t
       next_too b book cs (Some bytes) h =
           record { parts = h.parts; next = h.next; later = h.later; lines_are = h.lines_are; parts_are = parts_too b h.parts (h.next ++ h.later) h.parts_are; book_is = h.book_is; commands_are = h.commands_are }
 
-      pub cause_too : (e : Stopped) (sure : Type 0) (b : Book) (known : Option (List ℕ)) → CausedStop e (StoppedBy u one stops cut sure b known) ⊥ → CausedStop e (StoppedBy u two since cut sure b known) ⊥
+      pub cause_too : (e : Fault) (sure : Type 0) (b : Book) (known : Option (List ℕ)) → CausedFault e (StoppedBy u one stops cut sure b known) → CausedFault e (StoppedBy u two since cut sure b known)
       cause_too e sure b known h =
-          stop_by e (StoppedBy u one stops cut sure b known) (StoppedBy u two since cut sure b known) ⊥ ⊥ (λ s x. (x.0, (x.1.0, (gives x.0 x.1.0 s x.1.1.0, λ is. next_too b x.0 x.1.0 known (x.1.1.1 is))))) (λ x. x) h
+          fault_by e (StoppedBy u one stops cut sure b known) (StoppedBy u two since cut sure b known) (λ s x. (x.0, (x.1.0, (gives x.0 x.1.0 s x.1.1.0, λ is. next_too b x.0 x.1.0 known (x.1.1.1 is))))) h

@@ -1,5 +1,6 @@
 pub mod Faults
 pub mod Endings
+pub mod Ends
 pub mod Rows
 pub mod Arguments
 pub mod Commands
@@ -13,4 +14,3 @@ pub mod Batches
 pub mod SomeLines
 pub mod Stopping
 pub mod Histories
-pub mod Works

@@ -5,24 +5,16 @@ use Rattle.std.proofs.KnownBytes.{Appends-nil}
 use Rattle.flow_base.specs.declared.code.Code.{Code}
 use Rattle.flow_base.specs.declared.command.Command.{Command}
 use Rattle.flow_base.specs.declared.fault.Fault.{Fault}
-use Rattle.flow_base.specs.declared.fault.Fault.TheVariants as fault
 use Rattle.flow_model.specs.Apply.{Rules, after}
 use Rattle.flow_model.specs.Book.{Book}
 use Rattle.flow_machine.specs.declared.answer.Stop.{Stop}
-use Rattle.flow_cli.specs.Answering.{Part, Lone, Applied, GivenUp, AreParts, FaultAt, Gathered, HasFew, HoldsLines, LeavesAnswered, SomeAnswered, StopsAmong, StopsAtPart, StopsBehind, StopsBetween, StopsNext, TellsPart, WritesAll, WritesPart, answers_by, book_behind, commands_in, lines_by, lines_in}
+use Rattle.flow_cli.specs.Answering.{Part, Lone, Applied, GivenUp, AreParts, Gathered, HasFew, HoldsLines, SomeAnswered, StopsAmong, StopsAtPart, StopsBetween, StopsNext, TellsPart, WritesAll, WritesPart, answers_by, book_behind, commands_in, lines_by, lines_in}
 use Rattle.flow_cli.specs.Commands.{line_command}
 use Rattle.flow_cli.specs.Driving.{answer_status, final_status, written}
 use Rattle.flow_cli.specs.Replies.{line_text}
-use Rattle.flow_cli.specs.Stopping.{CausedStop}
-use Rattle.flow_cli.specs.declared.drive.Stopped.{Stopped}
-use Rattle.flow_cli.specs.declared.drive.Stopped.TheVariants as stopped
 use Rattle.flow_cli.specs.declared.reply.Line.TheVariants as a_line
-use Rattle.flow_cli.proofs.Answering.{as_cut, bad_stops, book_on, first_stops, keeps_self, lines-append, lines_on, none_answered, parts_on, status_on, written_on}
+use Rattle.flow_cli.proofs.Answering.{as_cut, bad_stops, book_on, first_stops, lines-append, lines_on, none_answered, parts_on, status_on, written_on}
 use Rattle.flow_cli.proofs.Batches.{holds_first, is_few}
-
--- what isn't told by a cause never comes
-pub never_full : (e : Stopped) (X : Stop → Type 0) (G : Type 0) → CausedStop e X ⊥ → e ≡ stopped.Refused fault.StoreRefused → G
-never_full e X G cause is = absurd (subst (λ s. CausedStop s X ⊥) is cause)
 
 module _ (u : Rules) (given_up : Book → List Command → Code → Type 0) (most : ℕ) where
   -- whatever comes behind them
@@ -93,24 +85,23 @@ module _ (u : Rules) (given_up : Book → List Command → Code → Type 0) (mos
         status_is = its.told.status_is ∙ ap final_status (sym (append-nil (answers_by u b p)));
       }
 
-  -- ---- whatever was written
-
-  pub leaves_answered : (b b1 : Book) (least n : ℕ) (old new : Option (List ℕ)) → SomeAnswered u given_up (HasFew most) b b1 least old new n → LeavesAnswered u given_up (HasFew most) b b1 least n
-  leaves_answered b b1 least n old new f = record { parts = f.parts; many = f.many; parts_are = f.parts_are; book_is = f.book_is; written_are = tt; status_is = f.status_is }
+  -- what was answered before is all that was applied, where nothing has changed since
+  pub some_still : {S W : Type 0} (book : S → Book) (contents : W → Option (List ℕ)) (s0 s1 s2 : S) (w0 w1 w2 : W) (least n : ℕ) → s2 ≡ s1 → w2 ≡ w1 → SomeAnswered u given_up (HasFew most) (book s0) (book s1) least (contents w0) (contents w1) n → SomeAnswered u given_up (HasFew most) (book s0) (book s2) 0 (contents w0) (contents w2) n
+  some_still book contents s0 s1 s2 w0 w1 w2 least n same wrote f = some_end (book s0) (book s1) (book s2) least n (contents w0) (contents w1) (contents w2) (ap book same) (ap contents wrote) f
 
   -- ---- on an early end
 
   module _ (stops : Book → List Command → Stop → Type 0) where
     -- the answer to a line that is no command wasn't all written
-    pub some_bad_stops : (b : Book) (e : Stopped) (old new : Option (List ℕ)) (line : List ℕ) → line_command line ≡ None → WritesPart e old new (line_text a_line.Bad ++ 10 ∷ []) → CausedStop e (λ s. ⊥) ⊥ → StopsAmong u given_up stops (HasFew most) b b e old new
-    some_bad_stops b e old new line bad w cause = record { whole = line ∷ []; stops_are = bad_stops u given_up (HasFew most) stops b e (line ∷ []) [] old new line refl bad w cause }
+    pub some_bad_stops : (b : Book) (e : Fault) (old new : Option (List ℕ)) (line : List ℕ) → line_command line ≡ None → WritesPart e old new (line_text a_line.Bad ++ 10 ∷ []) → StopsAmong u given_up stops (HasFew most) b b e old new
+    some_bad_stops b e old new line bad w = record { whole = line ∷ []; stops_are = bad_stops u given_up (HasFew most) stops b e (line ∷ []) [] old new line refl bad w }
 
     -- nothing was answered
-    pub none_among : (b : Book) (e : Stopped) (out : Option (List ℕ)) → StopsBetween e → StopsAmong u given_up stops (HasFew most) b b e out out
+    pub none_among : (b : Book) (e : Fault) (out : Option (List ℕ)) → StopsBetween e → StopsAmong u given_up stops (HasFew most) b b e out out
     none_among b e out between = record { whole = []; stops_are = none_answered u given_up (HasFew most) stops b e [] out between }
 
     -- it ended in a batch that was begun
-    pub some_batch_stops : (b b1 : Book) (e : Stopped) (c : Command) (commands : List Command) (marks : List Bool) (known left old new : Option (List ℕ)) → Gathered (c ∷ []) commands (true ∷ []) marks known left → 1 ≤ length commands → length commands ≤ most
+    pub some_batch_stops : (b b1 : Book) (e : Fault) (c : Command) (commands : List Command) (marks : List Bool) (known left old new : Option (List ℕ)) → Gathered (c ∷ []) commands (true ∷ []) marks known left → 1 ≤ length commands → length commands ≤ most
         → ((ls : List (List ℕ)) → HoldsLines ls commands marks → StopsAtPart u given_up stops e b b1 ls old new) → (first : List ℕ) → line_command first ≡ Some c → StopsAmong u given_up stops (HasFew most) b b1 e old new
     some_batch_stops b b1 e c commands marks known left old new g some few ends first given =
         let holds = holds_first first c commands marks known left g given in
@@ -122,7 +113,7 @@ module _ (u : Rules) (given_up : Book → List Command → Code → Type 0) (mos
         }
 
     -- what stops the lines behind stops them all
-    pub some_stop_later : (b b1 b2 : Book) (e : Stopped) (least n : ℕ) (old new new1 : Option (List ℕ)) → SomeAnswered u given_up (HasFew most) b b1 least old new n → StopsAmong u given_up stops (HasFew most) b1 b2 e new new1 → StopsAmong u given_up stops (HasFew most) b b2 e old new1
+    pub some_stop_later : (b b1 b2 : Book) (e : Fault) (least n : ℕ) (old new new1 : Option (List ℕ)) → SomeAnswered u given_up (HasFew most) b b1 least old new n → StopsAmong u given_up stops (HasFew most) b1 b2 e new new1 → StopsAmong u given_up stops (HasFew most) b b2 e old new1
     some_stop_later b b1 b2 e least n old new new1 f g =
         let w = g.stops_are in
         record {
@@ -135,65 +126,5 @@ module _ (u : Rules) (given_up : Book → List Command → Code → Type 0) (mos
             parts_are = few_on b b1 f.parts w.parts w.later f.book_is f.parts_are w.parts_are;
             written_are = written_on u b b1 f.parts w.parts old new w.out f.book_is f.written_are w.written_are;
             ends = subst (λ x. StopsNext u given_up stops (HasFew most) e x b2 w.later w.out new1) (book_on u b b1 f.parts w.parts f.book_is) w.ends;
-          };
-        }
-
-    -- all that can be counted were answered
-    pub endless_stop : (b b1 : Book) (least n : ℕ) (old new : Option (List ℕ)) → SomeAnswered u given_up (HasFew most) b b1 least old new n → StopsAmong u given_up stops (HasFew most) b b1 (stopped.Refused fault.StoreRefused) old new
-    endless_stop b b1 least n old new f = record {
-      whole = lines_in f.parts;
-      stops_are = record {
-        parts = f.parts;
-        later = [];
-        out = new;
-        lines_are = sym (append-nil (lines_in f.parts));
-        parts_are = f.parts_are;
-        written_are = f.written_are;
-        ends = inl (inr refl, (f.book_is, keeps_self new));
-      };
-    }
-
-    fault_unwritten : (f : Fault) (b b1 : Book) (lines : List (List ℕ)) (old new : Option (List ℕ)) → FaultAt u given_up stops f b b1 lines old new → FaultAt u given_up stops f b b1 lines None None
-    fault_unwritten (fault.NoMemory _) b b1 lines old new h =
-        record { part = h.part; lines_are = h.lines_are; part_is = h.part_is; book_is = h.book_is; told = (h.told.0, (h.told.1.0, (h.told.1.1.0, tt))) }
-    fault_unwritten (fault.Mismatch run place name) b b1 lines old new h = h
-    fault_unwritten fault.NoRun b b1 lines old new h = h
-    fault_unwritten fault.StoreRefused b b1 lines old new h = h
-    fault_unwritten fault.NotOurs b b1 lines old new h = h
-    fault_unwritten fault.BadVersion b b1 lines old new h = h
-    fault_unwritten (fault.Damaged d) b b1 lines old new h = h
-    fault_unwritten fault.Unknown b b1 lines old new h = (h.0, tt)
-    fault_unwritten fault.Halted b b1 lines old new h = (h.0, tt)
-    fault_unwritten fault.NoFile b b1 lines old new h = h
-    fault_unwritten fault.InputFailed b b1 lines old new h = h
-    fault_unwritten fault.OutputFailed b b1 lines old new h = h
-    fault_unwritten fault.BadSettings b b1 lines old new h = h
-    fault_unwritten fault.BadUsage b b1 lines old new h = h
-
-    part_unwritten : (e : Stopped) (b b1 : Book) (lines : List (List ℕ)) (old new : Option (List ℕ)) → StopsAtPart u given_up stops e b b1 lines old new → StopsAtPart u given_up stops e b b1 lines None None
-    part_unwritten (stopped.Refused f) b b1 lines old new h = fault_unwritten f b b1 lines old new h
-    part_unwritten (stopped.Input e) b b1 lines old new h = h
-    part_unwritten (stopped.Output e) b b1 lines old new h =
-        record { part = h.part; lines_are = h.lines_are; part_is = h.part_is; book_is = h.book_is; told = record { front = h.told.front; back = h.told.back; bytes_are = h.told.bytes_are; written_are = tt } }
-    part_unwritten stopped.BadSettings b b1 lines old new h = h
-
-    next_unwritten : (e : Stopped) (b b1 : Book) (later : List (List ℕ)) (old new : Option (List ℕ)) → StopsNext u given_up stops (HasFew most) e b b1 later old new → StopsNext u given_up stops (HasFew most) e b b1 later None None
-    next_unwritten e b b1 later old new (inl h) = inl (h.0, (h.1.0, tt))
-    next_unwritten e b b1 later old new (inr h) =
-        inr (record { next = h.next; rest = h.rest; lines_are = h.lines_are; cut_is = h.cut_is; stops_at = part_unwritten e b b1 h.next old new h.stops_at })
-
-    pub stops_behind_lines : (b b1 : Book) (e : Stopped) (old new : Option (List ℕ)) → StopsAmong u given_up stops (HasFew most) b b1 e old new → StopsBehind u given_up stops (HasFew most) b b1 e
-    stops_behind_lines b b1 e old new f =
-        let w = f.stops_are in
-        record {
-          whole = f.whole;
-          stops_are = record {
-            parts = w.parts;
-            later = w.later;
-            out = None;
-            lines_are = w.lines_are;
-            parts_are = w.parts_are;
-            written_are = tt;
-            ends = next_unwritten e (book_behind u b w.parts) b1 w.later w.out new w.ends;
           };
         }

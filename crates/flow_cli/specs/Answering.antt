@@ -16,8 +16,6 @@ use Rattle.flow_machine.specs.declared.answer.Stop.{Stop}
 use Rattle.flow_machine.specs.declared.answer.Stop.TheVariants as stop
 use Rattle.flow_cli.specs.Commands.{line_command}
 use Rattle.flow_cli.specs.Driving.{lines_of, written, final_status, WritesBeginning}
-use Rattle.flow_cli.specs.declared.drive.Stopped.{Stopped}
-use Rattle.flow_cli.specs.declared.drive.Stopped.TheVariants as stopped
 use Rattle.flow_cli.specs.declared.reply.Line.{Line}
 use Rattle.flow_cli.specs.declared.reply.Line.TheVariants as line
 
@@ -175,10 +173,6 @@ pub record SomeAnswered (u : Rules) (given_up : Book → List Command → Code �
   pub written_are : Appends old new (written (answers_in u b parts))
   pub status_is : status ≡ final_status (answers_in u b parts)
 
--- and where what is written is no concern
-abbrev pub LeavesAnswered : Rules → (Book → List Command → Code → Type 0) → (List (List ℕ) → List (List ℕ) → Type 0) → Book → Book → ℕ → ℕ → Type 0
-LeavesAnswered u given_up cut b b1 least status = SomeAnswered u given_up cut b b1 least None None status
-
 -- ---- the status 3
 
 pub record HasGivenUp (given_up : Book → List Command → Code → Type 0) : Type 0 where
@@ -209,50 +203,40 @@ pub record WritesAll (old new : Option (List ℕ)) (status : ℕ) (answers : Lis
 -- ---- where answering ended before the input did
 
 -- These bytes weren't all written: where memory ran out none, of a failed write a beginning.
-abbrev pub WritesPart : Stopped → Option (List ℕ) → Option (List ℕ) → List ℕ → Type 0
-WritesPart (stopped.Refused f) old new bytes = Keeps old new
-WritesPart (stopped.Input e) old new bytes = ⊥
-WritesPart (stopped.Output e) old new bytes = WritesBeginning old new bytes
-WritesPart stopped.BadSettings old new bytes = ⊥
+abbrev pub WritesPart : Fault → Option (List ℕ) → Option (List ℕ) → List ℕ → Type 0
+WritesPart (fault.NoMemory _) old new bytes = Keeps old new
+WritesPart fault.OutputFailed old new bytes = WritesBeginning old new bytes
+WritesPart f old new bytes = ⊥
 
 -- of these answers the first were written, each whole
 abbrev pub WritesFront : Option (List ℕ) → Option (List ℕ) → List Line → Type 0
 WritesFront old new answers = (front : List Line) × ((back : List Line) × ((answers ≡ front ++ back) × Appends old new (written front)))
 
 -- Where a write failed perhaps a beginning of the next was written too.
-abbrev pub WritesSome : Stopped → Option (List ℕ) → Option (List ℕ) → List Line → Type 0
-WritesSome (stopped.Refused f) old new answers = WritesFront old new answers
-WritesSome (stopped.Input e) old new answers = ⊥
-WritesSome (stopped.Output e) old new answers = WritesBeginning old new (written answers)
-WritesSome stopped.BadSettings old new answers = ⊥
+abbrev pub WritesSome : Fault → Option (List ℕ) → Option (List ℕ) → List Line → Type 0
+WritesSome (fault.NoMemory _) old new answers = WritesFront old new answers
+WritesSome fault.OutputFailed old new answers = WritesBeginning old new (written answers)
+WritesSome f old new answers = ⊥
 
--- Where it ends between two parts memory ran out, the input can't be read, or E80 comes.
-abbrev pub StopsBetween : Stopped → Type 0
-StopsBetween (stopped.Refused f) = (f ≡ fault.NoMemory _) ⊎ (f ≡ fault.StoreRefused)
-StopsBetween (stopped.Input e) = Unit {0}
-StopsBetween (stopped.Output e) = ⊥
-StopsBetween stopped.BadSettings = ⊥
+-- Where it ends between two parts memory ran out, or the input can't be read.
+abbrev pub StopsBetween : Fault → Type 0
+StopsBetween f = (f ≡ fault.NoMemory _) ⊎ (f ≡ fault.InputFailed)
 
 -- Where it ends at a part, this is left of it. Where memory ran out, or a write failed, it was answered, and not all of its answers
 -- were written. At E84 and E85 its commands have this stop, and none of its answers was written.
-abbrev pub FaultAt : Rules → (Book → List Command → Code → Type 0) → (Book → List Command → Stop → Type 0) → Fault → Book → Book → List (List ℕ) → Option (List ℕ) → Option (List ℕ) → Type 0
-FaultAt u given_up stops (fault.NoMemory _) b b1 lines old new = TellsPart u given_up b b1 lines (λ answers. WritesFront old new answers)
-FaultAt u given_up stops fault.Unknown b b1 lines old new = stops b (commands_in lines) stop.Unknown × Keeps old new
-FaultAt u given_up stops fault.Halted b b1 lines old new = stops b (commands_in lines) stop.Halted × Keeps old new
-FaultAt u given_up stops f b b1 lines old new = ⊥
-
-abbrev pub StopsAtPart : Rules → (Book → List Command → Code → Type 0) → (Book → List Command → Stop → Type 0) → Stopped → Book → Book → List (List ℕ) → Option (List ℕ) → Option (List ℕ) → Type 0
-StopsAtPart u given_up stops (stopped.Refused f) b b1 lines old new = FaultAt u given_up stops f b b1 lines old new
-StopsAtPart u given_up stops (stopped.Input e) b b1 lines old new = ⊥
-StopsAtPart u given_up stops (stopped.Output e) b b1 lines old new = TellsPart u given_up b b1 lines (λ answers. WritesBeginning old new (written answers))
-StopsAtPart u given_up stops stopped.BadSettings b b1 lines old new = ⊥
+abbrev pub StopsAtPart : Rules → (Book → List Command → Code → Type 0) → (Book → List Command → Stop → Type 0) → Fault → Book → Book → List (List ℕ) → Option (List ℕ) → Option (List ℕ) → Type 0
+StopsAtPart u given_up stops (fault.NoMemory _) b b1 lines old new = TellsPart u given_up b b1 lines (λ answers. WritesFront old new answers)
+StopsAtPart u given_up stops fault.OutputFailed b b1 lines old new = TellsPart u given_up b b1 lines (λ answers. WritesBeginning old new (written answers))
+StopsAtPart u given_up stops fault.Unknown b b1 lines old new = stops b (commands_in lines) stop.Unknown × Keeps old new
+StopsAtPart u given_up stops fault.Halted b b1 lines old new = stops b (commands_in lines) stop.Halted × Keeps old new
+StopsAtPart u given_up stops f b b1 lines old new = ⊥
 
 -- a line by itself, or those of a batch
 abbrev pub IsCutOff : (List (List ℕ) → List (List ℕ) → Type 0) → List (List ℕ) → List (List ℕ) → Type 0
 IsCutOff cut next rest = cut next rest ⊎ ((l : List ℕ) × ((next ≡ l ∷ []) × (line_command l ≡ None)))
 
 -- The next lines are the part where it ends.
-pub record StopsInPart (u : Rules) (given_up : Book → List Command → Code → Type 0) (stops : Book → List Command → Stop → Type 0) (cut : List (List ℕ) → List (List ℕ) → Type 0) (e : Stopped) (b b1 : Book) (later : List (List ℕ)) (old new : Option (List ℕ)) : Type 0 where
+pub record StopsInPart (u : Rules) (given_up : Book → List Command → Code → Type 0) (stops : Book → List Command → Stop → Type 0) (cut : List (List ℕ) → List (List ℕ) → Type 0) (e : Fault) (b b1 : Book) (later : List (List ℕ)) (old new : Option (List ℕ)) : Type 0 where
   pub next : List (List ℕ)
   pub rest : List (List ℕ)
   pub lines_are : later ≡ next ++ rest
@@ -260,11 +244,11 @@ pub record StopsInPart (u : Rules) (given_up : Book → List Command → Code �
   pub stops_at : StopsAtPart u given_up stops e b b1 next old new
 
 -- it ends between parts, or in the next one
-abbrev pub StopsNext : Rules → (Book → List Command → Code → Type 0) → (Book → List Command → Stop → Type 0) → (List (List ℕ) → List (List ℕ) → Type 0) → Stopped → Book → Book → List (List ℕ) → Option (List ℕ) → Option (List ℕ) → Type 0
+abbrev pub StopsNext : Rules → (Book → List Command → Code → Type 0) → (Book → List Command → Stop → Type 0) → (List (List ℕ) → List (List ℕ) → Type 0) → Fault → Book → Book → List (List ℕ) → Option (List ℕ) → Option (List ℕ) → Type 0
 StopsNext u given_up stops cut e b b1 later old new = (StopsBetween e × ((b1 ≡ b) × Keeps old new)) ⊎ StopsInPart u given_up stops cut e b b1 later old new
 
 -- The first of the lines were answered, from a book on, and their answers written; it ended behind them.
-pub record StopsWithin (u : Rules) (given_up : Book → List Command → Code → Type 0) (stops : Book → List Command → Stop → Type 0) (cut : List (List ℕ) → List (List ℕ) → Type 0) (b b1 : Book) (e : Stopped) (whole : List (List ℕ)) (old new : Option (List ℕ)) : Type 0 where
+pub record StopsWithin (u : Rules) (given_up : Book → List Command → Code → Type 0) (stops : Book → List Command → Stop → Type 0) (cut : List (List ℕ) → List (List ℕ) → Type 0) (b b1 : Book) (e : Fault) (whole : List (List ℕ)) (old new : Option (List ℕ)) : Type 0 where
   pub parts : List Part
   pub later : List (List ℕ)
   pub out : Option (List ℕ)
@@ -274,13 +258,9 @@ pub record StopsWithin (u : Rules) (given_up : Book → List Command → Code �
   pub ends : StopsNext u given_up stops cut e (book_behind u b parts) b1 later out new
 
 -- Of some lines the first were answered, from a book on, and their answers written; it ended behind them.
-pub record StopsAmong (u : Rules) (given_up : Book → List Command → Code → Type 0) (stops : Book → List Command → Stop → Type 0) (cut : List (List ℕ) → List (List ℕ) → Type 0) (b b1 : Book) (e : Stopped) (old new : Option (List ℕ)) : Type 0 where
+pub record StopsAmong (u : Rules) (given_up : Book → List Command → Code → Type 0) (stops : Book → List Command → Stop → Type 0) (cut : List (List ℕ) → List (List ℕ) → Type 0) (b b1 : Book) (e : Fault) (old new : Option (List ℕ)) : Type 0 where
   pub whole : List (List ℕ)
   pub stops_are : StopsWithin u given_up stops cut b b1 e whole old new
-
--- and where what is written is no concern
-abbrev pub StopsBehind : Rules → (Book → List Command → Code → Type 0) → (Book → List Command → Stop → Type 0) → (List (List ℕ) → List (List ℕ) → Type 0) → Book → Book → Stopped → Type 0
-StopsBehind u given_up stops cut b b1 e = StopsAmong u given_up stops cut b b1 e None None
 
 -- ---- a batch: lines whose commands are applied together
 

@@ -6,8 +6,8 @@ use Rattle.clap.specs.Simple.{on_top}
 use Rattle.clap.specs.ValueTests.{is_unsigned_in}
 use Rattle.std.specs.Str.Parse.{digits_value, without_leading_plus}
 
--- ---- the program: `flow check FILE`, `flow drive DB [--batch N]`, `flow history DB RUN`, `flow safe OLD NEW` and
--- ---- `flow work DB [--settings FILE]`
+-- ---- the program: `flow check FILE`, `flow drive DB [--batch N]`, `flow history DB RUN`, `flow safe OLD NEW`, `flow verify DB`
+-- ---- and `flow work DB [--settings FILE]`
 
 -- an argument with one value, which has to be there
 abbrev pub needed : Text → Rule
@@ -44,6 +44,9 @@ run = needed (codes "RUN")
 abbrev pub history : App
 history = with_rule (with_rule (new_app (codes "history")) base) run
 
+abbrev pub verify : App
+verify = with_rule (new_app (codes "verify")) base
+
 -- the file with the settings, which may be left out
 abbrev pub settings : Rule
 settings = record (new_rule (codes "settings")) { long = Some (codes "settings"); action = Some Set }
@@ -57,7 +60,7 @@ over_texts = with_subcommand (with_subcommand (on_top (λ s. record s { subcomma
 
 -- with those that answer what is asked and end
 abbrev pub answering : App
-answering = with_subcommand (with_subcommand over_texts drive.top) history.top
+answering = with_subcommand (with_subcommand (with_subcommand over_texts drive.top) history.top) verify.top
 
 abbrev pub flow : App
 flow = with_subcommand answering work.top
@@ -69,6 +72,7 @@ pub data Call : Type 0 where
   Safe : (old new : Text) → Call
   Drive : Text → ℕ → Call
   History : Text → ℕ → Call
+  Verify : Text → Call
   Work : Text → Option Text → Call
 
 -- the number that a word names: digits, perhaps behind a plus, from 1 to the last one
@@ -99,7 +103,8 @@ named_call name rows =
     (if bytes_eq name (codes "drive") then drive_in rows else
     (if bytes_eq name (codes "history") then history_in rows else
     (if bytes_eq name (codes "safe") then safe_in rows else
-    (if bytes_eq name (codes "work") then work_in rows else None))))
+    (if bytes_eq name (codes "verify") then option_map Verify (first_of (codes "DB") rows) else
+    (if bytes_eq name (codes "work") then work_in rows else None)))))
 
 -- the call that clap's matches of the words are
 abbrev pub call_in : List Text → Option Call

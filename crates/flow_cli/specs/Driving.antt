@@ -1,10 +1,7 @@
 -- Lines in, lines out.
 use Rattle.std.specs.Prelude.{◌≡◌, ℕ, List, [], ◌∷◌, ◌++◌, max, Option, if◌then◌else◌, ◌==◌}
 use Rattle.std.specs.Io.KnownBytes.{Appends}
-use Rattle.flow_cli.specs.Faults.{fault_status}
 use Rattle.flow_cli.specs.Replies.{line_text}
-use Rattle.flow_cli.specs.declared.drive.Stopped.{Stopped}
-use Rattle.flow_cli.specs.declared.drive.Stopped.TheVariants as stopped
 use Rattle.flow_cli.specs.declared.reply.Line.{Line}
 use Rattle.flow_cli.specs.declared.reply.Line.TheVariants as line
 
@@ -44,9 +41,3 @@ pub record WritesBeginning (old new : Option (List ℕ)) (bytes : List ℕ) : Ty
   pub back : List ℕ
   pub bytes_are : bytes ≡ front ++ back
   pub written_are : Appends old new front
-
-abbrev pub stopped_status : Stopped → ℕ
-stopped_status (stopped.Refused f) = fault_status f
-stopped_status (stopped.Input e) = 3
-stopped_status (stopped.Output e) = 3
-stopped_status stopped.BadSettings = 2

@@ -6,8 +6,10 @@ pub mod Replies
 pub mod Verdicts
 pub mod Safety
 pub mod Driving
+pub mod Ends
 pub mod Answering
 pub mod Stopping
 pub mod Histories
 pub mod Ending
 pub mod Working
+pub mod Totals

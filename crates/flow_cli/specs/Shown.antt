@@ -10,4 +10,5 @@ shown (call.Check file) = pure.Check file.now
 shown (call.Safe old new) = pure.Safe old.now new.now
 shown (call.Over base (work.Drive most)) = pure.Drive base.now most
 shown (call.Over base (work.History run)) = pure.History base.now run
+shown (call.Verify base) = pure.Verify base.now
 shown (call.Work base settings) = pure.Work base.now (option_map (λ t. t.now) settings)

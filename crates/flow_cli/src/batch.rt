@@ -1,15 +1,16 @@
 //! Lines whose commands are applied together.
-ghost use Rattle.std.specs.Prelude.{◌≡◌, ◌≤◌, ◌↔◌, ◌+◌, ◌++◌, ◌∷◌, [], ℕ, true, false, List, length, Option, OnOk, IfOk, IfErr, IfSome, IsSome};
-ghost use Rattle.flow_cli.specs.Answering.{Gathered, HasEnded, HasOneMore, IsFilled, commands_in, are_commands};
-ghost use Rattle.flow_cli.specs.Driving.{stopped_status};
-ghost use Rattle.flow_cli.specs.Stopping.{CausedStop, StopsReading};
+ghost use Rattle.std.specs.Prelude.{◌≡◌, ◌≤◌, ◌↔◌, ◌+◌, ◌++◌, ◌∷◌, [], ℕ, true, false, List, length, Bool, Option, OnOk, IfOk, IfErr, IfSome, IsSome};
+ghost use Rattle.flow_cli.specs.Answering.{Gathered, HasEnded, HasOneMore, IsFilled, StopsBetween, commands_in, are_commands};
+ghost use Rattle.flow_cli.specs.Ends.{Gives, input_failed, output_failed};
+ghost use Rattle.flow_cli.specs.Faults.{fault_status};
+ghost use Rattle.flow_cli.specs.Stopping.{CausedFault};
 
 use crate::command::{LineFault, command_of};
-use crate::drive::{Stopped, next_line, stopped_reading};
+use crate::drive::read;
+use crate::input::Input;
 use flow_base::command::Command;
 use flow_base::fault::Fault;
 use std::alloc::{AllocError, Global};
-use std::io::BufRead;
 use std::marker::Model;
 
 /// How many commands are applied together at most: 1 to 64.
@@ -93,56 +94,62 @@ fn put_line(alloc: Global, line: &[u8], begun: &mut Begun) -> Result<(), Fault>
 }
 
 /// Puts the next line of the input to a batch; no where the input has ended.
-fn put_next<R: BufRead>(alloc: Global, reader: &mut R, begun: &mut Begun) -> Result<bool, Stopped>
-    ensures gathered { IfOk result (λ found. Gathered begun.old.commands.items begun.new.commands.items begun.old.marks.items begun.new.marks.items (R.remaining reader.old) (R.remaining reader.new)) }
+fn put_next<I: Input>(alloc: Global, input: &mut I, begun: &mut Begun) -> Result<bool, Fault>
+    ensures gathered { IfOk result (λ found. Gathered begun.old.commands.items begun.new.commands.items begun.old.marks.items begun.new.marks.items (I.left input.old) (I.left input.new)) }
     ensures more { IfOk result (λ found. HasOneMore begun.old.commands.items begun.new.commands.items) }
     // Yes is one line more, and no is none, where nothing is left to read.
     ensures found { IfOk result (λ found. found ≡ true → length begun.new.marks.items ≡ length begun.old.marks.items + 1) }
     ensures ended { IfOk result (λ found. found ≡ false → begun.new.marks.items ≡ begun.old.marks.items) }
-    ensures end { IfOk result (λ found. found ≡ false → IfSome (R.remaining reader.old) (λ bytes. bytes ≡ [])) }
-    ensures left { IfOk result (λ found. found ≡ false → HasEnded (R.remaining reader.old) (R.remaining reader.new)) }
-    ensures status { IfErr result (λ e. stopped_status e ≡ 3) }
-    ensures cause { IfErr result (λ e. CausedStop e (λ s. ⊥) ⊥) }
-    ensures reading { IfErr result (λ e. StopsReading e) }
+    ensures end { IfOk result (λ found. found ≡ false → IfSome (I.left input.old) (λ bytes. bytes ≡ [])) }
+    ensures given { IfOk result (λ found. Gives 0 (I.given input.old) (I.given input.new)) }
+    ensures left { IfOk result (λ found. found ≡ false → HasEnded (I.left input.old) (I.left input.new)) }
+    ensures input { I.failed input.new ≡ input_failed result (I.failed input.old) }
+    ensures output { (before : Bool) → output_failed result before ≡ before }
+    ensures between { IfErr result StopsBetween }
+    ensures status { IfErr result (λ f. fault_status f ≡ 3) }
+    ensures cause { IfErr result (λ f. CausedFault f (λ s. ⊥)) }
 {
-    let line = match next_line(alloc, reader) {
+    let line = match read(alloc, input) {
         Ok(Some(line)) => line,
         Ok(None) => return Ok(false),
-        Err(e) => return Err(stopped_reading(e)),
+        Err(fault) => return Err(fault),
     };
     match put_line(alloc, line.as_slice(), begun) {
         Ok(()) => Ok(true),
-        Err(fault) => Err(Stopped::Refused(fault)),
+        Err(fault) => Err(fault),
     }
 }
 
 /// The batch that begins with a command: lines are read until it has so many commands, or the input has ended.
 ///
 /// # Failure
-/// E01, and where the input can't be read: none of the batch is applied then.
-pub(crate) fn gather<R: BufRead>(
+/// E01, and E94 where a read failed: none of the batch is applied then.
+pub(crate) fn gather<I: Input>(
     alloc: Global,
-    reader: &mut R,
+    input: &mut I,
     first: Command,
     most: BatchSize,
-) -> Result<Begun, Stopped>
-    ensures gathered { IfOk result (λ b. Gathered (first ∷ []) b.commands.items (true ∷ []) b.marks.items (R.remaining reader.old) (R.remaining reader.new)) }
+) -> Result<Begun, Fault>
+    ensures gathered { IfOk result (λ b. Gathered (first ∷ []) b.commands.items (true ∷ []) b.marks.items (I.left input.old) (I.left input.new)) }
     ensures some { IfOk result (λ b. 1 ≤ length b.commands.items) }
     ensures few { IfOk result (λ b. length b.commands.items ≤ most) }
-    ensures full { IfOk result (λ b. IsFilled most b.commands.items b.marks.items (R.remaining reader.old) (R.remaining reader.new)) }
-    ensures status { IfErr result (λ e. stopped_status e ≡ 3) }
-    ensures cause { IfErr result (λ e. CausedStop e (λ s. ⊥) ⊥) }
-    ensures reading { IfErr result (λ e. StopsReading e) }
+    ensures full { IfOk result (λ b. IsFilled most b.commands.items b.marks.items (I.left input.old) (I.left input.new)) }
+    ensures given { IfOk result (λ b. Gives 0 (I.given input.old) (I.given input.new)) }
+    ensures input { I.failed input.new ≡ input_failed result (I.failed input.old) }
+    ensures output { (before : Bool) → output_failed result before ≡ before }
+    ensures between { IfErr result StopsBetween }
+    ensures status { IfErr result (λ f. fault_status f ≡ 3) }
+    ensures cause { IfErr result (λ f. CausedFault f (λ s. ⊥)) }
 {
     let mut begun = begin(alloc, first)?;
     for _ in 0..u64::MAX {
         if begun.commands.len() as u64 >= most.get() {
             return Ok(begun);
         }
-        match put_next(alloc, reader, &mut begun) {
+        match put_next(alloc, input, &mut begun) {
             Ok(true) => {}
             Ok(false) => return Ok(begun),
-            Err(stopped) => return Err(stopped),
+            Err(fault) => return Err(fault),
         }
     }
     Ok(begun)

@@ -3,7 +3,7 @@ ghost use Rattle.std.specs.Prelude.{◌≡◌, ◌⊎◌, IfOk, IfErr, false, ma
 ghost use Rattle.clap.specs.Words.{app_of, rule_of, found_of, rows_of, first_of, subcommand_rows_of};
 ghost use Rattle.clap.specs.declared.builder.command.Command.TheViews.{out-Command as fields_of};
 ghost use Rattle.clap.specs.declared.error.kind.ErrorKind.TheVariants.{OutOfMemory};
-ghost use Rattle.flow_cli.specs.Calls.{flow, answering, over_texts, check, safe, drive, history, work, settings, needed, batch, run_in, batch_in, safe_in, drive_in, history_in, work_in, named_call, IsCall};
+ghost use Rattle.flow_cli.specs.Calls.{flow, answering, over_texts, check, safe, drive, history, verify, work, settings, needed, batch, run_in, batch_in, safe_in, drive_in, history_in, work_in, named_call, IsCall};
 ghost use Rattle.flow_cli.specs.Calls.{Call as Pure};
 ghost use Rattle.flow_cli.specs.Shown.{shown};
 
@@ -29,6 +29,8 @@ pub enum Call<'a> {
     },
     /// Do this over this store; `-` is a store in memory, which begins with no run.
     Over(&'a str, Work),
+    /// Replay each run of this store, closed ones too; `-` is a store in memory, which has none.
+    Verify(&'a str),
     /// Keep an engine running over this store, by the settings in that file; `-` is a store in memory.
     Work {
         base: &'a str,
@@ -95,6 +97,13 @@ fn history_command<'a>(alloc: Global) -> Result<Command<'a>, AllocError>
     )
 }
 
+fn verify_command<'a>(alloc: Global) -> Result<Command<'a>, AllocError>
+    ensures app { IfOk result (λ c. app_of c ≡ verify) }
+    ensures local { IfOk result (λ c. (fields_of c).has_globals ≡ false) }
+{
+    Ok(Command::new(alloc, "verify").arg(needed_arg(alloc, "DB"))?)
+}
+
 /// The file with the settings; it may be left out.
 fn settings_arg<'a>(alloc: Global) -> Arg<'a>
     ensures rule { rule_of result ≡ settings }
@@ -136,8 +145,14 @@ fn answering_command<'a>(alloc: Global) -> Result<Command<'a>, AllocError>
 {
     let drive = drive_command(alloc)?;
     let history = history_command(alloc)?;
+    let verify = verify_command(alloc)?;
     let texts = text_command(alloc)?;
-    Ok(texts.subcommand(drive)?.subcommand(history)?)
+    Ok(
+        texts
+            .subcommand(drive)?
+            .subcommand(history)?
+            .subcommand(verify)?,
+    )
 }
 
 fn flow_command<'a>(alloc: Global) -> Result<Command<'a>, AllocError>
@@ -218,6 +233,10 @@ fn named_call<'a>(name: &str, found: &ArgMatches<'a>) -> Option<Call<'a>>
         "drive" => drive_call(found),
         "history" => history_call(found),
         "safe" => safe_call(found),
+        "verify" => match text_of(found, "DB") {
+            Some(base) => Some(Call::Verify(base)),
+            None => None,
+        },
         "work" => work_call(found),
         _ => None,
     }

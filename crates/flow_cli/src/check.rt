@@ -1,18 +1,18 @@
 //! What `flow check` says of a text.
-ghost use Rattle.std.specs.Prelude.{◌≡◌, ◌++◌, ◌∷◌, [], IfOk, IfErr, string_bytes};
+ghost use Rattle.std.specs.Prelude.{◌≡◌, ◌⊎◌, ◌++◌, ◌∷◌, [], Bool, IfOk, IfErr, string_bytes};
 ghost use Rattle.std.specs.Io.KnownBytes.{Appends};
 ghost use Rattle.flow_cli.specs.Answering.{WritesPart};
-ghost use Rattle.flow_cli.specs.Driving.{stopped_status};
-ghost use Rattle.flow_cli.specs.Stopping.{StopsWriting};
+ghost use Rattle.flow_cli.specs.Ends.{input_failed, output_failed};
+ghost use Rattle.flow_cli.specs.Faults.{fault_status};
 ghost use Rattle.flow_cli.specs.Verdicts.{verdict_of, verdict_text, verdict_status};
 
-use crate::drive::{Stopped, write_text};
+use crate::drive::write_text;
+use crate::output::Output;
 use flow_base::command::TextFault;
 use flow_base::fault::Fault;
 use flow_base::text::RawText;
 use flow_model::texts::Texts;
 use std::alloc::{AllocError, Global};
-use std::io::Write;
 
 /// Whether a text is a program.
 #[derive(Clone, Copy, Debug, PartialEq, Eq)]
@@ -60,25 +60,27 @@ pub fn check_text<T: Texts>(alloc: Global, texts: &T, text: &str) -> Result<Verd
 /// Checks a text by what reads texts, writes the verdict as a line, and gives its status.
 ///
 /// # Failure
-/// Each has the status 3: E01, and where the output can't be written.
+/// Each has the status 3: E01, and E95 where a write failed.
 #[tactic(auto, using(crate::proofs::Endings::same_kept))]
-pub fn tell_verdict<T: Texts, W: Write>(
+pub fn tell_verdict<T: Texts, O: Output>(
     alloc: Global,
     texts: &T,
-    writer: &mut W,
+    output: &mut O,
     text: &str,
-) -> Result<u8, Stopped>
-    ensures told { IfOk result (λ n. Appends (W.contents writer.old) (W.contents writer.new) (verdict_text (verdict_of (T.meaning text.now)) ++ 10 ∷ [])) }
+) -> Result<u8, Fault>
+    ensures told { IfOk result (λ n. Appends (O.contents output.old) (O.contents output.new) (verdict_text (verdict_of (T.meaning text.now)) ++ 10 ∷ [])) }
     ensures status { IfOk result (λ n. n ≡ verdict_status (verdict_of (T.meaning text.now))) }
-    ensures stopped { IfErr result (λ e. WritesPart e (W.contents writer.old) (W.contents writer.new) (verdict_text (verdict_of (T.meaning text.now)) ++ 10 ∷ [])) }
-    ensures early { IfErr result (λ e. stopped_status e ≡ 3) }
-    // Memory ran out, or the output failed.
-    ensures cause { IfErr result (λ e. StopsWriting e) }
+    ensures stopped { IfErr result (λ e. WritesPart e (O.contents output.old) (O.contents output.new) (verdict_text (verdict_of (T.meaning text.now)) ++ 10 ∷ [])) }
+    ensures early { IfErr result (λ e. fault_status e ≡ 3) }
+    // E95 where the output failed, and only there; else memory ran out.
+    ensures output { O.failed output.new ≡ output_failed result (O.failed output.old) }
+    ensures input { (before : Bool) → input_failed result before ≡ before }
+    ensures cause { IfErr result (λ e. (e ≡ Fault.NoMemory _) ⊎ (e ≡ Fault.OutputFailed)) }
 {
     let verdict = check_text(alloc, texts, text)?;
     let line = verdict.line(alloc)?;
-    match write_text(writer, line) {
+    match write_text(output, line) {
         Ok(()) => Ok(verdict.status()),
-        Err(stopped) => Err(stopped),
+        Err(fault) => Err(fault),
     }
 }

@@ -1,27 +1,30 @@
 //! How the program ends: what it says of an early end, and its status.
-ghost use Rattle.std.specs.Prelude.{◌≡◌, ◌++◌, ◌∷◌, [], IfOk, IfErr, OnOk, string_bytes};
+ghost use Rattle.std.specs.Prelude.{◌≡◌, ◌⊎◌, ◌++◌, ◌∷◌, [], true, IfOk, IfErr, OnOk, string_bytes};
 ghost use Rattle.std.specs.Io.KnownBytes.{Appends};
-ghost use Rattle.flow_cli.specs.Driving.{WritesBeginning, stopped_status};
-ghost use Rattle.flow_cli.specs.Ending.{SaysFault, SaysFirst, SaysStopped};
-ghost use Rattle.flow_cli.specs.Faults.{fault_text};
+ghost use Rattle.flow_cli.specs.Driving.{WritesBeginning};
+ghost use Rattle.flow_cli.specs.Ending.{SaysFault, SaysFirst};
+ghost use Rattle.flow_cli.specs.Ends.{write_failed, write_ran_out};
+ghost use Rattle.flow_cli.specs.Faults.{fault_status, fault_text};
 
-use crate::drive::{Stopped, write_bytes};
-use crate::fault::{fault_line, short_line};
+use crate::fault::{fault_line, short_line, status};
+use crate::output::{Output, Unwritten};
 use flow_base::fault::Fault;
 use std::alloc::{AllocError, Global};
-use std::fmt::InlineText;
-use std::io;
-use std::io::Write;
 
 /// Writes a text and then another one.
-#[tactic(auto, using(crate::proofs::Endings::first_begun, crate::proofs::Endings::both_begun))]
-fn write_both<W: Write>(writer: &mut W, first: &[u8], then: &[u8]) -> Result<(), io::Error>
-    ensures all { OnOk result (Appends (W.contents writer.old) (W.contents writer.new) (first.now ++ then.now)) }
-    ensures beginning { WritesBeginning (W.contents writer.old) (W.contents writer.new) (first.now ++ then.now) }
+#[tactic(auto, using(crate::proofs::Endings::first_begun, crate::proofs::Endings::both_begun, crate::proofs::Endings::both_written))]
+fn put_both<O: Output>(output: &mut O, first: &[u8], then: &[u8]) -> Result<(), Unwritten>
+    ensures all { OnOk result (Appends (O.contents output.old) (O.contents output.new) (first.now ++ then.now)) }
+    ensures beginning { WritesBeginning (O.contents output.old) (O.contents output.new) (first.now ++ then.now) }
+    ensures failed { O.failed output.new ≡ write_failed result (O.failed output.old) }
+    ensures ran_out { O.ran_out output.new ≡ write_ran_out result (O.ran_out output.old) }
 {
-    match write_bytes(writer, first) {
-        Ok(()) => write_bytes(writer, then),
-        Err(e) => Err(e),
+    match output.put(first) {
+        Ok(()) => match output.put(then) {
+            Ok(()) => Ok(()),
+            Err(unwritten) => Err(unwritten),
+        },
+        Err(unwritten) => Err(unwritten),
     }
 }
 
@@ -35,46 +38,38 @@ fn whole_line(alloc: Global, fault: &Fault) -> Result<String, AllocError>
 }
 
 /// Says a fault. Where no memory is left for its line, its number is said alone, so E01 is always said.
-fn say_fault<W: Write>(alloc: Global, errors: &mut W, fault: &Fault) -> Result<(), io::Error>
-    ensures { SaysFault fault.now (W.contents errors.old) (W.contents errors.new) }
+fn say_fault<O: Output>(alloc: Global, errors: &mut O, fault: &Fault) -> Result<(), Unwritten>
+    ensures said { SaysFault fault.now (O.contents errors.old) (O.contents errors.new) }
+    ensures first { OnOk result (SaysFirst fault.now (O.contents errors.old) (O.contents errors.new)) }
+    ensures failed { O.failed errors.new ≡ write_failed result (O.failed errors.old) }
+    ensures ran_out { O.ran_out errors.new ≡ write_ran_out result (O.ran_out errors.old) }
 {
     match whole_line(alloc, fault) {
-        Ok(line) => write_bytes(errors, line.as_bytes()),
-        Err(_) => write_both(errors, &short_line(fault), b"\n"),
-    }
-}
-
-/// Says something, and behind it what the system says of an error.
-fn say_error<W: Write>(errors: &mut W, said: &str, error: &io::Error) -> Result<(), io::Error>
-    ensures { SaysFirst said.now (W.contents errors.old) (W.contents errors.new) }
-{
-    let behind = InlineText::<400>::of(format_args!("{error}\n"));
-    write_both(errors, said.as_bytes(), behind.as_str().as_bytes())
-}
-
-fn say_stopped<W: Write>(alloc: Global, errors: &mut W, stopped: &Stopped) -> Result<(), io::Error>
-    ensures { SaysStopped stopped.now (W.contents errors.old) (W.contents errors.new) }
-{
-    match stopped {
-        Stopped::Refused(fault) => say_fault(alloc, errors, fault),
-        Stopped::Input(error) => say_error(errors, "flow: the input can't be read: ", error),
-        Stopped::Output(error) => say_error(errors, "flow: the output can't be written: ", error),
-        Stopped::BadSettings => write_both(errors, "flow: E96".as_bytes(), b"\n"),
+        Ok(line) => {
+            let done = errors.put(line.as_bytes())?;
+            Ok(done)
+        }
+        Err(_) => {
+            let done = put_both(errors, &short_line(fault), b"\n")?;
+            Ok(done)
+        }
     }
 }
 
 /// Says on one line why the program ended early, if it did, and gives the status that it ends with. That the line can't be
 /// written changes nothing.
-pub fn ended<W: Write>(alloc: Global, errors: &mut W, outcome: &Result<u8, Stopped>) -> u8
+pub fn ended<O: Output>(alloc: Global, errors: &mut O, outcome: &Result<u8, Fault>) -> u8
     ensures done { IfOk outcome.now (λ n. (result ≡ n) × (errors.new ≡ errors.old)) }
-    ensures early { IfErr outcome.now (λ e. result ≡ stopped_status e) }
-    ensures said { IfErr outcome.now (λ e. SaysStopped e (W.contents errors.old) (W.contents errors.new)) }
+    ensures early { IfErr outcome.now (λ f. result ≡ fault_status f) }
+    ensures said { IfErr outcome.now (λ f. SaysFault f (O.contents errors.old) (O.contents errors.new)) }
+    // Where nothing has failed there the line of the fault, or of its number, stands there first.
+    ensures first { IfErr outcome.now (λ f. SaysFirst f (O.contents errors.old) (O.contents errors.new) ⊎ ((O.failed errors.new ≡ true) ⊎ (O.ran_out errors.new ≡ true))) }
 {
     match outcome {
         Ok(status) => *status,
-        Err(stopped) => {
-            let _said = say_stopped(alloc, errors, stopped);
-            stopped.status()
+        Err(fault) => {
+            let _said = say_fault(alloc, errors, fault);
+            status(fault)
         }
     }
 }

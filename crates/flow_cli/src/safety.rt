@@ -1,14 +1,15 @@
 //! What `flow safe` says of two texts.
-ghost use Rattle.std.specs.Prelude.{◌≡◌, ◌↔◌, ◌++◌, ◌∷◌, [], IfOk, IfErr, string_bytes};
+ghost use Rattle.std.specs.Prelude.{◌≡◌, ◌↔◌, ◌⊎◌, ◌++◌, ◌∷◌, [], Bool, IfOk, IfErr, string_bytes};
 ghost use Rattle.std.specs.Io.KnownBytes.{Appends};
 ghost use Rattle.flow_model.specs.Checked.{shown_checked};
 ghost use Rattle.flow_cli.specs.Answering.{WritesPart};
-ghost use Rattle.flow_cli.specs.Driving.{stopped_status};
+ghost use Rattle.flow_cli.specs.Ends.{input_failed, output_failed};
+ghost use Rattle.flow_cli.specs.Faults.{fault_status};
 ghost use Rattle.flow_cli.specs.Safety.{of_difference, place_text, safety_of, safety_status, safety_text, MeansWrap};
 ghost use Rattle.flow_patch.specs.Difference.{first_difference};
-ghost use Rattle.flow_cli.specs.Stopping.{StopsWriting};
 
-use crate::drive::{Stopped, write_text};
+use crate::drive::write_text;
+use crate::output::Output;
 use flow_base::command::TextFault;
 use flow_base::fault::Fault;
 use flow_base::text::RawText;
@@ -17,7 +18,6 @@ use flow_model::texts::Texts;
 use flow_patch::change::safe_change;
 use flow_patch::fault::Unsafe;
 use std::alloc::{AllocError, Global};
-use std::io::Write;
 
 /// Whether the runs of an old text may go on under a new one.
 #[derive(Clone, Copy, Debug, PartialEq, Eq)]
@@ -109,28 +109,30 @@ pub fn compare_texts<T: Texts>(
 /// Tells of two texts whether the change from the first to the second is safe, and gives the status.
 ///
 /// # Failure
-/// Each has the status 3: E01, and where the output can't be written.
+/// Each has the status 3: E01, and E95 where a write failed.
 #[tactic(auto, using(crate::proofs::Endings::same_kept))]
-pub fn tell_safety<T: Texts, W: Write>(
+pub fn tell_safety<T: Texts, O: Output>(
     alloc: Global,
     texts: &T,
-    writer: &mut W,
+    output: &mut O,
     old: &str,
     new: &str,
-) -> Result<u8, Stopped>
-    ensures told { IfOk result (λ n. Appends (W.contents writer.old) (W.contents writer.new) (safety_text (safety_of (T.meaning old.now) (T.meaning new.now)) ++ 10 ∷ [])) }
+) -> Result<u8, Fault>
+    ensures told { IfOk result (λ n. Appends (O.contents output.old) (O.contents output.new) (safety_text (safety_of (T.meaning old.now) (T.meaning new.now)) ++ 10 ∷ [])) }
     ensures status { IfOk result (λ n. n ≡ safety_status (safety_of (T.meaning old.now) (T.meaning new.now))) }
     // The status is 0 exactly where both are programs and the new one wraps the old one.
     ensures safe { IfOk result (λ n. (n ≡ 0) ↔ MeansWrap (T.meaning old.now) (T.meaning new.now)) }
-    ensures stopped { IfErr result (λ e. WritesPart e (W.contents writer.old) (W.contents writer.new) (safety_text (safety_of (T.meaning old.now) (T.meaning new.now)) ++ 10 ∷ [])) }
-    ensures early { IfErr result (λ e. stopped_status e ≡ 3) }
-    // Memory ran out, or the output failed.
-    ensures cause { IfErr result (λ e. StopsWriting e) }
+    ensures stopped { IfErr result (λ e. WritesPart e (O.contents output.old) (O.contents output.new) (safety_text (safety_of (T.meaning old.now) (T.meaning new.now)) ++ 10 ∷ [])) }
+    ensures early { IfErr result (λ e. fault_status e ≡ 3) }
+    // E95 where the output failed, and only there; else memory ran out.
+    ensures output { O.failed output.new ≡ output_failed result (O.failed output.old) }
+    ensures input { (before : Bool) → input_failed result before ≡ before }
+    ensures cause { IfErr result (λ e. (e ≡ Fault.NoMemory _) ⊎ (e ≡ Fault.OutputFailed)) }
 {
     let safety = compare_texts(alloc, texts, old, new)?;
     let lines = safety.lines(alloc)?;
-    match write_text(writer, lines) {
+    match write_text(output, lines) {
         Ok(()) => Ok(safety.status()),
-        Err(stopped) => Err(stopped),
+        Err(fault) => Err(fault),
     }
 }

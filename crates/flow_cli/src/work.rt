@@ -1,23 +1,24 @@
 //! What is done over an open store.
-ghost use Rattle.std.specs.Prelude.{◌≡◌, ◌≤◌, ◌⊎◌, ◌+◌, ◌-◌, ◌^◌, ◌∷◌, [], ℕ, length, IfOk, IfErr, IfSome};
+ghost use Rattle.std.specs.Prelude.{◌≡◌, ◌⊎◌, ◌∷◌, [], ℕ, true, IfOk, IfErr, IfSome};
 ghost use Rattle.flow_base.specs.declared.code.Code.TheVariants as codes;
 ghost use Rattle.flow_base.specs.declared.command.Command.TheVariants as commands;
-ghost use Rattle.flow_cli.specs.Answering.{AllAnswered, HasFew, IsFull, LeavesAnswered, OfBatch, SomeAnswered, StatusWithin, StopsAmong, StopsBehind, StopsWithin};
-ghost use Rattle.flow_cli.specs.Driving.{lines_of, stopped_status};
-ghost use Rattle.flow_cli.specs.Histories.{TellsHistory, BeginsHistory, HasHistory, HasNoRun, CausedUnwritten};
-ghost use Rattle.flow_cli.specs.Stopping.{CausedHere, CausedStop, StoppedBy};
+ghost use Rattle.flow_cli.specs.Answering.{AllAnswered, HasFew, IsFull, OfBatch, SomeAnswered, StatusWithin, StopsAmong, StopsWithin};
+ghost use Rattle.flow_cli.specs.Driving.{lines_of};
+ghost use Rattle.flow_cli.specs.Ends.{input_failed, output_failed};
+ghost use Rattle.flow_cli.specs.Faults.{fault_status};
+ghost use Rattle.flow_cli.specs.Histories.{TellsHistory, BeginsHistory, HasNoRun, CausedUnwritten};
+ghost use Rattle.flow_cli.specs.Stopping.{CausedFault, StoppedBy};
 ghost use Rattle.flow_cli.specs.Working.{OfWork};
-ghost use Rattle.flow_cli.specs.declared.drive.Stopped.TheVariants.{Refused};
 
 use crate::batch::BatchSize;
-use crate::drive::{Stopped, drive_lines, stopped_reading};
+use crate::drive::drive_lines;
 use crate::history::tell_history;
+use crate::input::Input;
+use crate::output::Output;
 use flow_base::fault::Fault;
 use flow_base::number::RunId;
 use flow_machine::answer::Answering;
 use std::alloc::Global;
-use std::io;
-use std::io::{BufRead, BufReader, Write};
 
 /// What is done over an open store.
 #[derive(Clone, Copy, Debug)]
@@ -32,73 +33,41 @@ pub enum Work {
 ///
 /// # Failure
 /// As of `drive_lines` and `tell_history`.
-pub fn perform<R: BufRead, W: Write, E: Answering>(
+pub fn perform<I: Input, O: Output, E: Answering>(
     alloc: Global,
     engine: &mut E,
-    reader: &mut R,
-    writer: &mut W,
+    input: &mut I,
+    output: &mut O,
     work: &Work,
-) -> Result<u8, Stopped>
+) -> Result<u8, Fault>
     ensures done { IfOk result (λ n. OfWork work.now
-        (λ most. E.is_sure engine.new → IfSome (R.remaining reader.old) (λ bytes. AllAnswered E.rules (OfBatch most (E.gives_up engine.old engine.new)) (IsFull most) (E.book engine.old) (E.book engine.new) (lines_of bytes) (W.contents writer.old) (W.contents writer.new) n))
-        (λ run. E.is_sure engine.new → TellsHistory E.rules (E.book engine.old) (E.book engine.new) run (W.contents writer.old) (W.contents writer.new))) }
+        (λ most. E.is_sure engine.new → IfSome (I.left input.old) (λ bytes. AllAnswered E.rules (OfBatch most (E.gives_up engine.old engine.new)) (IsFull most) (E.book engine.old) (E.book engine.new) (lines_of bytes) (O.contents output.old) (O.contents output.new) n))
+        (λ run. E.is_sure engine.new → TellsHistory E.rules (E.book engine.old) (E.book engine.new) run (O.contents output.old) (O.contents output.new))) }
     ensures status { IfOk result (λ n. OfWork work.now (λ most. StatusWithin (OfBatch most (E.gives_up engine.old engine.new)) n) (λ run. n ≡ 0)) }
     ensures part { IfErr result (λ e. OfWork work.now
-        (λ most. E.is_sure engine.new → IfSome (R.remaining reader.old) (λ bytes. StopsWithin E.rules (OfBatch most (E.gives_up engine.old engine.new)) (OfBatch most (E.stops engine.old engine.new)) (IsFull most) (E.book engine.old) (E.book engine.new) e (lines_of bytes) (W.contents writer.old) (W.contents writer.new)))
-        (λ run. (writer.new ≡ writer.old) ⊎ (E.is_sure engine.new → BeginsHistory E.rules (E.book engine.old) (E.book engine.new) run (W.contents writer.old) (W.contents writer.new)))) }
-    ensures early { IfErr result (λ e. OfWork work.now (λ most. stopped_status e ≡ 3) (λ run. (e ≡ Refused Fault.NoRun) ⊎ (stopped_status e ≡ 3))) }
+        (λ most. E.is_sure engine.new → IfSome (I.left input.old) (λ bytes. StopsWithin E.rules (OfBatch most (E.gives_up engine.old engine.new)) (OfBatch most (E.stops engine.old engine.new)) (IsFull most) (E.book engine.old) (E.book engine.new) e (lines_of bytes) (O.contents output.old) (O.contents output.new)))
+        (λ run. (output.new ≡ output.old) ⊎ (E.is_sure engine.new → BeginsHistory E.rules (E.book engine.old) (E.book engine.new) run (O.contents output.old) (O.contents output.new)))) }
+    ensures early { IfErr result (λ e. OfWork work.now (λ most. fault_status e ≡ 3) (λ run. (e ≡ Fault.NoRun) ⊎ (fault_status e ≡ 3))) }
     ensures lines { IfOk result (λ n. OfWork work.now
-        (λ most. E.is_sure engine.new → SomeAnswered E.rules (OfBatch most (E.gives_up engine.old engine.new)) (HasFew most) (E.book engine.old) (E.book engine.new) 0 (W.contents writer.old) (W.contents writer.new) n)
+        (λ most. E.is_sure engine.new → SomeAnswered E.rules (OfBatch most (E.gives_up engine.old engine.new)) (HasFew most) (E.book engine.old) (E.book engine.new) 0 (O.contents output.old) (O.contents output.new) n)
         (λ run. Unit {0})) }
     ensures cut { IfErr result (λ e. OfWork work.now
-        (λ most. E.is_sure engine.new → StopsAmong E.rules (OfBatch most (E.gives_up engine.old engine.new)) (OfBatch most (E.stops engine.old engine.new)) (HasFew most) (E.book engine.old) (E.book engine.new) e (W.contents writer.old) (W.contents writer.new))
+        (λ most. E.is_sure engine.new → StopsAmong E.rules (OfBatch most (E.gives_up engine.old engine.new)) (OfBatch most (E.stops engine.old engine.new)) (HasFew most) (E.book engine.old) (E.book engine.new) e (O.contents output.old) (O.contents output.new))
         (λ run. Unit {0})) }
-    ensures endless { IfErr result (λ e. OfWork work.now
-        (λ most. e ≡ Refused Fault.StoreRefused → E.is_sure engine.new → (n : ℕ) × SomeAnswered E.rules (OfBatch most (E.gives_up engine.old engine.new)) (HasFew most) (E.book engine.old) (E.book engine.new) (2 ^ 64 - 1) (W.contents writer.old) (W.contents writer.new) n)
+    // E94 where a read failed and E95 where a write did, and each of them only there. The history of a run reads nothing.
+    ensures input { I.failed input.new ≡ input_failed result (I.failed input.old) }
+    ensures output { O.failed output.new ≡ output_failed result (O.failed output.old) }
+    ensures memory { IfErr result (λ e. OfWork work.now
+        (λ most. e ≡ Fault.NoMemory _ → (O.ran_out output.new ≡ true) ⊎ (E.is_sure engine.new → (n : ℕ) × SomeAnswered E.rules (OfBatch most (E.gives_up engine.old engine.new)) (HasFew most) (E.book engine.old) (E.book engine.new) 0 (O.contents output.old) (O.contents output.new) n))
         (λ run. Unit {0})) }
     ensures cause { IfErr result (λ e. OfWork work.now
-        (λ most. CausedStop e (StoppedBy E.rules (OfBatch most (E.gives_up engine.old engine.new)) (OfBatch most (E.stops engine.old engine.new)) (IsFull most) (E.is_sure engine.new) (E.book engine.old) (R.remaining reader.old)) (IfSome (R.remaining reader.old) (λ bytes. 2 ^ 64 ≤ length (lines_of bytes) + 1)))
+        (λ most. CausedFault e (StoppedBy E.rules (OfBatch most (E.gives_up engine.old engine.new)) (OfBatch most (E.stops engine.old engine.new)) (IsFull most) (E.is_sure engine.new) (E.book engine.old) (I.left input.old)))
         (λ run. CausedUnwritten e (E.is_sure engine.new → HasNoRun E.rules (E.book engine.old) (E.book engine.new) run) (E.is_sure engine.new → E.gives_up engine.old engine.new (E.book engine.old) (commands.History run ∷ []) codes.StoreRefused) (E.stops engine.old engine.new (E.book engine.old) (commands.History run ∷ [])))) }
     ensures sure { E.is_sure engine.new → E.is_sure engine.old }
     ensures follows { (a : E) → E.follows a engine.old → E.follows a engine.new }
 {
     match work {
-        Work::Drive(most) => drive_lines(alloc, engine, reader, writer, *most),
-        Work::History(run) => tell_history(alloc, engine, writer, *run),
+        Work::Drive(most) => drive_lines(alloc, engine, input, output, *most),
+        Work::History(run) => tell_history(alloc, engine, output, *run),
     }
-}
-
-/// Does it from standard input to standard output.
-///
-/// # Failure
-/// As of `perform`, and E01 where no memory is left for what is read ahead.
-pub fn perform_here<E: Answering>(
-    rt: &HostRuntime,
-    engine: &mut E,
-    work: &Work,
-) -> Result<u8, Stopped>
-    ensures done { IfOk result (λ n. OfWork work.now (λ most. StatusWithin (OfBatch most (E.gives_up engine.old engine.new)) n) (λ run. (n ≡ 0) × (E.is_sure engine.new → HasHistory E.rules (E.book engine.old) (E.book engine.new) run))) }
-    ensures early { IfErr result (λ e. OfWork work.now (λ most. stopped_status e ≡ 3) (λ run. (e ≡ Refused Fault.NoRun) ⊎ (stopped_status e ≡ 3))) }
-    // Of standard input no byte is known: the book is the one that the answers to some lines left.
-    ensures lines { IfOk result (λ n. OfWork work.now
-        (λ most. E.is_sure engine.new → LeavesAnswered E.rules (OfBatch most (E.gives_up engine.old engine.new)) (HasFew most) (E.book engine.old) (E.book engine.new) 0 n)
-        (λ run. Unit {0})) }
-    ensures cut { IfErr result (λ e. OfWork work.now
-        (λ most. E.is_sure engine.new → StopsBehind E.rules (OfBatch most (E.gives_up engine.old engine.new)) (OfBatch most (E.stops engine.old engine.new)) (HasFew most) (E.book engine.old) (E.book engine.new) e)
-        (λ run. Unit {0})) }
-    ensures endless { IfErr result (λ e. OfWork work.now
-        (λ most. e ≡ Refused Fault.StoreRefused → E.is_sure engine.new → (n : ℕ) × LeavesAnswered E.rules (OfBatch most (E.gives_up engine.old engine.new)) (HasFew most) (E.book engine.old) (E.book engine.new) (2 ^ 64 - 1) n)
-        (λ run. Unit {0})) }
-    ensures cause { IfErr result (λ e. OfWork work.now
-        (λ most. CausedHere e (OfBatch most (E.stops engine.old engine.new)))
-        (λ run. CausedUnwritten e (E.is_sure engine.new → HasNoRun E.rules (E.book engine.old) (E.book engine.new) run) (E.is_sure engine.new → E.gives_up engine.old engine.new (E.book engine.old) (commands.History run ∷ []) codes.StoreRefused) (E.stops engine.old engine.new (E.book engine.old) (commands.History run ∷ [])))) }
-    ensures sure { E.is_sure engine.new → E.is_sure engine.old }
-    ensures follows { (a : E) → E.follows a engine.old → E.follows a engine.new }
-{
-    let mut reader = match BufReader::new(rt.alloc(), rt.reader()) {
-        Ok(reader) => reader,
-        Err(error) => return Err(stopped_reading(error)),
-    };
-    let mut writer = io::writer(rt);
-    perform(rt.alloc(), engine, &mut reader, &mut writer, work)
 }

@@ -8,3 +8,4 @@ pub mod Seating
 pub mod BoardRows
 pub mod Refusing
 pub mod Handed
+pub mod Verified

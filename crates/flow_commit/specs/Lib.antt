@@ -4,3 +4,4 @@ pub mod Committing
 pub mod Stamps
 pub mod Boards
 pub mod Seating
+pub mod Verifying

@@ -12,4 +12,5 @@ mod receipts;
 pub mod stamp;
 mod survey;
 mod transaction;
+mod verify;
 mod waiting;

@@ -9,8 +9,6 @@ pub mod Lives
 pub mod OneMore
 pub mod Singly
 pub mod Same
-pub mod Served
-pub mod Serving
 pub mod Standing
 pub mod Stopping
 pub mod Walking

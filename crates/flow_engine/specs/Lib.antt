@@ -5,7 +5,5 @@ pub mod Headline
 pub mod Stopping
 pub mod Together
 pub mod Worlds
-pub mod Serving
-pub mod Boarding
 pub mod Following
 pub mod GivingUp

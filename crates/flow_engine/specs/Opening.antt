@@ -51,7 +51,7 @@ pub record IsUnopened {S : Type 0} (g : Ghosts S) (from to : State) (f : Fault) 
   pub version : HasCleanDisk to → f ≡ fault.BadVersion → HasOtherFormat g to
   pub damaged : HasCleanDisk to → (HasCleanDisk from → HasTables from.committed) → IsFirstDamage is_program (tables_in from.committed.trees) f
   pub cause : HasCleanDisk to → HasCause g f
-  -- Over our tables, or none, E80 and E81 come of the disk, of a limit on steps or of a text that isn't UTF-8.
+  -- Over our tables, or none, E80 comes of the disk or of a limit on steps, E81 of such a limit or of a text that isn't UTF-8.
   pub why : HasCleanDisk to → IsOurs from → StopsOpening g from to f
   -- no failure of the disk is forgotten, and the limit on the steps of a query stays
   pub since : Since from to

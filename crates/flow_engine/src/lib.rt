@@ -1,5 +1,5 @@
 //! The engine over a store: opened, it has the positions of the open runs; it answers one command, a list of them one by one,
-//! or several together, all through `drive`; and it serves a hub, whose submitters are on other threads.
+//! or several together, all through `drive`.
 #![tactic(auto)]
 
 pub mod answering;
@@ -7,5 +7,4 @@ pub mod done;
 pub mod drive;
 pub mod engine;
 pub mod headline;
-pub mod serve;
 pub mod together;

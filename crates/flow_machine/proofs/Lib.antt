@@ -30,3 +30,4 @@ pub mod Seating
 pub mod Stepping
 pub mod Taking
 pub mod OneMoreCommand
+pub mod Replaying

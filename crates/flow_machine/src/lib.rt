@@ -18,3 +18,4 @@ pub mod task;
 mod ticking;
 mod turns;
 mod upgrading;
+pub mod verify;

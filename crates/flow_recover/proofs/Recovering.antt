@@ -26,7 +26,7 @@ use Rattle.flow_rows.proofs.Stood.{stood}
 use Rattle.flow_rows.proofs.Telling.{told, all_told}
 use Rattle.flow_tables.specs.Layout.{schema, no_schema}
 use Rattle.flow_tables.specs.Stored.{tables_in}
-use Rattle.flow_tables.specs.Opening.{StandFor, IsFirstDamage, IsOfStore, IsOfOpening, HasCause, StopsOpening}
+use Rattle.flow_tables.specs.Opening.{StandFor, IsFirstDamage, IsOfRows, IsOfStore, IsOfOpening, HasCause, StopsOpening}
 use Rattle.flow_tables.specs.States.{AreOurs, HasTables, HasEnded}
 use Rattle.flow_tables.specs.Owned.{IsOurs, IsFound, IsFileOf, Keeps, LeavesMade}
 use Rattle.flow_tables.proofs.Stops.{IsSettled, opened_over}
@@ -208,10 +208,10 @@ past_why g from to (fault.NoMemory _) of = tt
 past_why g from to (fault.Mismatch run place name) of = tt
 past_why g from to _ of = absurd of
 
-pub past_left : (from to : State) (b : Book) (f : Fault) → IsPastTables f → NamesIn b f → (IsOurs from → IsFound from b × Keeps to b) → IsLeft from to f
-past_left from to b (fault.NoMemory _) of named its = inr (λ ours. record { book = b; found = (its ours).0; kept = (its ours).1; mismatch = tt })
-past_left from to b (fault.Mismatch run place name) of named its = λ ours. record { book = b; found = (its ours).0; kept = (its ours).1; mismatch = named }
-past_left from to b _ of named its = absurd of
+pub past_left : (from to : State) (b : Book) (f : Fault) → IsPastTables f → NamesIn b f → IsOfRows is_program b → (IsOurs from → IsFound from b × Keeps to b) → IsLeft from to f
+past_left from to b (fault.NoMemory _) of named stands its = inr (λ ours. record { book = b; found = (its ours).0; kept = (its ours).1; stands = stands; mismatch = tt })
+past_left from to b (fault.Mismatch run place name) of named stands its = λ ours. record { book = b; found = (its ours).0; kept = (its ours).1; stands = stands; mismatch = named }
+past_left from to b _ of named stands its = absurd of
 
 pub memory_own : (f : Fault) → OnlyMemory {A = Unit {0}} (Err f) → IsOfStore f
 memory_own (fault.NoMemory _) of = tt

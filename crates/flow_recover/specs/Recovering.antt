@@ -86,12 +86,13 @@ IsPastTables (fault.NoMemory _) = Unit {0}
 IsPastTables (fault.Mismatch run place name) = Unit {0}
 IsPastTables f = ⊥
 
--- The book that was found is kept. Where it is E68, this is the least of its open runs whose history doesn't stand, with its
--- first mismatch.
+-- The book that was found is kept, and its rows stand for it: they have no damage. Where it is E68, this is the least of its
+-- open runs whose history doesn't stand, with its first mismatch.
 pub record IsKeptOn (from to : State) (f : Fault) : Type 0 where
   pub book : Book
   pub found : IsFound from book
   pub kept : Keeps to book
+  pub stands : IsOfRows is_program book
   pub mismatch : Names {A = Unit {0}} (Err f) (IsLeastMismatch meaning_of book)
 
 -- What a refusal leaves. E80 to E83 are of the tables, and the store is as it was; E68 is of the positions, and the book that

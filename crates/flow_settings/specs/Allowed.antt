@@ -2,8 +2,6 @@
 use Rattle.std.specs.Prelude.{ℕ, pos, List, Bool, true, ◌≤◌, ◌&&◌, ◌||◌, nat_le, bytes_eq, codes, Option, Some, None, option_and_then, if◌then◌else◌}
 use Rattle.toml.specs.Data.{Data, integer, Members, no_members, member, get_member}
 use Rattle.toml.specs.Parse.{parse_document}
-use Rattle.flow_settings.specs.declared.fault.SettingsFault.{SettingsFault}
-use Rattle.flow_settings.specs.declared.fault.SettingsFault.TheVariants as fault
 
 -- how many commands a batch has at most, how many threads run activities, and how many positions are kept
 pub record Chosen : Type 0 where
@@ -56,8 +54,3 @@ settings_of ms =
 -- the settings of a text
 abbrev pub settings_in : List ℕ → Option Chosen
 settings_in text = option_and_then settings_of (parse_document text)
-
--- the number of a fault
-abbrev pub fault_number : SettingsFault → ℕ
-fault_number (fault.NoMemory _) = 1
-fault_number fault.BadSettings = 96

@@ -1,7 +1,6 @@
 //! The settings of a running engine, and how they are read from a text of TOML.
 #![tactic(auto)]
 
-pub mod fault;
 pub mod settings;
 #[cfg(test)]
 mod tests;

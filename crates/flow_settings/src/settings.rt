@@ -1,9 +1,9 @@
-ghost use Rattle.std.specs.Prelude.{◌≡◌, ◌≤◌, ◌↔◌, IsSome, IfSome, IfOk, IfErr, None, Some};
+ghost use Rattle.std.specs.Prelude.{◌≡◌, ◌≤◌, ◌↔◌, ◌⊎◌, IsSome, IfSome, IfOk, IfErr, None, Some};
 ghost use Rattle.toml.specs.Errors.{IsBlank};
 ghost use Rattle.toml.specs.View.{view, table_view};
 ghost use Rattle.flow_settings.specs.Allowed.{Chosen, chosen, IsInRange, whole_to, setting, is_known, knows_all, settings_of, settings_in, is_within};
 
-use crate::fault::SettingsFault;
+use flow_base::fault::Fault;
 use flow_base::memory::NoMemory;
 use std::alloc::Global;
 use std::marker::Model;
@@ -75,22 +75,23 @@ impl Settings {
     /// in the ranges of [`Settings::new`]. A missing one is as in [`Settings::usual`].
     ///
     /// # Failure
-    /// E96 where the text is another one.
-    pub fn read(alloc: Global, text: &str) -> Result<Settings, SettingsFault>
+    /// E96 where the text is another one, and E01.
+    pub fn read(alloc: Global, text: &str) -> Result<Settings, Fault>
         ensures ok { IfOk result (λ s. settings_in text.now ≡ Some s) }
-        ensures bad { IfErr result (λ e. e ≡ SettingsFault.BadSettings → settings_in text.now ≡ None) }
-        ensures memory { IfErr result (λ e. e ≡ SettingsFault.NoMemory _ → ¬ IsBlank text.now) }
+        ensures bad { IfErr result (λ e. e ≡ Fault.BadSettings → settings_in text.now ≡ None) }
+        ensures memory { IfErr result (λ e. e ≡ Fault.NoMemory _ → ¬ IsBlank text.now) }
+        ensures among { IfErr result (λ e. (e ≡ Fault.NoMemory _) ⊎ (e ≡ Fault.BadSettings)) }
     {
         match toml::table_from_str(alloc, text) {
             Ok(table) => match settings_from(&table) {
                 Some(settings) => Ok(settings),
-                None => Err(SettingsFault::BadSettings),
+                None => Err(Fault::BadSettings),
             },
             Err(error) => {
                 if error.is_memory() {
-                    Err(SettingsFault::NoMemory(NoMemory::told()))
+                    Err(Fault::NoMemory(NoMemory::told()))
                 } else {
-                    Err(SettingsFault::BadSettings)
+                    Err(Fault::BadSettings)
                 }
             }
         }

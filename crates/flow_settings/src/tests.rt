@@ -1,7 +1,6 @@
 //! Texts that give settings, and texts that give none.
-use crate::fault::SettingsFault;
 use crate::settings::Settings;
-use flow_base::memory::NoMemory;
+use flow_base::fault::Fault;
 use std::alloc::Global;
 use std::test::Fail;
 
@@ -46,7 +45,7 @@ fn other_texts_are_refused(rt: HostRuntime) -> Result<(), Fail> {
         "[workers]",
     ] {
         assert!(rt;
-            Settings::read(rt.alloc(), text) == Err(SettingsFault::BadSettings),
+            Settings::read(rt.alloc(), text) == Err(Fault::BadSettings),
             "{text}"
         );
     }
@@ -60,9 +59,5 @@ fn settings_are_made_within_their_ranges(rt: HostRuntime) -> Result<(), Fail> {
     assert!(rt; Settings::new(0, 4, 256) == None);
     assert!(rt; Settings::new(16, 0, 256) == None);
     assert!(rt; Settings::new(16, 4, 4097) == None);
-    assert!(rt;
-        SettingsFault::BadSettings.number() == 96
-            && SettingsFault::NoMemory(NoMemory::told()).number() == 1
-    );
     Ok(())
 }

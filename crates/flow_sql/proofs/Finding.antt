@@ -1,5 +1,5 @@
 -- What reading the format leaves, and what it tells.
-use Rattle.flow_sql.proofs.Names.{schema, format_sql, no_schema, format_query, one_permutation, Database, Row, overlay, IsAnswer, Output, end, inner, output, IsUnchanged, State, Survives, Trees, Error, Int, Null, Compiled, CompileError, IsPermutation, IsTrue, List, false, map, pos, [], refl, Ok, Err, Result, Fails, IsOver, HasTables, HasEnded, IsAtRest, IsBlank, format_row, sym, ap, ◌∙◌, subst, inl, inr, MoreFaults, OutOfMemory}
+use Rattle.flow_sql.proofs.Names.{schema, format_sql, no_schema, format_query, one_permutation, Database, Row, overlay, IsAnswer, Output, end, inner, output, IsUnchanged, State, Survives, Trees, Error, Int, Null, Compiled, CompileError, IsPermutation, IsTrue, List, false, map, pos, [], refl, Ok, Err, Result, Fails, IsOver, HasTables, HasEnded, IsAtRest, IsBlank, format_row, sym, ap, ◌∙◌, subst, inl, inr, true≢false, IsStoreError, TellsFailure, OutOfMemory}
 use Rattle.flow_sql.proofs.Names.{SqlInputError, SqliteFailure, first_as, IsSome, ◌≡◌, ◌∷◌, ◌⊎◌, ◌≢◌}
 use Rattle.sqlite.specs.Order.{value_cmp}
 use Rattle.sqlite.specs.Ops.{binary}
@@ -57,6 +57,13 @@ refused old new e h none = elim (read_leaves old new (Err e) h) [
   | inr failed ↦ absurd (none failed.0 (let same = failed.1 in cc) failed.2)
 ]
 
+-- so is the error of a connection that was shut
+pub shut_fails : (old new : State) (e : Error) → old.is_open ≡ false → QueriesRow format_sql [] old new (Err e) → IsStoreError e
+shut_fails old new e shut h = elim (read_leaves old new (Err e) h) [
+  | inl same ↦ absurd (true≢false (sym same.0.was_open ∙ shut))
+  | inr failed ↦ (failed.2.0, (let same : e ≡ failed.0 = (let both = failed.1 in cc) in same ∙ failed.2.1))
+]
+
 ---- Without the tables
 
 -- without the tables the format can't be read
@@ -71,7 +78,7 @@ blank_never_reads old new row none (inr h) = never_understood old h.1.0 none h.1
 
 -- the refusal is that there is no such table, or the disk's
 pub blank_refused : (old new : State) (e : Error) → e ≢ SqliteFailure OutOfMemory → IsTrue old.is_open → old.now.schema ≡ no_schema → QueriesRow format_sql [] old new (Err e)
-    → MoreFaults old.faults new.faults ⊎ ((f : CompileError) × (e ≡ SqlInputError f))
+    → TellsFailure e old new ⊎ ((f : CompileError) × (e ≡ SqlInputError f))
 unfolding QueriesRow FailsToQuery Shown IsNotRun
 blank_refused old new e other up none (inl (inl (inl (inl broken, _)))) = inr (broken.0, broken.2)
 blank_refused old new e other up none (inl (inl (inl (inr odd, _)))) = absurd (never_understood old odd.0 none odd.1)
@@ -99,7 +106,7 @@ format_answer old new row has h =
     cc
 
 -- it is refused by the disk or a limit alone
-pub format_refused : (old new : State) (e : Error) → e ≢ SqliteFailure OutOfMemory → IsTrue old.is_open → HasTables old.now → QueriesRow format_sql [] old new (Err e) → MoreFaults old.faults new.faults ⊎ IsSome old.step_limit
+pub format_refused : (old new : State) (e : Error) → e ≢ SqliteFailure OutOfMemory → IsTrue old.is_open → HasTables old.now → QueriesRow format_sql [] old new (Err e) → TellsFailure e old new ⊎ IsSome old.step_limit
 unfolding QueriesRow
 format_refused old new e other up has (inl fails) =
     question_refused old new e other up has.laid_out format_sql format_query _ format_read.0 [] format_read.1 refl (λ db. never_sums (db 0)) fails

@@ -2,8 +2,8 @@
 use Rattle.sqlite_trees.specs.declared.error.StoreError.TheVariants as store
 use Rattle.sqlite.specs.Command.TheVariants as command
 use Rattle.flow_sql.proofs.Names.{schema, IsRead, write_takes, IsPlain, command_of, timed, Command, Does, Database, Row, overlay, Query, Executes, RunsCommand, State, mode_of, shows_rows, text_of, Trees, Error, Compiled, IsTrue, List, false, true, ℕ, [], refl, None}
-use Rattle.flow_sql.proofs.Names.{Err, length, Some, reads_listing, Fails, IsMisplaced, sym, ap, ◌∙◌, subst, inl, inr, true≢false, append-nil, Schema, IsDeclined, Read, read_sql, query_of, Write, write_sql, IsWrite, MoreFaults, OutOfMemory, QueryOverflows, RefusesToRead, SqliteFailure}
-use Rattle.flow_sql.proofs.Names.{accepts_program, read_takes, IsSome, Any, ◌≡◌, ◌⊎◌, ◌≢◌, Begin, Commit, Rollback, Release, RollbackTo}
+use Rattle.flow_sql.proofs.Names.{Err, length, Some, reads_listing, Fails, IsMisplaced, sym, ap, ◌∙◌, subst, inl, inr, arith, true≢false, append-nil, Schema, IsDeclined, Read, read_sql, query_of, Write, write_sql, IsWrite, TellsFailure, OutOfMemory, QueryOverflows, RefusesToRead, SqliteFailure}
+use Rattle.flow_sql.proofs.Names.{accepts_program, read_takes, IsSome, Any, ◌≡◌, ◌⊎◌, ◌≢◌, ◌≤◌, Begin, Commit, Rollback, Release, RollbackTo}
 use Rattle.sqlite.specs.Listing.{understood, IsSourceOf}
 use Rattle.sqlite.specs.State.{FailsToQuery, IsNotRun, IsNoStatement, ExecutesIn, IsStatement}
 use Rattle.flow_sql.proofs.Texts.{IsWhole, read_whole, is_write}
@@ -39,17 +39,23 @@ module _ (old : State) (e : Error) (s : Schema) (laid : old.now.schema ≡ s) (s
   never_no_statement (inr (c, is, inr (inr timed'))) = timed'.0 (subst IsPlain (known ∙ is) plain).1
 
 module _ (old new : State) (e : Error) (other : e ≢ SqliteFailure OutOfMemory) (up : IsTrue old.is_open) where
-  pub failed : (W : Type 0) → Fails old new W e → MoreFaults old.faults new.faults ⊎ W
+  pub failed : (W : Type 0) → Fails old new W e → TellsFailure e old new ⊎ W
   failed W (store.OutOfMemory, is, why, _, _) = absurd (other is)
   failed W (store.Broken, is, why, _, _) = absurd (let open_then = up in cc)
   failed W (store.Unstorable, is, why, _, _) = inr why
-  failed W (_, is, why, _, _) = inl why
+  failed W (store.Io, is, why, _, _) = inl ((store.Io, is), why)
+  failed W (store.Corrupt, is, why, _, _) = inl ((store.Corrupt, is), why)
+  failed W (store.Full, is, why, _, _) = inl ((store.Full, is), why)
 
-  pub only_failed : Fails old new ⊥ e → MoreFaults old.faults new.faults
+  pub only_failed : Fails old new ⊥ e → TellsFailure e old new
   only_failed fails = elim (failed ⊥ fails) [
     | inl more ↦ more
     | inr none ↦ absurd none
   ]
+
+-- what has failed between two calls has failed from before them to behind them
+pub told_since : (e : Error) (a b c d : State) → a.faults ≤ b.faults → c.faults ≤ d.faults → TellsFailure e b c → TellsFailure e a d
+told_since e a b c d before after (is, more) = (is, omega (arith, before, more, after))
 
 -- A question: the store failed, or a limit is set on the steps of a query.
 module _ (old new : State) (e : Error) (other : e ≢ SqliteFailure OutOfMemory) (up : IsTrue old.is_open) (laid : old.now.schema ≡ schema) (sql : List ℕ) (q : Query) (names : List (List ℕ)) (it : IsRead sql q names) (params : Row)
@@ -59,7 +65,7 @@ module _ (old new : State) (e : Error) (other : e ≢ SqliteFailure OutOfMemory)
   refuses db is (inr (inl summed')) = absurd (summed (overlay db.trees []) summed'.1)
   refuses db is (inr (inr limit)) = limit.1
 
-  pub question_refused : FailsToQuery sql params old new e → MoreFaults old.faults new.faults ⊎ IsSome old.step_limit
+  pub question_refused : FailsToQuery sql params old new e → TellsFailure e old new ⊎ IsSome old.step_limit
   unfolding FailsToQuery IsNotRun
   question_refused (inl (inl none)) = absurd (never_no_statement old e schema laid sql params whole it.plain none.0)
   question_refused (inl (inr fails)) = inl (only_failed old new e other up fails)
@@ -107,7 +113,7 @@ IsTooBig sql params s =
 -- A change: the store failed, or its database declines it.
 module _ (old new : State) (e : Error) (other : e ≢ SqliteFailure OutOfMemory) (up : IsTrue old.is_open) (s : Schema) (laid : old.now.schema ≡ s) (sql : List ℕ) (params : Row) (k : Command) (is : command_of (understood s sql) ≡ k) (writes : IsWrite k)
     (plain : IsPlain (understood s sql)) (whole : IsWhole sql (length params) (understood s sql)) where
-  pub change_refused : Executes sql params old new (Err e) → MoreFaults old.faults new.faults ⊎ IsDeclined sql params old
+  pub change_refused : Executes sql params old new (Err e) → TellsFailure e old new ⊎ IsDeclined sql params old
   change_refused h = elim (fails_or_runs old new e s laid sql params k is plain whole (hides k writes) h) [
     | inl fails ↦ inl (only_failed old new e other up fails)
     | inr (c, it, same, _, inl (inl misplaced, _)) ↦ absurd (never_misplaced old c.command e IsWrite (subst IsWrite (sym same) writes) (λ h. absurd h) (λ h. absurd h) (λ h. absurd h) (λ _ h. h) (λ _ h. h) misplaced)
@@ -116,7 +122,7 @@ module _ (old new : State) (e : Error) (other : e ≢ SqliteFailure OutOfMemory)
   ]
 
   -- One that has ended the transaction: the store failed, or a row of it is too big to be stored.
-  pub change_ended : old.in_transaction ≡ true → new.in_transaction ≡ false → Executes sql params old new (Err e) → MoreFaults old.faults new.faults ⊎ IsTooBig sql params old
+  pub change_ended : old.in_transaction ≡ true → new.in_transaction ≡ false → Executes sql params old new (Err e) → TellsFailure e old new ⊎ IsTooBig sql params old
   change_ended inside outside h = elim (fails_or_runs old new e s laid sql params k is plain whole (hides k writes) h) [
     | inl fails ↦ inl (only_failed old new e other up fails)
     | inr (c, it, _, _, inl refused) ↦ absurd (true≢false (sym inside ∙ sym refused.1.0.mode ∙ outside))

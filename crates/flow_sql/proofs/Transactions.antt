@@ -1,6 +1,6 @@
 -- What BEGIN, COMMIT and ROLLBACK mean, under any schema.
 use Rattle.flow_sql.proofs.Names.{schema, IsPlain, command_of, runs_as, statement_of, survives_weaker, timed, Command, Begin, Commit, Rollback, Does, Row, Schema, Executes, IsRolledBack, Runs, State, Survives, mode_of, shows_rows, text_of, Trees, Error, Compiled, Bool, IfErr, IsTrue, List, MatchResult, codes, false, true, ℕ, [], refl, Ok, None, Err, Result, ⊤, Fails, IsMisplaced, IsOver, RunsTo, HasEnded, IsStill, GoesOn, IsUndone, HasBegun, HasCommitted, sym, ap, ◌∙◌, subst, inl, inr, arith, true≢false}
-use Rattle.flow_sql.proofs.Names.{Holds, IsWrite, MoreFaults, OnOk, OutOfMemory, SqliteFailure, ◌≡◌, ◌≢◌}
+use Rattle.flow_sql.proofs.Names.{Holds, IsStoreError, IsWrite, OnOk, TellsFailure, OutOfMemory, SqliteFailure, ◌≡◌, ◌≢◌}
 use Rattle.sqlite_tied.specs.Compute.{everything}
 use Rattle.sqlite.specs.Listing.{understood}
 use Rattle.sqlite.specs.State.{CommitsBy, MayWrite}
@@ -107,20 +107,24 @@ module _ (sql : List ℕ) (old new : State) (e : Error) (command : Command) (it 
   ]
 
   -- but for the want of memory the disk has failed once more
-  control_refused : e ≢ SqliteFailure OutOfMemory → IsTrue old.is_open → Executes sql [] old new (Err e) → MoreFaults old.faults new.faults
-  control_refused other up h = fails_alone (MoreFaults old.faults new.faults) (λ W none fails. elim (failed old new e other up W fails) [
+  control_refused : e ≢ SqliteFailure OutOfMemory → IsTrue old.is_open → Executes sql [] old new (Err e) → TellsFailure e old new
+  control_refused other up h = fails_alone (TellsFailure e old new) (λ W none fails. elim (failed old new e other up W fails) [
     | inl more ↦ more
     | inr big ↦ absurd (none big)
   ]) h
 
+-- whatever is wrong, the error of a ROLLBACK within a transaction is one of the store
+pub rollback_fails : (old new : State) (e : Error) → old.in_transaction ≡ true → Executes (codes "ROLLBACK") [] old new (Err e) → IsStoreError e
+rollback_fails old new e inside h = fails_alone (codes "ROLLBACK") old new e Rollback rollback_text inside (IsStoreError e) (λ W none fails. (fails.0, fails.1)) h
+
 module _ (old new : State) (e : Error) (other : e ≢ SqliteFailure OutOfMemory) (up : IsTrue old.is_open) where
-  pub begin_refused : old.in_transaction ≡ false → Executes (codes "BEGIN") [] old new (Err e) → MoreFaults old.faults new.faults
+  pub begin_refused : old.in_transaction ≡ false → Executes (codes "BEGIN") [] old new (Err e) → TellsFailure e old new
   begin_refused outside h = control_refused (codes "BEGIN") old new e Begin begin_text outside other up h
 
-  pub commit_refused : old.in_transaction ≡ true → Executes (codes "COMMIT") [] old new (Err e) → MoreFaults old.faults new.faults
+  pub commit_refused : old.in_transaction ≡ true → Executes (codes "COMMIT") [] old new (Err e) → TellsFailure e old new
   commit_refused inside h = control_refused (codes "COMMIT") old new e Commit commit_text inside other up h
 
-  pub rollback_refused : old.in_transaction ≡ true → Executes (codes "ROLLBACK") [] old new (Err e) → MoreFaults old.faults new.faults
+  pub rollback_refused : old.in_transaction ≡ true → Executes (codes "ROLLBACK") [] old new (Err e) → TellsFailure e old new
   rollback_refused inside h = control_refused (codes "ROLLBACK") old new e Rollback rollback_text inside other up h
 
 ---- What the three do to a state

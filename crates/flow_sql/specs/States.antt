@@ -5,6 +5,9 @@ use Rattle.sqlite_ast.specs.declared.Statement.TheVariants as written
 use Rattle.sqlite_ast.specs.declared.Conflict.TheVariants as conflict
 use Rattle.flow_sql.specs.Layout.{schema, no_schema, meta, text, run}
 use Rattle.flow_sql.specs.Stored.{tables_in, format_row}
+use Rattle.sqlite_disk.specs.Disk.{MoreFaults}
+use Rattle.sqlite.specs.State.{store_error}
+use Rattle.sqlite_trees.specs.declared.error.StoreError.{StoreError}
 
 -- the numbers of the rows are whole and rise, so none comes twice
 abbrev pub AreNumbered : List Row → Type 0
@@ -98,6 +101,14 @@ RanThree {S} g one two three old new =
 -- The disk has failed at least so often, and the limit on the steps of a query is the same.
 abbrev pub Since : State → State → Type 0
 Since first s = (first.faults ≤ s.faults) × (s.step_limit ≡ first.step_limit)
+
+-- The error is that of a store that failed: by memory, the disk, size, or since it was shut.
+abbrev pub IsStoreError : Error → Type 0
+IsStoreError e = (kind : StoreError) × (e ≡ store_error kind)
+
+-- The disk has failed once more, and the error tells so.
+abbrev pub TellsFailure : Error → State → State → Type 0
+TellsFailure e old new = IsStoreError e × MoreFaults old.faults new.faults
 
 -- One of three such statements was refused with this error, behind those before it.
 abbrev pub StoppedOfThree : {S : Type 0} → Ghosts S → List ℕ → List ℕ → List ℕ → Held S → Held S → Error → Type 0

@@ -2,9 +2,11 @@
 use crate::calls::{Call, Calls, Told, Want, add_receipts, command, commands, is_as, named_by};
 use crate::keepers::{batch, code_of};
 use crate::positions::are_waiting;
+use crate::verifying::{Verdict, is_reported};
 use flow_base::command::Command;
 use flow_cli::batch::BatchSize;
-use flow_cli::drive::{drive_lines, end_status};
+use flow_cli::drive::drive_lines;
+use flow_cli::streams::{Reading, Writing};
 use flow_commit::batch::Batch;
 use flow_engine::done::{Done, Unanswered};
 use flow_engine::drive::drive;
@@ -29,6 +31,8 @@ pub enum Asking {
     Lines(u64, &'static [u8], u8),
     /// These runs are found open, each waiting on its activity, and are so again when it has answered these calls.
     Finds(&'static [u64], &'static [Call]),
+    /// It answers calls one by one, of which this is told, and then reports this of its store.
+    Verifies(&'static [Call], Want, Verdict),
 }
 
 fn told_of(answer: &Answer) -> Told {
@@ -196,9 +200,12 @@ fn status<S: Alter>(
     size: BatchSize,
     out: &mut Vec<u8>,
 ) -> u8 {
-    let mut reader = lines;
-    let outcome = drive_lines(alloc, engine, &mut reader, out, size);
-    end_status(&outcome)
+    let mut input = Reading::new(lines);
+    let mut output = Writing::new(out);
+    match drive_lines(alloc, engine, &mut input, &mut output, size) {
+        Ok(done) => done,
+        Err(fault) => flow_cli::fault::status(&fault),
+    }
 }
 
 fn lines_end<S: Alter>(
@@ -236,6 +243,9 @@ fn is_answered_so<S: Alter>(
         Asking::Keeps(calls) => drives(alloc, engine, calls, &[], Want::Kept),
         Asking::Lines(size, lines, status) => lines_end(alloc, engine, lines, size, status, out),
         Asking::Finds(runs, calls) => finds(alloc, engine, runs, calls),
+        Asking::Verifies(calls, want, verdict) => {
+            answers(alloc, engine, calls, want) && is_reported(engine, verdict)
+        }
     }
 }
 

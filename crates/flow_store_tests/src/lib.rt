@@ -1,5 +1,5 @@
-//! Tests over a store: its tables, what a keeper keeps in it, what is found when it is opened, what an engine does with batches and
-//! commands; and disks that stop or fail at one call, each one in turn, with an engine over a file on such a disk.
+//! Tests over a store: its tables, what a keeper keeps in it, what is found when it is opened, the damage of its rows, what an engine
+//! does with batches and commands; and disks that stop or fail at one call, each one in turn, with an engine over a file on such a disk.
 #![tactic(auto)]
 
 #[cfg(test)]
@@ -18,6 +18,8 @@ mod calls;
 mod capacities;
 #[cfg(test)]
 mod course;
+#[cfg(test)]
+mod damages;
 #[cfg(test)]
 mod disk_calls;
 #[cfg(test)]
@@ -52,5 +54,7 @@ mod stride;
 mod tables;
 #[cfg(test)]
 mod thousand;
+#[cfg(test)]
+mod verifying;
 #[cfg(test)]
 mod worked_rows;

@@ -5,6 +5,7 @@ use Rattle.sqlite.specs.Reading.{IsReadError}
 use Rattle.sqlite_trees.proofs.ListLemmas.{all-get_or}
 use Rattle.flow_sql.specs.Stored.{IsReadAs, AreReadAs}
 use Rattle.flow_sql.proofs.Readable.{read_at, is_there}
+use Rattle.flow_tables.specs.Asking.{IsOfColumn}
 use Rattle.flow_tables.specs.Reads.{IsMisreadAt, IsMisread, AreMisread}
 use Rattle.flow_tables.specs.declared.fault.StoreFault.TheVariants.{Refused}
 
@@ -19,6 +20,11 @@ column_misread r at kind e f is named odd = subst (IsMisreadAt at kind r) (sym i
 -- one row that is misread is enough
 pub misread_at : (kinds : List Kind) (rows : List Row) (i : ℕ) (r : Row) (f : StoreFault) → i < length rows → get_or rows i r ≡ r → IsMisread kinds r f → AreMisread kinds rows f
 misread_at kinds rows i r f inside is why = inr (i, r, inside, is, why)
+
+-- the error is that of a column
+pub misread_error : (kinds : List Kind) (rows : List Row) (e : Error) → AreMisread kinds rows (Refused e) → IsOfColumn e
+misread_error kinds rows e (inl none) = let clash = none in cc
+misread_error kinds rows e (inr it) = let odd = it.4 in (odd.0, column it.1 odd.0, odd.3.0)
 
 -- rows that read as their kinds aren't misread
 pub never_misread : (kinds : List Kind) (rows : List Row) (e : Error) → AllByRecursion (AreReadAs kinds) rows → AreMisread kinds rows (Refused e) → ⊥

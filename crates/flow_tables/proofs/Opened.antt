@@ -1,17 +1,14 @@
 -- What opening finds, and why it is refused.
 use Rattle.std.specs.Prelude.{◌≡◌, ◌∷◌, ◌⊎◌, ◌≢◌, ◌≤◌}
-use Rattle.flow_tables.proofs.Names.{Bytes, Bool, Run, Fault, Damaged, NoMemory, NotOurs, StoreRefused, Book, no_book, event_row, of_run, task_row, timer_row, timers_left, Tells, format_sql, no_schema, Database, Held, state, HasCleanDisk, Survives, Row, State, Error, Int, Ghosts, IsTrue, IsUnchanged, List, map, pos, false, true, HasEnded, HasTables, IsAtRest, no_tables, tables_in, SqliteFailure, Err, Ok, ℤ, [], refl, column, eqb as nat_eq, negsuc, QueriesRow, subst, ◌∙◌, sym, ap, inl, inr}
+use Rattle.flow_tables.proofs.Names.{Bytes, Bool, Run, Fault, Damaged, NoMemory, NotOurs, StoreRefused, Book, no_book, event_row, of_run, task_row, timer_row, timers_left, Tells, format_sql, no_schema, Database, Held, state, HasCleanDisk, Survives, Row, State, Error, Int, Ghosts, IsSome, IsTrue, IsUnchanged, List, Option, map, pos, false, true, HasEnded, HasTables, IsAtRest, no_tables, tables_in, SqliteFailure, Err, Ok, ℕ, ℤ, [], refl, column, eqb as nat_eq, negsuc, QueriesRow, subst, ◌∙◌, sym, ap, inl, inr}
 use Rattle.flow_tables.specs.Names.{QueryReturnedNoRows}
 use Rattle.sqlite.specs.declared.error.ErrorCode.TheVariants as code
-use Rattle.sqlite_trees.specs.declared.error.StoreError.{StoreError}
-use Rattle.sqlite_trees.specs.declared.error.StoreError.TheVariants.{OutOfMemory}
-use Rattle.sqlite.specs.State.{store_error}
 use Rattle.flow_sql.specs.Names.{Schema}
 use Rattle.flow_rows.specs.Rows.{run_at}
 use Rattle.flow_sql.proofs.Transactions.{ends_again}
-use Rattle.flow_sql.proofs.Finding.{answered, blank_never_reads, format_answer, read_over, read_blank, refused, at_rest}
+use Rattle.flow_sql.proofs.Finding.{answered, blank_never_reads, format_answer, read_over, read_blank, refused, shut_fails, at_rest}
 use Rattle.flow_rows.proofs.Laws.{book_undamaged}
-use Rattle.flow_tables.proofs.Stopping.{held_after, told_after, format_held, ours_limited, survived}
+use Rattle.flow_tables.proofs.Stopping.{error_after, format_cut, never_told, ours_limited, survived, was_shut}
 use Rattle.std.proofs.lemmas.Bool.{cases_Bool}
 use Rattle.flow_tables.specs.Opening.{opening_fault, IsOfStore, IsOfRows, IsFirstDamage, IsToldOf, StandFor, IsMet, HasCause, HasFormat, StopsOpening, IsFoundSo}
 
@@ -29,11 +26,6 @@ caused g e met = by_fault (opening_fault e) refl
     by_fault StoreRefused is = (e, met, is)
     by_fault NotOurs is = (e, met, is)
     by_fault _ is = tt
-
--- what is told as E81 is no failure of the store
-told_otherwise : (c : StoreError) → opening_fault (store_error c) ≢ NotOurs
-told_otherwise OutOfMemory is = let e = is in cc
-told_otherwise _ is = let e = is in cc
 
 ---- Damages
 
@@ -58,7 +50,7 @@ module _ (is_program : Bytes → Bool) (db : Database) (f : Fault) where
   pub told_whole : (b : Book) → StandFor is_program (tables_in db.trees) b → IsToldOf is_program db f → IsOfStore f
   told_whole b stand (inl of) = of
   told_whole b stand (inr damage) =
-      absurd (let some = damage.2.2 in let none = book_undamaged is_program damage.1 b stand.texts stand.runs (damage.3 ∙ stand.same) in cc)
+      absurd (let some = damage.2.2 in let none = book_undamaged is_program damage.1 b stand.texts stand.runs (damage.3.0 ∙ stand.same) in cc)
 
 ---- One call after another
 
@@ -90,12 +82,12 @@ module _ {S : Type 0} (g : Ghosts S) (old : State) (mid new : Held S) (ended : H
   module _ (quiet : Survives old (state g mid) (λ _. ⊥)) (clean : HasCleanDisk (state g mid)) (le : (state g mid).faults ≤ (state g new).faults) (e : Error) (asked : QueriesRow format_sql [] (state g mid) (state g new) (Err e)) where
     pub found_missing : e ≢ QueryReturnedNoRows → opening_fault e ≡ NotOurs → HasFormat g old false × IsFoundSo g old (state g new) false
     found_missing other told =
-        let same = refused (state g mid) (state g new) e asked (λ x is fails. told_otherwise fails.0 (sym (ap opening_fault (is ∙ fails.1)) ∙ told)) in (
+        let same = refused (state g mid) (state g new) e asked (λ x is fails. never_told e (fails.0, is ∙ fails.1) told) in (
           (mid, new, ended, survived old (state g mid) _ quiet, (e, asked, other, told)),
           (
             λ has. (
               (read_over old (state g mid) (state g new) ended same has).0.now.laid_out,
-              held_after g old (state g mid) (state g new) _ quiet clean le (λ up. (ended.back up).1) (ours_limited g mid new e asked same.0.was_open (subst HasTables (sym (ended.back same.0.was_open).0) has) told),
+              subst (λ (o : Option ℕ). IsSome o) quiet.limit (ours_limited (state g mid) (state g new) e asked same.0.was_open (subst HasTables (sym (ended.back same.0.was_open).0) has) told),
             ),
             read_blank old (state g mid) (state g new) ended same,
           ),
@@ -104,7 +96,8 @@ module _ {S : Type 0} (g : Ghosts S) (old : State) (mid new : Held S) (ended : H
     pub format_stopped : HasTables old.committed ⊎ (old.committed.schema ≡ no_schema) → (f : Fault) → (f ≡ opening_fault e) × ((e ≡ QueryReturnedNoRows) ⊎ (opening_fault e ≢ NotOurs)) → IsOfStore f × StopsOpening g old (state g new) f
     format_stopped ours f is = (
       subst IsOfStore (sym is.0) (of_store e),
-      told_after g old (state g mid) (state g new) _ quiet clean le (λ up. (ended.back up).1) {V = Unit {0}} (Err f) (format_held g mid new e asked (had ours) is.1 f is.0),
+      error_after g old (state g mid) (state g new) (survived old (state g mid) _ quiet) (was_shut g old (state g mid) (state g new) _ quiet clean le) f e is.0
+          (λ down. shut_fails (state g mid) (state g new) e down asked) (format_cut (state g mid) (state g new) e asked (had ours) is.1),
     )
 
 ---- No tables

@@ -13,7 +13,7 @@ use Rattle.flow_sql.specs.Layout.{query_of, read_sql, write_sql}
 use Rattle.flow_sql.specs.States.{IsReading}
 use Rattle.flow_tables.specs.Reads.{Tells, IsReadFault}
 use Rattle.flow_sql.specs.Stored.{AreUtf8, AreReadAs}
-use Rattle.flow_tables.proofs.Misreading.{never_misread}
+use Rattle.flow_tables.proofs.Misreading.{misread_error, never_misread}
 use Rattle.flow_sql.proofs.Leaves.{error_refused, left_refused}
 use Rattle.flow_sql.proofs.Transactions.{write_survives}
 use Rattle.flow_tables.proofs.Stopping.{read_stopped, change_stopped}
@@ -80,6 +80,7 @@ module _ {A : Type 0} (asks : Asks A) (said : Row → A) (kinds : List Kind) (so
           inr (
             still sql (query_of asks.read) (is_read asks.read).0 is asks.params old new inside over rows.0 rows.1,
             λ utf8. never_misread kinds rows.0 e (subst (λ ks. AllByRecursion (AreReadAs ks) rows.0) so.1 (are_readable old.now.trees over.now.ours utf8 asks.params rows.0 asks.read shown)) rows.2,
+            misread_error kinds rows.0 e rows.2,
           )
 
 ---- A value of the book
@@ -139,7 +140,7 @@ module _ {S : Type 0} (g : Ghosts S) (does : Alters) (sure : does.sure) (old new
     cause = λ was welcome clean. MatchResult-weaker x (did r (ran clean) x same) (λ _ _. tt) (λ e ran other.
         let over = over was clean in
         change_stopped g old new over (elim (change_refused (state g old) (state g new) e other over.is_open schema over.now.laid_out (write_sql does.write) does.params (write_of does.write) text.is (writes does.write) text.plain (whole_write does.write does.params it.takes) ran) [
-          | inl more ↦ inl more
+          | inl more ↦ inl more.1
           | inr declined ↦ inr (it.taken (state g old) over welcome declined)
         ]));
     survives = λ was. write_survives (write_sql does.write) (write_of does.write) text.is (writes does.write) (state g old) (state g new) does.params was h;

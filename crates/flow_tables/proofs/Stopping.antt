@@ -11,10 +11,15 @@ use Rattle.flow_view.specs.declared.fault.ViewFault.TheVariants as view
 use Rattle.flow_sql.specs.Coming.{IsFull}
 use Rattle.flow_sql.proofs.Finding.{format_refused, blank_refused}
 use Rattle.flow_base.specs.declared.fault.Fault.TheVariants as fault
-use Rattle.flow_tables.specs.Opening.{opening_fault, IsCutShort, StopsMaking, IsHeldUp, StopsOpening}
-use Rattle.flow_sql.proofs.Transactions.{begin_refused, commit_refused, rollback_refused}
+use Rattle.flow_tables.specs.Opening.{opening_fault, StopsMaking, StopsOpening}
+use Rattle.flow_sql.proofs.Transactions.{begin_refused, commit_refused, rollback_refused, rollback_fails}
+use Rattle.flow_sql.proofs.Refusing.{told_since}
+use Rattle.flow_sql.specs.States.{IsStoreError, TellsFailure}
+use Rattle.sqlite.specs.State.{store_error}
+use Rattle.sqlite_trees.specs.declared.error.StoreError.{StoreError}
+use Rattle.sqlite_trees.specs.declared.error.StoreError.TheVariants as failure
 use Rattle.flow_sql.specs.Stored.{HasOddText}
-use Rattle.flow_tables.specs.Asking.{StopsAsk, IsQuiet}
+use Rattle.flow_tables.specs.Asking.{StopsAsk, IsQuiet, IsOfColumn}
 use Rattle.flow_tables.specs.Reads.{IsReadFault}
 use Rattle.flow_tables.specs.Faults.{Since, fault_of, read_refusal, told_fault, HasFailed, IsCutOff, IsKeptOut}
 use Rattle.flow_tables.specs.declared.fault.StoreFault.TheVariants.{NoMemory, Refused}
@@ -64,7 +69,7 @@ module _ {S : Type 0} (g : Ghosts S) where
     -- one that failed by more than the want of memory
     pub read_stopped : (f : StoreFault) → StopsAsk true (state g old) (state g new) f → view_fault f ≡ view.StoreRefused → IsStopped g (state g old) (state g new)
     read_stopped (NoMemory _) h same = absurd (let clash = same in cc)
-    read_stopped (Refused e) (inl (inl more)) same = inl (inl more)
+    read_stopped (Refused e) (inl (inl more)) same = inl (inl more.1)
     read_stopped (Refused e) (inl (inr limit)) same = inl (inr (inl limit))
     read_stopped (Refused e) (inr odd) same = inr (odd.0.0, subst (λ (d : Database). HasOddText (tables_in d.trees)) (sym odd.0.1) odd.1)
 
@@ -107,15 +112,15 @@ outside_still old new sql e outside ran = elim (error_leaves old new sql [] e ra
 
 module _ (old new : State) (e : Error) (f : ViewFault) (told : f ≡ told_fault (refusal_of e)) where
   pub commit_cut : old.in_transaction ≡ true → Executes (codes "COMMIT") [] old new (Err e) → IsCutOff (codes "COMMIT") old new f
-  commit_cut inside ran = cut_off (codes "COMMIT") old new e ran (λ other up. commit_refused old new e other up inside ran) f told inside
+  commit_cut inside ran = cut_off (codes "COMMIT") old new e ran (λ other up. (commit_refused old new e other up inside ran).1) f told inside
 
   pub rollback_cut : old.in_transaction ≡ true → Executes (codes "ROLLBACK") [] old new (Err e) → IsCutOff (codes "ROLLBACK") old new f
-  rollback_cut inside ran = cut_off (codes "ROLLBACK") old new e ran (λ other up. rollback_refused old new e other up inside ran) f told inside
+  rollback_cut inside ran = cut_off (codes "ROLLBACK") old new e ran (λ other up. (rollback_refused old new e other up inside ran).1) f told inside
 
   pub begin_kept_out : Executes (codes "BEGIN") [] old new (Err e) → Caused {A = Unit} (Err f) (IsKeptOut old new)
   begin_kept_out ran = caused_so f (λ is. elim (cases_Bool old.in_transaction) [
     | inl inside ↦ inl inside
-    | inr outside ↦ inr (cut_failed (codes "BEGIN") old new e ran (λ other up. begin_refused old new e other up outside ran) f told is)
+    | inr outside ↦ inr (cut_failed (codes "BEGIN") old new e ran (λ other up. (begin_refused old new e other up outside ran).1) f told is)
   ])
     where
       caused_so : (f : ViewFault) → (f ≡ view.StoreRefused → IsKeptOut old new) → Caused {A = Unit} (Err f) (IsKeptOut old new)
@@ -124,17 +129,31 @@ module _ (old new : State) (e : Error) (f : ViewFault) (told : f ≡ told_fault 
 
 ---- Opening
 
-module _ {S : Type 0} (g : Ghosts S) where
-  cut_after : (d e : Database) (a b c : State) → e ≡ d → Since a b → IsCutShort e b c → IsCutShort d a c
-  cut_after d e a b c same since (inl more) = inl (more_after a.faults b.faults c.faults since.0 more)
-  cut_after d e a b c same since (inr (inl limit)) = inr (inl (subst (λ (o : Option ℕ). IsSome o) since.1 limit))
-  cut_after d e a b c same since (inr (inr odd)) = inr (inr (subst (λ (db : Database). HasTables db × HasOddText (tables_in db.trees)) same odd))
+-- what is told as E81 is no failure of the store
+told_otherwise : (kind : StoreError) → opening_fault (store_error kind) ≢ fault.NotOurs
+told_otherwise failure.OutOfMemory is = let e = is in cc
+told_otherwise _ is = let e = is in cc
 
+pub never_told : (e : Error) → IsStoreError e → opening_fault e ≢ fault.NotOurs
+never_told e (kind, same) told = told_otherwise kind (sym (ap opening_fault same) ∙ told)
+
+-- and what can't be read isn't told as E80
+misread_told : (e : Error) → IsOfColumn e → opening_fault e ≢ fault.StoreRefused
+misread_told e (at, v, inl is) told = let clash = sym told ∙ ap opening_fault is in cc
+misread_told e (at, v, inr (inl is)) told = let clash = sym told ∙ ap opening_fault is in cc
+misread_told e (at, v, inr (inr (inl is))) told = let clash = sym told ∙ ap opening_fault is in cc
+misread_told e (at, v, inr (inr (inr (inl is)))) told = let clash = sym told ∙ ap opening_fault is in cc
+misread_told e (at, v, inr (inr (inr (inr is)))) told = let clash = sym told ∙ ap opening_fault is in cc
+
+limit_before : (a b : State) → Since a b → IsSome b.step_limit → IsSome a.step_limit
+limit_before a b since limit = subst (λ (o : Option ℕ). IsSome o) since.1 limit
+
+module _ {S : Type 0} (g : Ghosts S) where
   -- the statements that make the tables, behind others and before others
   pub making_stopped : (a b c d : Held S) (e : Error) → Since (state g a) (state g b) → (state g c).faults ≤ (state g d).faults → StopsMaking g b c e → StopsMaking g a d e
   making_stopped a b c d e since le h other = elim (h other) [
-    | inl more ↦ inl (omega (arith, since.0, more, le))
-    | inr limit ↦ inr (subst (λ (o : Option ℕ). IsSome o) since.1 limit)
+    | inl fails ↦ inl (told_since e (state g a) (state g b) (state g c) (state g d) since.0 le fails)
+    | inr limit ↦ inr (limit_before (state g a) (state g b) since limit)
   ]
 
   pub commit_stopped : (a b c : Held S) (r : Result Unit Error) → Since (state g a) (state g b) → IsTrue (state g b).is_open → (state g b).in_transaction ≡ true
@@ -143,95 +162,95 @@ module _ {S : Type 0} (g : Ghosts S) where
 
   ---- A fault of an opening
 
-  pub held_told : (first new : State) (f : Fault) → IsHeldUp g first new → StopsOpening g first new f
-  held_told first new fault.StoreRefused h = h
-  held_told first new fault.NotOurs h = h
-  held_told first new _ h = tt
+  -- a limit on steps may be told as either
+  pub limit_told : (first new : State) (f : Fault) → IsSome first.step_limit → StopsOpening g first new f
+  limit_told first new fault.StoreRefused limit = inr (inr limit)
+  limit_told first new fault.NotOurs limit = inl limit
+  limit_told first new _ limit = tt
 
-  pub error_held : (first new : State) (f : Fault) (e : Error) → f ≡ opening_fault e → (e ≢ SqliteFailure OutOfMemory → IsHeldUp g first new) → StopsOpening g first new f
-  error_held first new fault.StoreRefused e is h = h (λ same. let clash = is ∙ ap opening_fault same in cc)
-  error_held first new fault.NotOurs e is h = h (λ same. let clash = is ∙ ap opening_fault same in cc)
-  error_held first new _ e is h = tt
+  -- the disk as E80 alone
+  pub stop_told : (first new : State) (f : Fault) (e : Error) → f ≡ opening_fault e → (e ≢ SqliteFailure OutOfMemory → TellsFailure e first new ⊎ IsSome first.step_limit) → StopsOpening g first new f
+  stop_told first new fault.StoreRefused e is why = elim (why (λ same. let clash = is ∙ ap opening_fault same in cc)) [
+    | inl fails ↦ inr (inl fails.1)
+    | inr limit ↦ inr (inr limit)
+  ]
+  stop_told first new fault.NotOurs e is why = elim (why (λ same. let clash = is ∙ ap opening_fault same in cc)) [
+    | inl fails ↦ absurd (never_told e fails.0 (sym is))
+    | inr limit ↦ inl limit
+  ]
+  stop_told first new _ e is why = tt
 
-  pub rows_held : (old new : Held S) (f : Fault) (e : Error) → f ≡ opening_fault e → IsOver false (state g old) → (state g old).now ≡ (state g old).committed → StopsAsk false (state g old) (state g new) (Refused e)
+  -- and so is an error of the store
+  fails_told : (first new : State) (f : Fault) (e : Error) → f ≡ opening_fault e → IsStoreError e → StopsOpening g first new fault.StoreRefused → StopsOpening g first new f
+  fails_told first new fault.StoreRefused e is of why = why
+  fails_told first new fault.NotOurs e is of why = absurd (never_told e of (sym is))
+  fails_told first new _ e is of why = tt
+
+  -- a question to the tables that were found
+  pub rows_told : (old new : Held S) (f : Fault) (e : Error) → f ≡ opening_fault e → IsOver false (state g old) → (state g old).now ≡ (state g old).committed → StopsAsk false (state g old) (state g new) (Refused e)
       → StopsOpening g (state g old) (state g new) f
-  rows_held old new f e is over rest h =
-      error_held (state g old) (state g new) f e is (λ other. inr (subst (λ (db : Database). IsCutShort db (state g old) (state g new)) rest (cut h)))
+  rows_told old new f e is over rest (inl stop) = stop_told (state g old) (state g new) f e is (λ _. stop)
+  rows_told old new f e is over rest (inr odd) = by_fault f is
     where
-      cut : StopsAsk false (state g old) (state g new) (Refused e) → IsCutShort (state g old).now (state g old) (state g new)
-      cut (inl (inl more)) = inl more
-      cut (inl (inr limit)) = inr (inl limit)
-      cut (inr odd) = inr (inr (over.now, odd.1))
+      by_fault : (f : Fault) → f ≡ opening_fault e → StopsOpening g (state g old) (state g new) f
+      by_fault fault.StoreRefused is = absurd (misread_told e odd.2 (sym is))
+      by_fault fault.NotOurs is = inr (over.committed, subst (λ (d : Database). HasOddText (tables_in d.trees)) rest odd.1)
+      by_fault _ is = tt
 
-  pub rollback_held : (old new : State) (f : Fault) (e : Error) → f ≡ opening_fault e → old.in_transaction ≡ true → Executes (codes "ROLLBACK") [] old new (Err e) → StopsOpening g old new f
-  rollback_held old new f e is inside h = error_held old new f e is (λ other. elim (cases_Bool old.is_open) [
-    | inl up ↦ inr (inl (rollback_refused old new e other up inside h))
-    | inr shut ↦ inl shut
-  ])
-
-  pub making_held : (old new : Held S) (f : Fault) (e : Error) → f ≡ opening_fault e → StopsMaking g old new e → StopsOpening g (state g old) (state g new) f
-  making_held old new f e is h = error_held (state g old) (state g new) f e is (λ other. elim (h other) [
-    | inl more ↦ inr (inl more)
-    | inr limit ↦ inr (inr (inl limit))
-  ])
-
-  -- what was shut since, was so by a failure
-  module _ (a b c : State) (P : Trees → Type 0) (survives : Survives a b P) (clean : HasCleanDisk b) (le : b.faults ≤ c.faults) (kept : IsTrue b.is_open → b.committed ≡ a.committed) where
-    was_shut : b.is_open ≡ false → IsHeldUp g a c
-    was_shut shut = elim (cases_Bool a.is_open) [
-      | inl up ↦ inr (inl (elim (survives.closes clean up) [
-        | inl still_up ↦ absurd (true≢false (sym still_up ∙ shut))
-        | inr more ↦ omega (arith, more, le)
-      ]))
-      | inr shut_before ↦ inl shut_before
-    ]
-
-    pub held_after : IsHeldUp g b c → IsHeldUp g a c
-    held_after (inl shut) = was_shut shut
-    held_after (inr cut) = elim (cases_Bool b.is_open) [
-      | inl up ↦ inr (cut_after a.committed b.committed a b c (kept up) (survived a b P survives) cut)
-      | inr shut ↦ was_shut shut
-    ]
-
+  -- behind a call that left the connection open, and committed nothing
+  module _ (a b c : State) (since : Since a b) (up : IsTrue b.is_open) (same : b.committed ≡ a.committed) where
     pub told_after : {V : Type 0} (r : Result V Fault) → IfErr r (StopsOpening g b c) → IfErr r (StopsOpening g a c)
     told_after (Ok v) h = tt
-    told_after (Err fault.StoreRefused) h = held_after h
-    told_after (Err fault.NotOurs) h = held_after h
+    told_after (Err fault.StoreRefused) (inl shut) = absurd (true≢false (sym up ∙ shut))
+    told_after (Err fault.StoreRefused) (inr (inl more)) = inr (inl (more_after a.faults b.faults c.faults since.0 more))
+    told_after (Err fault.StoreRefused) (inr (inr limit)) = inr (inr (limit_before a b since limit))
+    told_after (Err fault.NotOurs) (inl limit) = inl (limit_before a b since limit)
+    told_after (Err fault.NotOurs) (inr odd) = inr (subst (λ (d : Database). HasTables d × HasOddText (tables_in d.trees)) same odd)
     told_after (Err _) h = tt
 
-  -- what held it up at first, held it up to the end
-  pub held_on : (a b c : State) (f : Fault) → b.faults ≤ c.faults → IsHeldUp g a b → StopsOpening g a c f
-  held_on a b c f le (inl shut) = held_told a c f (inl shut)
-  held_on a b c f le (inr (inl more)) = held_told a c f (inr (inl (omega (arith, more, le))))
-  held_on a b c f le (inr (inr rest)) = held_told a c f (inr (inr rest))
+  -- an error of a statement behind such a call, which may have shut the connection
+  pub error_after : (a b c : State) → Since a b → (b.is_open ≡ false → StopsOpening g a c fault.StoreRefused) → (f : Fault) (e : Error) → f ≡ opening_fault e → (b.is_open ≡ false → IsStoreError e)
+      → (e ≢ SqliteFailure OutOfMemory → IsTrue b.is_open → TellsFailure e b c ⊎ IsSome b.step_limit) → StopsOpening g a c f
+  error_after a b c since shut f e is fails why = elim (cases_Bool b.is_open) [
+    | inl up ↦ stop_told a c f e is (λ other. elim (why other up) [
+      | inl more ↦ inl (told_since e a b c c since.0 (omega arith) more)
+      | inr limit ↦ inr (limit_before a b since limit)
+    ])
+    | inr down ↦ fails_told a c f e is (fails down) (shut down)
+  ]
 
-  -- the question for the format: over our tables, and where there are none
-  module _ (old new : Held S) (e : Error) (asked : QueriesRow format_sql [] (state g old) (state g new) (Err e)) (up : IsTrue (state g old).is_open) where
-    ours_held : HasTables (state g old).now → e ≢ SqliteFailure OutOfMemory → IsHeldUp g (state g old) (state g new)
-    ours_held has other = elim (format_refused (state g old) (state g new) e other up has asked) [
-      | inl more ↦ inr (inl more)
-      | inr limit ↦ inr (inr (inl limit))
-    ]
+  pub rollback_told : (old new : State) (f : Fault) (e : Error) → f ≡ opening_fault e → old.in_transaction ≡ true → Executes (codes "ROLLBACK") [] old new (Err e) → StopsOpening g old new f
+  rollback_told old new f e is inside h =
+      error_after old old new (since_self old) (λ shut. inl shut) f e is (λ _. rollback_fails old new e inside h) (λ other up. inl (rollback_refused old new e other up inside h))
 
-    -- where it says that there is no such table
-    pub ours_limited : HasTables (state g old).now → opening_fault e ≡ fault.NotOurs → IsHeldUp g (state g old) (state g new)
-    ours_limited has told = ours_held has (λ same. let clash = sym told ∙ ap opening_fault same in cc)
+  -- what was shut since, was so by a failure
+  pub was_shut : (a b c : State) (P : Trees → Type 0) → Survives a b P → HasCleanDisk b → b.faults ≤ c.faults → b.is_open ≡ false → StopsOpening g a c fault.StoreRefused
+  was_shut a b c P survives clean le shut = elim (cases_Bool a.is_open) [
+    | inl up ↦ inr (inl (elim (survives.closes clean up) [
+      | inl still_up ↦ absurd (true≢false (sym still_up ∙ shut))
+      | inr more ↦ omega (arith, more, le)
+    ]))
+    | inr shut_before ↦ inl shut_before
+  ]
 
-    none_held : (state g old).now.schema ≡ no_schema → (e ≡ QueryReturnedNoRows) ⊎ (opening_fault e ≢ fault.NotOurs) → e ≢ SqliteFailure OutOfMemory → IsHeldUp g (state g old) (state g new)
-    none_held none told other = elim (blank_refused (state g old) (state g new) e other up none asked) [
-      | inl more ↦ inr (inl more)
+-- the question for the format: over our tables it fails for the disk or a limit, and where there are none for the disk alone
+module _ (old new : State) (e : Error) (asked : QueriesRow format_sql [] old new (Err e)) where
+  pub format_cut : (IsTrue old.is_open → HasTables old.now ⊎ (old.now.schema ≡ no_schema)) → (e ≡ QueryReturnedNoRows) ⊎ (opening_fault e ≢ fault.NotOurs)
+      → e ≢ SqliteFailure OutOfMemory → IsTrue old.is_open → TellsFailure e old new ⊎ IsSome old.step_limit
+  format_cut ours told other up = elim (ours up) [
+    | inl has ↦ format_refused old new e other up has asked
+    | inr none ↦ elim (blank_refused old new e other up none asked) [
+      | inl fails ↦ inl fails
       | inr missing ↦ absurd (elim told [
         | inl no_rows ↦ (let clash = sym no_rows ∙ missing.1 in cc)
         | inr store ↦ store (ap opening_fault missing.1)
       ])
     ]
+  ]
 
-  pub format_held : (old new : Held S) (e : Error) → QueriesRow format_sql [] (state g old) (state g new) (Err e) → (IsTrue (state g old).is_open → HasTables (state g old).now ⊎ ((state g old).now.schema ≡ no_schema))
-      → (e ≡ QueryReturnedNoRows) ⊎ (opening_fault e ≢ fault.NotOurs) → (f : Fault) → f ≡ opening_fault e → StopsOpening g (state g old) (state g new) f
-  format_held old new e asked ours told f is = error_held (state g old) (state g new) f e is (λ other. elim (cases_Bool (state g old).is_open) [
-    | inl up ↦ elim (ours up) [
-      | inl has ↦ ours_held old new e asked up has other
-      | inr none ↦ none_held old new e asked up none told other
-    ]
-    | inr shut ↦ inl shut
-  ])
+  -- where it says of our tables that there is no such table
+  pub ours_limited : IsTrue old.is_open → HasTables old.now → opening_fault e ≡ fault.NotOurs → IsSome old.step_limit
+  ours_limited up has told = elim (format_refused old new e (λ same. let clash = sym told ∙ ap opening_fault same in cc) up has asked) [
+    | inl fails ↦ absurd (never_told e fails.0 told)
+    | inr limit ↦ limit
+  ]

@@ -21,9 +21,9 @@ still_refused inside a b c one (inr undone) =
 stops_after : {V : Type 0} (inside : Bool) (a b c : State) (r : Result V StoreFault) → Since a b → IsStill inside a b → IfErr r (StopsAsk inside b c) → IfErr r (StopsAsk inside a c)
 stops_after inside a b c (Ok v) since one h = tt
 stops_after inside a b c (Err (NoMemory _)) since one h = tt
-stops_after inside a b c (Err (Refused e)) since one (inl (inl more)) = inl (inl (more_after a.faults b.faults c.faults since.0 more))
+stops_after inside a b c (Err (Refused e)) since one (inl (inl more)) = inl (inl (more.0, more_after a.faults b.faults c.faults since.0 more.1))
 stops_after inside a b c (Err (Refused e)) since one (inl (inr limit)) = inl (inr (subst (λ (o : Option ℕ). IsSome o) since.1 limit))
-stops_after inside a b c (Err (Refused e)) since one (inr odd) = inr (still_then inside a b c one odd.0, subst (λ (d : Database). HasOddText (tables_in d.trees)) one.1 odd.1)
+stops_after inside a b c (Err (Refused e)) since one (inr odd) = inr (still_then inside a b c one odd.0, subst (λ (d : Database). HasOddText (tables_in d.trees)) one.1 odd.1, odd.2)
 
 -- a question behind another: both tell what they tell
 module _ {V W : Type 0} {before why : StoreFault → Type 0} {a b c : State} {P : Tables → V → Type 0} {Q : Tables → W → Type 0} {v : V} {r : Result W StoreFault} where

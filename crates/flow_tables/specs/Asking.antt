@@ -1,7 +1,9 @@
 -- What is asked of the tables in one statement, and what becomes of it.
 use Rattle.std.specs.Prelude.{◌≡◌, ◌⊎◌}
 use Rattle.flow_tables.specs.Names.{Book, Change, Refusal, first as list_first, Tables, Held, state, Row, Executes, HasCleanDisk, State, Survives, Error, Ghosts, Bool, IfErr, List, MatchResult, Option, true, ℕ, Kind, Changes, HasEnded, Holds, IsAtRest, IsRefused, IsStill, tables_in, StoreFault, ViewFault, Err, Ok, Result, IsSome}
-use Rattle.sqlite_disk.specs.Disk.{MoreFaults}
+use Rattle.sqlite.specs.declared.types.Value.{Value}
+use Rattle.sqlite.specs.Reading.{IsReadError}
+use Rattle.flow_sql.specs.States.{TellsFailure}
 use Rattle.flow_view.specs.declared.fault.ViewFault.TheVariants as view
 use Rattle.flow_sql.specs.Stored.{HasOddText}
 use Rattle.flow_tables.specs.declared.fault.StoreFault.TheVariants.{NoMemory, Refused}
@@ -10,11 +12,15 @@ use Rattle.flow_tables.specs.Faults.{IsStopped, StopsWith, Because}
 use Rattle.flow_tables.specs.Puts.{IsCutShort, IsUnwelcome, IsUnfit}
 use Rattle.flow_tables.specs.Owned.{ReadsBook, StopsRead}
 
+-- the error of a column that can't be read
+abbrev pub IsOfColumn : Error → Type 0
+IsOfColumn e = (at : ℕ) × (v : Value) × IsReadError at v e
+
 -- Why a question to our tables is not answered: memory ran out, the disk has failed, a limit is set on the steps of a query, or the
--- tables hold a text that isn't UTF-8; then they are as they were.
+-- tables hold a text that isn't UTF-8; then they are as they were. A failure and such a text are told as what they are.
 abbrev pub StopsAsk : Bool → State → State → StoreFault → Type 0
 StopsAsk inside old new (NoMemory _) = Unit {0}
-StopsAsk inside old new (Refused e) = (MoreFaults old.faults new.faults ⊎ IsSome old.step_limit) ⊎ (IsStill inside old new × HasOddText (tables_in old.now.trees))
+StopsAsk inside old new (Refused e) = (TellsFailure e old new ⊎ IsSome old.step_limit) ⊎ (IsStill inside old new × HasOddText (tables_in old.now.trees) × IsOfColumn e)
 
 -- What becomes of questions: they are answered so, and the tables are as they were, or one was refused, with this cause, and the
 -- transaction may have ended. Nothing is committed.

@@ -6,11 +6,12 @@ use Rattle.flow_base.specs.Syntax.{Bytes}
 use Rattle.flow_base.specs.declared.fault.Damage.{Damage}
 use Rattle.flow_tables.specs.Owned.{IsFound}
 use Rattle.sqlite.specs.declared.error.ErrorCode.TheVariants as code
+use Rattle.flow_rows.specs.Damages.{event_place, task_place, timer_place}
 use Rattle.flow_rows.specs.Rows.{rows_of}
 use Rattle.flow_rows.specs.Standing.{AreKept}
 use Rattle.flow_tables.specs.declared.fault.StoreFault.TheVariants as read
-use Rattle.flow_sql.specs.States.{Since}
-use Rattle.flow_sql.specs.Stored.{HasOddText, kinds_of}
+use Rattle.flow_sql.specs.States.{Since, TellsFailure}
+use Rattle.flow_sql.specs.Stored.{HasOddText, kinds_of, LieByRun}
 use Rattle.flow_tables.specs.Reads.{IsReadFault}
 
 ---- The format
@@ -52,9 +53,13 @@ pub record StandFor (is_program : Bytes → Bool) (t : Tables) (b : Book) : Type
 abbrev pub IsOfRows : (Bytes → Bool) → Book → Type 0
 IsOfRows is_program b = StandFor is_program (rows_of b) b
 
+-- The rows are those of the tables, and each table's lie by rising run: no other rows do.
+abbrev pub AreReadOff : StoreRows → Tables → Type 0
+AreReadOff rows t = (by_run rows ≡ t) × LieByRun event_place rows.events × LieByRun timer_place rows.timers × LieByRun task_place rows.outbox
+
 -- A damage that is told is the first one.
 abbrev pub IsFirstDamage : (Bytes → Bool) → Tables → Fault → Type 0
-IsFirstDamage is_program t (Damaged d) = (rows : StoreRows) × (by_run rows ≡ t) × (first_damage is_program rows ≡ Some d)
+IsFirstDamage is_program t (Damaged d) = (rows : StoreRows) × AreReadOff rows t × (first_damage is_program rows ≡ Some d)
 IsFirstDamage is_program t _ = ⊤
 
 -- The rows and the format are as they should be.
@@ -70,7 +75,7 @@ IsDamageOf is_program rows f = (d : Damage) × (f ≡ Damaged d) × (first_damag
 
 -- What is told where the last commit left our tables, or none: a fault of the store, or the first damage of our tables.
 abbrev pub IsToldOf : (Bytes → Bool) → Database → Fault → Type 0
-IsToldOf is_program db f = IsOfStore f ⊎ (HasTables db × (rows : StoreRows) × IsDamageOf is_program rows f × (by_run rows ≡ tables_in db.trees))
+IsToldOf is_program db f = IsOfStore f ⊎ (HasTables db × (rows : StoreRows) × IsDamageOf is_program rows f × AreReadOff rows (tables_in db.trees))
 
 -- What opening tells at all: E01, E80 to E83.
 abbrev pub IsOfOpening : Fault → Type 0
@@ -100,31 +105,26 @@ HasCause g _ = ⊤
 
 ---- What stands behind it, over our tables or none
 
--- Reading this stopped: the disk has failed since the first state, a limit is set on the steps of a query, or our tables there hold a
--- text that isn't UTF-8.
-abbrev pub IsCutShort : Database → State → State → Type 0
-IsCutShort db first new = MoreFaults first.faults new.faults ⊎ (IsSome first.step_limit ⊎ (HasTables db × HasOddText (tables_in db.trees)))
-
--- Making the tables stopped: the disk has failed, or a limit is set on the steps of a query. The database declines none of the statements.
+-- Making the tables stopped: the disk has failed, as the error tells, or a limit is set on the steps of a query. The database
+-- declines none of the statements.
 abbrev pub StopsMaking : {S : Type 0} → Ghosts S → Held S → Held S → Error → Type 0
-StopsMaking g first new e = e ≢ SqliteFailure code.OutOfMemory → MoreFaults (state g first).faults (state g new).faults ⊎ IsSome (state g first).step_limit
+StopsMaking g first new e = e ≢ SqliteFailure code.OutOfMemory → TellsFailure e (state g first) (state g new) ⊎ IsSome (state g first).step_limit
 
--- The one or the other, where what the last commit left is read, or the connection was shut.
-abbrev pub IsHeldUp : {S : Type 0} → Ghosts S → State → State → Type 0
-IsHeldUp g first new = (first.is_open ≡ false) ⊎ IsCutShort first.committed first new
-
--- So it is behind E80 and E81; the other faults have clauses of their own, and want of memory none.
+-- Behind E80 stands that the connection was shut, that the disk has failed since the first state, or a limit on the steps of a query.
+-- Behind E81 it is such a limit, or that our tables hold a text that isn't UTF-8, and no failure of the disk. The other faults have
+-- clauses of their own, and want of memory none.
 abbrev pub StopsOpening : {S : Type 0} → Ghosts S → State → State → Fault → Type 0
-StopsOpening g first new StoreRefused = IsHeldUp g first new
-StopsOpening g first new NotOurs = IsHeldUp g first new
+StopsOpening g first new StoreRefused = (first.is_open ≡ false) ⊎ (MoreFaults first.faults new.faults ⊎ IsSome first.step_limit)
+StopsOpening g first new NotOurs = IsSome first.step_limit ⊎ (HasTables first.committed × HasOddText (tables_in first.committed.trees))
 StopsOpening g first new _ = ⊤
 
 ---- What is opened
 
--- What is found of our tables, or of none: they are shown, or there are none. Ours aren't found only where the store is hindered.
+-- What is found of our tables, or of none: they are shown, or there are none. Ours aren't found only where a limit is
+-- set on the steps of a query.
 abbrev pub IsFoundSo : {S : Type 0} → Ghosts S → State → State → Bool → Type 0
 IsFoundSo g old new true = (HasTables old.committed → IsOver false new × (new.now ≡ old.committed) × (new.committed ≡ old.committed)) × (old.committed.schema ≡ no_schema → ⊥)
-IsFoundSo g old new false = (HasTables old.committed → (new.now.schema ≡ schema) × IsHeldUp g old new) × (old.committed.schema ≡ no_schema → IsBlank false new)
+IsFoundSo g old new false = (HasTables old.committed → (new.now.schema ≡ schema) × IsSome old.step_limit) × (old.committed.schema ≡ no_schema → IsBlank false new)
 
 -- The connection shows the book that the file held, in our tables, and it is committed. Tables that were there are as they were.
 pub record IsOpened (old new : State) (b : Book) : Type 0 where

@@ -13,6 +13,7 @@ use flow_engine::engine::Engine;
 use flow_hub::hub::Hub;
 use flow_hub::publisher::Publisher;
 use flow_hub::seats::{Opened, Room};
+use flow_serve::serve;
 use flow_settings::settings::Settings;
 use flow_timers::Clock;
 use sqlite::{Alter, Connection};
@@ -52,7 +53,7 @@ pub fn limited(most: usize) -> usize
 }
 
 /// Serves a hub until it is closed and all is answered: for which number it has ended.
-fn serve<S: Alter, B: Room, R: Wait>(
+fn serve_to_end<S: Alter, B: Room, R: Wait>(
     rt: &R,
     engine: &mut Engine<S>,
     publisher: &mut Publisher<B>,
@@ -61,7 +62,7 @@ fn serve<S: Alter, B: Room, R: Wait>(
 ) -> u8
     requires { (engine.old.log ≡ []) × (publisher.old.history ≡ []) × (publisher.old.last ≡ []) × (publisher.old.held ≡ []) }
 {
-    match engine.serve(rt, publisher, &clock, limited(most)) {
+    match serve(engine, rt, publisher, &clock, limited(most)) {
         Ok(()) => 0,
         Err(fault) => number_of(&fault),
     }
@@ -89,7 +90,7 @@ fn serve_race<S: Alter + Send, B: Room + Send + Sync, R: Threads + Wait + time::
         move || run_race(rt, alloc, hub, plan),
         move ||
             requires { (engine.now.log ≡ []) × (publisher.now.history ≡ []) × (publisher.now.last ≡ []) × (publisher.now.held ≡ []) }
-        { serve(rt, engine, publisher, clock, most) },
+        { serve_to_end(rt, engine, publisher, clock, most) },
     )
 }
 

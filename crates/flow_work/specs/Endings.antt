@@ -8,7 +8,7 @@ use Rattle.flow_machine.specs.declared.submission.Taken.{Taken}
 use Rattle.flow_cli.specs.declared.reply.Line.{Line}
 use Rattle.flow_cli.specs.declared.reply.Line.TheVariants as line
 use Rattle.flow_commit.specs.Keeping.{Keeping}
-use Rattle.flow_engine.specs.Serving.{EndsFor, GivesUp, HasServed}
+use Rattle.flow_serve.specs.Serving.{EndsFor, GivesUp, HasServed}
 use Rattle.flow_hub.specs.declared.denied.Denied.{Denied}
 use Rattle.flow_hub.specs.declared.denied.Denied.TheVariants as denied
 use Rattle.flow_queues.specs.declared.refused.Refused.{Refused}

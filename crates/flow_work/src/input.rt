@@ -3,7 +3,7 @@ ghost use Rattle.std.specs.Prelude.{◌≡◌, IfSome};
 ghost use Rattle.flow_work.specs.Inputs.{IsNext, is_line};
 
 use crossbeam_channel::Sender;
-use flow_cli::drive::next_line;
+use flow_cli::streams::next_line;
 use std::alloc::Global;
 use std::io::BufRead;
 use std::sync::Wait;

@@ -32,6 +32,7 @@ use flow_hub::submitter::Submitter;
 use flow_pool::activity::Activity;
 use flow_pool::channel::opened;
 use flow_pool::ends::{TaskReceiver, TaskSender};
+use flow_serve::serve;
 use flow_settings::settings::Settings;
 use flow_timers::Clock;
 use sqlite::Alter;
@@ -448,7 +449,7 @@ fn serve_new<S: Alter, B: Room, R: Wait, C: Clock>(
     ensures found { engine.new.found ≡ engine.old.found }
     ensures follows { Follows S.Store engine.old engine.new }
 {
-    match engine.serve(rt, publisher, clock, most) {
+    match serve(engine, rt, publisher, clock, most) {
         Ok(()) => Ok(()),
         Err(fault) => Err(fault),
     }

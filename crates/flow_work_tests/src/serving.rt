@@ -14,6 +14,7 @@ use flow_hub::seats::{Opened, Room};
 use flow_hub::submitter::Submitter;
 use flow_hub::ticket::Ticket;
 use flow_machine::submission::Receipt;
+use flow_serve::serve;
 use flow_settings::settings::Settings;
 use sqlite::Connection;
 use std::alloc::Global;
@@ -72,7 +73,7 @@ pub fn fetched<B: Room, R: Wait>(rt: &R, submitter: &mut Submitter<B>, ticket: T
 }
 
 /// Opens an engine over memory, and serves what was submitted. Whether it ended with all answered.
-pub fn serve<B: Room, R: Wait>(
+pub fn serve_over_memory<B: Room, R: Wait>(
     rt: &R,
     alloc: Global,
     publisher: &mut Publisher<B>,
@@ -84,7 +85,7 @@ pub fn serve<B: Room, R: Wait>(
     match Engine::open(alloc, conn, Settings::usual()) {
         Ok(engine) => {
             let mut engine = engine;
-            let ended = engine.serve(rt, publisher, &clock, 16);
+            let ended = serve(&mut engine, rt, publisher, &clock, 16);
             Some(ended.is_ok())
         }
         Err((_fault, _conn)) => None,
@@ -105,7 +106,7 @@ fn served_over<B: Room, R: Wait>(
     let first = submitted(rt, &mut submitter, register(alloc)?)?;
     let second = submitted(rt, &mut submitter, start(alloc)?)?;
     hub.close(rt);
-    if !serve(rt, alloc, publisher, clock)? {
+    if !serve_over_memory(rt, alloc, publisher, clock)? {
         return None;
     }
     let first = fetched(rt, &mut submitter, first);

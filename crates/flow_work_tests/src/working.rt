@@ -4,7 +4,7 @@ ghost use Rattle.std.specs.Prelude.{◌≡◌, []};
 ghost use Rattle.flow_hub.specs.Seating.{IsRoomOf};
 
 use crate::clock::Still;
-use crate::serving::{Told, fetched, serve, submitted};
+use crate::serving::{Told, fetched, serve_over_memory, submitted};
 use flow_base::command::Command;
 use flow_base::number::{Moment, TextNo};
 use flow_base::sequence::Sequence;
@@ -117,7 +117,7 @@ fn served_over<B: Room + Send + Sync, R: Threads + Wait + Timing + Sync>(
         },
         move ||
             requires { (publisher.history ≡ []) × (publisher.last ≡ []) × (publisher.held ≡ []) }
-        { serve(rt, alloc, &mut publisher, early) },
+        { serve_over_memory(rt, alloc, &mut publisher, early) },
     );
     if ended? { seen } else { None }
 }

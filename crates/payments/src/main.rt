@@ -9,9 +9,9 @@ mod shop;
 use crate::shop::Shop;
 use flow_base::fault::Fault;
 use flow_base::memory::NoMemory;
-use flow_cli::drive::Stopped;
 use flow_cli::ending::ended;
 use flow_cli::fault::fault_of_error;
+use flow_cli::streams::Writing;
 use flow_engine::engine::Engine;
 use flow_settings::settings::Settings;
 use flow_work::clock::SystemClock;
@@ -30,19 +30,11 @@ fn main(rt: HostRuntime) -> ExitCode {
             let mut engine = engine;
             let outcome = keep_running(&rt, &rt, &mut engine);
             let _ = engine.close().close();
-            stopped_by(outcome)
+            outcome
         }
-        Err(fault) => Err(Stopped::Refused(fault)),
+        Err(fault) => Err(fault),
     };
-    ExitCode::from(ended(rt.alloc(), &mut rt.stderr(), &outcome))
-}
-
-/// What came of an engine that ran, as the program ends with it.
-fn stopped_by(outcome: Result<u8, Fault>) -> Result<u8, Stopped> {
-    match outcome {
-        Ok(status) => Ok(status),
-        Err(fault) => Err(Stopped::Refused(fault)),
-    }
+    ExitCode::from(ended(rt.alloc(), &mut Writing::new(rt.stderr()), &outcome))
 }
 
 /// Opens the store, which is made where there is none. E01 where memory is wanting, and E80 where the file can't be opened.

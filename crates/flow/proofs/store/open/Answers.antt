@@ -1,6 +1,5 @@
-use Rattle.std.proofs.Common.{refl}
 use Rattle.flow.proofs.store.open.Goals as goal
 
--- the fault and the connection that the engine gave back
+-- the connection that the engine gave back
 pub returns-in-Err-clause-refused : goal.returns-in-Err-clause-refused
-returns-in-Err-clause-refused g c = (c.in-Err.fault, c.in-Err._held, refl, c.in-Err.ensures.refused)
+returns-in-Err-clause-refused g c = (c.in-Err._held, c.in-Err.ensures.refused)

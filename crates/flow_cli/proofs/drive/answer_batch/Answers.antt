@@ -1,6 +1,5 @@
 use Rattle.std.proofs.lemmas.Result.{IfOk-weaker, IfErr-weaker}
-use Rattle.flow_cli.proofs.Answering.{reading_between}
-use Rattle.flow_cli.proofs.Batches.{batch_counted, batch_marked, begin_cause, begins_batch, none_begun, stops_batch}
+use Rattle.flow_cli.proofs.Batches.{batch_marked, begin_cause, begins_batch, none_begun, stops_batch}
 use Rattle.flow_cli.proofs.SomeLines.{none_among, some_batch, some_batch_stops}
 use Rattle.flow_cli.proofs.drive.answer_batch.Goals as goal
 
@@ -22,12 +21,8 @@ pub returns-in-Ok-clause-cause : goal.returns-in-Ok-clause-cause
 returns-in-Ok-clause-cause g c =
     IfErr-weaker c.answer_begun.result _ _ (λ e h. begin_cause e c.args.most _ (g.E.Answering.stops c.args.engine.now c.answer_begun.new.engine) _ _ _ _ _ c.in-Ok.ensures.some c.in-Ok.ensures.few c.in-Ok.ensures.gathered h) c.answer_begun.ensures.cause
 
-pub returns-in-Ok-clause-counted : goal.returns-in-Ok-clause-counted
-returns-in-Ok-clause-counted g c =
-    IfOk-weaker c.answer_begun.result _ _ (λ n h. batch_counted _ _ _ _ _ c.in-Ok.ensures.gathered) c.answer_begun.ensures.within
-
 pub returns-in-Err-clause-stopped : goal.returns-in-Err-clause-stopped
-returns-in-Err-clause-stopped g c sure = none_begun _ _ _ _ _ c.in-Err.stopped c.args.first _ _ (reading_between c.in-Err.stopped c.in-Err.ensures.reading)
+returns-in-Err-clause-stopped g c sure = none_begun _ _ _ _ _ c.in-Err.fault c.args.first _ _ c.in-Err.ensures.between
 
 pub returns-in-Ok-clause-lines : goal.returns-in-Ok-clause-lines
 returns-in-Ok-clause-lines g c =
@@ -38,4 +33,4 @@ returns-in-Ok-clause-cut g c =
     IfErr-weaker c.answer_begun.result _ _ (λ e h sure. some_batch_stops _ _ c.args.most _ _ _ e _ _ _ _ _ _ _ c.in-Ok.ensures.gathered c.in-Ok.ensures.some c.in-Ok.ensures.few (h sure c.args.most c.in-Ok.ensures.few)) c.answer_begun.ensures.stopped
 
 pub returns-in-Err-clause-cut : goal.returns-in-Err-clause-cut
-returns-in-Err-clause-cut g c sure line given = none_among _ _ c.args.most _ _ c.in-Err.stopped _ (reading_between c.in-Err.stopped c.in-Err.ensures.reading)
+returns-in-Err-clause-cut g c sure line given = none_among _ _ c.args.most _ _ c.in-Err.fault _ c.in-Err.ensures.between

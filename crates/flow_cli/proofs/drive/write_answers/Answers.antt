@@ -14,4 +14,4 @@ pub returns-in-Err-clause-stopped : goal.returns-in-Err-clause-stopped
 returns-in-Err-clause-stopped g c =
     let next = c.in-Some.ensures.steps in
     let told = ap (λ ms. lines_told c.args.code ms (into_iter_items c.loop-is_command.left)) next.0 ∙ c.line_told.ensures (into_iter_items c.next.new.self) in
-    telling_stops c.in-Err.stopped _ _ _ c.line_told.result _ _ _ _ told c.loop-is_command.invariant c.in-Err.ensures.stopped
+    telling_stops c.in-Err.fault _ _ _ c.line_told.result _ _ _ _ told c.loop-is_command.invariant c.in-Err.ensures.stopped

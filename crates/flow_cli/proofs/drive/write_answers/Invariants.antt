@@ -7,4 +7,4 @@ use Rattle.flow_cli.proofs.drive.write_answers.Given as goal
 abbrev pub invariant-loop-is_command : goal.invariant-loop-is_command
 invariant-loop-is_command g l =
     Telling (lines_told l.fn.code l.fn.marks.items l.fn.replies.items) (lines_told l.code (into_iter_items l.is_command-iterator) (into_iter_items l.left))
-    (g.W.Write.contents l.fn.writer) (g.W.Write.contents l.writer) l.status
+    (g.O.Output.contents l.fn.output) (g.O.Output.contents l.output) l.status

@@ -8,14 +8,14 @@ use Rattle.flow_tables.specs.Asking.{StopsAsk}
 use Rattle.flow_tables.specs.Reads.{IsRowsFault}
 use Rattle.flow_tables.specs.Opening.{opening_fault, HasCause}
 use Rattle.flow_tables.proofs.Opened.{caused}
-use Rattle.flow_tables.proofs.Stopping.{rows_held}
+use Rattle.flow_tables.proofs.Stopping.{rows_told}
 use Rattle.flow_tables.proofs.open.look_through.Goals as goal
 
 pub returns-in-Ok-Ok-clause-reads : goal.returns-in-Ok-Ok-clause-reads
 returns-in-Ok-Ok-clause-reads g c clean was =
     let read = c.in-Ok.ensures.reads false was clean in
     let tells = IfOk-at_ok (λ b. Tells (by_run c.in-Ok.rows) (shown_book b)) c.in-Ok-Ok.field-0-is c.in-Ok-Ok.ensures.tells in
-    (read.0, subst (λ t. Tells t (shown_book c.in-Ok-Ok.book)) read.1 tells, subst AreUtf8 read.1 c.rows_are_utf8.ensures)
+    (read.0, subst (λ t. Tells t (shown_book c.in-Ok-Ok.book)) read.1.0 tells, subst AreUtf8 read.1.0 c.rows_are_utf8.ensures)
 
 pub returns-in-Ok-Ok-clause-stands : goal.returns-in-Ok-Ok-clause-stands
 returns-in-Ok-Ok-clause-stands g c =
@@ -38,4 +38,4 @@ returns-in-Err-Refused-clause-why g c clean was rest =
     let over = was (c.in-Err-Refused.ensures.clean clean) in
     let stops = subst (StopsAsk false (state g.S.Store c.args.conn.now) (state g.S.Store c.all_rows.new.conn)) c.in-Err-Refused.field-0-is (c.in-Err-Refused.ensures.stops false was clean) in
     let told = c.opening_fault.ensures ∙ ap opening_fault c.in-Err-Refused.error-is in
-    rows_held g.S.Store c.args.conn.now c.all_rows.new.conn c.opening_fault.result c.in-Err-Refused.error told over (rest.1 over.is_open) stops
+    rows_told g.S.Store c.args.conn.now c.all_rows.new.conn c.opening_fault.result c.in-Err-Refused.error told over (rest.1 over.is_open) stops

@@ -1,0 +1,20 @@
+use Rattle.flow_hub.proofs.Growing.{before_trans}
+use Rattle.flow_serve.proofs.Serving.{still_then}
+use Rattle.flow_serve.proofs.server.post_board.Goals as goal
+
+pub returns-in-Err-clause-grows : goal.returns-in-Err-clause-grows
+returns-in-Err-clause-grows g c =
+    let was = c.args.publisher.now in
+    let then = c.try_board-2.new.publisher in
+    before_trans was then c.skip.new.self (before_trans was c.try_board.new.publisher then c.try_board.ensures.grows c.try_board-2.ensures.grows) c.skip.ensures.grows
+
+pub returns-in_default-clause-grows : goal.returns-in_default-clause-grows
+returns-in_default-clause-grows g c = before_trans c.args.publisher.now c.try_board.new.publisher c.try_board-2.new.publisher c.try_board.ensures.grows c.try_board-2.ensures.grows
+
+pub returns-in-Err-clause-still : goal.returns-in-Err-clause-still
+returns-in-Err-clause-still g c =
+    still_then g.S.Store c.args.engine.now c.try_board.new.engine c.try_board-2.new.engine c.try_board.ensures.still c.try_board-2.ensures.still
+
+pub returns-in_default-clause-still : goal.returns-in_default-clause-still
+returns-in_default-clause-still g c =
+    still_then g.S.Store c.args.engine.now c.try_board.new.engine c.try_board-2.new.engine c.try_board.ensures.still c.try_board-2.ensures.still

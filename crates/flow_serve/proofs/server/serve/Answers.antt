@@ -1,0 +1,22 @@
+use Rattle.std.proofs.Common.{inl, ◌++◌}
+use Rattle.flow_serve.proofs.Served.{served_behind, unserved}
+use Rattle.flow_serve.proofs.Serving.{turned_behind}
+use Rattle.flow_serve.proofs.server.serve.Goals as goal
+
+-- a batch has halted the engine, and what waits is turned away
+pub returns-in-Err-serve_all-clause-stops : goal.returns-in-Err-serve_all-clause-stops
+returns-in-Err-serve_all-clause-stops g c =
+    let s = c.in-Err-serve_all.ensures.stops in
+    let t = c.turn_away.ensures.turned in
+    (s.0 ++ t.0, inl (turned_behind c.args.engine.now c.serve_all.new.engine c.args.publisher.now.refused c.serve_all.new.publisher.refused c.turn_away.new.publisher.refused s.0 t.0 c.in-Err-serve_all.fault s.1 t.1))
+
+pub returns-in-Err-serve_all-clause-served : goal.returns-in-Err-serve_all-clause-served
+returns-in-Err-serve_all-clause-served g c =
+    let t = c.turn_away.ensures.turned in
+    (t.0, served_behind g.S.Store c.args.engine.now c.serve_all.new.engine c.args.publisher.now.refused c.serve_all.new.publisher.refused c.turn_away.new.publisher.refused t.0 c.serve_all.ensures.served t.1)
+
+-- memory was wanting, and nothing was taken
+pub returns-in-Err-clause-served : goal.returns-in-Err-clause-served
+returns-in-Err-clause-served g c =
+    let t = c.turn_away-in-Err.ensures.turned in
+    (t.0, unserved g.S.Store c.args.engine.now c.args.publisher.now.refused c.turn_away-in-Err.new.publisher.refused t.0 t.1)

@@ -1,0 +1,102 @@
+use Rattle.std.proofs.Common.{rules, ◌≡◌, ◌≤◌, true, List, length, sym, ◌∙◌, subst, true≢false}
+use Rattle.std.proofs.lemmas.Result.{err_from_is_err_and}
+use Rattle.flow_machine.specs.declared.submission.Taken.{Taken}
+use Rattle.flow_queues.specs.declared.refused.Refused.{Refused}
+use Rattle.flow_hub.proofs.Growing.{before_trans}
+use Rattle.flow_serve.specs.Serving.{GivesUp, HasAnswered, StopsAt}
+use Rattle.flow_serve.proofs.Served.{Served, has_served, none_served, served_more, served_still}
+use Rattle.flow_serve.proofs.Serving.{follows_then, gives_none, gives_then, stops_behind}
+use Rattle.flow_serve.proofs.server.serve_all.Goals as goal
+
+-- the batch that stops the engine is behind those that didn't
+pub returns-in_err-commit_taken-clause-stops : goal.returns-in_err-commit_taken-clause-stops
+returns-in_err-commit_taken-clause-stops g c =
+    let i = c.loop.invariant in
+    let mid = c.loop.engine in
+    let new = c.commit_taken.new.engine in
+    let was = c.args.publisher.now.refused in
+    let then = c.take.new.self.refused in
+    let now = c.commit_taken.new.publisher.refused in
+    let hand = c.take.new.into.items in
+    let fault = c.in_err-commit_taken.field-0.0 in
+    let same = c.take.ensures.taken.refused in
+    let some : (1 ≤ length hand) × (length hand ≤ 64) = search rules in
+    let stop = subst (λ (ts : List Taken). StopsAt mid new then now ts fault) c.of.ensures c.in_err-commit_taken.ensures.stops in
+    let still : mid.halted ≡ true → (mid ≡ c.args.engine.now) × (then ≡ was) = λ h. let back = i.still h in (back.0, same ∙ back.1) in
+    let p = err_from_is_err_and c.from_residual.result c.from_residual.ensures.1 in
+    rw (p.1, p.2) (stops_behind c.args.engine.now mid new was then now hand fault i.halted still (subst (GivesUp was) (sym same) i.gives) some stop)
+
+-- this batch is the last one
+pub returns-in_err-commit_taken-clause-served : goal.returns-in_err-commit_taken-clause-served
+returns-in_err-commit_taken-clause-served g c =
+    let old = c.args.engine.now in
+    let mid = c.loop.engine in
+    let new = c.commit_taken.new.engine in
+    let was = c.args.publisher.now.refused in
+    let now = c.commit_taken.new.publisher.refused in
+    let one = subst (λ (rs : List Refused). HasAnswered g.S.Store mid new rs now c.of.result) c.take.ensures.taken.refused c.commit_taken.ensures.answered in
+    has_served g.S.Store old new was now (served_more g.S.Store old mid new was c.loop.publisher.refused now c.loop.invariant.served c.of.result one)
+
+-- the hub is closed, and nothing was taken any more
+pub returns-then-not-take-clause-served : goal.returns-then-not-take-clause-served
+returns-then-not-take-clause-served g c =
+    let was = c.args.publisher.now.refused in
+    let served = subst (λ (rs : List Refused). Served g.S.Store c.args.engine.now c.loop.engine was rs) (sym c.take.ensures.taken.refused) c.loop.invariant.served in
+    has_served g.S.Store c.args.engine.now c.loop.engine was c.take.new.self.refused served
+
+pub returns-in_err-commit_taken-clause-grows : goal.returns-in_err-commit_taken-clause-grows
+returns-in_err-commit_taken-clause-grows g c =
+    let mid = c.take.new.self in
+    let now = c.commit_taken.new.publisher in
+    before_trans c.args.publisher.now mid now (before_trans c.args.publisher.now c.loop.publisher mid c.loop.invariant.grows c.take.ensures.grows) c.commit_taken.ensures.grows
+
+pub loop-init : goal.loop-init
+loop-init g c =
+    let b = c.post_board.ensures in
+    record {
+      together = b.together;
+      halted = b.still.halted;
+      still = λ h. (b.still.nothing (sym b.still.halted ∙ h), b.refused);
+      served = served_still g.S.Store c.args.engine.now c.args.engine.now c.post_board.new.engine c.args.publisher.now.refused c.args.publisher.now.refused c.post_board.new.publisher.refused
+          (none_served g.S.Store c.args.engine.now c.args.publisher.now.refused) b.still b.refused;
+      gives = gives_none c.args.publisher.now.refused c.post_board.new.publisher.refused b.refused;
+      found = b.still.found;
+      follows = b.still.follows;
+      grows = b.grows;
+      boarded = b.boarded;
+      empty = search rules;
+      room = search rules;
+      next = search rules;
+      ends = search rules;
+    }
+
+pub loop-preserved : goal.loop-preserved
+loop-preserved g c =
+    let i = c.loop.invariant in
+    let mid = c.take.new.self in
+    let old = c.args.engine.now in
+    let kept = c.commit_taken.new.engine in
+    let told = c.commit_taken.new.publisher in
+    let b = c.post_board-in-loop.ensures in
+    let go = c.in_ok-commit_taken.ensures.goes_on in
+    let was = c.args.publisher.now.refused in
+    let one = subst (λ (rs : List Refused). HasAnswered g.S.Store c.loop.engine kept rs told.refused c.of.result) c.take.ensures.taken.refused c.commit_taken.ensures.answered in
+    let gives = gives_then was mid.refused told.refused (subst (GivesUp was) (sym c.take.ensures.taken.refused) i.gives) c.in_ok-commit_taken.ensures.given_up in
+    record {
+      together = b.together;
+      halted = b.still.halted ∙ (go.1 ∙ (sym go.0 ∙ i.halted));
+      still = λ h. absurd (true≢false (sym h ∙ (b.still.halted ∙ go.1)));
+      gives = subst (GivesUp was) (sym b.refused) gives;
+      served = served_still g.S.Store old kept c.post_board-in-loop.new.engine was told.refused c.post_board-in-loop.new.publisher.refused
+          (served_more g.S.Store old c.loop.engine kept was c.loop.publisher.refused told.refused i.served c.of.result one) b.still b.refused;
+      found = b.still.found ∙ (c.commit_taken.ensures.found ∙ i.found);
+      follows = follows_then g.S.Store c.args.engine.now kept c.post_board-in-loop.new.engine (follows_then g.S.Store c.args.engine.now c.loop.engine kept i.follows c.commit_taken.ensures.follows) b.still.follows;
+      grows =
+          before_trans c.args.publisher.now told c.post_board-in-loop.new.publisher
+          (before_trans c.args.publisher.now mid told (before_trans c.args.publisher.now c.loop.publisher mid i.grows c.take.ensures.grows) c.commit_taken.ensures.grows) b.grows;
+      boarded = b.boarded;
+      empty = search rules;
+      room = search rules;
+      next = search rules;
+      ends = search rules;
+    }

@@ -1,0 +1,28 @@
+use Rattle.std.proofs.Common.{◌≡◌, ◌≤◌, true, []}
+use Rattle.std.specs.Vec.{vec_capacity}
+use Rattle.flow_commit.specs.Keeping.{account_of}
+use Rattle.flow_hub.specs.Knowing.{IsBefore}
+use Rattle.flow_hub.specs.Publishing.{Together}
+use Rattle.flow_engine.specs.Answering.{Follows}
+use Rattle.flow_serve.specs.Serving.{GivesUp}
+use Rattle.flow_serve.proofs.Served.{Served}
+use Rattle.flow_serve.proofs.server.serve_all.Given as goal
+
+-- An engine that had halted has done nothing.
+abbrev pub invariant-loop : goal.invariant-loop
+invariant-loop g l =
+    record {
+      together : Together (account_of g.S.Store l.engine) l.publisher;
+      halted : l.engine.halted ≡ l.fn.engine.halted;
+      still : l.engine.halted ≡ true → (l.engine ≡ l.fn.engine) × (l.publisher.refused ≡ l.fn.publisher.refused);
+      gives : GivesUp l.fn.publisher.refused l.publisher.refused;
+      served : Served g.S.Store l.fn.engine l.engine l.fn.publisher.refused l.publisher.refused;
+      found : l.engine.found ≡ l.fn.engine.found;
+      follows : Follows g.S.Store l.fn.engine l.engine;
+      grows : IsBefore l.fn.publisher l.publisher;
+      boarded : l.publisher.boarded ≡ true;
+      empty : l.taken.items ≡ [];
+      room : l.fn.most ≤ vec_capacity l.taken;
+      next : (goal.iterator-loop g).can_next l.iterator';
+      ends : (goal.iterator-loop g).is_finite l.iterator';
+    }

@@ -1,0 +1,46 @@
+use Rattle.flow_hub.proofs.Growing.{same_part}
+use Rattle.flow_hub.proofs.Serving.{boarded_together, is_fresh, same_history}
+use Rattle.flow_commit.specs.Keeping.{account_of}
+use Rattle.flow_serve.proofs.Serving.{board_still, same_base}
+use Rattle.flow_serve.proofs.server.try_board.Goals as goal
+
+-- the board was made of what is kept, which is what is published
+pub post-requires : goal.post-requires
+post-requires g c =
+    record { fresh = is_fresh (account_of g.S.Store c.args.engine.now) c.args.publisher.now c.in-Ok.board c.posted.result.now c.requires.together c.posted.ensures c.in-Ok.ensures.counted c.in-Ok.ensures.names.1 }
+
+-- nothing more is kept, and nothing published
+pub returns-in-Ok-post-clause-together : goal.returns-in-Ok-post-clause-together
+returns-in-Ok-post-clause-together g c =
+    let same = c.board.ensures.same in
+    let base = same_base g.S.Store c.args.engine.now c.board.new.self same.2 c.board.ensures.follows.0 in
+    boarded_together (account_of g.S.Store c.args.engine.now) (account_of g.S.Store c.board.new.self) c.args.publisher.now c.post.new.self c.requires.together same.3 base c.in-Ok-post.ensures.posted.rest
+
+pub returns-in-Err-post-clause-together : goal.returns-in-Err-post-clause-together
+returns-in-Err-post-clause-together g c =
+    let same = c.board.ensures.same in
+    let base = same_base g.S.Store c.args.engine.now c.board.new.self same.2 c.board.ensures.follows.0 in
+    let was = c.args.publisher.now in
+    boarded_together (account_of g.S.Store c.args.engine.now) (account_of g.S.Store c.board.new.self) was c.post.new.self c.requires.together same.3 base (same_history was c.post.new.self c.in-Err-post.ensures.refused.1)
+
+pub returns-in-Err-clause-together : goal.returns-in-Err-clause-together
+returns-in-Err-clause-together g c =
+    let same = c.board.ensures.same in
+    let base = same_base g.S.Store c.args.engine.now c.board.new.self same.2 c.board.ensures.follows.0 in
+    let was = c.args.publisher.now in
+    boarded_together (account_of g.S.Store c.args.engine.now) (account_of g.S.Store c.board.new.self) was was c.requires.together same.3 base (same_history was was (same_part was))
+
+pub returns-in-Ok-post-clause-still : goal.returns-in-Ok-post-clause-still
+returns-in-Ok-post-clause-still g c =
+    let b = c.board.ensures in
+    board_still g.S.Store c.args.engine.now c.board.new.self b.same b.follows b.fit b.own b.halted
+
+pub returns-in-Err-post-clause-still : goal.returns-in-Err-post-clause-still
+returns-in-Err-post-clause-still g c =
+    let b = c.board.ensures in
+    board_still g.S.Store c.args.engine.now c.board.new.self b.same b.follows b.fit b.own b.halted
+
+pub returns-in-Err-clause-still : goal.returns-in-Err-clause-still
+returns-in-Err-clause-still g c =
+    let b = c.board.ensures in
+    board_still g.S.Store c.args.engine.now c.board.new.self b.same b.follows b.fit b.own b.halted

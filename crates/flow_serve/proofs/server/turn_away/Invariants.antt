@@ -1,0 +1,17 @@
+use Rattle.std.proofs.Common.{◌≡◌, List, []}
+use Rattle.flow_machine.specs.declared.submission.Taken.{Taken}
+use Rattle.flow_hub.specs.Knowing.{IsBefore}
+use Rattle.flow_serve.specs.Serving.{TurnsAway}
+use Rattle.flow_serve.proofs.server.turn_away.Given as goal
+
+abbrev pub invariant-loop : goal.invariant-loop
+invariant-loop g l =
+    record {
+      none : l.publisher.held ≡ [];
+      history : l.publisher.history ≡ l.fn.publisher.history;
+      last : l.publisher.last ≡ l.fn.publisher.last;
+      turned : (waiting : List Taken) × TurnsAway l.fn.publisher.refused l.publisher.refused waiting;
+      grows : IsBefore l.fn.publisher l.publisher;
+      next : (goal.iterator-loop g).can_next l.iterator';
+      ends : (goal.iterator-loop g).is_finite l.iterator';
+    }

@@ -1,0 +1,2 @@
+pub mod Boarding
+pub mod Serving

@@ -1,0 +1,256 @@
+//! The thread that keeps: it takes what was submitted to a hub, commits it and answers it.
+ghost use Rattle.std.specs.Prelude.{◌≡◌, ◌≤◌, true, false, [], List, IfErr, OnOk, MatchResult};
+ghost use Rattle.std.specs.Vec.{vec_capacity};
+ghost use Rattle.flow_base.specs.Codes.{fault_code};
+ghost use Rattle.flow_machine.specs.declared.submission.Taken.{Taken as ATaken};
+ghost use Rattle.flow_commit.specs.Keeping.{account_of};
+ghost use Rattle.flow_hub.specs.Knowing.{IsBefore};
+ghost use Rattle.flow_serve.specs.Boarding.{IsStill};
+ghost use Rattle.flow_hub.specs.Publishing.{InHand, IsDone, Together};
+ghost use Rattle.flow_engine.specs.Answering.{Follows};
+ghost use Rattle.flow_serve.specs.Serving.{EndsFor, GivesUp, HasAnswered, HasServed, StopsAt, StopsFor, TurnsAway};
+
+use flow_base::code::Code;
+use flow_base::fault::Fault;
+use flow_base::memory::NoMemory;
+use flow_commit::batch::Batch;
+use flow_commit::outcome::Outcome;
+use flow_engine::engine::Engine;
+use flow_hub::publisher::Publisher;
+use flow_hub::seats::Room;
+use flow_machine::submission::Taken;
+use flow_timers::Clock;
+use sqlite::Alter;
+use std::alloc::Global;
+use std::sync::Wait;
+use std::thread;
+
+/// An empty list with room for so many. It is asked for again until it is there.
+fn list_with_room<R: Wait>(rt: &R, alloc: Global, most: usize) -> Vec<Taken>
+    ensures none { result.items ≡ [] }
+    ensures room { most ≤ vec_capacity result }
+{
+    for _ in rt.forever() {
+        if let Ok(list) = Vec::with_capacity(alloc, most) {
+            return list;
+        }
+        thread::yield_now();
+    }
+    unreachable!()
+}
+
+/// Commits what was taken, and answers it: by receipts, or by the code for which it isn't kept.
+fn commit_taken<S: Alter, B: Room, R: Wait>(
+    rt: &R,
+    engine: &mut Engine<S>,
+    publisher: &mut Publisher<B>,
+    batch: Batch,
+) -> Result<(), Fault>
+    requires hand { InHand (account_of S.Store engine.old) publisher.old batch }
+    ensures together { Together (account_of S.Store engine.new) publisher.new }
+    ensures goes_on { OnOk result ((engine.old.halted ≡ false) × (engine.new.halted ≡ false)) }
+    ensures given_up { OnOk result (GivesUp publisher.old.refused publisher.new.refused) }
+    ensures stops { IfErr result (λ f. StopsAt engine.old engine.new publisher.old.refused publisher.new.refused batch f) }
+    // It was committed, and this has become of it, with what stands behind E80.
+    ensures answered { HasAnswered S.Store engine.old engine.new publisher.old.refused publisher.new.refused batch }
+    ensures found { engine.new.found ≡ engine.old.found }
+    ensures follows { Follows S.Store engine.old engine.new }
+    ensures grows { IsBefore publisher.old publisher.new }
+{
+    match engine.commit(batch) {
+        Outcome::Kept(receipts, stamp) => {
+            publisher.publish(rt, receipts, stamp);
+            Ok(())
+        }
+        Outcome::NotApplied(back, fault) => {
+            publisher.refuse(rt, back.into_taken(), fault.code());
+            Ok(())
+        }
+        Outcome::Unknown(back, _fault) => {
+            publisher.refuse(rt, back.into_taken(), Code::Unknown);
+            Err(Fault::Unknown)
+        }
+        Outcome::Halted(back) => {
+            publisher.refuse(rt, back.into_taken(), Code::Halted);
+            Err(Fault::Halted)
+        }
+    }
+}
+
+/// Makes a board and posts it, or says for which code there is none.
+fn try_board<S: Alter, B: Room, R: Wait, C: Clock>(
+    rt: &R,
+    engine: &mut Engine<S>,
+    publisher: &mut Publisher<B>,
+    clock: &C,
+) -> Result<(), Code>
+    requires together { Together (account_of S.Store engine.old) publisher.old }
+    ensures together { Together (account_of S.Store engine.new) publisher.new }
+    ensures boarded { OnOk result (publisher.new.boarded ≡ true) }
+    ensures still { IsStill S.Store engine.old engine.new }
+    ensures refused { publisher.new.refused ≡ publisher.old.refused }
+    ensures grows { IsBefore publisher.old publisher.new }
+{
+    match engine.board(publisher.posted(), clock.now()) {
+        Ok(board) => match publisher.post(rt, board) {
+            Ok(()) => Ok(()),
+            Err((_board, refused)) => Err(NoMemory::from(refused).code()),
+        },
+        Err(fault) => Err(fault.code()),
+    }
+}
+
+/// Posts a board behind what is kept. One that can't be made or posted is tried once more, and then there is none this time.
+fn post_board<S: Alter, B: Room, R: Wait, C: Clock>(
+    rt: &R,
+    engine: &mut Engine<S>,
+    publisher: &mut Publisher<B>,
+    clock: &C,
+)
+    requires together { Together (account_of S.Store engine.old) publisher.old }
+    ensures together { Together (account_of S.Store engine.new) publisher.new }
+    ensures boarded { publisher.new.boarded ≡ true }
+    ensures still { IsStill S.Store engine.old engine.new }
+    ensures refused { publisher.new.refused ≡ publisher.old.refused }
+    ensures grows { IsBefore publisher.old publisher.new }
+{
+    if try_board(rt, engine, publisher, clock).is_ok() {
+        return;
+    }
+    if let Err(code) = try_board(rt, engine, publisher, clock) {
+        publisher.skip(rt, code);
+    }
+}
+
+/// Answers what is submitted until the hub is closed and nothing waits, or a batch halts the engine. A board is posted first and
+/// behind each batch. The first list is given.
+fn serve_all<S: Alter, B: Room, R: Wait, C: Clock>(
+    rt: &R,
+    engine: &mut Engine<S>,
+    publisher: &mut Publisher<B>,
+    clock: &C,
+    first: Vec<Taken>,
+    most: usize,
+) -> Result<(), Fault>
+    requires together { Together (account_of S.Store engine.old) publisher.old }
+    requires most { (1 ≤ most) × (most ≤ 64) }
+    requires room { (first.items ≡ []) × (most ≤ vec_capacity first) }
+    ensures together { Together (account_of S.Store engine.new) publisher.new }
+    ensures done { OnOk result (IsDone publisher.new) }
+    ensures goes_on { OnOk result (engine.new.halted ≡ engine.old.halted) }
+    ensures given_up { OnOk result (GivesUp publisher.old.refused publisher.new.refused) }
+    ensures stops { IfErr result
+        (λ f. (waiting : List ATaken) × StopsFor engine.old engine.new publisher.old.refused publisher.new.refused waiting f) }
+    ensures served { HasServed S.Store engine.old engine.new publisher.old.refused publisher.new.refused [] }
+    ensures found { engine.new.found ≡ engine.old.found }
+    ensures follows { Follows S.Store engine.old engine.new }
+    ensures grows { IsBefore publisher.old publisher.new }
+{
+    let mut taken = first;
+    post_board(rt, engine, publisher, clock);
+    for _ in rt.forever() {
+        if !publisher.take(rt, &mut taken, most) {
+            return Ok(());
+        }
+        commit_taken(rt, engine, publisher, Batch::of(taken))?;
+        post_board(rt, engine, publisher, clock);
+        taken = list_with_room(rt, engine.alloc(), most);
+    }
+    unreachable!()
+}
+
+/// The code of a fault that is still to be handed on.
+fn code_of(fault: &Fault) -> Code
+    ensures { result ≡ fault_code fault.now }
+{
+    fault.code()
+}
+
+/// Takes nothing more in, and answers all that waits that the engine has halted: E85. There is no board any more, for this code.
+fn turn_away<B: Room, R: Wait>(
+    rt: &R,
+    alloc: Global,
+    publisher: &mut Publisher<B>,
+    most: usize,
+    code: Code,
+)
+    requires none { publisher.old.held ≡ [] }
+    requires most { (1 ≤ most) × (most ≤ 64) }
+    ensures done { IsDone publisher.new }
+    ensures none { publisher.new.held ≡ [] }
+    ensures history { (publisher.new.history ≡ publisher.old.history) × (publisher.new.last ≡ publisher.old.last) }
+    ensures turned { (waiting : List ATaken) × TurnsAway publisher.old.refused publisher.new.refused waiting }
+    ensures grows { IsBefore publisher.old publisher.new }
+{
+    publisher.close(rt);
+    for _ in rt.forever() {
+        let mut taken = list_with_room(rt, alloc, most);
+        publisher.skip(rt, code);
+        if !publisher.take(rt, &mut taken, most) {
+            return;
+        }
+        publisher.refuse(rt, taken, Code::Halted);
+    }
+    unreachable!()
+}
+
+/// Serves a hub: takes up to `most` submissions, commits them together and answers them, until the hub is closed and nothing
+/// waits. A batch that isn't applied is answered E80 or E01, and it goes on. Behind a batch of which nobody knows whether it
+/// is kept, which is answered E84, it closes the hub and answers all that waits E85, as it does over an engine that had
+/// halted before.
+///
+/// Before anything is taken, and behind each batch that doesn't halt the engine, what the book gives out by the clock is posted.
+/// A board that can't be made or posted, E80 or E01, is tried once more, and then skipped until the next batch, which a thread that
+/// waits by `Submitter::next_tick` brings within a minute.
+///
+/// By the caller's condition the publisher has published what the engine has kept, as it is of an engine that has kept no
+/// batch since it was opened and a publisher that has published none.
+///
+/// # Failure
+/// E01 before anything is taken: the hub is closed, and all that waits is answered E85. Room for later lists is asked for
+/// until it is there. E84, and E85 where the engine had halted before.
+pub fn serve<S: Alter, B: Room, R: Wait, C: Clock>(
+    engine: &mut Engine<S>,
+    rt: &R,
+    publisher: &mut Publisher<B>,
+    clock: &C,
+    most: usize,
+) -> Result<(), Fault>
+    requires together { Together (account_of S.Store engine.old) publisher.old }
+    requires most { (1 ≤ most) × (most ≤ 64) }
+    // At the end the hub's history is what the keeper has kept, and all that was submitted is answered.
+    ensures together { Together (account_of S.Store engine.new) publisher.new }
+    ensures done { IsDone publisher.new }
+    ensures goes_on { OnOk result (engine.new.halted ≡ engine.old.halted) }
+    ensures given_up { OnOk result (GivesUp publisher.old.refused publisher.new.refused) }
+    ensures stops { IfErr result
+        (λ f. (waiting : List ATaken) × EndsFor engine.old engine.new publisher.old.refused publisher.new.refused waiting f) }
+    // What was taken was committed batch by batch, each over the book that those before it left, and nothing else changes the book:
+    // so it says what is kept, what a stop leaves, and what stands behind each E80.
+    ensures served { MatchResult result
+        (λ _. HasServed S.Store engine.old engine.new publisher.old.refused publisher.new.refused [])
+        (λ _. (waiting : List ATaken) × HasServed S.Store engine.old engine.new publisher.old.refused publisher.new.refused waiting) }
+    ensures found { engine.new.found ≡ engine.old.found }
+    ensures follows { Follows S.Store engine.old engine.new }
+    ensures grows { IsBefore publisher.old publisher.new }
+{
+    match Vec::with_capacity(engine.alloc(), most) {
+        Ok(first) => match serve_all(rt, engine, publisher, clock, first, most) {
+            Ok(()) => Ok(()),
+            Err(fault) => {
+                turn_away(rt, engine.alloc(), publisher, most, code_of(&fault));
+                Err(fault)
+            }
+        },
+        Err(refused) => {
+            turn_away(
+                rt,
+                engine.alloc(),
+                publisher,
+                most,
+                NoMemory::from(refused).code(),
+            );
+            Err(Fault::from(refused))
+        }
+    }
+}
