@@ -84,9 +84,10 @@ pub struct Course {
     pub kept: u64,
     /// What became of that one. Kept: there is none.
     pub broken: Ended,
-    /// How many after it were kept, not applied with E80, halted, and anything else.
+    /// How many after it were kept, not applied with E80, unknown, halted, and anything else.
     pub kept_later: u64,
     pub given_up: u64,
+    pub unknown: u64,
     pub halted: u64,
     pub other: u64,
 }
@@ -100,6 +101,7 @@ impl Course {
             broken: Ended::Kept,
             kept_later: 0,
             given_up: 0,
+            unknown: 0,
             halted: 0,
             other: 0,
         }
@@ -114,8 +116,9 @@ impl Course {
         let count = match ended {
             Ended::Kept => &mut self.kept_later,
             Ended::GivenUp => &mut self.given_up,
+            Ended::Unknown => &mut self.unknown,
             Ended::Halted => &mut self.halted,
-            Ended::Unknown | Ended::Other => &mut self.other,
+            Ended::Other => &mut self.other,
         };
         *count = count.saturating_add(1);
     }

@@ -32,9 +32,10 @@ struct Stops {
     wrong: u64,
 }
 
+/// After the first batch that wasn't kept no other is. One that needs no read may come to its commit, of which nobody knows then.
 fn is_stopped(course: Course) -> bool {
     let is_broken = course.broken != Ended::Halted && course.broken != Ended::Other;
-    is_broken && course.kept_later == 0 && course.other == 0
+    is_broken && course.kept_later == 0 && course.unknown <= 1 && course.other == 0
 }
 
 fn has_more(course: Course, book: Option<u64>, books: &Books) -> bool {
@@ -188,7 +189,7 @@ fn a_stop_leaves_whole_batches_of_2(rt: HostRuntime) -> Result<(), Fail> {
 
 #[test]
 fn a_stop_leaves_whole_batches_of_64(rt: HostRuntime) -> Result<(), Fail> {
-    let figures = batches(rt.alloc(), Plan::first(64, 2), stride(&rt, 60));
+    let figures = batches(rt.alloc(), Plan::first(64, 2), stride(&rt, 6));
     println!(rt; "stops, batches of 64: {figures:?}")?;
     assert!(rt; are_right(figures));
     Ok(())
