@@ -79,8 +79,6 @@ impl<D: Disk> Disk for Counting<D> {
 
     ghost is_rotten = { λ f. D.Disk.is_rotten f.inner };
 
-    ghost is_frozen = { λ f. D.Disk.is_frozen f.inner };
-
     ghost key_of = { λ f. D.Disk.key_of f.inner };
 
     ghost is_clean = { λ f. D.Disk.is_clean f.inner };
