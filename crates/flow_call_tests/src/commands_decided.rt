@@ -1,5 +1,5 @@
 //! Each command decided over plain lists: its reply, and how many changes it makes of the book.
-use crate::commands_kept::commands;
+use crate::commands_kept::{CALLS, STARTS, commands};
 use flow_base::command::{Command, Description, Reply};
 use flow_base::event::State;
 use flow_check::language::Language;
@@ -15,114 +15,40 @@ use std::test::Fail;
 /// The line of a command, the line of its reply, and how many changes it makes.
 type Row = (&'static str, &'static str, usize);
 
-const REGISTERS_LINE: &str =
-    r#"{"do":"register","src":"workflow a(n: int) { activity c(int, text) -> int; let r = 0; r = call c(n, \"eur\"); return r + 1; }"}"#;
-
 const REGISTERED: &str = r#"{"reply":"registered","text":1}"#;
 
-const REGISTERS: Row = (REGISTERS_LINE, REGISTERED, 1);
+const STARTED: &str = r#"{"reply":"started","run":1}"#;
 
-const STARTS_LINE: &str = r#"{"args":[7],"at":1000,"do":"start","flow":"f","req":"f","text":1}"#;
+const REPORTS: &str = r#"{"at":1500,"attempt":1,"do":"complete","event":2,"run":1,"value":41}"#;
 
-const STARTS: Row = (STARTS_LINE, r#"{"reply":"started","run":1}"#, 1);
+const DESCRIBES: &str = r#"{"do":"describe","run":1}"#;
 
-const REPORTS_LINE: &str =
-    r#"{"at":1500,"attempt":1,"do":"complete","event":2,"run":1,"value":41}"#;
-
-const REPORTS: Row = (REPORTS_LINE, r#"{"event":3,"reply":"recorded","run":1}"#, 1);
-
-const DESCRIBES_LINE: &str = r#"{"do":"describe","run":1}"#;
-
-const DESCRIBES: Row = (
-    DESCRIBES_LINE,
-    r#"{"activities":[],"events":4,"flow":"f","reply":"run","state":"completed","text":1,"timers":[]}"#,
-    0,
-);
-
-const NOT_OPEN: &str = r#"{"code":"E64","reply":"refused"}"#;
-
-const OLD_ATTEMPT: &str = r#"{"code":"E65","reply":"refused"}"#;
-
-const NO_RUN: &str = r#"{"code":"E70","reply":"refused"}"#;
-
-/// What is known already, what is no program, and what is refused changes nothing; a report and an end do.
+/// What is known already, what is refused and what is asked changes nothing; a report is a change.
 const REPORTED: &[Row] = &[
-    REGISTERS,
-    (REGISTERS_LINE, REGISTERED, 0),
+    (CALLS, REGISTERED, 1),
+    (CALLS, REGISTERED, 0),
+    (STARTS, STARTED, 1),
+    (STARTS, r#"{"reply":"duplicate","run":1}"#, 0),
+    (REPORTS, r#"{"event":3,"reply":"recorded","run":1}"#, 1),
+    (REPORTS, r#"{"code":"E64","reply":"refused"}"#, 0),
     (
-        r#"{"do":"register","src":"workflow x( { }"}"#,
-        r#"{"at":12,"code":"E11","reply":"refused"}"#,
+        DESCRIBES,
+        r#"{"activities":[],"events":4,"flow":"f","reply":"run","state":"completed","text":1,"timers":[]}"#,
         0,
     ),
-    STARTS,
-    (STARTS_LINE, r#"{"reply":"duplicate","run":1}"#, 0),
-    REPORTS,
-    (REPORTS_LINE, NOT_OPEN, 0),
-    DESCRIBES,
-    (r#"{"do":"history","run":2}"#, NO_RUN, 0),
 ];
 
+/// A signal, an attempt that fails, an upgrade and an end are each a change.
 const ENDED: &[Row] = &[
-    REGISTERS,
-    STARTS,
     (
-        r#"{"at":900,"do":"terminate","reason":"why","run":2}"#,
-        NO_RUN,
-        0,
-    ),
-    (
-        r#"{"at":900,"do":"terminate","reason":"why","run":1}"#,
-        r#"{"event":3,"reply":"recorded","run":1}"#,
-        1,
-    ),
-    (
-        r#"{"at":900,"do":"terminate","reason":"why","run":1}"#,
-        NOT_OPEN,
-        0,
-    ),
-];
-
-/// An attempt that fails is a change, whether or not another one follows.
-const FAILED: &[Row] = &[
-    (
-        r#"{"do":"register","src":"workflow a(n: int) { activity c(int, text) -> int; let r = 0; r = call c(n, \"eur\") retry 3 every 500; return r + 1; }"}"#,
+        r#"{"do":"register","src":"workflow b() { activity c() -> int; signal s: text; let r = 0; r = call c() retry 2 every 500; return r; }"}"#,
         REGISTERED,
         1,
     ),
-    STARTS,
     (
-        r#"{"at":2000,"attempt":2,"do":"fail","event":2,"reason":"no","run":1}"#,
-        OLD_ATTEMPT,
-        0,
-    ),
-    (
-        r#"{"at":2000,"attempt":1,"do":"fail","event":2,"reason":"no","run":1}"#,
-        r#"{"attempt":2,"from":2500,"reply":"retry","run":1}"#,
+        r#"{"args":[],"at":1000,"do":"start","flow":"f","req":"f","text":1}"#,
+        STARTED,
         1,
-    ),
-    (
-        r#"{"at":2600,"attempt":2,"do":"fail","event":2,"reason":"no","run":1}"#,
-        r#"{"attempt":3,"from":3100,"reply":"retry","run":1}"#,
-        1,
-    ),
-    (
-        r#"{"at":4000,"attempt":3,"do":"fail","event":2,"reason":"no","run":1}"#,
-        r#"{"event":3,"reply":"recorded","run":1}"#,
-        1,
-    ),
-];
-
-const SIGNALED: &[Row] = &[
-    (
-        r#"{"do":"register","src":"workflow b(n: int) { signal s: text; let v = \"\"; v = wait signal s for 100 else { v = \"late\"; }; return v; }"}"#,
-        REGISTERED,
-        1,
-    ),
-    STARTS,
-    (
-        r#"{"at":1050,"do":"signal","flow":"f","name":"t","req":"q2","value":1}"#,
-        r#"{"code":"E67","reply":"refused"}"#,
-        0,
     ),
     (
         r#"{"at":1050,"do":"signal","flow":"f","name":"s","req":"q2","value":"x"}"#,
@@ -130,38 +56,53 @@ const SIGNALED: &[Row] = &[
         1,
     ),
     (
-        r#"{"at":1060,"do":"signal","flow":"f","name":"s","req":"q2","value":1}"#,
-        r#"{"event":3,"reply":"duplicate","run":1}"#,
-        0,
+        r#"{"at":2000,"attempt":1,"do":"fail","event":2,"reason":"no","run":1}"#,
+        r#"{"attempt":2,"from":2500,"reply":"retry","run":1}"#,
+        1,
     ),
-];
-
-const UPGRADED: &[Row] = &[
-    REGISTERS,
     (
-        r#"{"do":"register","src":"workflow a(n: int) { activity c(int, text) -> int; let r = 0; r = call c(n, \"usd\"); return r + 1; }"}"#,
+        r#"{"do":"register","src":"workflow b() { activity c() -> int; signal s: text; let r = 0; r = call c() retry 2 every 500; return r + 1; }"}"#,
         r#"{"reply":"registered","text":2}"#,
         1,
     ),
     (
-        r#"{"do":"register","src":"workflow a(n: int) { activity c(int, text) -> int; let r = 0; patch \"v2\" { r = call c(n, \"usd\"); } else { r = call c(n, \"eur\"); } return r + 1; }"}"#,
-        r#"{"reply":"registered","text":3}"#,
+        r#"{"do":"upgrade","run":1,"text":2}"#,
+        r#"{"reply":"upgraded","run":1,"text":2}"#,
         1,
     ),
-    STARTS,
     (
-        r#"{"do":"upgrade","run":1,"text":2}"#,
-        r#"{"code":"E68","event":2,"name":"E51","reply":"refused"}"#,
-        0,
-    ),
-    (
-        r#"{"do":"upgrade","run":1,"text":3}"#,
-        r#"{"reply":"upgraded","run":1,"text":3}"#,
+        r#"{"at":2600,"do":"terminate","reason":"why","run":1}"#,
+        r#"{"event":4,"reply":"recorded","run":1}"#,
         1,
     ),
 ];
 
-fn is_line(alloc: Global, line: &Line, wanted: &str) -> bool {
+/// Two timers that are due at once are two changes, and none is none.
+const FIRED: &[Row] = &[
+    (
+        r#"{"do":"register","src":"workflow t() { parallel { { sleep 100; } { sleep 100; } } }"}"#,
+        REGISTERED,
+        1,
+    ),
+    (
+        r#"{"args":[],"at":0,"do":"start","flow":"f","req":"f","text":1}"#,
+        STARTED,
+        1,
+    ),
+    (
+        r#"{"at":99,"do":"tick"}"#,
+        r#"{"count":0,"more":false,"reply":"fired"}"#,
+        0,
+    ),
+    (
+        r#"{"at":100,"do":"tick"}"#,
+        r#"{"count":2,"more":false,"reply":"fired"}"#,
+        2,
+    ),
+];
+
+/// Whether a line of output is written so.
+pub fn is_line(alloc: Global, line: &Line, wanted: &str) -> bool {
     match reply_line(alloc, line) {
         Ok(written) => written.as_str() == wanted,
         Err(_refused) => false,
@@ -237,71 +178,16 @@ fn first_other(alloc: Global, lists: &[&[Row]]) -> usize {
     lists.len()
 }
 
-const LISTS: &[&[Row]] = &[REPORTED, ENDED, FAILED, SIGNALED, UPGRADED];
+const LISTS: &[&[Row]] = &[REPORTED, ENDED, FIRED];
 
 #[test]
 fn what_is_refused_changes_nothing(rt: HostRuntime) -> Result<(), Fail> {
-    assert!(rt; first_other(rt.alloc(), LISTS) == 5);
-    Ok(())
-}
-
-/// A run that sleeps.
-const SLEEPS: Row = (
-    r#"{"do":"register","src":"workflow t(n: int) { sleep n; return n; }"}"#,
-    REGISTERED,
-    1,
-);
-
-// Whether a run of a flow of this number is started, which sleeps for 100 from the moment 0 on.
-fn is_asleep(alloc: Global, book: &mut Lists, number: usize) -> Option<bool> {
-    let line = format!(in alloc;
-        "{{\"args\":[100],\"at\":0,\"do\":\"start\",\"flow\":\"f{number}\",\"req\":\"q{number}\",\"text\":1}}"
-    ).ok()?;
-    let reply = format!(in alloc; "{{\"reply\":\"started\",\"run\":{number}}}").ok()?;
-    Some(is_answered(alloc, book, line.as_str(), reply.as_str(), 1))
-}
-
-fn are_asleep(alloc: Global, book: &mut Lists) -> bool {
-    let mut are = true;
-    for number in 1..34 {
-        are = are && is_asleep(alloc, book, number) == Some(true);
-    }
-    are
-}
-
-const WAKES: &[Row] = &[
-    (
-        r#"{"at":99,"do":"tick"}"#,
-        r#"{"count":0,"more":false,"reply":"fired"}"#,
-        0,
-    ),
-    (
-        r#"{"at":100,"do":"tick"}"#,
-        r#"{"count":32,"more":true,"reply":"fired"}"#,
-        32,
-    ),
-    (
-        r#"{"at":100,"do":"tick"}"#,
-        r#"{"count":1,"more":false,"reply":"fired"}"#,
-        1,
-    ),
-];
-
-fn are_woken(alloc: Global) -> bool {
-    let mut book = Lists::new(alloc);
-    are_rows(alloc, &mut book, &[SLEEPS])
-        && are_asleep(alloc, &mut book)
-        && are_rows(alloc, &mut book, WAKES)
-}
-
-#[test]
-fn each_timer_that_fires_is_a_change(rt: HostRuntime) -> Result<(), Fail> {
-    assert!(rt; are_woken(rt.alloc()));
+    assert!(rt; first_other(rt.alloc(), LISTS) == 3);
     Ok(())
 }
 
 /// A text, a start, a report and a question.
-const TOGETHER: &[&str] = &[REGISTERS_LINE, STARTS_LINE, REPORTS_LINE, DESCRIBES_LINE];
+const TOGETHER: &[&str] = &[CALLS, STARTS, REPORTS, DESCRIBES];
 
 fn is_completed(run: &Description) -> bool {
     run.events == 4 && run.state == State::Completed

@@ -10,12 +10,14 @@ use flow_view::lists::Lists;
 use std::alloc::Global;
 use std::test::Fail;
 
-const CALLS: &str =
+/// A text whose runs call one activity.
+pub const CALLS: &str =
     r#"{"do":"register","src":"workflow a(n: int) { activity c(int, text) -> int; let r = 0; r = call c(n, \"eur\"); return r + 1; }"}"#;
 
 const ENDS: &str = r#"{"do":"register","src":"workflow b(n: int) { return n; }"}"#;
 
-const STARTS: &str = r#"{"args":[7],"at":1000,"do":"start","flow":"f","req":"f","text":1}"#;
+/// A run of the first text.
+pub const STARTS: &str = r#"{"args":[7],"at":1000,"do":"start","flow":"f","req":"f","text":1}"#;
 
 /// These commands, if each line is one.
 pub fn commands(alloc: Global, lines: &[&str]) -> Option<Vec<Command>> {

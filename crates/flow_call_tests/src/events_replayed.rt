@@ -1,5 +1,5 @@
 //! Where a replay leaves a run that is open, and a copy of it.
-use crate::histories::{Row, history, program};
+use crate::histories::{CALLED, CALLER, Row, STARTED, history, program};
 use flow_base::event::{Event, State};
 use flow_base::value::{Kind, Value};
 use flow_check::checked::Checked;
@@ -9,18 +9,8 @@ use flow_run::stance::Stance;
 use std::alloc::Global;
 use std::test::Fail;
 
-const A: &str =
-    "workflow a(n: int) { activity c(int, text) -> int; let r = 0; r = call c(n, \"eur\"); return r + 1; }";
-
 /// The run waits on its activity.
-const OPEN: &[Row] = &[
-    (1, 1, r#"{"args":[7],"at":1000}"#),
-    (
-        2,
-        7,
-        r#"{"activity":"c","args":[7,"eur"],"at":1000,"every":0,"gives":"int","tries":1}"#,
-    ),
-];
+const OPEN: &[Row] = &[STARTED, CALLED];
 
 fn has_seven(program: &Checked, stance: &Stance) -> bool {
     match stance.variable(program, "n") {
@@ -67,7 +57,7 @@ fn is_replayed(alloc: Global, program: &Checked, events: &[Event]) -> bool {
 
 fn are_replayed(alloc: Global, rows: &[Row]) -> Option<bool> {
     let events = history(alloc, rows)?;
-    let program = program(alloc, A)?;
+    let program = program(alloc, CALLER)?;
     Some(is_replayed(alloc, &program, events.as_slice()))
 }
 

@@ -10,6 +10,20 @@ use std::alloc::Global;
 /// An event as it is stored: its number, its kind, and its body.
 pub type Row = (u64, i64, &'static str);
 
+/// A program that calls one activity.
+pub const CALLER: &str =
+    "workflow a(n: int) { activity c(int, text) -> int; let r = 0; r = call c(n, \"eur\"); return r + 1; }";
+
+/// Its run begins with the number 7.
+pub const STARTED: Row = (1, 1, r#"{"args":[7],"at":1000}"#);
+
+/// The trace of the call.
+pub const CALLED: Row = (
+    2,
+    7,
+    r#"{"activity":"c","args":[7,"eur"],"at":1000,"every":0,"gives":"int","tries":1}"#,
+);
+
 /// The checked program of a text.
 pub fn program(alloc: Global, text: &str) -> Option<Checked> {
     let program = parse(alloc, text).ok()?;

@@ -37,6 +37,8 @@ mod rows_read;
 #[cfg(test)]
 mod rows_store;
 #[cfg(test)]
+mod rows_written;
+#[cfg(test)]
 mod runs_verified;
 #[cfg(test)]
 mod texts;

@@ -1,4 +1,5 @@
 //! What is said where memory runs out or the engine has ended, and of numbers that no store reaches.
+use crate::commands_decided::is_line;
 use flow_base::code::Code;
 use flow_base::command::{Description, Reply};
 use flow_base::event::State;
@@ -9,7 +10,7 @@ use flow_base::sequence::Sequence;
 use flow_base::text::Key;
 use flow_cli::ending::ended;
 use flow_cli::fault::{fault_line, fault_of_error, short_line, status};
-use flow_cli::reply::{Line, reply_line};
+use flow_cli::reply::Line;
 use flow_cli::streams::Writing;
 use std::alloc::Global;
 use std::io::ErrorKind;
@@ -71,13 +72,6 @@ fn an_error_without_memory_is_so_told(rt: HostRuntime) -> Result<(), Fail> {
     Ok(())
 }
 
-fn is_line(alloc: Global, line: Line, wanted: &str) -> bool {
-    match reply_line(alloc, &line) {
-        Ok(written) => written.as_str() == wanted,
-        Err(_) => false,
-    }
-}
-
 fn activities(alloc: Global) -> Result<Sequence<EventId>, Fail> {
     let mut activities = Sequence::new(alloc);
     activities.push(EventId::new(2).ok_or("an event")?)?;
@@ -104,7 +98,7 @@ fn replies_have_lines(rt: HostRuntime) -> Result<(), Fail> {
     assert!(rt;
         is_line(
             rt.alloc(),
-            Line::Of(Reply::Run(run)),
+            &Line::Of(Reply::Run(run)),
             r#"{"activities":[2,13],"events":13,"flow":"f\"","reply":"run","state":"open","text":9223372036854775807,"timers":[]}"#
         )
     );
@@ -112,7 +106,7 @@ fn replies_have_lines(rt: HostRuntime) -> Result<(), Fail> {
     assert!(rt;
         is_line(
             rt.alloc(),
-            given_up,
+            &given_up,
             r#"{"code":"E01","reply":"not applied"}"#
         )
     );

@@ -1,20 +1,14 @@
 //! Which positions are found among 1, 3 and 4,096.
 ghost use Rattle.std.specs.Prelude.{◌≤◌};
 
+use crate::histories::program;
 use flow_base::number::{Moment, RunId, TextNo};
 use flow_base::value::Value;
 use flow_cache::positions::Positions;
-use flow_check::check::check;
 use flow_check::checked::Checked;
 use flow_run::stance::{Answers, Stance};
-use flow_syntax::parse::parse;
 use std::alloc::Global;
 use std::test::Fail;
-
-fn program(alloc: Global) -> Option<Checked> {
-    let program = parse(alloc, "workflow a(n: int) { return n; }").ok()?;
-    check(alloc, program).ok()
-}
 
 // A run of the program with this number, which has two events.
 fn begun(alloc: Global, program: &Checked, number: i64) -> Option<Stance> {
@@ -45,7 +39,7 @@ fn with_room(alloc: Global, capacity: usize) -> Option<Kept>
     requires first { 1 ≤ capacity }
     requires last { capacity ≤ 4096 }
 {
-    let program = program(alloc)?;
+    let program = program(alloc, "workflow a(n: int) { return n; }")?;
     let positions = Positions::new(alloc, capacity).ok()?;
     Some(Kept {
         alloc,

@@ -1,7 +1,7 @@
 //! Programs that are kept: a text is read once while its program is kept, and those that were asked for last are.
 ghost use Rattle.flow_check.specs.Language.{meaning_of};
 
-use crate::commands_kept::commands;
+use crate::commands_kept::{CALLS, STARTS, commands};
 use flow_base::command::{Command, TextFault};
 use flow_base::text::RawText;
 use flow_check::checked::Checked;
@@ -35,11 +35,11 @@ impl<'a> Texts for Counted<'a> {
 }
 
 const LINES: &[&str] = &[
-    r#"{"do":"register","src":"workflow a(n: int) { activity c(int, text) -> int; let r = 0; r = call c(n, \"eur\"); return r + 1; }"}"#,
-    r#"{"args":[7],"at":1000,"do":"start","flow":"f","req":"f","text":1}"#,
+    CALLS,
+    STARTS,
     r#"{"at":1500,"attempt":1,"do":"complete","event":2,"run":1,"value":41}"#,
     r#"{"args":[7],"at":1000,"do":"start","flow":"g","req":"g","text":1}"#,
-    r#"{"do":"register","src":"workflow a(n: int) { activity c(int, text) -> int; let r = 0; r = call c(n, \"eur\"); return r + 1; }"}"#,
+    CALLS,
 ];
 
 /// Whether a command is decided.

@@ -1,5 +1,5 @@
 //! The history of a run that calls one activity, and ways in which one can differ from its program.
-use crate::histories::{Row, history, program};
+use crate::histories::{CALLED, CALLER, Row, STARTED, history, program};
 use flow_base::event::{Event, State};
 use flow_base::value::Value;
 use flow_check::checked::Checked;
@@ -9,18 +9,6 @@ use flow_run::stance::Stance;
 use std::alloc::Global;
 use std::string::ToString;
 use std::test::Fail;
-
-const A: &str =
-    "workflow a(n: int) { activity c(int, text) -> int; let r = 0; r = call c(n, \"eur\"); return r + 1; }";
-
-const STARTED: Row = (1, 1, r#"{"args":[7],"at":1000}"#);
-
-// The trace of the call of the program.
-const CALLED: Row = (
-    2,
-    7,
-    r#"{"activity":"c","args":[7,"eur"],"at":1000,"every":0,"gives":"int","tries":1}"#,
-);
 
 const COMPLETED: Row = (3, 3, r#"{"at":1500,"of":2,"value":41}"#);
 
@@ -116,7 +104,7 @@ fn other_of(alloc: Global, program: &Checked, rows: &[(&[Row], &str)]) -> usize 
 }
 
 fn first_other(alloc: Global, rows: &[(&[Row], &str)]) -> Option<usize> {
-    let program = program(alloc, A)?;
+    let program = program(alloc, CALLER)?;
     Some(other_of(alloc, &program, rows))
 }
 
@@ -168,7 +156,7 @@ fn left_under(alloc: Global, program: &Checked, rows: &[Row]) -> Option<Position
 
 // Where these events leave a run.
 fn left(alloc: Global, rows: &[Row]) -> Option<Position> {
-    let program = program(alloc, A)?;
+    let program = program(alloc, CALLER)?;
     left_under(alloc, &program, rows)
 }
 

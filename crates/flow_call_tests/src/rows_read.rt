@@ -11,6 +11,7 @@ use flow_base::number::{EventId, Moment, RunId, TextNo};
 use flow_base::sequence::Sequence;
 use flow_base::text::Key;
 use flow_base::value::Kind;
+use flow_check::language::Language;
 use flow_rows::change_rows;
 use flow_rows::damage::damage;
 use flow_rows::recall::read_run;
@@ -30,7 +31,7 @@ fn sound() -> Cells<'static> {
 /// The first damage of a store. Who calls it holds no rows.
 fn found(alloc: Global, cells: &Cells) -> Result<Option<Damage>, Fail> {
     let rows = store(alloc, cells)?;
-    Ok(damage(alloc, &rows)?)
+    Ok(damage(alloc, &Language, &rows)?)
 }
 
 fn at(table: Table, run: i64, place: i64) -> Option<Damage> {

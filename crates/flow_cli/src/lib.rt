@@ -15,3 +15,4 @@ pub mod reply;
 pub mod safety;
 pub mod streams;
 pub mod totals;
+pub mod work;

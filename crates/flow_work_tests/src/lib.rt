@@ -8,8 +8,6 @@ mod commands;
 #[cfg(test)]
 mod feeding;
 #[cfg(test)]
-mod many;
-#[cfg(test)]
 mod refusing;
 #[cfg(test)]
 mod runs;
