@@ -25,8 +25,6 @@ pub enum Asking {
     AnswersAll(&'static [Call], Want, &'static [Call], Want),
     /// It is given two lists of calls, each call a batch, of which this is told.
     Drives(Calls, Calls, &'static [Told]),
-    /// The same of one list, of which each is kept.
-    Keeps(Calls),
     /// Lines are answered, so many commands in a batch, and end with this status. What is written is there behind it.
     Lines(u64, &'static [u8], u8),
     /// These runs are found open, each waiting on its activity, and are so again when it has answered these calls.
@@ -240,7 +238,6 @@ fn is_answered_so<S: Alter>(
             answers_all(alloc, engine, calls, want) && answers_all(alloc, engine, more, then)
         }
         Asking::Drives(calls, more, told) => drives(alloc, engine, calls, more, Want::Told(told)),
-        Asking::Keeps(calls) => drives(alloc, engine, calls, &[], Want::Kept),
         Asking::Lines(size, lines, status) => lines_end(alloc, engine, lines, size, status, out),
         Asking::Finds(runs, calls) => finds(alloc, engine, runs, calls),
         Asking::Verifies(calls, want, verdict) => {

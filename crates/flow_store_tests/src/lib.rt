@@ -5,8 +5,6 @@
 #[cfg(test)]
 mod acts;
 #[cfg(test)]
-mod answering;
-#[cfg(test)]
 mod batches;
 #[cfg(test)]
 mod boards;

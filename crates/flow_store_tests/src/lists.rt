@@ -1,4 +1,4 @@
-//! Lists of commands answered by an engine, with ample memory.
+//! Lists of commands answered by an engine, with ample memory, and the runs that it then finds open.
 use crate::acts::{Act, are_so, are_so_failing};
 use crate::calls::{Call, Named, Told, Want};
 use crate::engines::Asking;
@@ -43,5 +43,26 @@ const STOPPED: &[Act] = &[Act::Asks(Asking::AnswersAll(
 #[test]
 fn a_stop_gives_back_the_answers_before_it(rt: HostRuntime) -> Result<(), Fail> {
     assert!(rt; are_so_failing(rt.alloc(), 30, 2000, STOPPED));
+    Ok(())
+}
+
+const OPEN: &[Act] = &[
+    Act::Asks(Asking::Finds(
+        &[],
+        &[
+            Call::Register,
+            Call::Start("f"),
+            Call::Start("g"),
+            Call::Start("h"),
+            Call::Complete(1),
+        ],
+    )),
+    Act::Asks(Asking::Finds(&[2, 3], &[])),
+];
+
+// The first of three runs has completed, the others wait. An engine over an empty store found none, whatever it answered.
+#[test]
+fn each_open_run_is_found(rt: HostRuntime) -> Result<(), Fail> {
+    assert!(rt; are_so(rt.alloc(), OPEN));
     Ok(())
 }
