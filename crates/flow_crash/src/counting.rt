@@ -128,7 +128,8 @@ impl<D: Disk> Disk for Counting<D> {
     fn read_checked(&mut self, key: u64, want: u64, at: usize, buf: &mut [u8]) -> io::Result<()>
         requires usable { IsTrue (⟦<Counting<D> as Disk>⟧.is_usable self.old) }
         requires some { 0 < length buf.old }
-        requires want { IsTrue (D.Disk.is_clean (inner_of self.old)) → want ≡ digest key (take (length buf.old) (drop at (D.Disk.seen (inner_of self.old)))) }
+        requires want { IsTrue (D.Disk.is_clean (inner_of self.old))
+            → want ≡ digest key (take (length buf.old) (drop at (D.Disk.seen (inner_of self.old)))) }
         ensures disk { disk.Tests ⟦<Counting<D> as Disk>⟧ self.old self.new key want at buf.old buf.new result }
         ensures counted { Rises (last_of self.old) (last_of self.new) }
     {
