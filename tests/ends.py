@@ -63,8 +63,25 @@ def errors_fail(tally, folder):
             tally.check(f"{words} with no room for its fault", called(words, stderr=full)[0], status)
 
 
+def reply_is_lost(tally, folder):
+    """The reply to a start has no room. The run is there, and the same start finds it."""
+    base = os.path.join(folder, "lost.db")
+    register = b'{"do":"register","src":"workflow e() {}"}\n'
+    start = b'{"args":[],"at":0,"do":"start","flow":"f","req":"q1","text":1}\n'
+
+    def driven(line, **streams):
+        return subprocess.run([FLOW, "drive", base], input=line, stderr=subprocess.DEVNULL, timeout=120, **streams)
+
+    tally.check("a text for a lost reply", driven(register, stdout=subprocess.PIPE).stdout, b'{"reply":"registered","text":1}\n')
+    with open("/dev/full", "wb") as full:
+        tally.check("a reply with no room", driven(start, stdout=full).returncode, 3)
+    again = driven(start, stdout=subprocess.PIPE)
+    tally.check("the start whose reply was lost", (again.stdout, again.returncode), (b'{"reply":"duplicate","run":1}\n', 0))
+
+
 def jobs(tally, folder):
     yield lambda: input_fails(tally, folder)
     yield lambda: output_fills(tally, folder)
     yield lambda: output_is_closed(tally)
     yield lambda: errors_fail(tally, folder)
+    yield lambda: reply_is_lost(tally, folder)

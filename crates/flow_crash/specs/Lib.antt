@@ -1,4 +1,5 @@
 pub mod Carried
+pub mod Counted
 pub mod DiskCalls
 pub mod Failing
 pub mod Numbering

@@ -1,8 +1,7 @@
 //! Batches of many commands committed over a store in memory, with ample memory.
 use crate::acts::{Act, are_so};
-use crate::calls::{Call, Calls, Named, Told, Want};
+use crate::calls::{Call, Named, Told, Want};
 use crate::keepers::{Cut, Keeping};
-use std::alloc::Global;
 use std::test::Fail;
 
 const REQUESTED: &[Act] = &[Act::Keeps(Keeping::Commits(
@@ -25,45 +24,6 @@ const REQUESTED: &[Act] = &[Act::Keeps(Keeping::Commits(
 #[test]
 fn a_request_counts_within_its_batch(rt: HostRuntime) -> Result<(), Fail> {
     assert!(rt; are_so(rt.alloc(), REQUESTED));
-    Ok(())
-}
-
-/// The first worked row.
-const WORKED: Calls = &[
-    (9, Call::Register),
-    (7, Call::Start("f")),
-    (5, Call::Complete(1)),
-    (3, Call::History(1)),
-    (1, Call::Describe),
-];
-
-/// What is told of it however it is cut.
-const WORKED_TOLD: Want = Want::Told(&[
-    Told::Kept(9, 1, Named::Text(1)),
-    Told::Kept(7, 2, Named::Run(1)),
-    Told::Kept(5, 3, Named::Event(3)),
-    Told::Kept(3, 4, Named::Returned(4, 42)),
-    Told::Kept(1, 5, Named::Described(4, true)),
-]);
-
-const LENGTHS: &[usize] = &[1, 2, 3, 64];
-
-fn is_worked(alloc: Global, most: usize) -> bool {
-    let acts = [Act::Keeps(Keeping::Commits(WORKED, Cut::InBatches(most), WORKED_TOLD))];
-    are_so(alloc, &acts)
-}
-
-fn are_worked(alloc: Global, lengths: &[usize]) -> bool {
-    let mut are = true;
-    for most in lengths {
-        are = are && is_worked(alloc, *most);
-    }
-    are
-}
-
-#[test]
-fn batches_of_any_length_answer_the_same(rt: HostRuntime) -> Result<(), Fail> {
-    assert!(rt; are_worked(rt.alloc(), LENGTHS));
     Ok(())
 }
 

@@ -1,7 +1,9 @@
 //! What a keeper's board names, over a store in memory.
 use crate::acts::{Act, are_so};
 use crate::calls::{Call, Calls};
-use crate::keepers::Keeping;
+use crate::keepers::{Keeping, Shown};
+use flow_machine::task::Posted;
+use std::alloc::Global;
 use std::test::Fail;
 
 /// Two runs that wait for their activities.
@@ -19,39 +21,34 @@ const ONE: Calls = &[
     (1, Call::Complete(1)),
 ];
 
-const READY: &[Act] = &[Act::Keeps(Keeping::Boards(TWO, &[], 1000, (2, (1, 2, 1), 0, 2)))];
+/// What is done, what was posted before, the moment, and what is on the board then.
+type Row = (Calls, &'static [Posted], u64, Shown);
 
-#[test]
-fn ready_tasks_are_on_the_board(rt: HostRuntime) -> Result<(), Fail> {
-    assert!(rt; are_so(rt.alloc(), READY));
-    Ok(())
+const ROWS: [Row; 4] = [
+    (TWO, &[], 1000, (2, (1, 2, 1), 0, 2)),
+    // Nothing is ready yet, and the board says when more is.
+    (TWO, &[], 999, (0, (0, 0, 0), 1000, 2)),
+    (TWO, &[(1, 2, 1)], 1000, (1, (2, 2, 1), 0, 2)),
+    (ONE, &[], 2000, (1, (2, 2, 1), 0, 1)),
+];
+
+/// The number of the first row that isn't so.
+fn first_other(alloc: Global, rows: &[Row]) -> usize {
+    for i in 0..rows.len() {
+        let (calls, posted, at, shown) = rows[i];
+        if !are_so(
+            alloc,
+            &[Act::Keeps(Keeping::Boards(calls, posted, at, shown))],
+        ) {
+            return i;
+        }
+    }
+    rows.len()
 }
 
-const LATER: &[Act] = &[Act::Keeps(Keeping::Boards(TWO, &[], 999, (0, (0, 0, 0), 1000, 2)))];
-
+// What is ready and wasn't posted, and of runs that are open.
 #[test]
-fn a_board_tells_when_more_is_ready(rt: HostRuntime) -> Result<(), Fail> {
-    assert!(rt; are_so(rt.alloc(), LATER));
-    Ok(())
-}
-
-const POSTED: &[Act] = &[Act::Keeps(Keeping::Boards(
-    TWO,
-    &[(1, 2, 1)],
-    1000,
-    (1, (2, 2, 1), 0, 2),
-))];
-
-#[test]
-fn a_posted_task_is_not_on_the_board(rt: HostRuntime) -> Result<(), Fail> {
-    assert!(rt; are_so(rt.alloc(), POSTED));
-    Ok(())
-}
-
-const COMPLETED: &[Act] = &[Act::Keeps(Keeping::Boards(ONE, &[], 2000, (1, (2, 2, 1), 0, 1)))];
-
-#[test]
-fn a_completed_run_is_not_on_the_board(rt: HostRuntime) -> Result<(), Fail> {
-    assert!(rt; are_so(rt.alloc(), COMPLETED));
+fn a_board_has_what_is_to_be_done(rt: HostRuntime) -> Result<(), Fail> {
+    assert!(rt; first_other(rt.alloc(), &ROWS) == ROWS.len());
     Ok(())
 }

@@ -5,7 +5,6 @@ use flow_base::number::{EventId, Moment, RunId, TextNo};
 use flow_base::sequence::Sequence;
 use flow_base::text::{Key, RawText};
 use flow_base::value::Value;
-use flow_cli::command::command_of;
 use flow_machine::answer::Stop;
 use flow_machine::submission::Receipt;
 use std::alloc::Global;
@@ -32,8 +31,6 @@ pub enum Call {
     History(u64),
     /// Asks for run 1.
     Describe,
-    /// The command of a line.
-    Line(&'static [u8]),
 }
 
 /// Calls, each with its ticket.
@@ -137,13 +134,6 @@ fn describe() -> Option<Command> {
     Some(Command::Describe(RunId::new(1)?))
 }
 
-fn in_line(alloc: Global, line: &[u8]) -> Option<Command> {
-    match command_of(alloc, line) {
-        Ok(command) => Some(command),
-        Err(_) => None,
-    }
-}
-
 /// The command of a call.
 pub fn command(alloc: Global, call: Call) -> Option<Command> {
     match call {
@@ -155,7 +145,6 @@ pub fn command(alloc: Global, call: Call) -> Option<Command> {
         Call::StartEmptyAgain => start_empty(alloc, "g"),
         Call::History(run) => history(run),
         Call::Describe => describe(),
-        Call::Line(line) => in_line(alloc, line),
     }
 }
 

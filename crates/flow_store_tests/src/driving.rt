@@ -36,46 +36,7 @@ fn no_batch_has_no_answer(rt: HostRuntime) -> Result<(), Fail> {
     Ok(())
 }
 
-const BEGINS: Act = Act::Asks(Asking::Drives(
-    BEGUN,
-    &[],
-    &[
-        Told::Kept(7, 1, Named::Text(1)),
-        Told::Kept(5, 2, Named::Run(1)),
-    ],
-));
-
 const ASKED: Calls = &[(2, Call::History(1))];
-
-const OPEN_AGAIN: &[Act] = &[
-    BEGINS,
-    Act::Asks(Asking::Drives(ASKED, &[], &[Told::Kept(2, 1, Named::Events(2, false))])),
-];
-
-#[test]
-fn an_open_run_is_there_again(rt: HostRuntime) -> Result<(), Fail> {
-    assert!(rt; are_so(rt.alloc(), OPEN_AGAIN));
-    Ok(())
-}
-
-const REPORTED_AGAIN: &[Act] = &[
-    BEGINS,
-    Act::Asks(Asking::Drives(
-        REPORTED,
-        &[],
-        &[
-            Told::Kept(3, 1, Named::Event(3)),
-            Told::Kept(1, 2, Named::Code(64)),
-        ],
-    )),
-    Act::Asks(Asking::Drives(ASKED, &[], &[Told::Kept(2, 1, Named::Returned(4, 42))])),
-];
-
-#[test]
-fn a_report_is_there_again(rt: HostRuntime) -> Result<(), Fail> {
-    assert!(rt; are_so(rt.alloc(), REPORTED_AGAIN));
-    Ok(())
-}
 
 const NOTHING_TO_DO: &[Act] = &[Act::Asks(Asking::Drives(
     &[(1, Call::RegisterEmpty), (2, Call::StartEmpty)],
@@ -90,19 +51,5 @@ const NOTHING_TO_DO: &[Act] = &[Act::Asks(Asking::Drives(
 #[test]
 fn a_flow_with_nothing_to_do_ends(rt: HostRuntime) -> Result<(), Fail> {
     assert!(rt; are_so(rt.alloc(), NOTHING_TO_DO));
-    Ok(())
-}
-
-// E68.
-const OTHER_ARGUMENT: &[Act] = &[
-    Act::Asks(Asking::Keeps(BEGUN)),
-    Act::Changes("UPDATE event SET body = replace(body, 'eur', 'usd') WHERE id = 2"),
-    Act::Asks(Asking::Refuses(68)),
-];
-
-// Its rows tell a book, but the program asks for another argument than its second event has.
-#[test]
-fn a_run_that_does_not_replay_is_refused(rt: HostRuntime) -> Result<(), Fail> {
-    assert!(rt; are_so(rt.alloc(), OTHER_ARGUMENT));
     Ok(())
 }

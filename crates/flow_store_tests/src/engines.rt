@@ -4,11 +4,8 @@ use crate::keepers::{batch, code_of};
 use crate::positions::are_waiting;
 use crate::verifying::{Verdict, is_reported};
 use flow_base::command::Command;
-use flow_base::fault::Fault;
-use flow_base::number::RunId;
 use flow_cli::batch::BatchSize;
 use flow_cli::drive::drive_lines;
-use flow_cli::history::history_from;
 use flow_cli::streams::{Reading, Writing};
 use flow_commit::batch::Batch;
 use flow_engine::done::{Done, Unanswered};
@@ -28,18 +25,12 @@ pub enum Asking {
     AnswersAll(&'static [Call], Want, &'static [Call], Want),
     /// It is given two lists of calls, each call a batch, of which this is told.
     Drives(Calls, Calls, &'static [Told]),
-    /// The same of one list, of which each is kept.
-    Keeps(Calls),
     /// Lines are answered, so many commands in a batch, and end with this status. What is written is there behind it.
     Lines(u64, &'static [u8], u8),
     /// These runs are found open, each waiting on its activity, and are so again when it has answered these calls.
     Finds(&'static [u64], &'static [Call]),
-    /// Run 1 isn't there.
-    HasNoRun,
     /// It answers calls one by one, of which this is told, and then reports this of its store.
     Verifies(&'static [Call], Want, Verdict),
-    /// It isn't opened: the code.
-    Refuses(u8),
 }
 
 fn told_of(answer: &Answer) -> Told {
@@ -235,13 +226,6 @@ fn finds<S: Alter>(alloc: Global, engine: &mut Engine<S>, runs: &[u64], calls: &
         && are_waiting(engine.found(), runs)
 }
 
-fn has_no_run<S: Alter>(engine: &mut Engine<S>) -> bool {
-    match RunId::new(1) {
-        Some(run) => matches!(&history_from(engine, run), Err(Fault::NoRun)),
-        None => false,
-    }
-}
-
 fn is_answered_so<S: Alter>(
     alloc: Global,
     engine: &mut Engine<S>,
@@ -254,21 +238,11 @@ fn is_answered_so<S: Alter>(
             answers_all(alloc, engine, calls, want) && answers_all(alloc, engine, more, then)
         }
         Asking::Drives(calls, more, told) => drives(alloc, engine, calls, more, Want::Told(told)),
-        Asking::Keeps(calls) => drives(alloc, engine, calls, &[], Want::Kept),
         Asking::Lines(size, lines, status) => lines_end(alloc, engine, lines, size, status, out),
         Asking::Finds(runs, calls) => finds(alloc, engine, runs, calls),
-        Asking::HasNoRun => has_no_run(engine),
         Asking::Verifies(calls, want, verdict) => {
             answers(alloc, engine, calls, want) && is_reported(engine, verdict)
         }
-        Asking::Refuses(_) => false,
-    }
-}
-
-fn is_refused_so(fault: &Fault, asking: Asking) -> bool {
-    match asking {
-        Asking::Refuses(code) => fault.code().number() == code,
-        _ => false,
     }
 }
 
@@ -286,6 +260,6 @@ pub fn answers_so<S: Alter>(
             let is = is_answered_so(alloc, &mut engine, asking, out);
             (is, engine.close())
         }
-        Err((fault, conn)) => (is_refused_so(&fault, asking), conn),
+        Err((_fault, conn)) => (false, conn),
     }
 }

@@ -19,111 +19,29 @@ const ASKED: [Ask; 6] = [
 /// The number of the call that fails, what all are answered, what the file holds then, and what a crash leaves of it.
 type Row = (u64, [Answer; 6], &'static str, &'static str);
 
+const D: Answer = Answer::Done;
+
+const R: Answer = Answer::Refused;
+
+const U: Answer = Answer::Unasked;
+
+const VWX: Answer = Answer::Bytes([86, 87, 88]);
+
+const CDE: Answer = Answer::Bytes([99, 100, 101]);
+
+const L5: Answer = Answer::Len(5);
+
+const L6: Answer = Answer::Len(6);
+
 const ROWS: [Row; 8] = [
-    (
-        0,
-        [
-            Answer::Done,
-            Answer::Done,
-            Answer::Done,
-            Answer::Bytes([86, 87, 88]),
-            Answer::Len(5),
-            Answer::Done,
-        ],
-        "qUVWX",
-        "aUVWXf",
-    ),
-    (
-        1,
-        [
-            Answer::Refused,
-            Answer::Done,
-            Answer::Done,
-            Answer::Bytes([99, 100, 101]),
-            Answer::Len(5),
-            Answer::Done,
-        ],
-        "qbcde",
-        "abcdef",
-    ),
-    (
-        2,
-        [
-            Answer::Done,
-            Answer::Refused,
-            Answer::Unasked,
-            Answer::Unasked,
-            Answer::Unasked,
-            Answer::Unasked,
-        ],
-        "aUVWXf",
-        "abcd",
-    ),
-    (
-        3,
-        [
-            Answer::Done,
-            Answer::Done,
-            Answer::Refused,
-            Answer::Bytes([86, 87, 88]),
-            Answer::Len(6),
-            Answer::Done,
-        ],
-        "qUVWXf",
-        "aUVWXf",
-    ),
-    (
-        4,
-        [
-            Answer::Done,
-            Answer::Done,
-            Answer::Done,
-            Answer::Refused,
-            Answer::Len(5),
-            Answer::Done,
-        ],
-        "qUVWX",
-        "aUVWXf",
-    ),
-    (
-        5,
-        [
-            Answer::Done,
-            Answer::Done,
-            Answer::Done,
-            Answer::Bytes([86, 87, 88]),
-            Answer::Refused,
-            Answer::Done,
-        ],
-        "qUVWX",
-        "aUVWXf",
-    ),
-    (
-        6,
-        [
-            Answer::Done,
-            Answer::Done,
-            Answer::Done,
-            Answer::Bytes([86, 87, 88]),
-            Answer::Len(5),
-            Answer::Refused,
-        ],
-        "aUVWX",
-        "aUVWXf",
-    ),
-    (
-        7,
-        [
-            Answer::Done,
-            Answer::Done,
-            Answer::Done,
-            Answer::Bytes([86, 87, 88]),
-            Answer::Len(5),
-            Answer::Done,
-        ],
-        "qUVWX",
-        "aUVWXf",
-    ),
+    (0, [D, D, D, VWX, L5, D], "qUVWX", "aUVWXf"),
+    (1, [R, D, D, CDE, L5, D], "qbcde", "abcdef"),
+    (2, [D, R, U, U, U, U], "aUVWXf", "abcd"),
+    (3, [D, D, R, VWX, L6, D], "qUVWXf", "aUVWXf"),
+    (4, [D, D, D, R, L5, D], "qUVWX", "aUVWXf"),
+    (5, [D, D, D, VWX, R, D], "qUVWX", "aUVWXf"),
+    (6, [D, D, D, VWX, L5, R], "aUVWX", "aUVWXf"),
+    (7, [D, D, D, VWX, L5, D], "qUVWX", "aUVWXf"),
 ];
 
 fn failing(alloc: Global, at: u64) -> Option<FailAt<Memory>> {
@@ -190,40 +108,6 @@ fn tested(alloc: Global) -> Option<([Answer; 3], u64)> {
     None
 }
 
-/// A file of six bytes that shares a count, whose third call fails.
-fn sharing(alloc: Global, calls: &Calls) -> Option<FailAt<Memory>> {
-    let calls = calls.share().ok()?;
-    Some(FailAt::new(six_bytes(alloc)?, calls, 3))
-}
-
-/// What two files are answered, and what they have counted.
-fn asked(log: &mut FailAt<Memory>, db: &mut FailAt<Memory>) -> ([Answer; 5], [u64; 4]) {
-    let answers = [
-        answer_to(log, Ask::Write(0, "x")),
-        answer_to(db, Ask::Write(0, "y")),
-        answer_to(log, Ask::Write(1, "z")),
-        answer_to(db, Ask::Len),
-        answer_to(log, Ask::Len),
-    ];
-    (
-        answers,
-        [log.last(), db.last(), log.refusals(), db.refusals()],
-    )
-}
-
-/// Two files of one store, of which the first one's second call fails, the third of all: what they are answered, what they and
-/// their common count have counted, and whether they are left as they are to be.
-fn two_files(alloc: Global) -> Option<([Answer; 5], [u64; 4], u64, bool)> {
-    let calls = Calls::new(alloc).ok()?;
-    let mut log = sharing(alloc, &calls)?;
-    let mut db = sharing(alloc, &calls)?;
-    let (answers, counts) = asked(&mut log, &mut db);
-    let count = calls.count();
-    let is_log = is_left(log.into_inner(), "xbcdef", "abcd");
-    let is_db = is_left(db.into_inner(), "ybcdef", "abcd");
-    Some((answers, counts, count, is_log && is_db))
-}
-
 /// What a read past the end is answered, as a call that passes and as the one that fails.
 fn read_past_the_end(alloc: Global) -> Option<([Answer; 2], u64)> {
     let mut file = failing(alloc, 2)?;
@@ -245,19 +129,6 @@ fn a_tested_read_fails(rt: HostRuntime) -> Result<(), Fail> {
     let bytes = Answer::Bytes([97, 98, 99]);
     let wanted = Some(([bytes, Answer::Refused, bytes], 1));
     assert!(rt; tested(rt.alloc()) == wanted);
-    Ok(())
-}
-
-#[test]
-fn two_files_have_one_count(rt: HostRuntime) -> Result<(), Fail> {
-    let answers = [
-        Answer::Done,
-        Answer::Done,
-        Answer::Refused,
-        Answer::Len(6),
-        Answer::Len(6),
-    ];
-    assert!(rt; two_files(rt.alloc()) == Some((answers, [5, 4, 1, 0], 5, true)));
     Ok(())
 }
 

@@ -1,6 +1,6 @@
 //! Single commands committed over a store in memory, with ample memory.
 use crate::acts::{Act, are_so, are_so_failing};
-use crate::calls::{Call, Calls, Named, Told, Want};
+use crate::calls::{Call, Named, Told, Want};
 use crate::keepers::{Cut, Keeping};
 use std::test::Fail;
 
@@ -16,45 +16,6 @@ const FIRST: &[Act] = &[Act::Keeps(Keeping::Commits(
 #[test]
 fn receipts_stand_at_their_places(rt: HostRuntime) -> Result<(), Fail> {
     assert!(rt; are_so(rt.alloc(), FIRST));
-    Ok(())
-}
-
-const BEGUN: Calls = &[(1, Call::Register), (2, Call::Start("f"))];
-
-const HELD: &[Act] = &[
-    Act::Keeps(Keeping::Commits(BEGUN, Cut::Singly, Want::Kept)),
-    Act::Keeps(Keeping::Commits(&[], Cut::Singly, Want::Kept)),
-    Act::Counts(&[
-        ("SELECT run FROM outbox", 1),
-        (
-            "SELECT run FROM outbox WHERE run = 1 AND id = 2 AND attempt = 1 AND ready = 1000",
-            1,
-        ),
-        ("SELECT num FROM run WHERE num = 1 AND isopen = 1", 1),
-    ]),
-];
-
-// After the first two commands the outbox holds the activity, after its report it is empty and the run isn't open.
-#[test]
-fn the_outbox_holds_what_is_open(rt: HostRuntime) -> Result<(), Fail> {
-    assert!(rt; are_so(rt.alloc(), HELD));
-    Ok(())
-}
-
-const EMPTIED: &[Act] = &[
-    Act::Keeps(Keeping::Commits(BEGUN, Cut::Singly, Want::Kept)),
-    Act::Keeps(Keeping::Commits(&[(3, Call::Complete(1))], Cut::Singly, Want::Kept)),
-    Act::Counts(&[
-        ("SELECT run FROM outbox", 0),
-        ("SELECT num FROM run WHERE num = 1 AND isopen = 0", 1),
-        ("SELECT id FROM event WHERE run = 1", 4),
-    ]),
-];
-
-// The same store behind a closing, an opening and the activity's report.
-#[test]
-fn a_report_empties_the_outbox(rt: HostRuntime) -> Result<(), Fail> {
-    assert!(rt; are_so(rt.alloc(), EMPTIED));
     Ok(())
 }
 

@@ -1,4 +1,4 @@
-//! Lists of commands answered by an engine, with ample memory.
+//! Lists of commands answered by an engine, with ample memory, and the runs that it then finds open.
 use crate::acts::{Act, are_so, are_so_failing};
 use crate::calls::{Call, Named, Told, Want};
 use crate::engines::Asking;
@@ -6,25 +6,12 @@ use flow_machine::answer::Stop;
 use std::test::Fail;
 
 // examples/payment.jsonl
-const REGISTER: &[u8] =
-    b"{\"do\":\"register\",\"src\":\"workflow a(n: int) { activity c(int, text) -> int; let r = 0; r = call c(n, \\\"eur\\\"); return r + 1; }\"}";
-
-const START: &[u8] =
-    b"{\"args\":[7],\"at\":1000,\"do\":\"start\",\"flow\":\"f\",\"req\":\"q1\",\"text\":1}";
-
-const COMPLETE: &[u8] =
-    b"{\"at\":1500,\"attempt\":1,\"do\":\"complete\",\"event\":2,\"run\":1,\"value\":41}";
-
-const HISTORY: &[u8] = b"{\"do\":\"history\",\"run\":1}";
-
-const DESCRIBE: &[u8] = b"{\"do\":\"describe\",\"run\":1}";
-
 const PAYMENT: &[Call] = &[
-    Call::Line(REGISTER),
-    Call::Line(START),
-    Call::Line(COMPLETE),
-    Call::Line(HISTORY),
-    Call::Line(DESCRIBE),
+    Call::Register,
+    Call::Start("f"),
+    Call::Complete(1),
+    Call::History(1),
+    Call::Describe,
 ];
 
 const PAID: Want = Want::Told(&[
@@ -56,5 +43,26 @@ const STOPPED: &[Act] = &[Act::Asks(Asking::AnswersAll(
 #[test]
 fn a_stop_gives_back_the_answers_before_it(rt: HostRuntime) -> Result<(), Fail> {
     assert!(rt; are_so_failing(rt.alloc(), 30, 2000, STOPPED));
+    Ok(())
+}
+
+const OPEN: &[Act] = &[
+    Act::Asks(Asking::Finds(
+        &[],
+        &[
+            Call::Register,
+            Call::Start("f"),
+            Call::Start("g"),
+            Call::Start("h"),
+            Call::Complete(1),
+        ],
+    )),
+    Act::Asks(Asking::Finds(&[2, 3], &[])),
+];
+
+// The first of three runs has completed, the others wait. An engine over an empty store found none, whatever it answered.
+#[test]
+fn each_open_run_is_found(rt: HostRuntime) -> Result<(), Fail> {
+    assert!(rt; are_so(rt.alloc(), OPEN));
     Ok(())
 }

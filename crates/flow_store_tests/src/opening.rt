@@ -261,20 +261,6 @@ fn a_run_that_does_not_replay_is_refused(rt: HostRuntime) -> Result<(), Fail> {
     Ok(())
 }
 
-// E83.
-const NO_BOOK: &[Act] = &[
-    REGISTER,
-    START,
-    Act::Changes("DELETE FROM outbox"),
-    Act::Recovers(Recovering::Finds(Found::Refused(83))),
-];
-
-#[test]
-fn rows_that_tell_no_book_are_refused(rt: HostRuntime) -> Result<(), Fail> {
-    assert!(rt; are_so(rt.alloc(), NO_BOOK));
-    Ok(())
-}
-
 fn is_number_told(alloc: Global) -> bool {
     let fault = Fault::BadVersion;
     fault.code() == Code::BadVersion && is_told(alloc, &fault, "E82 another format")

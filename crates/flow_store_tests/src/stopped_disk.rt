@@ -194,13 +194,8 @@ fn the_first_call_may_be_the_stop(rt: HostRuntime) -> Result<(), Fail> {
 #[test]
 fn a_stop_is_of_both_files(rt: HostRuntime) -> Result<(), Fail> {
     // The log's first call, the other file's, at which it stops, and the log's next one, behind the stop, have numbers.
-    let answers = [
-        Answer::Done,
-        Answer::Refused,
-        Answer::Refused,
-        Answer::Refused,
-        Answer::Refused,
-    ];
+    let refused = Answer::Refused;
+    let answers = [Answer::Done, refused, refused, refused, refused];
     assert!(rt; two_files(rt.alloc()) == Some((answers, [3, 2, 2, 2], 3, true)));
     Ok(())
 }

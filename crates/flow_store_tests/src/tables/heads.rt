@@ -1,6 +1,6 @@
 //! What tables in memory tell of a run that goes on: its head, the events of its activities, and its text.
-use crate::puts::{Asks, Comes, Put};
-use crate::steps::{Step, TEXT, are_so};
+use crate::tables::puts::{Asks, Comes, Put};
+use crate::tables::steps::{Step, TEXT, are_so};
 use std::test::Fail;
 
 /// A run that waits for an activity.

@@ -1,8 +1,8 @@
 //! What is done with tables in memory, step by step, and what each step is to answer. One function owns the tables, and
 //! lends them to each step; the tests name rows alone.
-use crate::puts::{Put, change};
-use crate::rows::{event, key, moment, run};
-use crate::statements::is_told;
+use crate::tables::puts::{Put, change};
+use crate::tables::rows::{event, key, moment, run};
+use crate::tables::statements::is_told;
 use flow_base::book::Due;
 use flow_base::number::{EventId, RunId};
 use flow_base::text::RawText;

@@ -1,6 +1,6 @@
 //! Each change of rows on tables in memory, and what SQL finds then.
-use crate::rows::Row;
-use crate::statements::{Statement, are_so_behind};
+use crate::tables::rows::Row;
+use crate::tables::statements::{Statement, are_so_behind};
 use std::alloc::Global;
 use std::test::Fail;
 

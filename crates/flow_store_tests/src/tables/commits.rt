@@ -1,6 +1,6 @@
 //! Tables in memory: what a commit keeps and a rollback forgets, and what is refused.
-use crate::puts::{Asks, Comes, Put};
-use crate::steps::{A, Step, TEXT, are_so, are_so_and_told};
+use crate::tables::puts::{Asks, Comes, Put};
+use crate::tables::steps::{A, Step, TEXT, are_so, are_so_and_told};
 use std::test::Fail;
 
 const KEPT: &[Step] = &[

@@ -1,5 +1,5 @@
 //! Changes of the book as plain rows: what a test names, and the change that it stands for.
-use crate::rows::{event, key, moment, run, text_no};
+use crate::tables::rows::{event, key, moment, run, text_no};
 use flow_base::book::{Change, Turn};
 use flow_base::event::{Cmd, Input};
 use flow_base::sequence::Sequence;

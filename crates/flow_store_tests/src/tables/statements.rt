@@ -1,9 +1,9 @@
 //! What is done with a connection to a store in memory, one statement after the other, and what each is to answer. One
 //! function owns the connection, and lends it to each statement; the tests name rows alone.
-use crate::puts::{Asks, Comes, Put, change, turn};
-use crate::reads::{Read, is_read};
-use crate::rows::{Memory, Row, is_changed, run};
-use flow_base::fault::{Damage, Fault};
+use crate::tables::puts::{Asks, Comes, Put, change, turn};
+use crate::tables::reads::{Read, is_read};
+use crate::tables::rows::{Memory, Row, is_changed, run};
+use flow_base::fault::Fault;
 use flow_base::memory::NoMemory;
 use flow_check::language::Language;
 use flow_sql::transaction::{begin, commit, rollback, undo};
@@ -16,14 +16,6 @@ use flow_tables::turn_changes::put_turn;
 use sqlite::{Connection, Error};
 use std::alloc::Global;
 
-/// How an opening fails.
-#[derive(Clone, Copy)]
-pub enum Failure {
-    NotOurs,
-    BadVersion,
-    Damaged(Damage),
-}
-
 /// A statement, and its answer.
 #[derive(Clone, Copy)]
 pub enum Statement {
@@ -32,8 +24,8 @@ pub enum Statement {
     MakesNothing,
     /// The tables are opened, with so many texts and runs.
     Opens(usize, usize),
-    /// An opening fails so.
-    Fails(Failure),
+    /// An opening is refused, since the tables aren't ours.
+    IsNotOurs,
     /// A transaction begins, is committed, rolled back, or ended if one runs.
     Begins,
     Commits,
@@ -80,20 +72,8 @@ fn opens(alloc: Global, conn: &mut Memory, texts: usize, runs: usize) -> bool {
     }
 }
 
-/// The fault of a failure.
-pub fn fault(failure: Failure) -> Fault {
-    match failure {
-        Failure::NotOurs => Fault::NotOurs,
-        Failure::BadVersion => Fault::BadVersion,
-        Failure::Damaged(damage) => Fault::Damaged(damage),
-    }
-}
-
-fn fails(alloc: Global, conn: &mut Memory, failure: Failure) -> bool {
-    match opened(alloc, conn) {
-        Ok(_) => false,
-        Err(found) => found == fault(failure),
-    }
+fn is_not_ours(alloc: Global, conn: &mut Memory) -> bool {
+    matches!(opened(alloc, conn), Err(Fault::NotOurs))
 }
 
 fn begins(conn: &mut Memory) -> bool {
@@ -183,7 +163,7 @@ fn is_so(alloc: Global, conn: &mut Memory, statement: Statement) -> bool {
         Statement::Makes => makes(conn),
         Statement::MakesNothing => !makes(conn),
         Statement::Opens(texts, runs) => opens(alloc, conn, texts, runs),
-        Statement::Fails(failure) => fails(alloc, conn, failure),
+        Statement::IsNotOurs => is_not_ours(alloc, conn),
         Statement::Begins => begins(conn),
         Statement::Commits => commits(conn),
         Statement::RollsBack => rolls_back(conn),

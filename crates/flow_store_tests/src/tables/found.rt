@@ -1,6 +1,6 @@
 //! What tables in memory find over several runs: the timer that is due first, and a signal.
-use crate::puts::{Asks, Comes, Put};
-use crate::steps::{Step, TEXT, are_so, are_so_again};
+use crate::tables::puts::{Asks, Comes, Put};
+use crate::tables::steps::{Step, TEXT, are_so, are_so_again};
 use std::test::Fail;
 
 /// A run that waits for a timer.

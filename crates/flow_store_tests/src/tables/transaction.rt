@@ -1,5 +1,5 @@
 //! Opening, transactions, and what others left in the file.
-use crate::statements::{Failure, Statement, are_so};
+use crate::tables::statements::{Statement, are_so};
 use std::test::Fail;
 
 const TWICE: &[Statement] = &[
@@ -54,7 +54,7 @@ fn opening_ends_a_transaction(rt: HostRuntime) -> Result<(), Fail> {
 
 const OTHERS: &[Statement] = &[
     Statement::Sql("CREATE TABLE meta (name TEXT) STRICT"),
-    Statement::Fails(Failure::NotOurs),
+    Statement::IsNotOurs,
     Statement::IsFree,
     Statement::CountsNothing(TEXTS),
 ];
@@ -62,19 +62,5 @@ const OTHERS: &[Statement] = &[
 #[test]
 fn leaves_tables_of_others(rt: HostRuntime) -> Result<(), Fail> {
     assert!(rt; are_so(rt.alloc(), OTHERS));
-    Ok(())
-}
-
-const OTHER_FORMAT: &[Statement] = &[
-    Statement::Opens(0, 0),
-    Statement::Sql("UPDATE meta SET value = 3"),
-    Statement::Fails(Failure::BadVersion),
-    Statement::Sql("DELETE FROM meta"),
-    Statement::Fails(Failure::NotOurs),
-];
-
-#[test]
-fn tells_another_format(rt: HostRuntime) -> Result<(), Fail> {
-    assert!(rt; are_so(rt.alloc(), OTHER_FORMAT));
     Ok(())
 }

@@ -1,6 +1,6 @@
 //! Each question to tables in memory, within a transaction: the rows that are there, and nothing where there is none.
-use crate::rows::{Memory, Row, run};
-use crate::statements::{Statement, are_so, are_so_behind};
+use crate::tables::rows::{Memory, Row, run};
+use crate::tables::statements::{Statement, are_so, are_so_behind};
 use flow_base::number::TextNo;
 use flow_base::text::{Key, RawText};
 use flow_rows::rows::{EventRow, OutboxRow, RunRow, TextRow};

@@ -1,6 +1,6 @@
 //! Runs found by their keys, which are kept in memory: behind a commit, a rollback, and where a key stands twice.
-use crate::puts::{Asks, Comes, Put};
-use crate::steps::{Step, TEXT, are_so};
+use crate::tables::puts::{Asks, Comes, Put};
+use crate::tables::steps::{Step, TEXT, are_so};
 use std::test::Fail;
 
 /// A run of flow `f` by request `q`.
