@@ -139,7 +139,8 @@ fn serve_all<S: Alter, B: Room, R: Wait, C: Clock>(
     ensures done { OnOk result (IsDone publisher.new) }
     ensures goes_on { OnOk result (engine.new.halted ≡ engine.old.halted) }
     ensures given_up { OnOk result (GivesUp publisher.old.refused publisher.new.refused) }
-    ensures stops { IfErr result (λ f. (waiting : List ATaken) × StopsFor engine.old engine.new publisher.old.refused publisher.new.refused waiting f) }
+    ensures stops { IfErr result
+        (λ f. (waiting : List ATaken) × StopsFor engine.old engine.new publisher.old.refused publisher.new.refused waiting f) }
     ensures served { HasServed S.Store engine.old engine.new publisher.old.refused publisher.new.refused [] }
     ensures found { engine.new.found ≡ engine.old.found }
     ensures follows { Follows S.Store engine.old engine.new }
@@ -222,7 +223,8 @@ pub fn serve<S: Alter, B: Room, R: Wait, C: Clock>(
     ensures done { IsDone publisher.new }
     ensures goes_on { OnOk result (engine.new.halted ≡ engine.old.halted) }
     ensures given_up { OnOk result (GivesUp publisher.old.refused publisher.new.refused) }
-    ensures stops { IfErr result (λ f. (waiting : List ATaken) × EndsFor engine.old engine.new publisher.old.refused publisher.new.refused waiting f) }
+    ensures stops { IfErr result
+        (λ f. (waiting : List ATaken) × EndsFor engine.old engine.new publisher.old.refused publisher.new.refused waiting f) }
     // What was taken was committed batch by batch, each over the book that those before it left, and nothing else changes the book:
     // so it says what is kept, what a stop leaves, and what stands behind each E80.
     ensures served { MatchResult result

@@ -3,7 +3,7 @@ use Rattle.flow_cli.specs.Answering.{HasFew, IsFull, OfBatch}
 use Rattle.flow_cli.proofs.Answering.{begins, both_within, goes_on, stops_later}
 use Rattle.flow_cli.proofs.Later.{among_too, answered_too, batch_gives, cause_too, some_too, stops_too, within_too}
 use Rattle.flow_cli.proofs.Stopping.{stopped_later}
-use Rattle.flow_cli.proofs.Ends.{gives_none, gives_on, never_all}
+use Rattle.flow_cli.proofs.Ends.{gives_none, gives_on}
 use Rattle.flow_cli.proofs.SomeLines.{some_begin, some_end, some_more, some_still, some_stop_later}
 use Rattle.flow_cli.proofs.drive.drive_lines.Goals as goal
 

@@ -1,0 +1,33 @@
+# Completes the calls of `flow` in bash, files of workflows and stores: source completion.bash
+
+# Offers files that end in .$1, and the folders on the way to one.
+_flow_files() {
+    local IFS=$'\n'
+    COMPREPLY=($(compgen -f -X "!*.$1" -- "$2") $(compgen -d -- "$2"))
+    compopt -o filenames 2>/dev/null
+}
+
+_flow_words() {
+    COMPREPLY=($(compgen -W "$1" -- "$2"))
+}
+
+# Offers what may be the word at the cursor: an option if it begins with a dash, else by the call and how many words are before it.
+_flow() {
+    local word=${COMP_WORDS[COMP_CWORD]} before=${COMP_WORDS[COMP_CWORD - 1]} call=${COMP_WORDS[1]}
+    COMPREPLY=()
+    case $COMP_CWORD:$call:$before:$word in
+        1:*) _flow_words 'check safe drive work history verify' "$word" ;;
+        *:work:--settings:*) _flow_files toml "$word" ;;
+        *:work:*:-*) _flow_words --settings "$word" ;;
+        *:drive:*:-*) _flow_words --batch "$word" ;;
+        2:check:* | [23]:safe:*) _flow_files flow "$word" ;;
+        2:drive:* | 2:work:* | 2:history:* | 2:verify:*) _flow_files db "$word" ;;
+    esac
+}
+complete -F _flow flow
+
+# The page of a store.
+_flow_page() {
+    ((COMP_CWORD == 1)) && _flow_files db "${COMP_WORDS[1]}"
+}
+complete -F _flow_page page
