@@ -32,6 +32,11 @@ const REPORTED: &[Row] = &[
     (REPORTS, r#"{"event":3,"reply":"recorded","run":1}"#, 1),
     (REPORTS, r#"{"code":"E64","reply":"refused"}"#, 0),
     (
+        r#"{"args":[7],"at":1500,"do":"start","flow":"f","req":"g","text":1}"#,
+        r#"{"reply":"started","run":2}"#,
+        1,
+    ),
+    (
         DESCRIBES,
         r#"{"activities":[],"events":4,"flow":"f","reply":"run","state":"completed","text":1,"timers":[]}"#,
         0,

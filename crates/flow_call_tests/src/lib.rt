@@ -5,8 +5,6 @@
 #[cfg(test)]
 mod activities_builtin;
 #[cfg(test)]
-mod book_lists;
-#[cfg(test)]
 mod commands_decided;
 #[cfg(test)]
 mod commands_kept;
@@ -34,8 +32,6 @@ mod programs_kept;
 mod replays;
 #[cfg(test)]
 mod rows_read;
-#[cfg(test)]
-mod rows_store;
 #[cfg(test)]
 mod rows_written;
 #[cfg(test)]

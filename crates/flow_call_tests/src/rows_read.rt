@@ -1,36 +1,108 @@
 //! Rows that no opening hands on: a store looks at its foreign keys itself, a run is read from sound rows alone, and what doesn't
 //! fit a row isn't recorded.
-use crate::rows_store::{
-    Cells, EVENTS, EventCells, OUTBOX, RUNS, RunCells, STARTED, TEXTS, TIMERS, TaskCells, events,
-    outbox, run_row, store,
-};
 use flow_base::book::Run;
 use flow_base::event::{Cmd, Event, What};
 use flow_base::fault::{Damage, Table};
 use flow_base::number::{EventId, Moment, RunId, TextNo};
 use flow_base::sequence::Sequence;
-use flow_base::text::Key;
+use flow_base::text::{Key, RawText};
 use flow_base::value::Kind;
 use flow_check::language::Language;
 use flow_rows::change_rows;
 use flow_rows::damage::damage;
 use flow_rows::recall::read_run;
+use flow_rows::rows::{EventRow, OutboxRow, RunRow, StoreRows};
 use std::alloc::{AllocError, Global};
 use std::test::Fail;
 
-fn sound() -> Cells<'static> {
-    Cells {
-        texts: &TEXTS,
-        runs: &RUNS,
-        events: &EVENTS,
-        timers: &TIMERS,
-        outbox: &OUTBOX,
-    }
+type RunCells = (i64, &'static str, &'static str, i64, i64);
+
+type EventCells = (i64, i64, i64, &'static str);
+
+type TaskCells = (i64, i64, i64, i64);
+
+const STARTED: &str = "{\"args\":[],\"at\":1000}";
+
+/// A run that waits for an activity.
+const RUN: RunCells = (2, "f", "", 2, 1);
+
+const HISTORY: &[EventCells] = &[
+    (2, 1, 1, STARTED),
+    (
+        2,
+        2,
+        7,
+        "{\"activity\":\"c\",\"args\":[7],\"at\":1000,\"every\":500,\"gives\":\"int\",\"tries\":3}",
+    ),
+];
+
+const OUTBOX: &[TaskCells] = &[(2, 2, 1, 1000)];
+
+fn run_row(alloc: Global, cells: &RunCells) -> Result<RunRow, Fail> {
+    let (num, flow, req, textnum, isopen) = cells;
+    Ok(RunRow {
+        num: *num,
+        flow: RawText::new(alloc, flow)?,
+        req: RawText::new(alloc, req)?,
+        textnum: *textnum,
+        isopen: *isopen,
+    })
 }
 
-/// The first damage of a store. Who calls it holds no rows.
-fn found(alloc: Global, cells: &Cells) -> Result<Option<Damage>, Fail> {
-    let rows = store(alloc, cells)?;
+fn runs(alloc: Global, cells: &[RunCells]) -> Result<Sequence<RunRow>, Fail> {
+    let mut rows = Vec::new(alloc);
+    for run in cells {
+        rows.push(run_row(alloc, run)?)?;
+    }
+    Ok(Sequence::from_vec(rows))
+}
+
+fn event_row(alloc: Global, cells: &EventCells) -> Result<EventRow, Fail> {
+    let (run, id, kind, body) = cells;
+    Ok(EventRow {
+        run: *run,
+        id: *id,
+        kind: *kind,
+        body: RawText::new(alloc, body)?,
+    })
+}
+
+fn events(alloc: Global, cells: &[EventCells]) -> Result<Sequence<EventRow>, Fail> {
+    let mut rows = Vec::new(alloc);
+    for event in cells {
+        rows.push(event_row(alloc, event)?)?;
+    }
+    Ok(Sequence::from_vec(rows))
+}
+
+fn outbox(alloc: Global, cells: &[TaskCells]) -> Result<Sequence<OutboxRow>, Fail> {
+    let mut rows = Vec::new(alloc);
+    for (run, id, attempt, ready) in cells {
+        rows.push(OutboxRow {
+            run: *run,
+            id: *id,
+            attempt: *attempt,
+            ready: *ready,
+        })?;
+    }
+    Ok(Sequence::from_vec(rows))
+}
+
+/// The first damage of a store without texts. Who calls it holds no rows.
+fn found(
+    alloc: Global,
+    runs_of: &[RunCells],
+    events_of: &[EventCells],
+) -> Result<Option<Damage>, Fail> {
+    let runs = runs(alloc, runs_of)?;
+    let events = events(alloc, events_of)?;
+    let rows = StoreRows {
+        texts: Sequence::new(alloc),
+        runs,
+        events,
+        timers: Sequence::new(alloc),
+        outbox: Sequence::new(alloc),
+    };
     Ok(damage(alloc, &Language, &rows)?)
 }
 
@@ -45,36 +117,12 @@ fn at(table: Table, run: i64, place: i64) -> Option<Damage> {
 
 #[test]
 fn rows_name_what_is_there(rt: HostRuntime) -> Result<(), Fail> {
-    let alloc = rt.alloc();
-    assert!(rt; found(alloc, &sound())?.is_none());
-    let runs = [RUNS[0], (2, "f", "", 3, 1), RUNS[2]];
-    let cells = Cells {
-        runs: &runs,
-        ..sound()
-    };
-    assert!(rt; found(alloc, &cells)? == at(Table::Run, 2, 0));
-    let timers = [(0, 9, 5), (3, 2, 1100)];
-    let cells = Cells {
-        timers: &timers,
-        ..sound()
-    };
-    assert!(rt; found(alloc, &cells)? == at(Table::Timer, 0, 9));
+    assert!(rt; found(rt.alloc(), &[RUN], &[])? == at(Table::Run, 2, 0));
+    assert!(rt; found(rt.alloc(), &[], &[(4, 7, 1, STARTED)])? == at(Table::Event, 4, 7));
     Ok(())
 }
 
-#[test]
-fn an_event_of_no_run_has_its_id(rt: HostRuntime) -> Result<(), Fail> {
-    let [a, b, c, d, e, f, g, h] = EVENTS;
-    let events = [a, b, c, d, e, f, g, h, (4, 7, 1, STARTED)];
-    let cells = Cells {
-        events: &events,
-        ..sound()
-    };
-    assert!(rt; found(rt.alloc(), &cells)? == at(Table::Event, 4, 7));
-    Ok(())
-}
-
-/// Run 2 of the sound store.
+/// The run of these rows.
 fn recalled(
     alloc: Global,
     cells: &RunCells,
@@ -101,7 +149,7 @@ fn is_run_2(run: &Run) -> bool {
 
 /// Whether it is read as run 2. Who calls it holds no run.
 fn is_recalled(alloc: Global) -> Result<bool, Fail> {
-    match recalled(alloc, &RUNS[1], &EVENTS[4..6], &OUTBOX)? {
+    match recalled(alloc, &RUN, HISTORY, OUTBOX)? {
         Some(run) => Ok(is_run_2(&run)),
         None => Ok(false),
     }
@@ -126,11 +174,10 @@ fn a_run_is_read_from_its_rows(rt: HostRuntime) -> Result<(), Fail> {
 #[test]
 fn no_run_has_such_rows(rt: HostRuntime) -> Result<(), Fail> {
     let alloc = rt.alloc();
-    let own = &EVENTS[4..6];
-    assert!(rt; is_none(alloc, &(2, "", "", 2, 1), own, &OUTBOX)?);
-    assert!(rt; is_none(alloc, &(2, "f", "", 0, 1), own, &OUTBOX)?);
-    assert!(rt; is_none(alloc, &RUNS[1], &[(2, 1, 14, STARTED)], &OUTBOX)?);
-    assert!(rt; is_none(alloc, &RUNS[1], own, &[(2, 2, 1, -1)])?);
+    assert!(rt; is_none(alloc, &(2, "", "", 2, 1), HISTORY, OUTBOX)?);
+    assert!(rt; is_none(alloc, &(2, "f", "", 0, 1), HISTORY, OUTBOX)?);
+    assert!(rt; is_none(alloc, &RUN, &[(2, 1, 14, STARTED)], OUTBOX)?);
+    assert!(rt; is_none(alloc, &RUN, HISTORY, &[(2, 2, 1, -1)])?);
     Ok(())
 }
 

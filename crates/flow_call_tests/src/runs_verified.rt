@@ -95,7 +95,7 @@ fn change(alloc: Global, what: Put) -> Option<Change> {
     }
 }
 
-fn put(book: &mut Lists, change: &Option<Change>) -> bool {
+fn is_put(book: &mut Lists, change: &Option<Change>) -> bool {
     match change {
         Some(change) => book.put(change).is_ok(),
         None => false,
@@ -105,7 +105,7 @@ fn put(book: &mut Lists, change: &Option<Change>) -> bool {
 fn put_all(alloc: Global, book: &mut Lists, all: &[Put]) -> bool {
     let mut are = true;
     for what in all {
-        are = put(book, &change(alloc, *what)) && are;
+        are = is_put(book, &change(alloc, *what)) && are;
     }
     are
 }
@@ -122,7 +122,7 @@ fn verdict_of(outcome: &Result<Totals, Unverified>) -> Verdict {
 }
 
 /// What is reported of a book of these.
-fn verdict(alloc: Global, all: &[Put]) -> Option<Verdict> {
+fn reported(alloc: Global, all: &[Put]) -> Option<Verdict> {
     let mut book = Lists::new(alloc);
     if !put_all(alloc, &mut book, all) {
         return None;
@@ -131,21 +131,21 @@ fn verdict(alloc: Global, all: &[Put]) -> Option<Verdict> {
 }
 
 fn holds(alloc: Global, all: &[Put], totals: (u64, u64, u64)) -> bool {
-    match verdict(alloc, all) {
+    match reported(alloc, all) {
         Some(Verdict::Holds(texts, runs, events)) => (texts, runs, events) == totals,
         _ => false,
     }
 }
 
 fn differs(alloc: Global, all: &[Put], wanted: (u64, usize, u8)) -> bool {
-    match verdict(alloc, all) {
+    match reported(alloc, all) {
         Some(Verdict::Differs(run, place, number)) => (run, place, number) == wanted,
         _ => false,
     }
 }
 
 fn is_refused(alloc: Global, all: &[Put], number: u8) -> bool {
-    match verdict(alloc, all) {
+    match reported(alloc, all) {
         Some(Verdict::Refused(refused)) => refused == number,
         _ => false,
     }

@@ -3,7 +3,6 @@ use flow_base::code::Code;
 use flow_base::command::TextFault;
 use flow_base::text::RawText;
 use flow_base::token::{Token, Word};
-use flow_check::check::check;
 use flow_check::language::Language;
 use flow_check::texts::Texts;
 use flow_syntax::parse::parse;
@@ -193,27 +192,10 @@ fn programs_print_their_tokens(rt: HostRuntime) -> Result<(), Fail> {
     Ok(())
 }
 
-// The number and the place of the rule that a program breaks first; `None` where it keeps them all.
-fn broken(alloc: Global, text: &str) -> Option<Option<(Code, Option<usize>)>> {
-    let program = parse(alloc, text).ok()?;
-    match check(alloc, program) {
-        Ok(_checked) => Some(None),
-        Err(fault) => Some(Some((fault.code(), fault.at()))),
-    }
-}
-
 const KEEPS: &str =
     "workflow x() { activity f() -> text; let n = \"\"; n = call f(); return n ++ \"a\"; }";
 
 const BREAKS: &str = "workflow x() { y = 1; }";
-
-#[test]
-fn a_program_is_checked(rt: HostRuntime) -> Result<(), Fail> {
-    let none = broken(rt.alloc(), KEEPS);
-    let first = broken(rt.alloc(), BREAKS);
-    assert!(rt; none == Some(None) && first == Some(Some((Code::NotVisible, Some(15)))));
-    Ok(())
-}
 
 // The first fault of a text; `None` for a program that keeps the rules.
 fn fault_of(alloc: Global, text: &str) -> Option<Option<TextFault>> {
