@@ -1,21 +1,14 @@
 -- What clap's getters give, in its rows; and words that are written out.
-use Rattle.std.proofs.Common.{◌≡◌, [], ◌∷◌, inl, inr, codes, Some, None, refl}
+use Rattle.std.proofs.Common.{◌≡◌, [], ◌∷◌, codes, Some, None, refl}
 use Rattle.clap.proofs.OnLiterals.{clap_on_literals}
 use Rattle.clap.proofs.WalkLemmas.{first_value-rows}
-use Rattle.clap.specs.Values.{kind_of}
-use Rattle.clap.specs.Words.{HasKind, Text, fault_of, first_of, first_value, rows_of}
-use Rattle.clap.specs.declared.error.Error.{Error}
+use Rattle.clap.specs.Words.{Text, fault_of, first_of, first_value, rows_of}
 use Rattle.clap.specs.declared.error.kind.ErrorKind.TheVariants as kind
 use Rattle.clap.specs.declared.parser.matches.Found.{Found}
 use Rattle.flow_cli.specs.Calls.{flow, call_in, Check, Safe, Drive, History, Verify, Work}
 
 pub first_in_rows : (f : Found) (id : Text) → first_value f id ≡ first_of id (rows_of f)
 first_in_rows f id = first_value-rows f id
-
--- where no fault is left, memory ran out
-pub memory_alone : (e : Error) → HasKind [] e → kind_of e ≡ kind.OutOfMemory
-memory_alone e (inl memory) = memory
-memory_alone e (inr none) = absurd none
 
 check_is_taken : fault_of flow (codes "flow" ∷ codes "check" ∷ codes "a" ∷ []) ≡ []
 unfolding clap_on_literals

@@ -58,12 +58,16 @@ work = with_rule (with_rule (new_app (codes "work")) base) settings
 abbrev pub over_texts : App
 over_texts = with_subcommand (with_subcommand (on_top (λ s. record s { subcommand_required = true }) (new_app (codes "flow"))) check.top) safe.top
 
--- with those that answer what is asked and end
+-- with those that read and write lines over a store
+abbrev pub over_lines : App
+over_lines = with_subcommand (with_subcommand over_texts drive.top) history.top
+
+-- with all that answer what is asked and end
 abbrev pub answering : App
-answering = with_subcommand (with_subcommand over_texts drive.top) history.top
+answering = with_subcommand over_lines verify.top
 
 abbrev pub flow : App
-flow = with_subcommand (with_subcommand answering verify.top) work.top
+flow = with_subcommand answering work.top
 
 -- ---- a call, without where its texts lie in memory
 

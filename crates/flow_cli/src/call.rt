@@ -3,7 +3,7 @@ ghost use Rattle.std.specs.Prelude.{◌≡◌, ◌⊎◌, IfOk, IfErr, false, ma
 ghost use Rattle.clap.specs.Words.{app_of, rule_of, found_of, rows_of, first_of, subcommand_rows_of};
 ghost use Rattle.clap.specs.declared.builder.command.Command.TheViews.{out-Command as fields_of};
 ghost use Rattle.clap.specs.declared.error.kind.ErrorKind.TheVariants.{OutOfMemory};
-ghost use Rattle.flow_cli.specs.Calls.{flow, answering, over_texts, check, safe, drive, history, verify, work, settings, needed, batch, run_in, batch_in, safe_in, drive_in, history_in, work_in, named_call, IsCall};
+ghost use Rattle.flow_cli.specs.Calls.{flow, answering, over_lines, over_texts, check, safe, drive, history, verify, work, settings, needed, batch, run_in, batch_in, safe_in, drive_in, history_in, work_in, named_call, IsCall};
 ghost use Rattle.flow_cli.specs.Calls.{Call as Pure};
 ghost use Rattle.flow_cli.specs.Shown.{shown};
 
@@ -139,9 +139,9 @@ fn text_command<'a>(alloc: Global) -> Result<Command<'a>, AllocError>
     )
 }
 
-/// The program with the calls that answer what is asked and end.
-fn answering_command<'a>(alloc: Global) -> Result<Command<'a>, AllocError>
-    ensures app { IfOk result (λ c. app_of c ≡ answering) }
+/// The program with those and the calls that read and write lines over a store.
+fn line_command<'a>(alloc: Global) -> Result<Command<'a>, AllocError>
+    ensures app { IfOk result (λ c. app_of c ≡ over_lines) }
 {
     let drive = drive_command(alloc)?;
     let history = history_command(alloc)?;
@@ -149,13 +149,21 @@ fn answering_command<'a>(alloc: Global) -> Result<Command<'a>, AllocError>
     Ok(texts.subcommand(drive)?.subcommand(history)?)
 }
 
+/// The program with all calls that answer what is asked and end.
+fn answering_command<'a>(alloc: Global) -> Result<Command<'a>, AllocError>
+    ensures app { IfOk result (λ c. app_of c ≡ answering) }
+{
+    let verify = verify_command(alloc)?;
+    let lines = line_command(alloc)?;
+    Ok(lines.subcommand(verify)?)
+}
+
 fn flow_command<'a>(alloc: Global) -> Result<Command<'a>, AllocError>
     ensures app { IfOk result (λ c. app_of c ≡ flow) }
 {
-    let verify = verify_command(alloc)?;
     let work = work_command(alloc)?;
     let answering = answering_command(alloc)?;
-    Ok(answering.subcommand(verify)?.subcommand(work)?)
+    Ok(answering.subcommand(work)?)
 }
 
 #[tactic(auto, using(crate::proofs::Rows::first_in_rows))]

@@ -1,7 +1,8 @@
-use Rattle.std.proofs.Common.{◌≡◌, map, option_and_then, true, [], sym, ap, ◌∙◌, subst, refl}
-use Rattle.clap.specs.Words.{HasKind, app_of, is_simple, is_simple_and_free, fault_of, subcommand_of, subcommand_rows_of}
+use Rattle.std.proofs.Common.{◌≡◌, inl, inr, map, option_and_then, true, [], sym, ap, ◌∙◌, subst, refl}
+use Rattle.clap.specs.Values.{kind_of}
+use Rattle.clap.specs.Words.{app_of, is_simple, is_simple_and_free, fault_of, subcommand_of, subcommand_rows_of, HasKind}
+use Rattle.clap.specs.declared.error.kind.ErrorKind.TheVariants.{OutOfMemory}
 use Rattle.flow_cli.specs.Calls.{flow, named_call}
-use Rattle.flow_cli.proofs.Rows.{memory_alone}
 use Rattle.flow_cli.proofs.call.call_of.Goals as goal
 
 pub returns-in-Some-clause-found : goal.returns-in-Some-clause-found
@@ -14,11 +15,11 @@ returns-in-Some-clause-found g c =
     subst (λ a. is_simple a ≡ true → subcommand_rows_of found ≡ subcommand_of a words) app (λ simple. (c.in-Ok-try_get_matches_from.ensures.matches simple).1) refl in
     record { taken = taken; says = ap (option_and_then (λ p. named_call p.0 p.1)) (sym rows) ∙ sym c.matched_call.ensures ∙ rw c.in-Some.is refl }
 
--- words of a call have no fault, so that memory alone keeps clap from taking them
 pub returns-clause-only : goal.returns-clause-only
-returns-clause-only g c call it =
+returns-clause-only g c call is =
     let words = map g.S.AsStr.text c.args.words.now in
     let error = c.in-Err-try_get_matches_from.error in
     let app : app_of c.in-Ok.command ≡ flow = c.in-Ok.ensures.app in
-    let told : HasKind (fault_of flow words) error = subst (λ a. is_simple_and_free a ≡ true → HasKind (fault_of a words) error) app c.in-Err-try_get_matches_from.ensures.kinds refl in
-    c.fault_of_kind.ensures.memory (c.kind.ensures ∙ memory_alone error (subst (λ ks. HasKind ks error) it.taken told))
+    let has : HasKind (fault_of flow words) error = subst (λ a. is_simple_and_free a ≡ true → HasKind (fault_of a words) error) app c.in-Err-try_get_matches_from.ensures.kinds refl in
+    let memory : kind_of error ≡ OutOfMemory = elim (subst (λ ks. HasKind ks error) is.taken has) [ inl is ↦ is | inr none ↦ absurd none ] in
+    c.fault_of_kind.ensures.memory (c.kind.ensures ∙ memory)
