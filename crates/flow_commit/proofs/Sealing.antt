@@ -1,9 +1,9 @@
 -- What a transaction leaves that was begun, read in, and committed with nothing changed.
-use Rattle.std.proofs.Common.{◌≡◌, ◌⊎◌, inl, inr, ℕ, Bool, true, false, codes, List, Option, Result, Ok, Err, refl, sym, ap, ◌∙◌, subst, arith, true≢false}
+use Rattle.std.proofs.Common.{◌≡◌, ◌⊎◌, inl, inr, ℕ, Bool, true, false, codes, List, Result, Ok, Err, refl, sym, ap, ◌∙◌, subst, arith, true≢false}
 use Rattle.std.specs.Prelude.{IfOk, OnOk, IsTrue}
 use Rattle.sqlite_trees.specs.declared.store.Store.{Ghosts}
 use Rattle.flow_model.specs.Book.{Book}
-use Rattle.flow_tables.specs.Owned.{Stored, IsFit, IsUp, is_sure, Follows, Keeps, LeavesWritten, IsFileOf, IsBarred, Refuses, state_of}
+use Rattle.flow_tables.specs.Owned.{Stored, IsFit, IsUp, is_sure, Follows, Keeps, LeavesWritten, IsFileOf, IsBarred, state_of}
 use Rattle.flow_tables.specs.Faults.{Since, HasFailed, IsCutOff}
 use Rattle.flow_tables.proofs.Stopping.{since_then}
 use Rattle.flow_view.specs.Reading.{Caused}

@@ -1,4 +1,4 @@
-use Rattle.std.proofs.Common.{◌≡◌, ◌⊎◌, inl, inr, subst}
+use Rattle.std.proofs.Common.{inl, inr, subst}
 use Rattle.flow_check.specs.Language.{meaning_of}
 use Rattle.flow_machine.specs.Verifying.{CantBeReplayed}
 use Rattle.flow_tables.specs.Owned.{is_sure, book_now}

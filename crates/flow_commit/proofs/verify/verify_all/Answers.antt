@@ -1,4 +1,4 @@
-use Rattle.std.proofs.Common.{◌≡◌, ◌⊎◌, inl, inr}
+use Rattle.std.proofs.Common.{inl, inr}
 use Rattle.flow_commit.proofs.Following.{fit_before, follows_then}
 use Rattle.flow_commit.proofs.Sealing.{down_on}
 use Rattle.flow_commit.proofs.Verified.{caused_so}
