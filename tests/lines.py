@@ -10,9 +10,9 @@ A file has blocks with a blank line between two. A block begins with a comment a
     RUN: a line of `flow history DB RUN`, behind all lines of input
     ! STATUS TEXT                    the status if it isn't 0, and the line on standard error
 
-All runs of each store that a case makes replay, and `flow verify` says how many there are. Each case is driven over memory and over a file. Over a file it is cut into lives of the program, a short one in every way, so that the store
-is closed and opened again between any two of its lines. Both are applied in batches of several sizes: the replies and the histories are
-always the same.
+All runs of each store that a case makes replay, and `flow verify` says how many there are. Each case is driven over memory and over a
+file. Over a file it is cut into lives of the program, a short one in every way, so that the store is closed and opened again between any
+two of its lines. Both are applied in batches of several sizes: the replies and the histories are always the same.
 
 A block with lines `$ flow WORDS` has calls of the program instead, one after the other in a folder in which its texts are files of their
 names. Behind a call stand its input, all that it prints, and its end.
