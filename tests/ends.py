@@ -49,9 +49,9 @@ def output_is_closed(tally):
     os.close(reads)
     status, says = called(["history", "-", "1"], stdout=writes)
     tally.check("no output is needed", (status, says), (1, b"flow: E70\n"))
-    status, says = called(["check", "/dev/null"], stdout=writes)
+    for words in (["check", "/dev/null"], ["safe", "/dev/null", "/dev/null"], ["verify", "-"]):
+        tally.check(f"{words} with an output that is closed", called(words, stdout=writes), (3, b"flow: E95\n"))
     os.close(writes)
-    tally.check("an output that is closed", (status, says), (3, b"flow: E95\n"))
 
 
 def errors_fail(tally, folder):
