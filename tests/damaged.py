@@ -108,7 +108,7 @@ def verified(tally, case, base):
     """What `flow verify` says of the changed store, and that its rows stay as they are."""
     before = held(base)
     check_verified(tally, case.what, base, (case.status, b"", case.says) if case.status else case.verified)
-    tally.check(f"{case.what}, its rows behind that", held(base), before)
+    tally.check(f"{case.what}, its rows after that", held(base), before)
 
 
 def found(base, statement):
