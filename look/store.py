@@ -1,4 +1,5 @@
 """The store that a page shows: a copy of its two files, what the program says of them, and its rows by the tables of docs/FORMATS.md."""
+import contextlib
 import enum
 import fcntl
 import json
@@ -139,28 +140,28 @@ def join(runs):
         last[run.flow] = run
 
 
-def read(copy):
-    """The texts and the runs of a copy that the program has verified."""
-    database = sqlite3.connect(f"file:{copy}?mode=ro", uri=True)
-    try:
-        def rows(statement):
-            return database.execute(statement).fetchall()
-
-        if not rows("SELECT 1 FROM sqlite_schema WHERE name = 'meta'"):
-            return Store({}, [])
-        if rows("SELECT value FROM meta WHERE name = 'format'") != [(1,)]:
-            raise Refused("its format isn't 1")
-        texts = {number: text_of(number, source) for number, source in rows("SELECT num, body FROM text ORDER BY num")}
-        runs = {it[0]: Run(*it) for it in rows("SELECT num, flow, req, textnum, isopen FROM run ORDER BY num")}
-        fill(runs, rows)
-        if not all(run.events and run.text in texts and (run.is_open or run.events[-1].kind in ENDS) for run in runs.values()):
-            raise Refused("its rows don't fit together")
-    except (LookupError, ValueError, TypeError):
-        raise Refused("its rows don't fit together") from None
-    finally:
-        database.close()
+def store_in(rows):
+    """The texts and the runs of a store by what its tables answer to a statement."""
+    if not rows("SELECT 1 FROM sqlite_schema WHERE name = 'meta'"):
+        return Store({}, [])
+    if rows("SELECT value FROM meta WHERE name = 'format'") != [(1,)]:
+        raise Refused("its format isn't 1")
+    texts = {number: text_of(number, source) for number, source in rows("SELECT num, body FROM text ORDER BY num")}
+    runs = {it[0]: Run(*it) for it in rows("SELECT num, flow, req, textnum, isopen FROM run ORDER BY num")}
+    fill(runs, rows)
+    if not all(run.events and run.text in texts and (run.is_open or run.events[-1].kind in ENDS) for run in runs.values()):
+        raise Refused("its rows don't fit together")
     join(runs.values())
     return Store(texts, list(runs.values()))
+
+
+def read(copy):
+    """The store of a copy. It asks of the rows only what it takes to draw them: the program has judged them."""
+    with contextlib.closing(sqlite3.connect(f"file:{copy}?mode=ro", uri=True)) as database:
+        try:
+            return store_in(lambda statement: database.execute(statement).fetchall())
+        except (LookupError, ValueError, TypeError):
+            raise Refused("its rows don't fit together") from None
 
 
 def opened(path, folder, program):
