@@ -1,5 +1,5 @@
 //! Books as one number each: a digest of all rows of a store, which an opening takes for sound.
-use crate::course::{Ended, NOTHING, Plan, asked};
+use crate::course::{Course, Ended, NOTHING, Plan, asked};
 use sqlite::{Alter, Connection, MemStore, Row};
 use sqlite_disk::digest_of;
 use sqlite_value::value::ValueRef;
@@ -75,18 +75,32 @@ pub fn found<S: Alter>(alloc: Global, conn: Connection<S>) -> (Option<u64>, Conn
     (book, conn)
 }
 
+/// A book, and what the replies to its batches name.
+#[derive(Clone, Copy)]
+struct Known {
+    book: u64,
+    told: u64,
+}
+
 /// The books that a plan leads to where nothing disturbs it.
 #[derive(Drop)]
 pub struct Books {
     /// Before its first batch, and after each of them.
-    after: Vec<u64>,
+    after: Vec<Known>,
     /// After all batches but one, for each of them.
-    without: Vec<u64>,
+    without: Vec<Known>,
 }
 
-fn is_at(list: &[u64], at: u64, book: Option<u64>) -> bool {
+fn is_at(list: &[Known], at: u64, book: Option<u64>) -> bool {
     match list.get(at as usize) {
-        Some(wanted) => Some(*wanted) == book,
+        Some(known) => Some(known.book) == book,
+        None => false,
+    }
+}
+
+fn is_told_at(list: &[Known], at: u64, told: u64) -> bool {
+    match list.get(at as usize) {
+        Some(known) => known.told == told,
         None => false,
     }
 }
@@ -95,7 +109,7 @@ impl Books {
     /// The one book of nothing.
     pub fn of(alloc: Global, book: Option<u64>) -> Option<Books> {
         let mut after = Vec::new(alloc);
-        let is = push(&mut after, book);
+        let is = push(&mut after, book, 0);
         let without = Vec::new(alloc);
         if is {
             Some(Books { after, without })
@@ -113,17 +127,31 @@ impl Books {
     pub fn is_without(&self, batch: u64, book: Option<u64>) -> bool {
         is_at(self.without.as_slice(), batch, book)
     }
+
+    /// Whether the replies to the batches of a course that were kept are those that nothing disturbs.
+    pub fn are_told(&self, course: &Course) -> bool {
+        let list = if course.broken == Ended::GivenUp && course.kept_later > 0 {
+            &self.without
+        } else {
+            &self.after
+        };
+        is_told_at(list.as_slice(), course.kept, course.told)
+    }
 }
 
-fn push(list: &mut Vec<u64>, book: Option<u64>) -> bool {
+fn push(list: &mut Vec<Known>, book: Option<u64>, told: u64) -> bool {
     match book {
-        Some(book) => list.push(book).is_ok(),
+        Some(book) => list.push(Known { book, told }).is_ok(),
         None => false,
     }
 }
 
-/// The book behind batches that are all kept, and the store behind them.
-fn kept<S: Alter>(alloc: Global, conn: Connection<S>, plan: Plan) -> (Option<u64>, Connection<S>) {
+/// The book behind batches that are all kept, what the replies to them name, and the store behind them.
+fn kept<S: Alter>(
+    alloc: Global,
+    conn: Connection<S>,
+    plan: Plan,
+) -> (Option<u64>, u64, Connection<S>) {
     let (course, conn) = asked(alloc, conn, plan);
     let (book, conn) = found(alloc, conn);
     (
@@ -132,49 +160,58 @@ fn kept<S: Alter>(alloc: Global, conn: Connection<S>, plan: Plan) -> (Option<u64
         } else {
             None
         },
+        course.told,
         conn,
     )
 }
 
 /// Puts the book before a plan's first batch and those after each of them into the list.
-fn note_after(alloc: Global, conn: Connection<MemStore>, plan: Plan, list: &mut Vec<u64>) -> bool {
-    let (book, next) = kept(alloc, conn, NOTHING);
+fn note_after(
+    alloc: Global,
+    conn: Connection<MemStore>,
+    plan: Plan,
+    list: &mut Vec<Known>,
+) -> bool {
+    let (book, told, next) = kept(alloc, conn, NOTHING);
     let mut conn = next;
-    let mut are = push(list, book);
+    let mut are = push(list, book, told);
+    let mut all_told = told;
     for at in plan.from..plan.to {
-        let (book, next) = kept(alloc, conn, plan.only(at));
+        let (book, told, next) = kept(alloc, conn, plan.only(at));
         conn = next;
-        are = push(list, book) && are;
+        all_told = all_told.wrapping_add(told);
+        are = push(list, book, all_told) && are;
     }
     let _store = conn.into_store();
     are
 }
 
-fn book_over(alloc: Global, conn: Connection<MemStore>, plan: Plan) -> Option<u64> {
-    let (book, conn) = kept(alloc, conn, plan);
+fn book_over(alloc: Global, conn: Connection<MemStore>, plan: Plan) -> (Option<u64>, u64) {
+    let (book, told, conn) = kept(alloc, conn, plan);
     let _store = conn.into_store();
-    book
+    (book, told)
 }
 
-/// The book that a plan leads to over a new store in memory.
-pub fn book(alloc: Global, plan: Plan) -> Option<u64> {
+/// The book that a plan leads to over a new store in memory, and what the replies to its batches name.
+pub fn book(alloc: Global, plan: Plan) -> (Option<u64>, u64) {
     match Connection::open_in_memory(alloc) {
         Ok(conn) => book_over(alloc, conn, plan),
-        Err(_) => None,
+        Err(_) => (None, 0),
     }
 }
 
-fn after(alloc: Global, plan: Plan, list: &mut Vec<u64>) -> bool {
+fn after(alloc: Global, plan: Plan, list: &mut Vec<Known>) -> bool {
     match Connection::open_in_memory(alloc) {
         Ok(conn) => note_after(alloc, conn, plan, list),
         Err(_) => false,
     }
 }
 
-fn without(alloc: Global, plan: Plan, list: &mut Vec<u64>) -> bool {
+fn without(alloc: Global, plan: Plan, list: &mut Vec<Known>) -> bool {
     let mut are = true;
     for at in plan.from..plan.to {
-        are = push(list, book(alloc, plan.all_but(at))) && are;
+        let (book, told) = book(alloc, plan.all_but(at));
+        are = push(list, book, told) && are;
     }
     are
 }

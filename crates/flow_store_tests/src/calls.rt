@@ -208,6 +208,21 @@ pub fn named_by(reply: &Reply) -> Named {
     }
 }
 
+/// The same as one number.
+pub fn numbered(reply: &Reply) -> u64 {
+    let (kind, number) = match named_by(reply) {
+        Named::Text(number) => (1, number),
+        Named::Run(number) => (2, number),
+        Named::Duplicate(number) => (3, number),
+        Named::Event(number) => (4, number),
+        Named::Code(number) => (5, number as u64),
+        Named::Returned(events, _) | Named::Events(events, _) => (6, events as u64),
+        Named::Described(events, _) => (7, events as u64),
+        Named::Other => (8, 0),
+    };
+    number.wrapping_mul(16).wrapping_add(kind)
+}
+
 fn told_by(receipt: &Receipt, is_halted: bool) -> Told {
     if is_halted {
         return Told::Refused(0, true);

@@ -1,13 +1,15 @@
 //! Batches of the rule's commands, asked of an engine one after the other, and what became of them, in plain numbers.
 ghost use Rattle.std.specs.Prelude.{◌≤◌, IfSome, length};
 
+use crate::calls::numbered;
 use crate::rule::command_at;
 use flow_base::code::Code;
-use flow_base::command::Command;
+use flow_base::command::{Command, Reply};
 use flow_engine::engine::Engine;
 use flow_machine::answer::{Stop, Together};
 use flow_settings::settings::Settings;
 use sqlite::{Alter, Connection};
+use sqlite_disk::digest_of;
 use std::alloc::Global;
 
 /// Which commands are asked, and how they are cut.
@@ -90,6 +92,8 @@ pub struct Course {
     pub unknown: u64,
     pub halted: u64,
     pub other: u64,
+    /// What the replies of all kept batches name: the sum of a digest of each.
+    pub told: u64,
 }
 
 impl Course {
@@ -104,6 +108,7 @@ impl Course {
             unknown: 0,
             halted: 0,
             other: 0,
+            told: 0,
         }
     }
 
@@ -123,7 +128,7 @@ impl Course {
         *count = count.saturating_add(1);
     }
 
-    fn note(&mut self, ended: Ended) {
+    fn end(&mut self, ended: Ended) {
         if self.broken != Ended::Kept {
             self.note_later(ended);
         } else if ended == Ended::Kept {
@@ -131,6 +136,27 @@ impl Course {
         } else {
             self.broken = ended;
         }
+    }
+
+    fn note(&mut self, at: u64, answer: &Result<Together, Stop>) {
+        self.told = self.told.wrapping_add(told_by(at, answer));
+        self.end(end_of(answer));
+    }
+}
+
+/// A digest of what replies name. It begins with the number of their batch.
+fn told(at: u64, replies: &[Reply]) -> u64 {
+    let mut digest = at;
+    for reply in replies {
+        digest = digest_of(digest, &numbered(reply).to_le_bytes());
+    }
+    digest
+}
+
+fn told_by(at: u64, answer: &Result<Together, Stop>) -> u64 {
+    match answer {
+        Ok(Together::Replied(replies)) => told(at, replies.as_slice()),
+        _ => 0,
     }
 }
 
@@ -172,10 +198,10 @@ fn batch(alloc: Global, size: u64, batch: u64) -> Option<Vec<Command>>
     None
 }
 
-fn ask<S: Alter>(alloc: Global, engine: &mut Engine<S>, size: u64, at: u64) -> Ended {
+fn ask<S: Alter>(alloc: Global, engine: &mut Engine<S>, size: u64, at: u64, course: &mut Course) {
     match batch(alloc, size, at) {
-        Some(commands) => end_of(&engine.answer_together(commands)),
-        None => Ended::Other,
+        Some(commands) => course.note(at, &engine.answer_together(commands)),
+        None => course.end(Ended::Other),
     }
 }
 
@@ -183,7 +209,7 @@ fn ask_all<S: Alter>(alloc: Global, engine: &mut Engine<S>, plan: Plan) -> Cours
     let mut course = Course::new(true);
     for at in plan.from..plan.to {
         if plan.without != Some(at) {
-            course.note(ask(alloc, engine, plan.size, at));
+            ask(alloc, engine, plan.size, at, &mut course);
         }
     }
     course

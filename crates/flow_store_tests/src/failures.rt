@@ -73,7 +73,12 @@ impl Failures {
     }
 
     fn note(&mut self, plan: Plan, asked: Asked, book: Option<u64>, books: &Books) {
-        self.count(outcome(plan, asked.course, book, books));
+        let outcome = outcome(plan, asked.course, book, books);
+        self.count(if books.are_told(&asked.course) {
+            outcome
+        } else {
+            Outcome::Wrong
+        });
         // Both openings find the same book. A disk whose sync failed can't be opened over again.
         if asked.again.is_some() {
             if asked.again == book {

@@ -46,6 +46,19 @@ fn a_stop_gives_back_the_answers_before_it(rt: HostRuntime) -> Result<(), Fail> 
     Ok(())
 }
 
+// The last one is E80.
+const GIVEN_UP: &[Act] = &[Act::Asks(Asking::Answers(
+    &[Call::Register, Call::Start("f")],
+    Want::Told(&[Told::Replied(Named::Text(1)), Told::NotApplied(80)]),
+))];
+
+// With one page in memory a read of the second command fails: it is given up.
+#[test]
+fn a_read_that_fails_gives_it_up(rt: HostRuntime) -> Result<(), Fail> {
+    assert!(rt; are_so_failing(rt.alloc(), 34, 1, GIVEN_UP));
+    Ok(())
+}
+
 const OPEN: &[Act] = &[
     Act::Asks(Asking::Finds(
         &[],

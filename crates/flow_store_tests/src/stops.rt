@@ -44,7 +44,7 @@ fn has_more(course: Course, book: Option<u64>, books: &Books) -> bool {
 
 impl Stops {
     fn note(&mut self, course: Course, book: Option<u64>, books: &Books) {
-        let count = if !is_stopped(course) {
+        let count = if !is_stopped(course) || !books.are_told(&course) {
             &mut self.wrong
         } else if books.is_after(course.kept, book) {
             &mut self.kept

@@ -100,8 +100,12 @@ fn a_closed_run_that_differs_is_named(rt: HostRuntime) -> Result<(), Fail> {
 }
 
 const HALTED: &[Act] = &[Act::Asks(Asking::Verifies(
-    &[Call::Register, Call::Start("f")],
-    Want::Told(&[Told::Replied(Named::Text(1)), Told::Stopped(Stop::Unknown)]),
+    &[Call::Register, Call::Start("f"), Call::Complete(1)],
+    Want::Told(&[
+        Told::Replied(Named::Text(1)),
+        Told::Stopped(Stop::Unknown),
+        Told::Stopped(Stop::Halted),
+    ]),
     Verdict::Refused(85),
 ))];
 
