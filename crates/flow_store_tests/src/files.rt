@@ -39,33 +39,17 @@ pub fn crashed(files: Files<Memory>) -> Files<Memory> {
     files
 }
 
-/// How many pages a store has at hand.
-#[derive(Clone, Copy)]
-pub enum Pages {
-    /// One, so that a read asks the disk, and may fail too.
-    One,
-    /// As many as usual.
-    Usual,
-}
-
-fn options(pages: Pages) -> Options {
-    let mut options = Options::new(1);
-    match pages {
-        Pages::One => options.cache_pages = 1,
-        Pages::Usual => {}
-    }
-    options
-}
-
 fn opened<D: Disk + Drop>(
     alloc: Global,
     files: Files<D>,
-    pages: Pages,
 ) -> Result<Connection<FileStore<D>>, Files<D>> {
     if !files.may_be_used() {
         return Err(files);
     }
-    match Connection::open_files(alloc, files, options(pages)) {
+    // With one page at hand a read asks the disk, so that it may fail too.
+    let mut options = Options::new(1);
+    options.cache_pages = 1;
+    match Connection::open_files(alloc, files, options) {
         Ok(conn) => Ok(conn),
         Err((_, left)) => Err(left.into_files()),
     }
@@ -90,13 +74,8 @@ fn found_again<S: Alter>(
 }
 
 /// What becomes of batches over these files, and the files behind them.
-fn asked_of<D: Disk + Drop>(
-    alloc: Global,
-    files: Files<D>,
-    plan: Plan,
-    pages: Pages,
-) -> (Asked, Files<D>) {
-    match opened(alloc, files, pages) {
+pub fn asked_of<D: Disk + Drop>(alloc: Global, files: Files<D>, plan: Plan) -> (Asked, Files<D>) {
+    match opened(alloc, files) {
         Ok(conn) => {
             let (course, conn) = asked(alloc, conn, plan);
             let (again, conn) = found_again(alloc, conn, course);
@@ -117,7 +96,7 @@ fn asked_of<D: Disk + Drop>(
 
 /// The book that is found in these files.
 pub fn found_in(alloc: Global, files: Files<Memory>) -> Option<u64> {
-    match opened(alloc, files, Pages::One) {
+    match opened(alloc, files) {
         Ok(conn) => {
             let (book, conn) = found(alloc, conn);
             let _files = conn.into_store().close();
@@ -161,7 +140,7 @@ fn behind_stop(asked: Asked, files: Files<StopAt<Memory>>) -> Disturbed {
 /// Over files that stop.
 pub fn stopped(alloc: Global, files: Files<Memory>, stop: Stop, plan: Plan) -> Option<Disturbed> {
     let files = stopping(alloc, files, stop)?;
-    let (asked, files) = asked_of(alloc, files, plan, Pages::One);
+    let (asked, files) = asked_of(alloc, files, plan);
     Some(behind_stop(asked, files))
 }
 
@@ -190,7 +169,7 @@ fn behind_failure(asked: Asked, files: Files<FailAt<Memory>>) -> Disturbed {
 /// Over files of which one call fails.
 pub fn failed(alloc: Global, files: Files<Memory>, at: u64, plan: Plan) -> Option<Disturbed> {
     let files = failing(alloc, files, at)?;
-    let (asked, files) = asked_of(alloc, files, plan, Pages::One);
+    let (asked, files) = asked_of(alloc, files, plan);
     Some(behind_failure(asked, files))
 }
 
@@ -219,15 +198,10 @@ fn behind_counts(files: Files<Counting<Memory>>) -> Files<Memory> {
 }
 
 /// Over files that count.
-pub fn undisturbed(
-    alloc: Global,
-    files: Files<Memory>,
-    plan: Plan,
-    pages: Pages,
-) -> Option<Counted> {
+pub fn undisturbed(alloc: Global, files: Files<Memory>, plan: Plan) -> Option<Counted> {
     let calls = Calls::new(alloc).ok()?;
     let files = counting(files, calls.share().ok()?, calls.share().ok()?);
-    let (asked, files) = asked_of(alloc, files, plan, pages);
+    let (asked, files) = asked_of(alloc, files, plan);
     Some(Counted {
         course: asked.course,
         calls: calls.count(),
@@ -237,8 +211,7 @@ pub fn undisturbed(
 
 /// How many calls batches need over copies of these files, if all are kept.
 pub fn calls_over(alloc: Global, base: &Files<Memory>, plan: Plan) -> Option<u64> {
-    let files = copies(alloc, base)?;
-    let Counted { course, calls, .. } = undisturbed(alloc, files, plan, Pages::One)?;
+    let Counted { course, calls, .. } = undisturbed(alloc, copies(alloc, base)?, plan)?;
     if course.is_whole(plan.to) {
         Some(calls)
     } else {
@@ -248,7 +221,7 @@ pub fn calls_over(alloc: Global, base: &Files<Memory>, plan: Plan) -> Option<u64
 
 /// New files behind batches: of a store that was closed, or of one that stopped so many calls before the last one.
 pub fn left_by(alloc: Global, plan: Plan, before: Option<u64>) -> Option<Files<Memory>> {
-    let Counted { calls, files, .. } = undisturbed(alloc, empty(alloc), plan, Pages::One)?;
+    let Counted { calls, files, .. } = undisturbed(alloc, empty(alloc), plan)?;
     let Some(before) = before else {
         return Some(files);
     };

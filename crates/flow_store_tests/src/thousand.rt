@@ -1,7 +1,7 @@
 //! A thousand commands over a store that counts its calls: each batch is kept, and the book is the same however they are cut.
 use crate::books::book;
 use crate::course::{Course, NOTHING, Plan};
-use crate::files::{Counted, Pages, empty, found_in, undisturbed};
+use crate::files::{Counted, empty, found_in, undisturbed};
 use std::alloc::Global;
 use std::test::Fail;
 
@@ -20,8 +20,8 @@ fn all_kept(alloc: Global, plan: Plan, rest: Plan, wanted: Option<u64>) -> Optio
         course,
         calls,
         files,
-    } = undisturbed(alloc, empty(alloc), plan, Pages::Usual)?;
-    let last = undisturbed(alloc, files, rest, Pages::Usual)?;
+    } = undisturbed(alloc, empty(alloc), plan)?;
+    let last = undisturbed(alloc, files, rest)?;
     let figures = [
         kept(course).saturating_add(kept(last.course)),
         calls.saturating_add(last.calls),
