@@ -130,12 +130,10 @@ impl Books {
 
     /// Whether the replies to the batches of a course that were kept are those that nothing disturbs.
     pub fn are_told(&self, course: &Course) -> bool {
-        let list = if course.broken == Ended::GivenUp && course.kept_later > 0 {
-            &self.without
-        } else {
-            &self.after
-        };
-        is_told_at(list.as_slice(), course.kept, course.told)
+        if course.broken == Ended::GivenUp && course.kept_later > 0 {
+            return is_told_at(self.without.as_slice(), course.kept, course.told);
+        }
+        is_told_at(self.after.as_slice(), course.kept, course.told)
     }
 }
 

@@ -45,7 +45,7 @@ enum Outcome {
 }
 
 /// What a failing call has come to, where the book that is found is the right one.
-fn outcome(plan: Plan, course: Course, book: Option<u64>, books: &Books) -> Outcome {
+fn outcome_of(plan: Plan, course: Course, book: Option<u64>, books: &Books) -> Outcome {
     let rest = plan.to.saturating_sub(course.kept).saturating_sub(1);
     match course.broken {
         Ended::Kept if !course.is_open && books.is_after(0, book) => Outcome::Unopened,
@@ -73,7 +73,7 @@ impl Failures {
     }
 
     fn note(&mut self, plan: Plan, asked: Asked, book: Option<u64>, books: &Books) {
-        let outcome = outcome(plan, asked.course, book, books);
+        let outcome = outcome_of(plan, asked.course, book, books);
         self.count(if books.are_told(&asked.course) {
             outcome
         } else {

@@ -42,23 +42,35 @@ fn has_more(course: Course, book: Option<u64>, books: &Books) -> bool {
     course.broken == Ended::Unknown && books.is_after(course.kept.saturating_add(1), book)
 }
 
+/// What a stop has left.
+#[derive(Clone, Copy)]
+enum Left {
+    Kept,
+    More,
+    Wrong,
+}
+
+fn left_by_stop(course: Course, book: Option<u64>, books: &Books) -> Left {
+    if !is_stopped(course) || !books.are_told(&course) {
+        return Left::Wrong;
+    }
+    if books.is_after(course.kept, book) {
+        return Left::Kept;
+    }
+    if has_more(course, book, books) {
+        return Left::More;
+    }
+    Left::Wrong
+}
+
 impl Stops {
-    fn note(&mut self, course: Course, book: Option<u64>, books: &Books) {
-        let count = if !is_stopped(course) || !books.are_told(&course) {
-            &mut self.wrong
-        } else if books.is_after(course.kept, book) {
-            &mut self.kept
-        } else if has_more(course, book, books) {
-            &mut self.more
-        } else {
-            &mut self.wrong
+    fn count(&mut self, left: Left) {
+        let count = match left {
+            Left::Kept => &mut self.kept,
+            Left::More => &mut self.more,
+            Left::Wrong => &mut self.wrong,
         };
         *count = count.saturating_add(1);
-    }
-
-    /// A stop that came to nothing.
-    fn miss(&mut self) {
-        self.wrong = self.wrong.saturating_add(1);
     }
 
     fn look(&mut self, alloc: Global, disturbed: Disturbed, is_machine: bool, books: &Books) {
@@ -69,11 +81,12 @@ impl Stops {
         } = disturbed;
         let files = if is_machine { crashed(files) } else { files };
         let book = found_in(alloc, files);
-        if is_reached {
-            self.note(asked.course, book, books);
+        // A stop that isn't reached came to nothing.
+        self.count(if is_reached {
+            left_by_stop(asked.course, book, books)
         } else {
-            self.miss();
-        }
+            Left::Wrong
+        });
     }
 }
 
@@ -107,7 +120,7 @@ fn stop_along(
         if is_met(at, along.way as u64, along.step) {
             match stopped_at(alloc, base, plan, Stop { at, part }) {
                 Some(disturbed) => stops.look(alloc, disturbed, is_machine, books),
-                None => stops.miss(),
+                None => stops.count(Left::Wrong),
             }
         }
     }
@@ -166,7 +179,7 @@ fn are_right(figures: [u64; 4]) -> bool {
 /// The book is left by all.
 fn is_right(figures: Option<[u64; 4]>) -> bool {
     match figures {
-        Some([_calls, right, more, wrong]) => right > 0 && more == 0 && wrong == 0,
+        Some(figures) => figures[1] > 0 && figures[2] == 0 && figures[3] == 0,
         None => false,
     }
 }
