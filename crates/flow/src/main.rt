@@ -14,6 +14,7 @@ use flow_cli::drive::Stopped;
 use flow_cli::ending::ended;
 use flow_cli::fault::fault_of_error;
 use flow_cli::safety::tell_safety;
+use flow_cli::settlement::tell_settlement;
 use flow_cli::work::{Work, perform_here};
 use flow_settings::settings::Settings;
 use std::process::ExitCode;
@@ -64,6 +65,7 @@ fn answer<T: Threads + Wait + Clock + Copy + Send + Drop + 'static>(
     match call {
         Call::Check(file) => done(check(rt, file)),
         Call::Safe { old, new } => done(safe(rt, old, new)),
+        Call::Settle { old, new } => done(settle(rt, old, new)),
         Call::Over("-", work) => done(over_memory(rt, work)),
         Call::Over(file, work) => done(over_file(rt, file, work)),
         Call::Work { base, settings } => keep_running(rt, threads, base, *settings),
@@ -90,6 +92,20 @@ fn safe(rt: &HostRuntime, old: &str, new: &str) -> Result<u8, Stopped> {
     let new = text_in(rt, new)?;
     let mut writer = io::writer(rt);
     tell_safety(
+        rt.alloc(),
+        &Language,
+        &mut writer,
+        old.as_str(),
+        new.as_str(),
+    )
+}
+
+/// Both files are read before one is checked.
+fn settle(rt: &HostRuntime, old: &str, new: &str) -> Result<u8, Stopped> {
+    let old = text_in(rt, old)?;
+    let new = text_in(rt, new)?;
+    let mut writer = io::writer(rt);
+    tell_settlement(
         rt.alloc(),
         &Language,
         &mut writer,

@@ -7,6 +7,7 @@ pub mod Replies
 pub mod Lines
 pub mod Runs
 pub mod Safeties
+pub mod Settlements
 pub mod Answering
 pub mod Later
 pub mod Batches

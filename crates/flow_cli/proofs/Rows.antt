@@ -5,7 +5,7 @@ use Rattle.clap.proofs.WalkLemmas.{first_value-rows}
 use Rattle.clap.specs.Words.{Text, fault_of, first_of, first_value, rows_of}
 use Rattle.clap.specs.declared.error.kind.ErrorKind.TheVariants as kind
 use Rattle.clap.specs.declared.parser.matches.Found.{Found}
-use Rattle.flow_cli.specs.Calls.{flow, call_in, Check, Safe, Drive, History, Work}
+use Rattle.flow_cli.specs.Calls.{flow, call_in, Check, Safe, Settle, Drive, History, Work}
 
 pub first_in_rows : (f : Found) (id : Text) → first_value f id ≡ first_of id (rows_of f)
 first_in_rows f id = first_value-rows f id
@@ -61,6 +61,14 @@ safe_is_taken = refl
 safe_says : call_in (codes "flow" ∷ codes "safe" ∷ codes "a" ∷ codes "b" ∷ []) ≡ Some (Safe (codes "a") (codes "b"))
 unfolding clap_on_literals
 safe_says = refl
+
+settle_is_taken : fault_of flow (codes "flow" ∷ codes "settle" ∷ codes "a" ∷ codes "b" ∷ []) ≡ []
+unfolding clap_on_literals
+settle_is_taken = refl
+
+settle_says : call_in (codes "flow" ∷ codes "settle" ∷ codes "a" ∷ codes "b" ∷ []) ≡ Some (Settle (codes "a") (codes "b"))
+unfolding clap_on_literals
+settle_says = refl
 
 run_none : call_in (codes "flow" ∷ codes "history" ∷ codes "a" ∷ codes "0" ∷ []) ≡ None
 unfolding clap_on_literals

@@ -6,8 +6,8 @@ use Rattle.clap.specs.Simple.{on_top}
 use Rattle.clap.specs.ValueTests.{is_unsigned_in}
 use Rattle.std.specs.Str.Parse.{digits_value, without_leading_plus}
 
--- ---- the program: `flow check FILE`, `flow drive DB [--batch N]`, `flow history DB RUN`, `flow safe OLD NEW` and
--- ---- `flow work DB [--settings FILE]`
+-- ---- the program: `flow check FILE`, `flow drive DB [--batch N]`, `flow history DB RUN`, `flow safe OLD NEW`,
+-- ---- `flow settle OLD NEW` and `flow work DB [--settings FILE]`
 
 -- an argument with one value, which has to be there
 abbrev pub needed : Text → Rule
@@ -27,6 +27,9 @@ new_file = needed (codes "NEW")
 
 abbrev pub safe : App
 safe = with_rule (with_rule (new_app (codes "safe")) old_file) new_file
+
+abbrev pub settle : App
+settle = with_rule (with_rule (new_app (codes "settle")) old_file) new_file
 
 abbrev pub base : Rule
 base = needed (codes "DB")
@@ -53,7 +56,8 @@ work = with_rule (with_rule (new_app (codes "work")) base) settings
 
 -- the program with the calls that read texts alone
 abbrev pub over_texts : App
-over_texts = with_subcommand (with_subcommand (on_top (λ s. record s { subcommand_required = true }) (new_app (codes "flow"))) check.top) safe.top
+over_texts =
+    with_subcommand (with_subcommand (with_subcommand (on_top (λ s. record s { subcommand_required = true }) (new_app (codes "flow"))) check.top) safe.top) settle.top
 
 -- with those that answer what is asked and end
 abbrev pub answering : App
@@ -67,6 +71,7 @@ flow = with_subcommand answering work.top
 pub data Call : Type 0 where
   Check : Text → Call
   Safe : (old new : Text) → Call
+  Settle : (old new : Text) → Call
   Drive : Text → ℕ → Call
   History : Text → ℕ → Call
   Work : Text → Option Text → Call
@@ -84,6 +89,9 @@ batch_in word = number_in 64 word
 abbrev pub safe_in : List Row → Option Call
 safe_in rows = option_and_then (λ old. option_map (Safe old) (first_of (codes "NEW") rows)) (first_of (codes "OLD") rows)
 
+abbrev pub settle_in : List Row → Option Call
+settle_in rows = option_and_then (λ old. option_map (Settle old) (first_of (codes "NEW") rows)) (first_of (codes "OLD") rows)
+
 abbrev pub drive_in : List Row → Option Call
 drive_in rows = option_and_then (λ base. option_and_then (λ word. option_map (Drive base) (batch_in word)) (first_of (codes "batch") rows)) (first_of (codes "DB") rows)
 
@@ -99,7 +107,8 @@ named_call name rows =
     (if bytes_eq name (codes "drive") then drive_in rows else
     (if bytes_eq name (codes "history") then history_in rows else
     (if bytes_eq name (codes "safe") then safe_in rows else
-    (if bytes_eq name (codes "work") then work_in rows else None))))
+    (if bytes_eq name (codes "settle") then settle_in rows else
+    (if bytes_eq name (codes "work") then work_in rows else None)))))
 
 -- the call that clap's matches of the words are
 abbrev pub call_in : List Text → Option Call

@@ -5,6 +5,7 @@ pub mod Commands
 pub mod Replies
 pub mod Verdicts
 pub mod Safety
+pub mod Settlements
 pub mod Driving
 pub mod Answering
 pub mod Stopping

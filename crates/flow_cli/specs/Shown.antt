@@ -8,6 +8,7 @@ use Rattle.flow_cli.specs.declared.work.Work.TheVariants as work
 abbrev pub shown : Call → pure.Call
 shown (call.Check file) = pure.Check file.now
 shown (call.Safe old new) = pure.Safe old.now new.now
+shown (call.Settle old new) = pure.Settle old.now new.now
 shown (call.Over base (work.Drive most)) = pure.Drive base.now most
 shown (call.Over base (work.History run)) = pure.History base.now run
 shown (call.Work base settings) = pure.Work base.now (option_map (λ t. t.now) settings)

@@ -3,7 +3,7 @@ ghost use Rattle.std.specs.Prelude.{◌≡◌, ◌⊎◌, IfOk, IfErr, false, ma
 ghost use Rattle.clap.specs.Words.{app_of, rule_of, found_of, rows_of, first_of, subcommand_rows_of};
 ghost use Rattle.clap.specs.declared.builder.command.Command.TheViews.{out-Command as fields_of};
 ghost use Rattle.clap.specs.declared.error.kind.ErrorKind.TheVariants.{OutOfMemory};
-ghost use Rattle.flow_cli.specs.Calls.{flow, answering, over_texts, check, safe, drive, history, work, settings, needed, batch, run_in, batch_in, safe_in, drive_in, history_in, work_in, named_call, IsCall};
+ghost use Rattle.flow_cli.specs.Calls.{flow, answering, over_texts, check, safe, settle, drive, history, work, settings, needed, batch, run_in, batch_in, safe_in, settle_in, drive_in, history_in, work_in, named_call, IsCall};
 ghost use Rattle.flow_cli.specs.Calls.{Call as Pure};
 ghost use Rattle.flow_cli.specs.Shown.{shown};
 
@@ -24,6 +24,11 @@ pub enum Call<'a> {
     Check(&'a str),
     /// Tell whether the change from the text in the first file to that in the second is safe.
     Safe {
+        old: &'a str,
+        new: &'a str,
+    },
+    /// Tell which patches of the text in the first file that in the second settles.
+    Settle {
         old: &'a str,
         new: &'a str,
     },
@@ -57,6 +62,17 @@ fn safe_command<'a>(alloc: Global) -> Result<Command<'a>, AllocError>
 {
     Ok(
         Command::new(alloc, "safe")
+            .arg(needed_arg(alloc, "OLD"))?
+            .arg(needed_arg(alloc, "NEW"))?,
+    )
+}
+
+fn settle_command<'a>(alloc: Global) -> Result<Command<'a>, AllocError>
+    ensures app { IfOk result (λ c. app_of c ≡ settle) }
+    ensures local { IfOk result (λ c. (fields_of c).has_globals ≡ false) }
+{
+    Ok(
+        Command::new(alloc, "settle")
             .arg(needed_arg(alloc, "OLD"))?
             .arg(needed_arg(alloc, "NEW"))?,
     )
@@ -122,11 +138,13 @@ fn text_command<'a>(alloc: Global) -> Result<Command<'a>, AllocError>
 {
     let check = check_command(alloc)?;
     let safe = safe_command(alloc)?;
+    let settle = settle_command(alloc)?;
     Ok(
         Command::new(alloc, "flow")
             .subcommand_required(true)
             .subcommand(check)?
-            .subcommand(safe)?,
+            .subcommand(safe)?
+            .subcommand(settle)?,
     )
 }
 
@@ -183,6 +201,14 @@ fn safe_call<'a>(found: &ArgMatches<'a>) -> Option<Call<'a>>
     Some(Call::Safe { old, new })
 }
 
+fn settle_call<'a>(found: &ArgMatches<'a>) -> Option<Call<'a>>
+    ensures { option_map shown result ≡ settle_in (rows_of (found_of found.now)) }
+{
+    let old = text_of(found, "OLD")?;
+    let new = text_of(found, "NEW")?;
+    Some(Call::Settle { old, new })
+}
+
 fn drive_call<'a>(found: &ArgMatches<'a>) -> Option<Call<'a>>
     ensures { option_map shown result ≡ drive_in (rows_of (found_of found.now)) }
 {
@@ -218,6 +244,7 @@ fn named_call<'a>(name: &str, found: &ArgMatches<'a>) -> Option<Call<'a>>
         "drive" => drive_call(found),
         "history" => history_call(found),
         "safe" => safe_call(found),
+        "settle" => settle_call(found),
         "work" => work_call(found),
         _ => None,
     }

@@ -11,4 +11,5 @@ pub mod fault;
 pub mod history;
 pub mod reply;
 pub mod safety;
+pub mod settlement;
 pub mod work;
