@@ -117,7 +117,8 @@ fn at(table: Table, run: i64, place: i64) -> Option<Damage> {
 
 #[test]
 fn rows_name_what_is_there(rt: HostRuntime) -> Result<(), Fail> {
-    assert!(rt; found(rt.alloc(), &[RUN], &[])? == at(Table::Run, 2, 0));
+    let textless = (1, "f", "", 1, 1);
+    assert!(rt; found(rt.alloc(), &[textless], &[])? == at(Table::Run, 1, 0));
     assert!(rt; found(rt.alloc(), &[], &[(4, 7, 1, STARTED)])? == at(Table::Event, 4, 7));
     Ok(())
 }
