@@ -1,62 +1,192 @@
 #!/usr/bin/env python3
-"""Runs orders by `flow drive`: starts the program as a child, writes it a command a line, reads a reply a line, and runs the activities
-itself. Kill this or its `flow` at any moment, and start this again: each order goes on where it was."""
+"""Pays orders, with workers of your own: worker.py DB ORDER .. [--workers N].
+
+It starts `flow serve DB`, which prints a line for each task, and N processes, each of which runs one activity at a time: whoever is idle
+gets the next one. Kill any of them at any moment: `flow` is started again, and so is a process, and another one gets its task. Kill this
+program itself and start it again: each order goes on where it was."""
+import argparse
+import collections
+import contextlib
 import json
+import os
+import queue
 import subprocess
 import sys
+import threading
 import time
 
-ACTIVITIES = {
-    "charge": lambda order, amount: f"payment {order}",
-    "ship": lambda order: f"parcel {order}",
-    "refund": lambda payment, amount: amount,
-}
-flow = subprocess.Popen(["./flow", "drive", "orders.db"], stdin=subprocess.PIPE, stdout=subprocess.PIPE, text=True)
+FLOW = "./flow"
+TEXT = os.path.join(os.path.dirname(os.path.realpath(__file__)), "refund.flow")
 
 
-def ask(do, **keys):
-    """Sends a command and returns its reply. No refusal is expected but E65: another attempt of the activity is due."""
+# What the workflow calls. One that raises has failed, and is tried again as the workflow says. One may be run twice, as when its process
+# is killed: if it does something outside, let the run and the event be the key for what mustn't happen twice.
+def charge(task, order, amount):
+    return f"payment {order}"
+
+
+def ship(task, order):
+    return f"parcel {order}"
+
+
+def refund(task, payment, amount):
+    return amount
+
+
+ACTIVITIES = {call.__name__: call for call in (charge, ship, refund)}
+
+
+def report(task, **result):
+    return {"run": task["run"], "event": task["event"], "attempt": task["attempt"], "at": 0, **result}
+
+
+def attempt(task):
+    """Runs an activity: the line that reports what it gave, or why it failed."""
     try:
-        print(json.dumps({"do": do, **keys}), file=flow.stdin, flush=True)
-        reply = json.loads(flow.stdout.readline())
-    except (BrokenPipeError, json.JSONDecodeError):
-        sys.exit("flow has ended: start this again")
-    if reply.get("code", "E65") != "E65":
-        sys.exit(f"{do}: {reply}")
-    return reply
+        return json.dumps(report(task, do="complete", value=ACTIVITIES[task["activity"]](task, *task["args"])))
+    except Exception as why:
+        return json.dumps(report(task, do="fail", reason=ascii(why)[:1000]))
 
 
-def now():
-    return int(time.time() * 1000)
+def do_tasks():
+    """What each process does: a task a line, a report a line. What an activity prints goes to standard error."""
+    tasks, reports = os.fdopen(os.dup(0)), os.fdopen(os.dup(1), "w")
+    os.dup2(os.open(os.devnull, os.O_RDONLY), 0)
+    os.dup2(2, 1)
+    sys.stdout = sys.stderr
+    for line in tasks:
+        told = attempt(json.loads(line))
+        try:
+            print(told, file=reports, flush=True)
+        except BrokenPipeError:  # the program that gave it out is gone
+            os._exit(1)
 
 
-def attempt(run, event, task):
-    """Runs an activity and reports it. If it failed and has attempts left, returns from when it may be tried again."""
-    print(task["activity"], *task["args"], flush=True)
-    try:
-        do, result = "complete", {"value": ACTIVITIES[task["activity"]](*task["args"])}
-    except OSError as error:
-        do, result = "fail", {"reason": str(error)}
-    for number in range(1, task["tries"] + 1):  # no reply says which attempt is due after a restart
-        reply = ask(do, run=run, event=event, attempt=number, at=now(), **result)
-        if reply["reply"] != "refused":
-            return reply.get("from", 0)
+def started(*words):
+    return subprocess.Popen(words, stdin=subprocess.PIPE, stdout=subprocess.PIPE, encoding="utf-8")
 
 
-with open("examples/refund.flow", encoding="utf-8") as file:
-    text = ask("register", src=file.read())["text"]
-runs = [ask("start", text=text, flow=f"order-{n}", req=f"order-{n}", args=[n, 500], at=now())["run"] for n in (7, 8)]
-ready = {}  # from when an activity that failed may be tried again
-while runs:
-    ask("tick", at=now())
-    for run in list(runs):
-        state = ask("describe", run=run)
-        events = {number: body for number, _, body in ask("history", run=run)["events"]}
-        for event in state["activities"]:
-            if now() >= ready.get((run, event), 0):
-                ready[run, event] = attempt(run, event, events[event])
-        if state["state"] != "open":
-            print(state["flow"], state["state"], flush=True)
-            runs.remove(run)
-    time.sleep(0.1)
-flow.communicate()
+def key_of(line):
+    return line["run"], line["event"], line["attempt"]
+
+
+class Flow:
+    """`flow serve`, one life after the other. It replies to lines in their order; what has no reply is sent to the next life again."""
+
+    def __init__(self, base, workers):
+        self.base, self.is_over, self.in_vain = base, False, 0
+        self.lock = threading.Lock()  # held by who writes
+        self.sent = collections.deque()  # the lines without a reply, each with who waits for it
+        self.tasks = queue.Queue()
+        self.held = set()  # the tasks in hand: each waits, is run, or its report has no reply
+        self.known = set()  # those which were in hand when this life began: it may print them once more
+        self.reported = threading.Event()
+        self.child = started(FLOW, "serve", base)
+        self.reader = threading.Thread(target=self.read, daemon=True)
+        for thread in (self.reader, *(threading.Thread(target=self.work, daemon=True) for _ in range(workers))):
+            thread.start()
+
+    def write(self, line):
+        with contextlib.suppress(OSError):  # that life has ended
+            print(json.dumps(line), file=self.child.stdin, flush=True)
+
+    def send(self, line, asker=None):
+        with self.lock:
+            self.sent.append((line, asker))
+            self.write(line)
+
+    def ask(self, do, **keys):
+        """Sends a command, and returns its reply."""
+        asker = queue.Queue()
+        self.send({"do": do, **keys}, asker)
+        return asker.get()
+
+    def read(self):
+        while True:
+            for line in self.child.stdout:
+                if line.endswith("\n"):  # the last one of a life that was killed may be cut
+                    self.in_vain = 0
+                    self.hear(json.loads(line))
+            status = self.child.wait()
+            self.in_vain += status > 0  # a fault, whose number is on standard error; an earlier `flow` may have the file a moment longer
+            if self.in_vain > 50:
+                os._exit(status)
+            time.sleep(0.1)
+            with self.lock:
+                if self.is_over:
+                    return
+                self.begin_again()
+
+    def begin_again(self):
+        with contextlib.suppress(OSError):
+            self.child.stdin.close()
+        self.child.stdout.close()
+        self.child, self.known = started(FLOW, "serve", self.base), set(self.held)
+        for line, _ in self.sent:
+            self.write(line)
+
+    def hear(self, told):
+        if told["reply"] == "task":
+            return self.take(told)
+        line, asker = self.sent.popleft()
+        if told["reply"] == "not applied":  # the disk is full, perhaps
+            threading.Timer(1, self.send, (line, asker)).start()
+        elif told.get("code") in ("E02", "E66") and line["do"] == "complete":  # no value, or not of the type that the workflow says
+            self.send(report(line, do="fail", reason="wrong type"))
+        elif asker:
+            asker.put(told)
+        else:
+            self.held.discard(key_of(line))
+            self.reported.set()
+
+    def take(self, task):
+        """Takes a task in hand, if it isn't and its activity is one of ours."""
+        if key_of(task) in self.known:
+            self.known.discard(key_of(task))
+        elif task["activity"] in ACTIVITIES:
+            self.held.add(key_of(task))
+            self.tasks.put(task)
+
+    def work(self):
+        """Hands tasks to a process, one at a time. If that ends with a task in hand, another one gets it."""
+        task = self.tasks.get()
+        while True:
+            with contextlib.suppress(OSError, ValueError), started(sys.executable, os.path.realpath(sys.argv[0]), "--do") as child:
+                while True:
+                    print(json.dumps(task), file=child.stdin, flush=True)
+                    self.send(json.loads(child.stdout.readline()))
+                    task = self.tasks.get()
+
+    def wait(self, run):
+        """Waits until a run has ended, and returns what `describe` says of it."""
+        while (told := self.ask("describe", run=run))["state"] == "open":
+            self.reported.wait(1)
+            self.reported.clear()
+        return told
+
+    def end(self):
+        """Ends it. What is open stays so, and the next life prints it again."""
+        with self.lock, contextlib.suppress(OSError):
+            self.is_over = True
+            self.child.stdin.close()
+        self.reader.join()
+
+
+def main():
+    words = argparse.ArgumentParser()
+    words.add_argument("base")
+    words.add_argument("orders", nargs="+", type=int)
+    words.add_argument("--workers", type=int, default=1)
+    words = words.parse_args()
+    flow = Flow(words.base, words.workers)
+    with open(TEXT, encoding="utf-8") as file:
+        text = flow.ask("register", src=file.read())["text"]
+    keys = [{"flow": f"order-{order}", "req": f"order-{order}", "args": [order, 500]} for order in words.orders]
+    for run in [flow.ask("start", text=text, at=0, **its)["run"] for its in keys]:
+        told = flow.wait(run)
+        print(told["flow"], told["state"])
+    flow.end()
+
+
+if __name__ == "__main__":
+    do_tasks() if sys.argv[1:] == ["--do"] else main()

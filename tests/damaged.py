@@ -133,7 +133,7 @@ def damage(tally, case, sound, base):
     others = of_others(base)
     for pair in case.pairs:
         tally.check(case.what, flow(["drive", base], joined(pair[:1])), outcome([pair]))
-    check_verified(tally, case.what, base)
+    check_verified(tally, case.what, base, case.verified)
     tally.check(f"{case.what}, the rows of others", of_others(base), others)
 
 

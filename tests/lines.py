@@ -8,7 +8,7 @@ A file has blocks with a blank line between two. A block begins with a comment a
     > a line of input, as it is
     < the line that answers it
     RUN: a line of `flow history DB RUN`, behind all lines of input
-    ! STATUS TEXT                    the status if it isn't 0, and the line on standard error
+    ! STATUS TEXT                    the status if it isn't 0, and a line on standard error; several where it has several
 
 All runs of each store that a case makes replay, and `flow verify` says how many there are. Each case is driven over memory and over a
 file. Over a file it is cut into lives of the program, a short one in every way, so that the store is closed and opened again between any
@@ -117,7 +117,7 @@ def read_case(place, block):
         elif mark == "!":
             status, _, says = rest.partition(" ")
             of = case.calls[-1] if case.calls else case
-            of.status, of.says = int(status), (says + "\n").encode() if says else b""
+            of.status, of.says = int(status), of.says + ((says + "\n").encode() if says else b"")
         elif mark == "verify":
             status, _, says = rest.partition(" ")
             case.verified = (int(status), b"", (says + "\n").encode())

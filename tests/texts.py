@@ -1,19 +1,20 @@
-"""The files `tests/cases/*.texts` and `*.safe`: texts, and changes from one text to another. A row is one JSON object a line.
+"""The files `tests/cases/*.texts`, `*.safe` and `*.settle`: texts, and changes from one text to another. A row is one JSON object a line.
 
 A row of `.texts` has
 
     text, or hex (its bytes), or make (an expression of Python that makes it)
     says      what `flow check` prints of it: ok, or a code and the place of the byte; E93 for bytes that aren't UTF-8
 
-and the line that registers the text is answered the same, or E02 for bytes that aren't UTF-8. A row of `.safe` has
+and the line that registers the text is answered the same, or E02 for bytes that aren't UTF-8. A row of `.safe` or
+`.settle` has
 
     old, new  the two texts
-    says      what `flow safe` prints
+    says      what `flow safe` or `flow settle` prints
     args      the arguments of a run of the old text, none by default
     upgrade   what an upgrade of that run to the new text is answered: upgraded, E64 (the run has ended at once), or E68 with the
               event and its code; no run is tried if it isn't there
 
-In both `why` says what the row shows.
+In all `why` says what the row shows.
 """
 import json
 import os
@@ -102,12 +103,13 @@ def all_registered(tally, texts, size, base, lives):
         compared(tally, f"registering in batches of {size}", names, found, replies, status)
 
 
-def safe(tally, name, row, old, new):
-    """What `flow safe` says of a change, and of each text without a change."""
+def asked(tally, name, call, row, old, new):
+    """What `flow safe` or `flow settle` says of a change, and `flow safe` of each text without a change."""
     for path, text in ((old, row["old"]), (new, row["new"])):
         with open(path, "w", encoding="utf-8") as it:
             it.write(text)
-    tally.check(name, flow(["safe", old, new]), (0 if row["says"] == "safe" else 1, row["says"].encode() + b"\n", b""))
+    is_yes = row["says"] == "safe" or row["says"].startswith("settles ")
+    tally.check(name, flow([call, old, new]), (0 if is_yes else 1, row["says"].encode() + b"\n", b""))
     if "upgrade" in row:
         for path in (old, new):
             tally.check(f"{name}, no change", flow(["safe", path, path]), (0, b"safe\n", b""))
@@ -155,8 +157,9 @@ def all_upgraded(tally, changes, size):
 def jobs(tally, paths, folder):
     """What is to be done for these files, each a call without arguments that may run beside the others."""
     texts = [(name, source(row), row["says"]) for name, row in rows(it for it in paths if it.endswith(".texts"))]
-    changes = list(rows(it for it in paths if it.endswith(".safe")))
-    tried = [(name, row) for name, row in changes if "upgrade" in row]
+    changes = [(call, *row) for call in ("safe", "settle") for row in rows(it for it in paths if it.endswith("." + call))]
+    upgrades = [(call, name, row) for call, name, row in changes if "upgrade" in row]
+    tried = [(name, row) for _, name, row in upgrades]
     at = lambda name: os.path.join(folder, name)
     for size in BATCHES:
         if texts:
@@ -166,7 +169,7 @@ def jobs(tally, paths, folder):
             yield lambda size=size: all_upgraded(tally, tried, size)
     for number, (name, text, says) in enumerate(texts):
         yield lambda name=name, text=text, says=says, path=at(f"text{number}"): checked(tally, name, text, says, path)
-    for number, (name, row) in enumerate(changes):
-        yield lambda name=name, row=row, old=at(f"old{number}"), new=at(f"new{number}"): safe(tally, name, row, old, new)
-    for number, (name, row) in enumerate(tried):
-        yield lambda name=name, row=row, base=at(f"upgrade{number}.db"): upgraded(tally, name, row, base)
+    for number, (call, name, row) in enumerate(changes):
+        yield lambda call=call, name=name, row=row, old=at(f"{call}-old{number}"), new=at(f"{call}-new{number}"): asked(tally, name, call, row, old, new)
+    for number, (call, name, row) in enumerate(upgrades):
+        yield lambda name=name, row=row, base=at(f"{call}-upgrade{number}.db"): upgraded(tally, name, row, base)

@@ -12,4 +12,4 @@ next_of (Err fault) = Err fault
 -- the status is one of those that the program may end with
 abbrev pub IsWithin : Next → Type 0
 IsWithin (Done status) = status ≤ 3
-IsWithin (Keep file settings) = Unit {0}
+IsWithin (Keep file settings activities) = Unit {0}

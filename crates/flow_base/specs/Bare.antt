@@ -2,7 +2,7 @@
 use Rattle.std.specs.Prelude.{map}
 use Rattle.flow_base.specs.declared.syntax.Parameter.{Parameter}
 use Rattle.flow_base.specs.declared.syntax.TypeAt.{TypeAt}
-use Rattle.flow_base.specs.Syntax.{Expression, Number, Literal, Variable, Now, Apply, Combine, Statement, Let, Assign, Call, WaitSignal, WaitSignalFor, Sleep, If, While, Parallel, Patch, Return, FailWith, Continue, Block, End, Next, Otherwise, NoElse, Else, Branches, NoBranch, Branch, Declared, Activity, Signal, Program}
+use Rattle.flow_base.specs.Syntax.{Expression, Number, Literal, Variable, Now, Apply, Combine, Statement, Let, Assign, Call, WaitSignal, WaitSignalFor, Sleep, If, While, Parallel, Patch, Deprecate, Return, FailWith, Continue, Block, End, Next, Otherwise, NoElse, Else, Branches, NoBranch, Branch, Declared, Activity, Signal, Program}
 use Rattle.flow_base.specs.declared.syntax.Retry.{Retry}
 
 abbrev pub bare_expression : Expression → Expression
@@ -28,6 +28,7 @@ abbrev mutual
   bare_statement (While at e b end) = While 0 (bare_expression e) (bare_block b) 0
   bare_statement (Parallel at bs end) = Parallel 0 (bare_branches bs) 0
   bare_statement (Patch at id_at id a a_end b b_end) = Patch 0 0 id (bare_block a) 0 (bare_block b) 0
+  bare_statement (Deprecate at id_at id) = Deprecate 0 0 id
   bare_statement (Return at e) = Return 0 (bare_expression e)
   bare_statement (FailWith at e) = FailWith 0 (bare_expression e)
   bare_statement (Continue at es) = Continue 0 (map bare_expression es)

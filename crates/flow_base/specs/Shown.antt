@@ -46,6 +46,7 @@ stmt_step (layer.If at e a b) = tree.If at (shown_expr e) a.0 a.1 b.0 b.1
 stmt_step (layer.While at e b) = tree.While at (shown_expr e) b.0 b.1
 stmt_step (layer.Parallel at b bs end) = tree.Parallel at (branches_of (b ∷ bs.items)) end
 stmt_step (layer.Patch at id_at id a b) = tree.Patch at id_at id a.0 a.1 b.0 b.1
+stmt_step (layer.Deprecate at id_at id) = tree.Deprecate at id_at id
 stmt_step (layer.Return at e) = tree.Return at (shown_expr e)
 stmt_step (layer.FailWith at e) = tree.FailWith at (shown_expr e)
 stmt_step (layer.Continue at es) = tree.Continue at (map shown_expr es.items)

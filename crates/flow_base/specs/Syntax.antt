@@ -36,6 +36,7 @@ mutual
     -- with the place of the brace that closes the block of branches
     Parallel : (at : ℕ) → Branches → (end : ℕ) → Statement
     Patch : (at id_at : ℕ) (id : Bytes) (first : Block) (first_end : ℕ) (second : Block) (second_end : ℕ) → Statement
+    Deprecate : (at id_at : ℕ) (id : Bytes) → Statement
     Return : (at : ℕ) → Expression → Statement
     FailWith : (at : ℕ) → Expression → Statement
     Continue : (at : ℕ) → List Expression → Statement

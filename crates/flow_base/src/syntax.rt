@@ -129,6 +129,8 @@ pub enum Stmt {
     /// The place of the patch's id, the id, what is done since the patch, and what was done before it. A missing second
     /// list is as that of `If`.
     Patch(usize, usize, Key, Block, Block),
+    /// The place of the id of a patch whose second list has been taken out, and the id.
+    Deprecate(usize, usize, Key),
     Return(usize, Expr),
     FailWith(usize, Expr),
     /// `continue as new`, with the arguments of the next run.

@@ -21,9 +21,11 @@ fn ints(alloc: Global, numbers: &[i64]) -> Result<Sequence<Value>, Fail> {
 fn task(alloc: Global, attempt: u64, numbers: &[i64]) -> Result<Task, Fail> {
     let run = RunId::new(1).ok_or("no run")?;
     let event = EventId::new(2).ok_or("no event")?;
+    let flow = Key::new(alloc, "order-7")?;
     let activity = Key::new(alloc, "any")?;
     let args = ints(alloc, numbers)?;
     Ok(Task {
+        flow,
         run,
         event,
         attempt,

@@ -13,7 +13,7 @@ use Rattle.flow_base.specs.declared.syntax.Declaration.{Declaration}
 use Rattle.flow_base.specs.declared.syntax.Stmt.{Stmt}
 use Rattle.flow_base.specs.declared.syntax.Program as program
 use Rattle.flow_base.specs.Shown.{shown_block, shown_declaration, shown_program}
-use Rattle.flow_base.specs.Syntax.{Bytes, Expression, Statement, Let, Assign, Call, WaitSignal, WaitSignalFor, Sleep, If, While, Parallel, Patch, Return, FailWith, Continue, Block, Next, End, Otherwise, Branches, Branch}
+use Rattle.flow_base.specs.Syntax.{Bytes, Expression, Statement, Let, Assign, Call, WaitSignal, WaitSignalFor, Sleep, If, While, Parallel, Patch, Deprecate, Return, FailWith, Continue, Block, Next, End, Otherwise, Branches, Branch}
 use Rattle.flow_model.specs.WellFormed as rule
 use Rattle.flow_model.specs.WellFormed.{Named, earliest, kind_of, beginning, with_type, behind, scope_of, no_types, types_of_parameters, activity_of, signal_of, names_of, names_of_block, name_of_parameter, name_of_declared, faults_of_names, faults_of_declarations, fault_at_first, branch_places, faults_of_block, faults_of_otherwise, faults_of_branches, faults_of_statement, faults_of_expression, faults_of_wanted, faults_of_assigned, faults_of_arguments, faults_of_call, faults_of_retry, wrong_count, unknown_signal, given, first_fault}
 use Rattle.flow_model.proofs.FirstFault.{earliest-append}
@@ -116,6 +116,9 @@ module _ (p : Bool) (s : Scope) (x : Statement) (o : Option TextFault) where
       → Notes s o (faults_of_block (shown_scope p s) a) s1 o1 → Notes s1 o1 (faults_of_block (shown_scope p s1) b) s2 o2 → Checks p s o (Next x End) s2 o2
   patch_checked at id_at id a b a_end b_end s1 s2 o1 o2 is one two =
       stays_checked (Patch at id_at id a a_end b b_end) s2 o2 is refl (two_lists a b s1 s2 o o1 o2 [] refl one two)
+
+  pub deprecate_checked : (at id_at : ℕ) (id : Bytes) → x ≡ Deprecate at id_at id → Checks p s o (Next x End) s o
+  deprecate_checked at id_at id is = stays_checked (Deprecate at id_at id) s o is refl (noted s o o [] refl)
 
   pub return_checked : (at : ℕ) (e : Expression) (o1 o2 : Option TextFault) → x ≡ Return at e → o1 ≡ earliest o (faults_of_expression (types_of s) e) → o2 ≡ earliest o1 (ends_within p at) → Checks p s o (Next x End) s o2
   return_checked at e o1 o2 is one two =

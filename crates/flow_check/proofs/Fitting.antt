@@ -13,7 +13,7 @@ use Rattle.flow_base.specs.declared.syntax.Parameter.{Parameter}
 use Rattle.flow_base.specs.declared.event.Cause.{Cause}
 use Rattle.flow_base.specs.declared.event.Cause.TheVariants.{WaitLimit, TurnBudget, ChainLimit}
 use Rattle.flow_base.specs.declared.event.Cmd.TheVariants.{Schedule, StartTimer, CancelTimer, RecordMarker, ContinueAsNew}
-use Rattle.flow_base.specs.Syntax.{Bytes, Expression, Statement, Let, Assign, Call, WaitSignal, WaitSignalFor, Sleep, If, While, Parallel, Patch, Return, FailWith, Continue, Block, End, Next, Otherwise, NoElse, Else, Branches, NoBranch, Branch, Declared, Activity, Signal, Program, activities_of}
+use Rattle.flow_base.specs.Syntax.{Bytes, Expression, Statement, Let, Assign, Call, WaitSignal, WaitSignalFor, Sleep, If, While, Parallel, Patch, Deprecate, Return, FailWith, Continue, Block, End, Next, Otherwise, NoElse, Else, Branches, NoBranch, Branch, Declared, Activity, Signal, Program, activities_of}
 use Rattle.flow_base.specs.declared.syntax.Retry.{Retry}
 use Rattle.flow_model.specs.Values.{Variables, with_variable, value as value_of, values, due, is_true}
 use Rattle.flow_model.specs.Rest.{Rest, Done, OnActivity, OnTimer, OnSignal, OnSignalFor, Raised, Then, Beside, rest_of, branches_of, is_done}
@@ -345,6 +345,7 @@ module _ (p : Program) (G : Types) (vars : Variables) (types : Types) (par : Boo
   can_begin (While at e b end) h = known_wanted vars types (shows G vars types holds sees) Int e (none_in_both (faults_of_wanted types Int e) (faults_of_block (scope p types par) b) h).0
   can_begin (Parallel at bs end) h = tt
   can_begin (Patch at id_at id a a_end b b_end) h = tt
+  can_begin (Deprecate at id_at id) h = tt
   can_begin (Return at e) h =
       let k = known vars types (shows G vars types holds sees) e (none_in_both (faults_of_expression types e) (ends_in_parallel (scope p types par) at) h).0 in
       (k.0, k.1.1)
@@ -383,6 +384,7 @@ behind_is p types par (If at e a a_end b b_end) = refl
 behind_is p types par (While at e b end) = refl
 behind_is p types par (Parallel at bs end) = refl
 behind_is p types par (Patch at id_at id a a_end b b_end) = refl
+behind_is p types par (Deprecate at id_at id) = refl
 behind_is p types par (Return at e) = refl
 behind_is p types par (FailWith at e) = refl
 behind_is p types par (Continue at es) = refl
@@ -491,6 +493,7 @@ module _ (p : Program) (G : Types) (s : Setting) (t : Store) (active : s.activit
         let parts = none_in_both (faults_of_block (scope p types par) x) (faults_of_block (scope p types par) y) h in
         let agree = agrees_both G (typings_of_block types x) (typings_of_block types y) a in
         fits_patched id x y (t.decided id) (types, (par, (sees, parts.0, agree.0))) (types, (par, (sees, parts.1, agree.1)))
+    begin_fits (Deprecate at id_at id) h a = fits_patched id End End (t.decided id) (types, (par, (sees, refl, tt))) (types, (par, (sees, refl, tt)))
     begin_fits (Return at e) h a = fits_on_value p G t.variables types (value_of t.variables s.at e) _ (λ v i. tt)
     begin_fits (FailWith at e) h a = fits_on_value p G t.variables types (value_of t.variables s.at e) _ (λ v i. tt)
     begin_fits (Continue at es) h a =

@@ -6,7 +6,7 @@ use Rattle.flow_base.specs.Syntax.{Bytes}
 use Rattle.flow_base.specs.Shown.{shown_stmt, shown_braced, shown_branch, shown_expr, shown_block, shown_otherwise, branches_of}
 use Rattle.flow_base.specs.declared.syntax.Expr.{Expr}
 use Rattle.flow_base.specs.declared.syntax.Retry.{Retry}
-use Rattle.flow_base.specs.declared.syntax.Stmt.{Let, Assign, Call, WaitSignal, WaitSignalFor, Sleep, If, While, Parallel, Patch, Return, FailWith, Continue, the_lemmas}
+use Rattle.flow_base.specs.declared.syntax.Stmt.{Let, Assign, Call, WaitSignal, WaitSignalFor, Sleep, If, While, Parallel, Patch, Deprecate, Return, FailWith, Continue, the_lemmas}
 use Rattle.flow_base.specs.declared.syntax.Block.{Block}
 use Rattle.flow_base.specs.declared.syntax.Branch.{Branch}
 
@@ -41,6 +41,9 @@ shown_parallel at b bs end = search (rules, the_lemmas)
 
 pub shown_patch : (at id_at : ℕ) (id : Bytes) (a b : Block) → shown_stmt (Patch at id_at id a b) ≡ tree.Patch at id_at id (shown_braced a).0 (shown_braced a).1 (shown_braced b).0 (shown_braced b).1
 shown_patch at id_at id a b = search (rules, the_lemmas)
+
+pub shown_deprecate : (at id_at : ℕ) (id : Bytes) → shown_stmt (Deprecate at id_at id) ≡ tree.Deprecate at id_at id
+shown_deprecate at id_at id = search (rules, the_lemmas)
 
 pub shown_return : (at : ℕ) (e : Expr) → shown_stmt (Return at e) ≡ tree.Return at (shown_expr e)
 shown_return at e = search (rules, the_lemmas)

@@ -7,7 +7,7 @@ use Rattle.flow_base.specs.declared.code.Code.{Code}
 use Rattle.flow_base.specs.declared.command.TextFault.{TextFault}
 use Rattle.flow_base.specs.declared.value.Kind.{Kind}
 use Rattle.flow_base.specs.declared.syntax.Parameter.{Parameter}
-use Rattle.flow_base.specs.Syntax.{Bytes, Statement, Let, Assign, Call, WaitSignal, WaitSignalFor, Sleep, If, While, Parallel, Patch, Return, FailWith, Continue, Block, End, Next, Otherwise, NoElse, Else, Branches, NoBranch, Branch, Declared, Activity, Signal, Program}
+use Rattle.flow_base.specs.Syntax.{Bytes, Statement, Let, Assign, Call, WaitSignal, WaitSignalFor, Sleep, If, While, Parallel, Patch, Deprecate, Return, FailWith, Continue, Block, End, Next, Otherwise, NoElse, Else, Branches, NoBranch, Branch, Declared, Activity, Signal, Program}
 use Rattle.flow_model.specs.WellFormed.{Space, variables, activities, signals, patches, Named, named, is_space, same_name, fault, twice_code, declared_twice, one_too_many, name_of_parameter, name_of_declared, names_of, names_of_statement, names_of_block, names_of_otherwise, names_of_branches, faults_of_names, faults_of_declarations, faults_of_block, faults, WellFormed, Types, with_type, kind_of, scope_of}
 use Rattle.flow_check.proofs.HavingKinds.{none_in_both}
 
@@ -99,6 +99,7 @@ mutual
   named_statement types (While at e b end) = named_block types b
   named_statement types (Parallel at bs end) = named_branches types bs
   named_statement types (Patch at id_at id a a_end b b_end) = both_named (typings_of_block types a) (typings_of_block types b) (names_of_block a) (names_of_block b) (named_block types a) (named_block types b)
+  named_statement types (Deprecate at id_at id) = refl
   named_statement types (Return at e) = refl
   named_statement types (FailWith at e) = refl
   named_statement types (Continue at es) = refl

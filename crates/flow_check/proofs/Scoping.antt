@@ -12,7 +12,7 @@ use Rattle.flow_base.specs.declared.syntax.Parameter.{Parameter}
 use Rattle.flow_base.specs.declared.syntax.Stmt.{Stmt}
 use Rattle.flow_base.specs.declared.syntax.Branch.{Branch}
 use Rattle.flow_base.specs.Shown.{Braced, shown_stmt, shown_branch, shown_declaration, shown_block, branches_of}
-use Rattle.flow_base.specs.Syntax.{Bytes, Block, End, Next, Statement, Let, Assign, Call, WaitSignal, WaitSignalFor, Sleep, If, While, Parallel, Patch, Return, FailWith, Continue, Declared, Activity, Signal, block_of}
+use Rattle.flow_base.specs.Syntax.{Bytes, Block, End, Next, Statement, Let, Assign, Call, WaitSignal, WaitSignalFor, Sleep, If, While, Parallel, Patch, Deprecate, Return, FailWith, Continue, Declared, Activity, Signal, block_of}
 use Rattle.flow_model.specs.WellFormed as rule
 use Rattle.flow_model.specs.WellFormed.{no_types, with_type, types_of_parameters, activity_of, signal_of, kinds_of, earliest, faults_of_block, faults_of_statement, faults_of_branches, behind}
 use Rattle.flow_model.proofs.FirstFault.{earliest-append}
@@ -225,6 +225,7 @@ types_alone m (If at e a a_end b b_end) = refl
 types_alone m (While at e b end) = refl
 types_alone m (Parallel at bs end) = refl
 types_alone m (Patch at id_at id a a_end b b_end) = refl
+types_alone m (Deprecate at id_at id) = refl
 types_alone m (Return at e) = refl
 types_alone m (FailWith at e) = refl
 types_alone m (Continue at es) = refl

@@ -1,7 +1,7 @@
 -- What the checking rules are for: in a run of a checked program no expression meets a missing variable or a value of the
 -- wrong type. The semantics has a stated value for both (`flow_model/specs/Values.antt`), and no checked program ever asks for it.
 use Rattle.std.specs.Prelude.{◌≡◌, ℕ, zero, suc, ◌⊎◌, true, List, [], ◌∷◌, map, Contains, Option, Some, None, Ok}
-use Rattle.flow_base.specs.Syntax.{Bytes, Expression, Number, Literal, Variable, Now, Apply, Combine, Statement, Let, Assign, Call, WaitSignal, WaitSignalFor, Sleep, If, While, Parallel, Patch, Return, FailWith, Continue, Block, End, Next, Program}
+use Rattle.flow_base.specs.Syntax.{Bytes, Expression, Number, Literal, Variable, Now, Apply, Combine, Statement, Let, Assign, Call, WaitSignal, WaitSignalFor, Sleep, If, While, Parallel, Patch, Deprecate, Return, FailWith, Continue, Block, End, Next, Program}
 use Rattle.flow_base.specs.declared.value.Value.{Value}
 use Rattle.flow_base.specs.declared.value.Value.TheVariants as value
 use Rattle.flow_base.specs.declared.value.Kind.{Kind}
@@ -70,6 +70,7 @@ CanBegin p vars (If at e a a_end b b_end) = HasKind vars e Int
 CanBegin p vars (While at e b end) = HasKind vars e Int
 CanBegin p vars (Parallel at bs end) = Unit {0}
 CanBegin p vars (Patch at id_at id a a_end b b_end) = Unit {0}
+CanBegin p vars (Deprecate at id_at id) = Unit {0}
 CanBegin p vars (Return at e) = (k : Kind) × HasKind vars e k
 CanBegin p vars (FailWith at e) = HasKind vars e Text
 CanBegin p vars (Continue at es) = HaveKinds vars es (map (λ (q : Parameter). q.kind) p.parameters)

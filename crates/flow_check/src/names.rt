@@ -196,6 +196,7 @@ fn statement_name<'a>(
             block_names(names, since, found)?;
             block_names(names, before, found)
         }
+        Stmt::Deprecate(_, id_at, id) => names.patch(*id_at, id, found),
         Stmt::Return(_, _) => Ok(()),
         Stmt::FailWith(_, _) => Ok(()),
         Stmt::Continue(_, _) => Ok(()),

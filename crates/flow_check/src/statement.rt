@@ -91,6 +91,7 @@ fn check_statement<'a>(
             check_inner(scope, since, in_parallel, found)?;
             check_inner(scope, before, in_parallel, found)?;
         }
+        Stmt::Deprecate(_at, _, _) => {}
         Stmt::Return(at, value) => {
             check_expression(scope, value, found);
             check_end(in_parallel, *at, found);

@@ -5,12 +5,15 @@ pub mod Rows
 pub mod Arguments
 pub mod Commands
 pub mod Replies
+pub mod Tasks
 pub mod Lines
 pub mod Runs
 pub mod Safeties
+pub mod Settlements
 pub mod Answering
 pub mod Later
 pub mod Batches
 pub mod SomeLines
 pub mod Stopping
 pub mod Histories
+pub mod Spellings

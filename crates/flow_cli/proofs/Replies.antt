@@ -58,6 +58,13 @@ reply_bytes (reply.BadText f) = refl
 reply_bytes (reply.Mismatch event wrong) = refl
 reply_bytes (reply.Full run event) = refl
 
+-- the reply that tells a history
+pub history_plain : (es : List Event) → has_float (reply_out (reply.History es)) ≡ false
+history_plain es = reply_plain (reply.History es)
+
+pub history_bytes : (es : List Event) → compact_text (reply_out (reply.History es)) ≡ reply_text (reply.History es)
+history_bytes es = reply_bytes (reply.History es)
+
 pub line_bytes : (l : Line) → compact_text (line_out l) ≡ line_text l
 unfolding serde_json_on_literals
 line_bytes (line.Of r) = reply_bytes r

@@ -1,11 +1,11 @@
 -- What clap's getters give, in its rows; and words that are written out.
-use Rattle.std.proofs.Common.{◌≡◌, [], ◌∷◌, codes, Some, None, refl}
+use Rattle.std.proofs.Common.{◌≡◌, [], ◌∷◌, codes, Some, None, true, false, refl}
 use Rattle.clap.proofs.OnLiterals.{clap_on_literals}
 use Rattle.clap.proofs.WalkLemmas.{first_value-rows}
 use Rattle.clap.specs.Words.{Text, fault_of, first_of, first_value, rows_of}
 use Rattle.clap.specs.declared.error.kind.ErrorKind.TheVariants as kind
 use Rattle.clap.specs.declared.parser.matches.Found.{Found}
-use Rattle.flow_cli.specs.Calls.{flow, call_in, Check, Safe, Drive, History, Verify, Work}
+use Rattle.flow_cli.specs.Calls.{flow, call_in, Check, Safe, Settle, Replay, Drive, History, Verify, Work, Serve}
 
 pub first_in_rows : (f : Found) (id : Text) → first_value f id ≡ first_of id (rows_of f)
 first_in_rows f id = first_value-rows f id
@@ -62,6 +62,22 @@ safe_says : call_in (codes "flow" ∷ codes "safe" ∷ codes "a" ∷ codes "b" �
 unfolding clap_on_literals
 safe_says = refl
 
+settle_is_taken : fault_of flow (codes "flow" ∷ codes "settle" ∷ codes "a" ∷ codes "b" ∷ []) ≡ []
+unfolding clap_on_literals
+settle_is_taken = refl
+
+settle_says : call_in (codes "flow" ∷ codes "settle" ∷ codes "a" ∷ codes "b" ∷ []) ≡ Some (Settle (codes "a") (codes "b"))
+unfolding clap_on_literals
+settle_says = refl
+
+replay_is_taken : fault_of flow (codes "flow" ∷ codes "replay" ∷ codes "a" ∷ codes "-" ∷ []) ≡ []
+unfolding clap_on_literals
+replay_is_taken = refl
+
+replay_says : call_in (codes "flow" ∷ codes "replay" ∷ codes "a" ∷ codes "-" ∷ []) ≡ Some (Replay (codes "a") (codes "-"))
+unfolding clap_on_literals
+replay_says = refl
+
 verify_is_taken : fault_of flow (codes "flow" ∷ codes "verify" ∷ codes "a" ∷ []) ≡ []
 unfolding clap_on_literals
 verify_is_taken = refl
@@ -86,14 +102,30 @@ work_is_taken : fault_of flow (codes "flow" ∷ codes "work" ∷ codes "a" ∷ c
 unfolding clap_on_literals
 work_is_taken = refl
 
-work_says : call_in (codes "flow" ∷ codes "work" ∷ codes "a" ∷ codes "--settings" ∷ codes "s" ∷ []) ≡ Some (Work (codes "a") (Some (codes "s")))
+work_says : call_in (codes "flow" ∷ codes "work" ∷ codes "a" ∷ codes "--settings" ∷ codes "s" ∷ []) ≡ Some (Work (codes "a") (Some (codes "s")) false)
 unfolding clap_on_literals
 work_says = refl
 
-work_without : call_in (codes "flow" ∷ codes "work" ∷ codes "a" ∷ []) ≡ Some (Work (codes "a") None)
+work_without : call_in (codes "flow" ∷ codes "work" ∷ codes "a" ∷ []) ≡ Some (Work (codes "a") None false)
 unfolding clap_on_literals
 work_without = refl
 
 work_is_free : fault_of flow (codes "flow" ∷ codes "work" ∷ codes "a" ∷ []) ≡ []
 unfolding clap_on_literals
 work_is_free = refl
+
+leave_is_taken : fault_of flow (codes "flow" ∷ codes "work" ∷ codes "--leave-unknown" ∷ codes "a" ∷ []) ≡ []
+unfolding clap_on_literals
+leave_is_taken = refl
+
+leave_says : call_in (codes "flow" ∷ codes "work" ∷ codes "--leave-unknown" ∷ codes "a" ∷ []) ≡ Some (Work (codes "a") None true)
+unfolding clap_on_literals
+leave_says = refl
+
+serve_is_taken : fault_of flow (codes "flow" ∷ codes "serve" ∷ codes "a" ∷ codes "--settings" ∷ codes "s" ∷ []) ≡ []
+unfolding clap_on_literals
+serve_is_taken = refl
+
+serve_says : call_in (codes "flow" ∷ codes "serve" ∷ codes "a" ∷ codes "--settings" ∷ codes "s" ∷ []) ≡ Some (Serve (codes "a") (Some (codes "s")))
+unfolding clap_on_literals
+serve_says = refl

@@ -5,6 +5,7 @@ pub mod Commands
 pub mod Replies
 pub mod Verdicts
 pub mod Safety
+pub mod Settlements
 pub mod Driving
 pub mod Ends
 pub mod Answering
@@ -13,3 +14,6 @@ pub mod Histories
 pub mod Ending
 pub mod Working
 pub mod Totals
+pub mod Tasks
+pub mod Spelling
+pub mod Replaying

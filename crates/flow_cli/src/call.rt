@@ -3,7 +3,7 @@ ghost use Rattle.std.specs.Prelude.{◌≡◌, ◌⊎◌, IfOk, IfErr, false, ma
 ghost use Rattle.clap.specs.Words.{app_of, rule_of, found_of, rows_of, first_of, subcommand_rows_of};
 ghost use Rattle.clap.specs.declared.builder.command.Command.TheViews.{out-Command as fields_of};
 ghost use Rattle.clap.specs.declared.error.kind.ErrorKind.TheVariants.{OutOfMemory};
-ghost use Rattle.flow_cli.specs.Calls.{flow, answering, over_lines, over_texts, check, safe, drive, history, verify, work, settings, needed, batch, run_in, batch_in, safe_in, drive_in, history_in, work_in, named_call, IsCall};
+ghost use Rattle.flow_cli.specs.Calls.{flow, answering, over_lines, over_files, over_texts, check, safe, settle, replay, drive, history, verify, work, serve, settings, leave_unknown, needed, batch, run_in, batch_in, safe_in, settle_in, replay_in, drive_in, history_in, is_set, work_in, serve_in, named_call, IsCall};
 ghost use Rattle.flow_cli.specs.Calls.{Call as Pure};
 ghost use Rattle.flow_cli.specs.Shown.{shown};
 
@@ -27,12 +27,29 @@ pub enum Call<'a> {
         old: &'a str,
         new: &'a str,
     },
+    /// Tell which patches of the text in the first file that in the second settles.
+    Settle {
+        old: &'a str,
+        new: &'a str,
+    },
+    /// Replay under the text in this file the history in that one, or each in that folder; `-` is standard input.
+    Replay {
+        file: &'a str,
+        history: &'a str,
+    },
     /// Do this over this store; `-` is a store in memory, which begins with no run.
     Over(&'a str, Work),
     /// Replay each run of this store, closed ones too; `-` is a store in memory, which has none.
     Verify(&'a str),
-    /// Keep an engine running over this store, by the settings in that file; `-` is a store in memory.
+    /// Keep an engine running over this store, by the settings in that file; `-` is a store in memory. Activities that the program
+    /// doesn't have fail, or are left alone.
     Work {
+        base: &'a str,
+        settings: Option<&'a str>,
+        leave_unknown: bool,
+    },
+    /// The same with activities outside: tasks are lines that are printed, and their reports lines that are read.
+    Serve {
         base: &'a str,
         settings: Option<&'a str>,
     },
@@ -61,6 +78,28 @@ fn safe_command<'a>(alloc: Global) -> Result<Command<'a>, AllocError>
         Command::new(alloc, "safe")
             .arg(needed_arg(alloc, "OLD"))?
             .arg(needed_arg(alloc, "NEW"))?,
+    )
+}
+
+fn settle_command<'a>(alloc: Global) -> Result<Command<'a>, AllocError>
+    ensures app { IfOk result (λ c. app_of c ≡ settle) }
+    ensures local { IfOk result (λ c. (fields_of c).has_globals ≡ false) }
+{
+    Ok(
+        Command::new(alloc, "settle")
+            .arg(needed_arg(alloc, "OLD"))?
+            .arg(needed_arg(alloc, "NEW"))?,
+    )
+}
+
+fn replay_command<'a>(alloc: Global) -> Result<Command<'a>, AllocError>
+    ensures app { IfOk result (λ c. app_of c ≡ replay) }
+    ensures local { IfOk result (λ c. (fields_of c).has_globals ≡ false) }
+{
+    Ok(
+        Command::new(alloc, "replay")
+            .arg(needed_arg(alloc, "FILE"))?
+            .arg(needed_arg(alloc, "HISTORY"))?,
     )
 }
 
@@ -114,6 +153,16 @@ fn settings_arg<'a>(alloc: Global) -> Arg<'a>
         .action(ArgAction::Set)
 }
 
+/// A word by which activities that the program doesn't have are left alone.
+fn leave_unknown_arg<'a>(alloc: Global) -> Arg<'a>
+    ensures rule { rule_of result ≡ leave_unknown }
+    ensures local { result.global ≡ false }
+{
+    Arg::new(alloc, "leave-unknown")
+        .long("leave-unknown")
+        .action(ArgAction::SetTrue)
+}
+
 fn work_command<'a>(alloc: Global) -> Result<Command<'a>, AllocError>
     ensures app { IfOk result (λ c. app_of c ≡ work) }
     ensures local { IfOk result (λ c. (fields_of c).has_globals ≡ false) }
@@ -121,11 +170,23 @@ fn work_command<'a>(alloc: Global) -> Result<Command<'a>, AllocError>
     Ok(
         Command::new(alloc, "work")
             .arg(needed_arg(alloc, "DB"))?
+            .arg(settings_arg(alloc))?
+            .arg(leave_unknown_arg(alloc))?,
+    )
+}
+
+fn serve_command<'a>(alloc: Global) -> Result<Command<'a>, AllocError>
+    ensures app { IfOk result (λ c. app_of c ≡ serve) }
+    ensures local { IfOk result (λ c. (fields_of c).has_globals ≡ false) }
+{
+    Ok(
+        Command::new(alloc, "serve")
+            .arg(needed_arg(alloc, "DB"))?
             .arg(settings_arg(alloc))?,
     )
 }
 
-/// The program with the calls that read texts alone.
+/// The program with the calls that check texts.
 fn text_command<'a>(alloc: Global) -> Result<Command<'a>, AllocError>
     ensures app { IfOk result (λ c. app_of c ≡ over_texts) }
 {
@@ -139,14 +200,24 @@ fn text_command<'a>(alloc: Global) -> Result<Command<'a>, AllocError>
     )
 }
 
+/// The program with all calls that read files alone.
+fn file_command<'a>(alloc: Global) -> Result<Command<'a>, AllocError>
+    ensures app { IfOk result (λ c. app_of c ≡ over_files) }
+{
+    let settle = settle_command(alloc)?;
+    let replay = replay_command(alloc)?;
+    let texts = text_command(alloc)?;
+    Ok(texts.subcommand(settle)?.subcommand(replay)?)
+}
+
 /// The program with those and the calls that read and write lines over a store.
 fn line_command<'a>(alloc: Global) -> Result<Command<'a>, AllocError>
     ensures app { IfOk result (λ c. app_of c ≡ over_lines) }
 {
     let drive = drive_command(alloc)?;
     let history = history_command(alloc)?;
-    let texts = text_command(alloc)?;
-    Ok(texts.subcommand(drive)?.subcommand(history)?)
+    let files = file_command(alloc)?;
+    Ok(files.subcommand(drive)?.subcommand(history)?)
 }
 
 /// The program with all calls that answer what is asked and end.
@@ -158,12 +229,14 @@ fn answering_command<'a>(alloc: Global) -> Result<Command<'a>, AllocError>
     Ok(lines.subcommand(verify)?)
 }
 
+/// The program with all calls.
 fn flow_command<'a>(alloc: Global) -> Result<Command<'a>, AllocError>
     ensures app { IfOk result (λ c. app_of c ≡ flow) }
 {
     let work = work_command(alloc)?;
+    let serve = serve_command(alloc)?;
     let answering = answering_command(alloc)?;
-    Ok(answering.subcommand(work)?)
+    Ok(answering.subcommand(work)?.subcommand(serve)?)
 }
 
 #[tactic(auto, using(crate::proofs::Rows::first_in_rows))]
@@ -173,8 +246,18 @@ fn text_of<'a>(found: &ArgMatches<'a>, id: &str) -> Option<&'a str>
     found.get_str(id)
 }
 
+/// Whether a word that stands alone is there.
+fn has_word(found: &ArgMatches<'_>, id: &str) -> bool
+    ensures { result ≡ is_set (first_of id.now (rows_of (found_of found.now))) }
+{
+    match text_of(found, id) {
+        Some("true") => true,
+        _ => false,
+    }
+}
+
 /// The run of a number that is written out: digits, perhaps behind a plus.
-fn run_of(word: &str) -> Option<RunId>
+pub(crate) fn run_of(word: &str) -> Option<RunId>
     ensures { result ≡ run_in word.now }
 {
     match word.parse::<u64>() {
@@ -201,6 +284,22 @@ fn safe_call<'a>(found: &ArgMatches<'a>) -> Option<Call<'a>>
     Some(Call::Safe { old, new })
 }
 
+fn settle_call<'a>(found: &ArgMatches<'a>) -> Option<Call<'a>>
+    ensures { option_map shown result ≡ settle_in (rows_of (found_of found.now)) }
+{
+    let old = text_of(found, "OLD")?;
+    let new = text_of(found, "NEW")?;
+    Some(Call::Settle { old, new })
+}
+
+fn replay_call<'a>(found: &ArgMatches<'a>) -> Option<Call<'a>>
+    ensures { option_map shown result ≡ replay_in (rows_of (found_of found.now)) }
+{
+    let file = text_of(found, "FILE")?;
+    let history = text_of(found, "HISTORY")?;
+    Some(Call::Replay { file, history })
+}
+
 fn drive_call<'a>(found: &ArgMatches<'a>) -> Option<Call<'a>>
     ensures { option_map shown result ≡ drive_in (rows_of (found_of found.now)) }
 {
@@ -222,7 +321,20 @@ fn work_call<'a>(found: &ArgMatches<'a>) -> Option<Call<'a>>
 {
     let base = text_of(found, "DB")?;
     let settings = text_of(found, "settings");
-    Some(Call::Work { base, settings })
+    let leave_unknown = has_word(found, "leave-unknown");
+    Some(Call::Work {
+        base,
+        settings,
+        leave_unknown,
+    })
+}
+
+fn serve_call<'a>(found: &ArgMatches<'a>) -> Option<Call<'a>>
+    ensures { option_map shown result ≡ serve_in (rows_of (found_of found.now)) }
+{
+    let base = text_of(found, "DB")?;
+    let settings = text_of(found, "settings");
+    Some(Call::Serve { base, settings })
 }
 
 fn named_call<'a>(name: &str, found: &ArgMatches<'a>) -> Option<Call<'a>>
@@ -235,7 +347,10 @@ fn named_call<'a>(name: &str, found: &ArgMatches<'a>) -> Option<Call<'a>>
         },
         "drive" => drive_call(found),
         "history" => history_call(found),
+        "replay" => replay_call(found),
         "safe" => safe_call(found),
+        "serve" => serve_call(found),
+        "settle" => settle_call(found),
         "verify" => match text_of(found, "DB") {
             Some(base) => Some(Call::Verify(base)),
             None => None,

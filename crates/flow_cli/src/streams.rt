@@ -130,7 +130,7 @@ fn unwritten(error: &io::Error, is_first: bool) -> Unwritten
 }
 
 /// As `write_all`, and of a write that failed its clauses say what was written.
-fn write_bytes<W: Write>(writer: &mut W, bytes: &[u8]) -> Result<(), Unwritten>
+pub(crate) fn write_bytes<W: Write>(writer: &mut W, bytes: &[u8]) -> Result<(), Unwritten>
     ensures all { OnOk result (Appends (W.contents writer.old) (W.contents writer.new) bytes.now) }
     ensures beginning { WritesBeginning (W.contents writer.old) (W.contents writer.new) bytes.now }
     ensures kept { IfErr result (λ e. e ≡ Unwritten.NoMemory _ → Keeps (W.contents writer.old) (W.contents writer.new)) }

@@ -35,15 +35,15 @@ abbrev book : Book
 book = record { texts = []; runs = first ∷ second ∷ [] }
 
 -- what is ready by 5
-row_1 : ready_tasks [] 5 book ≡ record { run = 1; event = 2; attempt = 1; activity = 97 ∷ []; args = [] } ∷ record { run = 2; event = 2; attempt = 1; activity = 97 ∷ []; args = [] } ∷ []
+row_1 : ready_tasks [] 5 book ≡ record { flow = 102 ∷ []; run = 1; event = 2; attempt = 1; activity = 97 ∷ []; args = [] } ∷ record { flow = 103 ∷ []; run = 2; event = 2; attempt = 1; activity = 97 ∷ []; args = [] } ∷ []
 row_1 = refl
 
 -- what was posted isn't there again
-row_2 : ready_tasks ((1, 2, 1) ∷ []) 5 book ≡ record { run = 2; event = 2; attempt = 1; activity = 97 ∷ []; args = [] } ∷ []
+row_2 : ready_tasks ((1, 2, 1) ∷ []) 5 book ≡ record { flow = 103 ∷ []; run = 2; event = 2; attempt = 1; activity = 97 ∷ []; args = [] } ∷ []
 row_2 = refl
 
 -- but a later attempt is
-row_3 : ready_tasks ((1, 2, 1) ∷ (1, 3, 1) ∷ (2, 2, 1) ∷ []) 30 book ≡ record { run = 1; event = 3; attempt = 2; activity = 97 ∷ []; args = [] } ∷ []
+row_3 : ready_tasks ((1, 2, 1) ∷ (1, 3, 1) ∷ (2, 2, 1) ∷ []) 30 book ≡ record { flow = 102 ∷ []; run = 1; event = 3; attempt = 2; activity = 97 ∷ []; args = [] } ∷ []
 row_3 = refl
 
 row_4 : next_due 5 book ≡ Some 30

@@ -9,3 +9,4 @@ pub mod BoardRows
 pub mod Refusing
 pub mod Handed
 pub mod Verified
+pub mod Drafts

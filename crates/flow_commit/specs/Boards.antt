@@ -15,7 +15,8 @@ use Rattle.flow_model.specs.Book.{Book}
 use Rattle.flow_maps.specs.Agenda.{open_runs}
 use Rattle.flow_maps.specs.Outlooks.{Waiting, waiting}
 use Rattle.flow_rows.specs.Dues.{next_moment}
-use Rattle.flow_view.specs.Heads.{event_at}
+use Rattle.flow_view.specs.Heads.{event_at, head_at}
+use Rattle.flow_view.specs.declared.head.Head.{Head}
 use Rattle.flow_view.specs.declared.fault.ViewFault.{ViewFault}
 use Rattle.flow_view.specs.declared.fault.ViewFault.TheVariants as view
 use Rattle.flow_commit.specs.declared.waiting.Draft.{Draft}
@@ -71,14 +72,27 @@ called_by (Some e) = called_in e.what
 abbrev pub call_at : Book → ℕ → ℕ → Option Call
 call_at b run event = called_by (event_at b.runs run event)
 
-abbrev pub task_with : Waiting → Option Call → List Task
-task_with w None = []
-task_with w (Some c) = record { run = w.0; event = w.1.event; attempt = w.1.attempt; activity = c.0; args = c.1 } ∷ []
+abbrev pub flow_in : Option Head → Option Bytes
+flow_in None = None
+flow_in (Some h) = Some h.flow
 
--- the tasks of open activities, each with what its event calls: in a sound book each calls something
+-- the flow of a run
+abbrev pub flow_at : Book → ℕ → Option Bytes
+flow_at b run = flow_in (head_at b.runs run)
+
+abbrev pub task_with : Waiting → Option Bytes → Option Call → List Task
+task_with w None c = []
+task_with w (Some f) None = []
+task_with w (Some f) (Some c) = record { flow = f; run = w.0; event = w.1.event; attempt = w.1.attempt; activity = c.0; args = c.1 } ∷ []
+
+-- the task of an open activity, with the flow of its run and what its event calls
+abbrev pub task_at : Book → Waiting → List Task
+task_at b w = task_with w (flow_at b w.0) (call_at b w.0 w.1.event)
+
+-- the tasks of open activities: in a sound book each of their events calls something
 abbrev pub tasks_of : Book → List Waiting → List Task
 tasks_of b [] = []
-tasks_of b (w ∷ ws) = task_with w (call_at b w.0 w.1.event) ++ tasks_of b ws
+tasks_of b (w ∷ ws) = task_at b w ++ tasks_of b ws
 
 -- The tasks that are ready by a moment and weren't posted.
 abbrev pub ready_tasks : List Key → ℕ → Book → List Task

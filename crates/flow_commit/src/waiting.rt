@@ -11,6 +11,7 @@ use flow_base::text::Key;
 use flow_base::value::Value;
 use flow_machine::task::{Posted, Task};
 use flow_view::fault::ViewFault;
+use flow_view::head::Head;
 use flow_view::view::View;
 use std::alloc::{AllocError, Global};
 use std::collections::BTreeSet;
@@ -155,15 +156,51 @@ fn call_at<V: View>(
     }
 }
 
+fn flow_in(head: Option<Head>) -> Option<Key>
+    ensures { result ≡ rule.flow_in head }
+{
+    let Some(head) = head else {
+        return None;
+    };
+    let Head {
+        flow,
+        request: _,
+        text: _,
+        events: _,
+        moment: _,
+        is_open: _,
+        tasks: _,
+    } = head;
+    Some(flow)
+}
+
+/// The flow of an open activity's run.
+fn flow_at<V: View>(view: &mut V, entry: &Waiting) -> Result<Option<Key>, ViewFault>
+    ensures reads { IfOk result (λ o. Reads (V.is_sure view.new) (V.book view.old) (V.book view.new) o (rule.flow_at (V.book view.old) entry.now.0)) }
+    ensures cause { (a : V) → V.follows a view.old → V.is_true view.new → V.is_sure view.old → Caused result (V.refuses a view.new) }
+    ensures goes_on { OnOk result (V.is_true view.new → V.is_sure view.old → V.is_sure view.new) }
+    ensures sure { V.is_sure view.new → V.is_sure view.old }
+    ensures was_true { V.is_true view.new → V.is_true view.old }
+    ensures follows { (a : V) → V.follows a view.old → V.follows a view.new }
+{
+    let head = view.head(entry.0)?;
+    Ok(flow_in(head))
+}
+
 fn add_task(
     list: &mut Vec<Task>,
     entry: &Waiting,
+    flow: Option<Key>,
     call: Option<(Key, Sequence<Value>)>,
 ) -> Result<(), AllocError>
-    ensures { OnOk result (list.new.items ≡ list.old.items ++ rule.task_with entry.now call) }
+    ensures { OnOk result (list.new.items ≡ list.old.items ++ rule.task_with entry.now flow call) }
 {
+    let Some(flow) = flow else {
+        return Ok(());
+    };
     if let Some((activity, args)) = call {
         list.push(Task {
+            flow,
             run: entry.0,
             event: entry.1.event,
             attempt: entry.1.attempt,
@@ -181,15 +218,16 @@ fn add_ready<V: View>(
     list: &mut Vec<Task>,
     entry: &Waiting,
 ) -> Result<(), ViewFault>
-    ensures reads { OnOk result (V.is_sure view.new → (V.book view.new ≡ V.book view.old) × (list.new.items ≡ list.old.items ++ rule.task_with entry.now (rule.call_at (V.book view.old) entry.now.0 entry.now.1.event))) }
+    ensures reads { OnOk result (V.is_sure view.new → (V.book view.new ≡ V.book view.old) × (list.new.items ≡ list.old.items ++ rule.task_at (V.book view.old) entry.now)) }
     ensures cause { (a : V) → V.follows a view.old → V.is_true view.new → V.is_sure view.old → Caused result (V.refuses a view.new) }
     ensures goes_on { OnOk result (V.is_true view.new → V.is_sure view.old → V.is_sure view.new) }
     ensures sure { V.is_sure view.new → V.is_sure view.old }
     ensures was_true { V.is_true view.new → V.is_true view.old }
     ensures follows { (a : V) → V.follows a view.old → V.follows a view.new }
 {
+    let flow = flow_at(view, entry)?;
     let call = call_at(alloc, view, entry)?;
-    match add_task(list, entry, call) {
+    match add_task(list, entry, flow, call) {
         Ok(()) => Ok(()),
         Err(refused) => Err(ViewFault::from(refused)),
     }

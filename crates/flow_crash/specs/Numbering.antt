@@ -12,3 +12,7 @@ refused_by stop number = if nat_lt number stop.at then None else if number == st
 -- call gets a number more
 unfoldable pub fate : Stop → ℕ → ℕ → Option Part
 fate stop last number = if nat_le stop.at last then Some Before else refused_by stop number
+
+-- the same where one call alone fails
+abbrev pub failed_by : ℕ → ℕ → Option Part
+failed_by at number = if number == at then Some Before else None

@@ -4,6 +4,8 @@ use mathlib.Core.List.{IsPrefix}
 use Rattle.flow_base.specs.declared.command.Command.{Command}
 use Rattle.flow_base.specs.declared.command.Command.TheVariants.{Tick}
 use Rattle.flow_machine.specs.declared.task.Task.{Task}
+use Rattle.flow_hub.specs.declared.fed.Fed.{Fed}
+use Rattle.flow_hub.specs.declared.fed.Fed.TheVariants as fed
 use Rattle.flow_hub.specs.declared.known.Known.{Known}
 use Rattle.flow_hub.specs.declared.known.Outlook.{Outlook}
 use Rattle.flow_hub.specs.declared.rested.Rested.{Rested}
@@ -22,6 +24,18 @@ pub record HasGiven (old new : Known) (task : Option Task) : Type 0 where
   pub next : given_with old new task
   pub first : IsPrefix new.given new.posted
   pub once : IsOnce new.posted
+
+-- What came of asking for a task: the next one; or nothing, since all that was posted is given out; or the hub is closed.
+abbrev pub HasFed : Known → Known → Fed → Type 0
+HasFed old new (fed.Task t) = HasGiven old new (Some t)
+HasFed old new fed.Nothing = HasGiven old new None × (new.given ≡ new.posted)
+HasFed old new fed.Closed = HasGiven old new None × (new.closed ≡ true)
+
+-- There is nothing only where a board was posted or skipped since what was taken last was answered.
+abbrev pub IsLast : Known → Fed → Type 0
+IsLast k (fed.Task t) = Unit {0}
+IsLast k fed.Nothing = k.boarded ≡ true
+IsLast k fed.Closed = k.closed ≡ true
 
 -- The command fires what is due: the moment has come by the clock, which tells such moments.
 pub record IsDueBy (tells : ℕ → Type 0) (due : Option ℕ) (command : Command) : Type 0 where

@@ -1,9 +1,10 @@
 //! Who gives the tasks out that are posted.
 ghost use Rattle.std.specs.Prelude.{◌≡◌, true, IfNone, MatchOption};
-ghost use Rattle.flow_hub.specs.Feeding.{HasGiven};
+ghost use Rattle.flow_hub.specs.Feeding.{HasFed, HasGiven, IsLast};
 ghost use Rattle.flow_hub.specs.Knowing.{IsBefore};
 ghost use Rattle.flow_hub.specs.Seating.{IsGivers};
 
+use crate::fed::Fed;
 use crate::hub::{Shared, shared_in};
 use crate::seats::{Pass, Room};
 use flow_machine::task::Task;
@@ -56,12 +57,73 @@ fn given<B: Room, R: Wait>(rt: &R, shared: &Shared<B>, seat: Pass<B>) -> (Pass<B
     unreachable!()
 }
 
+/// Waits until a task is there, somebody rings, or the hub is closed.
+fn heard<B: Room, R: Wait>(rt: &R, shared: &Shared<B>, seat: Pass<B>) -> (Pass<B>, Fed)
+    requires seat { IsGivers seat }
+    ensures fed { HasFed seat.was result.0.was result.1 }
+    ensures seat { IsGivers result.0 }
+    ensures grows { IsBefore seat.was result.0.was }
+{
+    let mut me = seat;
+    let mut state = shared.lock(rt);
+    for _ in rt.forever() {
+        let (seen, task) = state.give(&shared.seats, me);
+        me = seen;
+        if let Some(task) = task {
+            return (me, Fed::Task(task));
+        }
+        if state.is_closed() {
+            return (me, Fed::Closed);
+        }
+        if state.was_rung() {
+            return (me, Fed::Nothing);
+        }
+        state = shared.posted.wait(rt, state);
+    }
+    unreachable!()
+}
+
+/// Waits until a task is there, none is left of what stands behind all that is answered, or the hub is closed.
+fn emptied<B: Room, R: Wait>(rt: &R, shared: &Shared<B>, seat: Pass<B>) -> (Pass<B>, Fed)
+    requires seat { IsGivers seat }
+    ensures fed { HasFed seat.was result.0.was result.1 }
+    ensures last { IsLast result.0.was result.1 }
+    ensures seat { IsGivers result.0 }
+    ensures grows { IsBefore seat.was result.0.was }
+{
+    let mut me = seat;
+    let mut state = shared.lock(rt);
+    for _ in rt.forever() {
+        let (seen, task) = state.give(&shared.seats, me);
+        me = seen;
+        if let Some(task) = task {
+            return (me, Fed::Task(task));
+        }
+        if state.is_closed() {
+            return (me, Fed::Closed);
+        }
+        if state.is_boarded() {
+            return (me, Fed::Nothing);
+        }
+        state = shared.posted.wait(rt, state);
+    }
+    unreachable!()
+}
+
 impl<B: Room> Feed<B> {
     pub(crate) fn over(shared: Arc<Shared<B>>, seat: Pass<B>) -> Feed<B>
         requires { IsGivers seat }
         ensures { result ≡ seat.was }
     {
         Feed { shared, seat }
+    }
+
+    /// Its seat. It lets go of the rest.
+    pub(crate) fn into_seat(self) -> Pass<B>
+        ensures { result.was ≡ self }
+    {
+        let Feed { shared: _, seat } = self;
+        seat
     }
 
     /// Waits for the next task. None where the hub is closed.
@@ -75,5 +137,31 @@ impl<B: Room> Feed<B> {
         let (me, task) = given(rt, shared, me);
         self.seat = me;
         task
+    }
+
+    /// Waits for the next task, or until somebody rings (`Hub::ring`). A task goes first, and one ring ends one wait.
+    pub fn listen<R: Wait>(&mut self, rt: &R) -> Fed
+        ensures fed { HasFed self.old self.new result }
+        ensures grows { IsBefore self.old self.new }
+    {
+        let shared = shared_in(&self.shared);
+        let me = shared.seats.leave(&mut self.seat);
+        let (me, fed) = heard(rt, shared, me);
+        self.seat = me;
+        fed
+    }
+
+    /// The next task, or none where all is given out and a board was posted or skipped since what was taken last was answered: for
+    /// that it waits. So behind the last answer it gives what is to be done then.
+    pub fn last<R: Wait>(&mut self, rt: &R) -> Fed
+        ensures fed { HasFed self.old self.new result }
+        ensures last { IsLast self.new result }
+        ensures grows { IsBefore self.old self.new }
+    {
+        let shared = shared_in(&self.shared);
+        let me = shared.seats.leave(&mut self.seat);
+        let (me, fed) = emptied(rt, shared, me);
+        self.seat = me;
+        fed
     }
 }

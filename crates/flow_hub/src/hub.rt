@@ -23,7 +23,7 @@ pub(crate) struct Shared<B: Room> {
     pub(crate) asked: Condvar,
     /// Told when something was answered, by ticket.
     pub(crate) answered: Waits,
-    /// Told when tasks were posted, and at closing.
+    /// Told when a board was posted or skipped, when somebody rings, and at closing.
     pub(crate) posted: Condvar,
     /// Told when a board was posted, and at closing.
     pub(crate) turned: Condvar,
@@ -117,6 +117,13 @@ impl<B: Room> Hub<B> {
             Some(seat) => Ok(Some(Feed::over(shared, seat))),
             None => Ok(None),
         }
+    }
+
+    /// Wakes whoever gives tasks out, where it listens (`Feed::listen`): there is something else to be done.
+    pub fn ring<R: Wait>(&self, rt: &R) {
+        let shared = shared_in(&self.shared);
+        shared.lock(rt).ring();
+        shared.posted.notify_all();
     }
 
     /// Nothing more is taken in, what waits is still taken, and who waits is woken.

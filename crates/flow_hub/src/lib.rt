@@ -2,6 +2,7 @@
 #![tactic(auto)]
 
 pub mod denied;
+pub mod fed;
 pub mod feed;
 pub mod hub;
 pub mod known;

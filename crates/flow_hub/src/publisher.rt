@@ -6,8 +6,10 @@ ghost use Rattle.flow_queues.specs.Posting.{HasKeys, IsOnce};
 ghost use Rattle.flow_hub.specs.Publishing.{Answers, HasTaken, HasPublished, HasRefused, HasPosted, HasSkipped, IsFresh, IsDone};
 ghost use Rattle.flow_hub.specs.Seating.{IsPublishers};
 
+use crate::feed::Feed;
 use crate::hub::{Closer, Shared, shared_in};
 use crate::seats::{Pass, Room};
+use crate::submitter::Submitter;
 use crate::waits::{told_by, told_of};
 use flow_base::code::Code;
 use flow_commit::board::Board;
@@ -189,6 +191,7 @@ impl<B: Room> Publisher<B> {
         let shared = shared_in(&self.shared);
         let me = shared.seats.leave(&mut self.seat);
         self.seat = shared.lock(rt).skip(&shared.seats, me);
+        shared.posted.notify_all();
     }
 
     /// Nothing more is taken in, and what waits is still taken.
@@ -201,6 +204,20 @@ impl<B: Room> Publisher<B> {
         let me = shared.seats.leave(&mut self.seat);
         self.seat = shared.lock(rt).close(&shared.seats, me, &self.closer);
         shared.wake();
+    }
+
+    /// Takes back a submitter, and whoever gave tasks out. What they have seen is a beginning of what is so now.
+    pub fn meet<R: Wait>(&mut self, rt: &R, submitter: Submitter<B>, feed: Feed<B>)
+        ensures submitter { IsBefore submitter.was self.new }
+        ensures feed { IsBefore feed self.new }
+        ensures part { IsSamePart self.old self.new }
+        ensures grows { IsBefore self.old self.new }
+    {
+        let shared = shared_in(&self.shared);
+        let me = shared.seats.leave(&mut self.seat);
+        self.seat = shared
+            .lock(rt)
+            .meet(&shared.seats, me, submitter.into_seat(), feed.into_seat());
     }
 
     /// Lets go of it, and closes nothing: what waits then is answered by nobody.

@@ -53,6 +53,8 @@ pub(crate) struct State<B: Room> {
     codes: u64,
     /// Tasks that were posted and not given out.
     tasks: VecDeque<Task>,
+    /// Whether somebody rang for whoever gives tasks out. No contract speaks of it.
+    rung: bool,
     tickets: Book<B>,
     /// The ledger's parts of the submitters that were not given yet.
     spare: Share<B>,
@@ -119,6 +121,7 @@ impl<B: Room> State<B> {
             places: 0,
             codes: 0,
             tasks: VecDeque::new(alloc),
+            rung: false,
             tickets,
             spare: share,
             known: Known::new(),
@@ -137,6 +140,27 @@ impl<B: Room> State<B> {
         ensures given { me.gives ≡ true → me.was.given ≡ result.was.given }
     {
         seats.tell(&mut self.keeper, me, self.places, self.places, &self.known)
+    }
+
+    /// Three seats see what lies here, and the publisher's is left of them. Nothing changes.
+    pub(crate) fn meet(
+        &mut self,
+        seats: &Seats<B>,
+        me: Pass<B>,
+        submitter: Pass<B>,
+        giver: Pass<B>,
+    ) -> Pass<B>
+        requires seat { IsPublishers me }
+        ensures same { self.new ≡ self.old }
+        ensures seat { result ≡ seeing true false self.new.known }
+        ensures submitter { IsBefore submitter.was result.was }
+        ensures giver { IsBefore giver.was result.was }
+        ensures part { IsSamePart me.was result.was }
+        ensures grows { IsBefore me.was result.was }
+    {
+        let _submitter = self.see(seats, submitter);
+        let _giver = self.see(seats, giver);
+        self.see(seats, me)
     }
 
     /// One more submitter: its number, the seat that has this number, the seat that sees, and its part of the ledger. None where as

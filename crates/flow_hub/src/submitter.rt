@@ -206,6 +206,21 @@ impl<B: Room> Submitter<B> {
         }
     }
 
+    /// The seat that sees. It lets go of the rest.
+    pub(crate) fn into_seat(self) -> Pass<B>
+        ensures { result.was ≡ self.was }
+    {
+        let Submitter {
+            shared: _,
+            id: _,
+            badge: _,
+            seat,
+            share: _,
+            parts: _,
+        } = self;
+        seat
+    }
+
     /// The length of the history. It takes no lock, waits for nobody, and never falls.
     pub fn published(&mut self) -> u64
         ensures length { result ≡ length self.new.was.history }

@@ -3,7 +3,7 @@ use Rattle.std.proofs.Common.{◌≡◌, ℕ, List, refl, sym, ap, ◌∙◌, su
 use Rattle.std.specs.Prelude.{◌≢◌, ◌&&◌, nat_eq, nat_lt, Result, Ok, Err, if◌then◌else◌}
 use Rattle.std.proofs.lemmas.Option.{none-some}
 use Rattle.std.proofs.lemmas.Bool.{true≢false, eqb-true, eq-eqb, ne_eqb}
-use Rattle.flow_base.specs.Syntax.{Bytes, Statement, Let, Assign, Call, WaitSignal, WaitSignalFor, Sleep, If, While, Parallel, Patch, Return, FailWith, Continue, Block, End, Next, Otherwise, NoElse, Else, Branches, NoBranch, Branch}
+use Rattle.flow_base.specs.Syntax.{Bytes, Statement, Let, Assign, Call, WaitSignal, WaitSignalFor, Sleep, If, While, Parallel, Patch, Deprecate, Return, FailWith, Continue, Block, End, Next, Otherwise, NoElse, Else, Branches, NoBranch, Branch}
 use Rattle.flow_base.specs.declared.value.Value.{Value}
 use Rattle.flow_base.specs.declared.value.Kind.{Kind}
 use Rattle.flow_base.specs.declared.event.Cause.{Cause}
@@ -220,6 +220,7 @@ module _ {A : Type 0} (w : Sort A) where
       (λ d. if_moves s.event Done (nat_lt s.waits wait_limit) (asks d) (raise WaitLimit) (added w.timer s.event (OnSignalFor x n s.event b) (λ m. refl)) refl))
   begins_moves s t (Parallel at bs end) = λ n. branches_wait bs n
   begins_moves s t (Patch at id_at id a a_end b b_end) = patched_moves s.event s t id a b (t.decided id)
+  begins_moves s t (Deprecate at id_at id) = patched_moves s.event s t id End End (t.decided id)
   begins_moves s t (Return at e) = on_value_moves s.event Done (value t.variables s.at e) (λ v. Ends (Complete v)) (λ v. refl)
   begins_moves s t (FailWith at e) = on_value_moves s.event Done (value t.variables s.at e) (λ v. Ends (Fail UserFail (text_of v))) (λ v. refl)
   begins_moves s t (Continue at es) =

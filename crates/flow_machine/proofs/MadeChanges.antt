@@ -28,7 +28,7 @@ use Rattle.flow_model.specs.WellFormed.{signal_of}
 use Rattle.flow_model.specs.Deliver.{all_fit, has_kind}
 use Rattle.flow_model.specs.Turn.{Fresh, is_started}
 use Rattle.flow_model.specs.Turned.{turned, position_by_inputs}
-use Rattle.flow_model.specs.Open.{open_timers, state_of, moment_of}
+use Rattle.flow_model.specs.Open.{timers_left, state_of, moment_of}
 use Rattle.flow_model.specs.Verdict.{verdict}
 use Rattle.flow_model.specs.Book.{Book, nth, text_number, requested, open_run, signalled}
 use Rattle.flow_model.specs.Apply.{Rules, Outcome, says, none_there, must_be, must_hold, tested, if_sound, program_if, program_at, first_turn, continued, run_from, next_run, history_limit, turn_made, recorded, input_recorded, report_refusal, tries_of, failure_refusal, on_program, register, start, signal_recorded, signal, complete, ready_after, retried, attempt_failed, fail, terminated, terminate, if_stands, upgrade, describe, history, outcome, fired, tick}
@@ -249,7 +249,7 @@ module _ (u : Rules) (b : Book) (Q : List Change → Type 0) (c : CoversTurns u 
       state = state_of r.history;
       events = length r.history;
       activities = map (λ (t : Task). t.event) r.tasks;
-      timers = map (λ (t : Timer). t.id) (open_timers r.history);
+      timers = map (λ (t : Timer). t.id) (timers_left r.history);
     }))))) [ None ↦ c.nothing | Some r ↦ c.nothing ]
 
     history_has : (n : ℕ) → Has (history b n)

@@ -7,6 +7,8 @@ use flow_base::value::Value;
 /// One attempt of an activity that is to be made outside.
 #[derive(Debug, Drop)]
 pub struct Task {
+    /// The flow's name.
+    pub flow: Key,
     pub run: RunId,
     /// The event that scheduled the activity.
     pub event: EventId,

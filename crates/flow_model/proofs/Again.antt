@@ -2,7 +2,7 @@
 use Rattle.std.proofs.Common.{◌≡◌, ℕ, suc, zero, ◌+◌, List, [], ◌∷◌, ◌++◌, length, refl, sym, ap, ◌∙◌, subst, Option, Some, None, Bool, true, false}
 use Rattle.std.specs.Prelude.{bytes_eq, if◌then◌else◌, slice_get}
 use Rattle.std.proofs.lemmas.List.{append-nil}
-use Rattle.flow_base.specs.Syntax.{Bytes, Program, Statement, Let, Assign, Call, WaitSignal, WaitSignalFor, Sleep, If, While, Parallel, Patch, Return, FailWith, Continue, Block, End, Next}
+use Rattle.flow_base.specs.Syntax.{Bytes, Program, Statement, Let, Assign, Call, WaitSignal, WaitSignalFor, Sleep, If, While, Parallel, Patch, Deprecate, Return, FailWith, Continue, Block, End, Next}
 use Rattle.flow_base.specs.declared.value.Value.TheVariants.{Text}
 use Rattle.flow_base.specs.declared.event.Cmd.{Cmd}
 use Rattle.flow_base.specs.declared.event.Cmd.TheVariants.{Schedule, StartTimer, CancelTimer, RecordMarker, Complete, Fail, ContinueAsNew}
@@ -72,6 +72,7 @@ module _ (a : Bytes → Bool) (s : Setting) (fresh : (id : Bytes) → s.answer i
   begin_again t (While at e b end) h = refl
   begin_again t (Parallel at bs end) h = refl
   begin_again t (Patch at id_at id x x_end y y_end) h = patched_again t id x y (t.decided id) h
+  begin_again t (Deprecate at id_at id) h = patched_again t id End End (t.decided id) h
   begin_again t (Return at e) h = refl
   begin_again t (FailWith at e) h = refl
   begin_again t (Continue at es) h = refl

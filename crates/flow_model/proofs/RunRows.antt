@@ -1,7 +1,7 @@
 -- The definitions of a run on worked rows, by computation: the commands of each turn of a fresh run.
 use Rattle.std.proofs.Common.{◌≡◌, ℕ, List, [], ◌∷◌, Option, Some, None, refl}
 use Rattle.std.specs.Prelude.{codes, pos}
-use Rattle.flow_base.specs.Syntax.{Bytes, Expression, Number, Literal, Variable, Combine, Statement, Let, Assign, Call, WaitSignalFor, While, Parallel, Patch, Return, block_of, once, NoElse, NoBranch, Branch, Declared, Activity, Signal, Program}
+use Rattle.flow_base.specs.Syntax.{Bytes, Expression, Number, Literal, Variable, Combine, Statement, Let, Assign, Call, WaitSignalFor, While, Parallel, Patch, Deprecate, Return, block_of, once, NoElse, NoBranch, Branch, Declared, Activity, Signal, Program}
 use Rattle.flow_base.specs.declared.syntax.Binary.TheVariants.{Less, Add}
 use Rattle.flow_base.specs.declared.syntax.Parameter.{Parameter}
 use Rattle.flow_base.specs.declared.value.Value.TheVariants.{Int, Text}
@@ -155,6 +155,15 @@ commands_of (Some x) = x.0
 no_marker_is_no : commands_of (turned D (Recorded (record { id = 2; at = 0; what = Asked (asks_p (codes "eur")) } ∷ [])) first_configuration 0 (Started [])) ≡ asks_p (codes "eur") ∷ []
 unfolding turned
 no_marker_is_no = refl
+
+-- { activity p(text) -> int; let r = 0; deprecate "v2"; r = call p("usd"); return r; }
+abbrev E : Program
+E = program [] (Activity 0 0 (codes "p") (record { at = 0; kind = kind.Text } ∷ []) kind.Int ∷ []) (let_be (codes "r") (number 0)
+    ∷ Deprecate 0 0 (codes "v2") ∷ call_p (codes "usd") ∷ Return 0 (variable (codes "r")) ∷ [])
+
+deprecate_records : fresh_run E first_configuration ((0, Started []) ∷ []) ≡ (RecordMarker (codes "v2") ∷ asks_p (codes "usd") ∷ []) ∷ []
+unfolding turned
+deprecate_records = refl
 
 -- an empty history lacks its start
 nothing_recorded : FirstMismatch A [] 1 MissingEvent

@@ -6,7 +6,7 @@ use Rattle.std.proofs.lemmas.Bool.{ltb-false, eqb-true, eqb-false}
 use Rattle.std.proofs.lemmas.Option.{same_Some}
 use Rattle.std.proofs.lemmas.List.{length-append, length-drop, length-map}
 use Rattle.flow_base.specs.Limits.{Within}
-use Rattle.flow_base.specs.Syntax.{Bytes, Program, Statement, Let, Assign, Call, WaitSignal, WaitSignalFor, Sleep, If, While, Parallel, Patch, Return, FailWith, Continue, Block, End, Next, Otherwise, NoElse, Else, Branches, NoBranch, Branch, Expression, Declared, Activity, Signal}
+use Rattle.flow_base.specs.Syntax.{Bytes, Program, Statement, Let, Assign, Call, WaitSignal, WaitSignalFor, Sleep, If, While, Parallel, Patch, Deprecate, Return, FailWith, Continue, Block, End, Next, Otherwise, NoElse, Else, Branches, NoBranch, Branch, Expression, Declared, Activity, Signal}
 use Rattle.flow_base.specs.declared.value.Value.{Value}
 use Rattle.flow_base.specs.declared.value.Kind.{Kind}
 use Rattle.flow_base.specs.declared.value.Kind.TheVariants.{Int}
@@ -43,6 +43,7 @@ abbrev mutual
   Tried (While at e b end) = TriedBlock b
   Tried (Parallel at bs end) = TriedBranches bs
   Tried (Patch at id_at id a a_end b b_end) = TriedBlock a × TriedBlock b
+  Tried (Deprecate at id_at id) = Unit {0}
   Tried (Return at e) = Unit {0}
   Tried (FailWith at e) = Unit {0}
   Tried (Continue at es) = length es ≤ 256
@@ -105,6 +106,7 @@ behind_small s (If at e a a_end b b_end) k = k
 behind_small s (While at e b end) k = k
 behind_small s (Parallel at bs end) k = k
 behind_small s (Patch at id_at id a a_end b b_end) k = k
+behind_small s (Deprecate at id_at id) k = k
 behind_small s (Return at e) k = k
 behind_small s (FailWith at e) k = k
 behind_small s (Continue at es) k = k
@@ -198,6 +200,7 @@ mutual
       tried_branches inside bs k (nil_right many (faults_of_branches inside bs) h)
   tried s (Patch at id_at id a a_end b b_end) k h =
       (tried_block s a k (nil_left (faults_of_block s a) (faults_of_block s b) h), tried_block s b k (nil_right (faults_of_block s a) (faults_of_block s b) h))
+  tried s (Deprecate at id_at id) k h = tt
   tried s (Return at e) k h = tt
   tried s (FailWith at e) k h = tt
   tried s (Continue at es) k h =
@@ -368,6 +371,7 @@ begins_well s t (WaitSignalFor at x signal_at n e b end) h =
     (λ d. if_well (nat_lt s.waits wait_limit) (asks d) (raise WaitLimit) (h, tt) tt))
 begins_well s t (Parallel at bs end) h = branches_tried bs h
 begins_well s t (Patch at id_at id a a_end b b_end) h = patched_well s t id a b (t.decided id) h.0 h.1
+begins_well s t (Deprecate at id_at id) h = patched_well s t id End End (t.decided id) tt tt
 begins_well s t (Return at e) h = on_value_well (value t.variables s.at e) (λ v. Ends (Complete v)) (λ v. tt)
 begins_well s t (FailWith at e) h =
     on_value_well (value t.variables s.at e) (λ v. Ends (Fail UserFail (text_of v))) (λ v. tt)

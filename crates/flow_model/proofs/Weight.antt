@@ -2,7 +2,7 @@
 use Rattle.std.proofs.Common.{◌≡◌, ℕ, suc, ◌+◌, ◌*◌, ◌<◌, ◌≤◌, List, [], refl, subst, arith, Option, Some, None, Result, Ok, Err, Bool, true, false}
 use Rattle.std.specs.Prelude.{if◌then◌else◌, nat_lt}
 use Rattle.std.proofs.lemmas.Bool.Decides.{nat_tests}
-use Rattle.flow_base.specs.Syntax.{Bytes, Expression, Statement, Let, Assign, Call, WaitSignal, WaitSignalFor, Sleep, If, While, Parallel, Patch, Return, FailWith, Continue, Block, End, Next, Branches, NoBranch, Branch}
+use Rattle.flow_base.specs.Syntax.{Bytes, Expression, Statement, Let, Assign, Call, WaitSignal, WaitSignalFor, Sleep, If, While, Parallel, Patch, Deprecate, Return, FailWith, Continue, Block, End, Next, Branches, NoBranch, Branch}
 use Rattle.flow_base.specs.declared.value.Value.{Value}
 use Rattle.flow_base.specs.declared.event.Cause.{Cause}
 use Rattle.flow_base.specs.declared.event.Cause.TheVariants.{WaitLimit}
@@ -36,6 +36,7 @@ mutual
   le m n (While at e b end) h = loop_le m n (weight_block m b) (weight_block n b) h (le_block m n b h)
   le m n (Parallel at bs end) h = omega (arith, le_branches m n bs h)
   le m n (Patch at id_at id a a_end b b_end) h = omega (arith, le_block m n a h, le_block m n b h)
+  le m n (Deprecate at id_at id) h = omega arith
   le m n (Return at e) h = omega arith
   le m n (FailWith at e) h = omega arith
   le m n (Continue at es) h = omega arith
@@ -124,6 +125,10 @@ falls_patched : (s : Setting) (t : Store) (at id_at a_end b_end : ℕ) (id : Byt
 falls_patched s t at id_at a_end b_end id a b (Some f) = (omega arith, omega (arith, falls_picked (left t) f a b))
 falls_patched s t at id_at a_end b_end id a b None = falls_if (left t) _ (s.answer id) _ _ (λ _. (omega arith, omega arith)) (omega arith, omega arith)
 
+falls_deprecated : (s : Setting) (t : Store) (at id_at : ℕ) (id : Bytes) (o : Option Bool) → Falls (left t) (weight (left t) (Deprecate at id_at id)) (patched s t id End End o)
+falls_deprecated s t at id_at id (Some f) = (omega arith, omega (arith, falls_picked (left t) f End End))
+falls_deprecated s t at id_at id None = falls_if (left t) _ (s.answer id) _ _ (λ _. (omega arith, omega arith)) (omega arith, omega arith)
+
 loop_step : (m a b n : ℕ) → n ≡ suc m → a ≤ b → (0 + a) + ((m * (a + 1) + 1) + 0) < n * (b + 1) + 1
 loop_step m a b n e h = rw e (omega (arith, loop_le m m a b (omega arith) h))
 
@@ -147,6 +152,7 @@ falls_begin s t (If at e a a_end b b_end) = falls_on_value _ _ (value t.variable
 falls_begin s t (While at e b end) = falls_if _ _ (nat_lt t.tests test_limit) _ _ (λ h. falls_on_value _ _ (value t.variables s.at e) _ (λ v. falls_loop t at end e b (is_true v) (test_is _ _ h))) refl
 falls_begin s t (Parallel at bs end) = (omega arith, omega (arith, weight_branches_of (left t) bs))
 falls_begin s t (Patch at id_at id a a_end b b_end) = falls_patched s t at id_at a_end b_end id a b (t.decided id)
+falls_begin s t (Deprecate at id_at id) = falls_deprecated s t at id_at id (t.decided id)
 falls_begin s t (Return at e) = falls_on_value _ _ (value t.variables s.at e) _ (λ v. refl)
 falls_begin s t (FailWith at e) = falls_on_value _ _ (value t.variables s.at e) _ (λ v. refl)
 falls_begin s t (Continue at es) = falls_on_value _ _ (values t.variables s.at es) _ (λ v. falls_if _ _ s.is_first _ _ (λ _. refl) refl)

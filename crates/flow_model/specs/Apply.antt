@@ -28,7 +28,7 @@ use Rattle.flow_model.specs.Configuration.{Configuration, first_configuration, i
 use Rattle.flow_model.specs.Deliver.{all_fit, has_kind}
 use Rattle.flow_model.specs.Turn.{Fresh}
 use Rattle.flow_model.specs.Turned.{turned, position_by_inputs}
-use Rattle.flow_model.specs.Open.{open_timers, state_of, moment_of}
+use Rattle.flow_model.specs.Open.{timers_left, state_of, moment_of}
 use Rattle.flow_model.specs.WellFormed.{signal_of}
 use Rattle.flow_model.specs.Verdict.{verdict}
 use Rattle.flow_model.specs.Book.{Book, nth, text_number, requested, open_run, signalled, least_due, changed_by}
@@ -326,7 +326,7 @@ describe b run =
       state = state_of r.history;
       events = length r.history;
       activities = map (λ (t : Task). t.event) r.tasks;
-      timers = map (λ (t : Timer). t.id) (open_timers r.history);
+      timers = map (λ (t : Timer). t.id) (timers_left r.history);
     })))
 
 unfoldable pub history : Book → ℕ → Outcome

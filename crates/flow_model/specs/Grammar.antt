@@ -1,7 +1,7 @@
 -- The grammar. A reading says which productions make a text, one constructor for each production, with the place of
 -- each token. `.._tokens` are its tokens in order: this is the grammar, read aloud. `.._of` is the tree that it stands
 -- for: parentheses leave no trace, repeated operators group to the left.
-use Rattle.std.specs.Prelude.{◌≡◌, ℕ, ℤ, pos, negsuc, Bool, nat_lt, ◌&&◌, IsTrue, List, [], ◌∷◌, ◌++◌, length}
+use Rattle.std.specs.Prelude.{◌≡◌, ℕ, ℤ, pos, negsuc, Bool, nat_lt, ◌&&◌, IsTrue, List, [], ◌∷◌, ◌++◌, length, codes}
 use Rattle.flow_base.specs.declared.token.Word.TheVariants as word
 use Rattle.flow_base.specs.declared.token.Mark.{Mark}
 use Rattle.flow_base.specs.declared.token.Mark.TheVariants as mark
@@ -113,7 +113,11 @@ mutual
     last_argument : ℕ → ArgumentTail
     next_argument : ℕ → ExprReading → ArgumentTail → ArgumentTail
 
--- the text behind "patch" has 1 to 64 bytes
+-- the name that says with the text behind it that a patch's second list has been taken out; it is no keyword
+abbrev pub deprecate_name : Bytes
+deprecate_name = codes "deprecate"
+
+-- the text behind "patch" and "deprecate" has 1 to 64 bytes
 abbrev pub is_patch_id : Bytes → Bool
 is_patch_id id = nat_lt 0 (length id) && nat_lt (length id) 65
 
@@ -178,7 +182,7 @@ mutual
     branch : ℕ → StatementsReading → BranchesReading → BranchesReading
 
   -- stmt = "let" NAME "=" expr ";" | NAME "=" .. | "sleep" expr ";" | "while" expr block | "parallel" "{" block {block} "}"
-  --      | "return" expr ";" | "fail" expr ";" | "continue" "as" "new" "(" [expr {"," expr}] ")" ";"
+  --      | "return" expr ";" | "fail" expr ";" | "continue" "as" "new" "(" [expr {"," expr}] ")" ";" | "deprecate" TEXT ";"
   -- and "if" and "patch", which stand with what follows them, since they may have no second list
   pub data StatementReading : Type 0 where
     let_ : ℕ → ℕ → Bytes → ℕ → ExprReading → ℕ → StatementReading
@@ -189,6 +193,7 @@ mutual
     return_ : ℕ → ExprReading → ℕ → StatementReading
     fail : ℕ → ExprReading → ℕ → StatementReading
     continue_ : ℕ → ℕ → ℕ → ℕ → ArgumentsReading → ℕ → StatementReading
+    deprecate : ℕ → ℕ → (id : Bytes) → IsTrue (is_patch_id id) → ℕ → StatementReading
 
   -- {stmt} "}", where stmt is also "if" expr block ["else" block] | "patch" TEXT block ["else" block]
   pub data StatementsReading : Type 0 where
@@ -374,6 +379,7 @@ abbrev mutual
   statement_tokens (fail at e end) = marked at mark.Fail ∷ (expr_tokens e ++ (marked end mark.Semicolon ∷ []))
   statement_tokens (continue_ at as_at new_at paren es end) =
       marked at mark.Continue ∷ marked as_at mark.As ∷ marked new_at mark.New ∷ marked paren mark.Open ∷ (arguments_tokens es ++ (marked end mark.Semicolon ∷ []))
+  statement_tokens (deprecate at id_at id is end) = named at deprecate_name ∷ worded id_at id ∷ marked end mark.Semicolon ∷ []
 
   pub statements_tokens : StatementsReading → List Lexeme
   statements_tokens (no_statement to) = marked to mark.BraceClose ∷ []
@@ -582,6 +588,7 @@ abbrev mutual
   statement_of (return_ at e end) = tree.Return at (expr_of e)
   statement_of (fail at e end) = tree.FailWith at (expr_of e)
   statement_of (continue_ at as_at new_at paren es end) = tree.Continue at (arguments_of es)
+  statement_of (deprecate at id_at id is end) = tree.Deprecate at id_at id
 
   pub statements_of : StatementsReading → tree.Block
   statements_of (no_statement to) = tree.End

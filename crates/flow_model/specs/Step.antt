@@ -1,6 +1,6 @@
 -- The step: the leftmost place of the rest that can go on does, with at most one command.
 use Rattle.std.specs.Prelude.{ℕ, suc, Bool, true, false, List, [], ◌∷◌, Option, Some, None, Result, Ok, Err, nat_lt, bytes_eq, if◌then◌else◌}
-use Rattle.flow_base.specs.Syntax.{Bytes, Statement, Let, Assign, Call, WaitSignal, WaitSignalFor, Sleep, If, While, Parallel, Patch, Return, FailWith, Continue, Block, End, Next, ActivityType}
+use Rattle.flow_base.specs.Syntax.{Bytes, Statement, Let, Assign, Call, WaitSignal, WaitSignalFor, Sleep, If, While, Parallel, Patch, Deprecate, Return, FailWith, Continue, Block, End, Next, ActivityType}
 use Rattle.flow_base.specs.declared.value.Value.{Value}
 use Rattle.flow_base.specs.declared.value.Kind.{Kind}
 use Rattle.flow_base.specs.declared.value.Kind.TheVariants as kind
@@ -120,6 +120,7 @@ begin s t (WaitSignalFor at x signal_at n e b end) =
     (on_value (due t.variables s.at e) (λ d. waiting s (Asks (OnSignalFor x n s.event b) t (StartTimer d))))
 begin s t (Parallel at bs end) = Goes (branches_of bs) t
 begin s t (Patch at id_at id a a_end b b_end) = patched s t id a b (t.decided id)
+begin s t (Deprecate at id_at id) = patched s t id End End (t.decided id)
 begin s t (Return at e) = on_value (value t.variables s.at e) (λ v. Ends (Complete v))
 begin s t (FailWith at e) = on_value (value t.variables s.at e) (λ v. Ends (Fail UserFail (text_of v)))
 begin s t (Continue at es) =

@@ -1,7 +1,7 @@
 -- What a run may still do in a turn, as a number that falls with each step. A loop weighs as much as all the turns that
 -- its tests still allow.
 use Rattle.std.specs.Prelude.{ℕ, ◌+◌, ◌-◌, ◌*◌}
-use Rattle.flow_base.specs.Syntax.{Statement, Let, Assign, Call, WaitSignal, WaitSignalFor, Sleep, If, While, Parallel, Patch, Return, FailWith, Continue, Block, End, Next, Branches, NoBranch, Branch}
+use Rattle.flow_base.specs.Syntax.{Statement, Let, Assign, Call, WaitSignal, WaitSignalFor, Sleep, If, While, Parallel, Patch, Deprecate, Return, FailWith, Continue, Block, End, Next, Branches, NoBranch, Branch}
 use Rattle.flow_base.specs.declared.event.State.{State}
 use Rattle.flow_base.specs.declared.event.State.TheVariants.{Open}
 use Rattle.flow_model.specs.Rest.{Rest, Done, OnActivity, OnTimer, OnSignal, OnSignalFor, Raised, Then, Beside}
@@ -21,6 +21,7 @@ abbrev mutual
   weight n (While at e b end) = n * (weight_block n b + 1) + 1
   weight n (Parallel at bs end) = weight_branches n bs + 1
   weight n (Patch at id_at id a a_end b b_end) = weight_block n a + weight_block n b + 1
+  weight n (Deprecate at id_at id) = 1
   weight n (Return at e) = 1
   weight n (FailWith at e) = 1
   weight n (Continue at es) = 1

@@ -14,7 +14,7 @@ use Rattle.flow_base.specs.declared.syntax.Binary.{Binary}
 use Rattle.flow_base.specs.declared.syntax.Binary.TheVariants.{Equal, Differ, Join}
 use Rattle.flow_base.specs.declared.syntax.Parameter.{Parameter}
 use Rattle.flow_base.specs.declared.syntax.TypeAt.{TypeAt}
-use Rattle.flow_base.specs.Syntax.{Bytes, Expression, Number, Literal, Variable, Now, Apply, Combine, Statement, Let, Assign, Call, WaitSignal, WaitSignalFor, Sleep, If, While, Parallel, Patch, Return, FailWith, Continue, Block, End, Next, Otherwise, NoElse, Else, Branches, NoBranch, Branch, Declared, Activity, Signal, Program}
+use Rattle.flow_base.specs.Syntax.{Bytes, Expression, Number, Literal, Variable, Now, Apply, Combine, Statement, Let, Assign, Call, WaitSignal, WaitSignalFor, Sleep, If, While, Parallel, Patch, Deprecate, Return, FailWith, Continue, Block, End, Next, Otherwise, NoElse, Else, Branches, NoBranch, Branch, Declared, Activity, Signal, Program}
 use Rattle.flow_base.specs.declared.syntax.Retry.{Retry}
 
 -- one fault
@@ -71,6 +71,7 @@ abbrev mutual
   names_of_statement (While at e b end) = names_of_block b
   names_of_statement (Parallel at bs end) = names_of_branches bs
   names_of_statement (Patch at id_at id a a_end b b_end) = named patches id_at id ∷ (names_of_block a ++ names_of_block b)
+  names_of_statement (Deprecate at id_at id) = named patches id_at id ∷ []
   names_of_statement _ = []
 
   pub names_of_block : Block → List Named
@@ -339,6 +340,7 @@ abbrev mutual
   faults_of_statement s (Parallel at bs end) =
       fault_at_first code.TooManyBranches (drop branch_limit (branch_places bs)) ++ faults_of_branches (record s { in_parallel = true }) bs
   faults_of_statement s (Patch at id_at id a a_end b b_end) = faults_of_block s a ++ faults_of_block s b
+  faults_of_statement s (Deprecate at id_at id) = []
   faults_of_statement s (Return at e) = faults_of_expression s.types e ++ ends_in_parallel s at
   faults_of_statement s (FailWith at e) = faults_of_wanted s.types Text e ++ ends_in_parallel s at
   faults_of_statement s (Continue at es) =

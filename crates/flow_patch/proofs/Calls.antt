@@ -4,7 +4,7 @@ use Rattle.std.specs.Prelude.{bytes_eq, drop, ◌||◌, if◌then◌else◌}
 use Rattle.std.specs.Cmp.Lexicographic.{bytes_decides}
 use Rattle.std.proofs.lemmas.Bool.{true≢false}
 use Rattle.std.proofs.lemmas.List.Elements.{Contains-append_left, Contains-append_right}
-use Rattle.flow_base.specs.Syntax.{Bytes, Expression, Statement, Let, Assign, Call, WaitSignal, WaitSignalFor, Sleep, If, While, Parallel, Patch, Return, FailWith, Continue, Block, End, Next, Otherwise, NoElse, Else, Branches, NoBranch, Branch, Declared, Activity, Signal, Program, activities_of}
+use Rattle.flow_base.specs.Syntax.{Bytes, Expression, Statement, Let, Assign, Call, WaitSignal, WaitSignalFor, Sleep, If, While, Parallel, Patch, Deprecate, Return, FailWith, Continue, Block, End, Next, Otherwise, NoElse, Else, Branches, NoBranch, Branch, Declared, Activity, Signal, Program, activities_of}
 use Rattle.flow_base.specs.declared.code.Code.{Code}
 use Rattle.flow_base.specs.declared.code.Code.TheVariants as code
 use Rattle.flow_base.specs.declared.command.TextFault.{TextFault}
@@ -53,6 +53,7 @@ behind_keeps s (If at e a a_end b b_end) = refl
 behind_keeps s (While at e b end) = refl
 behind_keeps s (Parallel at bs end) = refl
 behind_keeps s (Patch at id_at id a a_end b b_end) = refl
+behind_keeps s (Deprecate at id_at id) = refl
 behind_keeps s (Return at e) = refl
 behind_keeps s (FailWith at e) = refl
 behind_keeps s (Continue at es) = refl
@@ -97,6 +98,7 @@ mutual
     own_block g ds s e b (λ i y. h i (or_right (bytes_eq id i) (block_has i a || block_has i b) (or_right (block_has i a) (block_has i b) y)))
         (clean_right (faults_of_block s a) (faults_of_block s b) c),
   )
+  own_statement g ds s e (Deprecate at id_at id) h c = h id ((bytes_decides id id).1 refl)
   own_statement g ds s e (Let at name_at x d) h c = tt
   own_statement g ds s e (Assign at x d) h c = tt
   own_statement g ds s e (WaitSignal at x signal_at n) h c = tt

@@ -2,7 +2,7 @@
 use Rattle.std.proofs.Common.{◌≡◌, ℕ, List, [], ◌∷◌, ◌++◌, map, refl, sym, ap, ◌∙◌, subst, Bool, true, false, Option, Some, None, ⊎_elim}
 use Rattle.std.specs.Prelude.{bytes_eq, ◌&&◌, if◌then◌else◌}
 use Rattle.std.proofs.lemmas.Bool.{true≢false}
-use Rattle.flow_base.specs.Syntax.{Bytes, Statement, Let, Assign, Call, WaitSignal, WaitSignalFor, Sleep, If, While, Parallel, Patch, Return, FailWith, Continue, Block, End, Next, Otherwise, NoElse, Else, Branches, NoBranch, Branch, Declared, Program}
+use Rattle.flow_base.specs.Syntax.{Bytes, Statement, Let, Assign, Call, WaitSignal, WaitSignalFor, Sleep, If, While, Parallel, Patch, Deprecate, Return, FailWith, Continue, Block, End, Next, Otherwise, NoElse, Else, Branches, NoBranch, Branch, Declared, Program}
 use Rattle.flow_base.specs.Bare.{bare_expression, bare_retry, bare_statement, bare_block, bare_otherwise, bare_branches, bare_parameter, bare_declared}
 use Rattle.flow_base.specs.declared.syntax.Parameter.{Parameter}
 use Rattle.flow_model.specs.Rest.{is_end}
@@ -14,15 +14,15 @@ use Rattle.flow_patch.proofs.Words.{wrap_is_computed}
 use Rattle.flow_patch.proofs.Heads.{bytes_same, bytes_self, head_by, bare_first, bare_second, bare_beside, statements_alike, parameters_alike, parameter_self, declared_alike, declared_by}
 
 -- no place in either
-places : (o p : Option ℕ) → first_place o p ≡ None → (o ≡ None) × (p ≡ None)
+pub places : (o p : Option ℕ) → first_place o p ≡ None → (o ≡ None) × (p ≡ None)
 places None p e = (refl, e)
 places (Some n) p e = absurd (none_some n (sym e))
 
-no_place : (o p : Option ℕ) → o ≡ None → p ≡ None → first_place o p ≡ None
+pub no_place : (o p : Option ℕ) → o ≡ None → p ≡ None → first_place o p ≡ None
 no_place o p e h = rw (e, h)
 
 -- a test that is not to tell a place
-tested : (b : Bool) (o : Option ℕ) (n : ℕ) → (if b then o else Some n) ≡ None → (b ≡ true) × (o ≡ None)
+pub tested : (b : Bool) (o : Option ℕ) (n : ℕ) → (if b then o else Some n) ≡ None → (b ≡ true) × (o ≡ None)
 tested true o n e = (refl, e)
 tested false o n e = absurd (none_some n (sym e))
 
@@ -50,6 +50,7 @@ mutual
       (λ (e : f id ≡ false).
       rw e (ap (λ w. Next (Patch 0 0 id w 0 (bare_block (spliced f b)) 0) (bare_block k)) (bare_spliced f a)
       ∙ ap (λ w. Next (Patch 0 0 id (plain f a) 0 w 0) (bare_block k)) (bare_spliced f b))) (cases (f id))
+  bare_placed f (Deprecate at id_at id) k = ⊎_elim (λ (e : f id ≡ true). rw e refl) (λ (e : f id ≡ false). rw e refl) (cases (f id))
   bare_placed f (Return at e) k = refl
   bare_placed f (FailWith at e) k = refl
   bare_placed f (Continue at es) k = refl
@@ -105,6 +106,7 @@ mutual
   alike_statements (Patch at id_at i a a_end b b_end) (Patch at' id_at' j a' a_end' b' b_end') h n =
       let p = places (difference a a' a_end') (difference b b' b_end') n in
       statements_alike (Patch at id_at i a a_end b b_end) (Patch at' id_at' j a' a_end' b' b_end') h (alike a a' a_end' p.0) (alike b b' b_end' p.1) refl
+  alike_statements (Deprecate at id_at i) (Deprecate at' id_at' j) h n = statements_alike (Deprecate at id_at i) (Deprecate at' id_at' j) h refl refl refl
   alike_statements (Return at e) (Return at' d) h n = statements_alike (Return at e) (Return at' d) h refl refl refl
   alike_statements (FailWith at e) (FailWith at' d) h n = statements_alike (FailWith at e) (FailWith at' d) h refl refl refl
   alike_statements (Continue at es) (Continue at' ds) h n = statements_alike (Continue at es) (Continue at' ds) h refl refl refl
@@ -180,7 +182,7 @@ mutual
 
 ---- Programs
 
-parameters_same : (ps qs : List Parameter) (end : ℕ) → difference_of_parameters ps qs end ≡ None → map bare_parameter ps ≡ map bare_parameter qs
+pub parameters_same : (ps qs : List Parameter) (end : ℕ) → difference_of_parameters ps qs end ≡ None → map bare_parameter ps ≡ map bare_parameter qs
 parameters_same [] [] end n = refl
 parameters_same [] (q ∷ qs) end n = absurd (none_some q.at (sym n))
 parameters_same (p ∷ ps) [] end n = absurd (none_some end (sym n))
@@ -188,19 +190,19 @@ parameters_same (p ∷ ps) (q ∷ qs) end n =
     let t = tested (same_parameter p q) (difference_of_parameters ps qs end) q.at n in
     ap (λ x. x ∷ map bare_parameter ps) (parameters_alike p q t.0) ∙ ap (λ xs. bare_parameter q ∷ xs) (parameters_same ps qs end t.1)
 
-abbrev is_empty : {A : Type 0} → List A → Bool
+abbrev pub is_empty : {A : Type 0} → List A → Bool
 is_empty [] = true
 is_empty (x ∷ xs) = false
 
-abbrev head_of : {A : Type 0} → A → List A → A
+abbrev pub head_of : {A : Type 0} → A → List A → A
 head_of a [] = a
 head_of a (x ∷ xs) = x
 
-abbrev tail_of : {A : Type 0} → List A → List A
+abbrev pub tail_of : {A : Type 0} → List A → List A
 tail_of [] = []
 tail_of (x ∷ xs) = xs
 
-parameters_nowhere : (ps qs : List Parameter) (end : ℕ) → map bare_parameter ps ≡ map bare_parameter qs → difference_of_parameters ps qs end ≡ None
+pub parameters_nowhere : (ps qs : List Parameter) (end : ℕ) → map bare_parameter ps ≡ map bare_parameter qs → difference_of_parameters ps qs end ≡ None
 parameters_nowhere [] [] end e = refl
 parameters_nowhere [] (q ∷ qs) end e = absurd (true≢false (ap is_empty e))
 parameters_nowhere (p ∷ ps) [] end e = absurd (true≢false (sym (ap is_empty e)))

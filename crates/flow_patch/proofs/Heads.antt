@@ -3,7 +3,7 @@ use Rattle.std.proofs.Common.{◌≡◌, ℕ, List, [], ◌∷◌, map, refl, sy
 use Rattle.std.specs.Prelude.{bytes_eq, ◌&&◌}
 use Rattle.std.specs.Cmp.Lexicographic.{bytes_decides}
 use Rattle.std.proofs.lemmas.Bool.{true≢false, eqb-true, eq-eqb}
-use Rattle.flow_base.specs.Syntax.{Bytes, Expression, Number, Literal, Variable, Now, Apply, Combine, Statement, Let, Assign, Call, WaitSignal, WaitSignalFor, Sleep, If, While, Parallel, Patch, Return, FailWith, Continue, Otherwise, NoElse, Else, Declared, Activity, Signal}
+use Rattle.flow_base.specs.Syntax.{Bytes, Expression, Number, Literal, Variable, Now, Apply, Combine, Statement, Let, Assign, Call, WaitSignal, WaitSignalFor, Sleep, If, While, Parallel, Patch, Deprecate, Return, FailWith, Continue, Otherwise, NoElse, Else, Declared, Activity, Signal}
 use Rattle.flow_base.specs.Bare.{bare_expression, bare_retry, bare_statement, bare_block, bare_otherwise, bare_branches, bare_parameter, bare_type, bare_declared}
 use Rattle.flow_base.specs.declared.value.Kind.{Kind}
 use Rattle.flow_base.specs.declared.value.Kind.TheVariants as kind
@@ -180,6 +180,7 @@ head_self (If at e a a_end b b_end) = expression_self e
 head_self (While at e b end) = expression_self e
 head_self (Parallel at bs end) = refl
 head_self (Patch at id_at id a a_end b b_end) = bytes_self id
+head_self (Deprecate at id_at id) = bytes_self id
 head_self (Return at e) = expression_self e
 head_self (FailWith at e) = expression_self e
 head_self (Continue at es) = list_self es
@@ -194,6 +195,7 @@ bare_head (Call at x activity_at a es r o) (Call at' y activity_at' b ds q u) =
 bare_head (WaitSignal at x signal_at n) (WaitSignal at' y signal_at' m) = refl
 bare_head (Parallel at bs end) (Parallel at' cs end') = refl
 bare_head (Patch at id_at i l l_end k k_end) (Patch at' id_at' j l' l_end' k' k_end') = refl
+bare_head (Deprecate at id_at i) (Deprecate at' id_at' j) = refl
 bare_head (WaitSignalFor at x signal_at n e b end) (WaitSignalFor at' y signal_at' m d c end') = ap (λ h. bytes_eq x y && (bytes_eq n m && h)) (bare_same e d)
 bare_head (Sleep at e) (Sleep at' d) = bare_same e d
 bare_head (If at e a a_end b b_end) (If at' d a' a_end' b' b_end') = bare_same e d
@@ -267,6 +269,7 @@ statements_alike (Parallel at bs end) (Parallel at' cs end') h a b c = ap (λ z.
 statements_alike (Patch at id_at i l l_end k k_end) (Patch at' id_at' j l' l_end' k' k_end') h a b c =
     ap (λ z. Patch 0 0 z (bare_block l) 0 (bare_block k) 0) (bytes_same i j h) ∙ ap (λ z. Patch 0 0 j z 0 (bare_block k) 0) a
     ∙ ap (λ z. Patch 0 0 j (bare_block l') 0 z 0) b
+statements_alike (Deprecate at id_at i) (Deprecate at' id_at' j) h a b c = ap (Deprecate 0 0) (bytes_same i j h)
 statements_alike (Return at e) (Return at' d) h a b c = ap (Return 0) (expressions_alike e d h)
 statements_alike (FailWith at e) (FailWith at' d) h a b c = ap (FailWith 0) (expressions_alike e d h)
 statements_alike (Continue at es) (Continue at' ds) h a b c = ap (Continue 0) (lists_alike es ds h)

@@ -4,7 +4,7 @@ use Rattle.std.specs.Prelude.{if◌then◌else◌, ◌&&◌, bytes_eq, slice_get
 use Rattle.std.specs.List.{AllByRecursion}
 use Rattle.std.specs.Cmp.Lexicographic.{bytes_decides}
 use Rattle.std.proofs.lemmas.Bool.{true≢false}
-use Rattle.flow_base.specs.Syntax.{Bytes, Statement, Let, Assign, Call, WaitSignal, WaitSignalFor, Sleep, If, While, Parallel, Patch, Return, FailWith, Continue, Block, End, Next, Otherwise, NoElse, Else, Branches, NoBranch, Branch, ActivityType, Program, activities_of, signals_of}
+use Rattle.flow_base.specs.Syntax.{Bytes, Statement, Let, Assign, Call, WaitSignal, WaitSignalFor, Sleep, If, While, Parallel, Patch, Deprecate, Return, FailWith, Continue, Block, End, Next, Otherwise, NoElse, Else, Branches, NoBranch, Branch, ActivityType, Program, activities_of, signals_of}
 use Rattle.flow_base.specs.Bare.{bare_expression, bare_retry, bare_statement, bare_block, bare_otherwise, bare_branches, bare_parameter}
 use Rattle.flow_base.specs.declared.syntax.Parameter.{Parameter}
 use Rattle.flow_base.specs.declared.value.Value.{Value}
@@ -46,6 +46,7 @@ mutual
   placed_none (Parallel at bs end) k = ap (λ w. Next (Parallel 0 w 0) k) (branches_none bs)
   placed_none (Patch at id_at id a a_end b b_end) k =
       ap (λ w. Next (Patch 0 0 id w 0 (plain none b) 0) k) (plain_none a) ∙ ap (λ w. Next (Patch 0 0 id (bare_block a) 0 w 0) k) (plain_none b)
+  placed_none (Deprecate at id_at id) k = refl
   placed_none (Return at e) k = refl
   placed_none (FailWith at e) k = refl
   placed_none (Continue at es) k = refl
@@ -74,13 +75,13 @@ pub record Change (p p' : Program) : Type 0 where
   pub own : OwnBlock is_new (activities_of p.declarations) p.body
   pub body : plain is_new p'.body ≡ bare_block p.body
 
-bare_fit : (ps : List Parameter) (vs : List Value) → all_fit (map bare_parameter ps) vs ≡ all_fit ps vs
+pub bare_fit : (ps : List Parameter) (vs : List Value) → all_fit (map bare_parameter ps) vs ≡ all_fit ps vs
 bare_fit [] [] = refl
 bare_fit [] (v ∷ vs) = refl
 bare_fit (p ∷ ps) [] = refl
 bare_fit (p ∷ ps) (v ∷ vs) = ap (λ b. has_kind p.kind v && b) (bare_fit ps vs)
 
-bare_bound : (ps : List Parameter) (vs : List Value) → bound (map bare_parameter ps) vs ≡ bound ps vs
+pub bare_bound : (ps : List Parameter) (vs : List Value) → bound (map bare_parameter ps) vs ≡ bound ps vs
 bare_bound [] vs = refl
 bare_bound (p ∷ ps) [] = refl
 bare_bound (p ∷ ps) (v ∷ vs) = ap (λ x. with_variable x p.name v) (bare_bound ps vs)

@@ -13,4 +13,11 @@ pub mod Differences
 pub mod Walks
 pub mod Upgrades
 pub mod Wrapping
+pub mod Adding
+pub mod Answered
+pub mod Settling
+pub mod Settled
+pub mod Unsettling
+pub mod Settles
+pub mod Refuted
 mod Rows

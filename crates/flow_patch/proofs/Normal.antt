@@ -3,7 +3,7 @@
 use Rattle.std.proofs.Common.{◌≡◌, ℕ, refl, sym, ap, ◌∙◌, subst, List, [], ◌∷◌, map, Option, Some, None, Result, Ok, Err, Bool, true, false, ⊎_elim, inl, inr}
 use Rattle.std.specs.Prelude.{if◌then◌else◌, nat_lt, ◌⊎◌, ◌&&◌}
 use Rattle.std.proofs.lemmas.Bool.{true≢false}
-use Rattle.flow_base.specs.Syntax.{Bytes, Expression, Number, Literal, Variable, Now, Apply, Combine, Statement, Let, Assign, Call, WaitSignal, WaitSignalFor, Sleep, If, While, Parallel, Patch, Return, FailWith, Continue, Block, End, Next, Branches, NoBranch, Branch}
+use Rattle.flow_base.specs.Syntax.{Bytes, Expression, Number, Literal, Variable, Now, Apply, Combine, Statement, Let, Assign, Call, WaitSignal, WaitSignalFor, Sleep, If, While, Parallel, Patch, Deprecate, Return, FailWith, Continue, Block, End, Next, Branches, NoBranch, Branch}
 use Rattle.flow_base.specs.Bare.{bare_expression, bare_retry}
 use Rattle.flow_base.specs.declared.value.Value.{Value}
 use Rattle.flow_base.specs.declared.event.Cause.{Cause}
@@ -260,9 +260,10 @@ pub record Begins (g : Patching) (s : Setting) (t : Store) (st : Statement) : Ty
   pub same : (b : Block) → Alike (NormTo g) SameStore (around (followed_by b) (begin s t st)) (around (followed_by (tail (changed g b))) (begin s t statement))
 
 -- what is to be known of the patches, so that all steps are known
-abbrev pub Patches : Patching → Type 0 → (Store → Type 0) → Setting → Store → Type 0
-Patches g K P s t = (at id_at : ℕ) (id : Bytes) (a : Block) (a_end : ℕ) (b : Block) (b_end : ℕ)
-    → Skips g K P s t (Patch at id_at id a a_end b b_end) ⊎ Begins g s t (Patch at id_at id a a_end b b_end)
+pub record Patches (g : Patching) (K : Type 0) (P : Store → Type 0) (s : Setting) (t : Store) : Type 0 where
+  pub patch : (at id_at : ℕ) (id : Bytes) (a : Block) (a_end : ℕ) (b : Block) (b_end : ℕ)
+      → Skips g K P s t (Patch at id_at id a a_end b b_end) ⊎ Begins g s t (Patch at id_at id a a_end b b_end)
+  pub deprecate : (at id_at : ℕ) (id : Bytes) → Skips g K P s t (Deprecate at id_at id) ⊎ Begins g s t (Deprecate at id_at id)
 
 branches_alike : (g : Patching) (bs : Branches) → norm g (branches_of bs) ≡ flat (branches_of (changed_branches g bs))
 branches_alike g NoBranch = refl
@@ -316,7 +317,8 @@ begins g K P s t q (While at e b end) =
     (value_alike (NormTo g) SameStore (value t.variables s.at e) _ _ (λ v. (turns_alike g (is_true v) at e b end, refl))) refl))
 begins g K P s t q (Parallel at bs end) =
     plainly g K P s t (Parallel at bs end) (Parallel 0 (changed_branches g bs) 0) (λ k. refl) ((branches_alike g bs, refl))
-begins g K P s t q (Patch at id_at id a a_end b b_end) = q at id_at id a a_end b b_end
+begins g K P s t q (Patch at id_at id a a_end b b_end) = q.patch at id_at id a a_end b b_end
+begins g K P s t q (Deprecate at id_at id) = q.deprecate at id_at id
 begins g K P s t q (Return at e) =
     plainly g K P s t (Return at e) (Return 0 (bare_expression e)) (λ k. refl)
     (rw (bare_value t.variables s.at e) (value_alike (NormTo g) SameStore (value t.variables s.at e) _ _ (λ v. refl)))

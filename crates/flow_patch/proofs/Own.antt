@@ -3,7 +3,7 @@ use Rattle.std.proofs.Common.{◌≡◌, ℕ, List, [], ◌∷◌, ◌++◌, ref
 use Rattle.std.specs.Prelude.{bytes_eq, if◌then◌else◌, nat_lt, nat_eq, ◌⊎◌}
 use Rattle.std.proofs.lemmas.Bool.{true≢false}
 use Rattle.std.specs.Cmp.Lexicographic.{bytes_decides}
-use Rattle.flow_base.specs.Syntax.{Bytes, Expression, Statement, Let, Assign, Call, WaitSignal, WaitSignalFor, Sleep, If, While, Parallel, Patch, Return, FailWith, Continue, Block, End, Next, Otherwise, NoElse, Else, Branches, NoBranch, Branch, ActivityType}
+use Rattle.flow_base.specs.Syntax.{Bytes, Expression, Statement, Let, Assign, Call, WaitSignal, WaitSignalFor, Sleep, If, While, Parallel, Patch, Deprecate, Return, FailWith, Continue, Block, End, Next, Otherwise, NoElse, Else, Branches, NoBranch, Branch, ActivityType}
 use Rattle.flow_base.specs.declared.value.Value.{Value}
 use Rattle.flow_base.specs.declared.event.Cause.{Cause}
 use Rattle.flow_base.specs.declared.event.Cause.TheVariants as C
@@ -135,6 +135,8 @@ begin_twin f s more t d n (While at e b end) o =
 begin_twin f s more t d n (Parallel at bs end) o = (refl, own_branches f s.activities bs o, (d, (refl, n)))
 begin_twin f s more t d n (Patch at id_at id a a_end b b_end) o =
     rw ((n id).0 o.0) (patch_twin f s more t d n id a b o.0 o.1 o.2 (t.decided id))
+begin_twin f s more t d n (Deprecate at id_at id) o =
+    rw ((n id).0 o) (patch_twin f s more t d n id End End o tt tt (t.decided id))
 begin_twin f s more t d n (Return at e) o = value_twin f s.activities (value t.variables s.at e) _ _ (λ v. (refl, tt))
 begin_twin f s more t d n (FailWith at e) o = value_twin f s.activities (value t.variables s.at e) _ _ (λ v. (refl, tt))
 begin_twin f s more t d n (Continue at es) o =

@@ -1,6 +1,6 @@
 -- What of the old program is its own: patches whose ids aren't new, and calls of declared activities.
 use Rattle.std.specs.Prelude.{◌≡◌, Bool, true, false, List, [], ◌∷◌, bytes_eq, if◌then◌else◌}
-use Rattle.flow_base.specs.Syntax.{Bytes, Statement, Let, Assign, Call, WaitSignal, WaitSignalFor, Sleep, If, While, Parallel, Patch, Return, FailWith, Continue, Block, End, Next, Otherwise, NoElse, Else, Branches, NoBranch, Branch, ActivityType}
+use Rattle.flow_base.specs.Syntax.{Bytes, Statement, Let, Assign, Call, WaitSignal, WaitSignalFor, Sleep, If, While, Parallel, Patch, Deprecate, Return, FailWith, Continue, Block, End, Next, Otherwise, NoElse, Else, Branches, NoBranch, Branch, ActivityType}
 
 abbrev pub is_declared : List ActivityType → Bytes → Bool
 is_declared [] name = false
@@ -19,6 +19,7 @@ abbrev mutual
   Own f acts (While at e b end) = OwnBlock f acts b
   Own f acts (Parallel at bs end) = OwnBranches f acts bs
   Own f acts (Patch at id_at id a a_end b b_end) = (f id ≡ false) × OwnBlock f acts a × OwnBlock f acts b
+  Own f acts (Deprecate at id_at id) = f id ≡ false
   Own f acts (Return at e) = Unit {0}
   Own f acts (FailWith at e) = Unit {0}
   Own f acts (Continue at es) = Unit {0}

@@ -12,7 +12,8 @@ use Rattle.flow_model.specs.Configuration.{is_open}
 use Rattle.flow_model.specs.Step.{Store, Setting, Move, Stays, Goes, Asks, Ends, move, decide, wait_limit}
 use Rattle.flow_model.specs.Deliver.{Progress}
 use Rattle.flow_model.specs.Turn.{Frame, next, setting, ended, after_move}
-use Rattle.flow_patch.specs.Wrap.{without_new, waits_of}
+use Rattle.flow_patch.specs.Wrap.{without_new}
+use Rattle.flow_run.specs.Shown.{waits_of}
 use Rattle.flow_patch.proofs.Normal.{cases, Alike, NormTo, SameStore, done_stays}
 use Rattle.flow_patch.proofs.Passed.{plain_rest, Silent, plain_steps}
 use Rattle.flow_patch.proofs.Waits.{waits_norm, count_waits}

@@ -9,7 +9,10 @@ use Rattle.flow_base.specs.declared.event.Cause.{Cause}
 use Rattle.flow_base.specs.declared.event.Cause.TheVariants as C
 use Rattle.flow_model.specs.Rest.{Rest, Done, OnActivity, OnTimer, OnSignal, OnSignalFor, Raised, Then, Beside, rest_of, rest_else, is_done, open_waits}
 use Rattle.flow_model.specs.Deliver.{replaced, map_rest, or_rest, target_of, when_completed, when_failed, when_fired}
-use Rattle.flow_patch.specs.Wrap.{joined, Patching, changed, changed_otherwise, Wait, ForActivity, ForTimer, ForSignal, ForSignalOrTimer, waits_of}
+use Rattle.flow_patch.specs.Wrap.{joined, Patching, changed, changed_otherwise}
+use Rattle.flow_run.specs.Shown.{waits_of}
+use Rattle.flow_run.specs.declared.rest.OpenWait.{OpenWait}
+use Rattle.flow_run.specs.declared.rest.OpenWait.TheVariants as wait
 use Rattle.flow_patch.proofs.Normal.{cases, both, behind, beside, flat, norm, behind_twice, flat_norm}
 
 done_waits : (r : Rest) → is_done r ≡ true → waits_of r ≡ []
@@ -64,20 +67,20 @@ count_waits (Raised c t) = refl
 abbrev pub or_target : Option (Bytes × Kind) → Option (Bytes × Kind) → Option (Bytes × Kind)
 or_target o p = elim o [ None ↦ p | Some x ↦ Some x ]
 
-abbrev pub target_in : ℕ → List Wait → Option (Bytes × Kind)
+abbrev pub target_in : ℕ → List OpenWait → Option (Bytes × Kind)
 target_in n [] = None
-target_in n (ForActivity m x k ∷ ws) = if nat_eq m n then Some (x, k) else target_in n ws
-target_in n (ForTimer m ∷ ws) = target_in n ws
-target_in n (ForSignal x s ∷ ws) = target_in n ws
-target_in n (ForSignalOrTimer x s m ∷ ws) = target_in n ws
+target_in n (wait.Activity m x k ∷ ws) = if nat_eq m n then Some (x, k) else target_in n ws
+target_in n (wait.Timer m ∷ ws) = target_in n ws
+target_in n (wait.Signal x s ∷ ws) = target_in n ws
+target_in n (wait.SignalFor x s m ∷ ws) = target_in n ws
 
-target_joined : (n : ℕ) (v w : List Wait) → target_in n (v ++ w) ≡ or_target (target_in n v) (target_in n w)
+target_joined : (n : ℕ) (v w : List OpenWait) → target_in n (v ++ w) ≡ or_target (target_in n v) (target_in n w)
 target_joined n [] w = refl
-target_joined n (ForActivity m x k ∷ v) w =
+target_joined n (wait.Activity m x k ∷ v) w =
     ⊎_elim (λ (e : nat_eq m n ≡ true). rw e) (λ (e : nat_eq m n ≡ false). rw e (target_joined n v w)) (cases (nat_eq m n))
-target_joined n (ForTimer m ∷ v) w = target_joined n v w
-target_joined n (ForSignal x s ∷ v) w = target_joined n v w
-target_joined n (ForSignalOrTimer x s m ∷ v) w = target_joined n v w
+target_joined n (wait.Timer m ∷ v) w = target_joined n v w
+target_joined n (wait.Signal x s ∷ v) w = target_joined n v w
+target_joined n (wait.SignalFor x s m ∷ v) w = target_joined n v w
 
 pub target_is : (n : ℕ) (r : Rest) → target_of n r ≡ target_in n (waits_of r)
 target_is n (Then r b) = target_is n r

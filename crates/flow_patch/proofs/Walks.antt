@@ -1,7 +1,7 @@
 -- One walk over the new text finds the first difference.
 use Rattle.std.proofs.Common.{arith, ◌≡◌, ℕ, zero, suc, ◌<◌, List, [], ◌∷◌, length, drop, refl, sym, ap, ◌∙◌, Bool, true, false, Option, Some, None, Result, Ok, Err, ⊎_elim}
 use Rattle.std.specs.Prelude.{bytes_eq, if◌then◌else◌}
-use Rattle.flow_base.specs.Syntax.{Bytes, Expression, Statement, Let, Assign, Call, WaitSignal, WaitSignalFor, Sleep, If, While, Parallel, Patch, Return, FailWith, Continue, Block, End, Next, Otherwise, NoElse, Else, Branches, NoBranch, Branch, Program}
+use Rattle.flow_base.specs.Syntax.{Bytes, Expression, Statement, Let, Assign, Call, WaitSignal, WaitSignalFor, Sleep, If, While, Parallel, Patch, Deprecate, Return, FailWith, Continue, Block, End, Next, Otherwise, NoElse, Else, Branches, NoBranch, Branch, Program}
 use Rattle.flow_base.specs.declared.syntax.Retry.{Retry}
 use Rattle.flow_base.specs.declared.syntax.TypeAt.{TypeAt}
 use Rattle.std.proofs.lemmas.Bool.{true≢false}
@@ -24,6 +24,7 @@ joined_spliced : (f : Bytes → Bool) (s : Statement) (k m : Block) → joined (
 joined_spliced f (Let at name_at x e) k m = refl
 joined_spliced f (Patch at id_at id a a_end b b_end) k m =
     ⊎_elim (λ (e : f id ≡ true). rw e (joined_joined (spliced f b) k m)) (λ (e : f id ≡ false). rw e refl) (cases (f id))
+joined_spliced f (Deprecate at id_at id) k m = ⊎_elim (λ (e : f id ≡ true). rw e refl) (λ (e : f id ≡ false). rw e refl) (cases (f id))
 joined_spliced f s k m = refl
 
 ---- What comes behind a walk
@@ -137,6 +138,9 @@ mutual
       (λ s. head_patch s at id_at id (spliced f c) (spliced f d) c d c_end d_end)
       (λ s. ap (λ o. first_place o (difference (second_list s) (spliced f d) d_end)) (walked_whole f c (first_list s) c_end)
       ∙ ap (first_place (ended (behind f c (first_list s)) c_end)) (walked_whole f d (second_list s) d_end)))) (cases (f id))
+  walked_statement f (Deprecate at id_at id) b k end =
+      ⊎_elim (λ (e : f id ≡ true). rw e refl)
+      (λ (e : f id ≡ false). rw e (kept (Deprecate at id_at id) (Deprecate at id_at id) b k end (λ s. None) refl (λ s. refl) (λ s. refl))) (cases (f id))
   walked_statement f (Return at e) b k end = kept (Return at e) (Return at e) b k end (λ s. None) refl (λ s. refl) (λ s. refl)
   walked_statement f (FailWith at e) b k end = kept (FailWith at e) (FailWith at e) b k end (λ s. None) refl (λ s. refl) (λ s. refl)
   walked_statement f (Continue at es) b k end = kept (Continue at es) (Continue at es) b k end (λ s. None) refl (λ s. refl) (λ s. refl)

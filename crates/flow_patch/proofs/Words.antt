@@ -1,7 +1,7 @@
 -- A wrap in its own words is what taking the new patches out tells.
 use Rattle.std.proofs.Common.{◌≡◌, List, [], ◌∷◌, ◌++◌, map, refl, sym, ap, ◌∙◌, subst, Bool, true, false, ⊎_elim, inl, inr}
 use Rattle.std.specs.Prelude.{not}
-use Rattle.flow_base.specs.Syntax.{Bytes, Statement, Let, Assign, Call, WaitSignal, WaitSignalFor, Sleep, If, While, Parallel, Patch, Return, FailWith, Continue, Block, End, Next, Otherwise, NoElse, Else, Branches, NoBranch, Branch, Declared, Activity, Signal, Program, activities_of, signals_of}
+use Rattle.flow_base.specs.Syntax.{Bytes, Statement, Let, Assign, Call, WaitSignal, WaitSignalFor, Sleep, If, While, Parallel, Patch, Deprecate, Return, FailWith, Continue, Block, End, Next, Otherwise, NoElse, Else, Branches, NoBranch, Branch, Declared, Activity, Signal, Program, activities_of, signals_of}
 use Rattle.flow_base.specs.Bare.{bare_expression, bare_retry, bare_statement, bare_block, bare_otherwise, bare_branches, bare_type, bare_declared}
 use Rattle.flow_base.specs.declared.syntax.TypeAt.{TypeAt}
 use Rattle.flow_model.specs.WellFormed.{WellFormed}
@@ -36,6 +36,8 @@ mutual
       rw (w.0) (w.1.1.1.1.0 ∙ ap (λ c. Next (Patch 0 0 id c 0 w.1.1.0 0) w.1.1.1.0) (wraps_plain f w.1.0 c' w.1.1.1.1.1)
       ∙ ap (λ d. Next (Patch 0 0 id (plain f c') 0 d 0) w.1.1.1.0) (wraps_plain f w.1.1.0 d' w.1.1.1.1.2)
       ∙ ap (Next (Patch 0 0 id (plain f c') 0 (plain f d') 0)) (h w.1.1.1.0 w.1.1.1.1.3))
+  from_plain f b (Deprecate at id_at id) b' h (inl w) = rw (w.0) (h b w.1)
+  from_plain f b (Deprecate at id_at id) b' h (inr w) = rw (w.0) (w.1.1.0 ∙ ap (Next (Deprecate 0 0 id)) (h w.1.0 w.1.1.1))
   from_plain f b (Let at name_at x e) b' h w = w.1.0 ∙ ap (Next (Let 0 0 x (bare_expression e))) (h w.0 w.1.1)
   from_plain f b (Assign at x e) b' h w = w.1.0 ∙ ap (Next (Assign 0 x (bare_expression e))) (h w.0 w.1.1)
   from_plain f b (WaitSignal at x signal_at n) b' h w = w.1.0 ∙ ap (Next (WaitSignal 0 x 0 n)) (h w.0 w.1.1)
@@ -68,6 +70,8 @@ mutual
   plain_from f (Patch at id_at id c c_end d d_end) b' w =
       ⊎_elim (λ (e : f id ≡ true). inl (e, (plain f d, (plain f b', (rw e, plain_wraps f d, w)))))
       (λ (e : f id ≡ false). inr (e, (plain f c, (plain f d, (plain f b', (rw e, plain_wraps f c, plain_wraps f d, w)))))) (cases (f id))
+  plain_from f (Deprecate at id_at id) b' w =
+      ⊎_elim (λ (e : f id ≡ true). inl (e, rw e w)) (λ (e : f id ≡ false). inr (e, (plain f b', (rw e, w)))) (cases (f id))
   plain_from f (Let at name_at x e) b' w = (plain f b', (refl, w))
   plain_from f (Assign at x e) b' w = (plain f b', (refl, w))
   plain_from f (WaitSignal at x signal_at n) b' w = (plain f b', (refl, w))
@@ -95,14 +99,14 @@ bare_kinds : (ts : List TypeAt) → map (λ (t : TypeAt). t.kind) (map bare_type
 bare_kinds [] = refl
 bare_kinds (t ∷ ts) = ap (λ ks. t.kind ∷ ks) (bare_kinds ts)
 
-bare_activities : (ds : List Declared) → activities_of (map bare_declared ds) ≡ activities_of ds
+pub bare_activities : (ds : List Declared) → activities_of (map bare_declared ds) ≡ activities_of ds
 bare_activities [] = refl
 bare_activities (Activity at name_at name takes gives ∷ ds) =
     ap (λ ks. record { name = name; takes = ks; gives = gives } ∷ activities_of (map bare_declared ds)) (bare_kinds takes)
     ∙ ap (λ more. record { name = name; takes = map (λ (t : TypeAt). t.kind) takes; gives = gives } ∷ more) (bare_activities ds)
 bare_activities (Signal at name_at name carries ∷ ds) = bare_activities ds
 
-bare_signals : (ds : List Declared) → signals_of (map bare_declared ds) ≡ signals_of ds
+pub bare_signals : (ds : List Declared) → signals_of (map bare_declared ds) ≡ signals_of ds
 bare_signals [] = refl
 bare_signals (Activity at name_at name takes gives ∷ ds) = bare_signals ds
 bare_signals (Signal at name_at name carries ∷ ds) = ap (λ more. (name, carries) ∷ more) (bare_signals ds)

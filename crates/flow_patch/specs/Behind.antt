@@ -1,11 +1,11 @@
 -- The same first difference by one walk over the new text, which makes no list: what a new list stands for, its new patches
 -- dropped, is looked for at the beginning of an old one, and the rest of the old one goes to the statement behind.
 use Rattle.std.specs.Prelude.{◌≡◌, ℕ, Bool, not, false, Option, Some, None, Result, Ok, Err, if◌then◌else◌}
-use Rattle.flow_base.specs.Syntax.{Bytes, Statement, Call, WaitSignalFor, If, While, Parallel, Patch, Block, End, Next, Otherwise, NoElse, Else, Branches, NoBranch, Branch}
+use Rattle.flow_base.specs.Syntax.{Bytes, Statement, Call, WaitSignalFor, If, While, Parallel, Patch, Deprecate, Block, End, Next, Otherwise, NoElse, Else, Branches, NoBranch, Branch}
 use Rattle.flow_patch.specs.Wrap.{block_has}
 use Rattle.flow_patch.specs.Difference.{same_head, first_list, second_list, branches_in, place_of, first_place, spliced, difference}
 
--- an id that no patch of the list has
+-- an id that no patch and no `deprecate` of the list has
 abbrev pub unknown_in : Block → Bytes → Bool
 unknown_in b id = not (block_has id b)
 
@@ -29,9 +29,10 @@ abbrev pub behind_first : Statement → Block → (Statement → Option ℕ) →
 behind_first s' End within = Err (place_of s')
 behind_first s' (Next s k) within = if same_head s s' then unless_told (within s) k else Err (place_of s')
 
--- a patch with a new id, which stands for its second list
+-- a patch with a new id, which stands for its second list, or a `deprecate`, which stands for nothing
 abbrev pub is_dropped : (Bytes → Bool) → Statement → Bool
 is_dropped f (Patch at id_at id c c_end d d_end) = f id
+is_dropped f (Deprecate at id_at id) = f id
 is_dropped f s = false
 
 abbrev mutual

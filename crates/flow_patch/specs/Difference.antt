@@ -1,6 +1,6 @@
 -- Where a text first differs from what it would have to be to wrap another: the place in the new text, or none.
 use Rattle.std.specs.Prelude.{◌≡◌, ◌↔◌, ℕ, Bool, true, false, ◌&&◌, List, [], ◌∷◌, Option, Some, None, nat_eq, bytes_eq, if◌then◌else◌}
-use Rattle.flow_base.specs.Syntax.{Bytes, Expression, Number, Literal, Variable, Now, Apply, Combine, Statement, Let, Assign, Call, WaitSignal, WaitSignalFor, Sleep, If, While, Parallel, Patch, Return, FailWith, Continue, Block, End, Next, Otherwise, NoElse, Else, Branches, NoBranch, Branch, Declared, Activity, Signal, Program}
+use Rattle.flow_base.specs.Syntax.{Bytes, Expression, Number, Literal, Variable, Now, Apply, Combine, Statement, Let, Assign, Call, WaitSignal, WaitSignalFor, Sleep, If, While, Parallel, Patch, Deprecate, Return, FailWith, Continue, Block, End, Next, Otherwise, NoElse, Else, Branches, NoBranch, Branch, Declared, Activity, Signal, Program}
 use Rattle.flow_base.specs.declared.syntax.Unary.{Unary}
 use Rattle.flow_base.specs.declared.syntax.Unary.TheVariants as unary
 use Rattle.flow_base.specs.declared.syntax.Binary.{Binary}
@@ -78,6 +78,7 @@ same_head (If at e a a_end b b_end) (If at' d a' a_end' b' b_end') = same_expres
 same_head (While at e b end) (While at' d b' end') = same_expression e d
 same_head (Parallel at bs end) (Parallel at' cs end') = true
 same_head (Patch at id_at id a a_end b b_end) (Patch at' id_at' i a' a_end' b' b_end') = bytes_eq id i
+same_head (Deprecate at id_at id) (Deprecate at' id_at' i) = bytes_eq id i
 same_head (Return at e) (Return at' d) = same_expression e d
 same_head (FailWith at e) (FailWith at' d) = same_expression e d
 same_head (Continue at es) (Continue at' ds) = same_expressions es ds
@@ -119,6 +120,7 @@ place_of (If at e a a_end b b_end) = at
 place_of (While at e b end) = at
 place_of (Parallel at bs end) = at
 place_of (Patch at id_at id a a_end b b_end) = at
+place_of (Deprecate at id_at id) = at
 place_of (Return at e) = at
 place_of (FailWith at e) = at
 place_of (Continue at es) = at
@@ -134,7 +136,8 @@ first_place (Some n) o = Some n
 
 ---- Lists of statements
 
--- A list with each new patch replaced by the statements of its second list, which keep their places.
+-- A list with each new patch replaced by the statements of its second list, which keep their places, and each new
+-- `deprecate` left out.
 abbrev mutual
   -- a statement, and then the rest of its list
   pub spliced_statement : (Bytes → Bool) → Statement → Block → Block
@@ -149,6 +152,7 @@ abbrev mutual
   spliced_statement f (Parallel at bs end) k = Next (Parallel at (spliced_branches f bs) end) k
   spliced_statement f (Patch at id_at id a a_end b b_end) k =
       if f id then joined (spliced f b) k else Next (Patch at id_at id (spliced f a) a_end (spliced f b) b_end) k
+  spliced_statement f (Deprecate at id_at id) k = if f id then k else Next (Deprecate at id_at id) k
   spliced_statement f (Return at e) k = Next (Return at e) k
   spliced_statement f (FailWith at e) k = Next (FailWith at e) k
   spliced_statement f (Continue at es) k = Next (Continue at es) k

@@ -3,3 +3,6 @@ pub mod Wrap
 pub mod Difference
 pub mod Behind
 pub mod Upgrades
+pub mod Settle
+pub mod Unsettled
+pub mod Refusals

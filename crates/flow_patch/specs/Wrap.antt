@@ -1,15 +1,14 @@
 -- Which changes of a text are safe for the runs that have begun under it: some lists of statements of the old text stand in
 -- the new one as the second lists of patches with new ids. All of it up to places in the texts.
-use Rattle.std.specs.Prelude.{◌≡◌, ◌⊎◌, ◌↔◌, ℕ, Bool, true, false, not, ◌||◌, List, [], ◌∷◌, ◌++◌, map, bytes_eq, if◌then◌else◌}
-use Rattle.flow_base.specs.Syntax.{Bytes, Statement, Let, Assign, Call, WaitSignal, WaitSignalFor, Sleep, If, While, Parallel, Patch, Return, FailWith, Continue, Block, End, Next, Otherwise, NoElse, Else, Branches, NoBranch, Branch, Declared, Program}
+use Rattle.std.specs.Prelude.{◌≡◌, ◌⊎◌, ◌↔◌, ℕ, Bool, true, false, not, ◌||◌, List, ◌++◌, map, bytes_eq, if◌then◌else◌}
+use Rattle.flow_base.specs.Syntax.{Bytes, Statement, Let, Assign, Call, WaitSignal, WaitSignalFor, Sleep, If, While, Parallel, Patch, Deprecate, Return, FailWith, Continue, Block, End, Next, Otherwise, NoElse, Else, Branches, NoBranch, Branch, Declared, Program}
 use Rattle.flow_base.specs.Bare.{bare_expression, bare_retry, bare_block, bare_parameter, bare_declared}
-use Rattle.flow_base.specs.declared.value.Kind.{Kind}
 use Rattle.flow_base.specs.declared.event.Event.{Event}
 use Rattle.flow_base.specs.declared.event.Wrong.{Wrong}
-use Rattle.flow_model.specs.Rest.{Rest, Done, OnActivity, OnTimer, OnSignal, OnSignalFor, Raised, Then, Beside}
 use Rattle.flow_model.specs.Configuration.{Configuration}
 use Rattle.flow_model.specs.Stands.{Stands, FirstMismatch}
 use Rattle.flow_model.specs.WellFormed.{WellFormed}
+use Rattle.flow_run.specs.Shown.{waits_of}
 
 -- one list of statements behind another
 abbrev pub joined : Block → Block → Block
@@ -18,7 +17,7 @@ joined (Next s b) c = Next s (joined b c)
 
 ---- The relation
 
--- whether a patch within has this id
+-- whether a patch or a `deprecate` within has this id
 abbrev mutual
   pub has_id : Bytes → Statement → Bool
   has_id i (Let at name_at x e) = false
@@ -31,6 +30,7 @@ abbrev mutual
   has_id i (While at e b end) = block_has i b
   has_id i (Parallel at bs end) = branches_have i bs
   has_id i (Patch at id_at id a a_end b b_end) = bytes_eq id i || (block_has i a || block_has i b)
+  has_id i (Deprecate at id_at id) = bytes_eq id i
   has_id i (Return at e) = false
   has_id i (FailWith at e) = false
   has_id i (Continue at es) = false
@@ -47,7 +47,7 @@ abbrev mutual
   branches_have i NoBranch = false
   branches_have i (Branch at b end bs) = block_has i b || branches_have i bs
 
--- an id that no patch of the program has
+-- an id that no patch and no `deprecate` of the program has
 abbrev pub new_in : Program → Bytes → Bool
 new_in p id = not (block_has id p.body)
 
@@ -66,6 +66,8 @@ abbrev mutual
   From f b (Patch at id_at id c' c_end d' d_end) R =
       ((f id ≡ true) × ((d : Block) × ((k : Block) × ((b ≡ joined d k) × Wraps f d d' × R k))))
       ⊎ ((f id ≡ false) × ((c : Block) × ((d : Block) × ((k : Block) × ((b ≡ Next (Patch at id_at id c c_end d d_end) k) × Wraps f c c' × Wraps f d d' × R k)))))
+  -- a `deprecate` with a new id is a patch with two empty lists
+  From f b (Deprecate at id_at id) R = ((f id ≡ true) × R b) ⊎ ((f id ≡ false) × ((k : Block) × ((b ≡ Next (Deprecate at id_at id) k) × R k)))
   From f b (Let at name_at x e) R = (k : Block) × ((b ≡ Next (Let at name_at x e) k) × R k)
   From f b (Assign at x e) R = (k : Block) × ((b ≡ Next (Assign at x e) k) × R k)
   From f b (WaitSignal at x signal_at n) R = (k : Block) × ((b ≡ Next (WaitSignal at x signal_at n) k) × R k)
@@ -99,9 +101,10 @@ pub record Wrap (p p' : Program) : Type 0 where
 
 ---- Taking patches out
 
--- What becomes of a patch: its id, what its two lists became, and what follows it in its list.
-abbrev pub Patching : Type 0
-Patching = Bytes → Block → Block → Block → Block
+-- What becomes of a patch (its id, what its two lists became, and what follows it in its list), and of a `deprecate`.
+pub record Patching : Type 0 where
+  pub patch : Bytes → Block → Block → Block → Block
+  pub deprecate : Bytes → Block → Block
 
 -- A list without places, each patch in it changed.
 abbrev mutual
@@ -116,7 +119,8 @@ abbrev mutual
   placed t (If at e a a_end b b_end) k = Next (If 0 (bare_expression e) (changed t a) 0 (changed t b) 0) k
   placed t (While at e b end) k = Next (While 0 (bare_expression e) (changed t b) 0) k
   placed t (Parallel at bs end) k = Next (Parallel 0 (changed_branches t bs) 0) k
-  placed t (Patch at id_at id a a_end b b_end) k = t id (changed t a) (changed t b) k
+  placed t (Patch at id_at id a a_end b b_end) k = t.patch id (changed t a) (changed t b) k
+  placed t (Deprecate at id_at id) k = t.deprecate id k
   placed t (Return at e) k = Next (Return 0 (bare_expression e)) k
   placed t (FailWith at e) k = Next (FailWith 0 (bare_expression e)) k
   placed t (Continue at es) k = Next (Continue 0 (map bare_expression es)) k
@@ -133,9 +137,12 @@ abbrev mutual
   changed_branches t NoBranch = NoBranch
   changed_branches t (Branch at b end bs) = Branch 0 (changed t b) 0 (changed_branches t bs)
 
--- a patch whose id is new gives way to its second list
+-- a patch whose id is new gives way to its second list, a `deprecate` to nothing
 abbrev pub without_new : (Bytes → Bool) → Patching
-without_new f id a b k = if f id then joined b k else Next (Patch 0 0 id a 0 b 0) k
+without_new f = record {
+  patch = λ id a b k. if f id then joined b k else Next (Patch 0 0 id a 0 b 0) k;
+  deprecate = λ id k. if f id then k else Next (Deprecate 0 0 id) k;
+}
 
 -- A list without its new patches.
 abbrev pub plain : (Bytes → Bool) → Block → Block
@@ -147,25 +154,7 @@ WrapIsComputed = (f : Bytes → Bool) (b b' : Block) → Wraps f (bare_block b) 
 
 ---- The law
 
--- an open wait
-pub data Wait : Type 0 where
-  ForActivity : (event : ℕ) (into : Bytes) (gives : Kind) → Wait
-  ForTimer : (event : ℕ) → Wait
-  ForSignal : (into signal : Bytes) → Wait
-  ForSignalOrTimer : (into signal : Bytes) (event : ℕ) → Wait
-
--- the open waits, in the order of the text
-abbrev pub waits_of : Rest → List Wait
-waits_of Done = []
-waits_of (OnActivity n x k o) = ForActivity n x k ∷ []
-waits_of (OnTimer n) = ForTimer n ∷ []
-waits_of (OnSignal x s) = ForSignal x s ∷ []
-waits_of (OnSignalFor x s n b) = ForSignalOrTimer x s n ∷ []
-waits_of (Raised c t) = []
-waits_of (Then r b) = waits_of r
-waits_of (Beside a b) = waits_of a ++ waits_of b
-
--- Whoever sends commands sees no difference between the two.
+-- Whoever sends commands sees no difference between the two. What they wait for is what a stance tells of it.
 pub record SameToASubmitter (k k' : Configuration) : Type 0 where
   pub variables : k'.variables ≡ k.variables
   pub buffer : k'.buffer ≡ k.buffer

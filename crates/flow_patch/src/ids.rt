@@ -1,12 +1,13 @@
-//! The ids of a text's patches.
+//! The ids of a text's patches, also of those that are deprecated; and which ids a list has.
 ghost use Rattle.std.specs.Prelude.{◌≡◌, map};
 ghost use Rattle.flow_base.specs.Shown.{shown_block, shown_branch, shown_stmt, branches_of};
+ghost use Rattle.flow_patch.specs.Settle.{is_among};
 ghost use Rattle.flow_patch.specs.Wrap.{block_has, branches_have, has_id};
 
 use flow_base::syntax::{Branch, Stmt};
 use flow_base::text::Key;
 
-/// Whether a patch in the list has the id.
+/// Whether a patch or a `deprecate` in the list has the id.
 #[cycle(ids)]
 pub(crate) fn has_patch(list: &[Stmt], id: &Key) -> bool
     ensures { result ≡ block_has id.now (shown_block list.now) }
@@ -19,7 +20,7 @@ pub(crate) fn has_patch(list: &[Stmt], id: &Key) -> bool
     false
 }
 
-/// Whether a patch within the statement, or the statement itself, has the id.
+/// Whether a patch or a `deprecate` within the statement, or the statement itself, has the id.
 #[cycle(ids)]
 fn is_patch_within(statement: &Stmt, id: &Key) -> bool
     ensures { result ≡ has_id id.now (shown_stmt statement.now) }
@@ -39,6 +40,7 @@ fn is_patch_within(statement: &Stmt, id: &Key) -> bool
                 || has_patch(since.list.as_slice(), id)
                 || has_patch(before.list.as_slice(), id)
         }
+        Stmt::Deprecate(_, _, patch) => patch.is(id),
         _ => false,
     }
 }
@@ -50,6 +52,18 @@ fn have_patch(branches: &[Branch], id: &Key) -> bool
 {
     for branch in branches {
         if has_patch(branch.body.list.as_slice(), id) {
+            return true;
+        }
+    }
+    false
+}
+
+/// Whether the id is one of these.
+pub(crate) fn is_among(ids: &[Key], id: &Key) -> bool
+    ensures { result ≡ is_among ids.now id.now }
+{
+    for one in ids {
+        if one.is(id) {
             return true;
         }
     }

@@ -1,4 +1,4 @@
-//! Which changes of a text are safe for the runs that have begun under it.
+//! Which changes of a text are safe for the runs that have begun under it, and which let patches go.
 #![tactic(auto)]
 
 pub mod change;
@@ -7,4 +7,7 @@ pub mod fault;
 mod ids;
 pub mod laws;
 mod same;
+pub mod settle;
+mod settled_ids;
+mod unsettled;
 mod walk;

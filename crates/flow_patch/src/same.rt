@@ -121,6 +121,7 @@ pub(crate) fn same_head(left: &Stmt, right: &Stmt) -> bool
         (Stmt::While(_, e, _), Stmt::While(_, d, _)) => same_expr(e, d),
         (Stmt::Parallel(_, _, _, _), Stmt::Parallel(_, _, _, _)) => true,
         (Stmt::Patch(_, _, i, _, _), Stmt::Patch(_, _, j, _, _)) => i.is(j),
+        (Stmt::Deprecate(_, _, i), Stmt::Deprecate(_, _, j)) => i.is(j),
         (Stmt::Return(_, e), Stmt::Return(_, d)) => same_expr(e, d),
         (Stmt::FailWith(_, e), Stmt::FailWith(_, d)) => same_expr(e, d),
         (Stmt::Continue(_, es), Stmt::Continue(_, ds)) => same_exprs(es, ds),

@@ -24,6 +24,7 @@ pub(crate) fn place_of(statement: &Stmt) -> usize
         Stmt::While(at, _, _) => *at,
         Stmt::Parallel(at, _, _, _) => *at,
         Stmt::Patch(at, _, _, _, _) => *at,
+        Stmt::Deprecate(at, _, _) => *at,
         Stmt::Return(at, _) => *at,
         Stmt::FailWith(at, _) => *at,
         Stmt::Continue(at, _) => *at,
@@ -31,7 +32,7 @@ pub(crate) fn place_of(statement: &Stmt) -> usize
 }
 
 /// The one list within a statement, or the first of its two; an empty one where it has none.
-fn first_list(statement: &Stmt) -> &[Stmt]
+pub(crate) fn first_list(statement: &Stmt) -> &[Stmt]
     ensures { shown_block result.now ≡ first_list (shown_stmt statement.now) }
 {
     match statement {
@@ -45,7 +46,7 @@ fn first_list(statement: &Stmt) -> &[Stmt]
 }
 
 /// The second of the two lists within a statement; an empty one where it has no two.
-fn second_list(statement: &Stmt) -> &[Stmt]
+pub(crate) fn second_list(statement: &Stmt) -> &[Stmt]
     ensures { shown_block result.now ≡ second_list (shown_stmt statement.now) }
 {
     match statement {
@@ -56,7 +57,7 @@ fn second_list(statement: &Stmt) -> &[Stmt]
 }
 
 /// What is left of an old list behind what a new one stands for, where the patches of the new text whose ids the old text
-/// hasn't give way to their second lists.
+/// hasn't give way to their second lists, and a `deprecate` with such an id to nothing.
 ///
 /// # Failure
 /// The place where the new list first differs.
@@ -80,6 +81,11 @@ fn behind_statement<'a>(new: &Stmt, old: &'a [Stmt], text: &[Stmt]) -> Result<&'
     if let Stmt::Patch(_, _, id, _, before) = new {
         if !has_patch(text, id) {
             return behind(before.list.as_slice(), old, text);
+        }
+    }
+    if let Stmt::Deprecate(_, _, id) = new {
+        if !has_patch(text, id) {
+            return Ok(old);
         }
     }
     match old.split_first() {

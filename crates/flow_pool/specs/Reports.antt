@@ -1,5 +1,5 @@
 -- What a worker reports of a task, and how.
-use Rattle.std.specs.Prelude.{ℕ, ◌≡◌, ◌⊎◌, List, [], ◌∷◌, ◌++◌, Bool, true, false, Option, Some, None, Result, Ok, Err, MatchBool, codes, bytes_eq, is_err, if◌then◌else◌}
+use Rattle.std.specs.Prelude.{ℕ, ◌≡◌, ◌⊎◌, List, [], ◌∷◌, ◌++◌, Bool, true, false, Option, Some, None, Result, Ok, Err, MatchBool, codes, bytes_eq, is_err, is_some, if◌then◌else◌}
 use Rattle.std.specs.List.{AllByRecursion}
 use Rattle.flow_base.specs.declared.command.Command.{Command}
 use Rattle.flow_base.specs.declared.command.Command.TheVariants as command
@@ -94,18 +94,27 @@ Reported tells may t log over =
     (a : Attempt) × may t a × (at : ℕ) × tells at × (first : List Telling) × (e : Heard) × (more : List Telling) × (log ≡ first ++ more)
     × Tells (report_of t a at) first e × Follows tells t e more over
 
--- each of these tasks was reported, one after the other, and somebody heard
-abbrev pub GoesOn : (ℕ → Type 0) → (Task → Attempt → Type 0) → List Task → List Telling → Type 0
-GoesOn tells may [] log = log ≡ []
-GoesOn tells may (t ∷ ts) log =
-    (one : List Telling) × (rest : List Telling) × (log ≡ one ++ rest) × Reported tells may t one false × GoesOn tells may ts rest
+-- a task is left alone where none of these has its name, if such are left alone at all
+abbrev pub is_left : {X : Type 0} → Bool → (X → List ℕ) → List X → Task → Bool
+is_left leaves named xs t = if is_some (first_named named t.activity xs) then false else leaves
 
--- behind these tasks, of which each was reported, one at which nobody was left to tell
-abbrev pub Stops : (ℕ → Type 0) → (Task → Attempt → Type 0) → List Task → List Telling → Type 0
-Stops tells may ts log =
+-- nothing is told of a task that is left alone, and somebody is there to hear of the next one
+abbrev pub Does : (ℕ → Type 0) → (Task → Attempt → Type 0) → Task → Bool → List Telling → Bool → Type 0
+Does tells may t true log over = (log ≡ []) × (over ≡ false)
+Does tells may t false log over = Reported tells may t log over
+
+-- Each of these tasks was reported, one after the other, and somebody heard; but not those that are left alone.
+abbrev pub GoesOn : (ℕ → Type 0) → (Task → Attempt → Type 0) → (Task → Bool) → List Task → List Telling → Type 0
+GoesOn tells may left [] log = log ≡ []
+GoesOn tells may left (t ∷ ts) log =
+    (one : List Telling) × (rest : List Telling) × (log ≡ one ++ rest) × Does tells may t (left t) one false × GoesOn tells may left ts rest
+
+-- behind such tasks one at whose report nobody was left to tell
+abbrev pub Stops : (ℕ → Type 0) → (Task → Attempt → Type 0) → (Task → Bool) → List Task → List Telling → Type 0
+Stops tells may left ts log =
     (before : List Task) × (t : Task) × (first : List Telling) × (one : List Telling) × (ts ≡ before ++ t ∷ []) × (log ≡ first ++ one)
-    × GoesOn tells may before first × Reported tells may t one true
+    × GoesOn tells may left before first × Does tells may t (left t) one true
 
 -- what a worker reports of the tasks that it takes, each at a moment that its clock tells
-abbrev pub Works : (ℕ → Type 0) → (Task → Attempt → Type 0) → List Task → List Telling → Type 0
-Works tells may ts log = GoesOn tells may ts log ⊎ Stops tells may ts log
+abbrev pub Works : (ℕ → Type 0) → (Task → Attempt → Type 0) → (Task → Bool) → List Task → List Telling → Type 0
+Works tells may left ts log = GoesOn tells may left ts log ⊎ Stops tells may left ts log

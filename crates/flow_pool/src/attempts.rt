@@ -1,11 +1,12 @@
 //! How an attempt is made.
-ghost use Rattle.std.specs.Prelude.{◌≡◌, ◌<◌, ◌≤◌, None, length, IfOk, IfSome, IfNone, slice_get};
+ghost use Rattle.std.specs.Prelude.{◌≡◌, ◌<◌, ◌≤◌, None, ℕ, List, length, is_some, IfOk, IfSome, IfNone, slice_get};
 ghost use Rattle.flow_pool.specs.Attempts.{failed_with};
-ghost use Rattle.flow_pool.specs.Reports.{first_named, MayCome};
+ghost use Rattle.flow_pool.specs.Reports.{first_named, is_left, MayCome};
 ghost use Rattle.flow_machine.specs.declared.task.Task.{Task};
 ghost use Rattle.flow_pool.specs.declared.activity.Attempt.{Attempt};
 
 use crate::activity::{Activity, Attempt};
+use crate::unknown::Unknown;
 use flow_machine::task::Task;
 use std::alloc::{AllocError, Global};
 use std::sync::Wait;
@@ -24,6 +25,22 @@ fn place_of<A: Activity>(activities: &[A], name: &str) -> Option<usize>
     None
 }
 
+// Whether the task is left alone.
+pub(crate) fn is_left<R: Wait, A: Activity, U: Unknown>(
+    rt: &R,
+    activities: &[A],
+    task: &Task,
+    unknown: &mut U,
+) -> bool
+    ensures left { result ≡ is_left (U.leaves unknown.old) A.named activities.now task.now }
+    ensures same { U.leaves unknown.new ≡ U.leaves unknown.old }
+{
+    match place_of(activities, task.activity.as_str()) {
+        Some(_place) => false,
+        None => unknown.leave(rt, task),
+    }
+}
+
 // Makes an attempt by the first activity of its name. It fails where there is none.
 fn attempted<A: Activity>(
     alloc: Global,
@@ -32,6 +49,7 @@ fn attempted<A: Activity>(
 ) -> Result<Attempt, AllocError>
     ensures comes { IfOk result (λ a. MayCome A.named A.gives activities.old.items task.now a) }
     ensures keeps { (t : Task) (a : Attempt) → MayCome A.named A.gives activities.new.items t a → MayCome A.named A.gives activities.old.items t a }
+    ensures named { (name : List ℕ) → is_some (first_named A.named name activities.new.items) ≡ is_some (first_named A.named name activities.old.items) }
 {
     match place_of(activities.as_slice(), task.activity.as_str()) {
         Some(i) => activities[i].run(alloc, task),
@@ -48,6 +66,7 @@ pub(crate) fn attempt<R: Wait, A: Activity>(
 ) -> Attempt
     ensures comes { MayCome A.named A.gives activities.old.items task.now result }
     ensures keeps { (t : Task) (a : Attempt) → MayCome A.named A.gives activities.new.items t a → MayCome A.named A.gives activities.old.items t a }
+    ensures named { (name : List ℕ) → is_some (first_named A.named name activities.new.items) ≡ is_some (first_named A.named name activities.old.items) }
 {
     'tries: for _ in rt.forever() {
         if let Ok(attempt) = attempted(alloc, activities, task) {

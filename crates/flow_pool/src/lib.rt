@@ -9,4 +9,5 @@ pub mod dispatcher;
 pub mod ends;
 pub mod hand;
 pub mod report;
+pub mod unknown;
 pub mod worker;

@@ -1,14 +1,15 @@
 //! A worker: takes tasks, makes an attempt of each, and reports it.
-ghost use Rattle.std.specs.Prelude.{◌≡◌, ◌++◌, List, is_err};
+ghost use Rattle.std.specs.Prelude.{◌≡◌, ◌++◌, ℕ, List, is_err, is_some};
 ghost use Rattle.flow_machine.specs.declared.task.Task.{Task};
 ghost use Rattle.flow_pool.specs.declared.activity.Attempt.{Attempt};
 ghost use Rattle.flow_pool.specs.Ends.{number_of, taken_by, IsSameEnd};
-ghost use Rattle.flow_pool.specs.Reports.{Telling, Tells, Follows, Reported, Works, MayCome, is_wrong_type};
+ghost use Rattle.flow_pool.specs.Reports.{Telling, Tells, Follows, Reported, Does, Works, MayCome, first_named, is_left, is_wrong_type};
 
 use crate::activity::{Activity, Attempt};
-use crate::attempts::{attempt, failure};
+use crate::attempts::{attempt, failure, is_left};
 use crate::ends::TaskReceiver;
 use crate::report::{Reports, Unheard, report};
+use crate::unknown::Unknown;
 use flow_base::code::Code;
 use flow_base::command::{Command, Reply};
 use flow_machine::task::Task;
@@ -73,35 +74,67 @@ fn work<R: Wait, A: Activity, S: Reports, C: Clock>(
 ) -> bool
     ensures reported { (log : List Telling) × (S.told reports.new ≡ S.told reports.old ++ log) × Reported (C.tells clock.now) (MayCome A.named A.gives activities.old.items) task.now log result }
     ensures keeps { (t : Task) (a : Attempt) → MayCome A.named A.gives activities.new.items t a → MayCome A.named A.gives activities.old.items t a }
+    ensures named { (name : List ℕ) → is_some (first_named A.named name activities.new.items) ≡ is_some (first_named A.named name activities.old.items) }
 {
     let attempt = attempt(rt, alloc, activities, task);
     let heard = tell(rt, reports, report(task, attempt, clock.now()));
     follow(rt, alloc, task, heard, reports, clock)
 }
 
+// Does what is to be done of a task: leaves it alone, or makes an attempt and reports it. Whether nobody is left to tell.
+fn deal<R: Wait, A: Activity, S: Reports, U: Unknown, C: Clock>(
+    rt: &R,
+    alloc: Global,
+    activities: &mut Vec<A>,
+    task: &Task,
+    reports: &mut S,
+    unknown: &mut U,
+    clock: &C,
+) -> bool
+    ensures does { (log : List Telling) × (S.told reports.new ≡ S.told reports.old ++ log) × Does (C.tells clock.now) (MayCome A.named A.gives activities.old.items) task.now (is_left (U.leaves unknown.old) A.named activities.old.items task.now) log result }
+    ensures keeps { (t : Task) (a : Attempt) → MayCome A.named A.gives activities.new.items t a → MayCome A.named A.gives activities.old.items t a }
+    ensures named { (name : List ℕ) → is_some (first_named A.named name activities.new.items) ≡ is_some (first_named A.named name activities.old.items) }
+    ensures same { U.leaves unknown.new ≡ U.leaves unknown.old }
+{
+    if is_left(rt, activities.as_slice(), task, unknown) {
+        return false;
+    }
+    work(rt, alloc, activities, task, reports, clock)
+}
+
 /// Takes tasks, makes an attempt of each by the first activity of its name, and reports it: what it gave or why it failed, at
-/// the moment that the clock tells then. A task whose activity isn't there fails with `no such activity`, and after E66 the
-/// failure `wrong type` is reported. A report is made again after E01, E80 and E90. It ends where the channel is empty and its
+/// the moment that the clock tells then. A task whose activity isn't there fails with `no such activity`, or is left alone; and after
+/// E66 the failure `wrong type` is reported. A report is made again after E01, E80 and E90. It ends where the channel is empty and its
 /// sender is gone, and after E84, E85 and E91; both ends come back.
-pub fn worker<R: Wait, A: Activity + Drop, S: Reports, C: Clock>(
+pub fn worker<R: Wait, A: Activity + Drop, S: Reports, U: Unknown + Drop, C: Clock>(
     rt: &R,
     alloc: Global,
     activities: Vec<A>,
     receiver: TaskReceiver,
     reports: S,
+    unknown: U,
     clock: &C,
 ) -> (TaskReceiver, S)
-    ensures works { (ts : List Task) × (log : List Telling) × (taken_by result.0 ≡ taken_by receiver ++ ts) × (S.told result.1 ≡ S.told reports ++ log) × Works (C.tells clock.now) (MayCome A.named A.gives activities.items) ts log }
+    ensures works { (ts : List Task) × (log : List Telling) × (taken_by result.0 ≡ taken_by receiver ++ ts) × (S.told result.1 ≡ S.told reports ++ log) × Works (C.tells clock.now) (MayCome A.named A.gives activities.items) (is_left (U.leaves unknown) A.named activities.items) ts log }
     ensures same { IsSameEnd receiver result.0 × (number_of result.0 ≡ number_of receiver) }
 {
     let mut activities = activities;
     let mut receiver = receiver;
     let mut reports = reports;
+    let mut unknown = unknown;
     'tasks: for _ in rt.forever() {
         let Some(task) = receiver.take(rt) else {
             return (receiver, reports);
         };
-        if work(rt, alloc, &mut activities, &task, &mut reports, clock) {
+        if deal(
+            rt,
+            alloc,
+            &mut activities,
+            &task,
+            &mut reports,
+            &mut unknown,
+            clock,
+        ) {
             return (receiver, reports);
         }
     }

@@ -1,22 +1,19 @@
 -- Where the open runs of a book stand, and what keeps a book from having such positions.
 use Rattle.std.specs.Prelude.{◌≡◌, ◌<◌, ◌+◌, ℕ, true, false, List, [], ◌∷◌, ◌++◌, Option, Some, None, Result, Ok, Err, if◌then◌else◌}
-use Rattle.flow_base.specs.Syntax.{Bytes, Program}
+use Rattle.flow_base.specs.Syntax.{Program}
 use Rattle.flow_base.specs.declared.event.Wrong.{Wrong}
 use Rattle.flow_base.specs.declared.book.Run.{Run}
-use Rattle.flow_base.specs.declared.command.TextFault.{TextFault}
 use Rattle.flow_base.specs.declared.fault.Fault.{Fault}
 use Rattle.flow_base.specs.declared.fault.Fault.TheVariants as fault
-use Rattle.flow_model.specs.Configuration.{Configuration, is_open}
+use Rattle.flow_model.specs.Configuration.{is_open}
 use Rattle.flow_model.specs.Stands.{Stands, FirstMismatch}
 use Rattle.flow_model.specs.Open.{state_of}
 use Rattle.flow_model.specs.Book.{Book, nth}
 use Rattle.flow_model.specs.Apply.{program_at}
 use Rattle.flow_run.specs.Position.{config_of}
+pub use Rattle.flow_machine.specs.Reached.{Meaning}
+pub use Rattle.flow_machine.specs.Verifying.{IsStanding}
 use Rattle.flow_recover.specs.declared.positions.Position.{Position}
-
--- which program a text is, or why it is none
-abbrev pub Meaning : Type 0
-Meaning = Bytes → Result Program TextFault
 
 ---- Positions
 
@@ -59,10 +56,6 @@ with_found qs (Some q) = qs ++ q ∷ []
 
 abbrev pub IsOpenRun : Book → ℕ → Run → Type 0
 IsOpenRun b n r = (nth b.runs n ≡ Some r) × (is_open (state_of r.history) ≡ true)
-
--- A run's history stands under its text.
-abbrev pub IsStanding : Meaning → Book → Run → Type 0
-IsStanding u b r = (p : Program) × ((k : Configuration) × ((program_at u b r.text ≡ Some p) × Stands p r.history k))
 
 -- The text of an open run isn't there, or is no program.
 abbrev pub LacksProgram : Meaning → Book → Type 0

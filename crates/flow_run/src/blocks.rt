@@ -1,5 +1,5 @@
 ghost use Rattle.std.specs.Prelude.{◌≡◌, ◌∷◌, IfOk, map, Option};
-ghost use Rattle.flow_base.specs.Syntax.{If as AIf, While as AWhile, Patch as APatch};
+ghost use Rattle.flow_base.specs.Syntax.{If as AIf, While as AWhile, Patch as APatch, Deprecate as ADeprecate, End};
 ghost use Rattle.flow_base.specs.Shown.{shown_expr, shown_braced, shown_branch, branches_of};
 ghost use Rattle.flow_model.specs.Rest as tree;
 ghost use Rattle.flow_model.specs.Step as model;
@@ -15,6 +15,7 @@ use flow_base::text::Key;
 use flow_values::evaluate::{eval, truth};
 use flow_values::fault::Fault;
 use std::alloc::{AllocError, Global};
+use std::sync::Arc;
 
 /// `if`: the list that the condition picks begins.
 pub fn pick(
@@ -99,6 +100,24 @@ pub fn since_patch(
             }
         }
     }
+}
+
+/// `deprecate`: a patch with two empty lists.
+pub fn deprecate(alloc: Global, s: &Setting, t: &mut Store, id: &Key) -> Result<Moved, Fault>
+    ensures step { IfOk result (λ m. shown_move t.new m ≡ model.begin (shown_setting s.now) (shown_store t.old) (ADeprecate 0 0 id.now)) }
+    ensures kept { IfOk result (λ m. Begins t.old t.new m) }
+{
+    let none = no_statements(alloc)?;
+    let moved = since_patch(alloc, s, t, id, &none, &none)?;
+    Ok(moved)
+}
+
+// A list of no statements.
+fn no_statements(alloc: Global) -> Result<Block, AllocError>
+    ensures { IfOk result (λ b. shown_braced b ≡ (End, 0)) }
+{
+    let list = Arc::new(alloc, Vec::new(alloc))?;
+    Ok(Block { list, end: 0 })
 }
 
 // What a patch that nothing has decided answers here.

@@ -6,7 +6,7 @@ ghost use Rattle.flow_model.specs.Rest as tree;
 ghost use Rattle.flow_model.specs.Step as model;
 ghost use Rattle.flow_run.specs.Shown.{shown_rest, shown_store, shown_move, shown_setting, shown_begun, left_from, KeepsRest, Begins, Starts};
 
-use crate::blocks::{pick, repeat, side_by_side, since_patch};
+use crate::blocks::{deprecate, pick, repeat, side_by_side, since_patch};
 use crate::decided::Decided;
 use crate::plain::Answers;
 use crate::rest::{Rest, share_otherwise};
@@ -213,6 +213,7 @@ fn begin(alloc: Global, s: &Setting, t: &mut Store, stmt: &Stmt) -> Result<Begun
         Stmt::While(at, e, b) => repeat(alloc, s, t, *at, e, b),
         Stmt::Parallel(_, a, bs, _) => Ok(Begun::Moves(Moved::Goes(side_by_side(alloc, a, bs)?))),
         Stmt::Patch(_, _, id, a, b) => Ok(Begun::Moves(since_patch(alloc, s, t, id, a, b)?)),
+        Stmt::Deprecate(_, _, id) => Ok(Begun::Moves(deprecate(alloc, s, t, id)?)),
         Stmt::Return(_, e) => Ok(Begun::Moves(finish(alloc, s, t, e)?)),
         Stmt::FailWith(_, e) => Ok(Begun::Moves(give_up(alloc, s, t, e)?)),
         Stmt::Continue(_, es) => Ok(Begun::Moves(go_on_anew(alloc, s, t, es)?)),

@@ -1,2 +1,3 @@
+pub mod Posted
 pub mod Served
 pub mod Serving

@@ -1,2 +1,3 @@
 pub mod Boarding
+pub mod Posting
 pub mod Serving

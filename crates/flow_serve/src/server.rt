@@ -6,6 +6,7 @@ ghost use Rattle.flow_machine.specs.declared.submission.Taken.{Taken as ATaken};
 ghost use Rattle.flow_commit.specs.Keeping.{account_of};
 ghost use Rattle.flow_hub.specs.Knowing.{IsBefore};
 ghost use Rattle.flow_serve.specs.Boarding.{IsStill};
+ghost use Rattle.flow_serve.specs.Posting.{Posts};
 ghost use Rattle.flow_hub.specs.Publishing.{InHand, IsDone, Together};
 ghost use Rattle.flow_engine.specs.Answering.{Follows};
 ghost use Rattle.flow_serve.specs.Serving.{EndsFor, GivesUp, HasAnswered, HasServed, StopsAt, StopsFor, TurnsAway};
@@ -53,6 +54,7 @@ fn commit_taken<S: Alter, B: Room, R: Wait>(
     ensures stops { IfErr result (λ f. StopsAt engine.old engine.new publisher.old.refused publisher.new.refused batch f) }
     // It was committed, and this has become of it, with what stands behind E80.
     ensures answered { HasAnswered S.Store engine.old engine.new publisher.old.refused publisher.new.refused batch }
+    ensures posted { publisher.new.posted ≡ publisher.old.posted }
     ensures found { engine.new.found ≡ engine.old.found }
     ensures follows { Follows S.Store engine.old engine.new }
     ensures grows { IsBefore publisher.old publisher.new }
@@ -87,6 +89,7 @@ fn try_board<S: Alter, B: Room, R: Wait, C: Clock>(
     requires together { Together (account_of S.Store engine.old) publisher.old }
     ensures together { Together (account_of S.Store engine.new) publisher.new }
     ensures boarded { OnOk result (publisher.new.boarded ≡ true) }
+    ensures posts { Posts S.Store (C.tells clock.now) engine.new publisher.old.posted publisher.new.posted }
     ensures still { IsStill S.Store engine.old engine.new }
     ensures refused { publisher.new.refused ≡ publisher.old.refused }
     ensures grows { IsBefore publisher.old publisher.new }
@@ -110,6 +113,7 @@ fn post_board<S: Alter, B: Room, R: Wait, C: Clock>(
     requires together { Together (account_of S.Store engine.old) publisher.old }
     ensures together { Together (account_of S.Store engine.new) publisher.new }
     ensures boarded { publisher.new.boarded ≡ true }
+    ensures posts { Posts S.Store (C.tells clock.now) engine.new publisher.old.posted publisher.new.posted }
     ensures still { IsStill S.Store engine.old engine.new }
     ensures refused { publisher.new.refused ≡ publisher.old.refused }
     ensures grows { IsBefore publisher.old publisher.new }
@@ -142,6 +146,7 @@ fn serve_all<S: Alter, B: Room, R: Wait, C: Clock>(
     ensures stops { IfErr result
         (λ f. (waiting : List ATaken) × StopsFor engine.old engine.new publisher.old.refused publisher.new.refused waiting f) }
     ensures served { HasServed S.Store engine.old engine.new publisher.old.refused publisher.new.refused [] }
+    ensures posts { Posts S.Store (C.tells clock.now) engine.new publisher.old.posted publisher.new.posted }
     ensures found { engine.new.found ≡ engine.old.found }
     ensures follows { Follows S.Store engine.old engine.new }
     ensures grows { IsBefore publisher.old publisher.new }
@@ -179,6 +184,7 @@ fn turn_away<B: Room, R: Wait>(
     ensures done { IsDone publisher.new }
     ensures none { publisher.new.held ≡ [] }
     ensures history { (publisher.new.history ≡ publisher.old.history) × (publisher.new.last ≡ publisher.old.last) }
+    ensures posted { publisher.new.posted ≡ publisher.old.posted }
     ensures turned { (waiting : List ATaken) × TurnsAway publisher.old.refused publisher.new.refused waiting }
     ensures grows { IsBefore publisher.old publisher.new }
 {
@@ -230,6 +236,8 @@ pub fn serve<S: Alter, B: Room, R: Wait, C: Clock>(
     ensures served { MatchResult result
         (λ _. HasServed S.Store engine.old engine.new publisher.old.refused publisher.new.refused [])
         (λ _. (waiting : List ATaken) × HasServed S.Store engine.old engine.new publisher.old.refused publisher.new.refused waiting) }
+    // All that is posted is what boards of the kept book name, each made behind a beginning of what is kept, at a moment of the clock.
+    ensures posts { Posts S.Store (C.tells clock.now) engine.new publisher.old.posted publisher.new.posted }
     ensures found { engine.new.found ≡ engine.old.found }
     ensures follows { Follows S.Store engine.old engine.new }
     ensures grows { IsBefore publisher.old publisher.new }

@@ -64,6 +64,14 @@ pub const NOTHING: Plan = Plan {
     without: None,
 };
 
+/// What fills a store: it has three open runs, of which two wait for a timer, and the last for an activity.
+pub const FILLING: Plan = Plan {
+    size: 11,
+    from: 0,
+    to: 3,
+    without: None,
+};
+
 /// What became of a batch.
 #[derive(Clone, Copy, PartialEq, Eq)]
 pub enum Ended {

@@ -2,6 +2,7 @@
 use crate::disk_calls::{Answer, Ask, answer_to, is_left, read_checked_thrice, six_bytes};
 use flow_crash::calls::Calls;
 use flow_crash::fail_at::FailAt;
+use flow_crash::numbered::Numbered;
 use sqlite_disk::{Disk, Memory, digest_of};
 use std::alloc::Global;
 use std::test::Fail;
@@ -44,13 +45,13 @@ const ROWS: [Row; 8] = [
     (7, [D, D, D, VWX, L5, D], "qUVWX", "aUVWXf"),
 ];
 
-fn failing(alloc: Global, at: u64) -> Option<FailAt<Memory>> {
+fn failing(alloc: Global, at: u64) -> Option<Numbered<Memory, FailAt>> {
     let calls = Calls::new(alloc).ok()?;
-    Some(FailAt::new(six_bytes(alloc)?, calls, at))
+    Some(Numbered::new(six_bytes(alloc)?, FailAt::new(calls, at)))
 }
 
 /// The number of the first call that isn't answered so.
-fn first_other_answer(file: &mut FailAt<Memory>, wanted: &[Answer; 6]) -> usize {
+fn first_other_answer(file: &mut Numbered<Memory, FailAt>, wanted: &[Answer; 6]) -> usize {
     for i in 0..6 {
         if answer_to(file, ASKED[i]) != wanted[i] {
             return i;
@@ -69,7 +70,7 @@ fn count(answers: &[Answer; 6], of: Answer) -> u64 {
     count
 }
 
-fn fails_at(file: FailAt<Memory>, row: &Row) -> bool {
+fn fails_at(file: Numbered<Memory, FailAt>, row: &Row) -> bool {
     let mut file = file;
     let is_answered = first_other_answer(&mut file, &row.1) == 6;
     let is_numbered = file.last() == 6u64.saturating_sub(count(&row.1, Answer::Unasked));
@@ -96,7 +97,7 @@ fn tested(alloc: Global) -> Option<([Answer; 3], u64)> {
     let inner = six_bytes(alloc)?;
     let want = digest_of(0, inner.bytes().get(..3)?);
     let calls = Calls::new(alloc).ok()?;
-    let mut file = FailAt::new(inner, calls, 2);
+    let mut file = Numbered::new(inner, FailAt::new(calls, 2));
     if !file.may_be_used() {
         return None;
     }

@@ -4,6 +4,8 @@ use crate::course::{Course, Ended, Plan, asked};
 use flow_crash::calls::{Calls, Part, Stop};
 use flow_crash::counting::Counting;
 use flow_crash::fail_at::FailAt;
+use flow_crash::numbered::Numbered;
+use flow_crash::rule::Rule;
 use flow_crash::stop_at::StopAt;
 use sqlite::{Alter, Connection, FileStore, Files, Options};
 use sqlite_disk::{Crash, Disk, Memory};
@@ -39,7 +41,8 @@ pub fn crashed(files: Files<Memory>) -> Files<Memory> {
     files
 }
 
-fn opened<D: Disk + Drop>(
+/// A connection over two files, or the files.
+pub fn opened<D: Disk + Drop>(
     alloc: Global,
     files: Files<D>,
 ) -> Result<Connection<FileStore<D>>, Files<D>> {
@@ -115,62 +118,78 @@ pub struct Disturbed {
     pub is_reached: bool,
 }
 
-fn stopping(alloc: Global, files: Files<Memory>, stop: Stop) -> Option<Files<StopAt<Memory>>> {
+/// Files whose calls have numbers by these rules.
+fn with_rules<R: Rule + Drop>(
+    files: Files<Memory>,
+    log_rule: R,
+    db_rule: R,
+) -> Files<Numbered<Memory, R>> {
     let Files { log, db } = files;
-    let calls = Calls::new(alloc).ok()?;
-    Some(Files {
-        log: StopAt::new(log, calls.share().ok()?, stop),
-        db: StopAt::new(db, calls.share().ok()?, stop),
-    })
+    Files {
+        log: Numbered::new(log, log_rule),
+        db: Numbered::new(db, db_rule),
+    }
 }
 
-fn behind_stop(asked: Asked, files: Files<StopAt<Memory>>) -> Disturbed {
+/// Whether a call was refused, and what is left of the files.
+pub fn left_of<R: Rule + Drop>(files: Files<Numbered<Memory, R>>) -> (bool, Files<Memory>) {
     let is_reached = files.log.refusals() > 0 || files.db.refusals() > 0;
     let Files { log, db } = files;
-    Disturbed {
-        asked,
+    (
         is_reached,
-        files: Files {
+        Files {
             log: log.into_inner(),
             db: db.into_inner(),
         },
+    )
+}
+
+fn asked_through<R: Rule + Drop>(
+    alloc: Global,
+    files: Files<Numbered<Memory, R>>,
+    plan: Plan,
+) -> Disturbed {
+    let (asked, files) = asked_of(alloc, files, plan);
+    let (is_reached, files) = left_of(files);
+    Disturbed {
+        asked,
+        files,
+        is_reached,
     }
 }
 
 /// Over files that stop.
 pub fn stopped(alloc: Global, files: Files<Memory>, stop: Stop, plan: Plan) -> Option<Disturbed> {
-    let files = stopping(alloc, files, stop)?;
-    let (asked, files) = asked_of(alloc, files, plan);
-    Some(behind_stop(asked, files))
-}
-
-fn failing(alloc: Global, files: Files<Memory>, at: u64) -> Option<Files<FailAt<Memory>>> {
-    let Files { log, db } = files;
     let calls = Calls::new(alloc).ok()?;
-    Some(Files {
-        log: FailAt::new(log, calls.share().ok()?, at),
-        db: FailAt::new(db, calls.share().ok()?, at),
-    })
+    let log_rule = StopAt::new(calls.share().ok()?, stop);
+    let db_rule = StopAt::new(calls.share().ok()?, stop);
+    let files = with_rules(files, log_rule, db_rule);
+    Some(asked_through(alloc, files, plan))
 }
 
-fn behind_failure(asked: Asked, files: Files<FailAt<Memory>>) -> Disturbed {
-    let is_reached = files.log.refusals() > 0 || files.db.refusals() > 0;
-    let Files { log, db } = files;
-    Disturbed {
-        asked,
-        is_reached,
-        files: Files {
-            log: log.into_inner(),
-            db: db.into_inner(),
-        },
-    }
+/// Files that count their calls together, of which one fails.
+pub fn failing(
+    files: Files<Memory>,
+    calls: &Calls,
+    at: u64,
+) -> Option<Files<Numbered<Memory, FailAt>>> {
+    let log_rule = FailAt::new(calls.share().ok()?, at);
+    let db_rule = FailAt::new(calls.share().ok()?, at);
+    Some(with_rules(files, log_rule, db_rule))
 }
 
 /// Over files of which one call fails.
 pub fn failed(alloc: Global, files: Files<Memory>, at: u64, plan: Plan) -> Option<Disturbed> {
-    let files = failing(alloc, files, at)?;
-    let (asked, files) = asked_of(alloc, files, plan);
-    Some(behind_failure(asked, files))
+    let calls = Calls::new(alloc).ok()?;
+    let files = failing(files, &calls, at)?;
+    Some(asked_through(alloc, files, plan))
+}
+
+/// Files that count their calls together.
+pub fn counting(files: Files<Memory>, calls: &Calls) -> Option<Files<Numbered<Memory, Counting>>> {
+    let log_rule = Counting::new(calls.share().ok()?);
+    let db_rule = Counting::new(calls.share().ok()?);
+    Some(with_rules(files, log_rule, db_rule))
 }
 
 /// What became of batches over files that count their calls, how many they were, and what is left of the files.
@@ -181,31 +200,16 @@ pub struct Counted {
     pub files: Files<Memory>,
 }
 
-fn counting(files: Files<Memory>, log_calls: Calls, db_calls: Calls) -> Files<Counting<Memory>> {
-    let Files { log, db } = files;
-    Files {
-        log: Counting::new(log, log_calls),
-        db: Counting::new(db, db_calls),
-    }
-}
-
-fn behind_counts(files: Files<Counting<Memory>>) -> Files<Memory> {
-    let Files { log, db } = files;
-    Files {
-        log: log.into_inner(),
-        db: db.into_inner(),
-    }
-}
-
 /// Over files that count.
 pub fn undisturbed(alloc: Global, files: Files<Memory>, plan: Plan) -> Option<Counted> {
     let calls = Calls::new(alloc).ok()?;
-    let files = counting(files, calls.share().ok()?, calls.share().ok()?);
+    let files = counting(files, &calls)?;
     let (asked, files) = asked_of(alloc, files, plan);
+    let (_is_reached, files) = left_of(files);
     Some(Counted {
         course: asked.course,
         calls: calls.count(),
-        files: behind_counts(files),
+        files,
     })
 }
 

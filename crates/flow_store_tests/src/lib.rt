@@ -27,6 +27,8 @@ mod engines;
 #[cfg(test)]
 mod failed_disk;
 #[cfg(test)]
+mod failed_verify;
+#[cfg(test)]
 mod failures;
 #[cfg(test)]
 mod files;

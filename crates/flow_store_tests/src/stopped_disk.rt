@@ -1,6 +1,7 @@
 //! A disk that stops at one call: what of that call is carried out, and that nothing of a later one is.
 use crate::disk_calls::{Answer, Ask, answer_to, is_left, read_checked_thrice, six_bytes};
 use flow_crash::calls::{Calls, Part, Stop};
+use flow_crash::numbered::Numbered;
 use flow_crash::stop_at::StopAt;
 use sqlite_disk::{Disk, Memory, digest_of};
 use std::alloc::Global;
@@ -31,13 +32,13 @@ const LATER: [Ask; 5] = [
     Ask::Sync,
 ];
 
-fn stopping(alloc: Global, at: u64, part: Part) -> Option<StopAt<Memory>> {
+fn stopping(alloc: Global, at: u64, part: Part) -> Option<Numbered<Memory, StopAt>> {
     let calls = Calls::new(alloc).ok()?;
-    Some(StopAt::new(six_bytes(alloc)?, calls, Stop { at, part }))
+    Some(Numbered::new(six_bytes(alloc)?, StopAt::new(calls, Stop { at, part })))
 }
 
 /// How many of these calls are refused.
-fn refused(file: &mut StopAt<Memory>, calls: &[Ask]) -> u64 {
+fn refused(file: &mut Numbered<Memory, StopAt>, calls: &[Ask]) -> u64 {
     let mut count = 0u64;
     for call in calls {
         if answer_to(file, *call) == Answer::Refused {
@@ -47,12 +48,12 @@ fn refused(file: &mut StopAt<Memory>, calls: &[Ask]) -> u64 {
     count
 }
 
-fn has(file: &StopAt<Memory>, last: u64, refusals: u64) -> bool {
+fn has(file: &Numbered<Memory, StopAt>, last: u64, refusals: u64) -> bool {
     file.last() == last && file.refusals() == refusals
 }
 
 /// Whether this call is refused as the second one, so many later ones are too, and the file is left so.
-fn stops_at(file: StopAt<Memory>, call: Ask, later: u64, seen: &str, left: &str) -> bool {
+fn stops_at(file: Numbered<Memory, StopAt>, call: Ask, later: u64, seen: &str, left: &str) -> bool {
     let mut file = file;
     let is_passed = answer_to(&mut file, Ask::Len) == Answer::Len(6) && has(&file, 1, 0);
     let is_refused = answer_to(&mut file, call) == Answer::Refused && has(&file, 2, 1);
@@ -90,7 +91,7 @@ fn tested(alloc: Global, part: Part) -> Option<([Answer; 3], u64)> {
     let inner = six_bytes(alloc)?;
     let want = digest_of(0, inner.bytes().get(..3)?);
     let calls = Calls::new(alloc).ok()?;
-    let mut file = StopAt::new(inner, calls, Stop { at: 2, part });
+    let mut file = Numbered::new(inner, StopAt::new(calls, Stop { at: 2, part }));
     if !file.may_be_used() {
         return None;
     }
@@ -124,17 +125,20 @@ fn is_stopped_at_once(alloc: Global, at: u64) -> bool {
 }
 
 /// A file of six bytes that shares a count.
-fn sharing(alloc: Global, calls: &Calls) -> Option<StopAt<Memory>> {
+fn sharing(alloc: Global, calls: &Calls) -> Option<Numbered<Memory, StopAt>> {
     let calls = calls.share().ok()?;
     let stop = Stop {
         at: 2,
         part: Part::After,
     };
-    Some(StopAt::new(six_bytes(alloc)?, calls, stop))
+    Some(Numbered::new(six_bytes(alloc)?, StopAt::new(calls, stop)))
 }
 
 /// What two files are answered, and what they have counted.
-fn asked(log: &mut StopAt<Memory>, db: &mut StopAt<Memory>) -> ([Answer; 5], [u64; 4]) {
+fn asked(
+    log: &mut Numbered<Memory, StopAt>,
+    db: &mut Numbered<Memory, StopAt>,
+) -> ([Answer; 5], [u64; 4]) {
     let answers = [
         answer_to(log, Ask::Write(0, "x")),
         answer_to(db, Ask::Write(0, "y")),

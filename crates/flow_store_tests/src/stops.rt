@@ -2,7 +2,7 @@
 //! process ends and where the machine does. What is opened then has each batch that was kept, and no part of another. The same of
 //! openings, of an empty store and of filled ones: the book stays what it was.
 use crate::books::{Books, books_of};
-use crate::course::{Course, Ended, NOTHING, Plan};
+use crate::course::{Course, Ended, FILLING, NOTHING, Plan};
 use crate::files::{Disturbed, calls_over, copies, crashed, empty, found_in, left_by, stopped};
 use crate::stride::{is_met, stride};
 use flow_crash::calls::{Part, Stop};
@@ -155,14 +155,6 @@ fn batches(alloc: Global, plan: Plan, step: u64) -> [u64; 4] {
         None => [0, 0, 0, 1],
     }
 }
-
-/// What fills a store: it has three open runs, of which two wait for a timer, and the last for an activity.
-const FILLING: Plan = Plan {
-    size: 11,
-    from: 0,
-    to: 3,
-    without: None,
-};
 
 /// Of the opening of a store that these batches fill and that stops at its last call but so many, or at none.
 fn openings(alloc: Global, plan: Plan, before: Option<u64>, step: u64) -> Option<[u64; 4]> {

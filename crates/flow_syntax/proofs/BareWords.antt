@@ -1,6 +1,6 @@
 -- Places are no part of what is printed.
 use Rattle.std.proofs.Common.{◌≡◌, ◌∙◌, List, [], ◌∷◌, ◌++◌, map, refl, ap, sym}
-use Rattle.flow_base.specs.Syntax.{Expression, Number, Literal, Variable, Now, Apply, Combine, Statement, Let, Assign, Call, WaitSignal, WaitSignalFor, Sleep, If, While, Parallel, Patch, Return, FailWith, Continue, Block, End, Next, Otherwise, NoElse, Else, Branches, NoBranch, Branch, Declared, Activity, Signal, Program}
+use Rattle.flow_base.specs.Syntax.{Expression, Number, Literal, Variable, Now, Apply, Combine, Statement, Let, Assign, Call, WaitSignal, WaitSignalFor, Sleep, If, While, Parallel, Patch, Deprecate, Return, FailWith, Continue, Block, End, Next, Otherwise, NoElse, Else, Branches, NoBranch, Branch, Declared, Activity, Signal, Program}
 use Rattle.flow_base.specs.Bare.{bare_expression, bare_statement, bare_block, bare_otherwise, bare_branches, bare_type, bare_parameter, bare_declared, bare}
 use Rattle.flow_base.specs.declared.token.Mark.TheVariants as mark
 use Rattle.flow_base.specs.declared.token.Word.{Word}
@@ -57,6 +57,7 @@ mutual
   statement_same (Parallel at bs _) = ap (λ v. word.Mark mark.Parallel ∷ in_braces v) (branches_same bs)
   statement_same (Patch at id_at id a a_end b b_end) =
       ap (λ v. word.Mark mark.Patch ∷ word.Text id ∷ (in_braces v ++ else_words (bare_block b))) (block_same a) ∙ ap (λ v. word.Mark mark.Patch ∷ word.Text id ∷ (in_braces (block_words a) ++ v)) (else_same b)
+  statement_same (Deprecate at id_at id) = refl
   statement_same (Return at e) = ap (λ v. word.Mark mark.Return ∷ v) (then_same e end end refl)
   statement_same (FailWith at e) = ap (λ v. word.Mark mark.Fail ∷ v) (then_same e end end refl)
   statement_same (Continue at es) = ap (λ v. word.Mark mark.Continue ∷ word.Mark mark.As ∷ word.Mark mark.New ∷ (v ++ end)) (arguments_same es)

@@ -4,12 +4,12 @@ use Rattle.std.proofs.lemmas.List.{append-nil}
 use Rattle.flow_base.specs.declared.token.Mark.TheVariants as mark
 use Rattle.flow_base.specs.declared.value.Kind.TheVariants as kind
 use Rattle.flow_model.specs.Lexeme.{Lexeme}
-use Rattle.flow_model.specs.Grammar.{plus, minus, join, equal, differ, less, at_most, greater, at_least, ParensReading, parens, PrimReading, int, text, name, now, text_of, len_of, inner, UnaryReading, negate, prim, TermReading, term, TermTail, no_factor, factor, SumReading, sum, SumTail, no_term, added, CompareReading, compare, CompareTail, no_side, compared, NegReading, not, plain, ConjReading, conj, ConjTail, no_and, and, ExprReading, expr, ExprTail, no_or, or, ArgumentsReading, no_argument, argument, ArgumentTail, last_argument, next_argument, TypeReading, typed, TypesReading, no_type, type_, TypeTail, last_type, next_type, ParameterReading, parameter, ParametersReading, no_parameter, parameter_, ParameterTail, last_parameter, next_parameter, DeclarationReading, activity, signal, ElseTail, no_else, else_, CallTail, no_retry, retry, WaitTail, for_ever, for_, SideReading, value, call, wait, BranchesReading, no_branch, branch, StatementReading, let_, assign, sleep, while_, parallel, return_, fail, continue_, StatementsReading, no_statement, statement, if_, patch, AfterChoice, otherwise, without, BodyReading, statements, declaration, ProgramReading, workflow}
+use Rattle.flow_model.specs.Grammar.{plus, minus, join, equal, differ, less, at_most, greater, at_least, ParensReading, parens, PrimReading, int, text, name, now, text_of, len_of, inner, UnaryReading, negate, prim, TermReading, term, TermTail, no_factor, factor, SumReading, sum, SumTail, no_term, added, CompareReading, compare, CompareTail, no_side, compared, NegReading, not, plain, ConjReading, conj, ConjTail, no_and, and, ExprReading, expr, ExprTail, no_or, or, ArgumentsReading, no_argument, argument, ArgumentTail, last_argument, next_argument, TypeReading, typed, TypesReading, no_type, type_, TypeTail, last_type, next_type, ParameterReading, parameter, ParametersReading, no_parameter, parameter_, ParameterTail, last_parameter, next_parameter, DeclarationReading, activity, signal, ElseTail, no_else, else_, CallTail, no_retry, retry, WaitTail, for_ever, for_, SideReading, value, call, wait, BranchesReading, no_branch, branch, StatementReading, let_, assign, sleep, while_, parallel, return_, fail, continue_, deprecate, StatementsReading, no_statement, statement, if_, patch, AfterChoice, otherwise, without, BodyReading, statements, declaration, ProgramReading, workflow}
 use Rattle.flow_model.specs.Grammar.{marked, parens_tokens, prim_tokens, unary_tokens, term_tokens, term_tail_tokens, sum_tokens, sum_tail_tokens, compare_tokens, compare_tail_tokens, neg_tokens, conj_tokens, conj_tail_tokens, expr_tokens, expr_tail_tokens, argument_tail_tokens, arguments_tokens, type_tokens, type_tail_tokens, types_tokens, parameter_tokens, parameter_tail_tokens, parameters_tokens, declaration_tokens, else_tail_tokens, call_tail_tokens, wait_tail_tokens, side_tokens, branches_tokens, statement_tokens, statements_tokens, choice_tokens, body_tokens, program_tokens}
 use Rattle.flow_syntax.specs.Machine.{Symbol, fault}
 use Rattle.flow_syntax.specs.Machine as m
 use Rattle.flow_syntax.specs.Parsing.{Past}
-use Rattle.flow_syntax.proofs.Steps.{passes, term_is, sum_is, compare_is, conj_is, expr_is, factor_step, added_step, compared_step, patch_id_step}
+use Rattle.flow_syntax.proofs.Steps.{passes, term_is, sum_is, compare_is, conj_is, expr_is, factor_step, added_step, compared_step, patch_id_step, deprecate_step}
 
 -- the tokens do not go on with an operator of the level, or of a tighter one
 abbrev pub EndsTerm : List Lexeme → Type 0
@@ -205,6 +205,7 @@ statement_begins (parallel at brace first ss more) owed x = refl
 statement_begins (return_ at e end) owed x = refl
 statement_begins (fail at e end) owed x = refl
 statement_begins (continue_ at as_at new_at paren es end) owed x = refl
+statement_begins (deprecate at id_at id is end) owed x = refl
 
 statements_begin : (ss : StatementsReading) (owed : List Symbol) (x : List Lexeme) → fault (m.body ∷ owed) (statements_tokens ss ++ x) ≡ fault (m.statements ∷ owed) (statements_tokens ss ++ x)
 statements_begin (no_statement to) owed x = refl
@@ -216,6 +217,7 @@ statements_begin (statement (parallel at brace first ss others) more) owed x = r
 statements_begin (statement (return_ at e end) more) owed x = refl
 statements_begin (statement (fail at e end) more) owed x = refl
 statements_begin (statement (continue_ at as_at new_at paren es end) more) owed x = refl
+statements_begin (statement (deprecate at id_at id is end) more) owed x = refl
 statements_begin (if_ at e brace ss more) owed x = refl
 statements_begin (patch at id_at id is brace ss more) owed x = refl
 
@@ -229,6 +231,7 @@ statements_follow (statement (parallel at brace first ss others) more) owed x = 
 statements_follow (statement (return_ at e end) more) owed x = refl
 statements_follow (statement (fail at e end) more) owed x = refl
 statements_follow (statement (continue_ at as_at new_at paren es end) more) owed x = refl
+statements_follow (statement (deprecate at id_at id is end) more) owed x = refl
 statements_follow (if_ at e brace ss more) owed x = refl
 statements_follow (patch at id_at id is brace ss more) owed x = refl
 
@@ -265,6 +268,7 @@ mutual
   through_statement (return_ at e end) owed ts = rw append_assoc (through_expr e (m.sign mark.Semicolon ∷ owed) (marked end mark.Semicolon ∷ ts) ((((refl, refl), refl), refl), refl))
   through_statement (fail at e end) owed ts = rw append_assoc (through_expr e (m.sign mark.Semicolon ∷ owed) (marked end mark.Semicolon ∷ ts) ((((refl, refl), refl), refl), refl))
   through_statement (continue_ at as_at new_at paren es end) owed ts = rw append_assoc (through_arguments es (m.sign mark.Semicolon ∷ owed) (marked end mark.Semicolon ∷ ts))
+  through_statement (deprecate at id_at id is end) owed ts = deprecate_step id_at id owed (marked end mark.Semicolon ∷ ts) is
 
   pub through_statements : (ss : StatementsReading) (owed : List Symbol) (ts : List Lexeme) → fault (m.statements ∷ owed) (statements_tokens ss ++ ts) ≡ fault owed ts
   through_statements (no_statement to) owed ts = refl

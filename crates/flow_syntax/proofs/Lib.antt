@@ -20,3 +20,4 @@ pub mod Fewer
 pub mod FewerParentheses
 pub mod BareWords
 pub mod PrintedAgain
+pub mod Deprecated

@@ -1,5 +1,8 @@
 -- The same for statements, declarations and programs.
-use Rattle.std.proofs.Common.{◌≡◌, ◌∙◌, ℕ, ℤ, suc, List, [], ◌∷◌, ◌++◌, Some, length, refl, ap, sym, append_assoc}
+use Rattle.std.proofs.Common.{◌≡◌, ◌∙◌, ℕ, ℤ, suc, Bool, true, false, cond, Option, List, [], ◌∷◌, ◌++◌, Some, None, length, refl, ap, sym, subst, append_assoc, arith, eq-eqb}
+use Rattle.std.specs.Prelude.{◌&&◌}
+use Rattle.std.specs.Cmp.Lexicographic.{bytes_decides}
+use Rattle.std.proofs.lemmas.Bool.{and_parts}
 use Rattle.std.proofs.lemmas.List.{append-nil}
 use Rattle.flow_base.specs.Syntax as tree
 use Rattle.flow_base.specs.Syntax.{Bytes, once, block_of}
@@ -14,14 +17,14 @@ use Rattle.flow_base.specs.declared.syntax.Retry.{Retry}
 use Rattle.flow_base.specs.declared.syntax.Parameter.{Parameter}
 use Rattle.flow_base.specs.declared.syntax.TypeAt.{TypeAt}
 use Rattle.flow_model.specs.Lexeme.{Lexeme}
-use Rattle.flow_model.specs.Grammar.{TypeReading, typed, no_type, type_, last_type, next_type, parameter, ParametersReading, no_parameter, parameter_, last_parameter, next_parameter, activity, signal, no_else, else_, no_retry, retry, for_ever, for_, value, call, wait, no_branch, branch, let_, assign, sleep, while_, parallel, return_, fail, continue_, no_statement, statement, if_, patch, otherwise, without, BodyReading, statements, declaration, workflow}
-use Rattle.flow_model.specs.Grammar.{marked, named, numbered, worded, whole, expr_tokens, arguments_tokens, type_tokens, type_tail_tokens, types_tokens, parameter_tokens, parameter_tail_tokens, parameters_tokens, declaration_tokens, else_tail_tokens, call_tail_tokens, wait_tail_tokens, side_tokens, branches_tokens, statement_tokens, statements_tokens, choice_tokens, body_tokens, arguments_of, type_of, kind_of, type_tail_of, types_of, parameter_of, parameter_tail_of, parameter_tail_end, declaration_of, otherwise_of, retry_of, failing_of, wait_of, side_of, branches_of, branches_end, statement_of, statements_of, statements_end, second_of, second_end, behind_choice, choice_end, body_statements, declarations_of, program_of, Reads}
+use Rattle.flow_model.specs.Grammar.{TypeReading, typed, no_type, type_, last_type, next_type, parameter, ParametersReading, no_parameter, parameter_, last_parameter, next_parameter, activity, signal, no_else, else_, no_retry, retry, for_ever, for_, value, call, wait, no_branch, branch, let_, assign, sleep, while_, parallel, return_, fail, continue_, deprecate, no_statement, statement, if_, patch, otherwise, without, BodyReading, statements, declaration, workflow}
+use Rattle.flow_model.specs.Grammar.{marked, named, numbered, worded, whole, deprecate_name, expr_tokens, arguments_tokens, type_tokens, type_tail_tokens, types_tokens, parameter_tokens, parameter_tail_tokens, parameters_tokens, declaration_tokens, else_tail_tokens, call_tail_tokens, wait_tail_tokens, side_tokens, branches_tokens, statement_tokens, statements_tokens, choice_tokens, body_tokens, arguments_of, type_of, kind_of, type_tail_of, types_of, parameter_of, parameter_tail_of, parameter_tail_end, declaration_of, otherwise_of, retry_of, failing_of, wait_of, side_of, branches_of, branches_end, statement_of, statements_of, statements_end, second_of, second_end, behind_choice, choice_end, body_statements, declarations_of, program_of, Reads}
 use Rattle.flow_syntax.specs.declared.fault.Stop.{Stop}
 use Rattle.flow_syntax.specs.declared.fault.Stop.TheVariants.{NoMemory, Unexpected}
-use Rattle.flow_syntax.specs.Machine.{Symbol, takes, then_more, fault, fault_by, step}
+use Rattle.flow_syntax.specs.Machine.{Symbol, takes, then_more, mark_number, is_mark, fault, fault_by, step}
 use Rattle.flow_syntax.specs.Machine as m
-use Rattle.flow_syntax.specs.Parsing.{Parsed, SoFar, StopsAt, StopsProgram, IsNoMark, LacksMark, Lacks, IsNumber, IsPatchId, in_braces, IsBlock, IsTried, IsCalled, IsTarget, IsChoice, IsMember, both_of, end_of, shut_of, whole_body_of}
-use Rattle.flow_syntax.proofs.Steps.{Same, Alike, is_then, is_alike, types_same, parameters_same, side_same, body_alike, else_tail_is, call_tail_is, wait_tail_is, statements_is, after_choice_is, patch_id_step}
+use Rattle.flow_syntax.specs.Parsing.{Parsed, SoFar, StopsAt, StopsProgram, IsNoMark, LacksMark, Lacks, IsNumber, IsPatchId, in_braces, IsBlock, IsTried, IsCalled, IsTarget, IsText, is_text, is_deprecate, BeginsText, begins_deprecate, IsDeprecate, IsChoice, IsMember, both_of, end_of, shut_of, whole_body_of}
+use Rattle.flow_syntax.proofs.Steps.{Same, Alike, is_then, is_alike, types_same, parameters_same, side_same, body_alike, else_tail_is, call_tail_is, wait_tail_is, statements_is, after_choice_is, patch_id_step, deprecate_is, assign_is}
 use Rattle.flow_syntax.proofs.Parsed.{so_begins, so_more, so_next}
 use Rattle.flow_syntax.proofs.ParsedExpressions.{Marked, IsExpr, first_is}
 
@@ -275,6 +278,47 @@ assign_parsed at x ts rest end s p q = (
   λ owed. target_is at x ts rest p owed ∙ q.3 owed,
 )
 
+deprecate_word : (k : Word) → is_deprecate k ≡ true → k ≡ word.Name deprecate_name
+deprecate_word (word.Name x) h = ap word.Name ((bytes_decides x deprecate_name).0 h)
+deprecate_word (word.Int n) h = absurd (cc)
+deprecate_word (word.Text t) h = absurd (cc)
+deprecate_word (word.Mark k) h = absurd (cc)
+
+text_begins : (k : Word) → is_text k ≡ true → IsText k
+text_begins (word.Text t) h = tt
+text_begins (word.Name x) h = absurd (cc)
+text_begins (word.Int n) h = absurd (cc)
+text_begins (word.Mark k) h = absurd (cc)
+
+pub deprecate_found : (t u : Lexeme) (ts rest us : List Lexeme) → ts ≡ t ∷ rest → rest ≡ u ∷ us → (is_deprecate t.word && is_text u.word) ≡ true → IsDeprecate ts t.at rest
+deprecate_found t u ts rest us e f h =
+    let both = and_parts (is_deprecate t.word) (is_text u.word) h in
+    (subst BeginsText (sym f) (text_begins u.word both.1), sym (first_is t (word.Name deprecate_name) ts rest e (deprecate_word t.word both.0)))
+
+pub no_deprecate : (t u : Lexeme) (ts rest us : List Lexeme) → ts ≡ t ∷ rest → rest ≡ u ∷ us → (is_deprecate t.word && is_text u.word) ≡ false → begins_deprecate ts ≡ false
+no_deprecate t u ts rest us e f h = rw (e, f) h
+
+pub one_is_none : (t : Lexeme) (ts rest : List Lexeme) → ts ≡ t ∷ rest → rest ≡ [] → begins_deprecate ts ≡ false
+one_is_none t ts rest e f = rw (e, f) refl
+
+-- behind another name than that of a `deprecate`
+pub target_stops : (at : ℕ) (x : Bytes) (ts r1 : List Lexeme) → ts ≡ named at x ∷ r1 → begins_deprecate ts ≡ false → (owed : List Symbol) → fault (m.statement ∷ owed) ts ≡ fault (m.sign mark.Assign ∷ m.side ∷ owed) r1
+target_stops at x ts r1 e h owed = ap (fault (m.statement ∷ owed)) e ∙ assign_is at x owed r1 (subst (λ v. begins_deprecate v ≡ false) e h)
+
+pub deprecate_read : (at id_at : ℕ) (id : Bytes) (ts r1 : List Lexeme) → BeginsText ts → IsPatchId ts id_at id r1 → (owed : List Symbol)
+    → fault (m.statement ∷ owed) (named at deprecate_name ∷ ts) ≡ fault (m.sign mark.Semicolon ∷ owed) r1
+deprecate_read at id_at id ts r1 b p owed =
+    deprecate_is owed ts b ∙ ap (fault (m.patch_id ∷ m.sign mark.Semicolon ∷ owed)) p.1 ∙ patch_id_step id_at id (m.sign mark.Semicolon ∷ owed) r1 p.0
+
+pub deprecate_parsed : (at id_at end_at : ℕ) (id : Bytes) (ts r1 end : List Lexeme) → BeginsText ts → IsPatchId ts id_at id r1 → Marked mark.Semicolon r1 end_at end
+    → Parsed m.statement statement_tokens statement_of (named at deprecate_name ∷ ts) (tree.Deprecate at id_at id) end
+deprecate_parsed at id_at end_at id ts r1 end b p q = (
+  deprecate at id_at id p.0 q.0,
+  ap (λ y. named at deprecate_name ∷ worded id_at id ∷ y) q.1 ∙ ap (λ y. named at deprecate_name ∷ y) (sym p.1),
+  refl,
+  λ owed. deprecate_read at id_at id ts r1 b p owed ∙ q.3 owed,
+)
+
 -- statements with lists in braces
 
 pub while_parsed : (at brace : ℕ) (ts r1 end : List Lexeme) (e : tree.Expression) (b : tree.Block × ℕ) → IsExpr ts e r1 → IsBlock r1 brace b end → Parsed m.statement statement_tokens statement_of (marked at mark.While ∷ ts) (tree.While at e b.0 b.1) end
@@ -522,14 +566,54 @@ parameter_same (t ∷ ts) = colon_same t.word
 pub parameter_is : (owed : List Symbol) (ts : List Lexeme) → fault (m.parameter ∷ owed) ts ≡ fault (m.name ∷ m.sign mark.Colon ∷ m.type_ ∷ owed) ts
 parameter_is owed ts = is_then m.name m.parameter (m.sign mark.Colon ∷ m.type_ ∷ []) refl refl owed ts (parameter_same ts)
 
-no_keyword : (k : Word) → IsNoMark k → takes m.statement k ≡ then_more (takes m.name k) (m.sign mark.Assign ∷ m.side ∷ [])
-no_keyword (word.Mark k) h = absurd h
-no_keyword (word.Name x) h = refl
-no_keyword _ h = refl
+-- a symbol that the word is
+abbrev taker : Word → Symbol
+taker (word.Name x) = m.name
+taker (word.Int n) = m.number
+taker (word.Text t) = m.prim
+taker (word.Mark k) = m.sign k
 
-statement_same : (ts : List Lexeme) → LacksMark ts → Same m.name m.statement (m.sign mark.Assign ∷ m.side ∷ []) ts
-statement_same [] h = tt
-statement_same (t ∷ ts) h = no_keyword t.word h
+abbrev none_owed : Option (List Symbol)
+none_owed = Some []
 
-pub statement_is : (owed : List Symbol) (ts : List Lexeme) → LacksMark ts → fault (m.statement ∷ owed) ts ≡ fault (m.name ∷ m.sign mark.Assign ∷ m.side ∷ owed) ts
-statement_is owed ts h = is_then m.name m.statement (m.sign mark.Assign ∷ m.side ∷ []) refl refl owed ts (statement_same ts h)
+mark_taken : (b : Bool) → b ≡ true → cond b none_owed None ≡ none_owed
+mark_taken true e = refl
+mark_taken false e = absurd (cc)
+
+takes_it : (k : Word) → takes (taker k) k ≡ Some []
+takes_it (word.Name x) = refl
+takes_it (word.Int n) = refl
+takes_it (word.Text t) = refl
+takes_it (word.Mark k) = mark_taken (is_mark k k) (eq-eqb (mark_number k) (mark_number k) refl)
+
+taken : (s : Symbol) (t : Lexeme) (ts : List Lexeme) → takes s t.word ≡ Some [] → fault (s ∷ []) (t ∷ ts) ≡ fault [] ts
+taken s t ts e = rw e refl
+
+abbrev number_of : Option ℕ → ℕ
+number_of None = 0
+number_of (Some n) = n
+
+never_both : (ts : List Lexeme) (left : ℕ) → Some (suc (length ts)) ≡ Some left → fault [] ts ≡ Some left → ⊥
+never_both [] left e h = absurd (cc)
+never_both (u ∷ us) left e h = let d : suc (suc (length us)) ≡ suc (length us) = ap number_of (e ∙ sym h) in absurd (omega (arith, d))
+
+-- no tokens are refused at one place whatever is owed
+never_all : (ts : List Lexeme) (left : ℕ) → ((owed : List Symbol) → fault owed ts ≡ Some left) → ⊥
+never_all [] left h = let e = h [] in absurd (cc)
+never_all (t ∷ ts) left h = never_both ts left (h []) (sym (taken (taker t.word) t ts (takes_it t.word)) ∙ h (taker t.word ∷ []))
+
+name_word : (k : Word) (ts : List Lexeme) (left : ℕ) → IsNoMark k → ((owed : List Symbol) → fault_by (suc (length ts)) (step k (m.name ∷ owed)) (λ rest. fault rest ts) ≡ Some left)
+    → (owed : List Symbol) → fault_by (suc (length ts)) (step k (m.statement ∷ owed)) (λ rest. fault rest ts) ≡ Some left
+name_word (word.Mark k) ts left l h owed = absurd l
+name_word (word.Name x) ts left l h owed = absurd (never_all ts left h)
+name_word (word.Int n) ts left l h owed = h owed
+name_word (word.Text t) ts left l h owed = h owed
+
+no_name : (ts : List Lexeme) (left : ℕ) → LacksMark ts → ((owed : List Symbol) → fault (m.name ∷ owed) ts ≡ Some left) → (owed : List Symbol) → fault (m.statement ∷ owed) ts ≡ Some left
+no_name [] left l h owed = h owed
+no_name (t ∷ ts) left l h owed = name_word t.word ts left l h owed
+
+-- where neither a mark nor a name stands, no statement begins
+pub name_stops : (ts : List Lexeme) → LacksMark ts → (stop : Stop) → StopsAt m.name ts stop → StopsAt m.statement ts stop
+name_stops ts l (NoMemory _) g = tt
+name_stops ts l (Unexpected left) g = no_name ts left l g

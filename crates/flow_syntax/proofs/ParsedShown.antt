@@ -40,6 +40,9 @@ shown_while at e b = ap shown_stmt (sym (stmt.rolls-While at e b)) ∙ fold-roll
 pub shown_patch : (at id_at : ℕ) (id : Bytes) (a b : Block) → shown_stmt (stmt.Patch at id_at id a b) ≡ tree.Patch at id_at id (shown_braced a).0 (shown_braced a).1 (shown_braced b).0 (shown_braced b).1
 shown_patch at id_at id a b = ap shown_stmt (sym (stmt.rolls-Patch at id_at id a b)) ∙ fold-roll-Stmt tree.Statement Braced (ℕ × Braced) stmt_step block_step branch_step (layer.Patch at id_at id a b)
 
+pub shown_deprecate : (at id_at : ℕ) (id : Bytes) → shown_stmt (stmt.Deprecate at id_at id) ≡ tree.Deprecate at id_at id
+shown_deprecate at id_at id = ap shown_stmt (sym (stmt.rolls-Deprecate at id_at id)) ∙ fold-roll-Stmt tree.Statement Braced (ℕ × Braced) stmt_step block_step branch_step (layer.Deprecate at id_at id)
+
 pub shown_return : (at : ℕ) (e : Expr) → shown_stmt (stmt.Return at e) ≡ tree.Return at (shown_expr e)
 shown_return at e = ap shown_stmt (sym (stmt.rolls-Return at e)) ∙ fold-roll-Stmt tree.Statement Braced (ℕ × Braced) stmt_step block_step branch_step (layer.Return at e)
 

@@ -12,7 +12,7 @@ use Rattle.flow_base.specs.declared.token.Word.{Word}
 use Rattle.flow_base.specs.declared.token.Word.TheVariants as word
 use Rattle.flow_base.specs.declared.token.Mark.TheVariants as mark
 use Rattle.flow_model.specs.Lexeme.{Lexeme}
-use Rattle.flow_model.specs.Grammar.{is_patch_id, ExprReading, no_argument, argument, last_argument, next_argument, TypeReading, typed, no_type, type_, last_type, next_type, ParameterReading, parameter, no_parameter, parameter_, last_parameter, next_parameter, DeclarationReading, activity, signal, ElseTail, no_else, else_, CallTail, no_retry, retry, for_ever, for_, value, call, wait, BranchesReading, no_branch, branch, StatementReading, let_, assign, sleep, while_, parallel, return_, fail, continue_, StatementsReading, no_statement, statement, if_, patch, AfterChoice, otherwise, without, BodyReading, statements, declaration, ProgramReading, workflow}
+use Rattle.flow_model.specs.Grammar.{is_patch_id, deprecate_name, ExprReading, no_argument, argument, last_argument, next_argument, TypeReading, typed, no_type, type_, last_type, next_type, ParameterReading, parameter, no_parameter, parameter_, last_parameter, next_parameter, DeclarationReading, activity, signal, ElseTail, no_else, else_, CallTail, no_retry, retry, for_ever, for_, value, call, wait, BranchesReading, no_branch, branch, StatementReading, let_, assign, sleep, while_, parallel, return_, fail, continue_, deprecate, StatementsReading, no_statement, statement, if_, patch, AfterChoice, otherwise, without, BodyReading, statements, declaration, ProgramReading, workflow}
 use Rattle.flow_model.specs.Grammar.{marked, named, numbered, worded, expr_tokens, expr_of, argument_tail_tokens, arguments_tokens, type_tokens, type_tail_tokens, types_tokens, parameter_tokens, parameter_tail_tokens, parameters_tokens, declaration_tokens, else_tail_tokens, call_tail_tokens, branches_tokens, statement_tokens, statements_tokens, choice_tokens, body_tokens, program_tokens, argument_tail_of, arguments_of, type_of, kind_of, type_tail_of, types_of, parameter_of, parameter_tail_of, parameters_of, declaration_of, retry_of, otherwise_of, failing_of, branches_of, statement_of, statements_of, second_of, behind_choice, body_statements, declarations_of, program_of}
 use Rattle.flow_syntax.specs.Print.{words_of, AreReadAs, IsReadable, AreReadable, IsReadableElse, AreReadableBranches, kind_mark, expression_words, behind_commas, between_commas, type_words, parameter_words, in_braces, retry_words, statement_words, block_words, else_words, otherwise_words, branches_words, declared_words, declarations_words, program_words}
 use Rattle.flow_syntax.proofs.PrintedExpressions.{first, only, split, expression_read}
@@ -214,6 +214,16 @@ continue_read at es ts h =
           ∙ ap (λ w. marked k.0 mark.Continue ∷ w) (sym a.2)
           ∙ sym k.2,
       ap (λ w. tree.Continue 0 w) r.2,
+    )
+
+deprecate_read : (at id_at : ℕ) (id : tree.Bytes) → IsTrue (is_patch_id id) → StatementReader (tree.Deprecate at id_at id)
+deprecate_read at id_at id fits ts h =
+    let n = first (word.Name deprecate_name) (word.Text id ∷ end) ts h in
+    let i = first (word.Text id) end n.1 n.3 in
+    let z = only (word.Mark mark.Semicolon) i.1 i.3 in (
+      deprecate n.0 i.0 id fits z.0,
+      ap (λ w. named n.0 deprecate_name ∷ worded i.0 id ∷ w) (sym z.1) ∙ ap (λ w. named n.0 deprecate_name ∷ w) (sym i.2) ∙ sym n.2,
+      refl,
     )
 
 ---- Waits
@@ -509,6 +519,7 @@ mutual
   statement_reader (tree.Parallel at (Branch from a a_end bs) bs_end) b can behind =
       alone (tree.Parallel at (Branch from a a_end bs) bs_end) b (parallel_read at from a a_end bs bs_end (block_reader a can.1.0) (branches_reader bs can.1.1)) behind
   statement_reader (tree.Patch at id_at id a a_end c c_end) b can behind = patch_read at id_at id a a_end c c_end b can.0 (block_reader a can.1.0) (block_reader c can.1.1) behind
+  statement_reader (tree.Deprecate at id_at id) b can behind = alone (tree.Deprecate at id_at id) b (deprecate_read at id_at id can) behind
   statement_reader (tree.Return at e) b can behind = alone (tree.Return at e) b (return_read at e) behind
   statement_reader (tree.FailWith at e) b can behind = alone (tree.FailWith at e) b (fail_read at e) behind
   statement_reader (tree.Continue at es) b can behind = alone (tree.Continue at es) b (continue_read at es) behind

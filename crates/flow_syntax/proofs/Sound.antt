@@ -1,5 +1,7 @@
 -- What the machine still owes can be written, and then stands for a reading.
-use Rattle.std.proofs.Common.{◌≡◌, ◌∙◌, ℕ, ℤ, Bool, true, false, cond, List, [], ◌∷◌, ◌++◌, Option, Some, None, refl, ap, sym, append_assoc, get_or, eqb-true, IsTrue}
+use Rattle.std.specs.Prelude.{◌⊎◌, ◌&&◌, bytes_eq}
+use Rattle.std.specs.Cmp.Lexicographic.{bytes_decides}
+use Rattle.std.proofs.Common.{◌≡◌, ◌∙◌, ℕ, ℤ, inl, inr, Bool, true, false, cond, List, [], ◌∷◌, ◌++◌, Option, Some, None, refl, ap, sym, append_assoc, get_or, eqb-true, IsTrue}
 use Rattle.std.proofs.lemmas.List.{append-nil}
 use Rattle.flow_base.specs.Syntax.{Bytes}
 use Rattle.flow_base.specs.declared.token.Word.{Word}
@@ -8,11 +10,19 @@ use Rattle.flow_base.specs.declared.token.Mark.{Mark}
 use Rattle.flow_base.specs.declared.token.Mark.TheVariants as mark
 use Rattle.flow_base.specs.declared.value.Kind.TheVariants as kind
 use Rattle.flow_model.specs.Lexeme.{Lexeme}
-use Rattle.flow_model.specs.Grammar.{times, over, percent, plus, minus, join, equal, differ, less, at_most, greater, at_least, ParensReading, parens, PrimReading, int, text, name, text_of, len_of, inner, UnaryReading, negate, prim, TermReading, term, TermTail, factor, SumReading, sum, SumTail, added, CompareReading, compare, CompareTail, compared, NegReading, not, plain, ConjReading, conj, ConjTail, and, ExprReading, expr, ExprTail, or, ArgumentsReading, no_argument, argument, ArgumentTail, last_argument, next_argument, TypeReading, typed, TypesReading, no_type, type_, TypeTail, last_type, next_type, ParameterReading, parameter, ParametersReading, no_parameter, parameter_, ParameterTail, last_parameter, next_parameter, DeclarationReading, activity, signal, ElseTail, no_else, else_, CallTail, no_retry, retry, WaitTail, for_ever, for_, SideReading, value, call, wait, BranchesReading, no_branch, branch, StatementReading, let_, assign, sleep, while_, parallel, return_, fail, continue_, StatementsReading, no_statement, statement, if_, patch, AfterChoice, otherwise, without, BodyReading, statements, declaration, ProgramReading, workflow}
+use Rattle.flow_model.specs.Grammar.{times, over, percent, plus, minus, join, equal, differ, less, at_most, greater, at_least, ParensReading, parens, PrimReading, int, text, name, text_of, len_of, inner, UnaryReading, negate, prim, TermReading, term, TermTail, factor, SumReading, sum, SumTail, added, CompareReading, compare, CompareTail, compared, NegReading, not, plain, ConjReading, conj, ConjTail, and, ExprReading, expr, ExprTail, or, ArgumentsReading, no_argument, argument, ArgumentTail, last_argument, next_argument, TypeReading, typed, TypesReading, no_type, type_, TypeTail, last_type, next_type, ParameterReading, parameter, ParametersReading, no_parameter, parameter_, ParameterTail, last_parameter, next_parameter, DeclarationReading, activity, signal, ElseTail, no_else, else_, CallTail, no_retry, retry, WaitTail, for_ever, for_, SideReading, value, call, wait, BranchesReading, no_branch, branch, StatementReading, let_, assign, sleep, while_, parallel, return_, fail, continue_, deprecate, StatementsReading, no_statement, statement, if_, patch, AfterChoice, otherwise, without, BodyReading, statements, declaration, ProgramReading, workflow}
 use Rattle.flow_model.specs.Grammar as reading
-use Rattle.flow_model.specs.Grammar.{marked, named, numbered, worded, is_patch_id, parens_tokens, prim_tokens, unary_tokens, term_tokens, term_tail_tokens, sum_tokens, sum_tail_tokens, compare_tokens, compare_tail_tokens, neg_tokens, conj_tokens, conj_tail_tokens, expr_tokens, expr_tail_tokens, argument_tail_tokens, arguments_tokens, type_tokens, type_tail_tokens, types_tokens, parameter_tokens, parameter_tail_tokens, parameters_tokens, declaration_tokens, else_tail_tokens, call_tail_tokens, wait_tail_tokens, side_tokens, branches_tokens, statement_tokens, statements_tokens, choice_tokens, body_tokens, program_tokens}
-use Rattle.flow_syntax.specs.Machine.{Symbol, takes, then_more, prim_takes, unary_takes, term_takes, sum_takes, compare_takes, neg_takes, conj_takes, expr_takes, arguments_takes, type_takes, types_takes, parameter_takes, parameters_takes, else_tail_takes, call_tail_takes, wait_tail_takes, side_takes, statement_takes, statements_takes, after_choice_takes, declaration_takes, body_takes, mark_number, is_mark}
+use Rattle.flow_model.specs.Grammar.{marked, named, numbered, worded, is_patch_id, deprecate_name, parens_tokens, prim_tokens, unary_tokens, term_tokens, term_tail_tokens, sum_tokens, sum_tail_tokens, compare_tokens, compare_tail_tokens, neg_tokens, conj_tokens, conj_tail_tokens, expr_tokens, expr_tail_tokens, argument_tail_tokens, arguments_tokens, type_tokens, type_tail_tokens, types_tokens, parameter_tokens, parameter_tail_tokens, parameters_tokens, declaration_tokens, else_tail_tokens, call_tail_tokens, wait_tail_tokens, side_tokens, branches_tokens, statement_tokens, statements_tokens, choice_tokens, body_tokens, program_tokens}
+use Rattle.flow_syntax.specs.Machine.{Symbol, takes, then_more, prim_takes, unary_takes, term_takes, sum_takes, compare_takes, neg_takes, conj_takes, expr_takes, arguments_takes, type_takes, types_takes, parameter_takes, parameters_takes, else_tail_takes, call_tail_takes, wait_tail_takes, side_takes, statement_takes, after_name_takes, statements_takes, after_choice_takes, declaration_takes, body_takes, mark_number, is_mark}
 use Rattle.flow_syntax.specs.Machine as m
+
+-- what may stand behind the name that a statement begins with
+abbrev pub AfterName : Bytes → Type 0
+AfterName x = (ℕ × SideReading) ⊎ (ℕ × (id : Bytes) × IsTrue (is_patch_id id) × (x ≡ deprecate_name) × ℕ)
+
+abbrev pub after_name_tokens : (x : Bytes) → AfterName x → List Lexeme
+after_name_tokens x (inl a) = marked a.0 mark.Assign ∷ side_tokens a.1
+after_name_tokens x (inr d) = worded d.0 d.1 ∷ marked d.4 mark.Semicolon ∷ []
 
 -- what may stand for a symbol
 abbrev pub Reading : Symbol → Type 0
@@ -48,6 +58,7 @@ Reading m.wait_tail = WaitTail
 Reading m.side = SideReading
 Reading m.more_branches = BranchesReading
 Reading m.statement = StatementReading
+Reading (m.after_name x) = AfterName x
 Reading m.patch_id = ℕ × (id : Bytes) × IsTrue (is_patch_id id)
 Reading m.statements = StatementsReading
 Reading m.after_choice = AfterChoice
@@ -87,6 +98,7 @@ spelled m.wait_tail r = wait_tail_tokens r
 spelled m.side r = side_tokens r
 spelled m.more_branches r = branches_tokens r
 spelled m.statement r = statement_tokens r
+spelled (m.after_name x) r = after_name_tokens x r
 spelled m.patch_id x = worded x.0 x.1 ∷ []
 spelled m.statements r = statements_tokens r
 spelled m.after_choice r = choice_tokens r
@@ -264,6 +276,22 @@ side_comes at (word.Mark mark.Call) = λ (x, (paren, (es, (more, u)))). (call at
 side_comes at (word.Mark mark.Wait) = λ (signal_at, (x, (more, u))). (wait at signal_at x.0 x.1 more, simp append-nil)
 side_comes at k = comes_then m.expr m.side (record { at = at; word = k }) (expr_takes k) (m.sign mark.Semicolon ∷ []) (λ p q. (value p q.0, refl)) (expr_comes at k)
 
+-- the name, and what stands behind it
+named_comes : (at : ℕ) (x : Bytes) (r : AfterName x) → (v : StatementReading) × (statement_tokens v ≡ named at x ∷ (after_name_tokens x r ++ []))
+named_comes at x (inl a) = (assign at x a.0 a.1, simp append-nil)
+named_comes at x (inr d) = (deprecate at d.0 d.1 d.2 d.4, ap (λ n. named at n ∷ worded d.0 d.1 ∷ marked d.4 mark.Semicolon ∷ []) (sym d.3))
+
+deprecate_comes : (at : ℕ) (x t : Bytes) (a b : Bool) → bytes_eq x deprecate_name ≡ a → is_patch_id t ≡ b
+    → Comes (m.after_name x) (record { at = at; word = word.Text t }) (cond (a && b) (Some (m.sign mark.Semicolon ∷ [])) None)
+deprecate_comes at x t true true g h = λ (end, u). (inr (at, t, h, (bytes_decides x deprecate_name).0 g, end), refl)
+deprecate_comes at x t true false g h = tt
+deprecate_comes at x t false b g h = tt
+
+after_name_comes : (at : ℕ) (x : Bytes) (k : Word) → Comes (m.after_name x) (record { at = at; word = k }) (after_name_takes x k)
+after_name_comes at x (word.Mark mark.Assign) = λ (s, u). (inl (at, s), simp append-nil)
+after_name_comes at x (word.Text t) = deprecate_comes at x t (bytes_eq x deprecate_name) (is_patch_id t) refl refl
+after_name_comes at x _ = tt
+
 statement_comes : (at : ℕ) (k : Word) → Comes m.statement (record { at = at; word = k }) (statement_takes k)
 statement_comes at (word.Mark mark.Let) = λ (x, (eq, (e, (end, u)))). (let_ at x.0 x.1 eq e end, refl)
 statement_comes at (word.Mark mark.Sleep) = λ (e, (end, u)). (sleep at e end, refl)
@@ -272,7 +300,7 @@ statement_comes at (word.Mark mark.Parallel) = λ (brace, (first, (ss, (more, u)
 statement_comes at (word.Mark mark.Return) = λ (e, (end, u)). (return_ at e end, refl)
 statement_comes at (word.Mark mark.Fail) = λ (e, (end, u)). (fail at e end, refl)
 statement_comes at (word.Mark mark.Continue) = λ (as_at, (new_at, (paren, (es, (end, u))))). (continue_ at as_at new_at paren es end, refl)
-statement_comes at (word.Name x) = λ (eq, (s, u)). (assign at x eq s, simp append-nil)
+statement_comes at (word.Name x) = λ (r, u). named_comes at x r
 statement_comes at _ = tt
 
 statements_comes : (at : ℕ) (k : Word) → Comes m.statements (record { at = at; word = k }) (statements_takes k)
@@ -341,6 +369,7 @@ comes m.side at k = side_comes at k
 comes m.more_branches at (word.Mark mark.BraceClose) = λ rs. (no_branch at, refl)
 comes m.more_branches at (word.Mark mark.BraceOpen) = λ (ss, (more, u)). (branch at ss more, simp append-nil)
 comes m.statement at k = statement_comes at k
+comes (m.after_name x) at k = after_name_comes at x k
 comes m.patch_id at (word.Text t) = ids at t (is_patch_id t) refl
 comes m.statements at k = statements_comes at k
 comes m.after_choice at k = after_choice_comes at k

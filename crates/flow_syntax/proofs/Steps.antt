@@ -1,14 +1,16 @@
 -- What the machine does at tokens that are not known.
-use Rattle.std.proofs.Common.{◌≡◌, ℕ, suc, true, List, [], ◌∷◌, ◌++◌, length, Option, Some, None, refl, ap, false, append_assoc, IsTrue}
+use Rattle.std.proofs.Common.{◌≡◌, ◌∙◌, ℕ, suc, Bool, true, List, [], ◌∷◌, ◌++◌, length, cond, Option, Some, None, refl, ap, false, append_assoc, IsTrue}
+use Rattle.std.specs.Prelude.{◌&&◌, bytes_eq}
+use Rattle.std.specs.Cmp.Lexicographic.{bytes_decides}
 use Rattle.flow_base.specs.Syntax.{Bytes}
 use Rattle.flow_base.specs.declared.token.Word.{Word}
 use Rattle.flow_base.specs.declared.token.Word.TheVariants as word
 use Rattle.flow_base.specs.declared.token.Mark.TheVariants as mark
 use Rattle.flow_model.specs.Lexeme.{Lexeme}
-use Rattle.flow_model.specs.Grammar.{marked, worded, is_patch_id, TermSign, times, over, percent, SumSign, plus, minus, join, CompareSign, equal, differ, less, at_most, greater, at_least, term_mark, sum_mark, compare_mark}
+use Rattle.flow_model.specs.Grammar.{marked, named, worded, is_patch_id, deprecate_name, TermSign, times, over, percent, SumSign, plus, minus, join, CompareSign, equal, differ, less, at_most, greater, at_least, term_mark, sum_mark, compare_mark}
 use Rattle.flow_syntax.specs.Machine.{Symbol, takes, then_more, may_be_nothing, step, step_by, fault, fault_by}
 use Rattle.flow_syntax.specs.Machine as m
-use Rattle.flow_syntax.specs.Parsing.{Lacks, Past}
+use Rattle.flow_syntax.specs.Parsing.{Lacks, Past, IsText, is_text, BeginsText, begins_deprecate}
 
 pub passes : (s : Symbol) → may_be_nothing s ≡ true → (owed : List Symbol) (ts : List Lexeme) → Past s ts → fault (s ∷ owed) ts ≡ fault owed ts
 passes s h owed [] p = rw h refl
@@ -279,6 +281,53 @@ after_choice_is owed ts h = is_alike m.statements m.after_choice refl refl owed 
 
 pub patch_id_step : (at : ℕ) (id : Bytes) (owed : List Symbol) (x : List Lexeme) → IsTrue (is_patch_id id) → fault (m.patch_id ∷ owed) (worded at id ∷ x) ≡ fault owed x
 patch_id_step at id owed x h = rw h refl
+
+---- Behind the name that a statement begins with
+
+deprecate_self : bytes_eq deprecate_name deprecate_name ≡ true
+deprecate_self = (bytes_decides deprecate_name deprecate_name).1 refl
+
+text_by : (a b : Bool) → a ≡ true → cond (a && b) (Some (m.sign mark.Semicolon ∷ [])) None ≡ then_more (cond b (Some []) None) (m.sign mark.Semicolon ∷ [])
+text_by true true e = refl
+text_by true false e = refl
+text_by false b e = absurd (cc)
+
+text_takes : (k : Word) → IsText k → takes (m.after_name deprecate_name) k ≡ then_more (takes m.patch_id k) (m.sign mark.Semicolon ∷ [])
+text_takes (word.Text t) h = text_by (bytes_eq deprecate_name deprecate_name) (is_patch_id t) deprecate_self
+text_takes (word.Name x) h = absurd h
+text_takes (word.Int n) h = absurd h
+text_takes (word.Mark k) h = absurd h
+
+text_same : (ts : List Lexeme) → BeginsText ts → Same m.patch_id (m.after_name deprecate_name) (m.sign mark.Semicolon ∷ []) ts
+text_same [] h = tt
+text_same (t ∷ ts) h = text_takes t.word h
+
+-- behind that of a `deprecate`, an id and a semicolon
+pub deprecate_is : (owed : List Symbol) (ts : List Lexeme) → BeginsText ts → fault (m.after_name deprecate_name ∷ owed) ts ≡ fault (m.patch_id ∷ m.sign mark.Semicolon ∷ owed) ts
+deprecate_is owed ts h = is_then m.patch_id (m.after_name deprecate_name) (m.sign mark.Semicolon ∷ []) refl refl owed ts (text_same ts h)
+
+pub deprecate_step : (at : ℕ) (id : Bytes) (owed : List Symbol) (x : List Lexeme) → IsTrue (is_patch_id id)
+    → fault (m.after_name deprecate_name ∷ owed) (worded at id ∷ x) ≡ fault (m.sign mark.Semicolon ∷ owed) x
+deprecate_step at id owed x h = deprecate_is owed (worded at id ∷ x) tt ∙ patch_id_step at id (m.sign mark.Semicolon ∷ owed) x h
+
+assign_text : (a b : Bool) → (a && true) ≡ false → cond (a && b) (Some (m.sign mark.Semicolon ∷ [])) None ≡ None
+assign_text false b e = refl
+assign_text true b e = absurd (cc)
+
+assign_takes : (x : Bytes) (k : Word) → (bytes_eq x deprecate_name && is_text k) ≡ false → takes (m.after_name x) k ≡ then_more (takes (m.sign mark.Assign) k) (m.side ∷ [])
+assign_takes x (word.Mark mark.Assign) h = refl
+assign_takes x (word.Text t) h = assign_text (bytes_eq x deprecate_name) (is_patch_id t) h
+assign_takes x _ h = refl
+
+assign_same : (at : ℕ) (x : Bytes) (ts : List Lexeme) → begins_deprecate (named at x ∷ ts) ≡ false → Same (m.sign mark.Assign) (m.after_name x) (m.side ∷ []) ts
+assign_same at x [] h = tt
+assign_same at x (t ∷ ts) h = assign_takes x t.word h
+
+-- behind that of another statement, a `=` and what it gets
+pub assign_is : (at : ℕ) (x : Bytes) (owed : List Symbol) (ts : List Lexeme) → begins_deprecate (named at x ∷ ts) ≡ false → fault (m.after_name x ∷ owed) ts ≡ fault (m.sign mark.Assign ∷ m.side ∷ owed) ts
+assign_is at x owed ts h = is_then (m.sign mark.Assign) (m.after_name x) (m.side ∷ []) refl refl owed ts (assign_same at x ts h)
+
+---- The id of a patch
 
 no_text : (k : Word) → ((id : Bytes) → k ≡ word.Text id → ⊥) → takes m.patch_id k ≡ None
 no_text (word.Text id) h = absurd (h id refl)

@@ -1,5 +1,5 @@
 -- Where the machine stops, the tokens before are the beginning of a program, and no program begins with them and the next one.
-use Rattle.std.proofs.Common.{◌≡◌, ◌∙◌, ℕ, pos, suc, ◌≤◌, Bool, true, false, cond, List, [], ◌∷◌, ◌++◌, Option, Some, None, refl, ap, sym, subst, append_assoc, length, ◌-◌, drop, length-append, arith}
+use Rattle.std.proofs.Common.{◌≡◌, ◌∙◌, ℕ, pos, suc, inl, ◌≤◌, Bool, true, false, cond, List, [], ◌∷◌, ◌++◌, Option, Some, None, refl, ap, sym, subst, append_assoc, length, ◌-◌, drop, length-append, arith}
 use Rattle.std.proofs.lemmas.List.{append-nil}
 use Rattle.std.proofs.Math.Seq.{drop-append_seam}
 use Rattle.flow_base.specs.Syntax as tree
@@ -60,6 +60,7 @@ least m.wait_tail = for_ever 0
 least m.side = value least_expr 0
 least m.more_branches = no_branch 0
 least m.statement = return_ 0 least_expr 0
+least (m.after_name x) = inl (0, value least_expr 0)
 least m.patch_id = (0, 0 ∷ [], refl)
 least m.statements = no_statement 0
 least m.after_choice = without (no_statement 0)

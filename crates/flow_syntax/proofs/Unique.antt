@@ -8,7 +8,7 @@ use Rattle.flow_base.specs.declared.token.Mark.TheVariants as mark
 use Rattle.flow_base.specs.declared.value.Kind.{Kind}
 use Rattle.flow_base.specs.declared.value.Kind.TheVariants as kind
 use Rattle.flow_model.specs.Lexeme.{Lexeme}
-use Rattle.flow_model.specs.Grammar.{TermSign, times, over, percent, SumSign, plus, minus, join, CompareSign, equal, differ, less, at_most, greater, at_least, ParensReading, parens, PrimReading, int, text, name, now, text_of, len_of, inner, UnaryReading, negate, prim, TermReading, term, TermTail, no_factor, factor, SumReading, sum, SumTail, no_term, added, CompareReading, compare, CompareTail, no_side, compared, NegReading, not, plain, ConjReading, conj, ConjTail, no_and, and, ExprReading, expr, ExprTail, no_or, or, ArgumentsReading, no_argument, argument, ArgumentTail, last_argument, next_argument, TypeReading, typed, TypesReading, no_type, type_, TypeTail, last_type, next_type, ParameterReading, parameter, ParametersReading, no_parameter, parameter_, ParameterTail, last_parameter, next_parameter, DeclarationReading, activity, signal, ElseTail, no_else, else_, CallTail, no_retry, retry, WaitTail, for_ever, for_, SideReading, value, call, wait, BranchesReading, no_branch, branch, StatementReading, let_, assign, sleep, while_, parallel, return_, fail, continue_, StatementsReading, no_statement, statement, if_, patch, AfterChoice, otherwise, without, BodyReading, statements, declaration, ProgramReading, workflow}
+use Rattle.flow_model.specs.Grammar.{TermSign, times, over, percent, SumSign, plus, minus, join, CompareSign, equal, differ, less, at_most, greater, at_least, ParensReading, parens, PrimReading, int, text, name, now, text_of, len_of, inner, UnaryReading, negate, prim, TermReading, term, TermTail, no_factor, factor, SumReading, sum, SumTail, no_term, added, CompareReading, compare, CompareTail, no_side, compared, NegReading, not, plain, ConjReading, conj, ConjTail, no_and, and, ExprReading, expr, ExprTail, no_or, or, ArgumentsReading, no_argument, argument, ArgumentTail, last_argument, next_argument, TypeReading, typed, TypesReading, no_type, type_, TypeTail, last_type, next_type, ParameterReading, parameter, ParametersReading, no_parameter, parameter_, ParameterTail, last_parameter, next_parameter, DeclarationReading, activity, signal, ElseTail, no_else, else_, CallTail, no_retry, retry, WaitTail, for_ever, for_, SideReading, value, call, wait, BranchesReading, no_branch, branch, StatementReading, let_, assign, sleep, while_, parallel, return_, fail, continue_, deprecate, StatementsReading, no_statement, statement, if_, patch, AfterChoice, otherwise, without, BodyReading, statements, declaration, ProgramReading, workflow}
 use Rattle.flow_model.specs.Grammar.{marked, is_patch_id, term_mark, sum_mark, compare_mark, kind_mark, parens_tokens, prim_tokens, unary_tokens, term_tokens, term_tail_tokens, sum_tokens, sum_tail_tokens, compare_tokens, compare_tail_tokens, neg_tokens, conj_tokens, conj_tail_tokens, expr_tokens, expr_tail_tokens, argument_tail_tokens, arguments_tokens, type_tokens, type_tail_tokens, types_tokens, parameter_tokens, parameter_tail_tokens, parameters_tokens, declaration_tokens, else_tail_tokens, call_tail_tokens, wait_tail_tokens, side_tokens, branches_tokens, statement_tokens, statements_tokens, choice_tokens, body_tokens, program_tokens, program_of, Reads}
 use Rattle.flow_syntax.specs.Machine.{Symbol, takes}
 use Rattle.flow_syntax.specs.Machine as m
@@ -121,6 +121,7 @@ statement_starts (parallel at brace first ss more) x h = cc
 statement_starts (return_ at e end) x h = cc
 statement_starts (fail at e end) x h = cc
 statement_starts (continue_ at as_at new_at paren es end) x h = cc
+statement_starts (deprecate at id_at id is end) x h = cc
 
 statements_start : (ss : StatementsReading) (x : List Lexeme) → Past m.statements (statements_tokens ss ++ x) → ⊥
 statements_start (no_statement to) x h = cc
@@ -132,6 +133,7 @@ statements_start (statement (parallel at brace first ss others) more) x h = cc
 statements_start (statement (return_ at e end) more) x h = cc
 statements_start (statement (fail at e end) more) x h = cc
 statements_start (statement (continue_ at as_at new_at paren es end) more) x h = cc
+statements_start (statement (deprecate at id_at id is end) more) x h = cc
 statements_start (if_ at e brace ss more) x h = cc
 statements_start (patch at id_at id is brace ss more) x h = cc
 
@@ -143,6 +145,11 @@ same_patch : (at id_at brace : ℕ) (a b : Bytes) (h : IsTrue (is_patch_id a)) (
 same_patch at id_at brace a b h k ss more e =
     let P : Bytes → Type 0 = λ v. (g : IsTrue (is_patch_id v)) → patch at id_at a h brace ss more ≡ patch at id_at v g brace ss more in
     subst P e (λ g. ap (λ q. patch at id_at a q brace ss more) (Bool-set (is_patch_id a) true h g)) k
+
+same_deprecate : (at id_at end : ℕ) (a b : Bytes) (h : IsTrue (is_patch_id a)) (k : IsTrue (is_patch_id b)) → a ≡ b → deprecate at id_at a h end ≡ deprecate at id_at b k end
+same_deprecate at id_at end a b h k e =
+    let P : Bytes → Type 0 = λ v. (g : IsTrue (is_patch_id v)) → deprecate at id_at a h end ≡ deprecate at id_at v g end in
+    subst P e (λ g. ap (λ q. deprecate at id_at a q end) (Bool-set (is_patch_id a) true h g)) k
 
 mutual
   pub same_parens : (p q : ParensReading) (x y : List Lexeme) → parens_tokens p ++ x ≡ parens_tokens q ++ y → (p ≡ q) × (x ≡ y)
@@ -472,6 +479,17 @@ mutual
       let i = same_arguments es es' (marked c mark.Semicolon ∷ x) (marked c' mark.Semicolon ∷ y) (regrouped (arguments_tokens es) (marked c mark.Semicolon ∷ []) x (arguments_tokens es') (marked c' mark.Semicolon ∷ []) y (tail_of (tail_of (tail_of (tail_of h))))) in
       let hc = at_of i.1 in
       (cc, tail_of i.1)
+  same_statement (deprecate a b id is c) (deprecate a' b' id' is' c') x y h =
+      let ha = at_of h in
+      let hb = at_of (tail_of h) in
+      let hn = word_of (tail_of h) in
+      let hid : id ≡ id' = cc in
+      let hc = at_of (tail_of (tail_of h)) in
+      let k = same_deprecate a b c id id' is is' hid in
+      (cc, tail_of (tail_of (tail_of h)))
+  -- both begin with a name
+  same_statement (deprecate a b id is c) (assign a' n' c' s') x y h = let hk = word_of (tail_of h) in absurd (cc)
+  same_statement (assign a n c s) (deprecate a' b' id' is' c') x y h = let hk = word_of (tail_of h) in absurd (cc)
   same_statement _ _ x y h = let hk = word_of h in absurd (cc)
 
   same_statements : (p q : StatementsReading) (x y : List Lexeme) → statements_tokens p ++ x ≡ statements_tokens q ++ y → (p ≡ q) × (x ≡ y)

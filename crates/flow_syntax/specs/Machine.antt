@@ -1,12 +1,13 @@
 -- A machine that reads tokens by a stack of what is still owed. It stands in no public clause: the parser's
 -- private functions are stated by it, and proofs/ shows that it stops where the grammar does.
-use Rattle.std.specs.Prelude.{ℕ, suc, nat_eq, Bool, true, false, cond, List, [], ◌∷◌, ◌++◌, length, Option, Some, None}
+use Rattle.std.specs.Prelude.{ℕ, suc, nat_eq, bytes_eq, ◌&&◌, Bool, true, false, cond, List, [], ◌∷◌, ◌++◌, length, Option, Some, None}
 use Rattle.flow_base.specs.declared.token.Word.{Word}
 use Rattle.flow_base.specs.declared.token.Word.TheVariants as word
 use Rattle.flow_base.specs.declared.token.Mark.{Mark}
 use Rattle.flow_base.specs.declared.token.Mark.TheVariants as mark
+use Rattle.flow_base.specs.Syntax.{Bytes}
 use Rattle.flow_model.specs.Lexeme.{Lexeme}
-use Rattle.flow_model.specs.Grammar.{is_patch_id}
+use Rattle.flow_model.specs.Grammar.{is_patch_id, deprecate_name}
 
 -- What may be owed. The tails of expressions may also be nothing.
 pub data Symbol : Type 0 where
@@ -42,6 +43,8 @@ pub data Symbol : Type 0 where
   side : Symbol
   more_branches : Symbol
   statement : Symbol
+  -- behind the name that a statement begins with
+  after_name : Bytes → Symbol
   patch_id : Symbol
   statements : Symbol
   after_choice : Symbol
@@ -188,8 +191,13 @@ statement_takes (word.Mark mark.Parallel) = Some (sign mark.BraceOpen ∷ sign m
 statement_takes (word.Mark mark.Return) = Some (expr ∷ sign mark.Semicolon ∷ [])
 statement_takes (word.Mark mark.Fail) = Some (expr ∷ sign mark.Semicolon ∷ [])
 statement_takes (word.Mark mark.Continue) = Some (sign mark.As ∷ sign mark.New ∷ sign mark.Open ∷ arguments ∷ sign mark.Semicolon ∷ [])
-statement_takes (word.Name x) = Some (sign mark.Assign ∷ side ∷ [])
+statement_takes (word.Name x) = Some (after_name x ∷ [])
 statement_takes _ = None
+
+abbrev pub after_name_takes : Bytes → Word → Option (List Symbol)
+after_name_takes x (word.Mark mark.Assign) = Some (side ∷ [])
+after_name_takes x (word.Text t) = cond (bytes_eq x deprecate_name && is_patch_id t) (Some (sign mark.Semicolon ∷ [])) None
+after_name_takes x _ = None
 
 abbrev pub statements_takes : Word → Option (List Symbol)
 statements_takes (word.Mark mark.BraceClose) = Some []
@@ -258,6 +266,7 @@ takes side k = side_takes k
 takes more_branches (word.Mark mark.BraceClose) = Some []
 takes more_branches (word.Mark mark.BraceOpen) = Some (statements ∷ more_branches ∷ [])
 takes statement k = statement_takes k
+takes (after_name x) k = after_name_takes x k
 takes patch_id (word.Text t) = cond (is_patch_id t) (Some []) None
 takes statements k = statements_takes k
 takes after_choice k = after_choice_takes k

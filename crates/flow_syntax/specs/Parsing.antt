@@ -1,5 +1,5 @@
 -- What the parser's private functions say.
-use Rattle.std.specs.Prelude.{◌≡◌, ℕ, ℤ, List, [], ◌∷◌, ◌++◌, IsTrue, Some, None}
+use Rattle.std.specs.Prelude.{◌≡◌, ℕ, ℤ, bytes_eq, ◌&&◌, Bool, true, false, List, [], ◌∷◌, ◌++◌, IsTrue, Some, None}
 use Rattle.flow_base.specs.declared.token.Word.{Word}
 use Rattle.flow_base.specs.declared.token.Word.TheVariants as word
 use Rattle.flow_base.specs.declared.token.Mark.{Mark}
@@ -12,7 +12,7 @@ use Rattle.flow_base.specs.Syntax.{Bytes}
 use Rattle.flow_syntax.specs.declared.fault.Stop.{Stop}
 use Rattle.flow_syntax.specs.declared.fault.Stop.TheVariants.{NoMemory, Unexpected}
 use Rattle.flow_model.specs.Lexeme.{Lexeme}
-use Rattle.flow_model.specs.Grammar.{marked, named, numbered, worded, whole, is_patch_id, declaration_tokens, declaration_of, TermSign, SumSign, CompareSign, term_mark, term_operator, sum_mark, sum_operator, compare_mark, compare_operator, ParametersReading, parameters_of, parameters_end, else_tail_tokens, otherwise_of, CallTail, call_tail_tokens, retry_of, failing_of, side_tokens, side_of, StatementsReading, statements_tokens, statements_of, statements_end, AfterChoice, choice_tokens, second_of, second_end, behind_choice, choice_end, BranchesReading, branches_of, branches_end, BodyReading, declarations_of, body_statements}
+use Rattle.flow_model.specs.Grammar.{marked, named, numbered, worded, whole, is_patch_id, deprecate_name, declaration_tokens, declaration_of, TermSign, SumSign, CompareSign, term_mark, term_operator, sum_mark, sum_operator, compare_mark, compare_operator, ParametersReading, parameters_of, parameters_end, else_tail_tokens, otherwise_of, CallTail, call_tail_tokens, retry_of, failing_of, side_tokens, side_of, StatementsReading, statements_tokens, statements_of, statements_end, AfterChoice, choice_tokens, second_of, second_end, behind_choice, choice_end, BranchesReading, branches_of, branches_end, BodyReading, declarations_of, body_statements}
 use Rattle.flow_syntax.specs.Machine as m
 use Rattle.flow_syntax.specs.Machine.{Symbol, takes, fault}
 
@@ -119,6 +119,33 @@ IsCalled at x ts name_at a es z rest = SoFar side_tokens else_tail_tokens (side_
 -- the name that a statement begins with, and the sign behind it
 abbrev pub IsTarget : List Lexeme → ℕ → Bytes → List Lexeme → Type 0
 IsTarget ts at x rest = (eq : ℕ) × (ts ≡ named at x ∷ marked eq mark.Assign ∷ rest)
+
+-- the name that a `deprecate` begins with
+abbrev pub is_deprecate : Word → Bool
+is_deprecate (word.Name x) = bytes_eq x deprecate_name
+is_deprecate _ = false
+
+abbrev pub is_text : Word → Bool
+is_text (word.Text t) = true
+is_text _ = false
+
+-- that name, and a text behind it
+abbrev pub begins_deprecate : List Lexeme → Bool
+begins_deprecate (t ∷ (u ∷ ts)) = is_deprecate t.word && is_text u.word
+begins_deprecate _ = false
+
+abbrev pub IsText : Word → Type 0
+IsText (word.Text t) = Unit {0}
+IsText _ = ⊥
+
+-- the tokens begin with a text, if there are any
+abbrev pub BeginsText : List Lexeme → Type 0
+BeginsText [] = Unit {0}
+BeginsText (t ∷ ts) = IsText t.word
+
+-- the place of the name that a `deprecate` begins with, and what follows it
+abbrev pub IsDeprecate : List Lexeme → ℕ → List Lexeme → Type 0
+IsDeprecate ts at rest = BeginsText rest × (ts ≡ named at deprecate_name ∷ rest)
 
 -- One or two lists in braces, which stand for these two, among statements: what ends the rest ends the whole.
 abbrev pub IsChoice : List Lexeme → tree.Block × ℕ → tree.Block × ℕ → List Lexeme → Type 0

@@ -20,7 +20,7 @@ use Rattle.flow_base.specs.Syntax.{Bytes, Expression, Statement, Block, End, Nex
 use Rattle.flow_base.specs.declared.syntax.Retry.{Retry}
 use Rattle.flow_base.specs.Bare.{bare}
 use Rattle.flow_model.specs.Lexeme.{Lexeme, lexemes}
-use Rattle.flow_model.specs.Grammar.{is_patch_id, Reads}
+use Rattle.flow_model.specs.Grammar.{is_patch_id, deprecate_name, Reads}
 use Rattle.flow_model.specs.Meaning.{IsProgramOf}
 use Rattle.flow_model.specs.Tokens.{spelled, is_letters, TokensOf}
 use Rattle.flow_base.specs.declared.token.Token.{Token}
@@ -183,6 +183,7 @@ abbrev mutual
   statement_words (tree.While at e b b_end) = Mark mark.While ∷ (expression_words e ++ in_braces (block_words b))
   statement_words (tree.Parallel at bs _) = Mark mark.Parallel ∷ in_braces (branches_words bs)
   statement_words (tree.Patch at id_at id a a_end b b_end) = Mark mark.Patch ∷ Text id ∷ (in_braces (block_words a) ++ else_words b)
+  statement_words (tree.Deprecate at id_at id) = Name deprecate_name ∷ Text id ∷ end
   statement_words (tree.Return at e) = Mark mark.Return ∷ (expression_words e ++ end)
   statement_words (tree.FailWith at e) = Mark mark.Fail ∷ (expression_words e ++ end)
   statement_words (tree.Continue at es) = Mark mark.Continue ∷ Mark mark.As ∷ Mark mark.New ∷ (arguments_words es ++ end)
@@ -261,8 +262,8 @@ abbrev pub HasBranch : Branches → Type 0
 HasBranch NoBranch = ⊥
 HasBranch (Branch at b b_end bs) = Unit {0}
 
--- What the grammar asks of lists of statements, and words alone don't tell: each `parallel` has a branch, each patch an id of
--- 1 to 64 bytes.
+-- What the grammar asks of lists of statements, and words alone don't tell: each `parallel` has a branch, each patch and
+-- `deprecate` an id of 1 to 64 bytes.
 abbrev mutual
   pub IsReadable : Statement → Type 0
   IsReadable (tree.Let at name_at x e) = Unit {0}
@@ -275,6 +276,7 @@ abbrev mutual
   IsReadable (tree.While at e b b_end) = AreReadable b
   IsReadable (tree.Parallel at bs _) = HasBranch bs × AreReadableBranches bs
   IsReadable (tree.Patch at id_at id a a_end b b_end) = IsTrue (is_patch_id id) × (AreReadable a × AreReadable b)
+  IsReadable (tree.Deprecate at id_at id) = IsTrue (is_patch_id id)
   IsReadable (tree.Return at e) = Unit {0}
   IsReadable (tree.FailWith at e) = Unit {0}
   IsReadable (tree.Continue at es) = Unit {0}

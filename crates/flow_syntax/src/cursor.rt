@@ -1,9 +1,9 @@
 //! Steps over tokens.
-ghost use Rattle.std.specs.Prelude.{◌≡◌, [], ◌∷◌, ◌<◌, length, IsTrue, false, IfOk, IfErr, IfSome, MatchOption};
+ghost use Rattle.std.specs.Prelude.{◌≡◌, ◌&&◌, [], ◌∷◌, ◌<◌, length, IsTrue, false, IfOk, IfErr, IfSome, MatchOption};
 ghost use Rattle.flow_model.specs.Lexeme.{lexeme, lexemes};
 ghost use Rattle.flow_model.specs.Grammar.{marked, named, type_tokens, type_of, whole, is_patch_id};
 ghost use Rattle.flow_syntax.specs.Machine as m;
-ghost use Rattle.flow_syntax.specs.Parsing.{Parsed, StopsAt, Lacks, LacksMark, IsNumber, IsPatchId};
+ghost use Rattle.flow_syntax.specs.Parsing.{Parsed, StopsAt, Lacks, LacksMark, IsNumber, IsPatchId, IsDeprecate, begins_deprecate, is_deprecate, is_text};
 
 use crate::fault::Stop;
 use flow_base::syntax::TypeAt;
@@ -135,6 +135,47 @@ pub fn patch_id(alloc: Global, tokens: &[Token]) -> Result<(usize, Key, &[Token]
             Ok((first.from, id, rest))
         }
         _ => Err(Stop::Unexpected(tokens.len())),
+    }
+}
+
+/// Whether it is the name that a `deprecate` begins with.
+fn is_deprecate(word: &Word) -> bool
+    ensures { result ≡ is_deprecate word.now }
+{
+    match word {
+        Word::Name(name) => name.as_str() == "deprecate",
+        _ => false,
+    }
+}
+
+fn is_text(word: &Word) -> bool
+    ensures { result ≡ is_text word.now }
+{
+    match word {
+        Word::Text(_) => true,
+        _ => false,
+    }
+}
+
+/// Whether they are that name and a text.
+fn is_deprecated(name: &Word, id: &Word) -> bool
+    ensures { result ≡ is_deprecate name.now && is_text id.now }
+{
+    is_deprecate(name) && is_text(id)
+}
+
+/// The place of the name that a `deprecate` begins with, and what follows it, if a text does. Any other statement may begin
+/// with that name, so it is no keyword.
+pub fn deprecate(tokens: &[Token]) -> Option<(usize, &[Token])>
+    ensures found { MatchOption result (begins_deprecate (lexemes tokens.now) ≡ false) (λ x. IsDeprecate (lexemes tokens.now) x.0 (lexemes x.1.now)) }
+    ensures shorter { IfSome result (λ x. length x.1.now < length tokens.now) }
+{
+    let (first, rest) = next(tokens)?;
+    let (second, _) = next(rest)?;
+    if is_deprecated(&first.word, &second.word) {
+        Some((first.from, rest))
+    } else {
+        None
     }
 }
 

@@ -4,6 +4,7 @@
 mod cursor;
 mod expression;
 pub mod fault;
+pub mod laws;
 mod levels;
 pub mod limits;
 mod listed;

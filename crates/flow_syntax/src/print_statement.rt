@@ -3,7 +3,7 @@
 ghost use Rattle.std.specs.Prelude.{◌≡◌, ◌==◌, ◌&&◌, [], ◌∷◌, ◌++◌, map, OnOk};
 ghost use Rattle.flow_base.specs.declared.token.Word.TheVariants as word;
 ghost use Rattle.flow_base.specs.declared.token.Mark.TheVariants as mark;
-ghost use Rattle.flow_base.specs.Syntax.{Let, Assign, Call, WaitSignal, WaitSignalFor, While, Continue};
+ghost use Rattle.flow_base.specs.Syntax.{Let, Assign, Call, WaitSignal, WaitSignalFor, While, Continue, Deprecate};
 ghost use Rattle.flow_base.specs.Shown.{shown_expr, shown_stmt, shown_braced, shown_branch, shown_otherwise, branches_of, shown_block};
 ghost use Rattle.flow_syntax.specs.Print.{spaced, expression_words, end, in_braces, retry_words, statement_words, block_words, is_end, else_words, otherwise_words, branches_words};
 
@@ -108,6 +108,15 @@ fn patch_head(out: &mut Printer, id: &Key) -> Result<(), AllocError>
 {
     out.mark(Mark::Patch)?;
     out.quoted(id.as_str())?;
+    Ok(())
+}
+
+fn deprecate(out: &mut Printer, id: &Key) -> Result<(), AllocError>
+    ensures { OnOk result (out.new ≡ out.old ++ spaced (statement_words (Deprecate 0 0 id.now))) }
+{
+    out.deprecate()?;
+    out.quoted(id.as_str())?;
+    out.mark(Mark::Semicolon)?;
     Ok(())
 }
 
@@ -267,6 +276,7 @@ fn statement(out: &mut Printer, stmt: &Stmt) -> Result<(), AllocError>
             second(out, other)?;
             Ok(())
         }
+        Stmt::Deprecate(_, _, id) => deprecate(out, id),
         Stmt::Return(_, value) => keyword_statement(out, Mark::Return, value),
         Stmt::FailWith(_, value) => keyword_statement(out, Mark::Fail, value),
         Stmt::Continue(_, list) => continue_as_new(out, list),

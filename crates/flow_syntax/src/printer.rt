@@ -3,6 +3,7 @@ ghost use Rattle.std.specs.Prelude.{◌≡◌, pos, [], ◌∷◌, ◌++◌, OnO
 ghost use Rattle.std.specs.Char.{encode_utf8};
 ghost use Rattle.std.specs.Fmt.{decimal, signed_decimal};
 ghost use Rattle.flow_base.specs.declared.token.Word.TheVariants as word;
+ghost use Rattle.flow_model.specs.Grammar.{deprecate_name};
 ghost use Rattle.flow_syntax.specs.Print.{all_written, spaced, kind_mark};
 
 use flow_base::text::Key;
@@ -82,6 +83,14 @@ impl Printer {
         ensures { OnOk result (self.new ≡ self.old ++ spaced (word.Name name.now ∷ [])) }
     {
         self.token(name.as_str())
+    }
+
+    /// The name that a `deprecate` begins with, behind a space.
+    #[tactic(auto, unfolding(crate::specs::Print::spaced))]
+    pub fn deprecate(&mut self) -> Result<(), AllocError>
+        ensures { OnOk result (self.new ≡ self.old ++ spaced (word.Name deprecate_name ∷ [])) }
+    {
+        self.token("deprecate")
     }
 
     /// A number in decimal form, behind a space.

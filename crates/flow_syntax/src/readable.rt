@@ -1,5 +1,5 @@
-//! What the types of a program give that its words alone don't: each `parallel` has a branch, each patch an id that a
-//! text may have. Laws, which read and change nothing.
+//! What the types of a program give that its words alone don't: each `parallel` has a branch, each patch and each
+//! `deprecate` an id that a text may have. Laws, which read and change nothing.
 ghost use Rattle.std.specs.Prelude.{map, IsTrue};
 ghost use Rattle.flow_base.specs.Shown.{shown_stmt, shown_braced, shown_branch, shown_otherwise, shown_block, branches_of};
 ghost use Rattle.flow_model.specs.Grammar.{is_patch_id};
@@ -37,6 +37,7 @@ fn statement(stmt: &Stmt)
             block(first);
             block(second);
         }
+        Stmt::Deprecate(_, _, id) => patch_id(id),
     }
 }
 

@@ -1,13 +1,13 @@
 //! Statements, each kind by a function behind its first token.
-ghost use Rattle.std.specs.Prelude.{◌≡◌, ℕ, [], ◌∷◌, ◌<◌, ◌≤◌, length, map, IfOk, IfErr};
+ghost use Rattle.std.specs.Prelude.{◌≡◌, ℕ, false, [], ◌∷◌, ◌<◌, ◌≤◌, length, map, IfOk, IfErr};
 ghost use Rattle.flow_base.specs.Shown.{shown_expr, shown_stmt, shown_block, shown_braced, shown_branch, branches_of, shown_otherwise};
 ghost use Rattle.flow_base.specs.Syntax as tree;
 ghost use Rattle.flow_model.specs.Lexeme.{lexemes};
-ghost use Rattle.flow_model.specs.Grammar.{marked, else_tail_tokens, otherwise_of, wait_tail_tokens, wait_of, side_tokens, side_of, branches_tokens, statement_tokens, statement_of, statements_tokens};
+ghost use Rattle.flow_model.specs.Grammar.{marked, named, deprecate_name, else_tail_tokens, otherwise_of, wait_tail_tokens, wait_of, side_tokens, side_of, branches_tokens, statement_tokens, statement_of, statements_tokens};
 ghost use Rattle.flow_syntax.specs.Machine as m;
-ghost use Rattle.flow_syntax.specs.Parsing.{Parsed, StopsAt, StopsOwing, Lacks, LacksMark, IsTried, IsCalled, IsTarget, IsBlock, IsChoice, IsMember, in_braces, end_of, shut_of};
+ghost use Rattle.flow_syntax.specs.Parsing.{Parsed, StopsAt, StopsOwing, Lacks, LacksMark, BeginsText, begins_deprecate, IsTried, IsCalled, IsTarget, IsBlock, IsChoice, IsMember, in_braces, end_of, shut_of};
 
-use crate::cursor::{eat, expect, mark, name, number, patch_id};
+use crate::cursor::{deprecate, eat, expect, mark, name, number, patch_id};
 use crate::expression::{arguments, expr};
 use crate::fault::Stop;
 use flow_base::syntax::{Block, Branch, Expr, Retry, Stmt};
@@ -76,6 +76,18 @@ fn continue_statement(alloc: Global, at: usize, tokens: &[Token]) -> Result<(Stm
     Ok((Stmt::Continue(at, list), end))
 }
 
+/// A `deprecate`, behind the name that it begins with, which stands at this place.
+fn deprecate_statement(alloc: Global, at: usize, tokens: &[Token]) -> Result<(Stmt, &[Token]), Stop>
+    requires { BeginsText (lexemes tokens.now) }
+    ensures ok { IfOk result (λ x. Parsed m.statement statement_tokens statement_of (named at deprecate_name ∷ lexemes tokens.now) (shown_stmt x.0) (lexemes x.1.now)) }
+    ensures shorter { IfOk result (λ x. length x.1.now < length tokens.now) }
+    ensures err { IfErr result (λ e. StopsAt m.statement (named at deprecate_name ∷ lexemes tokens.now) e) }
+{
+    let (id_at, id, after_id) = patch_id(alloc, tokens)?;
+    let (_, end) = expect(after_id, Mark::Semicolon)?;
+    Ok((Stmt::Deprecate(at, id_at, id), end))
+}
+
 /// A `retry`, behind its keyword.
 fn retry(tokens: &[Token]) -> Result<(Retry, &[Token]), Stop>
     ensures ok { IfOk result (λ x. (at : ℕ) → IsTried (marked at Mark.Retry ∷ lexemes tokens.now) x.0 (lexemes x.1.now)) }
@@ -120,9 +132,10 @@ fn called(alloc: Global, tokens: &[Token]) -> Result<(usize, Key, Vec<Expr>, Ret
     Ok((activity_at, activity, list, retry, end))
 }
 
-/// The name that a statement begins with where no mark stands, with its place, and what follows its `=`.
+/// The name that a statement begins with where no mark stands and no `deprecate`, with its place, and what follows its `=`.
 fn target(alloc: Global, tokens: &[Token]) -> Result<(usize, Key, &[Token]), Stop>
-    requires { LacksMark (lexemes tokens.now) }
+    requires mark { LacksMark (lexemes tokens.now) }
+    requires other { begins_deprecate (lexemes tokens.now) ≡ false }
     ensures ok { IfOk result (λ x. IsTarget (lexemes tokens.now) x.0 x.1 (lexemes x.2.now)) }
     ensures shorter { IfOk result (λ x. length x.2.now < length tokens.now) }
     ensures err { IfErr result (λ e. StopsAt m.statement (lexemes tokens.now) e) }
@@ -333,6 +346,9 @@ fn statement(alloc: Global, tokens: &[Token]) -> Result<(Stmt, &[Token]), Stop>
     ensures err { IfErr result (λ e. StopsAt m.statement (lexemes tokens.now) e) }
 {
     let Some((at, keyword, rest)) = mark(tokens) else {
+        if let Some((deprecate_at, after_name)) = deprecate(tokens) {
+            return deprecate_statement(alloc, deprecate_at, after_name);
+        }
         let (name_at, into, right) = target(alloc, tokens)?;
         return right_side(alloc, name_at, into, right);
     };

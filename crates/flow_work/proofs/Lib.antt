@@ -1,3 +1,6 @@
+mod Counting
 mod Firing
 mod Hearing
+mod Printing
+mod Served
 mod Telling

@@ -4,7 +4,8 @@ use Rattle.flow_cli.specs.declared.reply.Line.{Line}
 use Rattle.flow_hub.specs.Knowing.{IsBefore}
 use Rattle.flow_hub.specs.Submitting.{Member}
 use Rattle.flow_hub.proofs.Growing.{before_self, before_trans}
-use Rattle.flow_work.specs.Telling.{IsAnswer, AnswersFirst, PrintsAnswer, Printed, Tells, TellsAll, HasTold}
+use Rattle.flow_work.specs.Printing.{Printed}
+use Rattle.flow_work.specs.Telling.{IsAnswer, AnswersFirst, PrintsAnswer, Tells, TellsAll, HasTold}
 use Rattle.flow_work.specs.declared.queue.Pending.{Pending}
 
 tells_later : (k m : Member) → k.id ≡ m.id → IsBefore k.was m.was → (ps : List Pending) (old new : Printed) → TellsAll k ps old new → TellsAll m ps old new

@@ -1,4 +1,5 @@
 pub mod Configured
+pub mod Counting
 pub mod Endings
 pub mod Firing
 pub mod Hearing
@@ -6,5 +7,6 @@ pub mod Inputs
 pub mod Moments
 pub mod Printing
 pub mod Reading
+pub mod Serving
 pub mod Showing
 pub mod Telling

@@ -1,10 +1,10 @@
 -- What is told of the lines that wait.
-use Rattle.std.specs.Prelude.{◌≡◌, ℕ, List, [], ◌∷◌, ◌++◌, Bool, true, Option, Some, None, is_some}
+use Rattle.std.specs.Prelude.{◌≡◌, List, [], ◌∷◌, ◌++◌, Bool, true, Option, Some, None, is_some}
 use Rattle.flow_cli.specs.declared.reply.Line.{Line}
 use Rattle.flow_hub.specs.Knowing.{IsBefore}
 use Rattle.flow_hub.specs.Submitting.{Member}
 use Rattle.flow_work.specs.Endings.{IsToldOf}
-use Rattle.flow_work.specs.Printing.{Prints, status_with}
+use Rattle.flow_work.specs.Printing.{Printed, PrintsLine}
 use Rattle.flow_work.specs.declared.queue.Pending.{Pending}
 use Rattle.flow_work.specs.declared.queue.Pending.TheVariants as pending
 
@@ -18,16 +18,6 @@ IsAnswer m (pending.Known known) told = told ≡ Some known
 abbrev pub AnswersFirst : Member → (was now : List Pending) → Option Line → Bool → Type 0
 AnswersFirst m [] now told goes_on = (now ≡ []) × (told ≡ None) × (goes_on ≡ true)
 AnswersFirst m (p ∷ ps) now told goes_on = (now ≡ ps) × IsAnswer m p told × (goes_on ≡ is_some told)
-
--- What was printed so far: whether a write has failed, the status, and what the writer holds, where that is known.
-pub record Printed : Type 0 where
-  pub is_mute : Bool
-  pub status : ℕ
-  pub bytes : Option (List ℕ)
-
--- a line is printed, and counts for the status
-abbrev pub PrintsLine : Line → Printed → Printed → Type 0
-PrintsLine line old new = Prints line old.is_mute new.is_mute old.bytes new.bytes × (new.status ≡ status_with old.status line new.is_mute)
 
 -- the answer is printed, if there is one
 abbrev pub PrintsAnswer : Option Line → Printed → Printed → Type 0

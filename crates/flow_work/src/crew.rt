@@ -2,12 +2,13 @@
 ghost use Rattle.std.specs.Prelude.{◌≡◌, IfErr};
 
 use crate::desk::Desk;
-use crate::input::{Input, read_lines};
+use crate::input::{Input, read_and_ring, read_lines};
+use crate::page::Page;
 use crate::progress::Progress;
 use crate::reports::Reporter;
-use crate::status::Status;
 use crate::tasks::Tasks;
 use crate::timer::fire_timers;
+use crate::unknown::Stranger;
 use crossbeam_channel::{Receiver, Sender};
 use crossbeam_utils::sync::WaitGroup;
 use flow_base::fault::Fault;
@@ -25,16 +26,17 @@ use std::thread::{JoinHandle, Threads};
 use std::{thread, time};
 
 /// Makes attempts until no task comes any more, or nothing is answered.
-fn run_worker<B: Room, R: Wait, A: Activity + Drop, C: Clock>(
+fn run_worker<B: Room, R: Wait, A: Activity + Drop, C: Clock, P: Write + Drop>(
     rt: &R,
     alloc: Global,
     activities: Vec<A>,
     receiver: TaskReceiver,
     reports: Reporter<B>,
+    unknown: Stranger<P>,
     clock: &C,
     group: WaitGroup,
 ) {
-    drop(worker(rt, alloc, activities, receiver, reports, clock));
+    drop(worker(rt, alloc, activities, receiver, reports, unknown, clock));
     drop(group);
 }
 
@@ -68,7 +70,7 @@ fn run_desk<B: Room, W: Write + Drop, R: Wait + time::Clock, C: Clock, P: Write 
     rt: &R,
     answerer: Answerer<B, W, P>,
     clock: &C,
-) -> (W, Status) {
+) -> Page<W> {
     let Answerer {
         mut desk,
         inputs,
@@ -78,16 +80,18 @@ fn run_desk<B: Room, W: Write + Drop, R: Wait + time::Clock, C: Clock, P: Write 
     desk.answer_lines(rt, clock, &inputs);
     desk.rest(rt, clock, progress);
     hub.close(rt);
-    desk.into_parts()
+    let (page, _submitter) = desk.into_parts();
+    page
 }
 
 /// Starts a thread that runs a worker. E01 where there is none.
-pub(crate) fn start_worker<B, R, A, C>(
+pub(crate) fn start_worker<B, R, A, C, P>(
     rt: &R,
     alloc: Global,
     activities: Vec<A>,
     receiver: TaskReceiver,
     reports: Reporter<B>,
+    unknown: Stranger<P>,
     clock: C,
     group: WaitGroup,
 ) -> Result<(), Fault>
@@ -96,12 +100,15 @@ where
     R: Threads + Wait + Copy + Send + Drop + 'static,
     A: Activity + Drop + Send + 'static,
     C: Clock + Copy + Send + Drop + 'static,
+    P: Write + Drop + Send + 'static,
     ensures { IfErr result (λ f. f ≡ Fault.NoMemory _) }
 {
     let its = *rt;
     match thread::spawn(
         rt,
-        move || run_worker(&its, alloc, activities, receiver, reports, &clock, group),
+        move || run_worker(
+            &its, alloc, activities, receiver, reports, unknown, &clock, group,
+        ),
     ) {
         Ok(_thread) => Ok(()),
         Err(refused) => Err(Fault::from(AllocError::from(refused))),
@@ -166,12 +173,33 @@ where
     }
 }
 
+/// Starts the thread that reads and rings. E01 where there is none. Nobody waits for it.
+pub(crate) fn start_ringing<B, R, I>(
+    rt: &R,
+    alloc: Global,
+    reader: I,
+    lines: Sender<Input>,
+    hub: Arc<Hub<B>, Global>,
+) -> Result<(), Fault>
+where
+    B: Room + Send + Sync + 'static,
+    R: Threads + Wait + Copy + Send + Drop + 'static,
+    I: BufRead + Drop + Send + 'static,
+    ensures { IfErr result (λ f. f ≡ Fault.NoMemory _) }
+{
+    let its = *rt;
+    match thread::spawn(rt, move || read_and_ring(&its, alloc, reader, lines, hub)) {
+        Ok(_thread) => Ok(()),
+        Err(refused) => Err(Fault::from(AllocError::from(refused))),
+    }
+}
+
 /// Starts the thread that answers lines. E01 where there is none.
 pub(crate) fn start_desk<B, R, W, C, P>(
     rt: &R,
     answerer: Answerer<B, W, P>,
     clock: C,
-) -> Result<JoinHandle<(W, Status)>, Fault>
+) -> Result<JoinHandle<Page<W>>, Fault>
 where
     B: Room + Send + Sync + 'static,
     R: Threads + Wait + time::Clock + Copy + Send + Drop + 'static,

@@ -2,14 +2,16 @@
 ghost use Rattle.std.specs.Prelude.{◌≡◌, ◌≤◌, ◌<◌, ◌++◌, ◌∷◌, [], Option, List, true, false, length, is_some, IfSome};
 ghost use Rattle.flow_cli.specs.declared.reply.Line.{Line as ALine};
 ghost use Rattle.flow_hub.specs.Knowing.{IsBefore};
+ghost use Rattle.flow_work.specs.Counting.{PrintsFed};
 ghost use Rattle.flow_work.specs.Endings.{IsToldOf, line_instead};
-ghost use Rattle.flow_work.specs.Printing.{Prints, status_with};
+ghost use Rattle.flow_work.specs.Printing.{blank};
 ghost use Rattle.flow_work.specs.Reading.{IsOf, IsPendingOf};
 ghost use Rattle.flow_work.specs.Telling.{AnswersFirst, HasTold, IsAnswer, PrintsAnswer};
 ghost use Rattle.flow_work.specs.declared.queue.Pending.{Pending as APending};
 
 use crate::input::Input;
 use crate::moments::command_at;
+use crate::page::Page;
 use crate::progress::Progress;
 use crate::queue::{MOST_PENDING, Pending, Queue};
 use crate::status::Status;
@@ -19,8 +21,8 @@ use flow_base::command::Command;
 use flow_base::memory::NoMemory;
 use flow_cli::command::{LineFault, command_of};
 use flow_cli::reply::Line;
-use flow_cli::streams::write_line;
 use flow_hub::denied::Denied;
+use flow_hub::fed::Fed;
 use flow_hub::rested::Rested;
 use flow_hub::seats::Room;
 use flow_hub::submitter::Submitter;
@@ -41,10 +43,7 @@ pub(crate) struct Desk<B: Room, W: Write> {
     alloc: Global,
     submitter: Submitter<B>,
     pending: Queue,
-    writer: W,
-    /// A write has failed: nothing more is printed.
-    is_mute: bool,
-    status: Status,
+    page: Page<W>,
 }
 
 /// What is printed of a command that has no receipt. None where nothing is answered any more.
@@ -95,71 +94,61 @@ impl<B: Room, W: Write + Drop> Desk<B, W> {
         pending: Queue,
         writer: W,
     ) -> Desk<B, W>
-        ensures { (result.submitter ≡ submitter) × (result.writer ≡ writer) × (result.pending ≡ pending) × (result.is_mute ≡ false) × (result.status ≡ 0) }
+        ensures parts { (result.submitter ≡ submitter) × (result.pending ≡ pending) }
+        ensures page { result.page ≡ blank (W.contents writer) }
     {
         Desk {
             alloc,
             submitter,
             pending,
-            writer,
-            is_mute: false,
-            status: Status::done(),
+            page: Page::new(alloc, writer),
         }
     }
 
-    /// The writer, and the greatest status of what was printed and of what failed.
-    pub(crate) fn into_parts(self) -> (W, Status)
-        ensures { (result.0 ≡ self.writer) × (result.1 ≡ self.status) }
+    /// What is printed, and who submitted.
+    pub(crate) fn into_parts(self) -> (Page<W>, Submitter<B>)
+        ensures { (result.0 ≡ self.page) × (result.1 ≡ self.submitter) }
     {
         let Desk {
             alloc: _,
-            submitter: _submitter,
+            submitter,
             pending: _pending,
-            writer,
-            is_mute: _,
-            status,
+            page,
         } = self;
-        (writer, status)
+        (page, submitter)
     }
 
     /// Something couldn't be read or written.
-    fn fail(&mut self)
-        ensures status { self.new.status ≡ 3 }
-        ensures pending { self.new.pending ≡ self.old.pending }
-        ensures mute { self.new.is_mute ≡ self.old.is_mute }
-        ensures writer { self.new.writer ≡ self.old.writer }
-    {
-        self.status = Status::failed();
-    }
-
-    /// Prints a line, unless a write has failed before.
-    fn print(&mut self, line: &Line)
-        ensures printed { Prints line.now self.old.is_mute self.new.is_mute (W.contents self.old.writer) (W.contents self.new.writer) }
-        ensures status { self.new.status ≡ status_with self.old.status line.now self.new.is_mute }
+    pub(crate) fn fail(&mut self)
+        ensures page { self.new.page ≡ record self.old.page { status = 3 } }
         ensures pending { self.new.pending ≡ self.old.pending }
         ensures submitter { self.new.submitter ≡ self.old.submitter }
     {
-        self.status = self.status.or(Status::of_line(line));
-        if self.is_mute {
-            self.status = Status::failed();
-            return;
-        }
-        if write_line(self.alloc, &mut self.writer, line).is_err() {
-            self.is_mute = true;
-            self.status = Status::failed();
+        self.page.fail();
+    }
+
+    /// Prints what was given out, if it is a task.
+    pub(crate) fn print_fed<R: Wait>(&mut self, rt: &R, fed: &Fed)
+        ensures printed { PrintsFed fed.now self.old.page self.new.page }
+        ensures pending { self.new.pending ≡ self.old.pending }
+        ensures submitter { self.new.submitter ≡ self.old.submitter }
+    {
+        match fed {
+            Fed::Task(task) => self.page.print_task(rt, task),
+            Fed::Nothing | Fed::Closed => {}
         }
     }
 
     /// Prints an answer. No where there is none.
-    fn print_answer(&mut self, answer: Option<Line>) -> bool
-        ensures printed { PrintsAnswer answer (record { is_mute = self.old.is_mute; status = self.old.status; bytes = W.contents self.old.writer }) (record { is_mute = self.new.is_mute; status = self.new.status; bytes = W.contents self.new.writer }) }
+    fn print_answer<R: Wait>(&mut self, rt: &R, answer: Option<Line>) -> bool
+        ensures printed { PrintsAnswer answer self.old.page self.new.page }
         ensures goes_on { result ≡ is_some answer }
         ensures pending { self.new.pending ≡ self.old.pending }
         ensures submitter { self.new.submitter ≡ self.old.submitter }
     {
         match answer {
             Some(line) => {
-                self.print(&line);
+                self.page.print_line(rt, &line);
                 true
             }
             None => false,
@@ -168,10 +157,10 @@ impl<B: Room, W: Write + Drop> Desk<B, W> {
 
     /// Waits for the answer of the oldest line and prints it. No where nothing is answered any more.
     #[tactic(auto, using(flow_hub::proofs::Growing::before_self))]
-    fn tell_oldest<R: Wait>(&mut self, rt: &R) -> bool
+    pub(crate) fn tell_oldest<R: Wait>(&mut self, rt: &R) -> bool
         ensures oldest { (told : Option ALine) × AnswersFirst self.new.submitter self.old.pending.lines.items self.new.pending.lines.items told result
-            × PrintsAnswer told (record { is_mute = self.old.is_mute; status = self.old.status; bytes = W.contents self.old.writer }) (record { is_mute = self.new.is_mute; status = self.new.status; bytes = W.contents self.new.writer }) }
-        ensures told { HasTold self.new.submitter result self.old.pending.lines.items self.new.pending.lines.items (record { is_mute = self.old.is_mute; status = self.old.status; bytes = W.contents self.old.writer }) (record { is_mute = self.new.is_mute; status = self.new.status; bytes = W.contents self.new.writer }) }
+            × PrintsAnswer told self.old.page self.new.page }
+        ensures told { HasTold self.new.submitter result self.old.pending.lines.items self.new.pending.lines.items self.old.page self.new.page }
         ensures grows { IsBefore self.old.submitter.was self.new.submitter.was }
         ensures same { self.new.submitter.id ≡ self.old.submitter.id }
         ensures fewer { length self.new.pending.lines.items ≤ length self.old.pending.lines.items }
@@ -180,14 +169,14 @@ impl<B: Room, W: Write + Drop> Desk<B, W> {
             return true;
         };
         let answer = answer_of(rt, &mut self.submitter, pending);
-        self.print_answer(answer)
+        self.print_answer(rt, answer)
     }
 
     /// Submits a command until it is taken in. None where nothing is answered any more.
     #[tactic(auto, using(crate::proofs::Telling::told_none, crate::proofs::Telling::told_then, crate::proofs::Telling::told_later, crate::proofs::Telling::told_ends, flow_hub::proofs::Growing::before_trans))]
     fn submit<R: Wait>(&mut self, rt: &R, command: Command) -> Option<Ticket>
         ensures ticket { IfSome result (λ t. IsOf self.new.submitter command t) }
-        ensures told { HasTold self.new.submitter (is_some result) self.old.pending.lines.items self.new.pending.lines.items (record { is_mute = self.old.is_mute; status = self.old.status; bytes = W.contents self.old.writer }) (record { is_mute = self.new.is_mute; status = self.new.status; bytes = W.contents self.new.writer }) }
+        ensures told { HasTold self.new.submitter (is_some result) self.old.pending.lines.items self.new.pending.lines.items self.old.page self.new.page }
         ensures grows { IsBefore self.old.submitter.was self.new.submitter.was }
         ensures same { self.new.submitter.id ≡ self.old.submitter.id }
         ensures fewer { length self.new.pending.lines.items ≤ length self.old.pending.lines.items }
@@ -210,7 +199,7 @@ impl<B: Room, W: Write + Drop> Desk<B, W> {
     /// What becomes of a line. None where nothing is answered any more.
     fn pending_of<R: Wait, C: Clock>(&mut self, rt: &R, clock: &C, line: Vec<u8>) -> Option<Pending>
         ensures pending { IfSome result (λ p. IsPendingOf (C.tells clock.now) self.new.submitter line.items p) }
-        ensures told { HasTold self.new.submitter (is_some result) self.old.pending.lines.items self.new.pending.lines.items (record { is_mute = self.old.is_mute; status = self.old.status; bytes = W.contents self.old.writer }) (record { is_mute = self.new.is_mute; status = self.new.status; bytes = W.contents self.new.writer }) }
+        ensures told { HasTold self.new.submitter (is_some result) self.old.pending.lines.items self.new.pending.lines.items self.old.page self.new.page }
         ensures grows { IsBefore self.old.submitter.was self.new.submitter.was }
         ensures same { self.new.submitter.id ≡ self.old.submitter.id }
         ensures fewer { length self.new.pending.lines.items ≤ length self.old.pending.lines.items }
@@ -228,11 +217,13 @@ impl<B: Room, W: Write + Drop> Desk<B, W> {
     }
 
     /// Takes in a line. No where nothing is answered any more.
-    fn take_line<R: Wait, C: Clock>(&mut self, rt: &R, clock: &C, line: Vec<u8>) -> bool
+    pub(crate) fn take_line<R: Wait, C: Clock>(&mut self, rt: &R, clock: &C, line: Vec<u8>) -> bool
         requires { length self.old.pending.lines.items < 64 }
         ensures taken { result ≡ true → (p : APending) × (rest : List APending) × IsPendingOf (C.tells clock.now) self.new.submitter line.items p × (self.new.pending.lines.items ≡ rest ++ p ∷ [])
-            × HasTold self.new.submitter true self.old.pending.lines.items rest (record { is_mute = self.old.is_mute; status = self.old.status; bytes = W.contents self.old.writer }) (record { is_mute = self.new.is_mute; status = self.new.status; bytes = W.contents self.new.writer }) }
-        ensures not_taken { result ≡ false → HasTold self.new.submitter false self.old.pending.lines.items self.new.pending.lines.items (record { is_mute = self.old.is_mute; status = self.old.status; bytes = W.contents self.old.writer }) (record { is_mute = self.new.is_mute; status = self.new.status; bytes = W.contents self.new.writer }) }
+            × HasTold self.new.submitter true self.old.pending.lines.items rest self.old.page self.new.page }
+        ensures not_taken { result ≡ false → HasTold self.new.submitter false self.old.pending.lines.items self.new.pending.lines.items self.old.page self.new.page }
+        ensures grows { IsBefore self.old.submitter.was self.new.submitter.was }
+        ensures same { self.new.submitter.id ≡ self.old.submitter.id }
     {
         match self.pending_of(rt, clock, line) {
             Some(pending) => {
@@ -257,9 +248,28 @@ impl<B: Room, W: Write + Drop> Desk<B, W> {
         inputs.try_recv(rt).ok()
     }
 
+    /// What is read next, if it is there and room is left for what waits for a reply.
+    pub(crate) fn ready_input<R: Wait>(&self, rt: &R, inputs: &Receiver<Input>) -> Option<Input>
+        ensures { IfSome result (λ _. length self.now.pending.lines.items < 64) }
+    {
+        if self.pending.len() >= MOST_PENDING {
+            return None;
+        }
+        inputs.try_recv(rt).ok()
+    }
+
+    /// Whether a line waits for its reply.
+    pub(crate) fn has_pending(&self) -> bool
+        ensures { result ≡ false → self.now.pending.lines.items ≡ [] }
+    {
+        self.pending.len() != 0
+    }
+
     /// Prints all replies that are to come.
-    fn tell_all<R: Wait>(&mut self, rt: &R)
-        ensures told { HasTold self.new.submitter false self.old.pending.lines.items self.new.pending.lines.items (record { is_mute = self.old.is_mute; status = self.old.status; bytes = W.contents self.old.writer }) (record { is_mute = self.new.is_mute; status = self.new.status; bytes = W.contents self.new.writer }) }
+    pub(crate) fn tell_all<R: Wait>(&mut self, rt: &R)
+        ensures told { HasTold self.new.submitter false self.old.pending.lines.items self.new.pending.lines.items self.old.page self.new.page }
+        ensures grows { IsBefore self.old.submitter.was self.new.submitter.was }
+        ensures same { self.new.submitter.id ≡ self.old.submitter.id }
     {
         'lines: for _ in rt.forever() {
             if self.pending.len() == 0 {

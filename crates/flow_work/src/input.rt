@@ -4,9 +4,11 @@ ghost use Rattle.flow_work.specs.Inputs.{IsNext, is_line};
 
 use crossbeam_channel::Sender;
 use flow_cli::streams::next_line;
+use flow_hub::hub::Hub;
+use flow_hub::seats::Room;
 use std::alloc::Global;
 use std::io::BufRead;
-use std::sync::Wait;
+use std::sync::{Arc, Wait};
 
 /// What comes of the input.
 #[derive(Debug, Drop)]
@@ -52,6 +54,29 @@ pub fn read_lines<R: Wait, I: BufRead + Drop>(
         let input = next_input(alloc, &mut reader);
         let is_last = !input.is_line();
         if sender.send(rt, input).is_err() || is_last {
+            return;
+        }
+    }
+    unreachable!()
+}
+
+/// Reads as `read_lines` does, and rings at a hub behind each line, so that one who sleeps there looks.
+pub fn read_and_ring<B: Room, R: Wait, I: BufRead + Drop>(
+    rt: &R,
+    alloc: Global,
+    reader: I,
+    sender: Sender<Input>,
+    hub: Arc<Hub<B>, Global>,
+) {
+    let mut reader = reader;
+    'lines: for _ in rt.forever() {
+        let input = next_input(alloc, &mut reader);
+        let is_last = !input.is_line();
+        if sender.send(rt, input).is_err() {
+            return;
+        }
+        hub.ring(rt);
+        if is_last {
             return;
         }
     }

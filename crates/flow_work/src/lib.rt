@@ -2,18 +2,24 @@
 #![tactic(auto)]
 
 pub mod clock;
+pub mod counter;
 pub mod crew;
 pub mod desk;
 pub mod ended;
 pub mod input;
 pub mod moments;
+pub mod page;
 pub mod progress;
 pub mod queue;
 pub mod reports;
 pub mod running;
+pub mod serving;
 pub mod settings;
+pub mod shown;
 pub mod skills;
 pub mod status;
 pub mod tally;
 pub mod tasks;
+pub mod teller;
 pub mod timer;
+pub mod unknown;

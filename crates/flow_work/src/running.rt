@@ -5,6 +5,7 @@ ghost use Rattle.flow_hub.specs.Seating.{IsRoomOf};
 ghost use Rattle.flow_hub.specs.Publishing.{Together};
 ghost use Rattle.flow_engine.specs.Answering.{Follows};
 ghost use Rattle.flow_work.specs.Endings.{EndsServing, HasServedAll};
+ghost use Rattle.flow_work.specs.Serving.{ServedBy};
 
 use crate::crew::{
     Answerer, start_desk, start_dispatcher, start_reader, start_timer, start_worker,
@@ -12,19 +13,21 @@ use crate::crew::{
 use crate::desk::Desk;
 use crate::ended::Ended;
 use crate::input::Input;
+use crate::page::Page;
 use crate::progress::Progress;
 use crate::queue::Queue;
 use crate::reports::Reporter;
 use crate::skills::Skills;
-use crate::status::Status;
 use crate::tally::Tally;
 use crate::tasks::Tasks;
+use crate::unknown::{Strangers, Unknown};
 use crossbeam_channel::{Receiver, Sender, bounded};
 use crossbeam_utils::sync::WaitGroup;
 use flow_base::fault::Fault;
 use flow_base::memory::NoMemory;
 use flow_engine::engine::Engine;
 use flow_hub::denied::Unseated;
+use flow_hub::feed::Feed;
 use flow_hub::hub::Hub;
 use flow_hub::publisher::Publisher;
 use flow_hub::seats::{Opened, Room};
@@ -64,6 +67,18 @@ fn open_channel(
     Ok((sender, receivers))
 }
 
+/// Who gives tasks out, of a hub that was just made.
+pub(crate) fn feed_of<B: Room, R: Wait>(rt: &R, hub: &Hub<B>) -> Result<Feed<B>, Fault>
+    ensures none { IfOk result (λ f. f ≡ nothing) }
+    ensures refused { IfErr result (λ f. f ≡ Fault.NoMemory _) }
+{
+    // Nobody has asked this hub for its feed before.
+    match hub.feed(rt)? {
+        Some(feed) => Ok(feed),
+        None => Err(Fault::NoMemory(NoMemory::told())),
+    }
+}
+
 /// Why nobody is seated at a hub. A hub that was just made has numbers left for its few submitters, so memory is what is wanting.
 fn unseated_fault(unseated: Unseated) -> Fault
     ensures { result ≡ Fault.NoMemory _ }
@@ -75,7 +90,7 @@ fn unseated_fault(unseated: Unseated) -> Fault
 }
 
 /// One who reports to a hub. E01 where there's no memory for it.
-fn reporter<B: Room, R: Wait>(
+pub(crate) fn reporter<B: Room, R: Wait>(
     rt: &R,
     hub: &Hub<B>,
     tally: Option<Tally>,
@@ -89,7 +104,7 @@ fn reporter<B: Room, R: Wait>(
 }
 
 /// Starts the thread of one worker.
-fn start_one<B, R, A, K, C>(
+fn start_one<B, R, A, K, C, P>(
     rt: &R,
     alloc: Global,
     hub: &Hub<B>,
@@ -97,6 +112,7 @@ fn start_one<B, R, A, K, C>(
     skills: &K,
     clock: C,
     tally: &Tally,
+    strangers: &Strangers<P>,
     group: &WaitGroup,
 ) -> Result<(), Fault>
 where
@@ -105,17 +121,22 @@ where
     A: Activity + Drop + Send + 'static,
     K: Skills<A>,
     C: Clock + Copy + Send + Drop + 'static,
+    P: Write + Drop + Send + 'static,
     ensures { IfErr result (λ f. f ≡ Fault.NoMemory _) }
 {
     let group = group.clone()?;
+    let own = tally.share()?;
+    let unknown = strangers.share(own)?;
     let tally = tally.share()?;
     let activities = skills.of_worker(alloc)?;
     let reports = reporter(rt, hub, Some(tally))?;
-    start_worker(rt, alloc, activities, receiver, reports, clock, group)
+    start_worker(
+        rt, alloc, activities, receiver, reports, unknown, clock, group,
+    )
 }
 
 /// Starts a thread for each worker.
-fn start_workers<B, R, A, K, C>(
+fn start_workers<B, R, A, K, C, P>(
     rt: &R,
     alloc: Global,
     hub: &Hub<B>,
@@ -123,6 +144,7 @@ fn start_workers<B, R, A, K, C>(
     skills: &K,
     clock: C,
     tally: &Tally,
+    strangers: &Strangers<P>,
     group: &WaitGroup,
 ) -> Result<(), Fault>
 where
@@ -131,16 +153,19 @@ where
     A: Activity + Drop + Send + 'static,
     K: Skills<A>,
     C: Clock + Copy + Send + Drop + 'static,
+    P: Write + Drop + Send + 'static,
     ensures { IfErr result (λ f. f ≡ Fault.NoMemory _) }
 {
     for receiver in receivers {
-        start_one(rt, alloc, hub, receiver, skills, clock, tally, group)?;
+        start_one(
+            rt, alloc, hub, receiver, skills, clock, tally, strangers, group,
+        )?;
     }
     Ok(())
 }
 
 /// Starts those who make attempts of the tasks that are posted, and who hands the tasks to them.
-fn start_pool<B, R, A, K, C>(
+fn start_pool<B, R, A, K, C, P>(
     rt: &R,
     alloc: Global,
     hub: &Hub<B>,
@@ -148,6 +173,7 @@ fn start_pool<B, R, A, K, C>(
     skills: &K,
     clock: C,
     tally: &Tally,
+    strangers: &Strangers<P>,
     group: &WaitGroup,
 ) -> Result<(), Fault>
 where
@@ -156,39 +182,41 @@ where
     A: Activity + Drop + Send + 'static,
     K: Skills<A>,
     C: Clock + Copy + Send + Drop + 'static,
+    P: Write + Drop + Send + 'static,
     ensures { IfErr result (λ f. f ≡ Fault.NoMemory _) }
 {
     let (sender, receivers) = open_channel(alloc, workers)?;
-    start_workers(rt, alloc, hub, receivers, skills, clock, tally, group)?;
+    start_workers(
+        rt, alloc, hub, receivers, skills, clock, tally, strangers, group,
+    )?;
     let group = group.clone()?;
     let tally = tally.share()?;
-    // Nobody has asked this hub for its feed before.
-    let Some(feed) = hub.feed(rt)? else {
-        return Err(Fault::NoMemory(NoMemory::told()));
-    };
+    let feed = feed_of(rt, hub)?;
     start_dispatcher(rt, Tasks::new(feed, tally), sender, group)
 }
 
 /// What those who read and answer lines have beside where the lines come from and where the replies go.
-struct Opening<B: Room> {
-    lines: Sender<Input>,
-    own_lines: Sender<Input>,
-    inputs: Receiver<Input>,
-    pending: Queue,
-    submitter: Submitter<B>,
-    hub: Arc<Hub<B>, Global>,
+pub(crate) struct Opening<B: Room> {
+    pub(crate) lines: Sender<Input>,
+    pub(crate) own_lines: Sender<Input>,
+    pub(crate) inputs: Receiver<Input>,
+    pub(crate) pending: Queue,
+    pub(crate) submitter: Submitter<B>,
+    pub(crate) hub: Arc<Hub<B>, Global>,
 }
 
-/// All that may be refused of it is asked for here, where nothing else is held.
-fn open_lines<B: Room, R: Wait>(
+/// All that may be refused of it is asked for here, where nothing else is held. So many lines may be read ahead.
+pub(crate) fn open_lines<B: Room, R: Wait>(
     rt: &R,
     alloc: Global,
     hub: &Arc<Hub<B>, Global>,
+    most: usize,
 ) -> Result<Opening<B>, Fault>
-    ensures { IfErr result (λ f. f ≡ Fault.NoMemory _) }
+    ensures none { IfOk result (λ o. o.pending.lines.items ≡ []) }
+    ensures refused { IfErr result (λ f. f ≡ Fault.NoMemory _) }
 {
     let pending = Queue::new(alloc)?;
-    let (lines, inputs) = bounded(alloc, MOST_LINES)?;
+    let (lines, inputs) = bounded(alloc, most)?;
     let own_lines = lines.clone()?;
     let own_hub = Arc::try_clone(hub)?;
     match hub.submitter(rt) {
@@ -213,7 +241,7 @@ fn start_lines<B, R, I, W, C, P>(
     writer: W,
     clock: C,
     progress: Option<Progress<P>>,
-) -> Result<(JoinHandle<(W, Status)>, Sender<Input>), Fault>
+) -> Result<(JoinHandle<Page<W>>, Sender<Input>), Fault>
 where
     B: Room + Send + Sync + 'static,
     R: Threads + Wait + time::Clock + Copy + Send + Drop + 'static,
@@ -243,13 +271,14 @@ where
 }
 
 /// Starts those who need no line, and counts the tasks that are with workers.
-fn start_others<B, R, A, K, C>(
+fn start_others<B, R, A, K, C, P>(
     rt: &R,
     alloc: Global,
     hub: &Hub<B>,
     workers: usize,
     skills: &K,
     clock: C,
+    strangers: &Strangers<P>,
     group: &WaitGroup,
 ) -> Result<Tally, Fault>
 where
@@ -258,10 +287,13 @@ where
     A: Activity + Drop + Send + 'static,
     K: Skills<A>,
     C: Clock + Copy + Send + Drop + 'static,
+    P: Write + Drop + Send + 'static,
     ensures { IfErr result (λ f. f ≡ Fault.NoMemory _) }
 {
     let tally = Tally::new(alloc)?;
-    start_pool(rt, alloc, hub, workers, skills, clock, &tally, group)?;
+    start_pool(
+        rt, alloc, hub, workers, skills, clock, &tally, strangers, group,
+    )?;
     let group = group.clone()?;
     let reports = reporter(rt, hub, None)?;
     start_timer(rt, reports, clock, group)?;
@@ -281,13 +313,14 @@ fn progress_on<P: Write + Drop>(
 }
 
 /// Starts those who need no line, and opens what those need who do.
-fn start_first<B, R, A, K, C>(
+fn start_first<B, R, A, K, C, P>(
     rt: &R,
     alloc: Global,
     hub: &Arc<Hub<B>, Global>,
     workers: usize,
     skills: &K,
     clock: C,
+    strangers: &Strangers<P>,
     group: &WaitGroup,
 ) -> Result<(Opening<B>, Tally), Fault>
 where
@@ -296,10 +329,11 @@ where
     A: Activity + Drop + Send + 'static,
     K: Skills<A>,
     C: Clock + Copy + Send + Drop + 'static,
+    P: Write + Drop + Send + 'static,
     ensures { IfErr result (λ f. f ≡ Fault.NoMemory _) }
 {
-    let tally = start_others(rt, alloc, hub, workers, skills, clock, group)?;
-    let opening = open_lines(rt, alloc, hub)?;
+    let tally = start_others(rt, alloc, hub, workers, skills, clock, strangers, group)?;
+    let opening = open_lines(rt, alloc, hub, MOST_LINES)?;
     Ok((opening, tally))
 }
 
@@ -311,11 +345,12 @@ fn start_all<B, R, I, W, A, K, C, P>(
     reader: I,
     writer: W,
     terminal: Option<P>,
+    unknown: Unknown<P>,
     workers: usize,
     skills: &K,
     clock: C,
     group: &WaitGroup,
-) -> Result<(JoinHandle<(W, Status)>, Sender<Input>), Fault>
+) -> Result<(JoinHandle<Page<W>>, Sender<Input>), Fault>
 where
     B: Room + Send + Sync + 'static,
     R: Threads + Wait + time::Clock + Copy + Send + Drop + 'static,
@@ -327,7 +362,8 @@ where
     P: Write + Drop + Send + 'static,
     ensures { IfErr result (λ f. f ≡ Fault.NoMemory _) }
 {
-    let (opening, tally) = start_first(rt, alloc, hub, workers, skills, clock, group)?;
+    let strangers = Strangers::new(alloc, unknown, terminal.is_some())?;
+    let (opening, tally) = start_first(rt, alloc, hub, workers, skills, clock, &strangers, group)?;
     let progress = progress_on(alloc, terminal, tally);
     start_lines(rt, alloc, opening, reader, writer, clock, progress)
 }
@@ -372,13 +408,15 @@ where
         reader,
         writer,
         None::<Vec<u8>>,
+        Unknown::Fail,
         settings,
         skills,
         clock,
     )
 }
 
-/// Runs an engine as `work` does. A terminal, where there is one, shows what is left once the last reply is printed.
+/// Runs an engine as `work` does. A terminal, where there is one, shows what is left once the last reply is printed. A task whose
+/// activity no worker has fails, or is left alone, as is said.
 pub fn work_shown<S, R, I, W, A, K, C, P>(
     rt: &R,
     alloc: Global,
@@ -386,6 +424,7 @@ pub fn work_shown<S, R, I, W, A, K, C, P>(
     reader: I,
     writer: W,
     terminal: Option<P>,
+    unknown: Unknown<P>,
     settings: Settings,
     skills: &K,
     clock: C,
@@ -409,21 +448,22 @@ where
 {
     let (group, opened) = begin(alloc)?;
     work_in::<S, Brand, R, I, W, A, K, C, P>(
-        rt, alloc, opened, group, engine, reader, writer, terminal, settings, skills, clock,
+        rt, alloc, opened, group, engine, reader, writer, terminal, unknown, settings, skills,
+        clock,
     )
 }
 
 /// The group of the threads that are waited for, and what a hub is made of.
-fn begin(alloc: Global) -> Result<(WaitGroup, Opened), AllocError> {
+pub(crate) fn begin(alloc: Global) -> Result<(WaitGroup, Opened), AllocError> {
     let group = WaitGroup::new(alloc)?;
     let opened = Opened::new(alloc)?;
     Ok((group, opened))
 }
 
 /// A hub that threads share, and its publisher.
-type Parts<B> = (Publisher<B>, Arc<Hub<B>, Global>);
+pub(crate) type Parts<B> = (Publisher<B>, Arc<Hub<B>, Global>);
 
-fn open_hub<B: Room>(alloc: Global, opened: Opened) -> Result<Parts<B>, AllocError>
+pub(crate) fn open_hub<B: Room>(alloc: Global, opened: Opened) -> Result<Parts<B>, AllocError>
     requires room { IsRoomOf opened B.table B.name B.parts }
     ensures { IfOk result (λ p. p.0 ≡ nothing) }
 {
@@ -433,7 +473,8 @@ fn open_hub<B: Room>(alloc: Global, opened: Opened) -> Result<Parts<B>, AllocErr
 }
 
 /// Serves a hub that was just made, until it is closed and nothing waits, or the engine serves no more.
-fn serve_new<S: Alter, B: Room, R: Wait, C: Clock>(
+#[tactic(auto, using(crate::proofs::Served::served_on))]
+pub(crate) fn serve_new<S: Alter, B: Room, R: Wait, C: Clock>(
     rt: &R,
     engine: &mut Engine<S>,
     publisher: &mut Publisher<B>,
@@ -445,6 +486,7 @@ fn serve_new<S: Alter, B: Room, R: Wait, C: Clock>(
     requires most { (1 ≤ most) × (most ≤ 64) }
     ensures served { OnOk result (HasServedAll S.Store engine.old engine.new) }
     ensures ends { IfErr result (EndsServing S.Store engine.old engine.new) }
+    ensures hub { ServedBy S.Store (C.tells clock.now) engine.old engine.new publisher.new }
     ensures goes_on { OnOk result (engine.new.halted ≡ engine.old.halted) }
     ensures found { engine.new.found ≡ engine.old.found }
     ensures follows { Follows S.Store engine.old engine.new }
@@ -464,6 +506,7 @@ fn work_in<S, B, R, I, W, A, K, C, P>(
     reader: I,
     writer: W,
     terminal: Option<P>,
+    unknown: Unknown<P>,
     settings: Settings,
     skills: &K,
     clock: C,
@@ -495,6 +538,7 @@ where
         reader,
         writer,
         terminal,
+        unknown,
         settings.workers(),
         skills,
         clock,
@@ -505,7 +549,7 @@ where
             let served = serve_new(rt, engine, &mut publisher, &clock, settings.batch());
             // Who answers lines may wait for one, and none is answered any more.
             let _ = own_lines.send(rt, Input::Stopped);
-            let (writer, status) = answering.join(rt);
+            let (writer, status, _is_mute) = answering.join(rt).into_parts();
             group.wait(rt);
             Ok(Ended {
                 writer,

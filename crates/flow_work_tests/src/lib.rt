@@ -8,6 +8,8 @@ mod commands;
 #[cfg(test)]
 mod feeding;
 #[cfg(test)]
+mod outside;
+#[cfg(test)]
 mod refusing;
 #[cfg(test)]
 mod runs;

@@ -19,7 +19,7 @@ use std::thread::Threads;
 use std::time;
 
 /// Whether exactly these replies were printed, and all has ended well.
-fn is_whole(ended: &Ended<Vec<u8>>, replies: &str) -> bool {
+pub fn is_whole(ended: &Ended<Vec<u8>>, replies: &str) -> bool {
     ended.writer.as_slice() == replies.as_bytes() && ended.served.is_ok() && ended.status.get() == 0
 }
 

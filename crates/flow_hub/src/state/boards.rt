@@ -1,5 +1,5 @@
 //! What the locked state does with boards and with the tasks that are posted.
-ghost use Rattle.std.specs.Prelude.{◌≡◌, false, true, ◌∷◌, ◌++◌, length, IfSome, IfErr, IfNone, IsErr, OnOk, OnErr, MatchOption, None, Some, IsTrue};
+ghost use Rattle.std.specs.Prelude.{◌≡◌, ◌⊎◌, false, true, ◌∷◌, ◌++◌, length, IfSome, IfErr, IfNone, IsErr, OnOk, OnErr, MatchOption, None, Some, IsTrue};
 ghost use mathlib.Core.List.{IsPrefix};
 ghost use Rattle.flow_hub.specs.Halls.{posted_on, skipped, gave};
 ghost use Rattle.flow_hub.specs.Knowing.{IsBefore, IsSamePart, answered_in, nothing};
@@ -81,6 +81,7 @@ impl<B: Room> State<B> {
         ensures given { MatchOption result.1 (self.new ≡ self.old) (λ t. (self.old.tasks ≡ t ∷ self.new.tasks) × (self.new ≡ gave self.old t self.new.tasks)) }
         ensures seat { result.0 ≡ seeing false true self.new.known }
         ensures seen { HasGiven me.was result.0.was result.1 }
+        ensures none { IfNone result.1 ((result.0.was.closed ≡ true) ⊎ (result.0.was.given ≡ result.0.was.posted)) }
         ensures grows { IsBefore me.was result.0.was }
     {
         if self.known.closed {
@@ -92,6 +93,29 @@ impl<B: Room> State<B> {
         self.known.give(&task);
         let me = seats.tell(&mut self.keeper, me, self.places, self.places, &self.known);
         (me, Some(task))
+    }
+
+    /// Somebody has something else for whoever gives tasks out.
+    pub(crate) fn ring(&mut self)
+        ensures { self.new ≡ self.old }
+    {
+        self.rung = true;
+    }
+
+    /// Whether somebody rang since this was asked last.
+    pub(crate) fn was_rung(&mut self) -> bool
+        ensures { self.new ≡ self.old }
+    {
+        let rung = self.rung;
+        self.rung = false;
+        rung
+    }
+
+    /// Whether a board was posted or skipped since what was taken last was answered.
+    pub(crate) fn is_boarded(&self) -> bool
+        ensures { result ≡ self.now.known.boarded }
+    {
+        self.known.boarded
     }
 
     /// When more is to be done, as the last board says, if nothing was answered since.

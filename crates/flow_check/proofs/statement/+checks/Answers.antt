@@ -3,9 +3,9 @@ use Rattle.flow_base.specs.Shown.{Braced, shown_expr, shown_stmt, shown_braced, 
 use Rattle.flow_base.specs.Syntax.{Block}
 use Rattle.flow_model.specs.WellFormed.{faults_of_block}
 use Rattle.flow_check.specs.Tables.{shown_scope, shown_signature, kinds_of_parameters, Notes, Checks}
-use Rattle.flow_check.proofs.Forms.{shown_assign, shown_call, shown_wait, shown_wait_for, shown_sleep, shown_if, shown_while, shown_parallel, shown_patch, shown_return, shown_fail, shown_continue, shown_list, shown_body}
+use Rattle.flow_check.proofs.Forms.{shown_assign, shown_call, shown_wait, shown_wait_for, shown_sleep, shown_if, shown_while, shown_parallel, shown_patch, shown_deprecate, shown_return, shown_fail, shown_continue, shown_list, shown_body}
 use Rattle.flow_check.proofs.Scoping.{checks_nothing, one_more_checked, inner_checked, one_more_branch_checked}
-use Rattle.flow_check.proofs.Checking.{assign_checked, call_checked, wait_checked, wait_for_checked, sleep_checked, if_checked, while_checked, parallel_checked, patch_checked, return_checked, fail_checked, continue_checked}
+use Rattle.flow_check.proofs.Checking.{assign_checked, call_checked, wait_checked, wait_for_checked, sleep_checked, if_checked, while_checked, parallel_checked, patch_checked, deprecate_checked, return_checked, fail_checked, continue_checked}
 use Rattle.flow_check.proofs.statement.+checks.Goals as goal
 
 pub check_statements-loop-statement-init : goal.check_statements-loop-statement-init
@@ -93,6 +93,11 @@ check_statement-returns-in_ok-check_inner-in-Patch-2 t c =
     patch_checked c.args.in_parallel c.args.scope.now (shown_stmt c.args.statement.now) c.args.found.now i.field-0 i.field-1 i.field-2 (shown_braced i.since).0 (shown_braced i.before).0 (shown_braced i.since).1 (shown_braced i.before).1
     c.check_inner-in-Patch.new.scope c.check_inner-in-Patch-2.new.scope c.check_inner-in-Patch.new.found c.check_inner-in-Patch-2.new.found
     (ap shown_stmt i.is ∙ shown_patch i.field-0 i.field-1 i.field-2 i.since i.before) c.in_ok-check_inner-in-Patch.ensures c.in_ok-check_inner-in-Patch-2.ensures
+
+pub check_statement-returns-in-Deprecate : goal.check_statement-returns-in-Deprecate
+check_statement-returns-in-Deprecate t c =
+    let i = c.in-Deprecate in
+    deprecate_checked c.args.in_parallel c.args.scope.now (shown_stmt c.args.statement.now) c.args.found.now i._at i.field-1 i.field-2 (ap shown_stmt i.is ∙ shown_deprecate i._at i.field-1 i.field-2)
 
 pub check_statement-returns-in-Return : goal.check_statement-returns-in-Return
 check_statement-returns-in-Return t c =

@@ -1,4 +1,5 @@
 use Rattle.flow_hub.proofs.Growing.{before_trans}
+use Rattle.flow_serve.proofs.Posted.{later_self, posts_still, posts_then, still_later}
 use Rattle.flow_serve.proofs.Serving.{still_then}
 use Rattle.flow_serve.proofs.server.post_board.Goals as goal
 
@@ -18,3 +19,20 @@ returns-in-Err-clause-still g c =
 pub returns-in_default-clause-still : goal.returns-in_default-clause-still
 returns-in_default-clause-still g c =
     still_then g.S.Store c.args.engine.now c.try_board.new.engine c.try_board-2.new.engine c.try_board.ensures.still c.try_board-2.ensures.still
+
+pub returns-in_default-clause-posts : goal.returns-in_default-clause-posts
+returns-in_default-clause-posts g c =
+    let mid = c.try_board.new.engine in
+    let new = c.try_board-2.new.engine in
+    posts_then g.S.Store (g.C.Clock.tells c.args.clock.now) mid new c.args.publisher.now.posted c.try_board.new.publisher.posted c.try_board-2.new.publisher.posted
+    (still_later g.S.Store mid new c.try_board-2.ensures.still) c.try_board.ensures.posts c.try_board-2.ensures.posts
+
+pub returns-in-Err-clause-posts : goal.returns-in-Err-clause-posts
+returns-in-Err-clause-posts g c =
+    let tells = g.C.Clock.tells c.args.clock.now in
+    let was = c.args.publisher.now.posted in
+    let mid = c.try_board.new.engine in
+    let new = c.try_board-2.new.engine in
+    let then = c.try_board-2.new.publisher.posted in
+    let more = posts_then g.S.Store tells mid new was c.try_board.new.publisher.posted then (still_later g.S.Store mid new c.try_board-2.ensures.still) c.try_board.ensures.posts c.try_board-2.ensures.posts in
+    posts_still g.S.Store tells new new was then c.skip.new.self.posted (later_self g.S.Store new) more c.skip.ensures.skipped.posted

@@ -1,4 +1,5 @@
 use Rattle.std.proofs.Common.{inl, ◌++◌}
+use Rattle.flow_serve.proofs.Posted.{later_self, posts_none, posts_still}
 use Rattle.flow_serve.proofs.Served.{served_behind, unserved}
 use Rattle.flow_serve.proofs.Serving.{turned_behind}
 use Rattle.flow_serve.proofs.server.serve.Goals as goal
@@ -20,3 +21,12 @@ pub returns-in-Err-clause-served : goal.returns-in-Err-clause-served
 returns-in-Err-clause-served g c =
     let t = c.turn_away-in-Err.ensures.turned in
     (t.0, unserved g.S.Store c.args.engine.now c.args.publisher.now.refused c.turn_away-in-Err.new.publisher.refused t.0 t.1)
+
+-- what is turned away posts nothing
+pub returns-in-Err-serve_all-clause-posts : goal.returns-in-Err-serve_all-clause-posts
+returns-in-Err-serve_all-clause-posts g c =
+    let new = c.serve_all.new.engine in
+    posts_still g.S.Store (g.C.Clock.tells c.args.clock.now) new new c.args.publisher.now.posted c.serve_all.new.publisher.posted c.turn_away.new.publisher.posted (later_self g.S.Store new) c.serve_all.ensures.posts c.turn_away.ensures.posted
+
+pub returns-in-Err-clause-posts : goal.returns-in-Err-clause-posts
+returns-in-Err-clause-posts g c = posts_none g.S.Store (g.C.Clock.tells c.args.clock.now) c.args.engine.now c.args.publisher.now.posted c.turn_away-in-Err.new.publisher.posted c.turn_away-in-Err.ensures.posted

@@ -4,6 +4,7 @@ use Rattle.flow_machine.specs.declared.submission.Taken.{Taken}
 use Rattle.flow_queues.specs.declared.refused.Refused.{Refused}
 use Rattle.flow_hub.proofs.Growing.{before_trans}
 use Rattle.flow_serve.specs.Serving.{GivesUp, HasAnswered, StopsAt}
+use Rattle.flow_serve.proofs.Posted.{answered_later, later_self, posts_still, posts_then, still_later}
 use Rattle.flow_serve.proofs.Served.{Served, has_served, none_served, served_more, served_still}
 use Rattle.flow_serve.proofs.Serving.{follows_then, gives_none, gives_then, stops_behind}
 use Rattle.flow_serve.proofs.server.serve_all.Goals as goal
@@ -60,6 +61,7 @@ loop-init g c =
       served = served_still g.S.Store c.args.engine.now c.args.engine.now c.post_board.new.engine c.args.publisher.now.refused c.args.publisher.now.refused c.post_board.new.publisher.refused
           (none_served g.S.Store c.args.engine.now c.args.publisher.now.refused) b.still b.refused;
       gives = gives_none c.args.publisher.now.refused c.post_board.new.publisher.refused b.refused;
+      posts = b.posts;
       found = b.still.found;
       follows = b.still.follows;
       grows = b.grows;
@@ -81,6 +83,10 @@ loop-preserved g c =
     let go = c.in_ok-commit_taken.ensures.goes_on in
     let was = c.args.publisher.now.refused in
     let one = subst (λ (rs : List Refused). HasAnswered g.S.Store c.loop.engine kept rs told.refused c.of.result) c.take.ensures.taken.refused c.commit_taken.ensures.answered in
+    let tells = g.C.Clock.tells c.args.clock.now in
+    let posted = c.args.publisher.now.posted in
+    let later = answered_later g.S.Store c.loop.engine kept c.loop.publisher.refused told.refused c.of.result one c.commit_taken.ensures.found in
+    let committed = posts_still g.S.Store tells c.loop.engine kept posted c.loop.publisher.posted told.posted later i.posts (c.commit_taken.ensures.posted ∙ c.take.ensures.taken.posted) in
     let gives = gives_then was mid.refused told.refused (subst (GivesUp was) (sym c.take.ensures.taken.refused) i.gives) c.in_ok-commit_taken.ensures.given_up in
     record {
       together = b.together;
@@ -89,6 +95,8 @@ loop-preserved g c =
       gives = subst (GivesUp was) (sym b.refused) gives;
       served = served_still g.S.Store old kept c.post_board-in-loop.new.engine was told.refused c.post_board-in-loop.new.publisher.refused
           (served_more g.S.Store old c.loop.engine kept was c.loop.publisher.refused told.refused i.served c.of.result one) b.still b.refused;
+      posts = posts_then g.S.Store tells kept c.post_board-in-loop.new.engine posted told.posted c.post_board-in-loop.new.publisher.posted
+          (still_later g.S.Store kept c.post_board-in-loop.new.engine b.still) committed b.posts;
       found = b.still.found ∙ (c.commit_taken.ensures.found ∙ i.found);
       follows = follows_then g.S.Store c.args.engine.now kept c.post_board-in-loop.new.engine (follows_then g.S.Store c.args.engine.now c.loop.engine kept i.follows c.commit_taken.ensures.follows) b.still.follows;
       grows =
@@ -100,3 +108,19 @@ loop-preserved g c =
       next = search rules;
       ends = search rules;
     }
+
+-- what is taken and answered posts nothing
+pub returns-then-not-take-clause-posts : goal.returns-then-not-take-clause-posts
+returns-then-not-take-clause-posts g c =
+    let mid = c.loop.engine in
+    posts_still g.S.Store (g.C.Clock.tells c.args.clock.now) mid mid c.args.publisher.now.posted c.loop.publisher.posted c.take.new.self.posted (later_self g.S.Store mid) c.loop.invariant.posts c.take.ensures.taken.posted
+
+pub returns-in_err-commit_taken-clause-posts : goal.returns-in_err-commit_taken-clause-posts
+returns-in_err-commit_taken-clause-posts g c =
+    let mid = c.loop.engine in
+    let new = c.commit_taken.new.engine in
+    let then = c.loop.publisher.refused in
+    let now = c.commit_taken.new.publisher in
+    let one = subst (λ (rs : List Refused). HasAnswered g.S.Store mid new rs now.refused c.of.result) c.take.ensures.taken.refused c.commit_taken.ensures.answered in
+    let later = answered_later g.S.Store mid new then now.refused c.of.result one c.commit_taken.ensures.found in
+    posts_still g.S.Store (g.C.Clock.tells c.args.clock.now) mid new c.args.publisher.now.posted c.loop.publisher.posted now.posted later c.loop.invariant.posts (c.commit_taken.ensures.posted ∙ c.take.ensures.taken.posted)

@@ -4,6 +4,7 @@ use Rattle.flow_commit.specs.Keeping.{account_of}
 use Rattle.flow_hub.specs.Knowing.{IsBefore}
 use Rattle.flow_hub.specs.Publishing.{Together}
 use Rattle.flow_engine.specs.Answering.{Follows}
+use Rattle.flow_serve.specs.Posting.{Posts}
 use Rattle.flow_serve.specs.Serving.{GivesUp}
 use Rattle.flow_serve.proofs.Served.{Served}
 use Rattle.flow_serve.proofs.server.serve_all.Given as goal
@@ -17,6 +18,7 @@ invariant-loop g l =
       still : l.engine.halted ≡ true → (l.engine ≡ l.fn.engine) × (l.publisher.refused ≡ l.fn.publisher.refused);
       gives : GivesUp l.fn.publisher.refused l.publisher.refused;
       served : Served g.S.Store l.fn.engine l.engine l.fn.publisher.refused l.publisher.refused;
+      posts : Posts g.S.Store (g.C.Clock.tells l.fn.clock) l.engine l.fn.publisher.posted l.publisher.posted;
       found : l.engine.found ≡ l.fn.engine.found;
       follows : Follows g.S.Store l.fn.engine l.engine;
       grows : IsBefore l.fn.publisher l.publisher;

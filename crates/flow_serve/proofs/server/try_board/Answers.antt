@@ -1,6 +1,8 @@
+use Rattle.std.proofs.Common.{refl, sym}
 use Rattle.flow_hub.proofs.Growing.{same_part}
 use Rattle.flow_hub.proofs.Serving.{boarded_together, is_fresh, same_history}
 use Rattle.flow_commit.specs.Keeping.{account_of}
+use Rattle.flow_serve.proofs.Posted.{board_was, posts_none, posts_one}
 use Rattle.flow_serve.proofs.Serving.{board_still, same_base}
 use Rattle.flow_serve.proofs.server.try_board.Goals as goal
 
@@ -44,3 +46,21 @@ pub returns-in-Err-clause-still : goal.returns-in-Err-clause-still
 returns-in-Err-clause-still g c =
     let b = c.board.ensures in
     board_still g.S.Store c.args.engine.now c.board.new.self b.same b.follows b.fit b.own b.halted
+
+-- the board that was posted is that of the kept book at the moment that the clock told
+pub returns-in-Ok-post-clause-posts : goal.returns-in-Ok-post-clause-posts
+returns-in-Ok-post-clause-posts g c =
+    let tells = g.C.Clock.tells c.args.clock.now in
+    let old = c.args.engine.now in
+    let new = c.board.new.self in
+    let was = c.args.publisher.now.posted in
+    let b = c.in-Ok.ensures in
+    let it = c.in-Ok.board in
+    let made = board_was g.S.Store tells old new was c.posted.result.now c.now.result it c.now.ensures c.board.ensures.same.3 c.board.ensures.same.2 b.counted b.names.1 c.posted.ensures b.behind in
+    posts_one g.S.Store tells new was c.post.new.self.posted it made c.in-Ok-post.ensures.posted.posted
+
+pub returns-in-Err-post-clause-posts : goal.returns-in-Err-post-clause-posts
+returns-in-Err-post-clause-posts g c = posts_none g.S.Store (g.C.Clock.tells c.args.clock.now) c.board.new.self c.args.publisher.now.posted c.post.new.self.posted (sym c.in-Err-post.ensures.refused.1.posted)
+
+pub returns-in-Err-clause-posts : goal.returns-in-Err-clause-posts
+returns-in-Err-clause-posts g c = posts_none g.S.Store (g.C.Clock.tells c.args.clock.now) c.board.new.self c.args.publisher.now.posted c.args.publisher.now.posted refl

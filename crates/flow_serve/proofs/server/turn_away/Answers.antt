@@ -19,6 +19,7 @@ loop-preserved g c =
       none = told.held;
       history = told.history ∙ (taken.history ∙ (rest.history ∙ i.history));
       last = told.last ∙ (taken.last ∙ (rest.last ∙ i.last));
+      posted = told.posted ∙ (taken.posted ∙ (c.skip.ensures.skipped.posted ∙ i.posted));
       turned = (i.turned.0 ++ c.take.new.into.items, turns_then was c.loop.publisher.refused new.refused i.turned.0 c.take.new.into.items i.turned.1 behind);
       grows = before_trans c.args.publisher.now mid new
           (before_trans c.args.publisher.now c.skip.new.self mid (before_trans c.args.publisher.now c.loop.publisher c.skip.new.self i.grows c.skip.ensures.grows) c.take.ensures.grows) c.refuse.ensures.grows;

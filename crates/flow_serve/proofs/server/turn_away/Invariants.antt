@@ -10,6 +10,7 @@ invariant-loop g l =
       none : l.publisher.held ≡ [];
       history : l.publisher.history ≡ l.fn.publisher.history;
       last : l.publisher.last ≡ l.fn.publisher.last;
+      posted : l.publisher.posted ≡ l.fn.publisher.posted;
       turned : (waiting : List Taken) × TurnsAway l.fn.publisher.refused l.publisher.refused waiting;
       grows : IsBefore l.fn.publisher l.publisher;
       next : (goal.iterator-loop g).can_next l.iterator';

@@ -1,12 +1,14 @@
 use Rattle.std.proofs.Common.{◌≡◌, false, subst}
-use Rattle.std.specs.Prelude.{IfErr}
+use Rattle.std.specs.Prelude.{IfErr, IfOk}
+use Rattle.flow_model.specs.Apply.{after}
 use Rattle.flow_model.specs.Book.{Book}
 use Rattle.flow_base.specs.declared.fault.Fault.{Fault}
 use Rattle.flow_base.specs.declared.fault.Fault.TheVariants as faults
 use Rattle.flow_tables.specs.Owned as tables
 use Rattle.flow_tables.specs.Owned.{state_of}
+use Rattle.flow_commit.specs.Boards.{Boarded, IsBoardOf}
 use Rattle.flow_commit.specs.Committing.{IsDown}
-use Rattle.flow_commit.specs.Keeping.{IsFit, Keeping, KeepsBook}
+use Rattle.flow_commit.specs.Keeping.{IsFit, Keeping, KeepsBook, logged, rules}
 use Rattle.flow_engine.proofs.engine.Engine.board.Goals as goal
 
 -- the keeper says it
@@ -27,3 +29,8 @@ pub returns-clause-rest : goal.returns-clause-rest
 returns-clause-rest g c =
     let new = c.board.new.self in
     subst (λ (k : Keeping g.row.S.Denot). IsFit g.S.Store new → (state_of g.S.Store k.stored).in_transaction ≡ false → (state_of g.S.Store new.stored).in_transaction ≡ false) c.self.view_is c.board.ensures.rest
+
+pub returns-clause-behind : goal.returns-clause-behind
+returns-clause-behind g c =
+    let new = c.board.new.self in
+    subst (λ (k : Keeping g.row.S.Denot). IsFit g.S.Store new → IfOk c.board.result (λ (it : Boarded). IsBoardOf (after rules k.found (logged k.log)) c.args.posted.now.keys c.args.at it)) c.self.view_is c.board.ensures.behind

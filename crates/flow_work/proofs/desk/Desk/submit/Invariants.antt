@@ -7,7 +7,5 @@ abbrev pub invariant-tries : goal.invariant-tries
 invariant-tries g l =
     (goal.iterator-tries g).can_next l.iterator' × (goal.iterator-tries g).is_finite l.iterator'
     × (length l.self.pending.lines.items ≤ length l.initial.self.pending.lines.items) × (l.command ≡ l.initial.command)
-    × HasTold l.self.submitter true l.initial.self.pending.lines.items l.self.pending.lines.items
-    (record { is_mute = l.initial.self.is_mute; status = l.initial.self.status; bytes = g.W.Write.contents l.initial.self.writer })
-    (record { is_mute = l.self.is_mute; status = l.self.status; bytes = g.W.Write.contents l.self.writer })
+    × HasTold l.self.submitter true l.initial.self.pending.lines.items l.self.pending.lines.items l.initial.self.page l.self.page
     × IsBefore l.initial.self.submitter.was l.self.submitter.was × (l.self.submitter.id ≡ l.initial.self.submitter.id)

@@ -4,7 +4,7 @@ use Rattle.flow_work.proofs.Telling.{told_as, told_ends, told_then}
 use Rattle.flow_work.proofs.desk.Desk.tell_all.Goals as goal
 
 pub returns-then-len-eq0 : goal.returns-then-len-eq0
-returns-then-len-eq0 g c = record { told = told_ends c.lines.self.submitter false c.lines.invariant.2 }
+returns-then-len-eq0 g c = record { told = told_ends c.lines.self.submitter false c.lines.invariant.2; grows = c.lines.invariant.3; same = c.lines.invariant.4 }
 
 pub returns-then-not-tell_oldest : goal.returns-then-not-tell_oldest
 returns-then-not-tell_oldest g c =
@@ -12,6 +12,8 @@ returns-then-not-tell_oldest g c =
     record {
       told = told_then c.lines.self.submitter new c.tell_oldest.ensures.same c.tell_oldest.ensures.grows c.lines.invariant.2
           (told_as new c.tell_oldest.result false c.if-not-tell_oldest.true c.tell_oldest.ensures.told);
+      grows = before_trans c.args.self.now.submitter.was c.lines.self.submitter.was new.was c.lines.invariant.3 c.tell_oldest.ensures.grows;
+      same = c.tell_oldest.ensures.same ∙ c.lines.invariant.4;
     }
 
 pub lines-preserved : goal.lines-preserved

@@ -9,7 +9,5 @@ returns-clause-told g c =
     let new = c.print_answer.new.self in
     let answer = c.answer_of-answer.result in
     let is = subst (λ m. IsAnswer m c.in-Some.pending answer) (sym c.print_answer.ensures.submitter) c.answer_of-answer.ensures.answer in
-    told_next new.submitter c.in-Some.pending answer c.print_answer.result
-    (record { is_mute = old.is_mute; status = old.status; bytes = g.W.Write.contents old.writer })
-    (record { is_mute = new.is_mute; status = new.status; bytes = g.W.Write.contents new.writer })
+    told_next new.submitter c.in-Some.pending answer c.print_answer.result old.page new.page
     (c.in-Some.ensures {u = tt}) (ap (λ q. q.lines.items) c.print_answer.ensures.pending) is c.print_answer.ensures.goes_on c.print_answer.ensures.printed

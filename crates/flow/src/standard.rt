@@ -1,0 +1,47 @@
+//! What is done from standard input to standard output.
+ghost use Rattle.std.specs.Prelude.{◌≡◌, ◌⊎◌, None, IfOk, IfErr};
+ghost use Rattle.flow_cli.specs.Answering.{HasFew, IsFull, OfBatch, SomeAnswered, StatusWithin, StopsAmong};
+ghost use Rattle.flow_cli.specs.Faults.{fault_status};
+ghost use Rattle.flow_cli.specs.Histories.{TellsHistory};
+ghost use Rattle.flow_cli.specs.Stopping.{CausedFault, StoppedBy};
+ghost use Rattle.flow_cli.specs.Working.{OfWork};
+ghost use Rattle.flow.specs.Standard.{OverSome};
+
+use flow_base::fault::Fault;
+use flow_cli::fault::fault_of_error;
+use flow_cli::streams::{Reading, Writing};
+use flow_cli::work::{Work, perform};
+use flow_machine::answer::Answering;
+use std::io;
+use std::io::BufReader;
+
+/// Does it from standard input to standard output. The ends are made here, once: what fails of them is known from then on. Nobody knows
+/// which bytes they give and take, so what is said of lines is said of some.
+///
+/// # Failure
+/// As of `perform`; E94 where the input can't be made, E01 where memory ran out.
+pub fn performed<E: Answering>(rt: &HostRuntime, engine: &mut E, work: &Work) -> Result<u8, Fault>
+    // The book is the one that the answers to some lines left; of a history all lines were written.
+    ensures done { IfOk result (λ n. OfWork work.now
+        (λ most. E.is_sure engine.new → OverSome (λ old new. SomeAnswered E.rules (OfBatch most (E.gives_up engine.old engine.new)) (HasFew most) (E.book engine.old) (E.book engine.new) 0 old new n))
+        (λ run. E.is_sure engine.new → OverSome (λ old new. TellsHistory E.rules (E.book engine.old) (E.book engine.new) run old new))) }
+    ensures status { IfOk result (λ n. OfWork work.now (λ most. StatusWithin (OfBatch most (E.gives_up engine.old engine.new)) n) (λ run. n ≡ 0)) }
+    ensures early { IfErr result (λ e. OfWork work.now (λ most. fault_status e ≡ 3) (λ run. (e ≡ Fault.NoRun) ⊎ (fault_status e ≡ 3))) }
+    ensures cut { IfErr result (λ e. OfWork work.now
+        (λ most. E.is_sure engine.new → OverSome (λ old new. StopsAmong E.rules (OfBatch most (E.gives_up engine.old engine.new)) (OfBatch most (E.stops engine.old engine.new)) (HasFew most) (E.book engine.old) (E.book engine.new) e old new))
+        (λ run. Unit {0})) }
+    // E84 and E85 have the stop of a batch as their cause.
+    ensures cause { IfErr result (λ e. OfWork work.now
+        (λ most. CausedFault e (StoppedBy E.rules (OfBatch most (E.gives_up engine.old engine.new)) (OfBatch most (E.stops engine.old engine.new)) (IsFull most) (E.is_sure engine.new) (E.book engine.old) None))
+        (λ run. Unit {0})) }
+    ensures sure { E.is_sure engine.new → E.is_sure engine.old }
+    ensures follows { (a : E) → E.follows a engine.old → E.follows a engine.new }
+{
+    let reader = match BufReader::new(rt.alloc(), rt.reader()) {
+        Ok(reader) => reader,
+        Err(error) => return Err(fault_of_error(error.kind(), Fault::InputFailed)),
+    };
+    let mut input = Reading::new(reader);
+    let mut output = Writing::new(io::writer(rt));
+    perform(rt.alloc(), engine, &mut input, &mut output, work)
+}

@@ -1,0 +1,45 @@
+-- What `flow settle` says of two texts.
+use Rattle.std.specs.Prelude.{◌≡◌, ℕ, List, [], ◌∷◌, ◌++◌, map, codes, Option, Some, None, Result, Ok, Err}
+use Rattle.serde_json.specs.Data.{Data, array, string}
+use Rattle.serde_json.specs.View.{items_of}
+use Rattle.serde_json.specs.Written.{compact_text}
+use Rattle.flow_base.specs.Syntax.{Bytes, Program}
+use Rattle.flow_base.specs.declared.code.Code.TheVariants.{NotSettled}
+use Rattle.flow_base.specs.declared.command.TextFault.{TextFault}
+use Rattle.flow_cli.specs.declared.safety.Safety.TheVariants as safety
+use Rattle.flow_cli.specs.declared.settlement.Settlement.{Settlement}
+use Rattle.flow_cli.specs.declared.settlement.Settlement.TheVariants as settlement
+use Rattle.flow_cli.specs.Safety.{safety_text}
+use Rattle.flow_patch.specs.Settle.{is_among, settled_ids, Settles}
+use Rattle.flow_patch.specs.Unsettled.{first_unsettled}
+
+abbrev pub of_unsettled : Program → Program → Option ℕ → Settlement
+of_unsettled p p' None = settlement.Settles (settled_ids p p')
+of_unsettled p p' (Some at) = settlement.Differs (record { at = at; code = NotSettled })
+
+-- by which programs the texts are, or why they are none
+abbrev pub settlement_of : Result Program TextFault → Result Program TextFault → Settlement
+settlement_of (Ok p) (Ok p') = of_unsettled p p' (first_unsettled (is_among (settled_ids p p')) p p')
+settlement_of (Err f) (Ok p') = settlement.OldBroken f
+settlement_of (Ok p) (Err f') = settlement.NewBroken f'
+settlement_of (Err f) (Err f') = settlement.BothBroken f f'
+
+-- the ids as a list of JSON
+abbrev pub ids_out : List Bytes → Data
+ids_out ids = array (items_of (map string ids))
+
+-- a text that is no program is named as by `flow safe`
+abbrev pub settlement_text : Settlement → List ℕ
+settlement_text (settlement.Settles ids) = codes "settles " ++ compact_text (ids_out ids)
+settlement_text (settlement.Differs u) = safety_text (safety.Differs u)
+settlement_text (settlement.OldBroken f) = safety_text (safety.OldBroken f)
+settlement_text (settlement.NewBroken f) = safety_text (safety.NewBroken f)
+settlement_text (settlement.BothBroken f f') = safety_text (safety.BothBroken f f')
+
+abbrev pub settlement_status : Settlement → ℕ
+settlement_status (settlement.Settles ids) = 0
+settlement_status s = 1
+
+-- both texts are programs, and the second settles the patches of the first whose ids stand there under `deprecate`
+abbrev pub MeansSettled : Result Program TextFault → Result Program TextFault → Type 0
+MeansSettled m m' = (p : Program) × ((p' : Program) × ((m ≡ Ok p) × (m' ≡ Ok p') × Settles (is_among (settled_ids p p')) p p'))

@@ -1,0 +1,161 @@
+//! What `flow settle` says of two texts.
+ghost use Rattle.std.specs.Prelude.{◌≡◌, ◌↔◌, ◌⊎◌, ◌++◌, ◌∷◌, [], Bool, IfOk, IfErr, Ok, string_bytes};
+ghost use Rattle.std.specs.Io.KnownBytes.{Appends};
+ghost use Rattle.serde_json.specs.Data.{string};
+ghost use Rattle.serde_json.specs.View.{view};
+ghost use Rattle.serde_json.specs.Written.{compact_text};
+ghost use Rattle.flow_model.specs.Checked.{shown_checked};
+ghost use Rattle.flow_cli.specs.Answering.{WritesPart};
+ghost use Rattle.flow_cli.specs.Ends.{input_failed, output_failed};
+ghost use Rattle.flow_cli.specs.Faults.{fault_status};
+ghost use Rattle.flow_cli.specs.Settlements.{ids_out, settlement_of, settlement_status, settlement_text, MeansSettled};
+
+use crate::drive::write_text;
+use crate::output::Output;
+use crate::safety::Safety;
+use flow_base::command::TextFault;
+use flow_base::fault::Fault;
+use flow_base::sequence::Sequence;
+use flow_base::text::{Key, RawText};
+use flow_model::checked::Checked;
+use flow_model::texts::Texts;
+use flow_patch::fault::{Unsafe, Unsettled};
+use flow_patch::settle::settle;
+use serde_json::{Value as Json, json};
+use std::alloc::{AllocError, Global};
+use std::string::ToString;
+
+/// Which patches of an old text a new one settles.
+#[derive(Debug, Drop)]
+pub enum Settlement {
+    /// Those with these ids, in the order of the new text.
+    Settles(Sequence<Key>),
+    /// The new text isn't the old one with patches settled.
+    Differs(Unsafe),
+    /// The old text is no program.
+    OldBroken(TextFault),
+    /// The new text is no program.
+    NewBroken(TextFault),
+    BothBroken(TextFault, TextFault),
+}
+
+fn text_json(alloc: Global, text: &str) -> Result<Json, AllocError>
+    ensures { IfOk result (λ j. view j ≡ string text.now) }
+{
+    json!(in alloc; text)
+}
+
+fn ids_json(alloc: Global, ids: &[Key]) -> Result<Json, AllocError>
+    ensures { IfOk result (λ j. view j ≡ ids_out ids.now) }
+{
+    let mut items = Vec::new(alloc);
+    for id in ids {
+        items.push(text_json(alloc, id.as_str())?)?;
+    }
+    Ok(Json::Array(items))
+}
+
+/// The ids as a list in compact JSON.
+#[tactic(auto, using(crate::proofs::Settlements::ids_plain))]
+fn ids_text(alloc: Global, ids: &[Key]) -> Result<String, AllocError>
+    ensures { IfOk result (λ s. string_bytes s ≡ compact_text (ids_out ids.now)) }
+{
+    ids_json(alloc, ids)?.to_string(alloc)
+}
+
+impl Settlement {
+    /// What is written, without its end: as `settles ["v2"]` or `E58 at 51`, and for texts that are no programs what
+    /// `flow safe` writes.
+    pub fn lines(&self, alloc: Global) -> Result<String, AllocError>
+        ensures { IfOk result (λ line. string_bytes line ≡ settlement_text self.now) }
+    {
+        match self {
+            Settlement::Settles(ids) => {
+                let list = ids_text(alloc, ids.as_slice())?;
+                format!(in alloc; "settles {list}")
+            }
+            Settlement::Differs(difference) => Safety::Differs(*difference).lines(alloc),
+            Settlement::OldBroken(fault) => Safety::OldBroken(*fault).lines(alloc),
+            Settlement::NewBroken(fault) => Safety::NewBroken(*fault).lines(alloc),
+            Settlement::BothBroken(old, new) => Safety::BothBroken(*old, *new).lines(alloc),
+        }
+    }
+
+    /// The status that the program ends with.
+    pub fn status(&self) -> u8
+        ensures { result ≡ settlement_status self.now }
+    {
+        match self {
+            Settlement::Settles(_) => 0,
+            Settlement::Differs(_)
+            | Settlement::OldBroken(_)
+            | Settlement::NewBroken(_)
+            | Settlement::BothBroken(_, _) => 1,
+        }
+    }
+}
+
+/// Which patches of one program another settles.
+fn compare(alloc: Global, old: &Checked, new: &Checked) -> Result<Settlement, Fault>
+    ensures settlement { IfOk result (λ s. s ≡ settlement_of (Ok (shown_checked old.now)) (Ok (shown_checked new.now))) }
+    ensures memory { IfErr result (λ e. e ≡ Fault.NoMemory _) }
+{
+    match settle(alloc, old, new) {
+        Ok(ids) => Ok(Settlement::Settles(Sequence::from_vec(ids))),
+        Err(Unsettled::Differs(difference)) => Ok(Settlement::Differs(difference)),
+        Err(Unsettled::NoMemory(no_memory)) => Err(Fault::NoMemory(no_memory)),
+    }
+}
+
+/// Reads two texts by what reads texts, and tells which patches of the first the second settles.
+pub fn settle_texts<T: Texts>(
+    alloc: Global,
+    texts: &T,
+    old: &str,
+    new: &str,
+) -> Result<Settlement, Fault>
+    ensures settlement { IfOk result (λ s. s ≡ settlement_of (T.meaning old.now) (T.meaning new.now)) }
+    ensures memory { IfErr result (λ e. e ≡ Fault.NoMemory _) }
+{
+    let old = RawText::new(alloc, old)?;
+    let new = RawText::new(alloc, new)?;
+    let old = texts.read(alloc, &old)?;
+    let new = texts.read(alloc, &new)?;
+    match (old, new) {
+        (Ok(old), Ok(new)) => compare(alloc, &old, &new),
+        (Err(fault), Ok(_)) => Ok(Settlement::OldBroken(fault)),
+        (Ok(_), Err(fault)) => Ok(Settlement::NewBroken(fault)),
+        (Err(old), Err(new)) => Ok(Settlement::BothBroken(old, new)),
+    }
+}
+
+/// Tells which patches of the first of two texts the second settles, and gives the status.
+///
+/// # Failure
+/// Each has the status 3: E01, and E95 where a write failed.
+#[tactic(auto, using(crate::proofs::Endings::same_kept))]
+pub fn tell_settlement<T: Texts, O: Output>(
+    alloc: Global,
+    texts: &T,
+    output: &mut O,
+    old: &str,
+    new: &str,
+) -> Result<u8, Fault>
+    ensures told { IfOk result (λ n. Appends (O.contents output.old) (O.contents output.new) (settlement_text (settlement_of (T.meaning old.now) (T.meaning new.now)) ++ 10 ∷ [])) }
+    ensures status { IfOk result (λ n. n ≡ settlement_status (settlement_of (T.meaning old.now) (T.meaning new.now))) }
+    // The status is 0 exactly where both are programs and the new one is the old one with patches settled.
+    ensures settles { IfOk result (λ n. (n ≡ 0) ↔ MeansSettled (T.meaning old.now) (T.meaning new.now)) }
+    ensures stopped { IfErr result (λ e. WritesPart e (O.contents output.old) (O.contents output.new) (settlement_text (settlement_of (T.meaning old.now) (T.meaning new.now)) ++ 10 ∷ [])) }
+    ensures early { IfErr result (λ e. fault_status e ≡ 3) }
+    // E95 where the output failed, and only there; else memory ran out.
+    ensures output { O.failed output.new ≡ output_failed result (O.failed output.old) }
+    ensures input { (before : Bool) → input_failed result before ≡ before }
+    ensures cause { IfErr result (λ e. (e ≡ Fault.NoMemory _) ⊎ (e ≡ Fault.OutputFailed)) }
+{
+    let settlement = settle_texts(alloc, texts, old, new)?;
+    let lines = settlement.lines(alloc)?;
+    match write_text(output, lines) {
+        Ok(()) => Ok(settlement.status()),
+        Err(fault) => Err(fault),
+    }
+}

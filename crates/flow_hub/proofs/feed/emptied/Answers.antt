@@ -1,0 +1,19 @@
+use Rattle.std.proofs.Common.{rules}
+use Rattle.flow_hub.proofs.Growing.{before_trans}
+use Rattle.flow_hub.proofs.Sound.{none_given}
+use Rattle.flow_hub.proofs.feed.emptied.Goals as goal
+
+pub returns-then-is_closed-clause-grows : goal.returns-then-is_closed-clause-grows
+returns-then-is_closed-clause-grows g c = before_trans c.args.seat.was c.loop.me.was c.give-seen.result.0.was c.loop.invariant.0 c.give-seen.ensures.grows
+
+pub returns-then-is_boarded-clause-grows : goal.returns-then-is_boarded-clause-grows
+returns-then-is_boarded-clause-grows g c = before_trans c.args.seat.was c.loop.me.was c.give-seen.result.0.was c.loop.invariant.0 c.give-seen.ensures.grows
+
+pub loop-preserved : goal.loop-preserved
+loop-preserved g c = (
+  before_trans c.args.seat.was c.loop.me.was c.give-seen.result.0.was c.loop.invariant.0 c.give-seen.ensures.grows,
+  search rules,
+  none_given c.args.seat.was c.loop.me.was c.give-seen.result.0.was c.give-seen.result.1 (search rules) c.loop.invariant.2 c.give-seen.ensures.seen,
+  search rules,
+  search rules,
+)

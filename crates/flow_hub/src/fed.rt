@@ -1,0 +1,13 @@
+//! What came of asking for a task.
+use flow_machine::task::Task;
+
+/// What came of asking for a task, by one who has more to do than to hand tasks on.
+#[derive(Debug, Drop)]
+pub enum Fed {
+    /// The next task.
+    Task(Task),
+    /// All that was posted is given out.
+    Nothing,
+    /// The hub is closed.
+    Closed,
+}

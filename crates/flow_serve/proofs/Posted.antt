@@ -1,0 +1,104 @@
+-- What is posted, from board to board.
+use Rattle.std.proofs.Common.{◌≡◌, ℕ, List, [], ◌∷◌, ◌++◌, length, refl, sym, ◌∙◌, subst}
+use mathlib.Core.List.{IsPrefix}
+use Rattle.std.specs.BTreeSet.{BTreeSet}
+use Rattle.sqlite_trees.specs.declared.store.Store.{Ghosts}
+use Rattle.flow_machine.specs.Keys.{Key}
+use Rattle.flow_machine.specs.declared.submission.Receipt.{Receipt}
+use Rattle.flow_machine.specs.declared.task.Task.{Task}
+use Rattle.flow_model.specs.Apply.{after}
+use Rattle.flow_model.specs.Book.{Book}
+use Rattle.flow_commit.specs.Boards.{Boarded, IsBoardOf}
+use Rattle.flow_commit.specs.Keeping.{Keeping, IsFit, logged, rules}
+use Rattle.flow_queues.specs.Posting.{HasKeys, IsOnce, new_ones}
+use Rattle.flow_queues.proofs.Once.{still_once}
+use Rattle.flow_hub.proofs.Growing.{prefix_self, prefix_trans}
+use Rattle.flow_engine.specs.Driving.{receipts_in}
+use Rattle.flow_queues.specs.declared.refused.Refused.{Refused}
+use Rattle.flow_machine.specs.declared.submission.Taken.{Taken}
+use Rattle.flow_serve.specs.Boarding.{IsStill}
+use Rattle.flow_serve.specs.Serving.{HasAnswered}
+use Rattle.flow_serve.specs.Posting.{ArePosted, Posts, WasBoard}
+
+module _ {S : Type 0} where
+  -- what stands of an engine later: it has kept as much and more, over the same book, and was fit if it is
+  pub record IsLater (g : Ghosts S) (old new : Keeping S) : Type 0 where
+    pub log : IsPrefix old.log new.log
+    pub found : new.found ≡ old.found
+    pub fit : IsFit g new → IsFit g old
+
+  pub later_self : (g : Ghosts S) (k : Keeping S) → IsLater g k k
+  later_self g k = record { log = prefix_self k.log; found = refl; fit = λ fit. fit }
+
+  pub was_later : (g : Ghosts S) (tells : ℕ → Type 0) (old new : Keeping S) (was : List Task) (x : Boarded) → IsLater g old new → WasBoard g tells old was x → WasBoard g tells new was x
+  was_later g tells old new was x later w = record {
+    log = w.log;
+    first = prefix_trans w.log old.log new.log w.first later.log;
+    kept = w.kept;
+    at = w.at;
+    told = w.told;
+    posted = w.posted;
+    made = λ fit. subst (λ (b : Book). IsBoardOf (after rules b (logged w.log)) x.posted w.at x) (sym later.found) (w.made (later.fit fit));
+  }
+
+  are_later : (g : Ghosts S) (tells : ℕ → Type 0) (old new : Keeping S) (was posted : List Task) (xs : List Boarded) → IsLater g old new → ArePosted g tells old was posted xs → ArePosted g tells new was posted xs
+  are_later g tells old new was posted [] later are = are
+  are_later g tells old new was posted (x ∷ xs) later are = (was_later g tells old new was x later are.0, are_later g tells old new (was ++ new_ones was x.tasks) posted xs later are.1)
+
+  are_joined : (g : Ghosts S) (tells : ℕ → Type 0) (now : Keeping S) (was mid posted : List Task) (xs ys : List Boarded) → ArePosted g tells now was mid xs → ArePosted g tells now mid posted ys → ArePosted g tells now was posted (xs ++ ys)
+  are_joined g tells now was mid posted [] ys first more = subst (λ (ts : List Task). ArePosted g tells now ts posted ys) first more
+  are_joined g tells now was mid posted (x ∷ xs) ys first more = (first.0, are_joined g tells now (was ++ new_ones was x.tasks) mid posted xs ys first.1 more)
+
+  pub posts_none : (g : Ghosts S) (tells : ℕ → Type 0) (now : Keeping S) (was posted : List Task) → posted ≡ was → Posts g tells now was posted
+  posts_none g tells now was posted same = record { boards = []; are = same }
+
+  -- one board
+  pub posts_one : (g : Ghosts S) (tells : ℕ → Type 0) (now : Keeping S) (was posted : List Task) (x : Boarded) → WasBoard g tells now was x → posted ≡ was ++ new_ones was x.tasks → Posts g tells now was posted
+  posts_one g tells now was posted x w more = record { boards = x ∷ []; are = (w, more) }
+
+  -- and more behind it
+  pub posts_then : (g : Ghosts S) (tells : ℕ → Type 0) (old new : Keeping S) (was mid posted : List Task) → IsLater g old new → Posts g tells old was mid → Posts g tells new mid posted → Posts g tells new was posted
+  posts_then g tells old new was mid posted later p q = record {
+    boards = p.boards ++ q.boards;
+    are = are_joined g tells new was mid posted p.boards q.boards (are_later g tells old new was mid p.boards later p.are) q.are;
+  }
+
+  -- the same where nothing is posted behind it
+  pub posts_still : (g : Ghosts S) (tells : ℕ → Type 0) (old new : Keeping S) (was mid posted : List Task) → IsLater g old new → Posts g tells old was mid → posted ≡ mid → Posts g tells new was posted
+  posts_still g tells old new was mid posted later p same = posts_then g tells old new was mid posted later p (posts_none g tells new mid posted same)
+
+  are_once : (g : Ghosts S) (tells : ℕ → Type 0) (now : Keeping S) (was posted : List Task) (xs : List Boarded) → ArePosted g tells now was posted xs → IsOnce was → IsOnce posted
+  are_once g tells now was posted [] are once = subst IsOnce (sym are) once
+  are_once g tells now was posted (x ∷ xs) are once = are_once g tells now (was ++ new_ones was x.tasks) posted xs are.1 (still_once was x.tasks once)
+
+  -- and none of it is posted twice
+  pub posts_once : (g : Ghosts S) (tells : ℕ → Type 0) (now : Keeping S) (was posted : List Task) → Posts g tells now was posted → IsOnce was → IsOnce posted
+  posts_once g tells now was posted p once = are_once g tells now was posted p.boards p.are once
+
+  -- a board that was just made, of an engine that goes on
+  pub board_was : (g : Ghosts S) (tells : ℕ → Type 0) (old new : Keeping S) (was : List Task) (keys : BTreeSet Key) (at : ℕ) (it : Boarded) → tells at → new.log ≡ old.log → new.found ≡ old.found
+      → it.kept ≡ length old.log → it.posted ≡ keys.keys → HasKeys keys was → (IsFit g new → IsBoardOf (after rules old.found (logged old.log)) keys.keys at it) → WasBoard g tells new was it
+  board_was g tells old new was keys at it told log found kept posted has made = record {
+    log = old.log;
+    first = subst (λ (rs : List Receipt). IsPrefix old.log rs) (sym log) (prefix_self old.log);
+    kept = kept;
+    at = at;
+    told = told;
+    posted = subst (λ (ks : List Key). HasKeys (record { keys = ks }) was) (sym posted) has;
+    made = λ fit. subst (λ (b : Book). IsBoardOf (after rules b (logged old.log)) it.posted at it) (sym found) (subst (λ (ks : List Key). IsBoardOf (after rules old.found (logged old.log)) ks at it) (sym posted) (made fit));
+  }
+
+  pub still_later : (g : Ghosts S) (old new : Keeping S) → IsStill g old new → IsLater g old new
+  still_later g old new still = record {
+    log = subst (λ (rs : List Receipt). IsPrefix old.log rs) (sym still.log) (prefix_self old.log);
+    found = still.found;
+    fit = still.follows.1;
+  }
+
+  -- by what becomes of a batch
+  pub answered_later : (g : Ghosts S) (old new : Keeping S) (was now : List Refused) (batch : List Taken) → HasAnswered g old new was now batch → new.found ≡ old.found → IsLater g old new
+  answered_later g old new was now batch answered found = record {
+    log = (receipts_in batch answered.ended, sym answered.log);
+    found = found;
+    fit = answered.fit;
+  }

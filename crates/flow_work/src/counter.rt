@@ -1,0 +1,216 @@
+//! The thread that submits lines, prints their replies in the order of the lines, and prints tasks in between.
+ghost use Rattle.std.specs.Prelude.{◌≡◌, ◌<◌, [], ◌∷◌, ◌++◌, ℕ, List, Option, length};
+ghost use Rattle.flow_work.specs.Counting.{Counted, Counts, Goes, is_open, is_task};
+
+use crate::desk::Desk;
+use crate::input::Input;
+use crate::page::Page;
+use crossbeam_channel::Receiver;
+use flow_base::text::RawText;
+use flow_hub::fed::Fed;
+use flow_hub::feed::Feed;
+use flow_hub::seats::Room;
+use flow_hub::submitter::Submitter;
+use flow_timers::Clock;
+use std::io::Write;
+use std::snapshot::Snapshot;
+use std::sync::Wait;
+use unseen::{Listed, Makes};
+
+struct Nothing;
+
+impl Makes<(), RawText> for Nothing {
+    ghost use Rattle.std.specs.Prelude.{[]};
+
+    ghost list = { λ _. [] };
+}
+
+struct OneMore;
+
+impl Makes<(Listed<RawText>, Snapshot<Vec<u8>>), RawText> for OneMore {
+    ghost use Rattle.std.specs.Prelude.{[], ◌∷◌, ◌++◌};
+
+    ghost list = { λ p. p.0 ++ p.1.value.items ∷ [] };
+}
+
+/// The lines that were taken in, and one more.
+fn with_line(lines: &Listed<RawText>, line: Snapshot<Vec<u8>>) -> Listed<RawText>
+    ensures { result ≡ lines.now ++ line.value.items ∷ [] }
+{
+    let more = (lines.again(), line);
+    Listed::of::<(Listed<RawText>, Snapshot<Vec<u8>>), OneMore>(&more)
+}
+
+/// Whether more may come.
+fn is_open(fed: &Fed) -> bool
+    ensures { result ≡ is_open fed.now }
+{
+    !matches!(fed, Fed::Closed)
+}
+
+fn is_task(fed: &Fed) -> bool
+    ensures { result ≡ is_task fed.now }
+{
+    matches!(fed, Fed::Task(_))
+}
+
+/// A desk, and who gives out the tasks that it prints.
+#[derive(Drop)]
+pub(crate) struct Counter<B: Room, W: Write> {
+    desk: Desk<B, W>,
+    feed: Feed<B>,
+    /// The lines that were taken in, for contracts alone.
+    lines: Listed<RawText>,
+}
+
+/// What is left of a counter: what was printed, who submitted and gave tasks out, and which lines were taken in.
+#[derive(Drop)]
+pub(crate) struct Told<B: Room, W: Write> {
+    pub(crate) page: Page<W>,
+    pub(crate) submitter: Submitter<B>,
+    pub(crate) feed: Feed<B>,
+    pub(crate) lines: Listed<RawText>,
+}
+
+impl<B: Room, W: Write + Drop> Counter<B, W> {
+    /// Answers lines at this desk, and prints what is given out here.
+    pub(crate) fn new(desk: Desk<B, W>, feed: Feed<B>) -> Counter<B, W>
+        ensures { (result.desk ≡ desk) × (result.feed ≡ feed) × (result.lines ≡ []) }
+    {
+        Counter {
+            desk,
+            feed,
+            lines: Listed::of::<(), Nothing>(&()),
+        }
+    }
+
+    /// What is left of it.
+    pub(crate) fn into_told(self) -> Told<B, W>
+        ensures { (result.page ≡ self.desk.page) × (result.submitter ≡ self.desk.submitter) × (result.feed ≡ self.feed) × (result.lines ≡ self.lines) }
+    {
+        let Counter { desk, feed, lines } = self;
+        let (page, submitter) = desk.into_parts();
+        Told {
+            page,
+            submitter,
+            feed,
+            lines,
+        }
+    }
+
+    /// Takes in a line. No where nothing is answered any more.
+    fn take<R: Wait, C: Clock>(&mut self, rt: &R, clock: &C, line: Vec<u8>) -> bool
+        requires { length self.old.desk.pending.lines.items < 64 }
+        ensures { (first : Option (List ℕ)) → Counts (C.tells clock.now) first self.old.feed self.old.desk.submitter self.old.desk.pending.lines.items self.old.lines self.old.desk.page
+            → Goes (C.tells clock.now) first result self.new.feed self.new.desk.submitter self.new.desk.pending.lines.items self.new.lines self.new.desk.page }
+    {
+        let read = Snapshot::of(&line);
+        let goes_on = self.desk.take_line(rt, clock, line);
+        let lines = with_line(&self.lines, read);
+        self.lines = lines;
+        goes_on
+    }
+
+    /// Prints the task that is given out next, or sleeps until there is something else to be done. No where nothing is any more.
+    fn listen<R: Wait, C: Clock>(&mut self, rt: &R, _clock: &C) -> bool
+        ensures { (first : Option (List ℕ)) → Counts (C.tells _clock.now) first self.old.feed self.old.desk.submitter self.old.desk.pending.lines.items self.old.lines self.old.desk.page
+            → Goes (C.tells _clock.now) first result self.new.feed self.new.desk.submitter self.new.desk.pending.lines.items self.new.lines self.new.desk.page }
+    {
+        let fed = self.feed.listen(rt);
+        self.desk.print_fed(rt, &fed);
+        is_open(&fed)
+    }
+
+    /// Prints one more of the tasks that are ready once all that was submitted is answered. No where there is none.
+    fn print_last<R: Wait, C: Clock>(&mut self, rt: &R, _clock: &C) -> bool
+        ensures { (first : Option (List ℕ)) → Counted (C.tells _clock.now) first self.old.feed self.old.desk.submitter self.old.lines self.old.desk.page
+            → Counted (C.tells _clock.now) first self.new.feed self.new.desk.submitter self.new.lines self.new.desk.page }
+    {
+        let fed = self.feed.last(rt);
+        self.desk.print_fed(rt, &fed);
+        is_task(&fed)
+    }
+
+    /// Prints all of these.
+    fn print_all<R: Wait, C: Clock>(&mut self, rt: &R, clock: &C)
+        ensures { (first : Option (List ℕ)) → Counted (C.tells clock.now) first self.old.feed self.old.desk.submitter self.old.lines self.old.desk.page
+            → Counted (C.tells clock.now) first self.new.feed self.new.desk.submitter self.new.lines self.new.desk.page }
+    {
+        'tasks: for _ in rt.forever() {
+            if !self.print_last(rt, clock) {
+                return;
+            }
+        }
+        unreachable!()
+    }
+
+    /// Prints all replies that are to come, and then the tasks that are ready.
+    fn end<R: Wait, C: Clock>(&mut self, rt: &R, clock: &C)
+        ensures { (first : Option (List ℕ)) → Counts (C.tells clock.now) first self.old.feed self.old.desk.submitter self.old.desk.pending.lines.items self.old.lines self.old.desk.page
+            → Counted (C.tells clock.now) first self.new.feed self.new.desk.submitter self.new.lines self.new.desk.page }
+    {
+        self.desk.tell_all(rt);
+        self.print_all(rt, clock);
+    }
+
+    /// As `end`, where the input can't be read any more.
+    fn fail<R: Wait, C: Clock>(&mut self, rt: &R, clock: &C)
+        ensures { (first : Option (List ℕ)) → Counts (C.tells clock.now) first self.old.feed self.old.desk.submitter self.old.desk.pending.lines.items self.old.lines self.old.desk.page
+            → Counted (C.tells clock.now) first self.new.feed self.new.desk.submitter self.new.lines self.new.desk.page }
+    {
+        self.desk.fail();
+        self.end(rt, clock);
+    }
+
+    /// Prints the oldest reply; where nothing is to be answered, a task, or sleeps until there is something. No where it is over.
+    fn tell<R: Wait, C: Clock>(&mut self, rt: &R, clock: &C) -> bool
+        ensures { (first : Option (List ℕ)) → Counts (C.tells clock.now) first self.old.feed self.old.desk.submitter self.old.desk.pending.lines.items self.old.lines self.old.desk.page
+            → Goes (C.tells clock.now) first result self.new.feed self.new.desk.submitter self.new.desk.pending.lines.items self.new.lines self.new.desk.page }
+    {
+        if self.desk.has_pending() {
+            return self.desk.tell_oldest(rt);
+        }
+        self.listen(rt, clock)
+    }
+
+    /// Takes in the line that is there; else tells of what it has. So a worker that writes its report before it reads on is never
+    /// waited for by one who waits for it: a task is printed only where no report waits. No where it is over.
+    #[tactic(auto, using(crate::proofs::Counting::goes_over, crate::proofs::Counting::counted))]
+    fn step<R: Wait, C: Clock>(&mut self, rt: &R, clock: &C, inputs: &Receiver<Input>) -> bool
+        ensures { (first : Option (List ℕ)) → Counts (C.tells clock.now) first self.old.feed self.old.desk.submitter self.old.desk.pending.lines.items self.old.lines self.old.desk.page
+            → Goes (C.tells clock.now) first result self.new.feed self.new.desk.submitter self.new.desk.pending.lines.items self.new.lines self.new.desk.page }
+    {
+        match self.desk.ready_input(rt, inputs) {
+            Some(Input::Line(line)) => self.take(rt, clock, line),
+            Some(Input::Ended) => {
+                self.end(rt, clock);
+                false
+            }
+            Some(Input::Failed) => {
+                self.fail(rt, clock);
+                false
+            }
+            Some(Input::Stopped) => false,
+            None => self.tell(rt, clock),
+        }
+    }
+
+    /// Submits the lines that are read, each at the moment that the clock tells then, and prints their replies in the order of the
+    /// lines, and tasks in between, until the input has ended and all is printed, or nothing is answered any more.
+    pub(crate) fn serve_lines<R: Wait, C: Clock>(
+        &mut self,
+        rt: &R,
+        clock: &C,
+        inputs: &Receiver<Input>,
+    )
+        ensures { (first : Option (List ℕ)) → Counts (C.tells clock.now) first self.old.feed self.old.desk.submitter self.old.desk.pending.lines.items self.old.lines self.old.desk.page
+            → Counted (C.tells clock.now) first self.new.feed self.new.desk.submitter self.new.lines self.new.desk.page }
+    {
+        'steps: for _ in rt.forever() {
+            if !self.step(rt, clock, inputs) {
+                return;
+            }
+        }
+        unreachable!()
+    }
+}

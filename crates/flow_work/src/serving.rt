@@ -1,0 +1,275 @@
+//! A running engine whose activities are outside: tasks are lines that it prints, and their reports lines that it reads.
+ghost use Rattle.std.specs.Prelude.{◌≡◌, ◌≤◌, [], IfOk, IfErr, OnOk};
+ghost use Rattle.flow_hub.specs.Knowing.{IsBefore, IsSamePart, nothing};
+ghost use Rattle.flow_hub.specs.Seating.{IsRoomOf};
+ghost use Rattle.flow_engine.specs.Answering.{Follows};
+ghost use Rattle.flow_work.specs.Endings.{EndsServing, HasServedAll};
+ghost use Rattle.flow_work.specs.Printing.{blank};
+ghost use Rattle.flow_work.specs.Serving.{Shows};
+
+use crate::counter::Told;
+use crate::crew::{start_ringing, start_timer};
+use crate::desk::Desk;
+use crate::ended::{Ended, Served};
+use crate::input::Input;
+use crate::running::{Opening, begin, feed_of, open_hub, open_lines, reporter, serve_new};
+use crate::teller::{Owed, Teller, start_teller};
+use crossbeam_channel::Sender;
+use crossbeam_utils::sync::WaitGroup;
+use flow_base::fault::Fault;
+use flow_engine::engine::Engine;
+use flow_hub::feed::Feed;
+use flow_hub::hub::Hub;
+use flow_hub::publisher::Publisher;
+use flow_hub::seats::{Opened, Room};
+use flow_settings::settings::Settings;
+use flow_timers::Clock;
+use sqlite::Alter;
+use std::alloc::Global;
+use std::io::{BufRead, Write};
+use std::marker::Brand;
+use std::sync::{Arc, Wait};
+use std::thread::{PromisedHandle, Threads};
+use std::time;
+
+/// How many lines may be read ahead: more than a worker has tasks in its hands that it has read and not looked at, so that it may write
+/// their reports though its next lines can't be printed.
+const MOST_LINES: usize = 4_096;
+
+/// Starts who fires what is due.
+fn start_timing<B, R, C>(rt: &R, hub: &Hub<B>, clock: C, group: &WaitGroup) -> Result<(), Fault>
+where
+    B: Room + Send + Sync + 'static,
+    R: Threads + Wait + time::Clock + Copy + Send + Drop + 'static,
+    C: Clock + Copy + Send + Drop + 'static,
+    ensures { IfErr result (λ f. f ≡ Fault.NoMemory _) }
+{
+    let group = group.clone()?;
+    let reports = reporter(rt, hub, None)?;
+    start_timer(rt, reports, clock, group)
+}
+
+/// What the threads that read and print have beside where the lines come from and where they go.
+struct Supplies<B: Room> {
+    opening: Opening<B>,
+    feed: Feed<B>,
+    /// For who reads.
+    its_hub: Arc<Hub<B>, Global>,
+}
+
+/// Starts who fires what is due, and opens what those need who read and print.
+fn start_first<B, R, C>(
+    rt: &R,
+    alloc: Global,
+    hub: &Arc<Hub<B>, Global>,
+    clock: C,
+    group: &WaitGroup,
+) -> Result<Supplies<B>, Fault>
+where
+    B: Room + Send + Sync + 'static,
+    R: Threads + Wait + time::Clock + Copy + Send + Drop + 'static,
+    C: Clock + Copy + Send + Drop + 'static,
+    ensures none { IfOk result (λ s. (s.opening.pending.lines.items ≡ []) × (s.feed ≡ nothing)) }
+    ensures refused { IfErr result (λ f. f ≡ Fault.NoMemory _) }
+{
+    start_timing(rt, hub, clock, group)?;
+    let feed = feed_of(rt, hub)?;
+    let its_hub = Arc::try_clone(hub)?;
+    let opening = open_lines(rt, alloc, hub, MOST_LINES)?;
+    Ok(Supplies {
+        opening,
+        feed,
+        its_hub,
+    })
+}
+
+/// Who answers lines and prints tasks, and the end by which it is told that no line is answered any more.
+type Telling<B, W, C> = (PromisedHandle<Told<B, W>, Owed<B, W, C>>, Sender<Input>);
+
+/// Starts who reads lines and who answers them and prints tasks.
+fn start_lines<B, R, I, W, C>(
+    rt: &R,
+    alloc: Global,
+    supplies: Supplies<B>,
+    reader: I,
+    writer: W,
+    clock: C,
+) -> Result<Telling<B, W, C>, Fault>
+where
+    B: Room + Send + Sync + 'static,
+    R: Threads + Wait + Copy + Send + Drop + 'static,
+    I: BufRead + Drop + Send + 'static,
+    W: Write + Drop + Send + 'static,
+    C: Clock + Copy + Send + Drop + 'static,
+    requires none { (supplies.opening.pending.lines.items ≡ []) × (supplies.feed ≡ nothing) }
+    ensures page { IfOk result (λ r. (r.0.promise.desk.value.page ≡ blank (W.contents writer)) × (r.0.promise.desk.value.pending.lines.items ≡ [])) }
+    ensures owed { IfOk result (λ r. (r.0.promise.feed.value ≡ nothing) × (r.0.promise.clock.value ≡ clock)) }
+    ensures refused { IfErr result (λ f. f ≡ Fault.NoMemory _) }
+{
+    let Supplies {
+        opening,
+        feed,
+        its_hub,
+    } = supplies;
+    let Opening {
+        lines,
+        own_lines,
+        inputs,
+        pending,
+        submitter,
+        hub,
+    } = opening;
+    let desk = Desk::new(alloc, submitter, pending, writer);
+    let teller = Teller {
+        desk,
+        feed,
+        inputs,
+        hub,
+    };
+    start_ringing(rt, alloc, reader, lines, its_hub)?;
+    let telling = start_teller(rt, teller, clock)?;
+    Ok((telling, own_lines))
+}
+
+/// Starts all threads but the one that serves.
+fn start_all<B, R, I, W, C>(
+    rt: &R,
+    alloc: Global,
+    hub: &Arc<Hub<B>, Global>,
+    reader: I,
+    writer: W,
+    clock: C,
+    group: &WaitGroup,
+) -> Result<Telling<B, W, C>, Fault>
+where
+    B: Room + Send + Sync + 'static,
+    R: Threads + Wait + time::Clock + Copy + Send + Drop + 'static,
+    I: BufRead + Drop + Send + 'static,
+    W: Write + Drop + Send + 'static,
+    C: Clock + Copy + Send + Drop + 'static,
+    ensures page { IfOk result (λ r. (r.0.promise.desk.value.page ≡ blank (W.contents writer)) × (r.0.promise.desk.value.pending.lines.items ≡ [])) }
+    ensures owed { IfOk result (λ r. (r.0.promise.feed.value ≡ nothing) × (r.0.promise.clock.value ≡ clock)) }
+    ensures refused { IfErr result (λ f. f ≡ Fault.NoMemory _) }
+{
+    let supplies = start_first(rt, alloc, hub, clock, group)?;
+    start_lines(rt, alloc, supplies, reader, writer, clock)
+}
+
+/// What came of it, once the thread has ended that printed: what it had of the hub is taken back.
+fn taken_back<B: Room, R: Wait, W: Write + Drop>(
+    rt: &R,
+    publisher: &mut Publisher<B>,
+    told: Told<B, W>,
+    served: Result<(), Fault>,
+) -> Served<W>
+    ensures served { result.ended.served ≡ served }
+    ensures printed { (W.contents result.ended.writer ≡ told.page.bytes) × (result.is_mute ≡ told.page.is_mute) × (result.shown ≡ told.page.shown) }
+    ensures lines { result.lines ≡ told.lines }
+    ensures submitter { IsBefore told.submitter.was publisher.new }
+    ensures feed { IsBefore told.feed publisher.new }
+    ensures part { IsSamePart publisher.old publisher.new }
+{
+    let Told {
+        page,
+        submitter,
+        feed,
+        lines,
+    } = told;
+    publisher.meet(rt, submitter, feed);
+    let shown = page.shown();
+    let (writer, status, is_mute) = page.into_parts();
+    Served {
+        ended: Ended {
+            writer,
+            status,
+            served,
+        },
+        is_mute,
+        lines,
+        shown,
+    }
+}
+
+/// Runs an engine: serves, fires what is due by the clock, reads lines, prints their replies, and in between a line for each task,
+/// until the input has ended and each line has its reply. Then it prints the tasks that are ready.
+///
+/// # Failure
+/// E01 where there's no memory or no thread to begin with: nothing is served then.
+pub fn serve<S, R, I, W, C>(
+    rt: &R,
+    alloc: Global,
+    engine: &mut Engine<S>,
+    reader: I,
+    writer: W,
+    settings: Settings,
+    clock: C,
+) -> Result<Served<W>, Fault>
+where
+    S: Alter,
+    R: Threads + Wait + time::Clock + Copy + Send + Drop + 'static,
+    I: BufRead + Drop + Send + 'static,
+    W: Write + Drop + Send + 'static,
+    C: Clock + Copy + Send + Drop + 'static,
+    requires { engine.old.log ≡ [] }
+    // What is said of `work`.
+    ensures served { IfOk result (λ e. OnOk e.ended.served (HasServedAll S.Store engine.old engine.new)) }
+    ensures ends { IfOk result (λ e. IfErr e.ended.served (EndsServing S.Store engine.old engine.new)) }
+    ensures goes_on { IfOk result (λ e. OnOk e.ended.served (engine.new.halted ≡ engine.old.halted)) }
+    ensures unserved { IfErr result (λ f. (f ≡ Fault.NoMemory _) × (engine.new ≡ engine.old)) }
+    ensures found { engine.new.found ≡ engine.old.found }
+    ensures follows { Follows S.Store engine.old engine.new }
+    // What was printed: to the lines that were taken in, in their order, what is said of them by what was kept and what wasn't; and in
+    // between the tasks that were posted.
+    ensures shown { IfOk result (λ e. Shows S.Store (C.tells clock) engine.old engine.new (W.contents writer) (W.contents e.ended.writer) e.is_mute e.lines e.shown) }
+{
+    let (group, opened) = begin(alloc)?;
+    serve_in::<S, Brand, R, I, W, C>(
+        rt, alloc, opened, group, engine, reader, writer, settings, clock,
+    )
+}
+
+fn serve_in<S, B, R, I, W, C>(
+    rt: &R,
+    alloc: Global,
+    opened: Opened,
+    group: WaitGroup,
+    engine: &mut Engine<S>,
+    reader: I,
+    writer: W,
+    settings: Settings,
+    clock: C,
+) -> Result<Served<W>, Fault>
+where
+    S: Alter,
+    B: Room + Send + Sync + 'static,
+    R: Threads + Wait + time::Clock + Copy + Send + Drop + 'static,
+    I: BufRead + Drop + Send + 'static,
+    W: Write + Drop + Send + 'static,
+    C: Clock + Copy + Send + Drop + 'static,
+    requires room { IsRoomOf opened B.table B.name B.parts }
+    requires fresh { engine.old.log ≡ [] }
+    ensures served { IfOk result (λ e. OnOk e.ended.served (HasServedAll S.Store engine.old engine.new)) }
+    ensures ends { IfOk result (λ e. IfErr e.ended.served (EndsServing S.Store engine.old engine.new)) }
+    ensures goes_on { IfOk result (λ e. OnOk e.ended.served (engine.new.halted ≡ engine.old.halted)) }
+    ensures unserved { IfErr result (λ f. (f ≡ Fault.NoMemory _) × (engine.new ≡ engine.old)) }
+    ensures found { engine.new.found ≡ engine.old.found }
+    ensures follows { Follows S.Store engine.old engine.new }
+    ensures shown { IfOk result (λ e. Shows S.Store (C.tells clock) engine.old engine.new (W.contents writer) (W.contents e.ended.writer) e.is_mute e.lines e.shown) }
+{
+    let (mut publisher, hub) = open_hub::<B>(alloc, opened)?;
+    match start_all(rt, alloc, &hub, reader, writer, clock, &group) {
+        Ok((telling, own_lines)) => {
+            let served = serve_new(rt, engine, &mut publisher, &clock, settings.batch());
+            // Who answers lines may have none, and none is answered any more.
+            let _ = own_lines.send(rt, Input::Stopped);
+            let told = telling.join(rt);
+            group.wait(rt);
+            Ok(taken_back(rt, &mut publisher, told, served))
+        }
+        Err(fault) => {
+            hub.close(rt);
+            group.wait(rt);
+            Err(fault)
+        }
+    }
+}

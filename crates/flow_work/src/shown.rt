@@ -1,0 +1,12 @@
+//! What is printed.
+use flow_cli::reply::Line;
+use flow_machine::task::Task;
+
+/// A line that was printed.
+#[derive(Debug, Drop)]
+pub enum Shown {
+    /// What a line that was read is answered.
+    Reply(Line),
+    /// A task that is to be done outside.
+    Task(Task),
+}

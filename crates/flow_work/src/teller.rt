@@ -1,0 +1,89 @@
+//! What the thread has that answers lines and prints tasks, and what it owes for it.
+ghost use Rattle.std.specs.Prelude.{◌≡◌, IfErr, IfOk};
+ghost use Rattle.flow_work.specs.Counting.{Owes};
+
+use crate::counter::{Counter, Told};
+use crate::desk::Desk;
+use crate::input::Input;
+use crossbeam_channel::Receiver;
+use flow_base::fault::Fault;
+use flow_hub::feed::Feed;
+use flow_hub::hub::Hub;
+use flow_hub::seats::Room;
+use flow_timers::Clock;
+use std::alloc::{AllocError, Global};
+use std::io::Write;
+use std::snapshot::Snapshot;
+use std::sync::{Arc, Wait};
+use std::thread;
+use std::thread::{Promise, PromisedHandle, Threads};
+
+/// All that the thread has that answers lines and prints tasks.
+#[derive(Drop)]
+pub(crate) struct Teller<B: Room, W: Write> {
+    pub(crate) desk: Desk<B, W>,
+    pub(crate) feed: Feed<B>,
+    pub(crate) inputs: Receiver<Input>,
+    pub(crate) hub: Arc<Hub<B>, Global>,
+}
+
+/// What it began with. Behind its end it has printed a reply for each line that it took in, in their order, and the tasks that were
+/// given to it.
+#[derive(Drop)]
+pub(crate) struct Owed<B: Room, W: Write, C> {
+    pub(crate) desk: Snapshot<Desk<B, W>>,
+    pub(crate) feed: Snapshot<Feed<B>>,
+    pub(crate) clock: Snapshot<C>,
+}
+
+impl<B: Room, W: Write, C: Clock> Promise<Told<B, W>> for Owed<B, W, C> {
+    ghost use Rattle.flow_work.specs.Counting.{Owes};
+
+    ghost kept_by = { λ p r. Owes (C.tells p.clock.value) p.desk.value.page p.desk.value.pending.lines.items p.feed.value r.feed r.submitter r.lines r.page };
+}
+
+/// Answers lines and prints tasks until the input has ended, and then closes the hub.
+fn run_teller<B: Room, W: Write + Drop, R: Wait, C: Clock>(
+    rt: &R,
+    teller: Teller<B, W>,
+    clock: &C,
+) -> Told<B, W>
+    ensures { Owes (C.tells clock.now) teller.desk.page teller.desk.pending.lines.items teller.feed result.feed result.submitter result.lines result.page }
+{
+    let Teller {
+        desk,
+        feed,
+        inputs,
+        hub,
+    } = teller;
+    let mut counter = Counter::new(desk, feed);
+    counter.serve_lines(rt, clock, &inputs);
+    hub.close(rt);
+    counter.into_told()
+}
+
+/// Starts the thread that answers lines and prints tasks. E01 where there is none.
+pub(crate) fn start_teller<B, R, W, C>(
+    rt: &R,
+    teller: Teller<B, W>,
+    clock: C,
+) -> Result<PromisedHandle<Told<B, W>, Owed<B, W, C>>, Fault>
+where
+    B: Room + Send + Sync + 'static,
+    R: Threads + Wait + Copy + Send + Drop + 'static,
+    W: Write + Drop + Send + 'static,
+    C: Clock + Copy + Send + Drop + 'static,
+    ensures owed { IfOk result (λ h. (h.promise.desk.value ≡ teller.desk) × (h.promise.feed.value ≡ teller.feed) × (h.promise.clock.value ≡ clock)) }
+    ensures refused { IfErr result (λ f. f ≡ Fault.NoMemory _) }
+{
+    let its = *rt;
+    let owed = Owed {
+        desk: Snapshot::of(&teller.desk),
+        feed: Snapshot::of(&teller.feed),
+        clock: Snapshot::of(&clock),
+    };
+    match thread::spawn_with(rt, owed, move || run_teller(&its, teller, &clock)) {
+        Ok(thread) => Ok(thread),
+        Err(refused) => Err(Fault::from(AllocError::from(refused))),
+    }
+}
