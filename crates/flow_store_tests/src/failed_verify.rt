@@ -159,7 +159,9 @@ fn figures_of(alloc: Global, step: u64) -> Option<[u64; 4]> {
     swept(alloc, &base, book, step)
 }
 
-/// What the filled store holds.
+/// What the filled store holds, counted by hand along the rule's commands: two texts, and a run that was signalled and ended early (8
+/// events), one that was signalled and sleeps (7), one that was sent a signal which it doesn't know, and waits (4), and one whose only
+/// activity has failed once (2).
 const HELD: Reported = Reported::Holds(2, 4, 21);
 
 fn are_right(figures: Option<[u64; 4]>) -> bool {
