@@ -68,7 +68,7 @@ or_right false b e = e
 
 -- whatever holds of the ids within holds of each patch
 mutual
-  own_statement : (g : Bytes → Bool) (ds : List Declared) (s : Scope) → s.activities ≡ activity_of ds → (t : Statement) → ((i : Bytes) → has_id i t ≡ true → g i ≡ false) → Clean (faults_of_statement s t) → Own g (activities_of ds) t
+  own_statement : (g : Bytes → Bool) (ds : List Declared) (s : Scope) → s.activities ≡ activity_of ds → (t : Statement) → ((i : Bytes) → has_id true i t ≡ true → g i ≡ false) → Clean (faults_of_statement s t) → Own g (activities_of ds) t
   own_statement g ds s e (Call at x activity_at a es r o) h c =
       let call = faults_of_call s.types (s.activities a) activity_at es in
       let assigned = faults_of_assigned (s.types x) at (given (s.activities a)) at in
@@ -83,19 +83,19 @@ mutual
       (clean_right ((unknown_signal (s.signals n) signal_at ++ faults_of_assigned (s.types x) at (s.signals n) at) ++ faults_of_wanted s.types Int d) (faults_of_block s b) c)
   own_statement g ds s e (If at d a a_end b b_end) h c =
       let wanted = faults_of_wanted s.types Int d in (
-        own_block g ds s e a (λ i y. h i (or_left (block_has i a) (block_has i b) y))
+        own_block g ds s e a (λ i y. h i (or_left (block_has true i a) (block_has true i b) y))
             (clean_right wanted (faults_of_block s a) (clean_left (wanted ++ faults_of_block s a) (faults_of_block s b) c)),
-        own_block g ds s e b (λ i y. h i (or_right (block_has i a) (block_has i b) y)) (clean_right (wanted ++ faults_of_block s a) (faults_of_block s b) c),
+        own_block g ds s e b (λ i y. h i (or_right (block_has true i a) (block_has true i b) y)) (clean_right (wanted ++ faults_of_block s a) (faults_of_block s b) c),
       )
   own_statement g ds s e (While at d b end) h c = own_block g ds s e b h (clean_right (faults_of_wanted s.types Int d) (faults_of_block s b) c)
   own_statement g ds s e (Parallel at bs end) h c =
       own_branches g ds (record s { in_parallel = true }) e bs h
       (clean_right (fault_at_first code.TooManyBranches (drop branch_limit (branch_places bs))) (faults_of_branches (record s { in_parallel = true }) bs) c)
   own_statement g ds s e (Patch at id_at id a a_end b b_end) h c = (
-    h id (or_left (bytes_eq id id) (block_has id a || block_has id b) ((bytes_decides id id).1 refl)),
-    own_block g ds s e a (λ i y. h i (or_right (bytes_eq id i) (block_has i a || block_has i b) (or_left (block_has i a) (block_has i b) y)))
+    h id (or_left (bytes_eq id id) (block_has true id a || block_has true id b) ((bytes_decides id id).1 refl)),
+    own_block g ds s e a (λ i y. h i (or_right (bytes_eq id i) (block_has true i a || block_has true i b) (or_left (block_has true i a) (block_has true i b) y)))
         (clean_left (faults_of_block s a) (faults_of_block s b) c),
-    own_block g ds s e b (λ i y. h i (or_right (bytes_eq id i) (block_has i a || block_has i b) (or_right (block_has i a) (block_has i b) y)))
+    own_block g ds s e b (λ i y. h i (or_right (bytes_eq id i) (block_has true i a || block_has true i b) (or_right (block_has true i a) (block_has true i b) y)))
         (clean_right (faults_of_block s a) (faults_of_block s b) c),
   )
   own_statement g ds s e (Deprecate at id_at id) h c = h id ((bytes_decides id id).1 refl)
@@ -107,27 +107,27 @@ mutual
   own_statement g ds s e (FailWith at d) h c = tt
   own_statement g ds s e (Continue at es) h c = tt
 
-  own_block : (g : Bytes → Bool) (ds : List Declared) (s : Scope) → s.activities ≡ activity_of ds → (b : Block) → ((i : Bytes) → block_has i b ≡ true → g i ≡ false) → Clean (faults_of_block s b) → OwnBlock g (activities_of ds) b
+  own_block : (g : Bytes → Bool) (ds : List Declared) (s : Scope) → s.activities ≡ activity_of ds → (b : Block) → ((i : Bytes) → block_has true i b ≡ true → g i ≡ false) → Clean (faults_of_block s b) → OwnBlock g (activities_of ds) b
   own_block g ds s e End h c = tt
   own_block g ds s e (Next t b) h c = (
-    own_statement g ds s e t (λ i y. h i (or_left (has_id i t) (block_has i b) y)) (clean_left (faults_of_statement s t) (faults_of_block (behind s t) b) c),
-    own_block g ds (behind s t) (behind_keeps s t ∙ e) b (λ i y. h i (or_right (has_id i t) (block_has i b) y))
+    own_statement g ds s e t (λ i y. h i (or_left (has_id true i t) (block_has true i b) y)) (clean_left (faults_of_statement s t) (faults_of_block (behind s t) b) c),
+    own_block g ds (behind s t) (behind_keeps s t ∙ e) b (λ i y. h i (or_right (has_id true i t) (block_has true i b) y))
         (clean_right (faults_of_statement s t) (faults_of_block (behind s t) b) c),
   )
 
-  own_otherwise : (g : Bytes → Bool) (ds : List Declared) (s : Scope) → s.activities ≡ activity_of ds → (o : Otherwise) → ((i : Bytes) → otherwise_has i o ≡ true → g i ≡ false) → Clean (faults_of_otherwise s o) → OwnOtherwise g (activities_of ds) o
+  own_otherwise : (g : Bytes → Bool) (ds : List Declared) (s : Scope) → s.activities ≡ activity_of ds → (o : Otherwise) → ((i : Bytes) → otherwise_has true i o ≡ true → g i ≡ false) → Clean (faults_of_otherwise s o) → OwnOtherwise g (activities_of ds) o
   own_otherwise g ds s e NoElse h c = tt
   own_otherwise g ds s e (Else b end) h c = own_block g ds s e b h c
 
-  own_branches : (g : Bytes → Bool) (ds : List Declared) (s : Scope) → s.activities ≡ activity_of ds → (bs : Branches) → ((i : Bytes) → branches_have i bs ≡ true → g i ≡ false) → Clean (faults_of_branches s bs) → OwnBranches g (activities_of ds) bs
+  own_branches : (g : Bytes → Bool) (ds : List Declared) (s : Scope) → s.activities ≡ activity_of ds → (bs : Branches) → ((i : Bytes) → branches_have true i bs ≡ true → g i ≡ false) → Clean (faults_of_branches s bs) → OwnBranches g (activities_of ds) bs
   own_branches g ds s e NoBranch h c = tt
   own_branches g ds s e (Branch at b end bs) h c = (
-    own_block g ds s e b (λ i y. h i (or_left (block_has i b) (branches_have i bs) y)) (clean_left (faults_of_block s b) (faults_of_branches s bs) c),
-    own_branches g ds s e bs (λ i y. h i (or_right (block_has i b) (branches_have i bs) y)) (clean_right (faults_of_block s b) (faults_of_branches s bs) c),
+    own_block g ds s e b (λ i y. h i (or_left (block_has true i b) (branches_have true i bs) y)) (clean_left (faults_of_block s b) (faults_of_branches s bs) c),
+    own_branches g ds s e bs (λ i y. h i (or_right (block_has true i b) (branches_have true i bs) y)) (clean_right (faults_of_block s b) (faults_of_branches s bs) c),
   )
 
 -- the body of a well-formed program, where no id in it is new
-pub own_body : (g : Bytes → Bool) (p : Program) → ((i : Bytes) → block_has i p.body ≡ true → g i ≡ false) → WellFormed p → OwnBlock g (activities_of p.declarations) p.body
+pub own_body : (g : Bytes → Bool) (p : Program) → ((i : Bytes) → block_has true i p.body ≡ true → g i ≡ false) → WellFormed p → OwnBlock g (activities_of p.declarations) p.body
 own_body g p h w =
     own_block g p.declarations (scope_of p) refl p.body h
     (clean_right (faults_of_names [] (names_of p) ++ faults_of_declarations p.declarations) (faults_of_block (scope_of p) p.body) (λ f x. w f.code f.at x))

@@ -7,7 +7,7 @@ use Rattle.flow_patch.specs.Difference.{same_head, first_list, second_list, bran
 
 -- an id that no patch and no `deprecate` of the list has
 abbrev pub unknown_in : Block → Bytes → Bool
-unknown_in b id = not (block_has id b)
+unknown_in b id = not (block_has true id b)
 
 -- what is left, where no place is told
 abbrev pub unless_told : Option ℕ → Block → Result Block ℕ

@@ -6,7 +6,7 @@ use Rattle.flow_base.specs.Bare.{bare_block, bare_parameter, bare_declared}
 use Rattle.flow_base.specs.declared.event.Event.{Event}
 use Rattle.flow_model.specs.Configuration.{Configuration}
 use Rattle.flow_model.specs.Stands.{Stands}
-use Rattle.flow_patch.specs.Wrap.{joined, Patching, changed, SameToASubmitter}
+use Rattle.flow_patch.specs.Wrap.{joined, block_has, Patching, changed, SameToASubmitter}
 
 -- What stands where a patch was: a first meeting records the marker, as the patch did, and nothing else is done.
 abbrev pub deprecated : Bytes → Statement
@@ -24,29 +24,6 @@ abbrev pub settled : (Bytes → Bool) → Block → Block
 settled f b = changed (settling f) b
 
 ---- The ids that a change settles
-
--- whether a patch within has this id; a `deprecate` doesn't count
-abbrev mutual
-  pub is_patched : Bytes → Statement → Bool
-  is_patched i (Call at x activity_at a es r o) = patched_in_else i o
-  is_patched i (WaitSignalFor at x signal_at n e b end) = patched_in i b
-  is_patched i (If at e a a_end b b_end) = patched_in i a || patched_in i b
-  is_patched i (While at e b end) = patched_in i b
-  is_patched i (Parallel at bs end) = patched_beside i bs
-  is_patched i (Patch at id_at id a a_end b b_end) = bytes_eq id i || (patched_in i a || patched_in i b)
-  is_patched i s = false
-
-  pub patched_in : Bytes → Block → Bool
-  patched_in i End = false
-  patched_in i (Next s b) = is_patched i s || patched_in i b
-
-  pub patched_in_else : Bytes → Otherwise → Bool
-  patched_in_else i NoElse = false
-  patched_in_else i (Else b end) = patched_in i b
-
-  pub patched_beside : Bytes → Branches → Bool
-  patched_beside i NoBranch = false
-  patched_beside i (Branch at b end bs) = patched_in i b || patched_beside i bs
 
 -- the ids under `deprecate` of which f holds, in the order of their places
 abbrev mutual
@@ -72,9 +49,9 @@ abbrev mutual
   ids_beside f NoBranch = []
   ids_beside f (Branch at b end bs) = deprecated_ids f b ++ ids_beside f bs
 
--- a patch of this list has the id
+-- a patch of this list has the id; a `deprecate` doesn't count
 abbrev pub patched_by : Block → Bytes → Bool
-patched_by b id = patched_in id b
+patched_by b id = block_has false id b
 
 -- the ids that stand under `patch` in the first program and under `deprecate` in the second, in the order of their places there
 abbrev pub settled_ids : Program → Program → List Bytes

@@ -1,6 +1,6 @@
 -- Which changes of a text are safe for the runs that have begun under it: some lists of statements of the old text stand in
 -- the new one as the second lists of patches with new ids. All of it up to places in the texts.
-use Rattle.std.specs.Prelude.{◌≡◌, ◌⊎◌, ◌↔◌, ℕ, Bool, true, false, not, ◌||◌, List, ◌++◌, map, bytes_eq, if◌then◌else◌}
+use Rattle.std.specs.Prelude.{◌≡◌, ◌⊎◌, ◌↔◌, ℕ, Bool, true, false, not, ◌&&◌, ◌||◌, List, ◌++◌, map, bytes_eq, if◌then◌else◌}
 use Rattle.flow_base.specs.Syntax.{Bytes, Statement, Let, Assign, Call, WaitSignal, WaitSignalFor, Sleep, If, While, Parallel, Patch, Deprecate, Return, FailWith, Continue, Block, End, Next, Otherwise, NoElse, Else, Branches, NoBranch, Branch, Declared, Program}
 use Rattle.flow_base.specs.Bare.{bare_expression, bare_retry, bare_block, bare_parameter, bare_declared}
 use Rattle.flow_base.specs.declared.event.Event.{Event}
@@ -17,39 +17,39 @@ joined (Next s b) c = Next s (joined b c)
 
 ---- The relation
 
--- whether a patch or a `deprecate` within has this id
+-- whether a patch within has this id, or, where these count (d), a `deprecate`
 abbrev mutual
-  pub has_id : Bytes → Statement → Bool
-  has_id i (Let at name_at x e) = false
-  has_id i (Assign at x e) = false
-  has_id i (Call at x activity_at a es r o) = otherwise_has i o
-  has_id i (WaitSignal at x signal_at n) = false
-  has_id i (WaitSignalFor at x signal_at n e b end) = block_has i b
-  has_id i (Sleep at e) = false
-  has_id i (If at e a a_end b b_end) = block_has i a || block_has i b
-  has_id i (While at e b end) = block_has i b
-  has_id i (Parallel at bs end) = branches_have i bs
-  has_id i (Patch at id_at id a a_end b b_end) = bytes_eq id i || (block_has i a || block_has i b)
-  has_id i (Deprecate at id_at id) = bytes_eq id i
-  has_id i (Return at e) = false
-  has_id i (FailWith at e) = false
-  has_id i (Continue at es) = false
+  pub has_id : Bool → Bytes → Statement → Bool
+  has_id d i (Let at name_at x e) = false
+  has_id d i (Assign at x e) = false
+  has_id d i (Call at x activity_at a es r o) = otherwise_has d i o
+  has_id d i (WaitSignal at x signal_at n) = false
+  has_id d i (WaitSignalFor at x signal_at n e b end) = block_has d i b
+  has_id d i (Sleep at e) = false
+  has_id d i (If at e a a_end b b_end) = block_has d i a || block_has d i b
+  has_id d i (While at e b end) = block_has d i b
+  has_id d i (Parallel at bs end) = branches_have d i bs
+  has_id d i (Patch at id_at id a a_end b b_end) = bytes_eq id i || (block_has d i a || block_has d i b)
+  has_id d i (Deprecate at id_at id) = d && bytes_eq id i
+  has_id d i (Return at e) = false
+  has_id d i (FailWith at e) = false
+  has_id d i (Continue at es) = false
 
-  pub block_has : Bytes → Block → Bool
-  block_has i End = false
-  block_has i (Next s b) = has_id i s || block_has i b
+  pub block_has : Bool → Bytes → Block → Bool
+  block_has d i End = false
+  block_has d i (Next s b) = has_id d i s || block_has d i b
 
-  pub otherwise_has : Bytes → Otherwise → Bool
-  otherwise_has i NoElse = false
-  otherwise_has i (Else b end) = block_has i b
+  pub otherwise_has : Bool → Bytes → Otherwise → Bool
+  otherwise_has d i NoElse = false
+  otherwise_has d i (Else b end) = block_has d i b
 
-  pub branches_have : Bytes → Branches → Bool
-  branches_have i NoBranch = false
-  branches_have i (Branch at b end bs) = block_has i b || branches_have i bs
+  pub branches_have : Bool → Bytes → Branches → Bool
+  branches_have d i NoBranch = false
+  branches_have d i (Branch at b end bs) = block_has d i b || branches_have d i bs
 
 -- an id that no patch and no `deprecate` of the program has
 abbrev pub new_in : Program → Bytes → Bool
-new_in p id = not (block_has id p.body)
+new_in p id = not (block_has true id p.body)
 
 -- The old list b begins with what the new statement stands for, and R holds of what is left of b. The lists have no places.
 abbrev mutual

@@ -1,59 +1,12 @@
 //! The ids that a change settles.
 ghost use Rattle.std.specs.Prelude.{◌≡◌, [], ◌∷◌, ◌++◌, map, if◌then◌else◌, IfOk, OnOk};
 ghost use Rattle.flow_base.specs.Shown.{shown_block, shown_braced, shown_branch, shown_program, shown_stmt, branches_of};
-ghost use Rattle.flow_patch.specs.Settle.{deprecated_ids, ids_beside, ids_within, is_patched, patched_beside, patched_by, patched_in, settled_ids};
+ghost use Rattle.flow_patch.specs.Settle.{deprecated_ids, ids_beside, ids_within, patched_by, settled_ids};
 
+use crate::ids::has_patch;
 use flow_base::syntax::{Block, Branch, Program, Stmt};
 use flow_base::text::Key;
 use std::alloc::{AllocError, Global};
-
-/// Whether a patch in the list has the id; a `deprecate` doesn't count.
-#[cycle(patched)]
-fn has_patch(list: &[Stmt], id: &Key) -> bool
-    ensures { result ≡ patched_in id.now (shown_block list.now) }
-{
-    for statement in list {
-        if is_patch_within(statement, id) {
-            return true;
-        }
-    }
-    false
-}
-
-#[cycle(patched)]
-fn is_patch_within(statement: &Stmt, id: &Key) -> bool
-    ensures { result ≡ is_patched id.now (shown_stmt statement.now) }
-{
-    match statement {
-        Stmt::Call(_, _, _, _, _, _, Some(otherwise)) => has_patch(otherwise.list.as_slice(), id),
-        Stmt::WaitSignalFor(_, _, _, _, _, late) => has_patch(late.list.as_slice(), id),
-        Stmt::If(_, _, then, otherwise) => {
-            has_patch(then.list.as_slice(), id) || has_patch(otherwise.list.as_slice(), id)
-        }
-        Stmt::While(_, _, body) => has_patch(body.list.as_slice(), id),
-        Stmt::Parallel(_, first, others, _) => {
-            has_patch(first.body.list.as_slice(), id) || have_patch(others, id)
-        }
-        Stmt::Patch(_, _, patch, since, before) => {
-            patch.is(id)
-                || has_patch(since.list.as_slice(), id)
-                || has_patch(before.list.as_slice(), id)
-        }
-        _ => false,
-    }
-}
-
-#[cycle(patched)]
-fn have_patch(branches: &[Branch], id: &Key) -> bool
-    ensures { result ≡ patched_beside id.now (branches_of (map shown_branch branches.now)) }
-{
-    for branch in branches {
-        if has_patch(branch.body.list.as_slice(), id) {
-            return true;
-        }
-    }
-    false
-}
 
 /// A law: what adds nothing leaves the list as it is.
 fn none_added(ids: &Vec<Key>)
@@ -64,7 +17,7 @@ fn none_added(ids: &Vec<Key>)
 fn add_id(alloc: Global, id: &Key, text: &[Stmt], ids: &mut Vec<Key>) -> Result<(), AllocError>
     ensures { OnOk result (ids.new.items ≡ ids.old.items ++ (if patched_by (shown_block text.now) id.now then id.now ∷ [] else [])) }
 {
-    if has_patch(text, id) {
+    if has_patch(text, id, false) {
         let copy = id.copy(alloc)?;
         ids.push(copy)?;
         return Ok(());

@@ -79,12 +79,12 @@ fn behind_statement<'a>(new: &Stmt, old: &'a [Stmt], text: &[Stmt]) -> Result<&'
     ensures place { IfErr result (λ at. behind_statement (unknown_in (shown_block text.now)) (shown_stmt new.now) (shown_block old.now) ≡ Err at) }
 {
     if let Stmt::Patch(_, _, id, _, before) = new {
-        if !has_patch(text, id) {
+        if !has_patch(text, id, true) {
             return behind(before.list.as_slice(), old, text);
         }
     }
     if let Stmt::Deprecate(_, _, id) = new {
-        if !has_patch(text, id) {
+        if !has_patch(text, id, true) {
             return Ok(old);
         }
     }
