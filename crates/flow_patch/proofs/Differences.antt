@@ -6,9 +6,10 @@ use Rattle.flow_base.specs.Syntax.{Bytes, Statement, Let, Assign, Call, WaitSign
 use Rattle.flow_base.specs.Bare.{bare_expression, bare_retry, bare_statement, bare_block, bare_otherwise, bare_branches, bare_parameter, bare_declared}
 use Rattle.flow_base.specs.declared.syntax.Parameter.{Parameter}
 use Rattle.flow_model.specs.Rest.{is_end}
-use Rattle.flow_patch.specs.Wrap.{joined, placed, plain, changed_otherwise, changed_branches, without_new, new_in, Wrap}
-use Rattle.flow_patch.specs.Difference.{same_head, has_else, same_flag, else_list, first_list, second_list, branches_in, place_of, beginning_of, first_place, spliced_statement, spliced, spliced_otherwise, spliced_branches, difference, difference_within, difference_else, difference_beside, same_expressions, same_retry, same_parameter, difference_of_parameters, same_declared, difference_of_declarations, place_of_declared, first_difference, DifferenceDecides}
+use Rattle.flow_patch.specs.Wrap.{plain, without_new, new_in, Wrap}
+use Rattle.flow_patch.specs.Difference.{same_head, has_else, same_flag, else_list, first_list, second_list, branches_in, place_of, beginning_of, first_place, splicing, spliced, difference, difference_within, difference_else, difference_beside, same_expressions, same_retry, same_parameter, difference_of_parameters, same_declared, difference_of_declarations, place_of_declared, first_difference, DifferenceDecides}
 use Rattle.flow_patch.proofs.Normal.{cases}
+use Rattle.flow_patch.proofs.Rebuilding.{Bares, bare_joined, bare_rebuilt}
 use Rattle.flow_patch.proofs.Turns.{none_some}
 use Rattle.flow_patch.proofs.Words.{wrap_is_computed}
 use Rattle.flow_patch.proofs.Heads.{bytes_same, bytes_self, head_by, bare_first, bare_second, bare_beside, statements_alike, parameters_alike, parameter_self, declared_alike, declared_by}
@@ -28,44 +29,14 @@ tested false o n e = absurd (none_some n (sym e))
 
 ---- What is spliced, without places
 
-bare_joined : (a b : Block) → bare_block (joined a b) ≡ joined (bare_block a) (bare_block b)
-bare_joined End b = refl
-bare_joined (Next s a) b = ap (Next (bare_statement s)) (bare_joined a b)
+bares : (f : Bytes → Bool) → Bares (splicing f) (without_new f)
+bares f = record {
+  patch = λ at id_at id a a_end b b_end k. ⊎_elim (λ (e : f id ≡ true). rw e (bare_joined b k)) (λ (e : f id ≡ false). rw e refl) (cases (f id));
+  deprecate = λ at id_at id k. ⊎_elim (λ (e : f id ≡ true). rw e refl) (λ (e : f id ≡ false). rw e refl) (cases (f id));
+}
 
-mutual
-  bare_placed : (f : Bytes → Bool) (s : Statement) (k : Block) → bare_block (spliced_statement f s k) ≡ placed (without_new f) s (bare_block k)
-  bare_placed f (Let at name_at x e) k = refl
-  bare_placed f (Assign at x e) k = refl
-  bare_placed f (Call at x activity_at a es r o) k = ap (λ w. Next (Call 0 x 0 a (map bare_expression es) (bare_retry r) w) (bare_block k)) (bare_else f o)
-  bare_placed f (WaitSignal at x signal_at n) k = refl
-  bare_placed f (WaitSignalFor at x signal_at n e b end) k = ap (λ w. Next (WaitSignalFor 0 x 0 n (bare_expression e) w 0) (bare_block k)) (bare_spliced f b)
-  bare_placed f (Sleep at e) k = refl
-  bare_placed f (If at e a a_end b b_end) k =
-      ap (λ w. Next (If 0 (bare_expression e) w 0 (bare_block (spliced f b)) 0) (bare_block k)) (bare_spliced f a)
-      ∙ ap (λ w. Next (If 0 (bare_expression e) (plain f a) 0 w 0) (bare_block k)) (bare_spliced f b)
-  bare_placed f (While at e b end) k = ap (λ w. Next (While 0 (bare_expression e) w 0) (bare_block k)) (bare_spliced f b)
-  bare_placed f (Parallel at bs end) k = ap (λ w. Next (Parallel 0 w 0) (bare_block k)) (bare_sides f bs)
-  bare_placed f (Patch at id_at id a a_end b b_end) k =
-      ⊎_elim (λ (e : f id ≡ true). rw e (bare_joined (spliced f b) k ∙ ap (λ w. joined w (bare_block k)) (bare_spliced f b)))
-      (λ (e : f id ≡ false).
-      rw e (ap (λ w. Next (Patch 0 0 id w 0 (bare_block (spliced f b)) 0) (bare_block k)) (bare_spliced f a)
-      ∙ ap (λ w. Next (Patch 0 0 id (plain f a) 0 w 0) (bare_block k)) (bare_spliced f b))) (cases (f id))
-  bare_placed f (Deprecate at id_at id) k = ⊎_elim (λ (e : f id ≡ true). rw e refl) (λ (e : f id ≡ false). rw e refl) (cases (f id))
-  bare_placed f (Return at e) k = refl
-  bare_placed f (FailWith at e) k = refl
-  bare_placed f (Continue at es) k = refl
-
-  pub bare_spliced : (f : Bytes → Bool) (b : Block) → bare_block (spliced f b) ≡ plain f b
-  bare_spliced f End = refl
-  bare_spliced f (Next s b) = bare_placed f s (spliced f b) ∙ ap (placed (without_new f) s) (bare_spliced f b)
-
-  bare_else : (f : Bytes → Bool) (o : Otherwise) → bare_otherwise (spliced_otherwise f o) ≡ changed_otherwise (without_new f) o
-  bare_else f NoElse = refl
-  bare_else f (Else b end) = ap (λ w. Else w 0) (bare_spliced f b)
-
-  bare_sides : (f : Bytes → Bool) (bs : Branches) → bare_branches (spliced_branches f bs) ≡ changed_branches (without_new f) bs
-  bare_sides f NoBranch = refl
-  bare_sides f (Branch at b end bs) = ap (λ w. Branch 0 w 0 (bare_branches (spliced_branches f bs))) (bare_spliced f b) ∙ ap (Branch 0 (plain f b) 0) (bare_sides f bs)
+pub bare_spliced : (f : Bytes → Bool) (b : Block) → bare_block (spliced f b) ≡ plain f b
+bare_spliced f b = bare_rebuilt (splicing f) (without_new f) (bares f) b
 
 ---- No difference: the same without places
 

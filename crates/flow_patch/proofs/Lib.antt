@@ -9,6 +9,7 @@ pub mod Law
 pub mod Calls
 pub mod Words
 pub mod Heads
+pub mod Rebuilding
 pub mod Differences
 pub mod Walks
 pub mod Upgrades

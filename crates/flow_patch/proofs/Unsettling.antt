@@ -5,38 +5,24 @@ use Rattle.flow_base.specs.Syntax.{Bytes, Expression, Statement, Let, Assign, Ca
 use Rattle.flow_base.specs.Bare.{bare_expression, bare_retry, bare_statement, bare_block, bare_otherwise, bare_branches}
 use Rattle.flow_base.specs.declared.syntax.Retry.{Retry}
 use Rattle.std.proofs.lemmas.Bool.{true≢false}
-use Rattle.flow_patch.specs.Wrap.{joined, changed, changed_otherwise, changed_branches, placed}
-use Rattle.flow_patch.specs.Difference.{same_head, has_else, same_flag, same_expressions, same_retry, first_list, second_list, branches_in, place_of, first_place, difference, difference_within, difference_else, difference_beside}
-use Rattle.flow_patch.specs.Behind.{unless_told, and_behind}
+use Rattle.flow_patch.specs.Wrap.{joined}
+use Rattle.flow_patch.specs.Difference.{rebuilt_statement, rebuilt_otherwise, rebuilt_branches, same_head, has_else, same_flag, same_expressions, same_retry, first_list, second_list, branches_in, place_of, first_place, difference, difference_within, difference_else, difference_beside}
+use Rattle.flow_patch.specs.Behind.{and_behind}
 use Rattle.flow_patch.specs.Settle.{deprecated, settling, settled}
-use Rattle.flow_patch.specs.Unsettled.{replaced_statement, replaced, replaced_otherwise, replaced_branches, first_end, second_end, finished, met, behind_deprecated, left, left_statement, left_else, left_beside, UnsettledIsFound, ReplacedIsSettled}
+use Rattle.flow_patch.specs.Unsettled.{replacing, replaced, first_end, second_end, finished, met, behind_deprecated, left, left_statement, left_else, left_beside, UnsettledIsFound, ReplacedIsSettled}
 use Rattle.flow_patch.proofs.Normal.{cases, both as two}
+use Rattle.flow_patch.proofs.Rebuilding.{Joins, Bares, joined_end, joined_joined, joined_rebuilt, bare_joined, bare_rebuilt, go_on, go_on_behind, matched}
 
 ---- Lists joined
 
-joined_end : (b : Block) → joined b End ≡ b
-joined_end End = refl
-joined_end (Next s b) = ap (Next s) (joined_end b)
-
-joined_joined : (a b c : Block) → joined (joined a b) c ≡ joined a (joined b c)
-joined_joined End b c = refl
-joined_joined (Next s a) b c = ap (Next s) (joined_joined a b c)
-
-joined_replaced : (f : Bytes → Bool) (s : Statement) (k m : Block) → joined (replaced_statement f s k) m ≡ replaced_statement f s (joined k m)
-joined_replaced f (Patch at id_at id a a_end b b_end) k m =
-    ⊎_elim (λ (e : f id ≡ true). rw e (ap (Next (Deprecate at id_at id)) (joined_joined (replaced f a) k m))) (λ (e : f id ≡ false). rw e refl) (cases (f id))
-joined_replaced f (Let at name_at x e) k m = refl
-joined_replaced f s k m = refl
+joins : (f : Bytes → Bool) → Joins (replacing f)
+joins f = record {
+  patch = λ at id_at id a a_end b b_end k m.
+      ⊎_elim (λ (e : f id ≡ true). rw e (ap (Next (Deprecate at id_at id)) (joined_joined a k m))) (λ (e : f id ≡ false). rw e refl) (cases (f id));
+  deprecate = λ at id_at id k m. refl;
+}
 
 ---- What comes behind a walk
-
-abbrev go_on : Result Block ℕ → (Block → Option ℕ) → Option ℕ
-go_on (Ok k) next = next k
-go_on (Err n) next = Some n
-
-go_on_behind : (r : Result Block ℕ) (g : Block → Result Block ℕ) (h j : Block → Option ℕ) → ((k : Block) → h k ≡ go_on (g k) j) → go_on r h ≡ go_on (and_behind r g) j
-go_on_behind (Ok k) g h j e = e k
-go_on_behind (Err n) g h j e = refl
 
 nothing_left : (b' : Block) (end : ℕ) → difference End b' end ≡ finished (Ok b')
 nothing_left End end = refl
@@ -45,17 +31,6 @@ nothing_left (Next u k) end = refl
 go_on_end : (r : Result Block ℕ) (end : ℕ) → go_on r (λ k. difference End k end) ≡ finished r
 go_on_end (Ok k) end = nothing_left k end
 go_on_end (Err n) end = refl
-
-told : (o : Option ℕ) (k : Block) (next : Block → Option ℕ) → first_place o (next k) ≡ go_on (unless_told o k) next
-told None k next = refl
-told (Some n) k next = refl
-
-matched : (h h' : Bool) (o o' : Option ℕ) (k : Block) (next : Block → Option ℕ) (n : ℕ) → h ≡ h' → (h' ≡ true → o ≡ o')
-    → (if h then first_place o (next k) else Some n) ≡ go_on (if h' then unless_told o' k else Err n) next
-matched true true o o' k next n e i = rw (i refl) (told o' k next)
-matched true false o o' k next n e i = absurd (true≢false e)
-matched false true o o' k next n e i = absurd (true≢false (sym e))
-matched false false o o' k next n e i = refl
 
 -- an old statement s, and t, which is s with its lists replaced
 kept : (s t : Statement) (b' k : Block) (end : ℕ) (within : Statement → Option ℕ)
@@ -67,12 +42,12 @@ kept s t (Next u r) k end within h w =
 
 ---- Heads don't read the lists within
 
-else_replaced : (f : Bytes → Bool) (o : Otherwise) → has_else (replaced_otherwise f o) ≡ has_else o
+else_replaced : (f : Bytes → Bool) (o : Otherwise) → has_else (rebuilt_otherwise (replacing f) o) ≡ has_else o
 else_replaced f NoElse = refl
 else_replaced f (Else b end) = refl
 
 head_call : (f : Bytes → Bool) (u : Statement) (at : ℕ) (x : Bytes) (activity_at : ℕ) (a : Bytes) (es : List Expression) (r : Retry) (o : Otherwise)
-    → same_head (Call at x activity_at a es r (replaced_otherwise f o)) u ≡ same_head (Call at x activity_at a es r o) u
+    → same_head (Call at x activity_at a es r (rebuilt_otherwise (replacing f) o)) u ≡ same_head (Call at x activity_at a es r o) u
 head_call f (Call at' y activity_at' b ds q w) at x activity_at a es r o = rw (else_replaced f o) refl
 head_call f u at x activity_at a es r o = refl
 
@@ -146,15 +121,15 @@ flags : (x a es r b : Bool) → (x && (a && (es && (r && b)))) ≡ true → b �
 flags x a es r b h = (two r b (two es (r && b) (two a (es && (r && b)) (two x (a && (es && (r && b))) h).1).1).1).1
 
 in_call : (f : Bytes → Bool) (u : Statement) (at : ℕ) (x : Bytes) (activity_at : ℕ) (a : Bytes) (es : List Expression) (r : Retry) (o : Otherwise) → FoundElse f o → same_head (Call at x activity_at a es r o) u ≡ true
-    → difference_within (Call at x activity_at a es r (replaced_otherwise f o)) u ≡ left_else f o u
+    → difference_within (Call at x activity_at a es r (rebuilt_otherwise (replacing f) o)) u ≡ left_else f o u
 in_call f (Call at' y activity_at' b ds q NoElse) at x activity_at a es r NoElse found h = refl
 in_call f (Call at' y activity_at' b ds q (Else c' end')) at x activity_at a es r NoElse found h = absurd (true≢false (sym (flags (bytes_eq x y) (bytes_eq a b) (same_expressions es ds) (same_retry r q) false h)))
 in_call f (Call at' y activity_at' b ds q NoElse) at x activity_at a es r (Else c end) found h = absurd (true≢false (sym (flags (bytes_eq x y) (bytes_eq a b) (same_expressions es ds) (same_retry r q) false h)))
 in_call f (Call at' y activity_at' b ds q (Else c' end')) at x activity_at a es r (Else c end) found h = found c' end'
 in_call f u at x activity_at a es r o found h = absurd (true≢false (sym h))
 
-in_parallel : (f : Bytes → Bool) (u : Statement) (at : ℕ) (bs : Branches) (end : ℕ) → ((bs' : Branches) (block_end : ℕ) → difference_beside (replaced_branches f bs) bs' block_end ≡ left_beside f bs bs' block_end)
-    → same_head (Parallel at bs end) u ≡ true → difference_within (Parallel at (replaced_branches f bs) end) u ≡ left_beside f bs (branches_in u) (first_end u)
+in_parallel : (f : Bytes → Bool) (u : Statement) (at : ℕ) (bs : Branches) (end : ℕ) → ((bs' : Branches) (block_end : ℕ) → difference_beside (rebuilt_branches (replacing f) bs) bs' block_end ≡ left_beside f bs bs' block_end)
+    → same_head (Parallel at bs end) u ≡ true → difference_within (Parallel at (rebuilt_branches (replacing f) bs) end) u ≡ left_beside f bs (branches_in u) (first_end u)
 in_parallel f (Parallel at' bs' end') at bs end found h = found bs' end'
 in_parallel f u at bs end found h = absurd (true≢false (sym h))
 
@@ -192,16 +167,16 @@ mutual
   walked : (f : Bytes → Bool) (b b' k : Block) (end : ℕ) → difference (joined (replaced f b) k) b' end ≡ go_on (left f b b' end) (λ r. difference k r end)
   walked f End b' k end = refl
   walked f (Next s b) b' k end =
-      ap (λ x. difference x b' end) (joined_replaced f s (replaced f b) k)
+      ap (λ x. difference x b' end) (joined_rebuilt (replacing f) (joins f) s (replaced f b) k)
       ∙ walked_statement f s b' (joined (replaced f b) k) end
       ∙ go_on_behind (left_statement f s b' end) (λ r. left f b r end) (λ r. difference (joined (replaced f b) k) r end) (λ r. difference k r end)
       (λ r. walked f b r k end)
 
-  walked_statement : (f : Bytes → Bool) (s : Statement) (b' k : Block) (end : ℕ) → difference (replaced_statement f s k) b' end ≡ go_on (left_statement f s b' end) (λ r. difference k r end)
+  walked_statement : (f : Bytes → Bool) (s : Statement) (b' k : Block) (end : ℕ) → difference (rebuilt_statement (replacing f) s k) b' end ≡ go_on (left_statement f s b' end) (λ r. difference k r end)
   walked_statement f (Let at name_at x e) b' k end = kept (Let at name_at x e) (Let at name_at x e) b' k end (λ u. None) (λ u. refl) (λ u. let_within at name_at x e u)
   walked_statement f (Assign at x e) b' k end = kept (Assign at x e) (Assign at x e) b' k end (λ u. None) (λ u. refl) (λ u. assign_within at x e u)
   walked_statement f (Call at x activity_at a es r o) b' k end =
-      kept (Call at x activity_at a es r o) (Call at x activity_at a es r (replaced_otherwise f o)) b' k end (λ u. left_else f o u)
+      kept (Call at x activity_at a es r o) (Call at x activity_at a es r (rebuilt_otherwise (replacing f) o)) b' k end (λ u. left_else f o u)
       (λ u. head_call f u at x activity_at a es r o) (λ u. in_call f u at x activity_at a es r o (walked_else f o))
   walked_statement f (WaitSignal at x signal_at n) b' k end = kept (WaitSignal at x signal_at n) (WaitSignal at x signal_at n) b' k end (λ u. None) (λ u. refl) (λ u. wait_within at x signal_at n u)
   walked_statement f (WaitSignalFor at x signal_at n e c c_end) b' k end =
@@ -215,8 +190,8 @@ mutual
       kept (While at e c c_end) (While at e (replaced f c) c_end) b' k end (λ u. finished (left f c (first_list u) (first_end u)))
       (λ u. head_while u at e (replaced f c) c c_end) (λ u. in_while f u at e c c_end (λ x' end'. walked_whole f c x' end'))
   walked_statement f (Parallel at bs block_end) b' k end =
-      kept (Parallel at bs block_end) (Parallel at (replaced_branches f bs) block_end) b' k end (λ u. left_beside f bs (branches_in u) (first_end u))
-      (λ u. head_parallel u at (replaced_branches f bs) bs block_end) (λ u. in_parallel f u at bs block_end (λ x' end'. walked_beside f bs x' end'))
+      kept (Parallel at bs block_end) (Parallel at (rebuilt_branches (replacing f) bs) block_end) b' k end (λ u. left_beside f bs (branches_in u) (first_end u))
+      (λ u. head_parallel u at (rebuilt_branches (replacing f) bs) bs block_end) (λ u. in_parallel f u at bs block_end (λ x' end'. walked_beside f bs x' end'))
   walked_statement f (Patch at id_at id c c_end d d_end) b' k end =
       ⊎_elim (λ (e : f id ≡ true). rw e (
       kept (deprecated id) (Deprecate at id_at id) b' (joined (replaced f c) k) end (λ u. None) (λ u. head_deprecate u at id_at id) (λ u h. deprecate_within at id_at id u h)
@@ -236,19 +211,19 @@ mutual
   walked_else f NoElse = tt
   walked_else f (Else c end) = λ x' end'. walked_whole f c x' end'
 
-  walked_beside : (f : Bytes → Bool) (bs bs' : Branches) (block_end : ℕ) → difference_beside (replaced_branches f bs) bs' block_end ≡ left_beside f bs bs' block_end
+  walked_beside : (f : Bytes → Bool) (bs bs' : Branches) (block_end : ℕ) → difference_beside (rebuilt_branches (replacing f) bs) bs' block_end ≡ left_beside f bs bs' block_end
   walked_beside f NoBranch NoBranch block_end = refl
   walked_beside f NoBranch (Branch at b end bs) block_end = refl
   walked_beside f (Branch at b end bs) NoBranch block_end = refl
   walked_beside f (Branch at b end bs) (Branch at' b' end' bs') block_end =
-      ap (λ o. first_place o (difference_beside (replaced_branches f bs) bs' block_end)) (walked_whole f b b' end')
+      ap (λ o. first_place o (difference_beside (rebuilt_branches (replacing f) bs) bs' block_end)) (walked_whole f b b' end')
       ∙ ap (first_place (finished (left f b b' end'))) (walked_beside f bs bs' block_end)
 
   walked_whole : (f : Bytes → Bool) (b b' : Block) (end : ℕ) → difference (replaced f b) b' end ≡ finished (left f b b' end)
   walked_whole f End b' end = nothing_left b' end
   walked_whole f (Next s b) b' end =
       ap (λ x. difference x b' end) (sym (joined_end (replaced f (Next s b))))
-      ∙ ap (λ x. difference x b' end) (joined_replaced f s (replaced f b) End)
+      ∙ ap (λ x. difference x b' end) (joined_rebuilt (replacing f) (joins f) s (replaced f b) End)
       ∙ walked_statement f s b' (joined (replaced f b) End) end
       ∙ go_on_behind (left_statement f s b' end) (λ r. left f b r end) (λ r. difference (joined (replaced f b) End) r end) (λ r. difference End r end)
       (λ r. walked f b r End end)
@@ -259,47 +234,11 @@ unsettled_is_found f b b' end = walked_whole f b b' end
 
 ---- The replaced list without places
 
-bare_joined : (a b : Block) → bare_block (joined a b) ≡ joined (bare_block a) (bare_block b)
-bare_joined End b = refl
-bare_joined (Next s a) b = ap (Next (bare_statement s)) (bare_joined a b)
-
-mutual
-  bare_statement_replaced : (f : Bytes → Bool) (s : Statement) (k : Block) → bare_block (replaced_statement f s k) ≡ placed (settling f) s (bare_block k)
-  bare_statement_replaced f (Let at name_at x e) k = refl
-  bare_statement_replaced f (Assign at x e) k = refl
-  bare_statement_replaced f (Call at x activity_at a es r o) k = ap (λ w. Next (Call 0 x 0 a (map bare_expression es) (bare_retry r) w) (bare_block k)) (bare_otherwise_replaced f o)
-  bare_statement_replaced f (WaitSignal at x signal_at n) k = refl
-  bare_statement_replaced f (WaitSignalFor at x signal_at n e b end) k = ap (λ w. Next (WaitSignalFor 0 x 0 n (bare_expression e) w 0) (bare_block k)) (bare_replaced f b)
-  bare_statement_replaced f (Sleep at e) k = refl
-  bare_statement_replaced f (If at e a a_end b b_end) k =
-      ap (λ w. Next (If 0 (bare_expression e) w 0 (bare_block (replaced f b)) 0) (bare_block k)) (bare_replaced f a)
-      ∙ ap (λ w. Next (If 0 (bare_expression e) (settled f a) 0 w 0) (bare_block k)) (bare_replaced f b)
-  bare_statement_replaced f (While at e b end) k = ap (λ w. Next (While 0 (bare_expression e) w 0) (bare_block k)) (bare_replaced f b)
-  bare_statement_replaced f (Parallel at bs end) k = ap (λ w. Next (Parallel 0 w 0) (bare_block k)) (bare_branches_replaced f bs)
-  bare_statement_replaced f (Patch at id_at id a a_end b b_end) k =
-      ⊎_elim (λ (e : f id ≡ true). rw e (
-      ap (Next (Deprecate 0 0 id)) (bare_joined (replaced f a) k ∙ ap (λ w. joined w (bare_block k)) (bare_replaced f a))))
-      (λ (e : f id ≡ false). rw e (
-      ap (λ w. Next (Patch 0 0 id w 0 (bare_block (replaced f b)) 0) (bare_block k)) (bare_replaced f a)
-      ∙ ap (λ w. Next (Patch 0 0 id (settled f a) 0 w 0) (bare_block k)) (bare_replaced f b)))
-      (cases (f id))
-  bare_statement_replaced f (Deprecate at id_at id) k = refl
-  bare_statement_replaced f (Return at e) k = refl
-  bare_statement_replaced f (FailWith at e) k = refl
-  bare_statement_replaced f (Continue at es) k = refl
-
-  bare_replaced : (f : Bytes → Bool) (b : Block) → bare_block (replaced f b) ≡ settled f b
-  bare_replaced f End = refl
-  bare_replaced f (Next s b) = bare_statement_replaced f s (replaced f b) ∙ ap (placed (settling f) s) (bare_replaced f b)
-
-  bare_otherwise_replaced : (f : Bytes → Bool) (o : Otherwise) → bare_otherwise (replaced_otherwise f o) ≡ changed_otherwise (settling f) o
-  bare_otherwise_replaced f NoElse = refl
-  bare_otherwise_replaced f (Else b end) = ap (λ w. Else w 0) (bare_replaced f b)
-
-  bare_branches_replaced : (f : Bytes → Bool) (bs : Branches) → bare_branches (replaced_branches f bs) ≡ changed_branches (settling f) bs
-  bare_branches_replaced f NoBranch = refl
-  bare_branches_replaced f (Branch at b end bs) =
-      ap (λ w. Branch 0 w 0 (bare_branches (replaced_branches f bs))) (bare_replaced f b) ∙ ap (Branch 0 (settled f b) 0) (bare_branches_replaced f bs)
+bares : (f : Bytes → Bool) → Bares (replacing f) (settling f)
+bares f = record {
+  patch = λ at id_at id a a_end b b_end k. ⊎_elim (λ (e : f id ≡ true). rw e (ap (Next (Deprecate 0 0 id)) (bare_joined a k))) (λ (e : f id ≡ false). rw e refl) (cases (f id));
+  deprecate = λ at id_at id k. refl;
+}
 
 pub replaced_is_settled : ReplacedIsSettled
-replaced_is_settled f b = bare_replaced f b
+replaced_is_settled f b = bare_rebuilt (replacing f) (settling f) (bares f) b

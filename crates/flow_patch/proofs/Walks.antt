@@ -6,62 +6,34 @@ use Rattle.flow_base.specs.declared.syntax.Retry.{Retry}
 use Rattle.flow_base.specs.declared.syntax.TypeAt.{TypeAt}
 use Rattle.std.proofs.lemmas.Bool.{true≢false}
 use Rattle.flow_patch.specs.Wrap.{joined, new_in}
-use Rattle.flow_patch.specs.Difference.{same_head, same_types, has_else, first_list, second_list, branches_in, place_of, first_place, spliced_statement, spliced, spliced_otherwise, spliced_branches, difference, difference_within, difference_else, difference_beside, beginning_of, difference_of_parameters, difference_of_declarations, first_difference}
-use Rattle.flow_patch.specs.Behind.{unless_told, ended, and_behind, behind_first, behind, behind_statement, within_else, within_beside, WalkFinds}
+use Rattle.flow_patch.specs.Difference.{same_head, same_types, has_else, first_list, second_list, branches_in, place_of, first_place, rebuilt_statement, rebuilt_otherwise, rebuilt_branches, splicing, spliced, difference, difference_within, difference_else, difference_beside, beginning_of, difference_of_parameters, difference_of_declarations, first_difference}
+use Rattle.flow_patch.specs.Behind.{ended, behind_first, behind, behind_statement, within_else, within_beside, WalkFinds}
 use Rattle.flow_patch.proofs.Normal.{cases}
+use Rattle.flow_patch.proofs.Rebuilding.{Joins, joined_end, joined_joined, joined_rebuilt, go_on, go_on_behind, matched}
 
 ---- Lists joined
 
-joined_end : (b : Block) → joined b End ≡ b
-joined_end End = refl
-joined_end (Next s b) = ap (Next s) (joined_end b)
-
-joined_joined : (a b c : Block) → joined (joined a b) c ≡ joined a (joined b c)
-joined_joined End b c = refl
-joined_joined (Next s a) b c = ap (Next s) (joined_joined a b c)
-
-joined_spliced : (f : Bytes → Bool) (s : Statement) (k m : Block) → joined (spliced_statement f s k) m ≡ spliced_statement f s (joined k m)
-joined_spliced f (Let at name_at x e) k m = refl
-joined_spliced f (Patch at id_at id a a_end b b_end) k m =
-    ⊎_elim (λ (e : f id ≡ true). rw e (joined_joined (spliced f b) k m)) (λ (e : f id ≡ false). rw e refl) (cases (f id))
-joined_spliced f (Deprecate at id_at id) k m = ⊎_elim (λ (e : f id ≡ true). rw e refl) (λ (e : f id ≡ false). rw e refl) (cases (f id))
-joined_spliced f s k m = refl
+joins : (f : Bytes → Bool) → Joins (splicing f)
+joins f = record {
+  patch = λ at id_at id a a_end b b_end k m. ⊎_elim (λ (e : f id ≡ true). rw e (joined_joined b k m)) (λ (e : f id ≡ false). rw e refl) (cases (f id));
+  deprecate = λ at id_at id k m. ⊎_elim (λ (e : f id ≡ true). rw e refl) (λ (e : f id ≡ false). rw e refl) (cases (f id));
+}
 
 ---- What comes behind a walk
-
-abbrev go_on : Result Block ℕ → (Block → Option ℕ) → Option ℕ
-go_on (Ok k) next = next k
-go_on (Err n) next = Some n
-
-go_on_behind : (r : Result Block ℕ) (g : Block → Result Block ℕ) (h j : Block → Option ℕ) → ((k : Block) → h k ≡ go_on (g k) j) → go_on r h ≡ go_on (and_behind r g) j
-go_on_behind (Ok k) g h j e = e k
-go_on_behind (Err n) g h j e = refl
 
 go_on_end : (r : Result Block ℕ) (end : ℕ) → go_on r (λ k. difference k End end) ≡ ended r end
 go_on_end (Ok End) end = refl
 go_on_end (Ok (Next s k)) end = refl
 go_on_end (Err n) end = refl
 
--- two statements of one head, and what follows
-both : (o : Option ℕ) (k : Block) (next : Block → Option ℕ) → first_place o (next k) ≡ go_on (unless_told o k) next
-both None k next = refl
-both (Some n) k next = refl
-
-compared : (h h' : Bool) (o o' : Option ℕ) (k : Block) (next : Block → Option ℕ) (n : ℕ) → h ≡ h' → o ≡ o'
-    → (if h then first_place o (next k) else Some n) ≡ go_on (if h' then unless_told o' k else Err n) next
-compared true true o o' k next n e i = rw i (both o' k next)
-compared true false o o' k next n e i = absurd (true≢false e)
-compared false true o o' k next n e i = absurd (true≢false (sym e))
-compared false false o o' k next n e i = refl
-
 ---- Heads don't read the lists within
 
-else_spliced : (f : Bytes → Bool) (o : Otherwise) → has_else (spliced_otherwise f o) ≡ has_else o
+else_spliced : (f : Bytes → Bool) (o : Otherwise) → has_else (rebuilt_otherwise (splicing f) o) ≡ has_else o
 else_spliced f NoElse = refl
 else_spliced f (Else b end) = refl
 
 head_call : (f : Bytes → Bool) (s : Statement) (at : ℕ) (x : Bytes) (activity_at : ℕ) (a : Bytes) (es : List Expression) (r : Retry) (o : Otherwise)
-    → same_head s (Call at x activity_at a es r (spliced_otherwise f o)) ≡ same_head s (Call at x activity_at a es r o)
+    → same_head s (Call at x activity_at a es r (rebuilt_otherwise (splicing f) o)) ≡ same_head s (Call at x activity_at a es r o)
 head_call f (Call at' y activity_at' b ds q u) at x activity_at a es r o = rw (else_spliced f o) refl
 head_call f s at x activity_at a es r o = refl
 
@@ -94,23 +66,23 @@ kept : (s' u : Statement) (b k : Block) (end : ℕ) (within : Statement → Opti
     → difference b (Next u k) end ≡ go_on (behind_first s' b within) (λ r. difference r k end)
 kept s' u End k end within p h w = ap Some p
 kept s' u (Next s b) k end within p h w =
-    rw p (compared (same_head s u) (same_head s s') (difference_within s u) (within s) b (λ r. difference r k end) (place_of s') (h s) (w s))
+    rw p (matched (same_head s u) (same_head s s') (difference_within s u) (within s) b (λ r. difference r k end) (place_of s') (h s) (λ e. w s))
 
 mutual
   walked : (f : Bytes → Bool) (b' b k : Block) (end : ℕ) → difference b (joined (spliced f b') k) end ≡ go_on (behind f b' b) (λ r. difference r k end)
   walked f End b k end = refl
   walked f (Next s' b') b k end =
-      ap (λ x. difference b x end) (joined_spliced f s' (spliced f b') k)
+      ap (λ x. difference b x end) (joined_rebuilt (splicing f) (joins f) s' (spliced f b') k)
       ∙ walked_statement f s' b (joined (spliced f b') k) end
       ∙ go_on_behind (behind_statement f s' b) (λ r. behind f b' r) (λ r. difference r (joined (spliced f b') k) end) (λ r. difference r k end)
       (λ r. walked f b' r k end)
 
   walked_statement : (f : Bytes → Bool) (s' : Statement) (b k : Block) (end : ℕ)
-      → difference b (spliced_statement f s' k) end ≡ go_on (behind_statement f s' b) (λ r. difference r k end)
+      → difference b (rebuilt_statement (splicing f) s' k) end ≡ go_on (behind_statement f s' b) (λ r. difference r k end)
   walked_statement f (Let at name_at x e) b k end = kept (Let at name_at x e) (Let at name_at x e) b k end (λ s. None) refl (λ s. refl) (λ s. refl)
   walked_statement f (Assign at x e) b k end = kept (Assign at x e) (Assign at x e) b k end (λ s. None) refl (λ s. refl) (λ s. refl)
   walked_statement f (Call at x activity_at a es r o) b k end =
-      kept (Call at x activity_at a es r o) (Call at x activity_at a es r (spliced_otherwise f o)) b k end (λ s. within_else f o (first_list s)) refl
+      kept (Call at x activity_at a es r o) (Call at x activity_at a es r (rebuilt_otherwise (splicing f) o)) b k end (λ s. within_else f o (first_list s)) refl
       (λ s. head_call f s at x activity_at a es r o) (λ s. walked_else f o (first_list s))
   walked_statement f (WaitSignal at x signal_at n) b k end =
       kept (WaitSignal at x signal_at n) (WaitSignal at x signal_at n) b k end (λ s. None) refl (λ s. refl) (λ s. refl)
@@ -128,8 +100,8 @@ mutual
       kept (While at e c c_end) (While at e (spliced f c) c_end) b k end (λ s. ended (behind f c (first_list s)) c_end) refl
       (λ s. head_while s at e (spliced f c) c c_end) (λ s. walked_whole f c (first_list s) c_end)
   walked_statement f (Parallel at bs block_end) b k end =
-      kept (Parallel at bs block_end) (Parallel at (spliced_branches f bs) block_end) b k end (λ s. within_beside f bs (branches_in s) block_end) refl
-      (λ s. head_parallel s at (spliced_branches f bs) bs block_end) (λ s. walked_beside f bs (branches_in s) block_end)
+      kept (Parallel at bs block_end) (Parallel at (rebuilt_branches (splicing f) bs) block_end) b k end (λ s. within_beside f bs (branches_in s) block_end) refl
+      (λ s. head_parallel s at (rebuilt_branches (splicing f) bs) bs block_end) (λ s. walked_beside f bs (branches_in s) block_end)
   walked_statement f (Patch at id_at id c c_end d d_end) b k end =
       ⊎_elim (λ (e : f id ≡ true). rw e (walked f d b k end))
       (λ (e : f id ≡ false). rw e (
@@ -145,23 +117,23 @@ mutual
   walked_statement f (FailWith at e) b k end = kept (FailWith at e) (FailWith at e) b k end (λ s. None) refl (λ s. refl) (λ s. refl)
   walked_statement f (Continue at es) b k end = kept (Continue at es) (Continue at es) b k end (λ s. None) refl (λ s. refl) (λ s. refl)
 
-  walked_else : (f : Bytes → Bool) (o : Otherwise) (b : Block) → difference_else b (spliced_otherwise f o) ≡ within_else f o b
+  walked_else : (f : Bytes → Bool) (o : Otherwise) (b : Block) → difference_else b (rebuilt_otherwise (splicing f) o) ≡ within_else f o b
   walked_else f NoElse b = refl
   walked_else f (Else c end) b = walked_whole f c b end
 
-  walked_beside : (f : Bytes → Bool) (bs' bs : Branches) (block_end : ℕ) → difference_beside bs (spliced_branches f bs') block_end ≡ within_beside f bs' bs block_end
+  walked_beside : (f : Bytes → Bool) (bs' bs : Branches) (block_end : ℕ) → difference_beside bs (rebuilt_branches (splicing f) bs') block_end ≡ within_beside f bs' bs block_end
   walked_beside f NoBranch NoBranch block_end = refl
   walked_beside f NoBranch (Branch at b end bs) block_end = refl
   walked_beside f (Branch at' b' end' bs') NoBranch block_end = refl
   walked_beside f (Branch at' b' end' bs') (Branch at b end bs) block_end =
-      ap (λ o. first_place o (difference_beside bs (spliced_branches f bs') block_end)) (walked_whole f b' b end')
+      ap (λ o. first_place o (difference_beside bs (rebuilt_branches (splicing f) bs') block_end)) (walked_whole f b' b end')
       ∙ ap (first_place (ended (behind f b' b) end')) (walked_beside f bs' bs block_end)
 
   walked_whole : (f : Bytes → Bool) (b' b : Block) (end : ℕ) → difference b (spliced f b') end ≡ ended (behind f b' b) end
   walked_whole f End b end = go_on_end (Ok b) end
   walked_whole f (Next s' b') b end =
       ap (λ x. difference b x end) (sym (joined_end (spliced f (Next s' b'))))
-      ∙ ap (λ x. difference b x end) (joined_spliced f s' (spliced f b') End)
+      ∙ ap (λ x. difference b x end) (joined_rebuilt (splicing f) (joins f) s' (spliced f b') End)
       ∙ walked_statement f s' b (joined (spliced f b') End) end
       ∙ go_on_behind (behind_statement f s' b) (λ r. behind f b' r) (λ r. difference r (joined (spliced f b') End) end) (λ r. difference r End end)
       (λ r. walked f b' r End end)

@@ -1,6 +1,6 @@
 -- The same first difference by one walk over the new text, which makes no list: what a new list stands for, its new patches
 -- dropped, is looked for at the beginning of an old one, and the rest of the old one goes to the statement behind.
-use Rattle.std.specs.Prelude.{◌≡◌, ℕ, Bool, not, false, Option, Some, None, Result, Ok, Err, if◌then◌else◌}
+use Rattle.std.specs.Prelude.{◌≡◌, ℕ, Bool, true, false, not, Option, Some, None, Result, Ok, Err, if◌then◌else◌}
 use Rattle.flow_base.specs.Syntax.{Bytes, Statement, Call, WaitSignalFor, If, While, Parallel, Patch, Deprecate, Block, End, Next, Otherwise, NoElse, Else, Branches, NoBranch, Branch}
 use Rattle.flow_patch.specs.Wrap.{block_has}
 use Rattle.flow_patch.specs.Difference.{same_head, first_list, second_list, branches_in, place_of, first_place, spliced, difference}

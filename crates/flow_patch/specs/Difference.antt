@@ -136,38 +136,51 @@ first_place (Some n) o = Some n
 
 ---- Lists of statements
 
--- A list with each new patch replaced by the statements of its second list, which keep their places, and each new
--- `deprecate` left out.
+-- What becomes of a patch, whose lists have been changed, and of a `deprecate`, with their places and what follows them in the list.
+pub record Rebuilding : Type 0 where
+  pub patch : (at id_at : ℕ) → Bytes → Block → (first_end : ℕ) → Block → (second_end : ℕ) → Block → Block
+  pub deprecate : (at id_at : ℕ) → Bytes → Block → Block
+
+-- A list with each patch in it changed; all else keeps its place.
 abbrev mutual
   -- a statement, and then the rest of its list
-  pub spliced_statement : (Bytes → Bool) → Statement → Block → Block
-  spliced_statement f (Let at name_at x e) k = Next (Let at name_at x e) k
-  spliced_statement f (Assign at x e) k = Next (Assign at x e) k
-  spliced_statement f (Call at x activity_at a es r o) k = Next (Call at x activity_at a es r (spliced_otherwise f o)) k
-  spliced_statement f (WaitSignal at x signal_at n) k = Next (WaitSignal at x signal_at n) k
-  spliced_statement f (WaitSignalFor at x signal_at n e b end) k = Next (WaitSignalFor at x signal_at n e (spliced f b) end) k
-  spliced_statement f (Sleep at e) k = Next (Sleep at e) k
-  spliced_statement f (If at e a a_end b b_end) k = Next (If at e (spliced f a) a_end (spliced f b) b_end) k
-  spliced_statement f (While at e b end) k = Next (While at e (spliced f b) end) k
-  spliced_statement f (Parallel at bs end) k = Next (Parallel at (spliced_branches f bs) end) k
-  spliced_statement f (Patch at id_at id a a_end b b_end) k =
-      if f id then joined (spliced f b) k else Next (Patch at id_at id (spliced f a) a_end (spliced f b) b_end) k
-  spliced_statement f (Deprecate at id_at id) k = if f id then k else Next (Deprecate at id_at id) k
-  spliced_statement f (Return at e) k = Next (Return at e) k
-  spliced_statement f (FailWith at e) k = Next (FailWith at e) k
-  spliced_statement f (Continue at es) k = Next (Continue at es) k
+  pub rebuilt_statement : Rebuilding → Statement → Block → Block
+  rebuilt_statement t (Let at name_at x e) k = Next (Let at name_at x e) k
+  rebuilt_statement t (Assign at x e) k = Next (Assign at x e) k
+  rebuilt_statement t (Call at x activity_at a es r o) k = Next (Call at x activity_at a es r (rebuilt_otherwise t o)) k
+  rebuilt_statement t (WaitSignal at x signal_at n) k = Next (WaitSignal at x signal_at n) k
+  rebuilt_statement t (WaitSignalFor at x signal_at n e b end) k = Next (WaitSignalFor at x signal_at n e (rebuilt t b) end) k
+  rebuilt_statement t (Sleep at e) k = Next (Sleep at e) k
+  rebuilt_statement t (If at e a a_end b b_end) k = Next (If at e (rebuilt t a) a_end (rebuilt t b) b_end) k
+  rebuilt_statement t (While at e b end) k = Next (While at e (rebuilt t b) end) k
+  rebuilt_statement t (Parallel at bs end) k = Next (Parallel at (rebuilt_branches t bs) end) k
+  rebuilt_statement t (Patch at id_at id a a_end b b_end) k = t.patch at id_at id (rebuilt t a) a_end (rebuilt t b) b_end k
+  rebuilt_statement t (Deprecate at id_at id) k = t.deprecate at id_at id k
+  rebuilt_statement t (Return at e) k = Next (Return at e) k
+  rebuilt_statement t (FailWith at e) k = Next (FailWith at e) k
+  rebuilt_statement t (Continue at es) k = Next (Continue at es) k
 
-  pub spliced : (Bytes → Bool) → Block → Block
-  spliced f End = End
-  spliced f (Next s b) = spliced_statement f s (spliced f b)
+  pub rebuilt : Rebuilding → Block → Block
+  rebuilt t End = End
+  rebuilt t (Next s b) = rebuilt_statement t s (rebuilt t b)
 
-  pub spliced_otherwise : (Bytes → Bool) → Otherwise → Otherwise
-  spliced_otherwise f NoElse = NoElse
-  spliced_otherwise f (Else b end) = Else (spliced f b) end
+  pub rebuilt_otherwise : Rebuilding → Otherwise → Otherwise
+  rebuilt_otherwise t NoElse = NoElse
+  rebuilt_otherwise t (Else b end) = Else (rebuilt t b) end
 
-  pub spliced_branches : (Bytes → Bool) → Branches → Branches
-  spliced_branches f NoBranch = NoBranch
-  spliced_branches f (Branch at b end bs) = Branch at (spliced f b) end (spliced_branches f bs)
+  pub rebuilt_branches : Rebuilding → Branches → Branches
+  rebuilt_branches t NoBranch = NoBranch
+  rebuilt_branches t (Branch at b end bs) = Branch at (rebuilt t b) end (rebuilt_branches t bs)
+
+-- Each new patch gives way to its second list, and each new `deprecate` to nothing.
+abbrev pub splicing : (Bytes → Bool) → Rebuilding
+splicing f = record {
+  patch = λ at id_at id a a_end b b_end k. if f id then joined b k else Next (Patch at id_at id a a_end b b_end) k;
+  deprecate = λ at id_at id k. if f id then k else Next (Deprecate at id_at id) k;
+}
+
+abbrev pub spliced : (Bytes → Bool) → Block → Block
+spliced f b = rebuilt (splicing f) b
 
 -- Where the second of two lists, which ends at a brace, first differs from the first: heads before the lists within them.
 abbrev mutual

@@ -5,42 +5,21 @@ use Rattle.std.specs.Prelude.{◌≡◌, ◌↔◌, ℕ, Bool, false, List, [], 
 use Rattle.flow_base.specs.Syntax.{Bytes, Statement, Let, Assign, Call, WaitSignal, WaitSignalFor, Sleep, If, While, Parallel, Patch, Deprecate, Return, FailWith, Continue, Block, End, Next, Otherwise, NoElse, Else, Branches, NoBranch, Branch, Declared, Program}
 use Rattle.flow_base.specs.Bare.{bare_block}
 use Rattle.flow_patch.specs.Wrap.{joined}
-use Rattle.flow_patch.specs.Difference.{same_head, first_list, second_list, branches_in, place_of, place_of_declared, beginning_of, same_declared, first_place, difference, difference_of_parameters}
+use Rattle.flow_patch.specs.Difference.{Rebuilding, rebuilt, same_head, first_list, second_list, branches_in, place_of, place_of_declared, beginning_of, same_declared, first_place, difference, difference_of_parameters}
 use Rattle.flow_patch.specs.Behind.{unless_told, and_behind}
 use Rattle.flow_patch.specs.Settle.{deprecated, settled, Settles}
 
 ---- The old list with its patches replaced, its places kept
 
-abbrev mutual
-  -- a statement, and then the rest of its list
-  pub replaced_statement : (Bytes → Bool) → Statement → Block → Block
-  replaced_statement f (Let at name_at x e) k = Next (Let at name_at x e) k
-  replaced_statement f (Assign at x e) k = Next (Assign at x e) k
-  replaced_statement f (Call at x activity_at a es r o) k = Next (Call at x activity_at a es r (replaced_otherwise f o)) k
-  replaced_statement f (WaitSignal at x signal_at n) k = Next (WaitSignal at x signal_at n) k
-  replaced_statement f (WaitSignalFor at x signal_at n e b end) k = Next (WaitSignalFor at x signal_at n e (replaced f b) end) k
-  replaced_statement f (Sleep at e) k = Next (Sleep at e) k
-  replaced_statement f (If at e a a_end b b_end) k = Next (If at e (replaced f a) a_end (replaced f b) b_end) k
-  replaced_statement f (While at e b end) k = Next (While at e (replaced f b) end) k
-  replaced_statement f (Parallel at bs end) k = Next (Parallel at (replaced_branches f bs) end) k
-  replaced_statement f (Patch at id_at id a a_end b b_end) k =
-      if f id then Next (Deprecate at id_at id) (joined (replaced f a) k) else Next (Patch at id_at id (replaced f a) a_end (replaced f b) b_end) k
-  replaced_statement f (Deprecate at id_at id) k = Next (Deprecate at id_at id) k
-  replaced_statement f (Return at e) k = Next (Return at e) k
-  replaced_statement f (FailWith at e) k = Next (FailWith at e) k
-  replaced_statement f (Continue at es) k = Next (Continue at es) k
+-- A settled patch gives way to its first list, behind its `deprecate`.
+abbrev pub replacing : (Bytes → Bool) → Rebuilding
+replacing f = record {
+  patch = λ at id_at id a a_end b b_end k. if f id then Next (Deprecate at id_at id) (joined a k) else Next (Patch at id_at id a a_end b b_end) k;
+  deprecate = λ at id_at id k. Next (Deprecate at id_at id) k;
+}
 
-  pub replaced : (Bytes → Bool) → Block → Block
-  replaced f End = End
-  replaced f (Next s b) = replaced_statement f s (replaced f b)
-
-  pub replaced_otherwise : (Bytes → Bool) → Otherwise → Otherwise
-  replaced_otherwise f NoElse = NoElse
-  replaced_otherwise f (Else b end) = Else (replaced f b) end
-
-  pub replaced_branches : (Bytes → Bool) → Branches → Branches
-  replaced_branches f NoBranch = NoBranch
-  replaced_branches f (Branch at b end bs) = Branch at (replaced f b) end (replaced_branches f bs)
+abbrev pub replaced : (Bytes → Bool) → Block → Block
+replaced f b = rebuilt (replacing f) b
 
 ---- The walk
 
