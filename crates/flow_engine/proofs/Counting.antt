@@ -16,13 +16,13 @@ use Rattle.flow_tables.specs.Owned.{state_of}
 use Rattle.flow_tables.proofs.Stopping.{since_then}
 use Rattle.sqlite.specs.Held.{state}
 use Rattle.flow_commit.specs.Keeping.{Keeping, rules, IsUp, kept_book, commands_of}
-use Rattle.flow_commit.specs.Committing.{HasGoneOn}
+use Rattle.flow_commit.specs.Committing.{HasGoneOn, IsDown}
 use Rattle.flow_commit.proofs.Sealing.{shut_on}
 use Rattle.flow_engine.specs.declared.done.Done.{Done}
 use Rattle.flow_engine.specs.declared.done.Done.TheVariants as done
 use Rattle.flow_engine.specs.Driving.{if_kept, kept_of}
 use Rattle.flow_engine.specs.GivingUp.{IsGivenUpFor, WasRefused}
-use Rattle.flow_engine.specs.Counting.{AreGivenUpBut, HasOtherCause, IsCounted, IsMoreBy}
+use Rattle.flow_engine.specs.Counting.{AreGivenUpBut, HasOtherCause, IsCounted, IsHeldBack, IsMoreBy}
 use Rattle.flow_engine.proofs.GivingUp.{given_up_on, given_up_over}
 
 ---- The count
@@ -74,12 +74,15 @@ but_failed P n b (x ∷ bs) (y ∷ ds) batch d long (inr h) =
 
 module _ {S : Type 0} (g : Ghosts S) where
   -- what stands behind E80 is a failure that was counted in between, or something else
+  pub failed_or_held : (mid new : Keeping S) → IsDown g mid.stored new.stored → IsHeldBack g mid new ⊎ MoreFaults (state_of g mid.stored).faults (state_of g new.stored).faults
+  failed_or_held mid new (inl shut) = inl (inl shut)
+  failed_or_held mid new (inr (inl more)) = inr more
+  failed_or_held mid new (inr (inr other)) = inl (inr other)
+
   failed_or_other : (mid new : Keeping S) (b : Book) (cs : List Command) → WasRefused g mid new b cs → HasOtherCause g mid new b cs ⊎ MoreFaults (state_of g mid.stored).faults (state_of g new.stored).faults
   failed_or_other mid new b cs (inl many) = inl (inl many)
   failed_or_other mid new b cs (inr (inl cant)) = inl (inr (inl cant))
-  failed_or_other mid new b cs (inr (inr (inl shut))) = inl (inr (inr (inl shut)))
-  failed_or_other mid new b cs (inr (inr (inr (inl more)))) = inr more
-  failed_or_other mid new b cs (inr (inr (inr (inr other)))) = inl (inr (inr (inr other)))
+  failed_or_other mid new b cs (inr (inr down)) = elim (failed_or_held mid new down) [ inl held ↦ inl (inr (inr held)) | inr more ↦ inr more ]
 
   one_or_other : (mid new : Keeping S) (b : Book) (batch : List Taken) (d : Done) → IsGivenUpFor (WasRefused g mid new) b batch d
       → IsGivenUpFor (HasOtherCause g mid new) b batch d ⊎ MoreFaults (state_of g mid.stored).faults (state_of g new.stored).faults
@@ -89,20 +92,26 @@ module _ {S : Type 0} (g : Ghosts S) where
   one_or_other mid new b batch done.Unknown h = inl tt
   one_or_other mid new b batch done.Halted h = inl tt
 
+  pub held_since : (old mid new : Keeping S) → Since (state_of g old.stored) (state_of g mid.stored) → IsHeldBack g mid new → IsHeldBack g old new
+  held_since old mid new since (inl shut) = inl shut
+  held_since old mid new since (inr (inl limit)) = inr (inl (subst (λ (o : Option ℕ). IsSome o) since.1 limit))
+  held_since old mid new since (inr (inr full)) = inr (inr (full.0, since_then (state_of g old.stored) (state_of g mid.stored) (state g full.0) since full.1, full.2, full.3))
+
+  pub held_still : (old mid new : Keeping S) → ((state_of g mid.stored).is_open ≡ false → (state_of g new.stored).is_open ≡ false) → IsHeldBack g old mid → IsHeldBack g old new
+  held_still old mid new shuts (inl shut) = inl (shuts shut)
+  held_still old mid new shuts (inr other) = inr other
+
   -- another cause since the engine was an earlier one
   pub other_since : (old mid new : Keeping S) → Since (state_of g old.stored) (state_of g mid.stored) → (b : Book) (cs : List Command) → HasOtherCause g mid new b cs → HasOtherCause g old new b cs
   other_since old mid new since b cs (inl many) = inl many
   other_since old mid new since b cs (inr (inl cant)) = inr (inl cant)
-  other_since old mid new since b cs (inr (inr (inl shut))) = inr (inr (inl shut))
-  other_since old mid new since b cs (inr (inr (inr (inl limit)))) = inr (inr (inr (inl (subst (λ (o : Option ℕ). IsSome o) since.1 limit))))
-  other_since old mid new since b cs (inr (inr (inr (inr full)))) = inr (inr (inr (inr (full.0, since_then (state_of g old.stored) (state_of g mid.stored) (state g full.0) since full.1, full.2, full.3))))
+  other_since old mid new since b cs (inr (inr held)) = inr (inr (held_since old mid new since held))
 
   -- and now that it is a later one
   pub other_still : (old mid new : Keeping S) → mid.kept ≤ new.kept → ((state_of g mid.stored).is_open ≡ false → (state_of g new.stored).is_open ≡ false) → (b : Book) (cs : List Command) → HasOtherCause g old mid b cs → HasOtherCause g old new b cs
   other_still old mid new counts shuts b cs (inl many) = inl (omega (arith, many, counts))
   other_still old mid new counts shuts b cs (inr (inl cant)) = inr (inl cant)
-  other_still old mid new counts shuts b cs (inr (inr (inl shut))) = inr (inr (inl (shuts shut)))
-  other_still old mid new counts shuts b cs (inr (inr (inr other))) = inr (inr (inr other))
+  other_still old mid new counts shuts b cs (inr (inr held)) = inr (inr (held_still old mid new shuts held))
 
   ---- From engine to engine
 

@@ -13,13 +13,15 @@ use Rattle.flow_engine.specs.declared.done.Done.{Done}
 use Rattle.flow_engine.specs.Driving.{if_kept}
 use Rattle.flow_engine.specs.GivingUp.{IsGivenUpFor}
 
--- Something else than a failure of the disk stands behind E80 of commands over a book, since the engine was the first and now that it is
--- the second: the last of their places would be past the last number, they can't be applied to this book, the connection is shut, a limit
--- is set on the steps of a query, or no row has a number left.
+-- Since the engine was the first and now that it is the second, something else than a failure of the disk holds the store back: the
+-- connection is shut, a limit is set on the steps of a query, or no row has a number left.
+abbrev pub IsHeldBack : {S : Type 0} → Ghosts S → Keeping S → Keeping S → Type 0
+IsHeldBack g old new = ((state_of g new.stored).is_open ≡ false) ⊎ (IsSome (state_of g old.stored).step_limit ⊎ WasFull g (state_of g old.stored))
+
+-- Something else than a failure of the disk stands behind E80 of commands over a book: that, or the last of their places would be past the
+-- last number, or they can't be applied to this book.
 abbrev pub HasOtherCause : {S : Type 0} → Ghosts S → Keeping S → Keeping S → Book → List Command → Type 0
-HasOtherCause g old new b cs =
-    (2 ^ 63 ≤ new.kept + length cs)
-    ⊎ (CantBeApplied b cs ⊎ (((state_of g new.stored).is_open ≡ false) ⊎ (IsSome (state_of g old.stored).step_limit ⊎ WasFull g (state_of g old.stored))))
+HasOtherCause g old new b cs = (2 ^ 63 ≤ new.kept + length cs) ⊎ (CantBeApplied b cs ⊎ IsHeldBack g old new)
 
 -- This stands behind each of these batches that was given up with E80, over the book that those before it left, but for so many.
 abbrev pub AreGivenUpBut : (Book → List Command → Type 0) → ℕ → Book → List (List Taken) → List Done → Type 0
