@@ -40,7 +40,7 @@ module _ {S : Type 0} (g : Ghosts S) (old new : Keeping S) where
   refused_done batch back fault.StoreRefused more (inl many) = inl (no_room batch more many)
   refused_done batch back fault.StoreRefused more (inr other) = inr other
 
-given_up_on : (P Q : Book → List Command → Type 0) → ((b : Book) (cs : List Command) → P b cs → Q b cs) → (b : Book) (batch : List Taken) (d : Done) → IsGivenUpFor P b batch d → IsGivenUpFor Q b batch d
+pub given_up_on : (P Q : Book → List Command → Type 0) → ((b : Book) (cs : List Command) → P b cs → Q b cs) → (b : Book) (batch : List Taken) (d : Done) → IsGivenUpFor P b batch d → IsGivenUpFor Q b batch d
 given_up_on P Q on b batch (done.Kept rs) h = tt
 given_up_on P Q on b batch (done.NotApplied (fault.NoMemory _)) h = tt
 given_up_on P Q on b batch (done.NotApplied fault.StoreRefused) h = on b (commands_of batch) h
@@ -48,7 +48,7 @@ given_up_on P Q on b batch done.Unknown h = tt
 given_up_on P Q on b batch done.Halted h = tt
 
 -- Another book, where the batch was given up.
-given_up_over : (P : Book → List Command → Type 0) (b b' : Book) (batch : List Taken) (d : Done) → ((f : ViewFault) → d ≡ done.NotApplied f → P b (commands_of batch) → P b' (commands_of batch)) → IsGivenUpFor P b batch d → IsGivenUpFor P b' batch d
+pub given_up_over : (P : Book → List Command → Type 0) (b b' : Book) (batch : List Taken) (d : Done) → ((f : ViewFault) → d ≡ done.NotApplied f → P b (commands_of batch) → P b' (commands_of batch)) → IsGivenUpFor P b batch d → IsGivenUpFor P b' batch d
 given_up_over P b b' batch (done.Kept rs) on h = tt
 given_up_over P b b' batch (done.NotApplied (fault.NoMemory _)) on h = tt
 given_up_over P b b' batch (done.NotApplied fault.StoreRefused) on h = on fault.StoreRefused refl h

@@ -13,3 +13,4 @@ pub mod Standing
 pub mod Stopping
 pub mod Walking
 pub mod GivingUp
+pub mod Counting

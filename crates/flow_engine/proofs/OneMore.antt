@@ -19,10 +19,12 @@ use Rattle.flow_engine.specs.declared.done.Done.{Done}
 use Rattle.flow_engine.specs.declared.done.Done.TheVariants as done
 use Rattle.flow_engine.specs.Driving.{HasDone, IsDoneFor, Passes, IsNoted, AreAnswers, NotesAll, LeadsTo, Drives, IsLeft, all_halted, has_unknown, if_kept, if_unknown, kept_of, in_hand}
 use Rattle.flow_engine.specs.Following.{gone_on_then, refused_since}
+use Rattle.flow_engine.specs.Counting.{IsCounted}
 use Rattle.flow_engine.specs.GivingUp.{AreGivenUp, IsGivenUpFor, WasRefused}
 use Rattle.flow_commit.specs.Committing.{HasGoneOn}
 use Rattle.flow_commit.proofs.Refusing.{gone_on_self}
 use Rattle.flow_engine.proofs.Committed.{one_book}
+use Rattle.flow_engine.proofs.Counting.{counted_then, none_counted}
 use Rattle.flow_engine.proofs.GivingUp.{given_up_then}
 use Rattle.flow_engine.proofs.Gathering.{off, same_length, gathered_more, unknown_behind, known_behind, none_in_hand, answers_more, all_halted_more, halted_more, noted_more, noted_halted, replies_told}
 
@@ -205,6 +207,7 @@ pub record Drove {S : Type 0} (g : Ghosts S) (old now : Keeping S) (whole left :
   pub own : IsFit g now → IsUp g old → WasOwn g old now
   pub on : IsFit g now → HasGoneOn g old now
   pub given : IsFit g now → AreGivenUp (WasRefused g old now) (kept_book g old) behind ds
+  pub counted : IsFit g now → IsCounted g old now (kept_book g old) behind ds
 
 -- before the first batch
 pub nothing_yet : {S : Type 0} (g : Ghosts S) (old : Keeping S) (b : Book) → KeepsBook g old b → old.halted ≡ false → Stands g old b old [] []
@@ -225,6 +228,7 @@ none_yet {S = S} g old whole left ds all none = record {
   own = λ _ _. inl refl;
   on = λ _. gone_on_self g old;
   given = λ _. tt;
+  counted = λ _. none_counted g old (kept_book g old) ds;
 }
 
 -- while the engine goes on and its connection is open, the book read off the tables is the one that the batches left
@@ -269,6 +273,7 @@ drove_more {S = S} g old mid new whole now left ds batch d next was fit does why
   own = λ h above. own_more g old mid new above (was.own (fit h) above) (own h);
   on = λ h. gone_on_then g old mid new (was.on (fit h)) (on h);
   given = λ h. given_up_then g old mid new (kept_book g old) was.behind ds batch d was.count (λ k cs w. refused_since g old mid new k cs (was.on (fit h)) w) (on h) later (book_here g old mid whole now ds was (fit h)) (was.given (fit h)) (given h);
+  counted = λ h. counted_then g old mid new (kept_book g old) was.behind ds batch d was.count (was.on (fit h)).since (on h) later (book_here g old mid whole now ds was (fit h)) (was.counted (fit h)) (given h);
 }
 
 module _ {S : Type 0} (g : Ghosts S) (old new : Keeping S) (whole left : List (List Taken)) (ds : List Done) (drove : Drove g old new whole left ds) (none : left ≡ []) where
@@ -285,6 +290,9 @@ module _ {S : Type 0} (g : Ghosts S) (old new : Keeping S) (whole left : List (L
 
   pub all_given_up : IsFit g new → AreGivenUp (WasRefused g old new) (kept_book g old) whole ds
   all_given_up fit = subst (λ bs. AreGivenUp (WasRefused g old new) (kept_book g old) bs ds) all_behind (drove.given fit)
+
+  pub all_failures : IsFit g new → IsCounted g old new (kept_book g old) whole ds
+  all_failures fit = subst (λ bs. IsCounted g old new (kept_book g old) bs ds) all_behind (drove.counted fit)
 
   pub all_counted : length ds ≡ length whole
   all_counted = drove.count ∙ ap length all_behind

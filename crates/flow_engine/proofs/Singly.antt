@@ -29,6 +29,7 @@ use Rattle.flow_engine.specs.Driving.{AreAnswers, AreNoted, NotesAll, Drives, Ru
 use Rattle.flow_engine.specs.Answering.{IsSure, HasAnswered, HasStopped, AnswersAll, AreCaused, KeepsAnswered, StopsBehind, IsStopped, EndsEarly, LeavesBehind, TellsStop, AreAlone, AreCut, AreSingle, alone, replied, given, first_stop, IsPart, IsPartUpTo}
 use Rattle.flow_engine.proofs.Committed.{one_book}
 use Rattle.flow_engine.proofs.Gathering.{no_hand_of_halted, none_kept_of_halted}
+use Rattle.flow_engine.specs.Counting.{IsCounted}
 use Rattle.flow_engine.specs.GivingUp.{AreGivenUp, GivesUp, WasRefused}
 use Rattle.flow_engine.proofs.GivingUp.{given_caused}
 use Rattle.flow_engine.proofs.OneMore.{WasOwn}
@@ -449,9 +450,10 @@ pub alone_commands : (ts : List Taken) → commands_of ts ≡ commands_in (map a
 alone_commands [] = refl
 alone_commands (t ∷ ts) = ap (λ l. t.command ∷ l) (alone_commands ts)
 
-module _ {S : Type 0} (g : Ghosts S) (old new : Keeping S) (bs : List (List Taken)) (ds : List Done) (commands : List Command) (are : commands ≡ commands_in bs) (runs : Runs g old new bs ds) where
+module _ {S : Type 0} (g : Ghosts S) (old new : Keeping S) (bs : List (List Taken)) (ds : List Done) (commands : List Command) (are : commands ≡ commands_in bs) (runs : Runs g old new bs ds)
+    (counted : IsFit g new → IsCounted g old new (kept_book g old) bs ds) where
   pub part_of : (answers : List Answer) (stops : Option Stop) → given ds ≡ answers → first_stop ds ≡ stops → IsPart g old new commands answers stops
-  part_of answers stops told stop = inl (record { batches = bs; dones = ds; are = are; runs = runs; told = told; stop = stop })
+  part_of answers stops told stop = inl (record { batches = bs; dones = ds; are = are; runs = runs; counted = counted; told = told; stop = stop })
 
   pub one_part : (r : Result Answer Stop) → IfOk r (λ a. (given ds ≡ a ∷ []) × (first_stop ds ≡ None)) → IfErr r (λ s. (given ds ≡ []) × (first_stop ds ≡ Some s))
       → MatchResult r (λ a. IsPart g old new commands (a ∷ []) None) (λ s. IsPart g old new commands [] (Some s))

@@ -17,6 +17,7 @@ use Rattle.flow_machine.specs.declared.submission.Receipt.{Receipt}
 use Rattle.flow_tables.specs.Owned.{state_of, LeavesEither}
 use Rattle.flow_commit.specs.Keeping.{Keeping, rules, IsFit, IsUp, KeepsBook, commands_of, kept_book}
 use Rattle.flow_engine.specs.Driving.{Runs, commands_in}
+use Rattle.flow_engine.specs.Counting.{IsCounted}
 use Rattle.flow_engine.specs.GivingUp.{GivesUp}
 use Rattle.flow_engine.specs.declared.done.Done.{Done}
 use Rattle.flow_engine.specs.declared.done.Done.TheVariants as done
@@ -151,12 +152,14 @@ TellsStop before ds (unanswered.Stopped answers s) = (answers.items ≡ before +
 
 ---- A part of a life
 
--- Commands were answered so, up to a stop, as batches that the engine has answered.
+-- Commands were answered so, up to a stop, as batches that the engine has answered; no more of them were given up with E80 than the store has
+-- counted failures, but for other causes.
 pub record HasRun {S : Type 0} (g : Ghosts S) (old new : Keeping S) (commands : List Command) (answers : List Answer) (stops : Option Stop) : Type 0 where
   pub batches : List (List Taken)
   pub dones : List Done
   pub are : commands ≡ commands_in batches
   pub runs : Runs g old new batches dones
+  pub counted : IsFit g new → IsCounted g old new (kept_book g old) batches dones
   pub told : given dones ≡ answers
   pub stop : first_stop dones ≡ stops
 

@@ -7,3 +7,4 @@ pub mod Together
 pub mod Worlds
 pub mod Following
 pub mod GivingUp
+pub mod Counting

@@ -5,6 +5,7 @@ ghost use Rattle.sqlite.specs.Tree.{Trees};
 ghost use Rattle.flow_tables.specs.Owned.{state_of};
 ghost use Rattle.flow_commit.specs.Keeping.{IsFit, IsUp, IsWell, KeepsBook, kept_book};
 ghost use Rattle.flow_commit.specs.Committing.{HasGoneOn};
+ghost use Rattle.flow_engine.specs.Counting.{IsCounted};
 ghost use Rattle.flow_engine.specs.GivingUp.{AreGivenUp, IsGivenUpFor, WasRefused};
 ghost use Rattle.flow_engine.specs.declared.done.Done.TheVariants as dones;
 ghost use Rattle.flow_engine.specs.Driving.{HasDone, IsDoneFor, IsNoted, NotesAll, Drives, IsLeft, ReachesSound, ReachesWell, Runs, all_halted, kept_of, in_hand};
@@ -72,6 +73,8 @@ pub fn drive<S: Alter>(
     ensures own { IsFit S.Store engine.new → IsUp S.Store engine.old → (engine.new ≡ engine.old) ⊎ KeepsBook S.Store engine.old (kept_book S.Store engine.old) }
     // Why batches were given up with E80, over the book read off the tables at the beginning, whether it is known to be kept or not.
     ensures given_up { IfOk result (λ ds. IsFit S.Store engine.new → AreGivenUp (WasRefused S.Store engine.old engine.new) (kept_book S.Store engine.old) batches.items ds.items) }
+    // No more of them than the store has counted failures, but for other causes.
+    ensures counted { IfOk result (λ ds. IsFit S.Store engine.new → IsCounted S.Store engine.old engine.new (kept_book S.Store engine.old) batches.items ds.items) }
     ensures goes_on { IsFit S.Store engine.new → HasGoneOn S.Store engine.old engine.new }
     ensures back { IfErr result (λ e. e.0 ≡ batches) }
     ensures same { IfErr result (λ _. engine.new ≡ engine.old) }

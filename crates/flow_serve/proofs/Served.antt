@@ -1,6 +1,8 @@
 -- What serving has done, from batch to batch and over the boards in between.
-use Rattle.std.proofs.Common.{◌≡◌, inl, inr, ◌+◌, true, false, List, [], ◌∷◌, ◌++◌, length, map, refl, sym, ap, ◌∙◌, subst, arith, append-nil, append_assoc, length-append}
+use Rattle.std.proofs.Common.{◌≡◌, inl, inr, ◌+◌, ◌≤◌, true, false, List, [], ◌∷◌, ◌++◌, length, map, refl, sym, ap, ◌∙◌, subst, arith, append-nil, append_assoc, length-append}
+use Rattle.std.specs.Prelude.{All}
 use Rattle.std.proofs.lemmas.Bool.{cases_Bool}
+use Rattle.std.proofs.lemmas.List.Elements.{All-nil, All-cons, All-append}
 use Rattle.sqlite_trees.specs.declared.store.Store.{Ghosts}
 use Rattle.flow_base.specs.declared.code.Code.TheVariants as code
 use Rattle.flow_base.specs.declared.command.Command.{Command}
@@ -14,13 +16,15 @@ use Rattle.flow_tables.specs.Owned.{state_of}
 use Rattle.flow_tables.proofs.Stopping.{hindering_after, since_self, since_then}
 use Rattle.flow_commit.specs.Keeping.{Keeping, rules, IsFit, IsUp, KeepsBook, kept_book}
 use Rattle.flow_commit.proofs.Following.{keeps_behind, up_before}
-use Rattle.flow_commit.proofs.Sealing.{down_on}
+use Rattle.flow_commit.proofs.Sealing.{down_on, shut_on}
 use Rattle.flow_engine.specs.declared.done.Done.{Done}
 use Rattle.flow_serve.specs.Boarding.{IsStill}
 use Rattle.flow_engine.specs.Driving.{NotesAll, all_halted, has_unknown, kept_of, receipts_in, receipts_told}
+use Rattle.flow_engine.specs.Counting.{IsCounted}
 use Rattle.flow_engine.specs.GivingUp.{AreGivenUp, WasRefused}
-use Rattle.flow_serve.specs.Serving.{HasAnswered, HasServed, TurnsAway, codes_in, codes_told}
+use Rattle.flow_serve.specs.Serving.{HasAnswered, HasServed, IsBatch, TurnsAway, codes_in, codes_told}
 use Rattle.flow_engine.proofs.Gathering.{off, gathered_more, all_halted_more, replies_told}
+use Rattle.flow_engine.proofs.Counting.{counted_still, counted_then, none_counted}
 use Rattle.flow_engine.proofs.GivingUp.{all_given_up_on, given_up_then}
 use Rattle.flow_engine.proofs.OneMore.{Stands, WasOwn, book_left, nothing_yet, one_more, one_noted, own_more}
 
@@ -28,6 +32,7 @@ use Rattle.flow_engine.proofs.OneMore.{Stands, WasOwn, book_left, nothing_yet, o
 pub record Served {S : Type 0} (g : Ghosts S) (old now : Keeping S) (was told : List Refused) : Type 0 where
   pub batches : List (List Taken)
   pub dones : List Done
+  pub sizes : All IsBatch batches
   pub fit : IsFit g now → IsFit g old
   pub stands : IsFit g now → (b : Book) → KeepsBook g old b → old.halted ≡ false → Stands g old b now batches dones
   pub halted : old.halted ≡ true → now ≡ old
@@ -38,6 +43,7 @@ pub record Served {S : Type 0} (g : Ghosts S) (old now : Keeping S) (was told : 
   pub own : IsFit g now → IsUp g old → WasOwn g old now
   pub since : IsFit g now → Since (state_of g old.stored) (state_of g now.stored)
   pub given : IsFit g now → AreGivenUp (WasRefused g old now) (kept_book g old) batches dones
+  pub counted : IsFit g now → IsCounted g old now (kept_book g old) batches dones
   pub log : now.log ≡ old.log ++ receipts_told batches dones
   pub codes : told ≡ was ++ codes_told batches dones
 
@@ -45,6 +51,7 @@ pub none_served : {S : Type 0} (g : Ghosts S) (old : Keeping S) (was : List Refu
 none_served g old was = record {
   batches = [];
   dones = [];
+  sizes = All-nil IsBatch;
   fit = λ h. h;
   stands = λ h b keeps goes. nothing_yet g old b keeps goes;
   halted = λ _. refl;
@@ -55,6 +62,7 @@ none_served g old was = record {
   own = λ _ _. inl refl;
   since = λ _. since_self (state_of g old.stored);
   given = λ _. tt;
+  counted = λ _. none_counted g old (kept_book g old) [];
   log = sym (append-nil old.log);
   codes = sym (append-nil was);
 }
@@ -86,6 +94,7 @@ module _ {S : Type 0} (g : Ghosts S) (old mid new : Keeping S) where
     goes_still still same goes = record {
       batches = served.batches;
       dones = served.dones;
+      sizes = served.sizes;
       fit = λ h. served.fit (still.follows.1 h);
       stands = λ h b keeps on. stands_on still goes h b (served.stands (still.follows.1 h) b keeps on);
       halted = λ h. off (sym (ap (λ (k : Keeping S). k.halted) (served.halted h) ∙ h) ∙ goes);
@@ -96,6 +105,9 @@ module _ {S : Type 0} (g : Ghosts S) (old mid new : Keeping S) where
       own = λ h above. own_more g old mid new above (served.own (still.follows.1 h) above) (still.own h);
       since = λ h. since_then (state_of g old.stored) (state_of g mid.stored) (state_of g new.stored) (served.since (still.follows.1 h)) (still.stored.3 h.0 h.1);
       given = λ h. all_given_up_on (WasRefused g old mid) (WasRefused g old new) (λ k cs w. refused_on still h k cs w) (kept_book g old) served.batches served.dones (served.given (still.follows.1 h));
+      counted = λ h. (let kept : new.kept ≡ mid.kept = still.kept in
+          counted_still g old mid new (kept_book g old) served.batches served.dones (still.stored.3 h.0 h.1).0 (omega (arith, kept))
+          (shut_on (state_of g mid.stored).is_open (state_of g new.stored).is_open (up_before g mid.stored new.stored still.stored h)) (served.counted (still.follows.1 h)));
       log = still.log ∙ served.log;
       codes = same ∙ served.codes;
     }
@@ -108,14 +120,15 @@ module _ {S : Type 0} (g : Ghosts S) (old mid new : Keeping S) where
     ]
 
     -- one batch more
-    pub served_more : (batch : List Taken) → HasAnswered g mid new told now batch → Served g old new was now
-    served_more batch one =
+    pub served_more : (batch : List Taken) → IsBatch batch → HasAnswered g mid new told now batch → Served g old new was now
+    served_more batch size one =
         let bs = served.batches in
         let ds = served.dones in
         let before : old.halted ≡ true → mid.halted ≡ true = λ h. ap (λ (k : Keeping S). k.halted) (served.halted h) ∙ h in
         record {
           batches = bs ++ batch ∷ [];
           dones = ds ++ one.ended ∷ [];
+          sizes = All-append IsBatch bs (batch ∷ []) served.sizes (All-cons IsBatch batch [] size (All-nil IsBatch));
           fit = λ h. served.fit (one.fit h);
           stands = λ h b keeps goes. one_more g old b mid new bs ds batch (served.stands (one.fit h) b keeps goes) one.ended (one.does h) one.halted one.later (has_unknown ds) refl;
           halted = λ h. one.halted (before h) ∙ served.halted h;
@@ -127,6 +140,8 @@ module _ {S : Type 0} (g : Ghosts S) (old mid new : Keeping S) where
           since = λ h. since_then (state_of g old.stored) (state_of g mid.stored) (state_of g new.stored) (served.since (one.fit h)) (one.on h).since;
           given = λ h. given_up_then g old mid new (kept_book g old) bs ds batch one.ended served.count (λ k cs w. refused_after (served.since (one.fit h)) k cs w) (one.on h) one.later
               (book_left g old mid bs ds served.halted served.noted (served.up (one.fit h)) (served.own (one.fit h)) (served.stands (one.fit h))) (served.given (one.fit h)) (one.why h);
+          counted = λ h. counted_then g old mid new (kept_book g old) bs ds batch one.ended served.count (served.since (one.fit h)) (one.on h) one.later
+              (book_left g old mid bs ds served.halted served.noted (served.up (one.fit h)) (served.own (one.fit h)) (served.stands (one.fit h))) (served.counted (one.fit h)) (one.why h);
           log = one.log ∙ ap (λ l. l ++ receipts_in batch one.ended) served.log ∙ append_assoc old.log (receipts_told bs ds) (receipts_in batch one.ended)
               ∙ ap (λ l. old.log ++ l) (sym (gathered_more receipts_in bs ds batch one.ended (sym served.count)));
           codes = one.codes ∙ ap (λ l. l ++ codes_in batch one.ended) served.codes ∙ append_assoc was (codes_told bs ds) (codes_in batch one.ended)
@@ -143,12 +158,14 @@ module _ {S : Type 0} (g : Ghosts S) (old now : Keeping S) (was told : List Refu
       record {
         batches = bs;
         dones = ds;
+        sizes = served.sizes;
         serves = λ fit b keeps goes. (let s = served.stands fit b keeps goes in record { answers = s.0; replies = replies_told old.kept b bs ds s.0; leads = s.1 });
         still = λ h. (served.halted h, served.later h);
         noted = served.noted;
         log = served.log;
         codes = served.codes ∙ sym (append-nil (was ++ codes_told bs ds));
         given_up = served.given;
+        counted = served.counted;
       }
 
   -- and what waited was turned away
@@ -158,12 +175,14 @@ module _ {S : Type 0} (g : Ghosts S) (old now : Keeping S) (was told : List Refu
       record {
         batches = served.batches;
         dones = served.dones;
+        sizes = served.sizes;
         serves = served.serves;
         still = served.still;
         noted = served.noted;
         log = served.log;
         codes = turns ∙ ap (λ l. l ++ map (refused_by code.Halted) waiting) (served.codes ∙ append-nil front);
         given_up = served.given_up;
+        counted = served.counted;
       }
 
 -- nothing was taken, and all was turned away

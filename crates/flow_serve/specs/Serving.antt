@@ -15,6 +15,7 @@ use Rattle.flow_queues.specs.Refusing.{refused_by}
 use Rattle.flow_engine.specs.declared.done.Done.{Done}
 use Rattle.flow_engine.specs.declared.done.Done.TheVariants as done
 use Rattle.flow_engine.specs.Driving.{HasDone, IsNoted, AreAnswers, NotesAll, LeadsTo, all_halted, gathered, has_unknown, kept_of, in_hand, receipts_in, receipts_told, replies_of}
+use Rattle.flow_engine.specs.Counting.{IsCounted}
 use Rattle.flow_engine.specs.GivingUp.{AreGivenUp, IsGivenUpFor, WasRefused}
 
 -- It was in a batch that wasn't applied: E80 or E01.
@@ -104,15 +105,22 @@ pub record Serves {S : Type 0} (g : Ghosts S) (old new : Keeping S) (b : Book) (
   pub replies : replies_of batches dones ≡ replies rules b (kept_of batches dones)
   pub leads : LeadsTo g old new b (has_unknown dones) (kept_of batches dones) (in_hand batches dones)
 
+-- so many are committed together
+abbrev pub IsBatch : List Taken → Type 0
+IsBatch batch = (1 ≤ length batch) × (length batch ≤ 64)
+
 -- What was taken was answered in these batches. The receipts of those that are kept are what the log has more, the submissions of the
 -- others are answered by their codes, in their order, and E85 has answered these behind them. What stands behind each E80 is of the book
--- read off the tables at the beginning, whether it is known to be kept or not.
+-- read off the tables at the beginning, whether it is known to be kept or not; and it is a failure of the disk for no more batches than the
+-- store has counted failures.
 pub record HasServed {S : Type 0} (g : Ghosts S) (old new : Keeping S) (was now : List Refused) (waiting : List Taken) : Type 0 where
   pub batches : List (List Taken)
   pub dones : List Done
+  pub sizes : All IsBatch batches
   pub serves : IsFit g new → (b : Book) → KeepsBook g old b → old.halted ≡ false → Serves g old new b batches dones
   pub still : old.halted ≡ true → (new ≡ old) × (dones ≡ all_halted batches)
   pub noted : old.halted ≡ false → NotesAll old new batches dones
   pub log : new.log ≡ old.log ++ receipts_told batches dones
   pub codes : now ≡ was ++ codes_told batches dones ++ map (refused_by code.Halted) waiting
   pub given_up : IsFit g new → AreGivenUp (WasRefused g old new) (kept_book g old) batches dones
+  pub counted : IsFit g new → IsCounted g old new (kept_book g old) batches dones

@@ -4,7 +4,7 @@ use Rattle.flow_machine.proofs.Keeps.{after_keeps}
 use Rattle.flow_machine.proofs.Meaning.{reads_well_formed}
 use Rattle.flow_commit.specs.Keeping as keeping
 use Rattle.flow_engine.proofs.Filling.{room_more}
-use Rattle.flow_engine.proofs.OneMore.{Drove, none_yet, drove_more, drives, all_given_up, all_later, none_left, after_well, left_well}
+use Rattle.flow_engine.proofs.OneMore.{Drove, none_yet, drove_more, drives, all_given_up, all_failures, all_later, none_left, after_well, left_well}
 use Rattle.flow_engine.proofs.drive.drive.Goals as goal
 
 pub loop-batch-init : goal.loop-batch-init
@@ -51,6 +51,11 @@ returns-clause-leaves g c fit b well keeps goes_on =
 pub returns-clause-given_up : goal.returns-clause-given_up
 returns-clause-given_up g c =
     all_given_up g.S.Store c.args.engine.now c.loop-batch.engine c.args.batches.items (into_iter_items c.loop-batch.batch-iterator) c.loop-batch.dones.items c.loop-batch.invariant.drove
+    (none_left (into_iter_items c.loop-batch.batch-iterator) (sym c.loop-batch.invariant.left ∙ c.in-None.ensures.steps.0))
+
+pub returns-clause-counted : goal.returns-clause-counted
+returns-clause-counted g c =
+    all_failures g.S.Store c.args.engine.now c.loop-batch.engine c.args.batches.items (into_iter_items c.loop-batch.batch-iterator) c.loop-batch.dones.items c.loop-batch.invariant.drove
     (none_left (into_iter_items c.loop-batch.batch-iterator) (sym c.loop-batch.invariant.left ∙ c.in-None.ensures.steps.0))
 
 -- This is what a life has of these batches.

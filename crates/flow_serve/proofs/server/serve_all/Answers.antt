@@ -3,7 +3,7 @@ use Rattle.std.proofs.lemmas.Result.{err_from_is_err_and}
 use Rattle.flow_machine.specs.declared.submission.Taken.{Taken}
 use Rattle.flow_queues.specs.declared.refused.Refused.{Refused}
 use Rattle.flow_hub.proofs.Growing.{before_trans}
-use Rattle.flow_serve.specs.Serving.{GivesUp, HasAnswered, StopsAt}
+use Rattle.flow_serve.specs.Serving.{GivesUp, HasAnswered, IsBatch, StopsAt}
 use Rattle.flow_serve.proofs.Posted.{answered_later, later_self, posts_still, posts_then, still_later}
 use Rattle.flow_serve.proofs.Served.{Served, has_served, none_served, served_more, served_still}
 use Rattle.flow_serve.proofs.Serving.{follows_then, gives_none, gives_then, stops_behind}
@@ -36,7 +36,9 @@ returns-in_err-commit_taken-clause-served g c =
     let was = c.args.publisher.now.refused in
     let now = c.commit_taken.new.publisher.refused in
     let one = subst (λ (rs : List Refused). HasAnswered g.S.Store mid new rs now c.of.result) c.take.ensures.taken.refused c.commit_taken.ensures.answered in
-    has_served g.S.Store old new was now (served_more g.S.Store old mid new was c.loop.publisher.refused now c.loop.invariant.served c.of.result one)
+    let hand = c.take.new.into.items in
+    let some : (1 ≤ length hand) × (length hand ≤ 64) = search rules in
+    has_served g.S.Store old new was now (served_more g.S.Store old mid new was c.loop.publisher.refused now c.loop.invariant.served c.of.result (subst IsBatch (sym c.of.ensures) some) one)
 
 -- the hub is closed, and nothing was taken any more
 pub returns-then-not-take-clause-served : goal.returns-then-not-take-clause-served
@@ -83,6 +85,8 @@ loop-preserved g c =
     let go = c.in_ok-commit_taken.ensures.goes_on in
     let was = c.args.publisher.now.refused in
     let one = subst (λ (rs : List Refused). HasAnswered g.S.Store c.loop.engine kept rs told.refused c.of.result) c.take.ensures.taken.refused c.commit_taken.ensures.answered in
+    let hand = c.take.new.into.items in
+    let some : (1 ≤ length hand) × (length hand ≤ 64) = search rules in
     let tells = g.C.Clock.tells c.args.clock.now in
     let posted = c.args.publisher.now.posted in
     let later = answered_later g.S.Store c.loop.engine kept c.loop.publisher.refused told.refused c.of.result one c.commit_taken.ensures.found in
@@ -94,7 +98,7 @@ loop-preserved g c =
       still = λ h. absurd (true≢false (sym h ∙ (b.still.halted ∙ go.1)));
       gives = subst (GivesUp was) (sym b.refused) gives;
       served = served_still g.S.Store old kept c.post_board-in-loop.new.engine was told.refused c.post_board-in-loop.new.publisher.refused
-          (served_more g.S.Store old c.loop.engine kept was c.loop.publisher.refused told.refused i.served c.of.result one) b.still b.refused;
+          (served_more g.S.Store old c.loop.engine kept was c.loop.publisher.refused told.refused i.served c.of.result (subst IsBatch (sym c.of.ensures) some) one) b.still b.refused;
       posts = posts_then g.S.Store tells kept c.post_board-in-loop.new.engine posted told.posted c.post_board-in-loop.new.publisher.posted
           (still_later g.S.Store kept c.post_board-in-loop.new.engine b.still) committed b.posts;
       found = b.still.found ∙ (c.commit_taken.ensures.found ∙ i.found);
