@@ -60,7 +60,10 @@ pub struct TaskReceiver<E: Tells = Truly> {
 }
 
 /// An end of the dispatcher.
-pub(crate) fn sender(end: RuledSender<Task, Hand, InTurn<Truly>>, pass: Pass<Task, Hand>) -> TaskSender
+pub(crate) fn sender(
+    end: RuledSender<Task, Hand, InTurn<Truly>>,
+    pass: Pass<Task, Hand>,
+) -> TaskSender
     requires { IsSeatAt (sends_on end) pass × ((view pass).sends ≡ true) }
     ensures { (result.end ≡ end) × (result.pass ≡ pass) × (result.returned ≡ []) }
 {
