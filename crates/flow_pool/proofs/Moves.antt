@@ -1,14 +1,14 @@
 -- Each step of the channel keeps its rule.
-use Rattle.std.proofs.Common.{◌≡◌, ◌≢◌, ◌⊎◌, ◌≤◌, ◌<◌, ◌+◌, ℕ, zero, suc, ◌==◌, List, [], ◌∷◌, ◌++◌, length, set, Bool, true, false, true≢false, inl, inr, refl, sym, ap, ◌∙◌, subst, ⊎_elim, arith, append_assoc, lt_of_not-le, if◌then◌else◌}
+use Rattle.std.proofs.Common.{◌≡◌, ◌≢◌, ◌⊎◌, ◌≤◌, ◌<◌, ◌+◌, ℕ, zero, suc, ◌==◌, List, [], ◌∷◌, ◌++◌, length, set, Bool, true, false, true≢false, inl, inr, refl, sym, ap, ◌∙◌, subst, ⊎_elim, arith, append_assoc, lt_of_not-le, suc-ne-zero, if◌then◌else◌}
 use Rattle.std.proofs.lemmas.Bool.Decides.{nat_tests}
 use mathlib.Core.Option.{Option, none, some, some-ne-none, some-injective}
 use lib.ListN.{get_elem?}
-use Rattle.crossbeam_channel.specs.Fifo.{Pushes, Pops, Forks, Merges, Learns}
-use Rattle.atomic_table.proofs.Lists.{at_set, set_again}
+use Rattle.crossbeam_channel.specs.Fifo.{Pushes, Pops, Forks, Merges, Learns, Held}
+use Rattle.atomic_table.proofs.Lists.{at_set}
 use Rattle.flow_machine.specs.declared.task.Task.{Task}
 use Rattle.flow_pool.specs.declared.hand.Hand.{Hand}
 use Rattle.flow_pool.specs.declared.hand.Back.{Back}
-use Rattle.flow_pool.specs.Orders.{feeding, working, gone, back_of, Takings, tasks_of, took_by, AreBelow, AreTheirs, Delivers, FitsFeed, FitsWorker, AreHome, InOrder, IsInOrder}
+use Rattle.flow_pool.specs.Orders.{feeding, working, gone, back_of, Takings, tasks_of, took_by, AreBelow, AreTheirs, Delivers, FitsFeed, FitsWorker, AreHome, IsInOrder, Keeps, IsSeen, WasEmpty}
 
 off : false ≡ true → ⊥
 off e = true≢false (sym e)
@@ -266,3 +266,24 @@ learns p v sends items views (feed, put, made, back, log, seat, h) at =
       subst (λ k. AreBelow k log) (sym mine.2) h.below,
       subst (AreTheirs log) (sym mine.3) h.theirs,
     )
+
+-- what is told where the channel holds nothing stays as it is
+pub pushes_on : (told : Type 0) (n p : ℕ) (v : Hand) (x : Task) (outcome : Hand → Type 0) → Pushes IsInOrder n p v x outcome → Pushes (Keeps told) n p v x outcome
+pushes_on told n p v x outcome keeps items views room (h, t) at = let (w, kept, is) = keeps items views room h at in (w, (kept, t), is)
+
+pub pops_on : (told : Type 0) (p : ℕ) (v : Hand) (outcome : Task → Hand → Type 0) → Pops IsInOrder p v outcome → Pops (Keeps told) p v outcome
+pops_on told p v outcome keeps x items views (h, t) at = let (w, kept, is) = keeps x items views h at in (w, (kept, t), is)
+
+pub forks_on : (told : Type 0) (p : ℕ) (v left right : Hand) → Forks IsInOrder p v left right → Forks (Keeps told) p v left right
+forks_on told p v left right keeps items views (h, t) at = (keeps items views h at, t)
+
+pub merges_on : (told : Type 0) (p : ℕ) (v : Hand) (q : ℕ) (w both spent : Hand) → Merges IsInOrder p v q w both spent → Merges (Keeps told) p v q w both spent
+merges_on told p v q w both spent keeps items views (h, t) at away other = (keeps items views h at away other, t)
+
+pub learns_on : (told : Type 0) (p : ℕ) (v : Hand) (fact : List Task → Type 0) → Learns IsInOrder p v fact → Learns (Keeps told) p v fact
+learns_on told p v fact learns items views (h, t) at = learns items views h at
+
+-- nothing was seen in a channel that held none
+pub was_empty : (told : Type 0) (v : Hand) → Held 0 (IsSeen told v) → WasEmpty told v
+was_empty told v ([], is, seen) = seen
+was_empty told v (x ∷ items, is, seen) = absurd (suc-ne-zero (length items) is)

@@ -1,12 +1,11 @@
 -- What a worker has told, one report more.
-use Rattle.std.proofs.Common.{◌≡◌, ℕ, zero, suc, List, [], ◌∷◌, ◌++◌, Bool, true, false, Option, Some, None, is_some, if◌then◌else◌, Ok, Err, set, get_or, drop, length, ◌<◌, inl, inr, refl, sym, ap, ◌∙◌, subst, arith, append_assoc, append-nil, bytes_eq}
+use Rattle.std.proofs.Common.{◌≡◌, ℕ, zero, suc, List, [], ◌∷◌, ◌++◌, Bool, true, false, Some, is_some, if◌then◌else◌, set, get_or, drop, length, ◌<◌, refl, sym, ap, ◌∙◌, subst, arith, append_assoc, append-nil, bytes_eq}
 use Rattle.std.proofs.lemmas.Option.{same_Some, none-some}
 use Rattle.std.specs.List.{AllByRecursion, slice_get}
 use Rattle.flow_base.specs.declared.command.Command.{Command}
 use Rattle.flow_pool.specs.declared.activity.Attempt.{Attempt}
 use Rattle.flow_machine.specs.declared.task.Task.{Task}
-use Rattle.flow_pool.specs.declared.report.Unheard.{Unheard}
-use Rattle.flow_pool.specs.Reports.{Heard, Telling, first_named, is_left, MayGive, MayCome, IsUnheard, Reported, Does, GoesOn, Stops, Works, is_final}
+use Rattle.flow_pool.specs.Reports.{Telling, first_named, is_left, MayCome, IsUnheard, Reported, Does, GoesOn}
 
 -- one more that wasn't heard
 pub unheard_next : (c : Command) (before : List Telling) (x : Telling) → AllByRecursion (IsUnheard c) before → IsUnheard c x → AllByRecursion (IsUnheard c) (before ++ x ∷ [])

@@ -4,6 +4,8 @@ use Rattle.crossbeam_channel.specs.Claims.{view}
 use Rattle.crossbeam_channel.specs.Ends.{sends_on, receives_on}
 use Rattle.flow_machine.specs.declared.task.Task.{Task}
 use Rattle.flow_pool.specs.declared.hand.Back.{Back}
+use Rattle.flow_pool.specs.declared.hand.Hand.{Hand}
+use Rattle.flow_pool.specs.declared.hand.Truly.{Truly}
 use Rattle.flow_pool.specs.declared.ends.TaskSender.{TaskSender}
 use Rattle.flow_pool.specs.declared.ends.TaskReceiver.{TaskReceiver}
 use Rattle.flow_pool.specs.declared.ends.Door.{Door}
@@ -20,22 +22,29 @@ made_by s = (view s.pass).made
 abbrev pub back_at : TaskSender → List Back
 back_at s = (view s.pass).back
 
--- a worker's number, and all that it has taken
-abbrev pub number_of : TaskReceiver → ℕ
-number_of r = (view r.pass).worker
+-- all that came back, since no worker was left
+abbrev pub came_back : TaskSender → List Task
+came_back s = s.returned
 
-abbrev pub taken_by : TaskReceiver → List Task
-taken_by r = (view r.pass).got
+-- what a worker knows: its number, and all that it has taken
+abbrev pub known_by : {E : Type 0} → TaskReceiver E → Hand
+known_by r = view r.pass
+
+abbrev pub number_of : {E : Type 0} → TaskReceiver E → ℕ
+number_of r = (known_by r).worker
+
+abbrev pub taken_by : {E : Type 0} → TaskReceiver E → List Task
+taken_by r = (known_by r).got
 
 -- they are ends of one channel
-abbrev pub AreOne : TaskSender → TaskReceiver → Type 0
+abbrev pub AreOne : TaskSender → TaskReceiver Truly → Type 0
 AreOne s r = receives_on r.end ≡ sends_on s.end
 
 abbrev pub IsOpenTo : TaskSender → Door → Type 0
 IsOpenTo s d = receives_on d.end ≡ sends_on s.end
 
 -- they are ends of the same channel
-abbrev pub IsSameEnd : TaskReceiver → TaskReceiver → Type 0
+abbrev pub IsSameEnd : {E : Type 0} → TaskReceiver E → TaskReceiver E → Type 0
 IsSameEnd r s = receives_on s.end ≡ receives_on r.end
 
 abbrev pub IsSameFeed : TaskSender → TaskSender → Type 0

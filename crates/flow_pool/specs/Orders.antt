@@ -1,5 +1,5 @@
 -- What is put into the channel of tasks, and what is taken of it: in which order, and by whom.
-use Rattle.std.specs.Prelude.{ℕ, ◌≡◌, ◌==◌, ◌≤◌, ◌<◌, ◌+◌, Bool, true, false, List, [], ◌∷◌, ◌++◌, map, if◌then◌else◌}
+use Rattle.std.specs.Prelude.{ℕ, ◌≡◌, ◌==◌, ◌≤◌, ◌<◌, true, false, List, [], ◌∷◌, ◌++◌, map, if◌then◌else◌}
 use mathlib.Core.Option.{Option, some, none}
 use lib.ListN.{get_elem?}
 use Rattle.flow_machine.specs.declared.task.Task.{Task}
@@ -75,3 +75,15 @@ pub record InOrder (items : List Task) (views : List Hand) (feed : ℕ) (put : L
 abbrev pub IsInOrder : List Task → List Hand → Type 0
 IsInOrder items views =
     (feed : ℕ) × (put : List Task) × (made : ℕ) × (back : List Back) × (log : Takings) × (seat : (ℕ → Option ℕ)) × InOrder items views feed put made back log seat
+
+-- The rule, and what is told where the channel holds nothing
+abbrev pub Keeps : Type 0 → List Task → List Hand → Type 0
+Keeps told items views = IsInOrder items views × told
+
+-- The channel held these, and one of its passes knew this
+abbrev pub IsSeen : Type 0 → Hand → List Task → Type 0
+IsSeen told v items = (views : List Hand) × (p : ℕ) × Keeps told items views × (get_elem? views p ≡ some v)
+
+-- It held nothing, so that all that had been put was taken, and it was asked then
+abbrev pub WasEmpty : Type 0 → Hand → Type 0
+WasEmpty told v = IsSeen told v []

@@ -5,7 +5,6 @@ use Rattle.flow_base.specs.declared.command.Command.{Command}
 use Rattle.flow_base.specs.declared.command.Command.TheVariants as command
 use Rattle.flow_base.specs.declared.command.Reply.{Reply}
 use Rattle.flow_base.specs.declared.command.Reply.TheVariants as reply
-use Rattle.flow_base.specs.declared.code.Code.{Code}
 use Rattle.flow_base.specs.declared.code.Code.TheVariants as code
 use Rattle.flow_pool.specs.declared.activity.Attempt.{Attempt}
 use Rattle.flow_pool.specs.declared.activity.Attempt.TheVariants.{Done, Failed}
@@ -115,6 +114,7 @@ Stops tells may left ts log =
     (before : List Task) × (t : Task) × (first : List Telling) × (one : List Telling) × (ts ≡ before ++ t ∷ []) × (log ≡ first ++ one)
     × GoesOn tells may left before first × Does tells may t (left t) one true
 
--- what a worker reports of the tasks that it takes, each at a moment that its clock tells
-abbrev pub Works : (ℕ → Type 0) → (Task → Attempt → Type 0) → (Task → Bool) → List Task → List Telling → Type 0
-Works tells may left ts log = GoesOn tells may left ts log ⊎ Stops tells may left ts log
+-- What a worker reports of the tasks that it takes, each at a moment that its clock tells; and why it ends: no task came any more, or at
+-- the report of the last one nobody was left to tell
+abbrev pub Works : (ℕ → Type 0) → (Task → Attempt → Type 0) → (Task → Bool) → Type 0 → List Task → List Telling → Type 0
+Works tells may left ended ts log = (GoesOn tells may left ts log × ended) ⊎ Stops tells may left ts log

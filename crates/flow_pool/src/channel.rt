@@ -1,20 +1,21 @@
 //! The channel in which tasks go from the dispatcher to the workers. Its rule: what was taken, in order of taking, is a
 //! beginning of what was put, and each of it was taken by one worker.
-ghost use Rattle.std.specs.Prelude.{◌≡◌, [], ◌∷◌, ◌++◌, ◌+◌, ◌<◌, IfOk, IfErr, OnOk, OnErr, MatchOption};
-ghost use Rattle.flow_pool.specs.Orders.{back_of, Delivers};
-ghost use Rattle.flow_pool.specs.Ends.{put_by, made_by, back_at, number_of, taken_by, AreOne, IsOpenTo, IsSameEnd, IsSameFeed};
+ghost use Rattle.std.specs.Prelude.{◌≡◌, [], ◌∷◌, ◌++◌, ◌+◌, ◌<◌, IfOk, IfErr, IfNone, OnOk, OnErr, MatchOption};
+ghost use Rattle.flow_pool.specs.Orders.{back_of, Delivers, WasEmpty};
+ghost use Rattle.flow_pool.specs.Ends.{put_by, made_by, back_at, came_back, known_by, number_of, taken_by, AreOne, IsOpenTo, IsSameEnd, IsSameFeed};
 
-use crate::ends::{Door, TaskReceiver, TaskSender, receiver, sender};
-use crate::hand::{Learnt, Makes, Puts, Returns, Takes};
+use crate::ends::{Door, TaskReceiver, TaskSender, receiver, sender, with_task};
+use crate::hand::{Learnt, Makes, Puts, Returns, Takes, Tells};
 use crossbeam_channel::{SendError, bounded_with};
 use flow_machine::task::Task;
 use std::alloc::{AllocError, Global};
+use std::snapshot::Snapshot;
 use std::sync::Wait;
 
 /// A channel that holds so many tasks, from 1.
 pub fn opened(alloc: Global, most: usize) -> Result<(TaskSender, Door), AllocError>
     requires { 0 < most }
-    ensures { IfOk result (λ r. IsOpenTo r.0 r.1 × (put_by r.0 ≡ []) × (made_by r.0 ≡ 0) × (back_at r.0 ≡ [])) }
+    ensures { IfOk result (λ r. IsOpenTo r.0 r.1 × (put_by r.0 ≡ []) × (made_by r.0 ≡ 0) × (back_at r.0 ≡ []) × (came_back r.0 ≡ [])) }
 {
     let (end, from, pass) = bounded_with(alloc, most)?;
     Ok((sender(end, pass), Door { end: from }))
@@ -28,6 +29,7 @@ impl TaskSender {
         ensures counted { OnOk result (made_by self.new ≡ made_by self.old + 1) }
         ensures err { OnErr result (made_by self.new ≡ made_by self.old) }
         ensures same { IsSameFeed self.old self.new × (put_by self.new ≡ put_by self.old) × (back_at self.new ≡ back_at self.old) }
+        ensures returned { came_back self.new ≡ came_back self.old }
     {
         let end = door.end.try_clone()?;
         let pass = self.end.another::<Makes>(&mut self.pass);
@@ -36,13 +38,16 @@ impl TaskSender {
 
     /// Puts a task behind all that were put. It comes back where no worker is left.
     pub fn put<R: Wait>(&mut self, rt: &R, task: Task) -> Result<(), Task>
-        ensures put { OnOk result (put_by self.new ≡ put_by self.old ++ task ∷ []) }
-        ensures back { IfErr result (λ t. (t ≡ task) × (put_by self.new ≡ put_by self.old)) }
+        ensures put { OnOk result ((put_by self.new ≡ put_by self.old ++ task ∷ []) × (came_back self.new ≡ came_back self.old)) }
+        ensures back { IfErr result (λ t. (t ≡ task) × (put_by self.new ≡ put_by self.old) × (came_back self.new ≡ came_back self.old ++ task ∷ [])) }
         ensures same { IsSameFeed self.old self.new × (made_by self.new ≡ made_by self.old) × (back_at self.new ≡ back_at self.old) }
     {
         match self.end.send_as::<Puts, R>(rt, &mut self.pass, task) {
             Ok(()) => Ok(()),
-            Err(SendError::Disconnected(task)) => Err(task),
+            Err(SendError::Disconnected(task)) => {
+                self.returned = with_task(&self.returned, Snapshot::of(&task));
+                Err(task)
+            }
             Err(SendError::OutOfMemory(_task)) => unreachable!(),
         }
     }
@@ -52,6 +57,7 @@ impl TaskSender {
         requires { AreOne self.old worker }
         ensures back { back_at self.new ≡ back_at self.old ++ back_of (number_of worker) (taken_by worker) ∷ [] }
         ensures same { IsSameFeed self.old self.new × (put_by self.new ≡ put_by self.old) × (made_by self.new ≡ made_by self.old) }
+        ensures returned { came_back self.new ≡ came_back self.old }
     {
         let TaskReceiver { end: _end, pass } = worker;
         self.end.absorb::<Returns>(&mut self.pass, pass);
@@ -62,17 +68,19 @@ impl TaskSender {
     pub fn settle(&mut self)
         ensures delivers { Delivers (put_by self.new) (made_by self.new) (back_at self.new) }
         ensures same { IsSameFeed self.old self.new × (put_by self.new ≡ put_by self.old) × (made_by self.new ≡ made_by self.old) × (back_at self.new ≡ back_at self.old) }
+        ensures returned { came_back self.new ≡ came_back self.old }
     {
         self.end.learn_as::<Learnt>(&mut self.pass);
     }
 }
 
-impl TaskReceiver {
+impl<E: Tells> TaskReceiver<E> {
     /// Takes the next task. None where the channel was empty at a moment of the call, as after its sender is gone.
     pub fn take<R: Wait>(&mut self, rt: &R) -> Option<Task>
         ensures taken { MatchOption result (taken_by self.new ≡ taken_by self.old) (λ x. taken_by self.new ≡ taken_by self.old ++ x ∷ []) }
+        ensures none { IfNone result (WasEmpty E.empty (known_by self.new)) }
         ensures same { IsSameEnd self.old self.new × (number_of self.new ≡ number_of self.old) }
     {
-        self.end.recv_as::<Takes, R>(rt, &mut self.pass).ok()
+        self.end.recv_as::<Takes<E>, R>(rt, &mut self.pass).ok()
     }
 }

@@ -2,6 +2,7 @@
 use crossbeam_channel::protocol::{Join, Lesson, Outcome, Protocol, Split};
 use flow_machine::task::Task;
 use std::collections::LinkedList;
+use std::marker::PhantomData;
 
 /// What a worker that has come back had taken.
 pub struct Back {
@@ -26,14 +27,31 @@ pub struct Hand {
     pub got: LinkedList<Task>,
 }
 
+/// What a channel tells only one who asked it for a task while it held none.
+///
+/// Who takes tasks of a channel knows of `empty` nothing but its name. So a body that answers that there is none can't make it up: it has
+/// to ask the channel, and be told so.
+pub trait Tells {
+    ghost empty: { Type 0 };
+}
+
+/// What it tells is true.
+pub struct Truly;
+
+impl Tells for Truly {
+    ghost empty = { Unit {0} };
+}
+
 /// The rule of the channel.
-pub struct InTurn;
+pub struct InTurn<E> {
+    tells: PhantomData<E>,
+}
 
-impl Protocol<Task, Hand> for InTurn {
+impl<E: Tells> Protocol<Task, Hand> for InTurn<E> {
     ghost use Rattle.std.specs.Prelude.{[]};
-    ghost use Rattle.flow_pool.specs.Orders.{feeding, IsInOrder};
+    ghost use Rattle.flow_pool.specs.Orders.{feeding, Keeps};
 
-    ghost holds = { IsInOrder };
+    ghost holds = { Keeps E.empty };
 
     ghost first = { feeding [] 0 [] };
 }
@@ -52,18 +70,22 @@ impl Lesson<Task, Hand> for Puts {
     ghost fact = { λ v items. Unit {0} };
 }
 
-/// A task is taken.
-pub struct Takes;
+/// A task is taken; or none is there.
+pub struct Takes<E> {
+    tells: PhantomData<E>,
+}
 
-impl Outcome<Task, Hand> for Takes {
+impl<E> Outcome<Task, Hand> for Takes<E> {
     ghost use Rattle.std.specs.Prelude.{◌≡◌, [], ◌∷◌, ◌++◌};
     ghost use Rattle.flow_pool.specs.Orders.{working};
 
     ghost then = { λ v x w. w ≡ working v.worker (v.got ++ x ∷ []) };
 }
 
-impl Lesson<Task, Hand> for Takes {
-    ghost fact = { λ v items. Unit {0} };
+impl<E: Tells> Lesson<Task, Hand> for Takes<E> {
+    ghost use Rattle.flow_pool.specs.Orders.{IsSeen};
+
+    ghost fact = { λ v items. IsSeen E.empty v items };
 }
 
 /// One more worker is made.

@@ -2,12 +2,14 @@
 ghost use Rattle.std.specs.Prelude.{◌≡◌, ◌++◌, ℕ, List, is_err, is_some};
 ghost use Rattle.flow_machine.specs.declared.task.Task.{Task};
 ghost use Rattle.flow_pool.specs.declared.activity.Attempt.{Attempt};
-ghost use Rattle.flow_pool.specs.Ends.{number_of, taken_by, IsSameEnd};
+ghost use Rattle.flow_pool.specs.Ends.{known_by, number_of, taken_by, IsSameEnd};
+ghost use Rattle.flow_pool.specs.Orders.{WasEmpty};
 ghost use Rattle.flow_pool.specs.Reports.{Telling, Tells, Follows, Reported, Does, Works, MayCome, first_named, is_left, is_wrong_type};
 
 use crate::activity::{Activity, Attempt};
 use crate::attempts::{attempt, failure, is_left};
 use crate::ends::TaskReceiver;
+use crate::hand::Tells;
 use crate::report::{Reports, Unheard, report};
 use crate::unknown::Unknown;
 use flow_base::code::Code;
@@ -104,18 +106,18 @@ fn deal<R: Wait, A: Activity, S: Reports, U: Unknown, C: Clock>(
 
 /// Takes tasks, makes an attempt of each by the first activity of its name, and reports it: what it gave or why it failed, at
 /// the moment that the clock tells then. A task whose activity isn't there fails with `no such activity`, or is left alone; and after
-/// E66 the failure `wrong type` is reported. A report is made again after E01, E80 and E90. It ends where the channel is empty and its
-/// sender is gone, and after E84, E85 and E91; both ends come back.
-pub fn worker<R: Wait, A: Activity + Drop, S: Reports, U: Unknown + Drop, C: Clock>(
+/// E66 the failure `wrong type` is reported. A report is made again after E01, E80 and E90. It ends only where the channel was empty, as
+/// after its sender is gone, or after E84, E85 and E91; both ends come back.
+pub fn worker<R: Wait, A: Activity + Drop, S: Reports, U: Unknown + Drop, C: Clock, E: Tells>(
     rt: &R,
     alloc: Global,
     activities: Vec<A>,
-    receiver: TaskReceiver,
+    receiver: TaskReceiver<E>,
     reports: S,
     unknown: U,
     clock: &C,
-) -> (TaskReceiver, S)
-    ensures works { (ts : List Task) × (log : List Telling) × (taken_by result.0 ≡ taken_by receiver ++ ts) × (S.told result.1 ≡ S.told reports ++ log) × Works (C.tells clock.now) (MayCome A.named A.gives activities.items) (is_left (U.leaves unknown) A.named activities.items) ts log }
+) -> (TaskReceiver<E>, S)
+    ensures works { (ts : List Task) × (log : List Telling) × (taken_by result.0 ≡ taken_by receiver ++ ts) × (S.told result.1 ≡ S.told reports ++ log) × Works (C.tells clock.now) (MayCome A.named A.gives activities.items) (is_left (U.leaves unknown) A.named activities.items) (WasEmpty E.empty (known_by result.0)) ts log }
     ensures same { IsSameEnd receiver result.0 × (number_of result.0 ≡ number_of receiver) }
 {
     let mut activities = activities;

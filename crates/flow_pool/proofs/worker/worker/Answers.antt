@@ -1,9 +1,12 @@
-use Rattle.std.proofs.Common.{◌≡◌, ◌∙◌, ◌++◌, ◌∷◌, [], inr, refl, ap, append_assoc, List, true, false}
+use Rattle.std.proofs.Common.{◌≡◌, ◌∙◌, ◌++◌, ◌∷◌, [], inr, refl, sym, ap, append_assoc, append-nil, List, true, false}
 use Rattle.flow_machine.specs.declared.task.Task.{Task}
 use Rattle.flow_pool.specs.Ends.{taken_by}
 use Rattle.flow_pool.specs.Reports.{Telling, MayCome, is_left}
 use Rattle.flow_pool.proofs.Telling.{goes_on, does_as, left_same}
 use Rattle.flow_pool.proofs.worker.worker.Goals as goal
+
+pub tasks-init : goal.tasks-init
+tasks-init g c = (tt, tt, (λ t a m. m), (λ name. refl), refl, refl, refl, ([], [], sym (append-nil _), sym (append-nil _), refl))
 
 pub tasks-preserved : goal.tasks-preserved
 tasks-preserved g c =
