@@ -98,7 +98,7 @@ class Shard:
     def __init__(self, number, path, words):
         self.number, self.path, self.words = number, path, words
         self.sent = collections.deque()  # the lines without a reply: replies come in their order
-        self.held = set()  # the tasks that were printed and not reported yet: each life prints them again
+        self.held = set()  # the tasks that were printed, and no report of them was taken yet
         self.last = None  # the last line that has its reply
         self.is_done, self.in_vain = False, 0
         self.begin()
@@ -107,6 +107,7 @@ class Shard:
         self.child = subprocess.Popen([FLOW, "serve", self.path, *self.words], stdin=subprocess.PIPE, stdout=subprocess.PIPE, bufsize=0)
         os.set_blocking(self.child.stdin.fileno(), False)
         self.unwritten, self.rest = bytearray(b"".join(line.text for line in self.sent)), b""
+        self.known = set(self.held)  # this life may print them once more, also behind their reports
 
     def send(self, line):
         self.sent.append(line)
@@ -185,8 +186,8 @@ class Shards:
         """A task is printed once, behind all that its file has printed before."""
         task = json.loads(told)
         key = task["run"], task["event"], task["attempt"]
-        if key in shard.held:
-            return
+        if key in shard.known:
+            return shard.known.discard(key)
         shard.held.add(key)
         if shard.last is None or shard.last.is_printed:
             self.out += shard.named(told) + b"\n"
