@@ -121,7 +121,8 @@ class Shard:
 
     def named(self, told):
         """What it has printed, with the run as it's named here."""
-        return RUN.sub(rb'"run":"%d-\1"' % self.number, told)
+        run = RUN.search(told)
+        return b'%s"run":"%d-%s"%s' % (told[: run.start()], self.number, run[1], told[run.end() :]) if run else told
 
     def reply(self, told):
         """Puts a reply to its line, and returns that."""
@@ -198,12 +199,13 @@ class Shards:
         """Prints the replies whose turn it is."""
         while self.asked and len(self.asked[0].replies) == self.asked[0].wanted:
             line = self.asked.popleft()
-            if len(set(line.replies)) > 1:
+            if line is self.text and len(set(line.replies)) > 1:
                 end(f"the files reply to a text in different ways: {line.replies}")
             self.out += line.replies[0] + b"\n" + line.tasks
             line.is_printed = True
             self.text = None if line is self.text else self.text
-            self.status = max(self.status, line.replies[0] == NO_COMMAND)
+            if line.replies[0] == NO_COMMAND:
+                self.status = max(self.status, 1)
 
     def go_on(self):
         """Prints the replies whose turn it is, and sends the lines whose turn it is."""
@@ -277,8 +279,8 @@ def main():
     words = words.parse_args()
     try:
         sys.exit(Shards(words.count, words.folder, words.words).serve())
-    except BrokenPipeError:  # nobody reads any more
-        sys.exit(3)
+    except OSError as why:  # there is no program, or nobody reads any more
+        end(why)
 
 
 if __name__ == "__main__":
