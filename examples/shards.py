@@ -44,13 +44,13 @@ def end(why, status=3):
 
 
 def rows(path, statement):
-    """A column of a store that nobody has open. SQLite reads it, and changes nothing."""
-    with contextlib.closing(sqlite3.connect(f"file:{urllib.parse.quote(path)}?mode=ro", uri=True, timeout=10)) as base:
-        try:
+    """A column of a store that nobody has open. SQLite reads it, and writes nothing into it."""
+    try:
+        with contextlib.closing(sqlite3.connect(f"file:{urllib.parse.quote(path)}?mode=ro", uri=True, timeout=10)) as base:
             yield from (row[0] for row in base.execute(statement))
-        except sqlite3.Error as why:
-            if "no such table" not in str(why):  # a new store has none yet
-                end(f"{path}: {why}")
+    except sqlite3.Error as why:
+        if "no such table" not in str(why):  # a new store has none yet
+            end(f"{path}: {why}")
 
 
 def made(folder, count):
