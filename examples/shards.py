@@ -34,7 +34,7 @@ NO_COMMAND, NO_RUN = b'{"code":"E02","reply":"refused"}', b'{"code":"E70","reply
 
 
 def home(flow, count):
-    """The file of a flow: the first eight hexadecimal digits of the SHA-256 of its name, modulo the number of files, and one."""
+    """The file of a flow: the first eight hexadecimal digits of the SHA-256 of its name, modulo the number of files, plus one."""
     return int(hashlib.sha256(flow.encode("utf-8", "surrogatepass")).hexdigest()[:8], 16) % count + 1
 
 
@@ -54,20 +54,24 @@ def rows(path, statement):
 
 
 def made(folder, count):
-    """The files, by their numbers from 1, of which those that aren't there are made. How many there are stands in shards.txt, so that one
-    that got lost isn't taken for a new one."""
-    note, paths = os.path.join(folder, "shards.txt"), [os.path.join(folder, f"shard-{it}.db") for it in range(1, count + 1)]
+    """The files, of which those that were added are made. How many there are stands in shards.txt, so that one that got lost isn't taken
+    for one that was added."""
+    note, paths, before = os.path.join(folder, "shards.txt"), [os.path.join(folder, f"shard-{it + 1}.db") for it in range(count)], 0
     os.makedirs(folder, exist_ok=True)
-    with open(note, "a+", encoding="utf-8") as file:
-        file.seek(0)
-        before = int(file.read().split("\n")[-2:][0] or 0)
-        lost = [path for path in paths[:before] if not os.path.exists(path)]
-        if count < max(before, 1) or lost:
-            end(f"{lost[0]} isn't there" if lost else f"{folder} has {before} files, and none can be taken away", 2)
+    if os.path.exists(note):
+        with open(note, encoding="utf-8") as file:
+            before = int(file.read() or 0)
+    for path in paths[:before]:
+        if not os.path.exists(path):
+            end(f"{path} isn't there", 2)
+    if count < max(before, 1):
+        end(f"{folder} has {before} files, and none can be taken away", 2)
+    if count > before:
         for path in paths[before:]:
             open(path, "ab").close()  # an empty file is an empty store
-        if count > before:
+        with open(note + ".new", "w", encoding="utf-8") as file:
             print(count, file=file)
+        os.replace(note + ".new", note)
     return paths
 
 
@@ -125,12 +129,11 @@ class Shard:
         return b'%s"run":"%d-%s"%s' % (told[: run.start()], self.number, run[1], told[run.end() :]) if run else told
 
     def reply(self, told):
-        """Puts a reply to its line, and returns that."""
+        """Puts a reply to its line."""
         line = self.last = self.sent.popleft()
         line.replies.append(self.named(told))
         if line.task and not any(it in told for it in OPEN_STILL):
             self.held.discard(line.task)
-        return line
 
 
 class Shards:
@@ -156,21 +159,21 @@ class Shards:
             do, flow, run = command.get("do"), command.get("flow"), command.get("run")
         except (ValueError, AttributeError, RecursionError):
             do = flow = run = None
-        to = []
+        named, to = isinstance(run, str) and NAME.fullmatch(run), []
         if do == "register":
             to, self.text = self.shards, line
         elif isinstance(flow, str):
             to = [self.shards[self.stayed.get(flow, home(flow, len(self.shards))) - 1]]
-        elif isinstance(run, str) and NAME.fullmatch(run):
-            number, command["run"] = map(int, run.split("-"))
+        elif named:
+            number, command["run"] = map(int, named.groups())
             to, line.text = self.shards[number - 1 : number], json.dumps(command).encode() + b"\n"
             line.task = (command["run"], command.get("event"), command.get("attempt")) if do in ("complete", "fail") else None
+        self.asked.append(line)
         line.wanted = len(to)
         for shard in to:
             shard.send(line)
         if not to:  # a tick comes here too: each file fires its own timers
-            line.wanted, line.replies = 1, [NO_RUN if isinstance(run, str) and NAME.fullmatch(run) else NO_COMMAND]
-        self.asked.append(line)
+            line.wanted, line.replies = 1, [NO_RUN if named else NO_COMMAND]
 
     def hear(self, shard, told):
         """What a file prints: a task, or the reply to the first of its lines that has none."""
