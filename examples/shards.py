@@ -65,7 +65,7 @@ def made(folder, count):
         if not os.path.exists(path):
             end(f"{path} isn't there", 2)
     if count < max(before, 1):
-        end(f"{folder} has {before} files, and none can be taken away", 2)
+        end(f"{folder} takes {max(before, 1)} files or more", 2)
     if count > before:
         for path in paths[before:]:
             open(path, "ab").close()  # an empty file is an empty store
@@ -204,11 +204,10 @@ class Shards:
             line = self.asked.popleft()
             if line is self.text and len(set(line.replies)) > 1:
                 end(f"the files reply to a text in different ways: {line.replies}")
-            self.out += line.replies[0] + b"\n" + line.tasks
-            line.is_printed = True
+            reply, line.is_printed = line.replies[0], True
+            self.out += reply + b"\n" + line.tasks
+            self.status = max(self.status, 3 if NOT_APPLIED in reply else int(reply == NO_COMMAND))
             self.text = None if line is self.text else self.text
-            if line.replies[0] == NO_COMMAND:
-                self.status = max(self.status, 1)
 
     def go_on(self):
         """Prints the replies whose turn it is, and sends the lines whose turn it is."""
@@ -275,7 +274,7 @@ class Shards:
 
 def main():
     signal.signal(signal.SIGINT, signal.SIG_DFL)
-    words = argparse.ArgumentParser()
+    words = argparse.ArgumentParser(usage="shards.py N DIR [-- WORDS]")
     words.add_argument("count", type=int)
     words.add_argument("folder")
     words.add_argument("words", nargs="*")
