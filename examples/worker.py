@@ -1,9 +1,9 @@
 #!/usr/bin/env python3
-"""Pays orders, with workers of your own: worker.py DB ORDER .. [--workers N].
+"""Pays orders, with workers of your own: worker.py DB ORDER .. [--workers N] [--files N].
 
 It starts `flow serve DB`, which prints a line for each task, and N processes, each of which runs one activity at a time: whoever is idle
 gets the next one. Kill any of them at any moment: `flow` is started again, and so is a process, and another one gets its task. Kill this
-program itself and start it again: each order goes on where it was."""
+program itself and start it again: each order goes on where it was. With --files DB is a folder of so many files, by `shards.py`."""
 import argparse
 import collections
 import contextlib
@@ -16,7 +16,8 @@ import threading
 import time
 
 FLOW = "./flow"
-TEXT = os.path.join(os.path.dirname(os.path.realpath(__file__)), "refund.flow")
+HERE = os.path.dirname(os.path.realpath(__file__))
+TEXT, SHARDS = os.path.join(HERE, "refund.flow"), os.path.join(HERE, "shards.py")
 
 
 # What the workflow calls. One that raises has failed, and is tried again as the workflow says. One may be run twice, as when its process
@@ -73,15 +74,16 @@ def key_of(line):
 class Flow:
     """`flow serve`, one life after the other. It replies to lines in their order; what has no reply is sent to the next life again."""
 
-    def __init__(self, base, workers):
-        self.base, self.is_over, self.in_vain = base, False, 0
+    def __init__(self, base, workers, files=0):
+        self.words = [sys.executable, SHARDS, str(files), base] if files else [FLOW, "serve", base]
+        self.is_over, self.in_vain = False, 0
         self.lock = threading.Lock()  # held by who writes
         self.sent = collections.deque()  # the lines without a reply, each with who waits for it
         self.tasks = queue.Queue()
         self.held = set()  # the tasks in hand: each waits, is run, or its report has no reply
         self.known = set()  # those which were in hand when this life began: it may print them once more
         self.reported = threading.Event()
-        self.child = started(FLOW, "serve", base)
+        self.child = started(*self.words)
         self.reader = threading.Thread(target=self.read, daemon=True)
         for thread in (self.reader, *(threading.Thread(target=self.work, daemon=True) for _ in range(workers))):
             thread.start()
@@ -121,7 +123,7 @@ class Flow:
         with contextlib.suppress(OSError):
             self.child.stdin.close()
         self.child.stdout.close()
-        self.child, self.known = started(FLOW, "serve", self.base), set(self.held)
+        self.child, self.known = started(*self.words), set(self.held)
         for line, _ in self.sent:
             self.write(line)
 
@@ -177,8 +179,9 @@ def main():
     words.add_argument("base")
     words.add_argument("orders", nargs="+", type=int)
     words.add_argument("--workers", type=int, default=1)
+    words.add_argument("--files", type=int, default=0)
     words = words.parse_args()
-    flow = Flow(words.base, words.workers)
+    flow = Flow(words.base, words.workers, words.files)
     with open(TEXT, encoding="utf-8") as file:
         text = flow.ask("register", src=file.read())["text"]
     keys = [{"flow": f"order-{order}", "req": f"order-{order}", "args": [order, 500]} for order in words.orders]
