@@ -4,6 +4,7 @@ pub mod Shown
 pub mod Commands
 pub mod Replies
 pub mod Verdicts
+pub mod Changes
 pub mod Safety
 pub mod Settlements
 pub mod Driving

@@ -4,6 +4,8 @@ use Rattle.flow_base.specs.Codes.{code_text}
 use Rattle.flow_base.specs.Syntax.{Program}
 use Rattle.flow_base.specs.declared.code.Code.TheVariants.{NotAWrap}
 use Rattle.flow_base.specs.declared.command.TextFault.{TextFault}
+use Rattle.flow_cli.specs.Changes.{both_of, broken_text}
+use Rattle.flow_cli.specs.declared.change.Broken.{Broken}
 use Rattle.flow_cli.specs.declared.safety.Safety.{Safety}
 use Rattle.flow_cli.specs.declared.safety.Safety.TheVariants as safety
 use Rattle.flow_patch.specs.Wrap.{Wrap}
@@ -13,23 +15,19 @@ abbrev pub of_difference : Option ℕ → Safety
 of_difference None = safety.Safe
 of_difference (Some at) = safety.Differs (record { at = at; code = NotAWrap })
 
+abbrev pub of_both : Result (Program × Program) Broken → Safety
+of_both (Ok ps) = of_difference (first_difference ps.0 ps.1)
+of_both (Err b) = safety.Broken b
+
 -- by which programs the texts are, or why they are none
 abbrev pub safety_of : Result Program TextFault → Result Program TextFault → Safety
-safety_of (Ok p) (Ok p') = of_difference (first_difference p p')
-safety_of (Err f) (Ok p') = safety.OldBroken f
-safety_of (Ok p) (Err f') = safety.NewBroken f'
-safety_of (Err f) (Err f') = safety.BothBroken f f'
-
-abbrev pub place_text : TextFault → List ℕ
-place_text f = code_text f.code ++ (codes " at " ++ decimal f.at)
+safety_of m m' = of_both (both_of m m')
 
 -- a line for each text that is no program
 abbrev pub safety_text : Safety → List ℕ
 safety_text safety.Safe = codes "safe"
 safety_text (safety.Differs u) = code_text u.code ++ (codes " at " ++ decimal u.at)
-safety_text (safety.OldBroken f) = codes "old: " ++ place_text f
-safety_text (safety.NewBroken f) = codes "new: " ++ place_text f
-safety_text (safety.BothBroken f f') = (codes "old: " ++ place_text f) ++ (10 ∷ (codes "new: " ++ place_text f'))
+safety_text (safety.Broken b) = broken_text b
 
 abbrev pub safety_status : Safety → ℕ
 safety_status safety.Safe = 0

@@ -7,7 +7,7 @@ ghost use Rattle.flow_cli.specs.Ends.{write_failed, write_ran_out};
 ghost use Rattle.flow_cli.specs.Faults.{fault_status, fault_text};
 
 use crate::fault::{fault_line, short_line, status};
-use crate::output::{Output, Unwritten};
+use crate::output::{Output, Unwritten, with_end};
 use flow_base::fault::Fault;
 use std::alloc::{AllocError, Global};
 
@@ -32,9 +32,7 @@ fn put_both<O: Output>(output: &mut O, first: &[u8], then: &[u8]) -> Result<(), 
 fn whole_line(alloc: Global, fault: &Fault) -> Result<String, AllocError>
     ensures { IfOk result (λ line. string_bytes line ≡ fault_text fault.now ++ 10 ∷ []) }
 {
-    let mut line = fault_line(alloc, fault)?;
-    line.push('\n')?;
-    Ok(line)
+    with_end(fault_line(alloc, fault)?)
 }
 
 /// Says a fault. Where no memory is left for its line, its number is said alone, so E01 is always said.

@@ -3,6 +3,7 @@
 
 pub mod batch;
 pub mod call;
+pub mod change;
 pub mod check;
 pub mod command;
 pub mod drive;

@@ -10,13 +10,13 @@ ghost use Rattle.flow_cli.specs.Ends.{input_failed, output_failed};
 ghost use Rattle.flow_cli.specs.Faults.{fault_status};
 ghost use Rattle.flow_cli.specs.Settlements.{ids_out, settlement_of, settlement_status, settlement_text, MeansSettled};
 
+use crate::change::{Broken, read_both};
 use crate::drive::write_text;
 use crate::output::Output;
 use crate::safety::Safety;
-use flow_base::command::TextFault;
 use flow_base::fault::Fault;
 use flow_base::sequence::Sequence;
-use flow_base::text::{Key, RawText};
+use flow_base::text::Key;
 use flow_model::checked::Checked;
 use flow_model::texts::Texts;
 use flow_patch::fault::{Unsafe, Unsettled};
@@ -32,11 +32,8 @@ pub enum Settlement {
     Settles(Sequence<Key>),
     /// The new text isn't the old one with patches settled.
     Differs(Unsafe),
-    /// The old text is no program.
-    OldBroken(TextFault),
-    /// The new text is no program.
-    NewBroken(TextFault),
-    BothBroken(TextFault, TextFault),
+    /// One of the texts is no program.
+    Broken(Broken),
 }
 
 fn text_json(alloc: Global, text: &str) -> Result<Json, AllocError>
@@ -75,9 +72,7 @@ impl Settlement {
                 format!(in alloc; "settles {list}")
             }
             Settlement::Differs(difference) => Safety::Differs(*difference).lines(alloc),
-            Settlement::OldBroken(fault) => Safety::OldBroken(*fault).lines(alloc),
-            Settlement::NewBroken(fault) => Safety::NewBroken(*fault).lines(alloc),
-            Settlement::BothBroken(old, new) => Safety::BothBroken(*old, *new).lines(alloc),
+            Settlement::Broken(broken) => broken.lines(alloc),
         }
     }
 
@@ -87,10 +82,7 @@ impl Settlement {
     {
         match self {
             Settlement::Settles(_) => 0,
-            Settlement::Differs(_)
-            | Settlement::OldBroken(_)
-            | Settlement::NewBroken(_)
-            | Settlement::BothBroken(_, _) => 1,
+            Settlement::Differs(_) | Settlement::Broken(_) => 1,
         }
     }
 }
@@ -117,15 +109,9 @@ pub fn settle_texts<T: Texts>(
     ensures settlement { IfOk result (λ s. s ≡ settlement_of (T.meaning old.now) (T.meaning new.now)) }
     ensures memory { IfErr result (λ e. e ≡ Fault.NoMemory _) }
 {
-    let old = RawText::new(alloc, old)?;
-    let new = RawText::new(alloc, new)?;
-    let old = texts.read(alloc, &old)?;
-    let new = texts.read(alloc, &new)?;
-    match (old, new) {
-        (Ok(old), Ok(new)) => compare(alloc, &old, &new),
-        (Err(fault), Ok(_)) => Ok(Settlement::OldBroken(fault)),
-        (Ok(_), Err(fault)) => Ok(Settlement::NewBroken(fault)),
-        (Err(old), Err(new)) => Ok(Settlement::BothBroken(old, new)),
+    match read_both(alloc, texts, old, new)? {
+        Ok((old, new)) => compare(alloc, &old, &new),
+        Err(broken) => Ok(Settlement::Broken(broken)),
     }
 }
 
