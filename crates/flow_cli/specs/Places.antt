@@ -1,5 +1,7 @@
 -- Where in a text a byte is, and the line of it with a mark below.
-use Rattle.std.specs.Prelude.{ℕ, Bool, ◌+◌, ◌-◌, List, [], ◌∷◌, ◌++◌, max, take, drop, length, leb, ltb, not, ◌||◌, ◌&&◌, ◌==◌, if◌then◌else◌, codes, decimal}
+use Rattle.std.specs.Prelude.{◌≡◌, ◌⊎◌, ℕ, Bool, true, Option, ◌+◌, ◌-◌, List, [], ◌∷◌, ◌++◌, max, take, drop, length, leb, ltb, not, ◌||◌, ◌&&◌, ◌==◌, if◌then◌else◌, codes, decimal}
+use Rattle.std.specs.Io.KnownBytes.{Appends}
+use Rattle.flow_cli.specs.Driving.{WritesBeginning}
 use Rattle.flow_cli.specs.declared.place.Spot.{Spot}
 use Rattle.flow_cli.specs.declared.place.Window.{Window}
 
@@ -72,3 +74,7 @@ mark_text whose text at =
     let s = spot_at text at in
     (codes "  " ++ (whose ++ (codes "line " ++ (decimal s.line ++ (codes ", column " ++ (decimal s.column ++ (10 ∷ [])))))))
     ++ marked_line (first_line (drop s.begins text)) s.column
+
+-- A beginning of the marks was written, and all of them but where the output has failed or was refused memory.
+abbrev pub IsMarked : Option (List ℕ) → Option (List ℕ) → Bool → Bool → List ℕ → Type 0
+IsMarked old new failed ran_out marks = WritesBeginning old new marks × (Appends old new marks ⊎ ((failed ≡ true) ⊎ (ran_out ≡ true)))

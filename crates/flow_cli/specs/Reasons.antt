@@ -1,6 +1,8 @@
 -- What is said of a fault behind its line.
-use Rattle.std.specs.Prelude.{ℕ, List, [], ◌∷◌, ◌++◌, codes, decimal, Option, Some, None, ◌==◌, if◌then◌else◌, string_bytes}
+use Rattle.std.specs.Prelude.{◌≡◌, ◌↔◌, ℕ, List, [], ◌∷◌, ◌++◌, codes, decimal, Option, Some, None, ◌==◌, if◌then◌else◌, string_bytes}
 use Rattle.std.specs.Fmt.{signed_decimal}
+use Rattle.std.specs.declared.io.ErrorKind.{ErrorKind}
+use Rattle.std.specs.declared.io.ErrorKind.TheVariants as kind
 use Rattle.flow_base.specs.Codes.{code_number}
 use Rattle.flow_base.specs.declared.code.Code.{Code}
 use Rattle.flow_base.specs.declared.event.Wrong.{Wrong}
@@ -119,3 +121,24 @@ reason_of f = reason.Nothing
 
 abbrev pub early_of : Fault → Early
 early_of f = record { fault = f; reason = reason_of f }
+
+-- ---- the words belong to the cause; nothing is said where the memory for the file's name is wanting
+
+-- what the system's error says
+pub record ReadsAs (error : ErrorKind) (why : Unreadable) : Type 0 where
+  pub missing : (why ≡ unreadable.Missing) ↔ (error ≡ kind.NotFound)
+  pub folder : (why ≡ unreadable.Folder) ↔ (error ≡ kind.IsADirectory)
+  pub forbidden : (why ≡ unreadable.Forbidden) ↔ (error ≡ kind.PermissionDenied)
+  pub utf8 : (why ≡ unreadable.NotUtf8) ↔ (error ≡ kind.InvalidData)
+
+abbrev pub SaysFile : List ℕ → ErrorKind → Reason → Type 0
+SaysFile file error (reason.File path why) = (string_bytes path ≡ file) × ReadsAs error why
+SaysFile file error r = r ≡ reason.Nothing
+
+abbrev pub SaysSettings : List ℕ → BadSetting → Reason → Type 0
+SaysSettings file why (reason.Settings path said) = (string_bytes path ≡ file) × (said ≡ why)
+SaysSettings file why r = r ≡ reason.Nothing
+
+abbrev pub SaysStore : List ℕ → Unopened → Reason → Type 0
+SaysStore file why (reason.Store path said) = (string_bytes path ≡ file) × (said ≡ why)
+SaysStore file why r = r ≡ reason.Nothing

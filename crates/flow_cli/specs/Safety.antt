@@ -4,7 +4,8 @@ use Rattle.flow_base.specs.Codes.{code_text}
 use Rattle.flow_base.specs.Syntax.{Program}
 use Rattle.flow_base.specs.declared.code.Code.TheVariants.{NotAWrap}
 use Rattle.flow_base.specs.declared.command.TextFault.{TextFault}
-use Rattle.flow_cli.specs.Changes.{both_of, broken_text}
+use Rattle.flow_cli.specs.Changes.{both_of, broken_marks, broken_text}
+use Rattle.flow_cli.specs.Places.{mark_text}
 use Rattle.flow_cli.specs.declared.change.Broken.{Broken}
 use Rattle.flow_cli.specs.declared.safety.Safety.{Safety}
 use Rattle.flow_cli.specs.declared.safety.Safety.TheVariants as safety
@@ -28,6 +29,12 @@ abbrev pub safety_text : Safety → List ℕ
 safety_text safety.Safe = codes "safe"
 safety_text (safety.Differs u) = code_text u.code ++ (codes " at " ++ decimal u.at)
 safety_text (safety.Broken b) = broken_text b
+
+-- where the new text differs, or a text is no program
+abbrev pub safety_marks : List ℕ → List ℕ → Safety → List ℕ
+safety_marks old new safety.Safe = []
+safety_marks old new (safety.Differs u) = mark_text (codes "new: ") new u.at
+safety_marks old new (safety.Broken b) = broken_marks old new b
 
 abbrev pub safety_status : Safety → ℕ
 safety_status safety.Safe = 0

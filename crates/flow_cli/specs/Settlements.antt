@@ -6,12 +6,12 @@ use Rattle.serde_json.specs.Written.{compact_text}
 use Rattle.flow_base.specs.Syntax.{Bytes, Program}
 use Rattle.flow_base.specs.declared.code.Code.TheVariants.{NotSettled}
 use Rattle.flow_base.specs.declared.command.TextFault.{TextFault}
-use Rattle.flow_cli.specs.Changes.{both_of, broken_text}
+use Rattle.flow_cli.specs.Changes.{both_of, broken_marks, broken_text}
 use Rattle.flow_cli.specs.declared.change.Broken.{Broken}
 use Rattle.flow_cli.specs.declared.safety.Safety.TheVariants as safety
 use Rattle.flow_cli.specs.declared.settlement.Settlement.{Settlement}
 use Rattle.flow_cli.specs.declared.settlement.Settlement.TheVariants as settlement
-use Rattle.flow_cli.specs.Safety.{safety_text}
+use Rattle.flow_cli.specs.Safety.{safety_marks, safety_text}
 use Rattle.flow_patch.specs.Settle.{is_among, settled_ids, Settles}
 use Rattle.flow_patch.specs.Unsettled.{first_unsettled}
 
@@ -36,6 +36,12 @@ abbrev pub settlement_text : Settlement → List ℕ
 settlement_text (settlement.Settles ids) = codes "settles " ++ compact_text (ids_out ids)
 settlement_text (settlement.Differs u) = safety_text (safety.Differs u)
 settlement_text (settlement.Broken b) = broken_text b
+
+-- where the new text differs, or a text is no program
+abbrev pub settlement_marks : List ℕ → List ℕ → Settlement → List ℕ
+settlement_marks old new (settlement.Settles ids) = []
+settlement_marks old new (settlement.Differs u) = safety_marks old new (safety.Differs u)
+settlement_marks old new (settlement.Broken b) = broken_marks old new b
 
 abbrev pub settlement_status : Settlement → ℕ
 settlement_status (settlement.Settles ids) = 0

@@ -22,6 +22,12 @@ calls = call.Check ∷ call.Safe ∷ call.Settle ∷ call.Replay ∷ call.Drive 
 abbrev pub call_named : List ℕ → Option CallName
 call_named = first_named call_name calls
 
+-- the call that words are meant as, behind the program's own
+abbrev pub meant_by : List (List ℕ) → Option CallName
+meant_by [] = None
+meant_by (own ∷ []) = None
+meant_by (own ∷ (word ∷ words)) = call_named word
+
 -- what stands behind the call's name
 abbrev pub call_words : CallName → List ℕ
 call_words call.Check = codes "FILE"

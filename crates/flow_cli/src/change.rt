@@ -1,8 +1,9 @@
 //! The two texts of a change, where one of them is no program.
 ghost use Rattle.std.specs.Prelude.{◌≡◌, ◌++◌, ◌∷◌, Ok, Err, IfOk, IfErr, string_bytes};
 ghost use Rattle.flow_model.specs.Checked.{shown_checked};
-ghost use Rattle.flow_cli.specs.Changes.{both_of, broken_text, place_text};
+ghost use Rattle.flow_cli.specs.Changes.{both_of, broken_marks, broken_text, place_text};
 
+use crate::place::mark;
 use flow_base::command::TextFault;
 use flow_base::fault::Fault;
 use flow_base::text::RawText;
@@ -30,6 +31,22 @@ impl Broken {
                 let old = fault_line(alloc, "old", old)?;
                 let new = fault_line(alloc, "new", new)?;
                 format!(in alloc; "{old}\n{new}")
+            }
+        }
+    }
+
+    /// The place in each text that is no program, the line there and a mark below it.
+    pub fn marks(self, alloc: Global, old: &str, new: &str) -> Result<Vec<u8>, AllocError>
+        ensures { IfOk result (λ marks. marks.items ≡ broken_marks old.now new.now self) }
+    {
+        match self {
+            Broken::Old(fault) => mark(alloc, "old: ", old, fault.at),
+            Broken::New(fault) => mark(alloc, "new: ", new, fault.at),
+            Broken::Both(first, second) => {
+                let mut marks = mark(alloc, "old: ", old, first.at)?;
+                let later = mark(alloc, "new: ", new, second.at)?;
+                marks.extend_from_slice(later.as_slice())?;
+                Ok(marks)
             }
         }
     }

@@ -2,12 +2,14 @@
 ghost use Rattle.std.specs.Prelude.{◌≡◌, ◌⊎◌, ◌++◌, ◌∷◌, [], true, IfOk, IfErr, OnOk, string_bytes};
 ghost use Rattle.std.specs.Io.KnownBytes.{Appends};
 ghost use Rattle.flow_cli.specs.Driving.{WritesBeginning};
-ghost use Rattle.flow_cli.specs.Ending.{SaysFault, SaysFirst};
+ghost use Rattle.flow_cli.specs.Ending.{SaysEarly, SaysFault, SaysFirst, SaysLine};
 ghost use Rattle.flow_cli.specs.Ends.{write_failed, write_ran_out};
 ghost use Rattle.flow_cli.specs.Faults.{fault_status, fault_text};
+ghost use Rattle.flow_cli.specs.Reasons.{reason_text};
 
 use crate::fault::{fault_line, short_line, status};
 use crate::output::{Output, Unwritten, with_end};
+use crate::reason::{Early, MEMORY, Reason};
 use flow_base::fault::Fault;
 use std::alloc::{AllocError, Global};
 
@@ -39,6 +41,7 @@ fn whole_line(alloc: Global, fault: &Fault) -> Result<String, AllocError>
 fn say_fault<O: Output>(alloc: Global, errors: &mut O, fault: &Fault) -> Result<(), Unwritten>
     ensures said { SaysFault fault.now (O.contents errors.old) (O.contents errors.new) }
     ensures first { OnOk result (SaysFirst fault.now (O.contents errors.old) (O.contents errors.new)) }
+    ensures line { OnOk result (SaysLine fault.now (O.contents errors.old) (O.contents errors.new)) }
     ensures failed { O.failed errors.new ≡ write_failed result (O.failed errors.old) }
     ensures ran_out { O.ran_out errors.new ≡ write_ran_out result (O.ran_out errors.old) }
 {
@@ -68,6 +71,51 @@ pub fn ended<O: Output>(alloc: Global, errors: &mut O, outcome: &Result<u8, Faul
         Err(fault) => {
             let _said = say_fault(alloc, errors, fault);
             status(fault)
+        }
+    }
+}
+
+/// Says why, in the lines behind that of the fault. That memory ran out is said without any.
+#[tactic(auto, using(crate::proofs::Endings::none_written))]
+pub fn say_reason<O: Output>(alloc: Global, errors: &mut O, reason: &Reason) -> Result<(), Unwritten>
+    ensures all { OnOk result (Appends (O.contents errors.old) (O.contents errors.new) (reason_text reason.now)) }
+    ensures beginning { WritesBeginning (O.contents errors.old) (O.contents errors.new) (reason_text reason.now) }
+    ensures failed { O.failed errors.new ≡ write_failed result (O.failed errors.old) }
+{
+    if let Reason::Memory = reason {
+        return errors.put(MEMORY.as_bytes());
+    }
+    let lines = reason.lines(alloc)?;
+    let done = errors.put(lines.as_bytes())?;
+    Ok(done)
+}
+
+/// Says a fault and why.
+#[tactic(auto, using(crate::proofs::Endings::fault_begun, crate::proofs::Endings::early_begun, crate::proofs::Endings::early_first))]
+fn say_early<O: Output>(alloc: Global, errors: &mut O, early: &Early) -> Result<(), Unwritten>
+    ensures said { SaysEarly early.now (O.contents errors.old) (O.contents errors.new) }
+    ensures first { SaysFirst early.now.fault (O.contents errors.old) (O.contents errors.new) ⊎ ((O.failed errors.new ≡ true) ⊎ (O.ran_out errors.new ≡ true)) }
+{
+    match say_fault(alloc, errors, &early.fault) {
+        Ok(()) => say_reason(alloc, errors, &early.reason),
+        Err(unwritten) => Err(unwritten),
+    }
+}
+
+/// Says why the program ended early, if it did, on one line and in the lines of the reason behind it, and gives the status that it
+/// ends with. That they can't be written changes nothing.
+pub fn ended_early<O: Output>(alloc: Global, errors: &mut O, outcome: &Result<u8, Early>) -> u8
+    ensures done { IfOk outcome.now (λ n. (result ≡ n) × (errors.new ≡ errors.old)) }
+    ensures early { IfErr outcome.now (λ e. result ≡ fault_status e.fault) }
+    ensures said { IfErr outcome.now (λ e. SaysEarly e (O.contents errors.old) (O.contents errors.new)) }
+    // Where nothing has failed there the line of the fault, or of its number, stands there first.
+    ensures first { IfErr outcome.now (λ e. SaysFirst e.fault (O.contents errors.old) (O.contents errors.new) ⊎ ((O.failed errors.new ≡ true) ⊎ (O.ran_out errors.new ≡ true))) }
+{
+    match outcome {
+        Ok(status) => *status,
+        Err(early) => {
+            let _said = say_early(alloc, errors, early);
+            status(&early.fault)
         }
     }
 }

@@ -1,9 +1,9 @@
 //! Why, in words: what is said of a fault behind its line.
-ghost use Rattle.std.specs.Prelude.{◌≡◌, ◌↔◌, IfOk, string_bytes};
-ghost use Rattle.std.specs.declared.io.ErrorKind.TheVariants as kind;
-ghost use Rattle.flow_cli.specs.Reasons.{damage_words, mismatch_words, reason_of, reason_text, row_text, rule_words, setting_text, unopened_words, unreadable_words};
+ghost use Rattle.std.specs.Prelude.{◌≡◌, map, IfOk, string_bytes};
+ghost use Rattle.flow_cli.specs.Usages.{meant_by};
+ghost use Rattle.flow_cli.specs.Reasons.{ReadsAs, SaysFile, SaysSettings, SaysStore, damage_words, mismatch_words, reason_of, reason_text, row_text, rule_words, setting_text, unopened_words, unreadable_words};
 
-use crate::usage::{CallName, usage};
+use crate::usage::{CallName, meant, usage};
 use flow_base::event::Wrong;
 use flow_base::fault::{Damage, Fault, Table};
 use flow_base::number::RunId;
@@ -27,10 +27,7 @@ pub enum Unreadable {
 impl Unreadable {
     /// What the system's error says of it.
     pub fn of(error: ErrorKind) -> Unreadable
-        ensures missing { (result ≡ Unreadable.Missing) ↔ (error ≡ kind.NotFound) }
-        ensures folder { (result ≡ Unreadable.Folder) ↔ (error ≡ kind.IsADirectory) }
-        ensures forbidden { (result ≡ Unreadable.Forbidden) ↔ (error ≡ kind.PermissionDenied) }
-        ensures utf8 { (result ≡ Unreadable.NotUtf8) ↔ (error ≡ kind.InvalidData) }
+        ensures { ReadsAs error result }
     {
         match error {
             ErrorKind::NotFound => Unreadable::Missing,
@@ -290,7 +287,8 @@ pub struct Early {
 
 impl From<Fault> for Early {
     ghost use Rattle.std.specs.Prelude.{◌≡◌};
-    ghost use Rattle.flow_cli.specs.Reasons.{early_of};
+    ghost use Rattle.flow_cli.specs.Usages.{meant_by};
+ghost use Rattle.flow_cli.specs.Reasons.{ReadsAs, SaysFile, SaysSettings, SaysStore, early_of};
 
     ghost from_gives = { λ fault early. early ≡ early_of fault };
 
@@ -298,6 +296,61 @@ impl From<Fault> for Early {
         Early {
             fault,
             reason: Reason::of(&fault),
+        }
+    }
+}
+
+impl Early {
+    /// The end of a call whose file can't be read. Where memory for the file's name is wanting, nothing is said of it.
+    pub fn unread(alloc: Global, fault: Fault, file: &str, error: ErrorKind) -> Early
+        ensures fault { result.fault ≡ fault }
+        ensures reason { SaysFile file.now error result.reason }
+    {
+        let reason = match String::from_str(alloc, file) {
+            Ok(path) => Reason::File(path, Unreadable::of(error)),
+            Err(_) => Reason::Nothing,
+        };
+        Early { fault, reason }
+    }
+
+    /// The end of a call whose file gives no settings: E96.
+    pub fn no_settings(alloc: Global, file: &str, why: BadSetting) -> Early
+        ensures fault { result.fault ≡ Fault.BadSettings }
+        ensures reason { SaysSettings file.now why result.reason }
+    {
+        let reason = match String::from_str(alloc, file) {
+            Ok(path) => Reason::Settings(path, why),
+            Err(_) => Reason::Nothing,
+        };
+        Early {
+            fault: Fault::BadSettings,
+            reason,
+        }
+    }
+
+    /// The end of a call whose store isn't opened: E80.
+    pub fn unopened(alloc: Global, file: &str, why: Unopened) -> Early
+        ensures fault { result.fault ≡ Fault.StoreRefused }
+        ensures reason { SaysStore file.now why result.reason }
+    {
+        let reason = match String::from_str(alloc, file) {
+            Ok(path) => Reason::Store(path, why),
+            Err(_) => Reason::Nothing,
+        };
+        Early {
+            fault: Fault::StoreRefused,
+            reason,
+        }
+    }
+
+    /// The end of words that are no call, the first of them the program's own: E97, and how the call that was meant is made.
+    pub fn misused(words: &[String]) -> Early
+        ensures fault { result.fault ≡ Fault.BadUsage }
+        ensures reason { result.reason ≡ Reason.Usage (meant_by (map string_bytes words.now)) }
+    {
+        Early {
+            fault: Fault::BadUsage,
+            reason: Reason::Usage(meant(words)),
         }
     }
 }

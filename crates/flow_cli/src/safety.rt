@@ -5,12 +5,13 @@ ghost use Rattle.flow_model.specs.Checked.{shown_checked};
 ghost use Rattle.flow_cli.specs.Answering.{WritesPart};
 ghost use Rattle.flow_cli.specs.Ends.{input_failed, output_failed};
 ghost use Rattle.flow_cli.specs.Faults.{fault_status};
-ghost use Rattle.flow_cli.specs.Safety.{of_difference, safety_of, safety_status, safety_text, MeansWrap};
+ghost use Rattle.flow_cli.specs.Places.{IsMarked};
+ghost use Rattle.flow_cli.specs.Safety.{of_difference, safety_marks, safety_of, safety_status, safety_text, MeansWrap};
 ghost use Rattle.flow_patch.specs.Difference.{first_difference};
 
 use crate::change::{Broken, read_both};
-use crate::drive::write_text;
 use crate::output::Output;
+use crate::place::{mark, write_marked};
 use flow_base::fault::Fault;
 use flow_model::checked::Checked;
 use flow_model::texts::Texts;
@@ -39,6 +40,17 @@ impl Safety {
             Safety::Safe => String::from_str(alloc, "safe"),
             Safety::Differs(Unsafe { at, code }) => format!(in alloc; "{code} at {at}"),
             Safety::Broken(broken) => broken.lines(alloc),
+        }
+    }
+
+    /// The place in the new text where it differs, or in each that is no program: the line there and a mark below it.
+    pub fn marks(self, alloc: Global, old: &str, new: &str) -> Result<Vec<u8>, AllocError>
+        ensures { IfOk result (λ marks. marks.items ≡ safety_marks old.now new.now self) }
+    {
+        match self {
+            Safety::Safe => Ok(Vec::new(alloc)),
+            Safety::Differs(difference) => mark(alloc, "new: ", new, difference.at),
+            Safety::Broken(broken) => broken.marks(alloc, old, new),
         }
     }
 
@@ -79,15 +91,16 @@ pub fn compare_texts<T: Texts>(
     }
 }
 
-/// Tells of two texts whether the change from the first to the second is safe, and gives the status.
+/// Tells of two texts whether the change from the first to the second is safe, as errors the place where it isn't, and gives the status.
 ///
 /// # Failure
 /// Each has the status 3: E01, and E95 where a write failed.
 #[tactic(auto, using(crate::proofs::Endings::same_kept))]
-pub fn tell_safety<T: Texts, O: Output>(
+pub fn tell_safety<T: Texts, O: Output, P: Output>(
     alloc: Global,
     texts: &T,
     output: &mut O,
+    errors: &mut P,
     old: &str,
     new: &str,
 ) -> Result<u8, Fault>
@@ -101,10 +114,13 @@ pub fn tell_safety<T: Texts, O: Output>(
     ensures output { O.failed output.new ≡ output_failed result (O.failed output.old) }
     ensures input { (before : Bool) → input_failed result before ≡ before }
     ensures cause { IfErr result (λ e. (e ≡ Fault.NoMemory _) ⊎ (e ≡ Fault.OutputFailed)) }
+    ensures marked { IfOk result (λ n. IsMarked (P.contents errors.old) (P.contents errors.new) (P.failed errors.new) (P.ran_out errors.new) (safety_marks old.now new.now (safety_of (T.meaning old.now) (T.meaning new.now)))) }
+    ensures unmarked { IfErr result (λ e. errors.new ≡ errors.old) }
 {
     let safety = compare_texts(alloc, texts, old, new)?;
     let lines = safety.lines(alloc)?;
-    match write_text(output, lines) {
+    let marks = safety.marks(alloc, old, new)?;
+    match write_marked(output, errors, lines, marks.as_slice()) {
         Ok(()) => Ok(safety.status()),
         Err(fault) => Err(fault),
     }

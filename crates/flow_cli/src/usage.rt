@@ -1,6 +1,6 @@
 //! How the program is called.
-ghost use Rattle.std.specs.Prelude.{◌≡◌};
-ghost use Rattle.flow_cli.specs.Usages.{call_named, usage_text};
+ghost use Rattle.std.specs.Prelude.{◌≡◌, map, string_bytes};
+ghost use Rattle.flow_cli.specs.Usages.{call_named, meant_by, usage_text};
 
 /// A call of the program, by its first word.
 #[derive(Clone, Copy, Debug, PartialEq, Eq)]
@@ -61,5 +61,15 @@ pub fn usage(call: Option<CallName>) -> &'static str
             \x20 flow history DB RUN\n\
             \x20 flow verify DB\n"
         }
+    }
+}
+
+/// The call that words are meant as; the first of them is the program's own.
+pub fn meant(words: &[String]) -> Option<CallName>
+    ensures { result ≡ meant_by (map string_bytes words.now) }
+{
+    match words {
+        [_, word, ..] => CallName::named(word.as_str()),
+        _ => None,
     }
 }
