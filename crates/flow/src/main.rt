@@ -51,7 +51,8 @@ fn main(rt: HostRuntime) -> ExitCode {
         },
         Err(early) => Err(early),
     };
-    ExitCode::from(ended_early(rt.alloc(), &mut Writing::new(rt.stderr()), &outcome))
+    let end = ended_early(rt.alloc(), &mut Writing::new(rt.stderr()), &outcome);
+    ExitCode::from(end.status)
 }
 
 /// Does what the words ask for; the program's own name is the first. Threads are started by `threads`.

@@ -4,7 +4,7 @@ use Rattle.std.specs.Io.KnownBytes.{Appends, Keeps}
 use Rattle.std.proofs.KnownBytes.{Appends-nil, Appends-trans}
 use Rattle.flow_base.specs.declared.fault.Fault.{Fault}
 use Rattle.flow_cli.specs.Driving.{WritesBeginning}
-use Rattle.flow_cli.specs.Ending.{SaysEarly, SaysFault, SaysFirst, SaysLine}
+use Rattle.flow_cli.specs.Ending.{SaysAll, SaysEarly, SaysFault, SaysFirst, SaysLine}
 use Rattle.flow_cli.specs.Faults.{fault_text, short_text}
 use Rattle.flow_cli.specs.Reasons.{reason_text}
 use Rattle.flow_cli.specs.declared.reason.Early.{Early}
@@ -50,3 +50,8 @@ early_begun e old mid new (inr all) w = inr (both_begun old mid new _ _ all w)
 pub early_first : (e : Early) (old mid new : Option (List ℕ)) → SaysLine e.fault old mid → WritesBeginning mid new (reason_text e.reason) → SaysFirst e.fault old new
 early_first e old mid new (inl all) w = (w.front, inl (Appends-trans old mid new _ _ all w.written_are))
 early_first e old mid new (inr all) w = (w.front, inr (Appends-trans old mid new _ _ all w.written_are))
+
+-- the line and all of the reason
+pub early_said : (e : Early) (old mid new : Option (List ℕ)) → SaysLine e.fault old mid → Appends mid new (reason_text e.reason) → SaysAll e old new
+early_said e old mid new (inl all) more = inl (Appends-trans old mid new _ _ all more)
+early_said e old mid new (inr all) more = inr (Appends-trans old mid new _ _ all more)

@@ -23,3 +23,8 @@ SaysLine f old new = Appends old new (fault_text f ++ 10 ∷ []) ⊎ Appends old
 abbrev pub SaysEarly : Early → Option (List ℕ) → Option (List ℕ) → Type 0
 SaysEarly e old new =
     WritesBeginning old new ((fault_text e.fault ++ 10 ∷ []) ++ reason_text e.reason) ⊎ WritesBeginning old new ((short_text e.fault ++ 10 ∷ []) ++ reason_text e.reason)
+
+-- All of both was written.
+abbrev pub SaysAll : Early → Option (List ℕ) → Option (List ℕ) → Type 0
+SaysAll e old new =
+    Appends old new ((fault_text e.fault ++ 10 ∷ []) ++ reason_text e.reason) ⊎ Appends old new ((short_text e.fault ++ 10 ∷ []) ++ reason_text e.reason)

@@ -1,5 +1,5 @@
 -- What is said of a fault behind its line.
-use Rattle.std.specs.Prelude.{◌≡◌, ◌↔◌, ℕ, List, [], ◌∷◌, ◌++◌, codes, decimal, Option, Some, None, ◌==◌, if◌then◌else◌, string_bytes}
+use Rattle.std.specs.Prelude.{◌≡◌, ◌↔◌, ◌⊎◌, ℕ, List, [], ◌∷◌, ◌++◌, codes, decimal, Option, Some, None, ◌==◌, if◌then◌else◌, string_bytes}
 use Rattle.std.specs.Fmt.{signed_decimal}
 use Rattle.std.specs.declared.io.ErrorKind.{ErrorKind}
 use Rattle.std.specs.declared.io.ErrorKind.TheVariants as kind
@@ -122,7 +122,7 @@ reason_of f = reason.Nothing
 abbrev pub early_of : Fault → Early
 early_of f = record { fault = f; reason = reason_of f }
 
--- ---- the words belong to the cause; nothing is said where the memory for the file's name is wanting
+-- ---- the words belong to the cause
 
 -- what the system's error says
 pub record ReadsAs (error : ErrorKind) (why : Unreadable) : Type 0 where
@@ -133,12 +133,16 @@ pub record ReadsAs (error : ErrorKind) (why : Unreadable) : Type 0 where
 
 abbrev pub SaysFile : List ℕ → ErrorKind → Reason → Type 0
 SaysFile file error (reason.File path why) = (string_bytes path ≡ file) × ReadsAs error why
-SaysFile file error r = r ≡ reason.Nothing
+SaysFile file error r = ⊥
 
 abbrev pub SaysSettings : List ℕ → BadSetting → Reason → Type 0
 SaysSettings file why (reason.Settings path said) = (string_bytes path ≡ file) × (said ≡ why)
-SaysSettings file why r = r ≡ reason.Nothing
+SaysSettings file why r = ⊥
 
 abbrev pub SaysStore : List ℕ → Unopened → Reason → Type 0
 SaysStore file why (reason.Store path said) = (string_bytes path ≡ file) × (said ≡ why)
-SaysStore file why r = r ≡ reason.Nothing
+SaysStore file why r = ⊥
+
+-- the fault is this one and its reason such a one, or memory for it was wanting
+abbrev pub EndsBy : Fault → (Reason → Type 0) → Early → Type 0
+EndsBy f says e = ((e.fault ≡ f) × says e.reason) ⊎ (e ≡ early_of (fault.NoMemory _))

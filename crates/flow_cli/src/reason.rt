@@ -1,13 +1,13 @@
 //! Why, in words: what is said of a fault behind its line.
 ghost use Rattle.std.specs.Prelude.{◌≡◌, map, IfOk, string_bytes};
 ghost use Rattle.flow_cli.specs.Usages.{meant_by};
-ghost use Rattle.flow_cli.specs.Reasons.{ReadsAs, SaysFile, SaysSettings, SaysStore, damage_words, mismatch_words, reason_of, reason_text, row_text, rule_words, setting_text, unopened_words, unreadable_words};
+ghost use Rattle.flow_cli.specs.Reasons.{EndsBy, ReadsAs, SaysFile, SaysSettings, SaysStore, damage_words, mismatch_words, reason_of, reason_text, row_text, rule_words, setting_text, unopened_words, unreadable_words};
 
 use crate::usage::{CallName, meant, usage};
 use flow_base::event::Wrong;
 use flow_base::fault::{Damage, Fault, Table};
 use flow_base::number::RunId;
-use std::alloc::{AllocError, Global};
+use std::alloc::{AllocError, AllocFailed, Global};
 use std::io::ErrorKind;
 
 /// What is said where memory ran out. None is needed to say it.
@@ -288,7 +288,7 @@ pub struct Early {
 impl From<Fault> for Early {
     ghost use Rattle.std.specs.Prelude.{◌≡◌};
     ghost use Rattle.flow_cli.specs.Usages.{meant_by};
-ghost use Rattle.flow_cli.specs.Reasons.{ReadsAs, SaysFile, SaysSettings, SaysStore, early_of};
+ghost use Rattle.flow_cli.specs.Reasons.{EndsBy, ReadsAs, SaysFile, SaysSettings, SaysStore, early_of};
 
     ghost from_gives = { λ fault early. early ≡ early_of fault };
 
@@ -300,46 +300,67 @@ ghost use Rattle.flow_cli.specs.Reasons.{ReadsAs, SaysFile, SaysSettings, SaysSt
     }
 }
 
-impl Early {
-    /// The end of a call whose file can't be read. Where memory for the file's name is wanting, nothing is said of it.
-    pub fn unread(alloc: Global, fault: Fault, file: &str, error: ErrorKind) -> Early
-        ensures fault { result.fault ≡ fault }
-        ensures reason { SaysFile file.now error result.reason }
-    {
-        let reason = match String::from_str(alloc, file) {
-            Ok(path) => Reason::File(path, Unreadable::of(error)),
-            Err(_) => Reason::Nothing,
-        };
-        Early { fault, reason }
-    }
+impl From<AllocError> for Early {
+    ghost use Rattle.std.specs.Prelude.{◌≡◌};
+    ghost use Rattle.flow_base.specs.declared.fault.Fault.TheVariants.{NoMemory};
+    ghost use Rattle.flow_cli.specs.Reasons.{early_of};
 
-    /// The end of a call whose file gives no settings: E96.
-    pub fn no_settings(alloc: Global, file: &str, why: BadSetting) -> Early
-        ensures fault { result.fault ≡ Fault.BadSettings }
-        ensures reason { SaysSettings file.now why result.reason }
+    ghost from_gives = { λ _ early. early ≡ early_of (NoMemory _) };
+
+    fn from(refused: AllocError) -> Early {
+        Early::from(Fault::from(refused))
+    }
+}
+
+impl<T: Drop> From<AllocFailed<T>> for Early {
+    ghost use Rattle.std.specs.Prelude.{◌≡◌};
+    ghost use Rattle.flow_base.specs.declared.fault.Fault.TheVariants.{NoMemory};
+    ghost use Rattle.flow_cli.specs.Reasons.{early_of};
+
+    ghost from_gives = { λ _ early. early ≡ early_of (NoMemory _) };
+
+    fn from(refused: AllocFailed<T>) -> Early {
+        Early::from(Fault::from(refused))
+    }
+}
+
+impl Early {
+    /// The end of a call whose file can't be read, by this fault; by E01 where memory for the file's name is wanting.
+    pub fn unread(alloc: Global, fault: Fault, file: &str, error: ErrorKind) -> Early
+        ensures { EndsBy fault (SaysFile file.now error) result }
     {
-        let reason = match String::from_str(alloc, file) {
-            Ok(path) => Reason::Settings(path, why),
-            Err(_) => Reason::Nothing,
-        };
-        Early {
-            fault: Fault::BadSettings,
-            reason,
+        match String::from_str(alloc, file) {
+            Ok(path) => Early {
+                fault,
+                reason: Reason::File(path, Unreadable::of(error)),
+            },
+            Err(refused) => Early::from(refused),
         }
     }
 
-    /// The end of a call whose store isn't opened: E80.
-    pub fn unopened(alloc: Global, file: &str, why: Unopened) -> Early
-        ensures fault { result.fault ≡ Fault.StoreRefused }
-        ensures reason { SaysStore file.now why result.reason }
+    /// The end of a call whose file gives no settings: E96, or E01.
+    pub fn no_settings(alloc: Global, file: &str, why: BadSetting) -> Early
+        ensures { EndsBy Fault.BadSettings (SaysSettings file.now why) result }
     {
-        let reason = match String::from_str(alloc, file) {
-            Ok(path) => Reason::Store(path, why),
-            Err(_) => Reason::Nothing,
-        };
-        Early {
-            fault: Fault::StoreRefused,
-            reason,
+        match String::from_str(alloc, file) {
+            Ok(path) => Early {
+                fault: Fault::BadSettings,
+                reason: Reason::Settings(path, why),
+            },
+            Err(refused) => Early::from(refused),
+        }
+    }
+
+    /// The end of a call whose store isn't opened: E80, or E01.
+    pub fn unopened(alloc: Global, file: &str, why: Unopened) -> Early
+        ensures { EndsBy Fault.StoreRefused (SaysStore file.now why) result }
+    {
+        match String::from_str(alloc, file) {
+            Ok(path) => Early {
+                fault: Fault::StoreRefused,
+                reason: Reason::Store(path, why),
+            },
+            Err(refused) => Early::from(refused),
         }
     }
 
