@@ -1,7 +1,7 @@
 //! A second look at a file of settings that gives none: why it doesn't.
 use flow_base::fault::Fault;
 use flow_cli::place::spot_of;
-use flow_cli::reason::{BadSetting, Early};
+use flow_cli::reason::{BadSetting, Early, SettingKey};
 use flow_settings::settings::{MOST_BATCH, MOST_CACHE, MOST_WORKERS};
 use std::alloc::{AllocError, Global};
 use std::fs;
@@ -19,9 +19,9 @@ fn is_allowed(value: &Value, most: usize) -> bool {
 fn bad_entry(alloc: Global, table: &Table) -> Result<Option<BadSetting>, AllocError> {
     for (key, value) in table.iter() {
         let (key, most) = match key.as_str() {
-            "batch" => ("batch", MOST_BATCH),
-            "workers" => ("workers", MOST_WORKERS),
-            "cache" => ("cache", MOST_CACHE),
+            "batch" => (SettingKey::Batch, MOST_BATCH),
+            "workers" => (SettingKey::Workers, MOST_WORKERS),
+            "cache" => (SettingKey::Cache, MOST_CACHE),
             other => return Ok(Some(BadSetting::OtherKey(String::from_str(alloc, other)?))),
         };
         if !is_allowed(value, most) {

@@ -18,6 +18,8 @@ use Rattle.flow_cli.specs.declared.reason.BadSetting.TheVariants as setting
 use Rattle.flow_cli.specs.declared.reason.Early.{Early}
 use Rattle.flow_cli.specs.declared.reason.Reason.{Reason}
 use Rattle.flow_cli.specs.declared.reason.Reason.TheVariants as reason
+use Rattle.flow_cli.specs.declared.reason.SettingKey.{SettingKey}
+use Rattle.flow_cli.specs.declared.reason.SettingKey.TheVariants as key
 use Rattle.flow_cli.specs.declared.reason.Unopened.{Unopened}
 use Rattle.flow_cli.specs.declared.reason.Unopened.TheVariants as unopened
 use Rattle.flow_cli.specs.declared.reason.Unreadable.{Unreadable}
@@ -46,10 +48,15 @@ unopened_words unopened.Broken = codes "it breaks a rule of its tables, or has w
 unopened_words unopened.Full = codes "the disk is full"
 unopened_words unopened.Failed = codes "reading or writing it failed"
 
+abbrev pub setting_name : SettingKey → List ℕ
+setting_name key.Batch = codes "batch"
+setting_name key.Workers = codes "workers"
+setting_name key.Cache = codes "cache"
+
 abbrev pub setting_text : BadSetting → List ℕ
 setting_text (setting.NotToml line column) = codes "line " ++ (decimal line ++ (codes ", column " ++ (decimal column ++ codes ": no TOML")))
 setting_text (setting.OtherKey key) = codes "no key is called " ++ (string_bytes key ++ codes ", but batch, workers and cache")
-setting_text (setting.BadValue key most) = key.now ++ (codes " has to be a whole number from 1 to " ++ decimal most)
+setting_text (setting.BadValue key most) = setting_name key ++ (codes " has to be a whole number from 1 to " ++ decimal most)
 
 -- ---- rows
 
@@ -108,7 +115,8 @@ reason_text (reason.Store path why) = said_of (string_bytes path) (unopened_word
 reason_text reason.NotOurs = codes "  it has tables of flow's names that aren't flow's, or rows that can't be read" ++ (10 ∷ [])
 reason_text reason.BadVersion = codes "  another version of flow made it: its format isn't 1" ++ (10 ∷ [])
 reason_text (reason.Row d) = said_of (row_text d) (damage_words d)
-reason_text (reason.Run run place name) = said_of (codes "run " ++ (decimal run ++ (codes ", event " ++ decimal place))) (mismatch_words name)
+reason_text (reason.Run run place name) =
+    codes "  run " ++ (decimal run ++ (codes ", event " ++ (decimal place ++ (codes ": " ++ (mismatch_words name ++ (10 ∷ []))))))
 
 -- what a fault tells by itself
 abbrev pub reason_of : Fault → Reason

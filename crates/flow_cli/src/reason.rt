@@ -1,7 +1,7 @@
 //! Why, in words: what is said of a fault behind its line.
 ghost use Rattle.std.specs.Prelude.{◌≡◌, map, IfOk, string_bytes};
 ghost use Rattle.flow_cli.specs.Usages.{meant_by};
-ghost use Rattle.flow_cli.specs.Reasons.{EndsBy, ReadsAs, SaysFile, SaysSettings, SaysStore, damage_words, mismatch_words, reason_of, reason_text, row_text, rule_words, setting_text, unopened_words, unreadable_words};
+ghost use Rattle.flow_cli.specs.Reasons.{EndsBy, ReadsAs, SaysFile, SaysSettings, SaysStore, damage_words, mismatch_words, reason_of, reason_text, row_text, rule_words, setting_name, setting_text, unopened_words, unreadable_words};
 
 use crate::usage::{CallName, meant, usage};
 use flow_base::event::Wrong;
@@ -101,6 +101,27 @@ impl Unopened {
     }
 }
 
+/// A key of settings.
+#[derive(Clone, Copy, Debug, PartialEq, Eq)]
+pub enum SettingKey {
+    Batch,
+    Workers,
+    Cache,
+}
+
+impl SettingKey {
+    /// Its name in a file.
+    pub fn name(self) -> &'static str
+        ensures { result.now ≡ setting_name self }
+    {
+        match self {
+            SettingKey::Batch => "batch",
+            SettingKey::Workers => "workers",
+            SettingKey::Cache => "cache",
+        }
+    }
+}
+
 /// What a file of settings may not have.
 #[derive(Debug, Drop)]
 pub enum BadSetting {
@@ -109,7 +130,7 @@ pub enum BadSetting {
     /// A key that settings don't have.
     OtherKey(String),
     /// The value of this key is no whole number from 1 to the most.
-    BadValue { key: &'static str, most: usize },
+    BadValue { key: SettingKey, most: usize },
 }
 
 impl BadSetting {
@@ -124,6 +145,7 @@ impl BadSetting {
                 format!(in alloc; "no key is called {key}, but batch, workers and cache")
             }
             BadSetting::BadValue { key, most } => {
+                let key = key.name();
                 format!(in alloc; "{key} has to be a whole number from 1 to {most}")
             }
         }
