@@ -128,9 +128,18 @@ pub fn ended_early<O: Output>(alloc: Global, errors: &mut O, outcome: &Result<u8
             status: *status,
             unsaid: None,
         },
-        Err(early) => End {
-            status: status(&early.fault),
-            unsaid: say_early(alloc, errors, early).err(),
-        },
+        Err(early) => {
+            let status = status(&early.fault);
+            match say_early(alloc, errors, early) {
+                Ok(()) => End {
+                    status,
+                    unsaid: None,
+                },
+                Err(unwritten) => End {
+                    status,
+                    unsaid: Some(unwritten),
+                },
+            }
+        }
     }
 }

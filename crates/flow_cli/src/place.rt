@@ -184,6 +184,7 @@ pub fn mark(alloc: Global, whose: &str, text: &str, at: usize) -> Result<Vec<u8>
 }
 
 /// Writes an answer as a line, and the marks that belong to it as errors. That these can't be written changes nothing.
+#[tactic(auto, using(crate::proofs::Marks::marked_by))]
 pub(crate) fn write_marked<O: Output, P: Output>(
     output: &mut O,
     errors: &mut P,
