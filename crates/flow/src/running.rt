@@ -1,7 +1,6 @@
 //! The call that keeps an engine running.
-ghost use Rattle.std.specs.Prelude.{◌≡◌, ◌≤◌, [], Ok, Err, IfOk, IfErr};
-ghost use Rattle.flow_cli.specs.Reasons.{early_of};
-ghost use Rattle.flow.specs.Nexts.{IsWithin, next_of};
+ghost use Rattle.std.specs.Prelude.{◌≡◌, ◌≤◌, [], IfOk};
+ghost use Rattle.flow.specs.Nexts.{IsWithin, next_of, told_early};
 
 use crate::settings::no_settings;
 use crate::store::open_memory;
@@ -147,8 +146,7 @@ pub enum Next {
 
 /// An end whose fault tells by itself why.
 pub fn early(outcome: Result<u8, Fault>) -> Result<u8, Early>
-    ensures done { IfOk result (λ n. outcome ≡ Ok n) }
-    ensures early { IfErr result (λ e. (outcome ≡ Err e.fault) × (e ≡ early_of e.fault)) }
+    ensures { result ≡ told_early outcome }
 {
     match outcome {
         Ok(status) => Ok(status),
