@@ -114,27 +114,13 @@ pub fn replay(rt: &HostRuntime, file: &str, history: &str) -> Result<u8, Early> 
     let mut errors = Writing::new(rt.stderr());
     if history == "-" {
         let history = input_in(rt)?;
-        return early(replay_one(
-            rt,
-            &mut output,
-            &mut errors,
-            "",
-            text,
-            history.as_str(),
-        ));
+        return early(replay_one(rt, &mut output, &mut errors, "", text, history.as_str()));
     }
     match files_in(rt, history)? {
         Some(files) => replay_files(rt, &mut output, &mut errors, text, files.as_slice()),
         None => {
             let history = text_in(rt, history)?;
-            early(replay_one(
-                rt,
-                &mut output,
-                &mut errors,
-                "",
-                text,
-                history.as_str(),
-            ))
+            early(replay_one(rt, &mut output, &mut errors, "", text, history.as_str()))
         }
     }
 }

@@ -31,7 +31,13 @@ pub fn check(rt: &HostRuntime, file: &str) -> Result<u8, Early> {
     let text = text_in(rt, file)?;
     let mut output = Writing::new(io::writer(rt));
     let mut errors = Writing::new(rt.stderr());
-    let told = tell_verdict(rt.alloc(), &Language, &mut output, &mut errors, text.as_str());
+    let told = tell_verdict(
+        rt.alloc(),
+        &Language,
+        &mut output,
+        &mut errors,
+        text.as_str(),
+    );
     Ok(told?)
 }
 

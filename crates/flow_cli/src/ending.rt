@@ -77,7 +77,11 @@ pub fn ended<O: Output>(alloc: Global, errors: &mut O, outcome: &Result<u8, Faul
 
 /// Says why, in the lines behind that of the fault. That memory ran out is said without any.
 #[tactic(auto, using(crate::proofs::Endings::none_written))]
-pub fn say_reason<O: Output>(alloc: Global, errors: &mut O, reason: &Reason) -> Result<(), Unwritten>
+pub fn say_reason<O: Output>(
+    alloc: Global,
+    errors: &mut O,
+    reason: &Reason,
+) -> Result<(), Unwritten>
     ensures all { OnOk result (Appends (O.contents errors.old) (O.contents errors.new) (reason_text reason.now)) }
     ensures beginning { WritesBeginning (O.contents errors.old) (O.contents errors.new) (reason_text reason.now) }
     ensures failed { O.failed errors.new ≡ write_failed result (O.failed errors.old) }

@@ -309,8 +309,7 @@ pub struct Early {
 
 impl From<Fault> for Early {
     ghost use Rattle.std.specs.Prelude.{◌≡◌};
-    ghost use Rattle.flow_cli.specs.Usages.{meant_by};
-ghost use Rattle.flow_cli.specs.Reasons.{EndsBy, ReadsAs, SaysFile, SaysSettings, SaysStore, early_of};
+    ghost use Rattle.flow_cli.specs.Reasons.{early_of};
 
     ghost from_gives = { λ fault early. early ≡ early_of fault };
 
