@@ -19,8 +19,16 @@ fn has_folder(rt: &HostRuntime, file: &str) -> bool {
     }
 }
 
+/// Whether a file can have this name: the others are SQLite's for what is no file.
+fn is_name(file: &str) -> bool {
+    !(file.is_empty() || file == ":memory:" || file.starts_with("file:"))
+}
+
 /// Whether nothing has this name, in a folder that is there.
 pub fn is_not_there(rt: &HostRuntime, file: &str) -> bool {
+    if !is_name(file) {
+        return false;
+    }
     match fs::metadata(rt, file) {
         Ok(_) => false,
         Err(error) => error.kind() == ErrorKind::NotFound && has_folder(rt, file),
@@ -56,7 +64,7 @@ fn look_inside(rt: &HostRuntime, file: &str) -> Unopened
 fn look_at(rt: &HostRuntime, file: &str) -> Unopened
     ensures { IsOfPath result }
 {
-    if file.is_empty() || file == ":memory:" || file.starts_with("file:") {
+    if !is_name(file) {
         return Unopened::NoName;
     }
     match fs::metadata(rt, file) {
