@@ -39,6 +39,13 @@ pub fn task_line(alloc: Global, task: &Task) -> Result<String, AllocError>
     task_json(alloc, task)?.to_string(alloc)
 }
 
+/// The line of a task, with its end.
+fn whole_line(alloc: Global, task: &Task) -> Result<String, AllocError>
+    ensures { IfOk result (λ s. string_bytes s ≡ task_text task.now ++ 10 ∷ []) }
+{
+    with_end(task_line(alloc, task)?)
+}
+
 /// Writes the line of a task.
 #[tactic(auto, using(crate::proofs::Endings::none_written, crate::proofs::Endings::same_kept))]
 pub fn write_task<W: Write>(alloc: Global, writer: &mut W, task: &Task) -> Result<(), Unwritten>
@@ -46,7 +53,7 @@ pub fn write_task<W: Write>(alloc: Global, writer: &mut W, task: &Task) -> Resul
     ensures beginning { WritesBeginning (W.contents writer.old) (W.contents writer.new) (task_text task.now ++ 10 ∷ []) }
     ensures kept { IfErr result (λ e. e ≡ Unwritten.NoMemory _ → Keeps (W.contents writer.old) (W.contents writer.new)) }
 {
-    let text = with_end(task_line(alloc, task)?)?;
+    let text = whole_line(alloc, task)?;
     let done = write_bytes(writer, text.as_bytes())?;
     Ok(done)
 }
