@@ -1,11 +1,9 @@
 -- What is written at the end of the program.
-use Rattle.std.proofs.Common.{ℕ, List, [], ◌∷◌, ◌++◌, Option, Some, None, inl, inr, refl, sym, ap, ◌∙◌, subst, append_assoc}
+use Rattle.std.proofs.Common.{ℕ, List, [], ◌++◌, Option, Some, None, inl, inr, refl, sym, ap, ◌∙◌, append_assoc}
 use Rattle.std.specs.Io.KnownBytes.{Appends, Keeps}
 use Rattle.std.proofs.KnownBytes.{Appends-nil, Appends-trans}
-use Rattle.flow_base.specs.declared.fault.Fault.{Fault}
 use Rattle.flow_cli.specs.Driving.{WritesBeginning}
 use Rattle.flow_cli.specs.Ending.{SaysAll, SaysEarly, SaysFault, SaysFirst, SaysLine}
-use Rattle.flow_cli.specs.Faults.{fault_text, short_text}
 use Rattle.flow_cli.specs.Reasons.{reason_text}
 use Rattle.flow_cli.specs.declared.reason.Early.{Early}
 

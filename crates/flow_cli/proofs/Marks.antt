@@ -1,5 +1,5 @@
 -- Marks that are written, whatever comes of it.
-use Rattle.std.proofs.Common.{◌≡◌, ℕ, List, Bool, true, Option, inl, inr, Result, Ok, Err}
+use Rattle.std.proofs.Common.{◌≡◌, ℕ, List, Bool, Option, inl, inr, Result, Ok, Err}
 use Rattle.std.specs.Prelude.{OnOk}
 use Rattle.std.specs.Io.KnownBytes.{Appends}
 use Rattle.flow_cli.specs.Driving.{WritesBeginning}

@@ -1,10 +1,9 @@
 -- What is said of a fault behind its line.
-use Rattle.std.specs.Prelude.{◌≡◌, ◌↔◌, ◌⊎◌, ℕ, List, [], ◌∷◌, ◌++◌, codes, decimal, Option, Some, None, ◌==◌, if◌then◌else◌, string_bytes}
+use Rattle.std.specs.Prelude.{◌≡◌, ◌↔◌, ◌⊎◌, ℕ, List, [], ◌∷◌, ◌++◌, codes, decimal, Some, None, ◌==◌, if◌then◌else◌, string_bytes}
 use Rattle.std.specs.Fmt.{signed_decimal}
 use Rattle.std.specs.declared.io.ErrorKind.{ErrorKind}
 use Rattle.std.specs.declared.io.ErrorKind.TheVariants as kind
 use Rattle.flow_base.specs.Codes.{code_number}
-use Rattle.flow_base.specs.declared.code.Code.{Code}
 use Rattle.flow_base.specs.declared.event.Wrong.{Wrong}
 use Rattle.flow_base.specs.declared.event.Wrong.TheVariants as wrong
 use Rattle.flow_base.specs.declared.fault.Damage.{Damage}

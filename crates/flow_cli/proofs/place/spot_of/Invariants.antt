@@ -1,5 +1,5 @@
 -- The bytes so far led here, and those that are left lead on.
-use Rattle.std.proofs.Common.{◌≡◌, ◌+◌, ◌≤◌, drop, length}
+use Rattle.std.proofs.Common.{◌≡◌, ◌+◌, ◌≤◌, drop}
 use Rattle.flow_cli.specs.Places.{passed}
 use Rattle.flow_cli.proofs.place.spot_of.Given as goal
 

@@ -1,4 +1,4 @@
-use Rattle.std.proofs.Common.{◌≡◌, refl}
+use Rattle.std.proofs.Common.{refl}
 use Rattle.flow_cli.proofs.change.Broken.marks.Goals as goal
 
 pub returns-in_ok-extend_from_slice-in-Both : goal.returns-in_ok-extend_from_slice-in-Both
