@@ -1,5 +1,6 @@
 """The program that the scripts drive, and the count of what was checked."""
 import os
+import re
 import subprocess
 import threading
 
@@ -24,10 +25,21 @@ class Tally:
                 print(f"{what}:\n  wanted {wanted!r:.2000}\n  got    {got!r:.2000}")
 
 
-def flow(words, lines=b"", seconds=120, folder=None):
+def whole(words, lines=b"", seconds=120, folder=None, **how):
     """The status of a call of the program, what it printed, and its standard error."""
-    ended = subprocess.run([FLOW, *words], input=lines, capture_output=True, timeout=seconds, cwd=folder)
+    ended = subprocess.run([FLOW, *words], input=lines, capture_output=True, timeout=seconds, cwd=folder, **how)
     return ended.returncode, ended.stdout, ended.stderr
+
+
+def without_reasons(says):
+    """What stands on standard error but for the lines that say why, which begin with two spaces: `tests/reasons` tries those."""
+    return re.sub(rb"^  .*\n", b"", says, flags=re.M)
+
+
+def flow(words, lines=b"", seconds=120, folder=None):
+    """The same without what is said of the cause of a fault."""
+    status, printed, says = whole(words, lines, seconds, folder)
+    return status, printed, without_reasons(says)
 
 
 def at_once(words, line):

@@ -20,7 +20,8 @@ import json
 import os
 
 from lines import BATCHES
-from program import flow
+from places import mark, marks, place_in
+from program import flow, whole
 
 
 def rows(paths):
@@ -74,11 +75,11 @@ def checked(tally, name, text, says, path):
     """What `flow check` says of a text."""
     with open(path, "wb") as it:
         it.write(text)
-    status, printed, fault = flow(["check", path])
     if says == "E93":
-        tally.check(name, (status, printed, fault.split()[:2]), (2, b"", [b"flow:", b"E93"]))
+        tally.check(name, flow(["check", path]), (2, b"", b"flow: E93\n"))
     else:
-        tally.check(name, (status, printed, fault), (0 if says == "ok" else 1, says.encode() + b"\n", b""))
+        said = b"" if says == "ok" else mark("", text, place_in(says))
+        tally.check(name, whole(["check", path]), (0 if says == "ok" else 1, says.encode() + b"\n", said))
     os.remove(path)
 
 
@@ -109,7 +110,8 @@ def asked(tally, name, call, row, old, new):
         with open(path, "w", encoding="utf-8") as it:
             it.write(text)
     is_yes = row["says"] == "safe" or row["says"].startswith("settles ")
-    tally.check(name, flow([call, old, new]), (0 if is_yes else 1, row["says"].encode() + b"\n", b""))
+    said = b"" if is_yes else marks(row["says"], row["old"].encode(), row["new"].encode())
+    tally.check(name, whole([call, old, new]), (0 if is_yes else 1, row["says"].encode() + b"\n", said))
     if "upgrade" in row:
         for path in (old, new):
             tally.check(f"{name}, no change", flow(["safe", path, path]), (0, b"safe\n", b""))

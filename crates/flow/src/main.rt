@@ -1,21 +1,25 @@
 //! `flow`: checks programs of workflows, answers command lines, and keeps an engine running.
 #![tactic(auto)]
 
+mod looking;
 mod replaying;
 mod running;
+mod settings;
 mod standard;
 mod store;
 mod texts;
 
+use crate::looking::is_not_there;
 use crate::replaying::replay;
-use crate::running::{Activities, Next, done, keep_running, run};
+use crate::running::{Activities, Next, done, early, keep_running, run};
 use crate::standard::performed;
 use crate::store::{close_file, open_file, open_memory};
 use crate::texts::{check, safe, settle};
 use flow_base::fault::Fault;
 use flow_cli::call::{Call, call_of};
-use flow_cli::ending::ended;
+use flow_cli::ending::ended_early;
 use flow_cli::fault::fault_of_error;
+use flow_cli::reason::Early;
 use flow_cli::streams::Writing;
 use flow_cli::totals::tell_totals;
 use flow_cli::work::Work;
@@ -41,27 +45,29 @@ fn main(rt: HostRuntime) -> ExitCode {
                 let mut engine = engine;
                 let outcome = run(&rt, &rt, &mut engine, settings, activities);
                 close_file(engine);
-                outcome
+                early(outcome)
             }
-            Err(fault) => Err(fault),
+            Err(early) => Err(early),
         },
-        Err(fault) => Err(fault),
+        Err(early) => Err(early),
     };
-    ExitCode::from(ended(rt.alloc(), &mut Writing::new(rt.stderr()), &outcome))
+    let end = ended_early(rt.alloc(), &mut Writing::new(rt.stderr()), &outcome);
+    ExitCode::from(end.status)
 }
 
 /// Does what the words ask for; the program's own name is the first. Threads are started by `threads`.
 fn called<T: Threads + Wait + Clock + Copy + Send + Drop + 'static>(
     rt: &HostRuntime,
     threads: &T,
-) -> Result<Next, Fault> {
+) -> Result<Next, Early> {
     let words = match env::args(rt) {
         Ok(words) => words.collect::<Vec<String>>(rt.alloc())?,
-        Err(error) => return Err(fault_of_error(error.kind(), Fault::BadUsage)),
+        Err(error) => return Err(Early::from(fault_of_error(error.kind(), Fault::BadUsage))),
     };
     match call_of(rt.alloc(), words.as_slice()) {
         Ok(call) => answer(rt, threads, &call),
-        Err(fault) => Err(fault),
+        Err(Fault::BadUsage) => Err(Early::misused(words.as_slice())),
+        Err(fault) => Err(Early::from(fault)),
     }
 }
 
@@ -69,7 +75,7 @@ fn answer<T: Threads + Wait + Clock + Copy + Send + Drop + 'static>(
     rt: &HostRuntime,
     threads: &T,
     call: &Call<'_>,
-) -> Result<Next, Fault> {
+) -> Result<Next, Early> {
     match call {
         Call::Check(file) => done(check(rt, file)),
         Call::Safe { old, new } => done(safe(rt, old, new)),
@@ -95,33 +101,39 @@ fn answer<T: Threads + Wait + Clock + Copy + Send + Drop + 'static>(
     }
 }
 
-fn over_file(rt: &HostRuntime, file: &str, work: &Work) -> Result<u8, Fault> {
+/// A question for a history makes no file.
+fn over_file(rt: &HostRuntime, file: &str, work: &Work) -> Result<u8, Early> {
+    if let Work::History(_) = work {
+        if is_not_there(rt, file) {
+            return Err(Early::from(Fault::NoRun));
+        }
+    }
     let mut engine = open_file(rt, file, Settings::usual())?;
     let outcome = performed(rt, &mut engine, work);
     close_file(engine);
-    outcome
+    early(outcome)
 }
 
-fn over_memory(rt: &HostRuntime, work: &Work) -> Result<u8, Fault> {
+fn over_memory(rt: &HostRuntime, work: &Work) -> Result<u8, Early> {
     let mut engine = open_memory(rt, Settings::usual())?;
-    performed(rt, &mut engine, work)
+    early(performed(rt, &mut engine, work))
 }
 
 /// Writes what a verify found, or hands its fault on.
-fn verified(rt: &HostRuntime, outcome: Result<Totals, Fault>) -> Result<u8, Fault> {
+fn verified(rt: &HostRuntime, outcome: Result<Totals, Fault>) -> Result<u8, Early> {
     let totals = outcome?;
     let mut output = Writing::new(io::writer(rt));
-    tell_totals(rt.alloc(), &mut output, &totals)
+    early(tell_totals(rt.alloc(), &mut output, &totals))
 }
 
-fn verify_file(rt: &HostRuntime, file: &str) -> Result<u8, Fault> {
+fn verify_file(rt: &HostRuntime, file: &str) -> Result<u8, Early> {
     let mut engine = open_file(rt, file, Settings::usual())?;
     let outcome = engine.verify();
     close_file(engine);
     verified(rt, outcome)
 }
 
-fn verify_memory(rt: &HostRuntime) -> Result<u8, Fault> {
+fn verify_memory(rt: &HostRuntime) -> Result<u8, Early> {
     let mut engine = open_memory(rt, Settings::usual())?;
     let outcome = engine.verify();
     verified(rt, outcome)

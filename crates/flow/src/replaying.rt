@@ -1,9 +1,11 @@
 //! The call that replays histories.
-use crate::texts::text_in;
+use crate::running::early;
+use crate::texts::{text_in, unread};
 use flow_base::fault::Fault;
 use flow_check::language::Language;
 use flow_cli::fault::fault_of_error;
 use flow_cli::output::Output;
+use flow_cli::reason::Early;
 use flow_cli::replaying::{Replayed, tell_mismatch, tell_replayed, write_replayed};
 use flow_cli::spelling::{Unspelled, lines_of_reply};
 use flow_cli::streams::Writing;
@@ -62,7 +64,7 @@ fn replay_lines<O: Output, P: Output>(
 }
 
 /// The files in a folder, in the order of their names; none where it is no folder.
-fn files_in(rt: &HostRuntime, path: &str) -> Result<Option<Vec<String>>, Fault> {
+fn files_in(rt: &HostRuntime, path: &str) -> Result<Option<Vec<String>>, Early> {
     let entries = match fs::read_dir(rt, path) {
         Ok(entries) => entries,
         Err(_) => return Ok(None),
@@ -71,7 +73,7 @@ fn files_in(rt: &HostRuntime, path: &str) -> Result<Option<Vec<String>>, Fault> 
     for entry in entries {
         match entry {
             Ok(entry) => files.push(String::from_str(rt.alloc(), entry.path().as_str())?)?,
-            Err(error) => return Err(fault_of_error(error.kind(), Fault::NoFile)),
+            Err(error) => return Err(unread(rt, path, error.kind())),
         }
     }
     files.sort_unstable();
@@ -85,7 +87,7 @@ fn replay_files<O: Output, P: Output>(
     errors: &mut P,
     text: &str,
     files: &[String],
-) -> Result<u8, Fault> {
+) -> Result<u8, Early> {
     let mut status = 0;
     for file in files {
         let history = text_in(rt, file.as_str())?;
@@ -105,20 +107,20 @@ fn input_in(rt: &HostRuntime) -> Result<String, Fault> {
 }
 
 /// Replays under the text of a file the history in another one, or each in a folder; `-` is standard input.
-pub fn replay(rt: &HostRuntime, file: &str, history: &str) -> Result<u8, Fault> {
+pub fn replay(rt: &HostRuntime, file: &str, history: &str) -> Result<u8, Early> {
     let text = text_in(rt, file)?;
     let text = text.as_str();
     let mut output = Writing::new(io::writer(rt));
     let mut errors = Writing::new(rt.stderr());
     if history == "-" {
         let history = input_in(rt)?;
-        return replay_one(rt, &mut output, &mut errors, "", text, history.as_str());
+        return early(replay_one(rt, &mut output, &mut errors, "", text, history.as_str()));
     }
     match files_in(rt, history)? {
         Some(files) => replay_files(rt, &mut output, &mut errors, text, files.as_slice()),
         None => {
             let history = text_in(rt, history)?;
-            replay_one(rt, &mut output, &mut errors, "", text, history.as_str())
+            early(replay_one(rt, &mut output, &mut errors, "", text, history.as_str()))
         }
     }
 }

@@ -1,10 +1,12 @@
 //! The call that keeps an engine running.
 ghost use Rattle.std.specs.Prelude.{◌≡◌, ◌≤◌, [], IfOk};
-ghost use Rattle.flow.specs.Nexts.{IsWithin, next_of};
+ghost use Rattle.flow.specs.Nexts.{IsWithin, next_of, told_early};
 
+use crate::settings::no_settings;
 use crate::store::open_memory;
 use flow_base::fault::Fault;
 use flow_cli::fault::fault_of_error;
+use flow_cli::reason::Early;
 use flow_engine::engine::Engine;
 use flow_settings::settings::Settings;
 use flow_work::clock::SystemClock;
@@ -21,10 +23,14 @@ use std::thread::Threads;
 use std::time::Clock;
 
 /// The settings of this file, and the usual ones where none is named.
-fn settings_in(rt: &HostRuntime, file: Option<&str>) -> Result<Settings, Fault> {
-    match file {
-        Some(file) => settings_of(rt.alloc(), fs::read_to_string(rt, file)),
-        None => Ok(Settings::usual()),
+fn settings_in(rt: &HostRuntime, file: Option<&str>) -> Result<Settings, Early> {
+    let Some(file) = file else {
+        return Ok(Settings::usual());
+    };
+    match settings_of(rt.alloc(), fs::read_to_string(rt, file)) {
+        Ok(settings) => Ok(settings),
+        Err(Fault::BadSettings) => Err(no_settings(rt, file)),
+        Err(fault) => Err(Early::from(fault)),
     }
 }
 
@@ -138,13 +144,23 @@ pub enum Next {
     Keep(String, Settings, Activities),
 }
 
+/// An end whose fault tells by itself why.
+pub fn early(outcome: Result<u8, Fault>) -> Result<u8, Early>
+    ensures { result ≡ told_early outcome }
+{
+    match outcome {
+        Ok(status) => Ok(status),
+        Err(fault) => Err(Early::from(fault)),
+    }
+}
+
 /// Nothing is left to be done, whatever came of it.
-pub fn done(outcome: Result<u8, Fault>) -> Result<Next, Fault>
+pub fn done(outcome: Result<u8, Early>) -> Result<Next, Early>
     ensures { result ≡ next_of outcome }
 {
     match outcome {
         Ok(status) => Ok(Next::Done(status)),
-        Err(fault) => Err(fault),
+        Err(early) => Err(early),
     }
 }
 
@@ -153,7 +169,7 @@ fn run_in_memory<T: Threads + Wait + Clock + Copy + Send + Drop + 'static>(
     threads: &T,
     settings: Settings,
     activities: Activities,
-) -> Result<u8, Fault>
+) -> Result<u8, Early>
     ensures { IfOk result (λ n. n ≤ 3) }
 {
     let mut engine = open_memory(rt, settings)?;
@@ -169,7 +185,7 @@ pub fn keep_running<T: Threads + Wait + Clock + Copy + Send + Drop + 'static>(
     base: &str,
     file: Option<&str>,
     activities: Activities,
-) -> Result<Next, Fault>
+) -> Result<Next, Early>
     ensures { IfOk result IsWithin }
 {
     match settings_in(rt, file) {

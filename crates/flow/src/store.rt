@@ -7,8 +7,10 @@ ghost use Rattle.flow_engine.specs.Answering.{IsSure};
 ghost use Rattle.flow_engine.specs.Opening.{IsOpened};
 ghost use Rattle.flow.specs.Openings.{IsHandedOn};
 
+use crate::looking::unopened;
 use flow_base::fault::Fault;
 use flow_base::memory::NoMemory;
+use flow_cli::reason::{Early, Unopened};
 use flow_engine::engine::Engine;
 use flow_settings::settings::Settings;
 use sqlite::{Alter, Connection, Error, ErrorCode, File, FileStore, MemStore};
@@ -38,15 +40,22 @@ pub fn open_file(
     rt: &HostRuntime,
     file: &str,
     settings: Settings,
-) -> Result<Engine<FileStore<File>>, Fault>
+) -> Result<Engine<FileStore<File>>, Early>
     ensures { IfOk result (λ e. e.log ≡ []) }
 {
     match Connection::open(rt, file) {
-        Ok(conn) => open(rt, conn, settings),
+        Ok(conn) => match open(rt, conn, settings) {
+            Ok(engine) => Ok(engine),
+            Err(Fault::StoreRefused) => Err(Early::unopened(rt.alloc(), file, Unopened::Failed)),
+            Err(fault) => Err(Early::from(fault)),
+        },
         Err(Error::SqliteFailure(ErrorCode::OutOfMemory)) => {
-            Err(Fault::NoMemory(NoMemory::told()))
+            Err(Early::from(Fault::NoMemory(NoMemory::told())))
         }
-        Err(_) => Err(Fault::StoreRefused),
+        Err(Error::SqliteFailure(code)) => {
+            Err(Early::unopened(rt.alloc(), file, unopened(rt, file, code)))
+        }
+        Err(_) => Err(Early::unopened(rt.alloc(), file, Unopened::Failed)),
     }
 }
 

@@ -1,5 +1,6 @@
 pub mod Faults
 pub mod Endings
+pub mod Marks
 pub mod Ends
 pub mod Rows
 pub mod Arguments

@@ -1,5 +1,5 @@
 -- The status of two texts is 0 exactly where both are programs and the second wraps the first.
-use Rattle.std.proofs.Common.{arith, ◌≡◌, ◌↔◌, ℕ, refl, sym, ap, ◌∙◌, subst, true, false, Option, Some, None, Result, Ok, Err}
+use Rattle.std.proofs.Common.{arith, ◌≡◌, ◌↔◌, ℕ, refl, sym, ap, ◌∙◌, subst, Option, Some, None, Result, Ok, Err}
 use Rattle.std.specs.Prelude.{is_ok}
 use Rattle.std.proofs.lemmas.Bool.{true≢false}
 use Rattle.flow_base.specs.Syntax.{Program}

@@ -1,5 +1,5 @@
 -- The status of two texts is 0 exactly where both are programs and the second settles patches of the first.
-use Rattle.std.proofs.Common.{arith, ◌≡◌, ◌↔◌, ℕ, List, [], ◌∷◌, map, refl, sym, ap, ◌∙◌, subst, true, false, Option, Some, None, Result, Ok, Err}
+use Rattle.std.proofs.Common.{arith, ◌≡◌, ◌↔◌, ℕ, List, [], ◌∷◌, map, refl, sym, ap, ◌∙◌, subst, false, Option, Some, None, Result, Ok, Err}
 use Rattle.std.specs.Prelude.{is_ok}
 use Rattle.std.proofs.lemmas.Bool.{true≢false}
 use Rattle.serde_json.specs.Data.{string}
@@ -8,7 +8,6 @@ use Rattle.serde_json.specs.Written.{has_float, items_have_float}
 use Rattle.flow_base.specs.Syntax.{Bytes, Program}
 use Rattle.flow_base.specs.declared.command.TextFault.{TextFault}
 use Rattle.flow_base.specs.declared.code.Code.TheVariants.{NotSettled}
-use Rattle.flow_cli.specs.declared.settlement.Settlement.{Settlement}
 use Rattle.flow_cli.specs.declared.settlement.Settlement.TheVariants as settlement
 use Rattle.flow_cli.specs.Settlements.{ids_out, of_unsettled, settlement_of, settlement_status, MeansSettled}
 use Rattle.flow_patch.specs.declared.fault.Unsafe.{Unsafe}

@@ -3,7 +3,11 @@ pub mod Calls
 pub mod Shown
 pub mod Commands
 pub mod Replies
+pub mod Usages
+pub mod Places
+pub mod Reasons
 pub mod Verdicts
+pub mod Changes
 pub mod Safety
 pub mod Settlements
 pub mod Driving

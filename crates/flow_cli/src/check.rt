@@ -4,10 +4,11 @@ ghost use Rattle.std.specs.Io.KnownBytes.{Appends};
 ghost use Rattle.flow_cli.specs.Answering.{WritesPart};
 ghost use Rattle.flow_cli.specs.Ends.{input_failed, output_failed};
 ghost use Rattle.flow_cli.specs.Faults.{fault_status};
-ghost use Rattle.flow_cli.specs.Verdicts.{verdict_of, verdict_text, verdict_status};
+ghost use Rattle.flow_cli.specs.Places.{IsMarked};
+ghost use Rattle.flow_cli.specs.Verdicts.{verdict_mark, verdict_of, verdict_text, verdict_status};
 
-use crate::drive::write_text;
 use crate::output::Output;
+use crate::place::{mark, write_marked};
 use flow_base::command::TextFault;
 use flow_base::fault::Fault;
 use flow_base::text::RawText;
@@ -34,6 +35,16 @@ impl Verdict {
         }
     }
 
+    /// The place in a text that is no program, the line there and a mark below it.
+    pub fn mark(self, alloc: Global, text: &str) -> Result<Vec<u8>, AllocError>
+        ensures { IfOk result (λ marks. marks.items ≡ verdict_mark text.now self) }
+    {
+        match self {
+            Verdict::Good => Ok(Vec::new(alloc)),
+            Verdict::Broken(fault) => mark(alloc, "", text, fault.at),
+        }
+    }
+
     /// The status that the program ends with.
     pub fn status(self) -> u8
         ensures { result ≡ verdict_status self }
@@ -57,15 +68,17 @@ pub fn check_text<T: Texts>(alloc: Global, texts: &T, text: &str) -> Result<Verd
     }
 }
 
-/// Checks a text by what reads texts, writes the verdict as a line, and gives its status.
+/// Checks a text by what reads texts, writes the verdict as a line, where the text is no program the place as errors, and gives the
+/// status.
 ///
 /// # Failure
 /// Each has the status 3: E01, and E95 where a write failed.
 #[tactic(auto, using(crate::proofs::Endings::same_kept))]
-pub fn tell_verdict<T: Texts, O: Output>(
+pub fn tell_verdict<T: Texts, O: Output, P: Output>(
     alloc: Global,
     texts: &T,
     output: &mut O,
+    errors: &mut P,
     text: &str,
 ) -> Result<u8, Fault>
     ensures told { IfOk result (λ n. Appends (O.contents output.old) (O.contents output.new) (verdict_text (verdict_of (T.meaning text.now)) ++ 10 ∷ [])) }
@@ -76,10 +89,13 @@ pub fn tell_verdict<T: Texts, O: Output>(
     ensures output { O.failed output.new ≡ output_failed result (O.failed output.old) }
     ensures input { (before : Bool) → input_failed result before ≡ before }
     ensures cause { IfErr result (λ e. (e ≡ Fault.NoMemory _) ⊎ (e ≡ Fault.OutputFailed)) }
+    ensures marked { IfOk result (λ n. IsMarked (P.contents errors.old) (P.contents errors.new) (P.failed errors.new) (P.ran_out errors.new) (verdict_mark text.now (verdict_of (T.meaning text.now)))) }
+    ensures unmarked { IfErr result (λ e. errors.new ≡ errors.old) }
 {
     let verdict = check_text(alloc, texts, text)?;
     let line = verdict.line(alloc)?;
-    match write_text(output, line) {
+    let marks = verdict.mark(alloc, text)?;
+    match write_marked(output, errors, line, marks.as_slice()) {
         Ok(()) => Ok(verdict.status()),
         Err(fault) => Err(fault),
     }

@@ -1,13 +1,15 @@
 //! How the program ends: what it says of an early end, and its status.
-ghost use Rattle.std.specs.Prelude.{◌≡◌, ◌⊎◌, ◌++◌, ◌∷◌, [], true, IfOk, IfErr, OnOk, string_bytes};
+ghost use Rattle.std.specs.Prelude.{◌≡◌, ◌⊎◌, ◌++◌, ◌∷◌, [], true, IfOk, IfErr, IfSome, IfNone, OnOk, string_bytes};
 ghost use Rattle.std.specs.Io.KnownBytes.{Appends};
 ghost use Rattle.flow_cli.specs.Driving.{WritesBeginning};
-ghost use Rattle.flow_cli.specs.Ending.{SaysFault, SaysFirst};
+ghost use Rattle.flow_cli.specs.Ending.{SaysAll, SaysEarly, SaysFault, SaysFirst, SaysLine};
 ghost use Rattle.flow_cli.specs.Ends.{write_failed, write_ran_out};
 ghost use Rattle.flow_cli.specs.Faults.{fault_status, fault_text};
+ghost use Rattle.flow_cli.specs.Reasons.{reason_text};
 
 use crate::fault::{fault_line, short_line, status};
-use crate::output::{Output, Unwritten};
+use crate::output::{Output, Unwritten, with_end};
+use crate::reason::{Early, MEMORY, Reason};
 use flow_base::fault::Fault;
 use std::alloc::{AllocError, Global};
 
@@ -32,15 +34,14 @@ fn put_both<O: Output>(output: &mut O, first: &[u8], then: &[u8]) -> Result<(), 
 fn whole_line(alloc: Global, fault: &Fault) -> Result<String, AllocError>
     ensures { IfOk result (λ line. string_bytes line ≡ fault_text fault.now ++ 10 ∷ []) }
 {
-    let mut line = fault_line(alloc, fault)?;
-    line.push('\n')?;
-    Ok(line)
+    with_end(fault_line(alloc, fault)?)
 }
 
 /// Says a fault. Where no memory is left for its line, its number is said alone, so E01 is always said.
 fn say_fault<O: Output>(alloc: Global, errors: &mut O, fault: &Fault) -> Result<(), Unwritten>
     ensures said { SaysFault fault.now (O.contents errors.old) (O.contents errors.new) }
     ensures first { OnOk result (SaysFirst fault.now (O.contents errors.old) (O.contents errors.new)) }
+    ensures line { OnOk result (SaysLine fault.now (O.contents errors.old) (O.contents errors.new)) }
     ensures failed { O.failed errors.new ≡ write_failed result (O.failed errors.old) }
     ensures ran_out { O.ran_out errors.new ≡ write_ran_out result (O.ran_out errors.old) }
 {
@@ -70,6 +71,79 @@ pub fn ended<O: Output>(alloc: Global, errors: &mut O, outcome: &Result<u8, Faul
         Err(fault) => {
             let _said = say_fault(alloc, errors, fault);
             status(fault)
+        }
+    }
+}
+
+/// Says why, in the lines behind that of the fault. That memory ran out is said without any.
+#[tactic(auto, using(crate::proofs::Endings::none_written))]
+pub fn say_reason<O: Output>(
+    alloc: Global,
+    errors: &mut O,
+    reason: &Reason,
+) -> Result<(), Unwritten>
+    ensures all { OnOk result (Appends (O.contents errors.old) (O.contents errors.new) (reason_text reason.now)) }
+    ensures beginning { WritesBeginning (O.contents errors.old) (O.contents errors.new) (reason_text reason.now) }
+    ensures failed { O.failed errors.new ≡ write_failed result (O.failed errors.old) }
+{
+    if let Reason::Memory = reason {
+        return errors.put(MEMORY.as_bytes());
+    }
+    let lines = reason.lines(alloc)?;
+    let done = errors.put(lines.as_bytes())?;
+    Ok(done)
+}
+
+/// Says a fault and why.
+#[tactic(auto, using(crate::proofs::Endings::fault_begun, crate::proofs::Endings::early_begun, crate::proofs::Endings::early_first, crate::proofs::Endings::early_said))]
+fn say_early<O: Output>(alloc: Global, errors: &mut O, early: &Early) -> Result<(), Unwritten>
+    ensures said { SaysEarly early.now (O.contents errors.old) (O.contents errors.new) }
+    ensures all { OnOk result (SaysAll early.now (O.contents errors.old) (O.contents errors.new)) }
+    ensures failed { O.failed errors.new ≡ write_failed result (O.failed errors.old) }
+    ensures first { SaysFirst early.now.fault (O.contents errors.old) (O.contents errors.new) ⊎ ((O.failed errors.new ≡ true) ⊎ (O.ran_out errors.new ≡ true)) }
+{
+    match say_fault(alloc, errors, &early.fault) {
+        Ok(()) => say_reason(alloc, errors, &early.reason),
+        Err(unwritten) => Err(unwritten),
+    }
+}
+
+/// How the program ends: the status, and why not all was said of an early end, if it wasn't.
+#[derive(Clone, Copy, Debug, PartialEq, Eq)]
+pub struct End {
+    pub status: u8,
+    pub unsaid: Option<Unwritten>,
+}
+
+/// Says why the program ended early, if it did: on one line, and in the lines of the reason behind it. That they can't be written
+/// changes nothing of the status.
+pub fn ended_early<O: Output>(alloc: Global, errors: &mut O, outcome: &Result<u8, Early>) -> End
+    ensures done { IfOk outcome.now (λ n. (result.status ≡ n) × (errors.new ≡ errors.old)) }
+    ensures early { IfErr outcome.now (λ e. result.status ≡ fault_status e.fault) }
+    ensures said { IfErr outcome.now (λ e. SaysEarly e (O.contents errors.old) (O.contents errors.new)) }
+    // All is said, or memory was refused, or a write failed there.
+    ensures all { IfErr outcome.now (λ e. IfNone result.unsaid (SaysAll e (O.contents errors.old) (O.contents errors.new))) }
+    ensures failed { IfErr outcome.now (λ e. IfSome result.unsaid (λ u. u ≡ Unwritten.Failed → O.failed errors.new ≡ true)) }
+    // Where nothing has failed there the line of the fault, or of its number, stands there first.
+    ensures first { IfErr outcome.now (λ e. SaysFirst e.fault (O.contents errors.old) (O.contents errors.new) ⊎ ((O.failed errors.new ≡ true) ⊎ (O.ran_out errors.new ≡ true))) }
+{
+    match outcome {
+        Ok(status) => End {
+            status: *status,
+            unsaid: None,
+        },
+        Err(early) => {
+            let status = status(&early.fault);
+            match say_early(alloc, errors, early) {
+                Ok(()) => End {
+                    status,
+                    unsaid: None,
+                },
+                Err(unwritten) => End {
+                    status,
+                    unsaid: Some(unwritten),
+                },
+            }
         }
     }
 }

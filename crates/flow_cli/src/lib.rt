@@ -3,6 +3,7 @@
 
 pub mod batch;
 pub mod call;
+pub mod change;
 pub mod check;
 pub mod command;
 pub mod drive;
@@ -11,6 +12,8 @@ pub mod fault;
 pub mod history;
 pub mod input;
 pub mod output;
+pub mod place;
+pub mod reason;
 pub mod replaying;
 pub mod reply;
 pub mod safety;
@@ -19,4 +22,5 @@ pub mod spelling;
 pub mod streams;
 pub mod task;
 pub mod totals;
+pub mod usage;
 pub mod work;

@@ -1,5 +1,5 @@
 //! Where lines go.
-ghost use Rattle.std.specs.Prelude.{◌≡◌, ℕ, Bool, List, ◌++◌, ◌∷◌, [], Option, OnOk, IfErr};
+ghost use Rattle.std.specs.Prelude.{◌≡◌, ℕ, Bool, List, ◌++◌, ◌∷◌, [], Option, IfOk, OnOk, IfErr, string_bytes};
 ghost use Rattle.std.specs.Io.KnownBytes.{Appends, Keeps};
 ghost use Rattle.flow_cli.specs.Driving.{WritesBeginning};
 ghost use Rattle.flow_cli.specs.Ends.{fault_of_unwritten, write_failed, write_ran_out};
@@ -40,6 +40,14 @@ impl From<AllocError> for Unwritten {
     fn from(refused: AllocError) -> Unwritten {
         Unwritten::NoMemory(NoMemory::from(refused))
     }
+}
+
+/// A line with its end.
+pub(crate) fn with_end(mut line: String) -> Result<String, AllocError>
+    ensures { IfOk result (λ whole. string_bytes whole ≡ string_bytes line ++ 10 ∷ []) }
+{
+    line.push('\n')?;
+    Ok(line)
 }
 
 /// Where bytes and reply lines are written.

@@ -5,14 +5,14 @@ ghost use Rattle.flow_model.specs.Checked.{shown_checked};
 ghost use Rattle.flow_cli.specs.Answering.{WritesPart};
 ghost use Rattle.flow_cli.specs.Ends.{input_failed, output_failed};
 ghost use Rattle.flow_cli.specs.Faults.{fault_status};
-ghost use Rattle.flow_cli.specs.Safety.{of_difference, place_text, safety_of, safety_status, safety_text, MeansWrap};
+ghost use Rattle.flow_cli.specs.Places.{IsMarked};
+ghost use Rattle.flow_cli.specs.Safety.{of_difference, safety_marks, safety_of, safety_status, safety_text, MeansWrap};
 ghost use Rattle.flow_patch.specs.Difference.{first_difference};
 
-use crate::drive::write_text;
+use crate::change::{Broken, read_both};
 use crate::output::Output;
-use flow_base::command::TextFault;
+use crate::place::{mark, write_marked};
 use flow_base::fault::Fault;
-use flow_base::text::RawText;
 use flow_model::checked::Checked;
 use flow_model::texts::Texts;
 use flow_patch::change::safe_change;
@@ -26,11 +26,8 @@ pub enum Safety {
     Safe,
     /// The new text differs from those that wrap the old one.
     Differs(Unsafe),
-    /// The old text is no program.
-    OldBroken(TextFault),
-    /// The new text is no program.
-    NewBroken(TextFault),
-    BothBroken(TextFault, TextFault),
+    /// One of the texts is no program.
+    Broken(Broken),
 }
 
 impl Safety {
@@ -42,13 +39,18 @@ impl Safety {
         match self {
             Safety::Safe => String::from_str(alloc, "safe"),
             Safety::Differs(Unsafe { at, code }) => format!(in alloc; "{code} at {at}"),
-            Safety::OldBroken(fault) => fault_line(alloc, "old", fault),
-            Safety::NewBroken(fault) => fault_line(alloc, "new", fault),
-            Safety::BothBroken(old, new) => {
-                let old = fault_line(alloc, "old", old)?;
-                let new = fault_line(alloc, "new", new)?;
-                format!(in alloc; "{old}\n{new}")
-            }
+            Safety::Broken(broken) => broken.lines(alloc),
+        }
+    }
+
+    /// The place in the new text where it differs, or in each that is no program: the line there and a mark below it.
+    pub fn marks(self, alloc: Global, old: &str, new: &str) -> Result<Vec<u8>, AllocError>
+        ensures { IfOk result (λ marks. marks.items ≡ safety_marks old.now new.now self) }
+    {
+        match self {
+            Safety::Safe => Ok(Vec::new(alloc)),
+            Safety::Differs(difference) => mark(alloc, "new: ", new, difference.at),
+            Safety::Broken(broken) => broken.marks(alloc, old, new),
         }
     }
 
@@ -58,20 +60,9 @@ impl Safety {
     {
         match self {
             Safety::Safe => 0,
-            Safety::Differs(_)
-            | Safety::OldBroken(_)
-            | Safety::NewBroken(_)
-            | Safety::BothBroken(_, _) => 1,
+            Safety::Differs(_) | Safety::Broken(_) => 1,
         }
     }
-}
-
-/// Which text is no program, and where.
-fn fault_line(alloc: Global, which: &str, fault: TextFault) -> Result<String, AllocError>
-    ensures { IfOk result (λ line. string_bytes line ≡ which.now ++ (58 ∷ 32 ∷ place_text fault)) }
-{
-    let TextFault { code, at } = fault;
-    format!(in alloc; "{which}: {code} at {at}")
 }
 
 /// Whether the change from one program to another is safe.
@@ -94,27 +85,22 @@ pub fn compare_texts<T: Texts>(
     ensures safety { IfOk result (λ s. s ≡ safety_of (T.meaning old.now) (T.meaning new.now)) }
     ensures memory { IfErr result (λ e. e ≡ Fault.NoMemory _) }
 {
-    let old = RawText::new(alloc, old)?;
-    let new = RawText::new(alloc, new)?;
-    let old = texts.read(alloc, &old)?;
-    let new = texts.read(alloc, &new)?;
-    match (old, new) {
-        (Ok(old), Ok(new)) => Ok(compare(&old, &new)),
-        (Err(fault), Ok(_)) => Ok(Safety::OldBroken(fault)),
-        (Ok(_), Err(fault)) => Ok(Safety::NewBroken(fault)),
-        (Err(old), Err(new)) => Ok(Safety::BothBroken(old, new)),
+    match read_both(alloc, texts, old, new)? {
+        Ok((old, new)) => Ok(compare(&old, &new)),
+        Err(broken) => Ok(Safety::Broken(broken)),
     }
 }
 
-/// Tells of two texts whether the change from the first to the second is safe, and gives the status.
+/// Tells of two texts whether the change from the first to the second is safe, as errors the place where it isn't, and gives the status.
 ///
 /// # Failure
 /// Each has the status 3: E01, and E95 where a write failed.
 #[tactic(auto, using(crate::proofs::Endings::same_kept))]
-pub fn tell_safety<T: Texts, O: Output>(
+pub fn tell_safety<T: Texts, O: Output, P: Output>(
     alloc: Global,
     texts: &T,
     output: &mut O,
+    errors: &mut P,
     old: &str,
     new: &str,
 ) -> Result<u8, Fault>
@@ -128,10 +114,13 @@ pub fn tell_safety<T: Texts, O: Output>(
     ensures output { O.failed output.new ≡ output_failed result (O.failed output.old) }
     ensures input { (before : Bool) → input_failed result before ≡ before }
     ensures cause { IfErr result (λ e. (e ≡ Fault.NoMemory _) ⊎ (e ≡ Fault.OutputFailed)) }
+    ensures marked { IfOk result (λ n. IsMarked (P.contents errors.old) (P.contents errors.new) (P.failed errors.new) (P.ran_out errors.new) (safety_marks old.now new.now (safety_of (T.meaning old.now) (T.meaning new.now)))) }
+    ensures unmarked { IfErr result (λ e. errors.new ≡ errors.old) }
 {
     let safety = compare_texts(alloc, texts, old, new)?;
     let lines = safety.lines(alloc)?;
-    match write_text(output, lines) {
+    let marks = safety.marks(alloc, old, new)?;
+    match write_marked(output, errors, lines, marks.as_slice()) {
         Ok(()) => Ok(safety.status()),
         Err(fault) => Err(fault),
     }

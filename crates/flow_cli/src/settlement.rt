@@ -8,15 +8,16 @@ ghost use Rattle.flow_model.specs.Checked.{shown_checked};
 ghost use Rattle.flow_cli.specs.Answering.{WritesPart};
 ghost use Rattle.flow_cli.specs.Ends.{input_failed, output_failed};
 ghost use Rattle.flow_cli.specs.Faults.{fault_status};
-ghost use Rattle.flow_cli.specs.Settlements.{ids_out, settlement_of, settlement_status, settlement_text, MeansSettled};
+ghost use Rattle.flow_cli.specs.Places.{IsMarked};
+ghost use Rattle.flow_cli.specs.Settlements.{ids_out, settlement_marks, settlement_of, settlement_status, settlement_text, MeansSettled};
 
-use crate::drive::write_text;
+use crate::change::{Broken, read_both};
 use crate::output::Output;
+use crate::place::write_marked;
 use crate::safety::Safety;
-use flow_base::command::TextFault;
 use flow_base::fault::Fault;
 use flow_base::sequence::Sequence;
-use flow_base::text::{Key, RawText};
+use flow_base::text::Key;
 use flow_model::checked::Checked;
 use flow_model::texts::Texts;
 use flow_patch::fault::{Unsafe, Unsettled};
@@ -32,11 +33,8 @@ pub enum Settlement {
     Settles(Sequence<Key>),
     /// The new text isn't the old one with patches settled.
     Differs(Unsafe),
-    /// The old text is no program.
-    OldBroken(TextFault),
-    /// The new text is no program.
-    NewBroken(TextFault),
-    BothBroken(TextFault, TextFault),
+    /// One of the texts is no program.
+    Broken(Broken),
 }
 
 fn text_json(alloc: Global, text: &str) -> Result<Json, AllocError>
@@ -75,9 +73,18 @@ impl Settlement {
                 format!(in alloc; "settles {list}")
             }
             Settlement::Differs(difference) => Safety::Differs(*difference).lines(alloc),
-            Settlement::OldBroken(fault) => Safety::OldBroken(*fault).lines(alloc),
-            Settlement::NewBroken(fault) => Safety::NewBroken(*fault).lines(alloc),
-            Settlement::BothBroken(old, new) => Safety::BothBroken(*old, *new).lines(alloc),
+            Settlement::Broken(broken) => broken.lines(alloc),
+        }
+    }
+
+    /// The place in the new text where it differs, or in each that is no program: the line there and a mark below it.
+    pub fn marks(&self, alloc: Global, old: &str, new: &str) -> Result<Vec<u8>, AllocError>
+        ensures { IfOk result (λ marks. marks.items ≡ settlement_marks old.now new.now self.now) }
+    {
+        match self {
+            Settlement::Settles(_) => Ok(Vec::new(alloc)),
+            Settlement::Differs(difference) => Safety::Differs(*difference).marks(alloc, old, new),
+            Settlement::Broken(broken) => broken.marks(alloc, old, new),
         }
     }
 
@@ -87,10 +94,7 @@ impl Settlement {
     {
         match self {
             Settlement::Settles(_) => 0,
-            Settlement::Differs(_)
-            | Settlement::OldBroken(_)
-            | Settlement::NewBroken(_)
-            | Settlement::BothBroken(_, _) => 1,
+            Settlement::Differs(_) | Settlement::Broken(_) => 1,
         }
     }
 }
@@ -117,27 +121,22 @@ pub fn settle_texts<T: Texts>(
     ensures settlement { IfOk result (λ s. s ≡ settlement_of (T.meaning old.now) (T.meaning new.now)) }
     ensures memory { IfErr result (λ e. e ≡ Fault.NoMemory _) }
 {
-    let old = RawText::new(alloc, old)?;
-    let new = RawText::new(alloc, new)?;
-    let old = texts.read(alloc, &old)?;
-    let new = texts.read(alloc, &new)?;
-    match (old, new) {
-        (Ok(old), Ok(new)) => compare(alloc, &old, &new),
-        (Err(fault), Ok(_)) => Ok(Settlement::OldBroken(fault)),
-        (Ok(_), Err(fault)) => Ok(Settlement::NewBroken(fault)),
-        (Err(old), Err(new)) => Ok(Settlement::BothBroken(old, new)),
+    match read_both(alloc, texts, old, new)? {
+        Ok((old, new)) => compare(alloc, &old, &new),
+        Err(broken) => Ok(Settlement::Broken(broken)),
     }
 }
 
-/// Tells which patches of the first of two texts the second settles, and gives the status.
+/// Tells which patches of the first of two texts the second settles, as errors the place where it doesn't, and gives the status.
 ///
 /// # Failure
 /// Each has the status 3: E01, and E95 where a write failed.
 #[tactic(auto, using(crate::proofs::Endings::same_kept))]
-pub fn tell_settlement<T: Texts, O: Output>(
+pub fn tell_settlement<T: Texts, O: Output, P: Output>(
     alloc: Global,
     texts: &T,
     output: &mut O,
+    errors: &mut P,
     old: &str,
     new: &str,
 ) -> Result<u8, Fault>
@@ -151,10 +150,13 @@ pub fn tell_settlement<T: Texts, O: Output>(
     ensures output { O.failed output.new ≡ output_failed result (O.failed output.old) }
     ensures input { (before : Bool) → input_failed result before ≡ before }
     ensures cause { IfErr result (λ e. (e ≡ Fault.NoMemory _) ⊎ (e ≡ Fault.OutputFailed)) }
+    ensures marked { IfOk result (λ n. IsMarked (P.contents errors.old) (P.contents errors.new) (P.failed errors.new) (P.ran_out errors.new) (settlement_marks old.now new.now (settlement_of (T.meaning old.now) (T.meaning new.now)))) }
+    ensures unmarked { IfErr result (λ e. errors.new ≡ errors.old) }
 {
     let settlement = settle_texts(alloc, texts, old, new)?;
     let lines = settlement.lines(alloc)?;
-    match write_text(output, lines) {
+    let marks = settlement.marks(alloc, old, new)?;
+    match write_marked(output, errors, lines, marks.as_slice()) {
         Ok(()) => Ok(settlement.status()),
         Err(fault) => Err(fault),
     }

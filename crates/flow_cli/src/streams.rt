@@ -1,6 +1,6 @@
 //! Inputs over readers, and outputs over writers. That one of them has failed, or that memory ran out where it was to write, is said in
 //! no other file.
-ghost use Rattle.std.specs.Prelude.{◌≡◌, ◌++◌, ◌∷◌, [], true, false, Some, OnOk, IfOk, IfErr, IfSome, IfNone, string_bytes};
+ghost use Rattle.std.specs.Prelude.{◌≡◌, ◌++◌, ◌∷◌, [], true, false, Some, OnOk, IfOk, IfErr, IfSome, IfNone};
 ghost use Rattle.std.specs.Io.{WritesAtMost};
 ghost use Rattle.std.specs.Io.BufRead.{strip_last};
 ghost use Rattle.std.specs.Io.KnownBytes.{Appends, Keeps, WriteAppends};
@@ -10,10 +10,10 @@ ghost use Rattle.flow_cli.specs.Ends.{unwritten_failed, unwritten_ran_out};
 ghost use Rattle.flow_cli.specs.Replies.{line_text};
 
 use crate::input::{Input, Unread};
-use crate::output::{Output, Unwritten};
+use crate::output::{Output, Unwritten, with_end};
 use crate::reply::{Line, reply_line};
 use flow_base::memory::NoMemory;
-use std::alloc::{AllocError, Global};
+use std::alloc::Global;
 use std::io;
 use std::io::{BufRead, ErrorKind, Write};
 
@@ -148,15 +148,6 @@ pub(crate) fn write_bytes<W: Write>(writer: &mut W, bytes: &[u8]) -> Result<(), 
     Err(Unwritten::Failed)
 }
 
-/// What is told of a line, with its end.
-fn whole_line(alloc: Global, line: &Line) -> Result<String, AllocError>
-    ensures { IfOk result (λ s. string_bytes s ≡ line_text line.now ++ 10 ∷ []) }
-{
-    let mut text = reply_line(alloc, line)?;
-    text.push('\n')?;
-    Ok(text)
-}
-
 /// Writes what is told of a line.
 #[tactic(auto, using(crate::proofs::Endings::none_written, crate::proofs::Endings::same_kept))]
 pub fn write_line<W: Write>(alloc: Global, writer: &mut W, line: &Line) -> Result<(), Unwritten>
@@ -164,7 +155,7 @@ pub fn write_line<W: Write>(alloc: Global, writer: &mut W, line: &Line) -> Resul
     ensures beginning { WritesBeginning (W.contents writer.old) (W.contents writer.new) (line_text line.now ++ 10 ∷ []) }
     ensures kept { IfErr result (λ e. e ≡ Unwritten.NoMemory _ → Keeps (W.contents writer.old) (W.contents writer.new)) }
 {
-    let text = whole_line(alloc, line)?;
+    let text = with_end(reply_line(alloc, line)?)?;
     let done = write_bytes(writer, text.as_bytes())?;
     Ok(done)
 }

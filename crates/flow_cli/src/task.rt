@@ -6,7 +6,7 @@ ghost use Rattle.serde_json.specs.Written.{compact_text};
 ghost use Rattle.flow_cli.specs.Driving.{WritesBeginning};
 ghost use Rattle.flow_cli.specs.Tasks.{task_out, task_text};
 
-use crate::output::Unwritten;
+use crate::output::{Unwritten, with_end};
 use crate::streams::write_bytes;
 use flow_base::encoding::values_to_json;
 use flow_machine::task::Task;
@@ -43,9 +43,7 @@ pub fn task_line(alloc: Global, task: &Task) -> Result<String, AllocError>
 fn whole_line(alloc: Global, task: &Task) -> Result<String, AllocError>
     ensures { IfOk result (λ s. string_bytes s ≡ task_text task.now ++ 10 ∷ []) }
 {
-    let mut text = task_line(alloc, task)?;
-    text.push('\n')?;
-    Ok(text)
+    with_end(task_line(alloc, task)?)
 }
 
 /// Writes the line of a task.

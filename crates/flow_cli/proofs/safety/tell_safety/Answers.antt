@@ -1,5 +1,5 @@
-use Rattle.std.proofs.Common.{◌≡◌, sym, ◌∙◌, ap}
-use Rattle.flow_cli.specs.Safety.{safety_of, safety_status}
+use Rattle.std.proofs.Common.{◌∙◌, ap}
+use Rattle.flow_cli.specs.Safety.{safety_status}
 use Rattle.flow_cli.proofs.Safeties.{means_wrap}
 use Rattle.flow_cli.proofs.safety.tell_safety.Goals as goal
 

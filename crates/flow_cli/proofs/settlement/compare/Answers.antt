@@ -1,4 +1,4 @@
-use Rattle.std.proofs.Common.{ap, sym, ◌∙◌}
+use Rattle.std.proofs.Common.{ap, ◌∙◌}
 use Rattle.flow_model.specs.Checked.{shown_checked}
 use Rattle.flow_cli.specs.declared.settlement.Settlement.TheVariants as settlement
 use Rattle.flow_cli.proofs.Settlements.{settled_told, differs_told}

@@ -1,5 +1,5 @@
-use Rattle.std.proofs.Common.{◌≡◌, sym, ◌∙◌, ap}
-use Rattle.flow_cli.specs.Settlements.{settlement_of, settlement_status}
+use Rattle.std.proofs.Common.{◌∙◌, ap}
+use Rattle.flow_cli.specs.Settlements.{settlement_status}
 use Rattle.flow_cli.proofs.Settlements.{means_settled}
 use Rattle.flow_cli.proofs.settlement.tell_settlement.Goals as goal
 
