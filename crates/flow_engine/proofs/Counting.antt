@@ -129,7 +129,7 @@ module _ {S : Type 0} (g : Ghosts S) where
 
   module _ (old mid new : Keeping S) (b : Book) (bs : List (List Taken)) (ds : List Done) (batch : List Taken) (d : Done) (long : length ds ≡ length bs) (since : Since (state_of g old.stored) (state_of g mid.stored)) (on : HasGoneOn g mid new)
       (later : mid.halted ≡ true → d ≡ done.Halted) (same : mid.halted ≡ false → IsUp g mid → kept_book g mid ≡ after rules b (kept_of bs ds)) (was : IsCounted g old mid b bs ds) where
-    book : Book
+    abbrev book : Book
     book = after rules b (kept_of bs ds)
 
     -- the book read off the tables is the one that the batches before left, unless the connection is shut or the engine has halted

@@ -231,6 +231,7 @@ module _ {S : Type 0} (g : Ghosts S) (tells : ℕ → Type 0) (old : Keeping S) 
 
     -- one batch more, and nothing behind it
     pub boarded_last : (posted' : List Task) → posted' ≡ posted → ServesBoarded g tells old kept was told [] first posted' 0
+    unfolding has_served behind
     boarded_last posted' same =
         let served = behind in
         let many : length served.batches ≡ suc b.count = served.many in
@@ -242,6 +243,7 @@ module _ {S : Type 0} (g : Ghosts S) (tells : ℕ → Type 0) (old : Keeping S) 
 
   -- the hub is closed, and nothing more is taken
   pub boarded_done : (mid : Keeping S) (then told : List Refused) (posted posted' : List Task) → told ≡ then → posted' ≡ posted → Turned g tells old mid was then first posted → ServesBoarded g tells old mid was told [] first posted' 1
+  unfolding has_served
   boarded_done mid then told posted posted' same none b =
       let served = subst (λ (rs : List Refused). Served g old mid was rs b.count) (sym same) b.served in
       let turns = subst (λ (ts : List Task). HasTurns g tells old mid first ts (suc b.count)) (sym none) b.turns in
@@ -254,6 +256,7 @@ module _ {S : Type 0} (g : Ghosts S) (tells : ℕ → Type 0) (old : Keeping S) 
 
   -- and what waited was turned away, behind which there is no board
   pub boarded_behind : (now : Keeping S) (told last : List Refused) (posted posted' : List Task) (waiting : List Taken) → TurnsAway told last waiting → posted' ≡ posted → ServesBoarded g tells old now was told [] first posted 0 → ServesBoarded g tells old now was last waiting first posted' 0
+  unfolding served_behind
   boarded_behind now told last posted posted' waiting turns same b = record {
     served = served_behind g old now was told last waiting b.served turns;
     turns = subst (λ (ts : List Task). HasTurns g tells old now first ts (0 + length b.served.batches)) (sym same) b.turns;
@@ -261,6 +264,7 @@ module _ {S : Type 0} (g : Ghosts S) (tells : ℕ → Type 0) (old : Keeping S) 
 
   -- nothing was taken
   pub unboarded : (last : List Refused) (posted : List Task) (waiting : List Taken) → TurnsAway was last waiting → posted ≡ first → ServesBoarded g tells old old was last waiting first posted 0
+  unfolding unserved served_behind has_served none_served
   unboarded last posted waiting turns same = record {
     served = unserved g old was last waiting turns;
     turns = subst (λ (ts : List Task). HasTurns g tells old old first ts 0) (sym same) (no_turns g tells old first);

@@ -41,9 +41,9 @@ turn_of (Ok u) h = inl h
 turn_of (Err f) h = inr (h.0, (f, h.1))
 
 -- nothing where it was refused
-pub refused_first : {A B : Type 0} {C : Fault → Type 0} (r : Result Unit Fault) → is_ok r ≡ false → MatchResult r (λ _. A) (λ f. B × C f) → B
-refused_first (Ok u) e h = absurd (true≢false e)
-refused_first (Err f) e h = h.0
+pub refused_first : (A B : Type 0) (C : Fault → Type 0) (r : Result Unit Fault) → is_ok r ≡ false → MatchResult r (λ _. A) (λ f. B × C f) → B
+refused_first A B C (Ok u) e h = absurd (true≢false e)
+refused_first A B C (Err f) e h = h.0
 
 module _ {S : Type 0} (g : Ghosts S) where
   none_skipped : (old : Keeping S) → AreSkipped g old old []
@@ -54,7 +54,7 @@ module _ {S : Type 0} (g : Ghosts S) where
   skipped_still old mid new fs le shuts was = record {
     failures = was.failures;
     counted = more_still was.failures (state_of g old.stored).faults (state_of g mid.stored).faults (state_of g new.stored).faults was.counted le;
-    are = refused_on (IsHeldBack g old mid) (IsHeldBack g old new) (held_still old mid new shuts) was.failures fs was.are;
+    are = refused_on (IsHeldBack g old mid) (IsHeldBack g old new) (held_still g old mid new shuts) was.failures fs was.are;
   }
 
   -- one more
@@ -67,11 +67,11 @@ module _ {S : Type 0} (g : Ghosts S) where
     skipped_by (inr failed) = record {
       failures = suc was.failures;
       counted = more_one was.failures (state_of g old.stored).faults (state_of g mid.stored).faults (state_of g new.stored).faults was.counted failed;
-      are = inr (was.failures, refl, refused_on (IsHeldBack g old mid) (IsHeldBack g old new) (held_still old mid new shuts) was.failures fs was.are);
+      are = inr (was.failures, refl, refused_on (IsHeldBack g old mid) (IsHeldBack g old new) (held_still g old mid new shuts) was.failures fs was.are);
     }
 
     held_or_failed : IsDown g mid.stored new.stored → IsHeldBack g old new ⊎ MoreFaults (state_of g mid.stored).faults (state_of g new.stored).faults
-    held_or_failed down = elim (failed_or_held mid new down) [ inl held ↦ inl (held_since old mid new since held) | inr failed ↦ inr failed ]
+    held_or_failed down = elim (failed_or_held g mid new down) [ inl held ↦ inl (held_since g old mid new since held) | inr failed ↦ inr failed ]
 
     skipped_more : (halted : Bool) → IsOfBoard halted f → (f ≡ fault.StoreRefused → IsDown g mid.stored new.stored) → AreSkipped g old new (f ∷ fs)
     skipped_more halted of why = skipped_by (by_fault halted (IsHeldBack g old new) (MoreFaults (state_of g mid.stored).faults (state_of g new.stored).faults) f of (λ e. held_or_failed (why e)))
@@ -88,15 +88,15 @@ module _ {S : Type 0} (g : Ghosts S) where
 
   -- why there is none the second time
   none_again : (old mid new : Keeping S) (f : Fault) → IsStill g old mid → IsStill g mid new → HasNoBoard g mid new f → HasNoBoard g old new f
-  none_again old mid new f first second no = record {
-    among = subst (λ h. IsOfBoard h f) first.halted no.among;
-    cause = λ fit e. (let before = second.follows.1 fit in down_before old mid new (first.stored.3 before.0 before.1) (no.cause fit e));
+  none_again old mid new f first second why = record {
+    among = subst (λ h. IsOfBoard h f) first.halted why.among;
+    cause = λ fit e. (let before = second.follows.1 fit in down_before old mid new (first.stored.3 before.0 before.1) (why.cause fit e));
   }
 
   -- what came of it where nothing came of the first
   pub turn_again : (tells : ℕ → Type 0) (old mid new : Keeping S) (was then posted : List Task) → IsStill g old mid → IsStill g mid new → then ≡ was → HasTurn g tells mid new then posted → HasTurn g tells old new was posted
   turn_again tells old mid new was then posted first second same (inl one) = inl (subst (λ (ts : List Task). PostsOne g tells new ts posted) same one)
-  turn_again tells old mid new was then posted first second same (inr (none, f, no)) = inr (none ∙ same, f, none_again old mid new f first second no)
+  turn_again tells old mid new was then posted first second same (inr (none, (f, why))) = inr (none ∙ same, (f, none_again old mid new f first second why))
 
   pub turn_skipped : (tells : ℕ → Type 0) (old new : Keeping S) (was then posted : List Task) → posted ≡ then → HasTurn g tells old new was then → HasTurn g tells old new was posted
   turn_skipped tells old new was then posted same turn = subst (λ (ts : List Task). HasTurn g tells old new was ts) (sym same) turn
@@ -134,19 +134,19 @@ module _ {S : Type 0} (g : Ghosts S) where
         let count : n ≡ length t.boards + length t.skipped = t.all in
         record {
           boards = t.boards ++ one.board ∷ [];
-          are = are_joined g tells new was then posted t.boards (one.board ∷ []) so_far (one.made, one.posted);
+          are = are_joined g tells new was then posted t.boards (one.board ∷ []) so_far (one.made, one.is);
           skipped = t.skipped;
           all = omega (arith, many, count);
           among = t.among;
           counted = λ fit. skipped_still old mid new t.skipped (still.stored.3 fit.0 fit.1).0 (shuts fit) (t.counted (before fit));
         }
-    turns_more (inr (same, f, no)) =
+    turns_more (inr (same, (f, why))) =
         let count : n ≡ length t.boards + length t.skipped = t.all in
         record {
           boards = t.boards;
           are = subst (λ (ts : List Task). ArePosted g tells new was ts t.boards) (sym same) so_far;
           skipped = f ∷ t.skipped;
           all = omega (arith, count);
-          among = All-cons (IsOfBoard old.halted) f t.skipped (subst (λ h. IsOfBoard h f) halted no.among) t.among;
-          counted = λ fit. skipped_more old mid new t.skipped f (since (before fit)) (still.stored.3 fit.0 fit.1).0 (shuts fit) (t.counted (before fit)) mid.halted no.among (no.cause fit);
+          among = All-cons (IsOfBoard old.halted) f t.skipped (subst (λ h. IsOfBoard h f) halted why.among) t.among;
+          counted = λ fit. skipped_more old mid new t.skipped f (since (before fit)) (still.stored.3 fit.0 fit.1).0 (shuts fit) (t.counted (before fit)) mid.halted why.among (why.cause fit);
         }

@@ -41,7 +41,7 @@ pub record Posts {S : Type 0} (g : Ghosts S) (tells : ℕ → Type 0) (now : Kee
 pub record PostsOne {S : Type 0} (g : Ghosts S) (tells : ℕ → Type 0) (now : Keeping S) (was posted : List Task) : Type 0 where
   pub board : Boarded
   pub made : WasBoard g tells now was board
-  pub posted : posted ≡ was ++ new_ones was board.tasks
+  pub is : posted ≡ was ++ new_ones was board.tasks
 
 -- Why there is no board: E01; E80, where the connection is shut or the store hindered something in between; E85, where the engine had halted.
 pub record HasNoBoard {S : Type 0} (g : Ghosts S) (old new : Keeping S) (f : Fault) : Type 0 where
