@@ -29,96 +29,124 @@ refused_on P Q on n (f ∷ fs) (inl one) = inl ((λ e. on (one.0 e)), refused_on
 refused_on P Q on n (f ∷ fs) (inr one) = inr (one.0, one.1, refused_on P Q on one.0 fs one.2)
 
 -- of E80 it is known whether a failure that was counted stands behind it
-by_fault : (halted : Bool) (P Q : Type 0) (f : Fault) → IsOfBoard halted f → (f ≡ fault.StoreRefused → P ⊎ Q) → (f ≡ fault.StoreRefused → P) ⊎ Q
+by_fault : (halted : Bool) (P Q : Type 0) (f : Fault) → IsOfBoard halted f → (f ≡ fault.StoreRefused → P ⊎ Q) →
+    (f ≡ fault.StoreRefused → P) ⊎ Q
 by_fault halted P Q (fault.NoMemory _) of why = inl (λ e. absurd (cc))
 by_fault halted P Q fault.StoreRefused of why = elim (why refl) [ inl held ↦ inl (λ e. held) | inr failed ↦ inr failed ]
 by_fault halted P Q fault.Halted of why = inl (λ e. absurd (cc))
 by_fault halted P Q _ of why = absurd of
 
 -- what came of asking for a board, by the result
-pub turn_of : {A B : Type 0} {C : Fault → Type 0} (r : Result Unit Fault) → MatchResult r (λ _. A) (λ f. B × C f) → A ⊎ (B × ((f : Fault) × C f))
+pub turn_of : {A B : Type 0} {C : Fault → Type 0} (r : Result Unit Fault) → MatchResult r (λ _. A) (λ f. B × C f) → A ⊎
+    (B × ((f : Fault) × C f))
 turn_of (Ok u) h = inl h
 turn_of (Err f) h = inr (h.0, (f, h.1))
 
 -- nothing where it was refused
-pub refused_first : (A B : Type 0) (C : Fault → Type 0) (r : Result Unit Fault) → is_ok r ≡ false → MatchResult r (λ _. A) (λ f. B × C f) → B
+pub refused_first : (A B : Type 0) (C : Fault → Type 0) (r : Result Unit Fault) → is_ok r ≡ false → MatchResult r (λ _. A) (λ f. B × C f)
+    → B
 refused_first A B C (Ok u) e h = absurd (true≢false e)
 refused_first A B C (Err f) e h = h.0
 
 module _ {S : Type 0} (g : Ghosts S) where
   none_skipped : (old : Keeping S) → AreSkipped g old old []
-  none_skipped old = record { failures = 0; counted = more_none (state_of g old.stored).faults (state_of g old.stored).faults (omega arith); are = tt }
+  none_skipped old = record { failures = 0; counted = more_none (state_of g old.stored).faults (state_of g old.stored).faults
+      (omega arith); are = tt }
 
   skipped_still : (old mid new : Keeping S) (fs : List Fault) → (state_of g mid.stored).faults ≤ (state_of g new.stored).faults
-      → ((state_of g mid.stored).is_open ≡ false → (state_of g new.stored).is_open ≡ false) → AreSkipped g old mid fs → AreSkipped g old new fs
+      → ((state_of g mid.stored).is_open ≡ false → (state_of g new.stored).is_open ≡ false) → AreSkipped g old mid fs → AreSkipped g old
+          new fs
   skipped_still old mid new fs le shuts was = record {
     failures = was.failures;
-    counted = more_still was.failures (state_of g old.stored).faults (state_of g mid.stored).faults (state_of g new.stored).faults was.counted le;
+    counted = more_still was.failures (state_of g old.stored).faults (state_of g mid.stored).faults (state_of g new.stored).faults
+        was.counted le;
     are = refused_on (IsHeldBack g old mid) (IsHeldBack g old new) (held_still g old mid new shuts) was.failures fs was.are;
   }
 
   -- one more
-  module _ (old mid new : Keeping S) (fs : List Fault) (f : Fault) (since : Since (state_of g old.stored) (state_of g mid.stored)) (le : (state_of g mid.stored).faults ≤ (state_of g new.stored).faults)
+  module _ (old mid new : Keeping S) (fs : List Fault) (f : Fault) (since : Since (state_of g old.stored) (state_of g mid.stored))
+      (le : (state_of g mid.stored).faults ≤ (state_of g new.stored).faults)
       (shuts : (state_of g mid.stored).is_open ≡ false → (state_of g new.stored).is_open ≡ false) (was : AreSkipped g old mid fs) where
-    skipped_by : (f ≡ fault.StoreRefused → IsHeldBack g old new) ⊎ MoreFaults (state_of g mid.stored).faults (state_of g new.stored).faults → AreSkipped g old new (f ∷ fs)
+    skipped_by : (f ≡ fault.StoreRefused → IsHeldBack g old new) ⊎ MoreFaults (state_of g mid.stored).faults
+        (state_of g new.stored).faults → AreSkipped g old new (f ∷ fs)
     skipped_by (inl held) =
         let still = skipped_still old mid new fs le shuts was in
         record { failures = still.failures; counted = still.counted; are = inl (held, still.are) }
     skipped_by (inr failed) = record {
       failures = suc was.failures;
-      counted = more_one was.failures (state_of g old.stored).faults (state_of g mid.stored).faults (state_of g new.stored).faults was.counted failed;
-      are = inr (was.failures, refl, refused_on (IsHeldBack g old mid) (IsHeldBack g old new) (held_still g old mid new shuts) was.failures fs was.are);
+      counted = more_one was.failures (state_of g old.stored).faults (state_of g mid.stored).faults (state_of g new.stored).faults
+          was.counted failed;
+      are = inr (was.failures, refl, refused_on (IsHeldBack g old mid) (IsHeldBack g old new) (held_still g old mid new shuts)
+          was.failures fs was.are);
     }
 
-    held_or_failed : IsDown g mid.stored new.stored → IsHeldBack g old new ⊎ MoreFaults (state_of g mid.stored).faults (state_of g new.stored).faults
-    held_or_failed down = elim (failed_or_held g mid new down) [ inl held ↦ inl (held_since g old mid new since held) | inr failed ↦ inr failed ]
+    held_or_failed : IsDown g mid.stored new.stored → IsHeldBack g old new ⊎ MoreFaults (state_of g mid.stored).faults
+        (state_of g new.stored).faults
+    held_or_failed down = elim (failed_or_held g mid new down) [ inl held ↦ inl (held_since g old mid new since held) | inr failed ↦ inr
+        failed ]
 
-    skipped_more : (halted : Bool) → IsOfBoard halted f → (f ≡ fault.StoreRefused → IsDown g mid.stored new.stored) → AreSkipped g old new (f ∷ fs)
-    skipped_more halted of why = skipped_by (by_fault halted (IsHeldBack g old new) (MoreFaults (state_of g mid.stored).faults (state_of g new.stored).faults) f of (λ e. held_or_failed (why e)))
+    skipped_more : (halted : Bool) → IsOfBoard halted f → (f ≡ fault.StoreRefused → IsDown g mid.stored new.stored) → AreSkipped g old new
+        (f ∷ fs)
+    skipped_more halted of why = skipped_by (by_fault halted (IsHeldBack g old new) (MoreFaults (state_of g mid.stored).faults
+        (state_of g new.stored).faults) f of (λ e. held_or_failed (why e)))
 
-  down_before : (old mid new : Keeping S) → Since (state_of g old.stored) (state_of g mid.stored) → IsDown g mid.stored new.stored → IsDown g old.stored new.stored
+  down_before : (old mid new : Keeping S) → Since (state_of g old.stored) (state_of g mid.stored) → IsDown g mid.stored new.stored
+      → IsDown g old.stored new.stored
   down_before old mid new since (inl shut) = inl shut
-  down_before old mid new since (inr hindered) = inr (hindering_after g (state_of g old.stored) (state_of g mid.stored) (state_of g new.stored) since hindered)
+  down_before old mid new since (inr hindered) = inr (hindering_after g (state_of g old.stored) (state_of g mid.stored)
+      (state_of g new.stored) since hindered)
 
   ---- One turn
 
   -- there is none for want of memory
   pub no_memory_board : (old new : Keeping S) (f : Fault) → f ≡ fault.NoMemory _ → HasNoBoard g old new f
-  no_memory_board old new f is = record { among = subst (λ x. IsOfBoard old.halted x) (sym is) tt; cause = λ fit e. absurd (let clash = sym is ∙ e in cc) }
+  no_memory_board old new f is = record { among = subst (λ x. IsOfBoard old.halted x) (sym is) tt; cause = λ fit e. absurd
+      (let clash = sym is ∙ e in cc) }
 
   -- why there is none the second time
-  none_again : (old mid new : Keeping S) (f : Fault) → IsStill g old mid → IsStill g mid new → HasNoBoard g mid new f → HasNoBoard g old new f
+  none_again : (old mid new : Keeping S) (f : Fault) → IsStill g old mid → IsStill g mid new → HasNoBoard g mid new f → HasNoBoard g old
+      new f
   none_again old mid new f first second why = record {
     among = subst (λ h. IsOfBoard h f) first.halted why.among;
     cause = λ fit e. (let before = second.follows.1 fit in down_before old mid new (first.stored.3 before.0 before.1) (why.cause fit e));
   }
 
   -- what came of it where nothing came of the first
-  pub turn_again : (tells : ℕ → Type 0) (old mid new : Keeping S) (was then posted : List Task) → IsStill g old mid → IsStill g mid new → then ≡ was → HasTurn g tells mid new then posted → HasTurn g tells old new was posted
-  turn_again tells old mid new was then posted first second same (inl one) = inl (subst (λ (ts : List Task). PostsOne g tells new ts posted) same one)
-  turn_again tells old mid new was then posted first second same (inr (none, (f, why))) = inr (none ∙ same, (f, none_again old mid new f first second why))
+  pub turn_again : (tells : ℕ → Type 0) (old mid new : Keeping S) (was then posted : List Task) → IsStill g old mid → IsStill g mid new
+      → then ≡ was → HasTurn g tells mid new then posted → HasTurn g tells old new was posted
+  turn_again tells old mid new was then posted first second same (inl one) = inl
+      (subst (λ (ts : List Task). PostsOne g tells new ts posted) same one)
+  turn_again tells old mid new was then posted first second same (inr (none, (f, why))) = inr
+      (none ∙ same, (f, none_again old mid new f first second why))
 
-  pub turn_skipped : (tells : ℕ → Type 0) (old new : Keeping S) (was then posted : List Task) → posted ≡ then → HasTurn g tells old new was then → HasTurn g tells old new was posted
+  pub turn_skipped : (tells : ℕ → Type 0) (old new : Keeping S) (was then posted : List Task) → posted ≡ then → HasTurn g tells old new
+      was then → HasTurn g tells old new was posted
   turn_skipped tells old new was then posted same turn = subst (λ (ts : List Task). HasTurn g tells old new was ts) (sym same) turn
 
   ---- Many
 
   pub no_turns : (tells : ℕ → Type 0) (old : Keeping S) (was : List Task) → HasTurns g tells old old was was 0
-  no_turns tells old was = record { boards = []; are = refl; skipped = []; all = omega arith; among = All-nil (IsOfBoard old.halted); counted = λ _. none_skipped old }
+  no_turns tells old was = record { boards = []; are = refl; skipped = []; all = omega arith; among = All-nil (IsOfBoard old.halted);
+      counted = λ _. none_skipped old }
 
   -- what is committed asks for none
-  pub turns_on : (tells : ℕ → Type 0) (old mid new : Keeping S) (was then posted : List Task) (n : ℕ) → IsLater g mid new → posted ≡ then → (IsFit g new → HasGoneOn g mid new) → HasTurns g tells old mid was then n → HasTurns g tells old new was posted n
+  pub turns_on : (tells : ℕ → Type 0) (old mid new : Keeping S) (was then posted : List Task) (n : ℕ) → IsLater g mid new → posted ≡ then
+      → (IsFit g new → HasGoneOn g mid new) → HasTurns g tells old mid was then n → HasTurns g tells old new was posted n
   turns_on tells old mid new was then posted n later same on t = record {
     boards = t.boards;
-    are = subst (λ (ts : List Task). ArePosted g tells new was ts t.boards) (sym same) (are_later g tells mid new was then t.boards later t.are);
+    are = subst (λ (ts : List Task). ArePosted g tells new was ts t.boards) (sym same)
+        (are_later g tells mid new was then t.boards later t.are);
     skipped = t.skipped;
     all = t.all;
     among = t.among;
-    counted = λ fit. skipped_still old mid new t.skipped (on fit).since.0 (shut_on (state_of g mid.stored).is_open (state_of g new.stored).is_open (on fit).up) (t.counted (later.fit fit));
+    counted = λ fit. skipped_still old mid new t.skipped (on fit).since.0 (shut_on (state_of g mid.stored).is_open
+        (state_of g new.stored).is_open (on fit).up) (t.counted (later.fit fit));
   }
 
   -- one more
-  module _ (tells : ℕ → Type 0) (old mid new : Keeping S) (was then posted : List Task) (n : ℕ) (t : HasTurns g tells old mid was then n) (halted : mid.halted ≡ old.halted) (still : IsStill g mid new) (since : IsFit g mid → Since (state_of g old.stored) (state_of g mid.stored)) where
+  module _ (tells : ℕ → Type 0) (old mid new : Keeping S) (was then posted : List Task) (n : ℕ) (t : HasTurns g tells old mid was then n)
+      (halted : mid.halted ≡ old.halted) (still : IsStill g mid new) (since : IsFit g mid → Since (state_of g old.stored)
+      (state_of g mid.stored)) where
     before : IsFit g new → IsFit g mid
     before fit = still.follows.1 fit
 
@@ -148,5 +176,6 @@ module _ {S : Type 0} (g : Ghosts S) where
           skipped = f ∷ t.skipped;
           all = omega (arith, count);
           among = All-cons (IsOfBoard old.halted) f t.skipped (subst (λ h. IsOfBoard h f) halted why.among) t.among;
-          counted = λ fit. skipped_more old mid new t.skipped f (since (before fit)) (still.stored.3 fit.0 fit.1).0 (shuts fit) (t.counted (before fit)) mid.halted why.among (why.cause fit);
+          counted = λ fit. skipped_more old mid new t.skipped f (since (before fit)) (still.stored.3 fit.0 fit.1).0 (shuts fit)
+              (t.counted (before fit)) mid.halted why.among (why.cause fit);
         }

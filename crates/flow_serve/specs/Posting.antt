@@ -55,7 +55,8 @@ HasTurn g tells old new was posted = PostsOne g tells new was posted ⊎ ((poste
 -- This stands behind each of these that is E80, but for so many.
 abbrev pub AreRefusedBut : Type 0 → ℕ → List Fault → Type 0
 AreRefusedBut why n [] = Unit {0}
-AreRefusedBut why n (f ∷ fs) = ((f ≡ fault.StoreRefused → why) × AreRefusedBut why n fs) ⊎ ((fewer : ℕ) × (n ≡ suc fewer) × AreRefusedBut why fewer fs)
+AreRefusedBut why n (f ∷ fs) = ((f ≡ fault.StoreRefused → why) × AreRefusedBut why n fs)
+    ⊎ ((fewer : ℕ) × (n ≡ suc fewer) × AreRefusedBut why fewer fs)
 
 -- So often there was no board for E80 at most as the store has counted failures, if nothing else holds it back.
 pub record AreSkipped {S : Type 0} (g : Ghosts S) (old new : Keeping S) (skipped : List Fault) : Type 0 where
@@ -64,7 +65,8 @@ pub record AreSkipped {S : Type 0} (g : Ghosts S) (old new : Keeping S) (skipped
   pub are : AreRefusedBut (IsHeldBack g old new) failures skipped
 
 -- A board was asked for so many times: these were posted one behind the other, and the others were skipped for these faults.
-pub record HasTurns {S : Type 0} (g : Ghosts S) (tells : ℕ → Type 0) (old new : Keeping S) (was posted : List Task) (turns : ℕ) : Type 0 where
+pub record HasTurns {S : Type 0} (g : Ghosts S) (tells : ℕ → Type 0) (old new : Keeping S) (was posted : List Task)
+    (turns : ℕ) : Type 0 where
   pub boards : List Boarded
   pub are : ArePosted g tells new was posted boards
   pub skipped : List Fault
