@@ -1,5 +1,5 @@
 -- How often batches are given up, from batch to batch.
-use Rattle.std.proofs.Common.{◌≡◌, ◌⊎◌, inl, inr, ℕ, suc, ◌+◌, ◌≤◌, ◌^◌, false, true, List, [], ◌∷◌, ◌++◌, length, Option, refl, sym, ap, ◌∙◌, subst, arith}
+use Rattle.std.proofs.Common.{◌≡◌, ◌⊎◌, inl, inr, ℕ, suc, ◌+◌, ◌≤◌, false, true, List, [], ◌∷◌, ◌++◌, length, Option, refl, sym, ◌∙◌, subst, arith}
 use Rattle.std.specs.Prelude.{IsSome}
 use Rattle.std.proofs.lemmas.Bool.{cases_Bool}
 use Rattle.sqlite_trees.specs.declared.store.Store.{Ghosts}
@@ -42,26 +42,36 @@ pub but_on : (P Q : Book → List Command → Type 0) → ((b : Book) (cs : List
     (bs : List (List Taken)) (ds : List Done) → AreGivenUpBut P n b bs ds → AreGivenUpBut Q n b bs ds
 but_on P Q on n b [] ds h = tt
 but_on P Q on n b (x ∷ bs) [] h = tt
-but_on P Q on n b (x ∷ bs) (d ∷ ds) (inl one) = inl (given_up_on P Q on b x d one.0, but_on P Q on n (after rules b (if_kept x d)) bs ds
-    one.1)
+but_on P Q on n b (x ∷ bs) (d ∷ ds) (inl one) = inl (
+  given_up_on P Q on b x d one.0,
+  but_on P Q on n (after rules b (if_kept x d)) bs ds
+      one.1,
+)
 but_on P Q on n b (x ∷ bs) (d ∷ ds) (inr one) = inr (one.0, one.1, but_on P Q on one.0 (after rules b (if_kept x d)) bs ds one.2)
 
 -- one batch more, behind which this stands
 pub but_caused : (P : Book → List Command → Type 0) (n : ℕ) (b : Book) (bs : List (List Taken)) (ds : List Done) (batch : List Taken)
     (d : Done) → length ds ≡ length bs
     → AreGivenUpBut P n b bs ds → IsGivenUpFor P (after rules b (kept_of bs ds)) batch d → AreGivenUpBut P n b (bs ++ batch ∷ [])
-        (ds ++ d ∷ [])
+    (ds ++ d ∷ [])
 but_caused P n b [] [] batch d long h one = inl (one, tt)
 but_caused P n b [] (y ∷ ds) batch d long h one = absurd (omega (arith, long))
 but_caused P n b (x ∷ bs) [] batch d long h one = absurd (omega (arith, long))
 but_caused P n b (x ∷ bs) (y ∷ ds) batch d long (inl h) one =
     let fewer : length ds ≡ length bs = omega (arith, long) in
-    inl (h.0, but_caused P n (after rules b (if_kept x y)) bs ds batch d fewer h.1
-        (subst (λ k. IsGivenUpFor P k batch d) (after_cut rules b (if_kept x y) (kept_of bs ds)) one))
+    inl (
+      h.0,
+      but_caused P n (after rules b (if_kept x y)) bs ds batch d fewer h.1
+          (subst (λ k. IsGivenUpFor P k batch d) (after_cut rules b (if_kept x y) (kept_of bs ds)) one),
+    )
 but_caused P n b (x ∷ bs) (y ∷ ds) batch d long (inr h) one =
     let fewer : length ds ≡ length bs = omega (arith, long) in
-    inr (h.0, h.1, but_caused P h.0 (after rules b (if_kept x y)) bs ds batch d fewer h.2
-        (subst (λ k. IsGivenUpFor P k batch d) (after_cut rules b (if_kept x y) (kept_of bs ds)) one))
+    inr (
+      h.0,
+      h.1,
+      but_caused P h.0 (after rules b (if_kept x y)) bs ds batch d fewer h.2
+          (subst (λ k. IsGivenUpFor P k batch d) (after_cut rules b (if_kept x y) (kept_of bs ds)) one),
+    )
 
 -- one more, behind which only a failure stands
 pub but_failed : (P : Book → List Command → Type 0) (n : ℕ) (b : Book) (bs : List (List Taken)) (ds : List Done) (batch : List Taken)
@@ -75,8 +85,12 @@ but_failed P n b (x ∷ bs) (y ∷ ds) batch d long (inl h) =
     inl (h.0, but_failed P n (after rules b (if_kept x y)) bs ds batch d fewer h.1)
 but_failed P n b (x ∷ bs) (y ∷ ds) batch d long (inr h) =
     let fewer : length ds ≡ length bs = omega (arith, long) in
-    inr (n, refl, subst (λ k. AreGivenUpBut P k (after rules b (if_kept x y)) (bs ++ batch ∷ []) (ds ++ d ∷ [])) (sym h.1)
-        (but_failed P h.0 (after rules b (if_kept x y)) bs ds batch d fewer h.2))
+    inr (
+      n,
+      refl,
+      subst (λ k. AreGivenUpBut P k (after rules b (if_kept x y)) (bs ++ batch ∷ []) (ds ++ d ∷ [])) (sym h.1)
+          (but_failed P h.0 (after rules b (if_kept x y)) bs ds batch d fewer h.2),
+    )
 
 ---- Causes
 
@@ -92,8 +106,11 @@ module _ {S : Type 0} (g : Ghosts S) where
       ⊎ MoreFaults (state_of g mid.stored).faults (state_of g new.stored).faults
   failed_or_other mid new b cs (inl many) = inl (inl many)
   failed_or_other mid new b cs (inr (inl cant)) = inl (inr (inl cant))
-  failed_or_other mid new b cs (inr (inr down)) = elim (failed_or_held mid new down) [ inl held ↦ inl (inr (inr held)) | inr more ↦ inr
-      more ]
+  failed_or_other mid new b cs (inr (inr down)) = elim (failed_or_held mid new down) [
+    | inl held ↦ inl (inr (inr held))
+    | inr more ↦ inr
+        more
+  ]
 
   one_or_other : (mid new : Keeping S) (b : Book) (batch : List Taken) (d : Done) → IsGivenUpFor (WasRefused g mid new) b batch d
       → IsGivenUpFor (HasOtherCause g mid new) b batch d ⊎ MoreFaults (state_of g mid.stored).faults (state_of g new.stored).faults
@@ -133,14 +150,18 @@ module _ {S : Type 0} (g : Ghosts S) where
   ---- From engine to engine
 
   pub none_counted : (old : Keeping S) (b : Book) (ds : List Done) → IsCounted g old old b [] ds
-  none_counted old b ds = record { failures = 0; counted = more_none (state_of g old.stored).faults (state_of g old.stored).faults
-      (omega arith); are = tt }
+  none_counted old b ds = record {
+    failures = 0;
+    counted = more_none (state_of g old.stored).faults (state_of g old.stored).faults
+        (omega arith);
+    are = tt;
+  }
 
   -- what was done since gave nothing up
   pub counted_still : (old mid new : Keeping S) (b : Book) (bs : List (List Taken)) (ds : List Done) → (state_of g mid.stored).faults ≤
       (state_of g new.stored).faults → mid.kept ≤ new.kept
       → ((state_of g mid.stored).is_open ≡ false → (state_of g new.stored).is_open ≡ false) → IsCounted g old mid b bs ds
-          → IsCounted g old new b bs ds
+      → IsCounted g old new b bs ds
   counted_still old mid new b bs ds le counts shuts was = record {
     failures = was.failures;
     counted = more_still was.failures (state_of g old.stored).faults (state_of g mid.stored).faults (state_of g new.stored).faults
@@ -151,7 +172,7 @@ module _ {S : Type 0} (g : Ghosts S) where
   module _ (old mid new : Keeping S) (b : Book) (bs : List (List Taken)) (ds : List Done) (batch : List Taken) (d : Done)
       (long : length ds ≡ length bs) (since : Since (state_of g old.stored) (state_of g mid.stored)) (on : HasGoneOn g mid new)
       (later : mid.halted ≡ true → d ≡ done.Halted) (same : mid.halted ≡ false → IsUp g mid → kept_book g mid ≡ after rules b
-          (kept_of bs ds)) (was : IsCounted g old mid b bs ds) where
+      (kept_of bs ds)) (was : IsCounted g old mid b bs ds) where
     abbrev book : Book
     book = after rules b (kept_of bs ds)
 
@@ -170,9 +191,9 @@ module _ {S : Type 0} (g : Ghosts S) where
         (state_of g new.stored).faults → IsCounted g old new b (bs ++ batch ∷ []) (ds ++ d ∷ [])
     by_cause (inl other) =
         let on_it = counted_still old mid new b bs ds on.since.0 on.counts (shut_on (state_of g mid.stored).is_open
-            (state_of g new.stored).is_open on.up) was in
+        (state_of g new.stored).is_open on.up) was in
         let since_old = given_up_on (HasOtherCause g mid new) (HasOtherCause g old new) (other_since old mid new since) (kept_book g mid)
-            batch d other in
+        batch d other in
         record {
           failures = on_it.failures;
           counted = on_it.counted;
@@ -185,8 +206,8 @@ module _ {S : Type 0} (g : Ghosts S) where
           was.counted failed;
       are = but_failed (HasOtherCause g old new) was.failures b bs ds batch d long
           (but_on (HasOtherCause g old mid) (HasOtherCause g old new)
-              (other_still old mid new on.counts (shut_on (state_of g mid.stored).is_open (state_of g new.stored).is_open on.up))
-              was.failures b bs ds was.are);
+          (other_still old mid new on.counts (shut_on (state_of g mid.stored).is_open (state_of g new.stored).is_open on.up))
+          was.failures b bs ds was.are);
     }
 
     -- one batch more

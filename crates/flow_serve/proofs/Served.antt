@@ -1,5 +1,5 @@
 -- What serving has done, from batch to batch and over the boards in between.
-use Rattle.std.proofs.Common.{◌≡◌, inl, inr, ℕ, suc, ◌+◌, ◌≤◌, true, false, List, [], ◌∷◌, ◌++◌, length, map, refl, sym, ap, ◌∙◌, subst, arith, append-nil, append_assoc, length-append}
+use Rattle.std.proofs.Common.{◌≡◌, inl, inr, ℕ, suc, ◌+◌, true, false, List, [], ◌∷◌, ◌++◌, length, map, refl, sym, ap, ◌∙◌, subst, arith, append-nil, append_assoc, length-append}
 use Rattle.std.specs.Prelude.{All}
 use Rattle.std.proofs.lemmas.Bool.{cases_Bool}
 use Rattle.std.proofs.lemmas.List.Elements.{All-nil, All-cons, All-append}
@@ -114,7 +114,8 @@ module _ {S : Type 0} (g : Ghosts S) (old mid new : Keeping S) where
       given = λ h. all_given_up_on (WasRefused g old mid) (WasRefused g old new) (λ k cs w. refused_on still h k cs w) (kept_book g old) served.batches served.dones (served.given (still.follows.1 h));
       counted = λ h. (let kept : new.kept ≡ mid.kept = still.kept in
           counted_still g old mid new (kept_book g old) served.batches served.dones (still.stored.3 h.0 h.1).0 (omega (arith, kept))
-          (shut_on (state_of g mid.stored).is_open (state_of g new.stored).is_open (up_before g mid.stored new.stored still.stored h)) (served.counted (still.follows.1 h)));
+          (shut_on (state_of g mid.stored).is_open (state_of g new.stored).is_open (up_before g mid.stored new.stored still.stored h))
+          (served.counted (still.follows.1 h)));
       log = still.log ∙ served.log;
       codes = same ∙ served.codes;
     }
@@ -122,7 +123,8 @@ module _ {S : Type 0} (g : Ghosts S) (old mid new : Keeping S) where
     -- a board in between changes nothing of it
     pub served_still : IsStill g mid new → now ≡ told → Served g old new was now n
     served_still still same = elim (cases_Bool mid.halted) [
-      | inl stopped ↦ subst (λ k. Served g old k was now n) (sym (still.nothing stopped)) (subst (λ l. Served g old mid was l n) (sym same) served)
+      | inl stopped ↦ subst (λ k. Served g old k was now n) (sym (still.nothing stopped))
+          (subst (λ l. Served g old mid was l n) (sym same) served)
       | inr goes ↦ goes_still still same goes
     ]
 
@@ -134,7 +136,8 @@ module _ {S : Type 0} (g : Ghosts S) (old mid new : Keeping S) where
         let before : old.halted ≡ true → mid.halted ≡ true = λ h. ap (λ (k : Keeping S). k.halted) (served.halted h) ∙ h in
         record {
           batches = bs ++ batch ∷ [];
-          many = (let long : length (bs ++ batch ∷ []) ≡ length bs + 1 = length-append bs (batch ∷ []) in let before : length bs ≡ n = served.many in omega (arith, long, before));
+          many = (let long : length (bs ++ batch ∷ []) ≡ length bs + 1 = length-append bs (batch ∷ []) in let before : length bs ≡ n =
+              served.many in omega (arith, long, before));
           dones = ds ++ one.ended ∷ [];
           sizes = All-append IsBatch bs (batch ∷ []) served.sizes (All-cons IsBatch batch [] size (All-nil IsBatch));
           fit = λ h. served.fit (one.fit h);
@@ -148,8 +151,10 @@ module _ {S : Type 0} (g : Ghosts S) (old mid new : Keeping S) where
           since = λ h. since_then (state_of g old.stored) (state_of g mid.stored) (state_of g new.stored) (served.since (one.fit h)) (one.on h).since;
           given = λ h. given_up_then g old mid new (kept_book g old) bs ds batch one.ended served.count (λ k cs w. refused_after (served.since (one.fit h)) k cs w) (one.on h) one.later
               (book_left g old mid bs ds served.halted served.noted (served.up (one.fit h)) (served.own (one.fit h)) (served.stands (one.fit h))) (served.given (one.fit h)) (one.why h);
-          counted = λ h. counted_then g old mid new (kept_book g old) bs ds batch one.ended served.count (served.since (one.fit h)) (one.on h) one.later
-              (book_left g old mid bs ds served.halted served.noted (served.up (one.fit h)) (served.own (one.fit h)) (served.stands (one.fit h))) (served.counted (one.fit h)) (one.why h);
+          counted = λ h. counted_then g old mid new (kept_book g old) bs ds batch one.ended served.count (served.since (one.fit h))
+              (one.on h) one.later
+              (book_left g old mid bs ds served.halted served.noted (served.up (one.fit h)) (served.own (one.fit h))
+              (served.stands (one.fit h))) (served.counted (one.fit h)) (one.why h);
           log = one.log ∙ ap (λ l. l ++ receipts_in batch one.ended) served.log ∙ append_assoc old.log (receipts_told bs ds) (receipts_in batch one.ended)
               ∙ ap (λ l. old.log ++ l) (sym (gathered_more receipts_in bs ds batch one.ended (sym served.count)));
           codes = one.codes ∙ ap (λ l. l ++ codes_in batch one.ended) served.codes ∙ append_assoc was (codes_told bs ds) (codes_in batch one.ended)
@@ -195,54 +200,63 @@ module _ {S : Type 0} (g : Ghosts S) (old now : Keeping S) (was told : List Refu
 
 -- nothing was taken, and all was turned away
 pub unserved : {S : Type 0} (g : Ghosts S) (old : Keeping S) (was last : List Refused) (waiting : List Taken) → TurnsAway was last waiting → HasServed g old old was last waiting
-unserved g old was last waiting turns = served_behind g old old was was last waiting (has_served g old old was was 0 (none_served g old was)) turns
+unserved g old was last waiting turns = served_behind g old old was was last waiting
+    (has_served g old old was was 0 (none_served g old was)) turns
 
 ---- Boards
 
 -- The batches so far, and the boards that were asked for: one more.
-pub record Turned {S : Type 0} (g : Ghosts S) (tells : ℕ → Type 0) (old now : Keeping S) (was told : List Refused) (first posted : List Task) : Type 0 where
+pub record Turned {S : Type 0} (g : Ghosts S) (tells : ℕ → Type 0) (old now : Keeping S) (was told : List Refused)
+    (first posted : List Task) : Type 0 where
   pub count : ℕ
   pub served : Served g old now was told count
   pub turns : HasTurns g tells old now first posted (suc count)
 
 module _ {S : Type 0} (g : Ghosts S) (tells : ℕ → Type 0) (old : Keeping S) (was : List Refused) (first : List Task) where
   -- the first board
-  pub boarded_first : (new : Keeping S) (told : List Refused) (posted : List Task) → IsStill g old new → told ≡ was → HasTurn g tells old new first posted → Turned g tells old new was told first posted
+  pub boarded_first : (new : Keeping S) (told : List Refused) (posted : List Task) → IsStill g old new → told ≡ was → HasTurn g tells old
+      new first posted → Turned g tells old new was told first posted
   boarded_first new told posted still same turn = record {
     count = 0;
     served = served_still g old old new was was told 0 (none_served g old was) still same;
-    turns = turns_more g tells old old new first first posted 0 (no_turns g tells old first) refl still (λ _. since_self (state_of g old.stored)) turn;
+    turns = turns_more g tells old old new first first posted 0 (no_turns g tells old first) refl still
+        (λ _. since_self (state_of g old.stored)) turn;
   }
 
-  module _ (mid kept new : Keeping S) (then told now : List Refused) (posted : List Task) (batch : List Taken) (size : IsBatch batch) (b : Turned g tells old mid was then first posted) (one : HasAnswered g mid kept then told batch) (found : kept.found ≡ mid.found) where
-    behind : Served g old kept was told (suc b.count)
-    behind = served_more g old mid kept was then told b.count b.served batch size one
+  module _ (mid kept new : Keeping S) (then told now : List Refused) (posted : List Task) (batch : List Taken) (size : IsBatch batch)
+      (b : Turned g tells old mid was then first posted) (one : HasAnswered g mid kept then told batch) (found : kept.found ≡ mid.found)
+    where
+      behind : Served g old kept was told (suc b.count)
+      behind = served_more g old mid kept was then told b.count b.served batch size one
 
-    committed : (posted' : List Task) → posted' ≡ posted → HasTurns g tells old kept first posted' (suc b.count)
-    committed posted' same = turns_on g tells old mid kept first posted posted' (suc b.count) (answered_later g mid kept then told batch one found) same one.on b.turns
+      committed : (posted' : List Task) → posted' ≡ posted → HasTurns g tells old kept first posted' (suc b.count)
+      committed posted' same = turns_on g tells old mid kept first posted posted' (suc b.count)
+          (answered_later g mid kept then told batch one found) same one.on b.turns
 
-    -- one batch more, and a board behind it
-    pub boarded_more : (posted' after' : List Task) → posted' ≡ posted → kept.halted ≡ old.halted → IsStill g kept new → now ≡ told → HasTurn g tells kept new posted' after' → Turned g tells old new was now first after'
-    boarded_more posted' after' same halted still told_on turn = record {
-      count = suc b.count;
-      served = served_still g old kept new was told now (suc b.count) behind still told_on;
-      turns = turns_more g tells old kept new first posted' after' (suc b.count) (committed posted' same) halted still behind.since turn;
-    }
+      -- one batch more, and a board behind it
+      pub boarded_more : (posted' after' : List Task) → posted' ≡ posted → kept.halted ≡ old.halted → IsStill g kept new → now ≡ told
+          → HasTurn g tells kept new posted' after' → Turned g tells old new was now first after'
+      boarded_more posted' after' same halted still told_on turn = record {
+        count = suc b.count;
+        served = served_still g old kept new was told now (suc b.count) behind still told_on;
+        turns = turns_more g tells old kept new first posted' after' (suc b.count) (committed posted' same) halted still behind.since turn;
+      }
 
-    -- one batch more, and nothing behind it
-    pub boarded_last : (posted' : List Task) → posted' ≡ posted → ServesBoarded g tells old kept was told [] first posted' 0
-    unfolding has_served behind
-    boarded_last posted' same =
-        let served = behind in
-        let many : length served.batches ≡ suc b.count = served.many in
-        let count : suc b.count ≡ 0 + length served.batches = omega (arith, many) in
-        record {
-          served = has_served g old kept was told (suc b.count) served;
-          turns = subst (λ (n : ℕ). HasTurns g tells old kept first posted' n) count (committed posted' same);
-        }
+      -- one batch more, and nothing behind it
+      pub boarded_last : (posted' : List Task) → posted' ≡ posted → ServesBoarded g tells old kept was told [] first posted' 0
+      unfolding has_served behind
+      boarded_last posted' same =
+          let served = behind in
+          let many : length served.batches ≡ suc b.count = served.many in
+          let count : suc b.count ≡ 0 + length served.batches = omega (arith, many) in
+          record {
+            served = has_served g old kept was told (suc b.count) served;
+            turns = subst (λ (n : ℕ). HasTurns g tells old kept first posted' n) count (committed posted' same);
+          }
 
   -- the hub is closed, and nothing more is taken
-  pub boarded_done : (mid : Keeping S) (then told : List Refused) (posted posted' : List Task) → told ≡ then → posted' ≡ posted → Turned g tells old mid was then first posted → ServesBoarded g tells old mid was told [] first posted' 1
+  pub boarded_done : (mid : Keeping S) (then told : List Refused) (posted posted' : List Task) → told ≡ then → posted' ≡ posted
+      → Turned g tells old mid was then first posted → ServesBoarded g tells old mid was told [] first posted' 1
   unfolding has_served
   boarded_done mid then told posted posted' same none b =
       let served = subst (λ (rs : List Refused). Served g old mid was rs b.count) (sym same) b.served in
@@ -255,7 +269,9 @@ module _ {S : Type 0} (g : Ghosts S) (tells : ℕ → Type 0) (old : Keeping S) 
       }
 
   -- and what waited was turned away, behind which there is no board
-  pub boarded_behind : (now : Keeping S) (told last : List Refused) (posted posted' : List Task) (waiting : List Taken) → TurnsAway told last waiting → posted' ≡ posted → ServesBoarded g tells old now was told [] first posted 0 → ServesBoarded g tells old now was last waiting first posted' 0
+  pub boarded_behind : (now : Keeping S) (told last : List Refused) (posted posted' : List Task) (waiting : List Taken) → TurnsAway told
+      last waiting → posted' ≡ posted → ServesBoarded g tells old now was told [] first posted 0 → ServesBoarded g tells old now was last
+      waiting first posted' 0
   unfolding served_behind
   boarded_behind now told last posted posted' waiting turns same b = record {
     served = served_behind g old now was told last waiting b.served turns;
@@ -263,7 +279,8 @@ module _ {S : Type 0} (g : Ghosts S) (tells : ℕ → Type 0) (old : Keeping S) 
   }
 
   -- nothing was taken
-  pub unboarded : (last : List Refused) (posted : List Task) (waiting : List Taken) → TurnsAway was last waiting → posted ≡ first → ServesBoarded g tells old old was last waiting first posted 0
+  pub unboarded : (last : List Refused) (posted : List Task) (waiting : List Taken) → TurnsAway was last waiting → posted ≡ first
+      → ServesBoarded g tells old old was last waiting first posted 0
   unfolding unserved served_behind has_served none_served
   unboarded last posted waiting turns same = record {
     served = unserved g old was last waiting turns;

@@ -1,24 +1,23 @@
 -- Boards that were asked for, from turn to turn.
 use Rattle.std.proofs.Common.{◌≡◌, ◌⊎◌, inl, inr, ℕ, suc, ◌+◌, ◌≤◌, true, false, List, [], ◌∷◌, ◌++◌, length, refl, sym, ◌∙◌, subst, arith, true≢false, length-append}
-use Rattle.std.specs.Prelude.{All, Bool, MatchResult, Result, Ok, Err, is_ok}
+use Rattle.std.specs.Prelude.{Bool, MatchResult, Result, Ok, Err, is_ok}
 use Rattle.std.proofs.lemmas.List.Elements.{All-nil, All-cons}
 use Rattle.sqlite_trees.specs.declared.store.Store.{Ghosts}
-use Rattle.sqlite_disk.specs.Disk.{MoreFaults}
 use Rattle.flow_base.specs.declared.fault.Fault.{Fault}
 use Rattle.flow_base.specs.declared.fault.Fault.TheVariants as fault
 use Rattle.flow_machine.specs.declared.task.Task.{Task}
 use Rattle.flow_tables.specs.Faults.{Since}
 use Rattle.flow_tables.specs.Owned.{state_of}
 use Rattle.flow_tables.proofs.Stopping.{hindering_after}
-use Rattle.flow_commit.specs.Boards.{Boarded, IsOfBoard}
+use Rattle.flow_commit.specs.Boards.{IsOfBoard}
 use Rattle.flow_commit.specs.Committing.{HasGoneOn, IsDown}
 use Rattle.flow_commit.specs.Keeping.{Keeping, IsFit}
 use Rattle.flow_commit.proofs.Following.{up_before}
 use Rattle.flow_commit.proofs.Sealing.{shut_on}
-use Rattle.flow_engine.specs.Counting.{IsHeldBack}
+use Rattle.flow_engine.specs.Counting.{IsHeldBack, IsMoreBy}
 use Rattle.flow_engine.proofs.Counting.{failed_or_held, held_since, held_still, more_none, more_one, more_still}
 use Rattle.flow_serve.specs.Boarding.{IsStill}
-use Rattle.flow_serve.specs.Posting.{AreRefusedBut, AreSkipped, ArePosted, HasNoBoard, HasTurn, HasTurns, PostsOne, WasBoard}
+use Rattle.flow_serve.specs.Posting.{AreRefusedBut, AreSkipped, ArePosted, HasNoBoard, HasTurn, HasTurns, PostsOne}
 use Rattle.flow_serve.proofs.Posted.{IsLater, are_joined, are_later, still_later}
 
 ---- Why there was none
@@ -50,12 +49,16 @@ refused_first A B C (Err f) e h = h.0
 
 module _ {S : Type 0} (g : Ghosts S) where
   none_skipped : (old : Keeping S) → AreSkipped g old old []
-  none_skipped old = record { failures = 0; counted = more_none (state_of g old.stored).faults (state_of g old.stored).faults
-      (omega arith); are = tt }
+  none_skipped old = record {
+    failures = 0;
+    counted = more_none (state_of g old.stored).faults (state_of g old.stored).faults
+        (omega arith);
+    are = tt;
+  }
 
   skipped_still : (old mid new : Keeping S) (fs : List Fault) → (state_of g mid.stored).faults ≤ (state_of g new.stored).faults
       → ((state_of g mid.stored).is_open ≡ false → (state_of g new.stored).is_open ≡ false) → AreSkipped g old mid fs → AreSkipped g old
-          new fs
+      new fs
   skipped_still old mid new fs le shuts was = record {
     failures = was.failures;
     counted = more_still was.failures (state_of g old.stored).faults (state_of g mid.stored).faults (state_of g new.stored).faults
@@ -67,7 +70,7 @@ module _ {S : Type 0} (g : Ghosts S) where
   module _ (old mid new : Keeping S) (fs : List Fault) (f : Fault) (since : Since (state_of g old.stored) (state_of g mid.stored))
       (le : (state_of g mid.stored).faults ≤ (state_of g new.stored).faults)
       (shuts : (state_of g mid.stored).is_open ≡ false → (state_of g new.stored).is_open ≡ false) (was : AreSkipped g old mid fs) where
-    skipped_by : (f ≡ fault.StoreRefused → IsHeldBack g old new) ⊎ MoreFaults (state_of g mid.stored).faults
+    skipped_by : (f ≡ fault.StoreRefused → IsHeldBack g old new) ⊎ IsMoreBy 1 (state_of g mid.stored).faults
         (state_of g new.stored).faults → AreSkipped g old new (f ∷ fs)
     skipped_by (inl held) =
         let still = skipped_still old mid new fs le shuts was in
@@ -76,18 +79,25 @@ module _ {S : Type 0} (g : Ghosts S) where
       failures = suc was.failures;
       counted = more_one was.failures (state_of g old.stored).faults (state_of g mid.stored).faults (state_of g new.stored).faults
           was.counted failed;
-      are = inr (was.failures, refl, refused_on (IsHeldBack g old mid) (IsHeldBack g old new) (held_still g old mid new shuts)
-          was.failures fs was.are);
+      are = inr (
+        was.failures,
+        refl,
+        refused_on (IsHeldBack g old mid) (IsHeldBack g old new) (held_still g old mid new shuts)
+            was.failures fs was.are,
+      );
     }
 
-    held_or_failed : IsDown g mid.stored new.stored → IsHeldBack g old new ⊎ MoreFaults (state_of g mid.stored).faults
+    held_or_failed : IsDown g mid.stored new.stored → IsHeldBack g old new ⊎ IsMoreBy 1 (state_of g mid.stored).faults
         (state_of g new.stored).faults
-    held_or_failed down = elim (failed_or_held g mid new down) [ inl held ↦ inl (held_since g old mid new since held) | inr failed ↦ inr
-        failed ]
+    held_or_failed down = elim (failed_or_held g mid new down) [
+      | inl held ↦ inl (held_since g old mid new since held)
+      | inr failed ↦ inr
+          failed
+    ]
 
     skipped_more : (halted : Bool) → IsOfBoard halted f → (f ≡ fault.StoreRefused → IsDown g mid.stored new.stored) → AreSkipped g old new
         (f ∷ fs)
-    skipped_more halted of why = skipped_by (by_fault halted (IsHeldBack g old new) (MoreFaults (state_of g mid.stored).faults
+    skipped_more halted of why = skipped_by (by_fault halted (IsHeldBack g old new) (IsMoreBy 1 (state_of g mid.stored).faults
         (state_of g new.stored).faults) f of (λ e. held_or_failed (why e)))
 
   down_before : (old mid new : Keeping S) → Since (state_of g old.stored) (state_of g mid.stored) → IsDown g mid.stored new.stored
@@ -100,8 +110,11 @@ module _ {S : Type 0} (g : Ghosts S) where
 
   -- there is none for want of memory
   pub no_memory_board : (old new : Keeping S) (f : Fault) → f ≡ fault.NoMemory _ → HasNoBoard g old new f
-  no_memory_board old new f is = record { among = subst (λ x. IsOfBoard old.halted x) (sym is) tt; cause = λ fit e. absurd
-      (let clash = sym is ∙ e in cc) }
+  no_memory_board old new f is = record {
+    among = subst (λ x. IsOfBoard old.halted x) (sym is) tt;
+    cause = λ fit e. absurd
+        (let clash = sym is ∙ e in cc);
+  }
 
   -- why there is none the second time
   none_again : (old mid new : Keeping S) (f : Fault) → IsStill g old mid → IsStill g mid new → HasNoBoard g mid new f → HasNoBoard g old
@@ -126,8 +139,14 @@ module _ {S : Type 0} (g : Ghosts S) where
   ---- Many
 
   pub no_turns : (tells : ℕ → Type 0) (old : Keeping S) (was : List Task) → HasTurns g tells old old was was 0
-  no_turns tells old was = record { boards = []; are = refl; skipped = []; all = omega arith; among = All-nil (IsOfBoard old.halted);
-      counted = λ _. none_skipped old }
+  no_turns tells old was = record {
+    boards = [];
+    are = refl;
+    skipped = [];
+    all = omega arith;
+    among = All-nil (IsOfBoard old.halted);
+    counted = λ _. none_skipped old;
+  }
 
   -- what is committed asks for none
   pub turns_on : (tells : ℕ → Type 0) (old mid new : Keeping S) (was then posted : List Task) (n : ℕ) → IsLater g mid new → posted ≡ then

@@ -43,7 +43,8 @@ pub record PostsOne {S : Type 0} (g : Ghosts S) (tells : ℕ → Type 0) (now : 
   pub made : WasBoard g tells now was board
   pub is : posted ≡ was ++ new_ones was board.tasks
 
--- Why there is no board: E01; E80, where the connection is shut or the store hindered something in between; E85, where the engine had halted.
+-- Why there is no board: E01; E80, where the connection is shut or the store hindered something in between; E85, where the engine had
+-- halted.
 pub record HasNoBoard {S : Type 0} (g : Ghosts S) (old new : Keeping S) (f : Fault) : Type 0 where
   pub among : IsOfBoard old.halted f
   pub cause : IsFit g new → f ≡ fault.StoreRefused → IsDown g old.stored new.stored

@@ -160,8 +160,10 @@ fn serve_all<S: Alter, B: Room, R: Wait, C: Clock>(
     ensures served { HasServed S.Store engine.old engine.new publisher.old.refused publisher.new.refused [] }
     // A board was asked for before each batch, and behind the last one that doesn't halt the engine.
     ensures boards { MatchResult result
-        (λ _. ServesBoarded S.Store (C.tells clock.now) engine.old engine.new publisher.old.refused publisher.new.refused [] publisher.old.posted publisher.new.posted 1)
-        (λ _. ServesBoarded S.Store (C.tells clock.now) engine.old engine.new publisher.old.refused publisher.new.refused [] publisher.old.posted publisher.new.posted 0) }
+        (λ _. ServesBoarded S.Store (C.tells clock.now) engine.old engine.new
+        publisher.old.refused publisher.new.refused [] publisher.old.posted publisher.new.posted 1)
+        (λ _. ServesBoarded S.Store (C.tells clock.now) engine.old engine.new
+        publisher.old.refused publisher.new.refused [] publisher.old.posted publisher.new.posted 0) }
     ensures posts { Posts S.Store (C.tells clock.now) engine.new publisher.old.posted publisher.new.posted }
     ensures found { engine.new.found ≡ engine.old.found }
     ensures follows { Follows S.Store engine.old engine.new }
@@ -248,8 +250,10 @@ pub fn serve<S: Alter, B: Room, R: Wait, C: Clock>(
     // A board was asked for before each batch, and behind the last one that doesn't halt the engine: it was posted, or there was none for
     // E01, E85 of an engine that had halted, or E80, and that for no more times than the store has failed, if nothing else holds it back.
     ensures boards { MatchResult result
-        (λ _. ServesBoarded S.Store (C.tells clock.now) engine.old engine.new publisher.old.refused publisher.new.refused [] publisher.old.posted publisher.new.posted 1)
-        (λ _. (waiting : List ATaken) × ServesBoarded S.Store (C.tells clock.now) engine.old engine.new publisher.old.refused publisher.new.refused waiting publisher.old.posted publisher.new.posted 0) }
+        (λ _. ServesBoarded S.Store (C.tells clock.now) engine.old engine.new
+        publisher.old.refused publisher.new.refused [] publisher.old.posted publisher.new.posted 1)
+        (λ _. (waiting : List ATaken) × ServesBoarded S.Store (C.tells clock.now) engine.old engine.new
+        publisher.old.refused publisher.new.refused waiting publisher.old.posted publisher.new.posted 0) }
     // All that is posted is what boards of the kept book name, each made behind a beginning of what is kept, at a moment of the clock.
     ensures posts { Posts S.Store (C.tells clock.now) engine.new publisher.old.posted publisher.new.posted }
     ensures found { engine.new.found ≡ engine.old.found }

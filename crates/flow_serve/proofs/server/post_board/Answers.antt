@@ -46,11 +46,18 @@ returns-then-is_ok-clause-turn g c = turn_of c.try_board.result c.try_board.ensu
 -- or the second, or there is none for what was told of it
 pub returns-in_default-clause-turn : goal.returns-in_default-clause-turn
 returns-in_default-clause-turn g c =
-    turn_again g.S.Store (g.C.Clock.tells c.args.clock.now) c.args.engine.now c.try_board.new.engine c.try_board-2.new.engine c.args.publisher.now.posted c.try_board.new.publisher.posted c.try_board-2.new.publisher.posted
-    c.try_board.ensures.still c.try_board-2.ensures.still (refused_first _ _ _ c.try_board.result (sym c.is_ok.ensures.value ∙ c.if-is_ok.false) c.try_board.ensures.tried) (turn_of c.try_board-2.result c.try_board-2.ensures.tried)
+    turn_again g.S.Store (g.C.Clock.tells c.args.clock.now) c.args.engine.now c.try_board.new.engine c.try_board-2.new.engine
+    c.args.publisher.now.posted c.try_board.new.publisher.posted c.try_board-2.new.publisher.posted
+    c.try_board.ensures.still c.try_board-2.ensures.still
+    (refused_first _ _ _ c.try_board.result (sym c.is_ok.ensures.value ∙ c.if-is_ok.false) c.try_board.ensures.tried)
+    (turn_of c.try_board-2.result c.try_board-2.ensures.tried)
 
 pub returns-in-Err-clause-turn : goal.returns-in-Err-clause-turn
 returns-in-Err-clause-turn g c =
-    turn_skipped g.S.Store (g.C.Clock.tells c.args.clock.now) c.args.engine.now c.try_board-2.new.engine c.args.publisher.now.posted c.try_board-2.new.publisher.posted c.skip.new.self.posted c.skip.ensures.skipped.posted
-    (turn_again g.S.Store (g.C.Clock.tells c.args.clock.now) c.args.engine.now c.try_board.new.engine c.try_board-2.new.engine c.args.publisher.now.posted c.try_board.new.publisher.posted c.try_board-2.new.publisher.posted
-    c.try_board.ensures.still c.try_board-2.ensures.still (refused_first _ _ _ c.try_board.result (sym c.is_ok.ensures.value ∙ c.if-is_ok.false) c.try_board.ensures.tried) (turn_of c.try_board-2.result c.try_board-2.ensures.tried))
+    turn_skipped g.S.Store (g.C.Clock.tells c.args.clock.now) c.args.engine.now c.try_board-2.new.engine c.args.publisher.now.posted
+    c.try_board-2.new.publisher.posted c.skip.new.self.posted c.skip.ensures.skipped.posted
+    (turn_again g.S.Store (g.C.Clock.tells c.args.clock.now) c.args.engine.now c.try_board.new.engine c.try_board-2.new.engine
+    c.args.publisher.now.posted c.try_board.new.publisher.posted c.try_board-2.new.publisher.posted
+    c.try_board.ensures.still c.try_board-2.ensures.still
+    (refused_first _ _ _ c.try_board.result (sym c.is_ok.ensures.value ∙ c.if-is_ok.false) c.try_board.ensures.tried)
+    (turn_of c.try_board-2.result c.try_board-2.ensures.tried))

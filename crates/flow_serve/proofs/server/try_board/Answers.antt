@@ -74,7 +74,8 @@ returns-in-Ok-post-clause-tried g c =
     let it = c.in-Ok.board in
     record {
       board = it;
-      made = board_was g.S.Store tells c.args.engine.now c.board.new.self c.args.publisher.now.posted c.posted.result.now c.now.result it c.now.ensures c.board.ensures.same.3 c.board.ensures.same.2
+      made = board_was g.S.Store tells c.args.engine.now c.board.new.self c.args.publisher.now.posted c.posted.result.now c.now.result it
+          c.now.ensures c.board.ensures.same.3 c.board.ensures.same.2
           b.counted b.names.1 c.posted.ensures b.behind;
       is = c.in-Ok-post.ensures.posted.posted;
     }
