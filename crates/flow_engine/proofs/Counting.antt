@@ -1,5 +1,5 @@
 -- How often batches are given up, from batch to batch.
-use Rattle.std.proofs.Common.{◌≡◌, ◌⊎◌, inl, inr, ℕ, suc, ◌+◌, ◌≤◌, ◌^◌, false, true, List, [], ◌∷◌, ◌++◌, length, Option, refl, sym, ap, ◌∙◌, subst, arith}
+use Rattle.std.proofs.Common.{◌≡◌, ◌⊎◌, inl, inr, ℕ, suc, ◌+◌, ◌≤◌, false, true, List, [], ◌∷◌, ◌++◌, length, Option, refl, sym, ◌∙◌, subst, arith}
 use Rattle.std.specs.Prelude.{IsSome}
 use Rattle.std.proofs.lemmas.Bool.{cases_Bool}
 use Rattle.sqlite_trees.specs.declared.store.Store.{Ghosts}
@@ -38,27 +38,44 @@ more_one n a b c more one = omega (arith, more, one)
 
 ---- Batches
 
-pub but_on : (P Q : Book → List Command → Type 0) → ((b : Book) (cs : List Command) → P b cs → Q b cs) → (n : ℕ) (b : Book) (bs : List (List Taken)) (ds : List Done) → AreGivenUpBut P n b bs ds → AreGivenUpBut Q n b bs ds
+pub but_on : (P Q : Book → List Command → Type 0) → ((b : Book) (cs : List Command) → P b cs → Q b cs) → (n : ℕ) (b : Book)
+    (bs : List (List Taken)) (ds : List Done) → AreGivenUpBut P n b bs ds → AreGivenUpBut Q n b bs ds
 but_on P Q on n b [] ds h = tt
 but_on P Q on n b (x ∷ bs) [] h = tt
-but_on P Q on n b (x ∷ bs) (d ∷ ds) (inl one) = inl (given_up_on P Q on b x d one.0, but_on P Q on n (after rules b (if_kept x d)) bs ds one.1)
+but_on P Q on n b (x ∷ bs) (d ∷ ds) (inl one) = inl (
+  given_up_on P Q on b x d one.0,
+  but_on P Q on n (after rules b (if_kept x d)) bs ds
+      one.1,
+)
 but_on P Q on n b (x ∷ bs) (d ∷ ds) (inr one) = inr (one.0, one.1, but_on P Q on one.0 (after rules b (if_kept x d)) bs ds one.2)
 
 -- one batch more, behind which this stands
-pub but_caused : (P : Book → List Command → Type 0) (n : ℕ) (b : Book) (bs : List (List Taken)) (ds : List Done) (batch : List Taken) (d : Done) → length ds ≡ length bs
-    → AreGivenUpBut P n b bs ds → IsGivenUpFor P (after rules b (kept_of bs ds)) batch d → AreGivenUpBut P n b (bs ++ batch ∷ []) (ds ++ d ∷ [])
+pub but_caused : (P : Book → List Command → Type 0) (n : ℕ) (b : Book) (bs : List (List Taken)) (ds : List Done) (batch : List Taken)
+    (d : Done) → length ds ≡ length bs
+    → AreGivenUpBut P n b bs ds → IsGivenUpFor P (after rules b (kept_of bs ds)) batch d → AreGivenUpBut P n b (bs ++ batch ∷ [])
+    (ds ++ d ∷ [])
 but_caused P n b [] [] batch d long h one = inl (one, tt)
 but_caused P n b [] (y ∷ ds) batch d long h one = absurd (omega (arith, long))
 but_caused P n b (x ∷ bs) [] batch d long h one = absurd (omega (arith, long))
 but_caused P n b (x ∷ bs) (y ∷ ds) batch d long (inl h) one =
     let fewer : length ds ≡ length bs = omega (arith, long) in
-    inl (h.0, but_caused P n (after rules b (if_kept x y)) bs ds batch d fewer h.1 (subst (λ k. IsGivenUpFor P k batch d) (after_cut rules b (if_kept x y) (kept_of bs ds)) one))
+    inl (
+      h.0,
+      but_caused P n (after rules b (if_kept x y)) bs ds batch d fewer h.1
+          (subst (λ k. IsGivenUpFor P k batch d) (after_cut rules b (if_kept x y) (kept_of bs ds)) one),
+    )
 but_caused P n b (x ∷ bs) (y ∷ ds) batch d long (inr h) one =
     let fewer : length ds ≡ length bs = omega (arith, long) in
-    inr (h.0, h.1, but_caused P h.0 (after rules b (if_kept x y)) bs ds batch d fewer h.2 (subst (λ k. IsGivenUpFor P k batch d) (after_cut rules b (if_kept x y) (kept_of bs ds)) one))
+    inr (
+      h.0,
+      h.1,
+      but_caused P h.0 (after rules b (if_kept x y)) bs ds batch d fewer h.2
+          (subst (λ k. IsGivenUpFor P k batch d) (after_cut rules b (if_kept x y) (kept_of bs ds)) one),
+    )
 
 -- one more, behind which only a failure stands
-pub but_failed : (P : Book → List Command → Type 0) (n : ℕ) (b : Book) (bs : List (List Taken)) (ds : List Done) (batch : List Taken) (d : Done) → length ds ≡ length bs
+pub but_failed : (P : Book → List Command → Type 0) (n : ℕ) (b : Book) (bs : List (List Taken)) (ds : List Done) (batch : List Taken)
+    (d : Done) → length ds ≡ length bs
     → AreGivenUpBut P n b bs ds → AreGivenUpBut P (suc n) b (bs ++ batch ∷ []) (ds ++ d ∷ [])
 but_failed P n b [] [] batch d long h = inr (n, refl, tt)
 but_failed P n b [] (y ∷ ds) batch d long h = absurd (omega (arith, long))
@@ -68,21 +85,32 @@ but_failed P n b (x ∷ bs) (y ∷ ds) batch d long (inl h) =
     inl (h.0, but_failed P n (after rules b (if_kept x y)) bs ds batch d fewer h.1)
 but_failed P n b (x ∷ bs) (y ∷ ds) batch d long (inr h) =
     let fewer : length ds ≡ length bs = omega (arith, long) in
-    inr (n, refl, subst (λ k. AreGivenUpBut P k (after rules b (if_kept x y)) (bs ++ batch ∷ []) (ds ++ d ∷ [])) (sym h.1) (but_failed P h.0 (after rules b (if_kept x y)) bs ds batch d fewer h.2))
+    inr (
+      n,
+      refl,
+      subst (λ k. AreGivenUpBut P k (after rules b (if_kept x y)) (bs ++ batch ∷ []) (ds ++ d ∷ [])) (sym h.1)
+          (but_failed P h.0 (after rules b (if_kept x y)) bs ds batch d fewer h.2),
+    )
 
 ---- Causes
 
 module _ {S : Type 0} (g : Ghosts S) where
   -- what stands behind E80 is a failure that was counted in between, or something else
-  pub failed_or_held : (mid new : Keeping S) → IsDown g mid.stored new.stored → IsHeldBack g mid new ⊎ MoreFaults (state_of g mid.stored).faults (state_of g new.stored).faults
+  pub failed_or_held : (mid new : Keeping S) → IsDown g mid.stored new.stored → IsHeldBack g mid new ⊎ MoreFaults
+      (state_of g mid.stored).faults (state_of g new.stored).faults
   failed_or_held mid new (inl shut) = inl (inl shut)
   failed_or_held mid new (inr (inl more)) = inr more
   failed_or_held mid new (inr (inr other)) = inl (inr other)
 
-  failed_or_other : (mid new : Keeping S) (b : Book) (cs : List Command) → WasRefused g mid new b cs → HasOtherCause g mid new b cs ⊎ MoreFaults (state_of g mid.stored).faults (state_of g new.stored).faults
+  failed_or_other : (mid new : Keeping S) (b : Book) (cs : List Command) → WasRefused g mid new b cs → HasOtherCause g mid new b cs
+      ⊎ MoreFaults (state_of g mid.stored).faults (state_of g new.stored).faults
   failed_or_other mid new b cs (inl many) = inl (inl many)
   failed_or_other mid new b cs (inr (inl cant)) = inl (inr (inl cant))
-  failed_or_other mid new b cs (inr (inr down)) = elim (failed_or_held mid new down) [ inl held ↦ inl (inr (inr held)) | inr more ↦ inr more ]
+  failed_or_other mid new b cs (inr (inr down)) = elim (failed_or_held mid new down) [
+    | inl held ↦ inl (inr (inr held))
+    | inr more ↦ inr
+        more
+  ]
 
   one_or_other : (mid new : Keeping S) (b : Book) (batch : List Taken) (d : Done) → IsGivenUpFor (WasRefused g mid new) b batch d
       → IsGivenUpFor (HasOtherCause g mid new) b batch d ⊎ MoreFaults (state_of g mid.stored).faults (state_of g new.stored).faults
@@ -92,23 +120,29 @@ module _ {S : Type 0} (g : Ghosts S) where
   one_or_other mid new b batch done.Unknown h = inl tt
   one_or_other mid new b batch done.Halted h = inl tt
 
-  pub held_since : (old mid new : Keeping S) → Since (state_of g old.stored) (state_of g mid.stored) → IsHeldBack g mid new → IsHeldBack g old new
+  pub held_since : (old mid new : Keeping S) → Since (state_of g old.stored) (state_of g mid.stored) → IsHeldBack g mid new
+      → IsHeldBack g old new
   held_since old mid new since (inl shut) = inl shut
   held_since old mid new since (inr (inl limit)) = inr (inl (subst (λ (o : Option ℕ). IsSome o) since.1 limit))
-  held_since old mid new since (inr (inr full)) = inr (inr (full.0, since_then (state_of g old.stored) (state_of g mid.stored) (state g full.0) since full.1, full.2, full.3))
+  held_since old mid new since (inr (inr full)) = inr
+      (inr (full.0, since_then (state_of g old.stored) (state_of g mid.stored) (state g full.0) since full.1, full.2, full.3))
 
-  pub held_still : (old mid new : Keeping S) → ((state_of g mid.stored).is_open ≡ false → (state_of g new.stored).is_open ≡ false) → IsHeldBack g old mid → IsHeldBack g old new
+  pub held_still : (old mid new : Keeping S) → ((state_of g mid.stored).is_open ≡ false → (state_of g new.stored).is_open ≡ false)
+      → IsHeldBack g old mid → IsHeldBack g old new
   held_still old mid new shuts (inl shut) = inl (shuts shut)
   held_still old mid new shuts (inr other) = inr other
 
   -- another cause since the engine was an earlier one
-  pub other_since : (old mid new : Keeping S) → Since (state_of g old.stored) (state_of g mid.stored) → (b : Book) (cs : List Command) → HasOtherCause g mid new b cs → HasOtherCause g old new b cs
+  pub other_since : (old mid new : Keeping S) → Since (state_of g old.stored) (state_of g mid.stored) → (b : Book) (cs : List Command)
+      → HasOtherCause g mid new b cs → HasOtherCause g old new b cs
   other_since old mid new since b cs (inl many) = inl many
   other_since old mid new since b cs (inr (inl cant)) = inr (inl cant)
   other_since old mid new since b cs (inr (inr held)) = inr (inr (held_since old mid new since held))
 
   -- and now that it is a later one
-  pub other_still : (old mid new : Keeping S) → mid.kept ≤ new.kept → ((state_of g mid.stored).is_open ≡ false → (state_of g new.stored).is_open ≡ false) → (b : Book) (cs : List Command) → HasOtherCause g old mid b cs → HasOtherCause g old new b cs
+  pub other_still : (old mid new : Keeping S) → mid.kept ≤ new.kept → ((state_of g mid.stored).is_open ≡ false →
+      (state_of g new.stored).is_open ≡ false) → (b : Book) (cs : List Command) → HasOtherCause g old mid b cs → HasOtherCause g old new b
+      cs
   other_still old mid new counts shuts b cs (inl many) = inl (omega (arith, many, counts))
   other_still old mid new counts shuts b cs (inr (inl cant)) = inr (inl cant)
   other_still old mid new counts shuts b cs (inr (inr held)) = inr (inr (held_still old mid new shuts held))
@@ -116,24 +150,35 @@ module _ {S : Type 0} (g : Ghosts S) where
   ---- From engine to engine
 
   pub none_counted : (old : Keeping S) (b : Book) (ds : List Done) → IsCounted g old old b [] ds
-  none_counted old b ds = record { failures = 0; counted = more_none (state_of g old.stored).faults (state_of g old.stored).faults (omega arith); are = tt }
+  none_counted old b ds = record {
+    failures = 0;
+    counted = more_none (state_of g old.stored).faults (state_of g old.stored).faults
+        (omega arith);
+    are = tt;
+  }
 
   -- what was done since gave nothing up
-  pub counted_still : (old mid new : Keeping S) (b : Book) (bs : List (List Taken)) (ds : List Done) → (state_of g mid.stored).faults ≤ (state_of g new.stored).faults → mid.kept ≤ new.kept
-      → ((state_of g mid.stored).is_open ≡ false → (state_of g new.stored).is_open ≡ false) → IsCounted g old mid b bs ds → IsCounted g old new b bs ds
+  pub counted_still : (old mid new : Keeping S) (b : Book) (bs : List (List Taken)) (ds : List Done) → (state_of g mid.stored).faults ≤
+      (state_of g new.stored).faults → mid.kept ≤ new.kept
+      → ((state_of g mid.stored).is_open ≡ false → (state_of g new.stored).is_open ≡ false) → IsCounted g old mid b bs ds
+      → IsCounted g old new b bs ds
   counted_still old mid new b bs ds le counts shuts was = record {
     failures = was.failures;
-    counted = more_still was.failures (state_of g old.stored).faults (state_of g mid.stored).faults (state_of g new.stored).faults was.counted le;
+    counted = more_still was.failures (state_of g old.stored).faults (state_of g mid.stored).faults (state_of g new.stored).faults
+        was.counted le;
     are = but_on (HasOtherCause g old mid) (HasOtherCause g old new) (other_still old mid new counts shuts) was.failures b bs ds was.are;
   }
 
-  module _ (old mid new : Keeping S) (b : Book) (bs : List (List Taken)) (ds : List Done) (batch : List Taken) (d : Done) (long : length ds ≡ length bs) (since : Since (state_of g old.stored) (state_of g mid.stored)) (on : HasGoneOn g mid new)
-      (later : mid.halted ≡ true → d ≡ done.Halted) (same : mid.halted ≡ false → IsUp g mid → kept_book g mid ≡ after rules b (kept_of bs ds)) (was : IsCounted g old mid b bs ds) where
-    book : Book
+  module _ (old mid new : Keeping S) (b : Book) (bs : List (List Taken)) (ds : List Done) (batch : List Taken) (d : Done)
+      (long : length ds ≡ length bs) (since : Since (state_of g old.stored) (state_of g mid.stored)) (on : HasGoneOn g mid new)
+      (later : mid.halted ≡ true → d ≡ done.Halted) (same : mid.halted ≡ false → IsUp g mid → kept_book g mid ≡ after rules b
+      (kept_of bs ds)) (was : IsCounted g old mid b bs ds) where
+    abbrev book : Book
     book = after rules b (kept_of bs ds)
 
     -- the book read off the tables is the one that the batches before left, unless the connection is shut or the engine has halted
-    over_book : (f : ViewFault) → d ≡ done.NotApplied f → HasOtherCause g old new (kept_book g mid) (commands_of batch) → HasOtherCause g old new book (commands_of batch)
+    over_book : (f : ViewFault) → d ≡ done.NotApplied f → HasOtherCause g old new (kept_book g mid) (commands_of batch) → HasOtherCause g
+        old new book (commands_of batch)
     over_book f is h = elim (cases_Bool mid.halted) [
       | inl halted ↦ absurd (let clash : done.Halted ≡ done.NotApplied f = sym (later halted) ∙ is in cc)
       | inr goes ↦ elim (cases_Bool (state_of g mid.stored).is_open) [
@@ -142,22 +187,30 @@ module _ {S : Type 0} (g : Ghosts S) where
       ]
     ]
 
-    by_cause : IsGivenUpFor (HasOtherCause g mid new) (kept_book g mid) batch d ⊎ MoreFaults (state_of g mid.stored).faults (state_of g new.stored).faults → IsCounted g old new b (bs ++ batch ∷ []) (ds ++ d ∷ [])
+    by_cause : IsGivenUpFor (HasOtherCause g mid new) (kept_book g mid) batch d ⊎ MoreFaults (state_of g mid.stored).faults
+        (state_of g new.stored).faults → IsCounted g old new b (bs ++ batch ∷ []) (ds ++ d ∷ [])
     by_cause (inl other) =
-        let on_it = counted_still old mid new b bs ds on.since.0 on.counts (shut_on (state_of g mid.stored).is_open (state_of g new.stored).is_open on.up) was in
-        let since_old = given_up_on (HasOtherCause g mid new) (HasOtherCause g old new) (other_since old mid new since) (kept_book g mid) batch d other in
+        let on_it = counted_still old mid new b bs ds on.since.0 on.counts (shut_on (state_of g mid.stored).is_open
+        (state_of g new.stored).is_open on.up) was in
+        let since_old = given_up_on (HasOtherCause g mid new) (HasOtherCause g old new) (other_since old mid new since) (kept_book g mid)
+        batch d other in
         record {
           failures = on_it.failures;
           counted = on_it.counted;
-          are = but_caused (HasOtherCause g old new) on_it.failures b bs ds batch d long on_it.are (given_up_over (HasOtherCause g old new) (kept_book g mid) book batch d over_book since_old);
+          are = but_caused (HasOtherCause g old new) on_it.failures b bs ds batch d long on_it.are
+              (given_up_over (HasOtherCause g old new) (kept_book g mid) book batch d over_book since_old);
         }
     by_cause (inr failed) = record {
       failures = suc was.failures;
-      counted = more_one was.failures (state_of g old.stored).faults (state_of g mid.stored).faults (state_of g new.stored).faults was.counted failed;
+      counted = more_one was.failures (state_of g old.stored).faults (state_of g mid.stored).faults (state_of g new.stored).faults
+          was.counted failed;
       are = but_failed (HasOtherCause g old new) was.failures b bs ds batch d long
-          (but_on (HasOtherCause g old mid) (HasOtherCause g old new) (other_still old mid new on.counts (shut_on (state_of g mid.stored).is_open (state_of g new.stored).is_open on.up)) was.failures b bs ds was.are);
+          (but_on (HasOtherCause g old mid) (HasOtherCause g old new)
+          (other_still old mid new on.counts (shut_on (state_of g mid.stored).is_open (state_of g new.stored).is_open on.up))
+          was.failures b bs ds was.are);
     }
 
     -- one batch more
-    pub counted_then : IsGivenUpFor (WasRefused g mid new) (kept_book g mid) batch d → IsCounted g old new b (bs ++ batch ∷ []) (ds ++ d ∷ [])
+    pub counted_then : IsGivenUpFor (WasRefused g mid new) (kept_book g mid) batch d → IsCounted g old new b (bs ++ batch ∷ [])
+        (ds ++ d ∷ [])
     counted_then one = by_cause (one_or_other mid new (kept_book g mid) batch d one)

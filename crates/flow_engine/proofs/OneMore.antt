@@ -273,7 +273,8 @@ drove_more {S = S} g old mid new whole now left ds batch d next was fit does why
   own = λ h above. own_more g old mid new above (was.own (fit h) above) (own h);
   on = λ h. gone_on_then g old mid new (was.on (fit h)) (on h);
   given = λ h. given_up_then g old mid new (kept_book g old) was.behind ds batch d was.count (λ k cs w. refused_since g old mid new k cs (was.on (fit h)) w) (on h) later (book_here g old mid whole now ds was (fit h)) (was.given (fit h)) (given h);
-  counted = λ h. counted_then g old mid new (kept_book g old) was.behind ds batch d was.count (was.on (fit h)).since (on h) later (book_here g old mid whole now ds was (fit h)) (was.counted (fit h)) (given h);
+  counted = λ h. counted_then g old mid new (kept_book g old) was.behind ds batch d was.count (was.on (fit h)).since (on h) later
+      (book_here g old mid whole now ds was (fit h)) (was.counted (fit h)) (given h);
 }
 
 module _ {S : Type 0} (g : Ghosts S) (old new : Keeping S) (whole left : List (List Taken)) (ds : List Done) (drove : Drove g old new whole left ds) (none : left ≡ []) where

@@ -450,10 +450,20 @@ pub alone_commands : (ts : List Taken) → commands_of ts ≡ commands_in (map a
 alone_commands [] = refl
 alone_commands (t ∷ ts) = ap (λ l. t.command ∷ l) (alone_commands ts)
 
-module _ {S : Type 0} (g : Ghosts S) (old new : Keeping S) (bs : List (List Taken)) (ds : List Done) (commands : List Command) (are : commands ≡ commands_in bs) (runs : Runs g old new bs ds)
+module _ {S : Type 0} (g : Ghosts S) (old new : Keeping S) (bs : List (List Taken)) (ds : List Done) (commands : List Command)
+    (are : commands ≡ commands_in bs) (runs : Runs g old new bs ds)
     (counted : IsFit g new → IsCounted g old new (kept_book g old) bs ds) where
   pub part_of : (answers : List Answer) (stops : Option Stop) → given ds ≡ answers → first_stop ds ≡ stops → IsPart g old new commands answers stops
-  part_of answers stops told stop = inl (record { batches = bs; dones = ds; are = are; runs = runs; counted = counted; told = told; stop = stop })
+  part_of answers stops told stop = inl (record {
+    batches = bs;
+    dones = ds;
+    are = are;
+    runs = runs;
+    counted = counted;
+    told = told;
+    stop =
+        stop;
+  })
 
   pub one_part : (r : Result Answer Stop) → IfOk r (λ a. (given ds ≡ a ∷ []) × (first_stop ds ≡ None)) → IfErr r (λ s. (given ds ≡ []) × (first_stop ds ≡ Some s))
       → MatchResult r (λ a. IsPart g old new commands (a ∷ []) None) (λ s. IsPart g old new commands [] (Some s))

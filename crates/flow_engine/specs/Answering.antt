@@ -152,8 +152,8 @@ TellsStop before ds (unanswered.Stopped answers s) = (answers.items ≡ before +
 
 ---- A part of a life
 
--- Commands were answered so, up to a stop, as batches that the engine has answered; no more of them were given up with E80 than the store has
--- counted failures, but for other causes.
+-- Commands were answered so, up to a stop, as batches that the engine has answered; no more of them were given up with E80 than the store
+-- has counted failures, but for other causes.
 pub record HasRun {S : Type 0} (g : Ghosts S) (old new : Keeping S) (commands : List Command) (answers : List Answer) (stops : Option Stop) : Type 0 where
   pub batches : List (List Taken)
   pub dones : List Done

@@ -16,7 +16,8 @@ use Rattle.flow_engine.specs.GivingUp.{IsGivenUpFor}
 -- Since the engine was the first and now that it is the second, something else than a failure of the disk holds the store back: the
 -- connection is shut, a limit is set on the steps of a query, or no row has a number left.
 abbrev pub IsHeldBack : {S : Type 0} → Ghosts S → Keeping S → Keeping S → Type 0
-IsHeldBack g old new = ((state_of g new.stored).is_open ≡ false) ⊎ (IsSome (state_of g old.stored).step_limit ⊎ WasFull g (state_of g old.stored))
+IsHeldBack g old new = ((state_of g new.stored).is_open ≡ false) ⊎ (IsSome (state_of g old.stored).step_limit ⊎ WasFull g
+    (state_of g old.stored))
 
 -- Something else than a failure of the disk stands behind E80 of commands over a book: that, or the last of their places would be past the
 -- last number, or they can't be applied to this book.
@@ -37,7 +38,8 @@ IsMoreBy n old new = min (old + n) (2 ^ 64 - 1) ≤ new
 
 -- Another cause stands behind each batch that was given up with E80, but for at most as many as the store has counted failures since the
 -- engine was the first.
-pub record IsCounted {S : Type 0} (g : Ghosts S) (old new : Keeping S) (b : Book) (batches : List (List Taken)) (dones : List Done) : Type 0 where
+pub record IsCounted {S : Type 0} (g : Ghosts S) (old new : Keeping S) (b : Book) (batches : List (List Taken)) (dones : List Done) : Type
+    0 where
   pub failures : ℕ
   pub counted : IsMoreBy failures (state_of g old.stored).faults (state_of g new.stored).faults
   pub are : AreGivenUpBut (HasOtherCause g old new) failures b batches dones

@@ -74,7 +74,8 @@ pub fn drive<S: Alter>(
     // Why batches were given up with E80, over the book read off the tables at the beginning, whether it is known to be kept or not.
     ensures given_up { IfOk result (λ ds. IsFit S.Store engine.new → AreGivenUp (WasRefused S.Store engine.old engine.new) (kept_book S.Store engine.old) batches.items ds.items) }
     // No more of them than the store has counted failures, but for other causes.
-    ensures counted { IfOk result (λ ds. IsFit S.Store engine.new → IsCounted S.Store engine.old engine.new (kept_book S.Store engine.old) batches.items ds.items) }
+    ensures counted { IfOk result
+        (λ ds. IsFit S.Store engine.new → IsCounted S.Store engine.old engine.new (kept_book S.Store engine.old) batches.items ds.items) }
     ensures goes_on { IsFit S.Store engine.new → HasGoneOn S.Store engine.old engine.new }
     ensures back { IfErr result (λ e. e.0 ≡ batches) }
     ensures same { IfErr result (λ _. engine.new ≡ engine.old) }

@@ -1,3 +1,4 @@
 pub mod Posted
 pub mod Served
 pub mod Serving
+pub mod Turning

@@ -41,11 +41,11 @@ module _ {S : Type 0} where
     made = λ fit. subst (λ (b : Book). IsBoardOf (after rules b (logged w.log)) x.posted w.at x) (sym later.found) (w.made (later.fit fit));
   }
 
-  are_later : (g : Ghosts S) (tells : ℕ → Type 0) (old new : Keeping S) (was posted : List Task) (xs : List Boarded) → IsLater g old new → ArePosted g tells old was posted xs → ArePosted g tells new was posted xs
+  pub are_later : (g : Ghosts S) (tells : ℕ → Type 0) (old new : Keeping S) (was posted : List Task) (xs : List Boarded) → IsLater g old new → ArePosted g tells old was posted xs → ArePosted g tells new was posted xs
   are_later g tells old new was posted [] later are = are
   are_later g tells old new was posted (x ∷ xs) later are = (was_later g tells old new was x later are.0, are_later g tells old new (was ++ new_ones was x.tasks) posted xs later are.1)
 
-  are_joined : (g : Ghosts S) (tells : ℕ → Type 0) (now : Keeping S) (was mid posted : List Task) (xs ys : List Boarded) → ArePosted g tells now was mid xs → ArePosted g tells now mid posted ys → ArePosted g tells now was posted (xs ++ ys)
+  pub are_joined : (g : Ghosts S) (tells : ℕ → Type 0) (now : Keeping S) (was mid posted : List Task) (xs ys : List Boarded) → ArePosted g tells now was mid xs → ArePosted g tells now mid posted ys → ArePosted g tells now was posted (xs ++ ys)
   are_joined g tells now was mid posted [] ys first more = subst (λ (ts : List Task). ArePosted g tells now ts posted ys) first more
   are_joined g tells now was mid posted (x ∷ xs) ys first more = (first.0, are_joined g tells now (was ++ new_ones was x.tasks) mid posted xs ys first.1 more)
 

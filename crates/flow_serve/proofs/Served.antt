@@ -1,5 +1,5 @@
 -- What serving has done, from batch to batch and over the boards in between.
-use Rattle.std.proofs.Common.{◌≡◌, inl, inr, ◌+◌, ◌≤◌, true, false, List, [], ◌∷◌, ◌++◌, length, map, refl, sym, ap, ◌∙◌, subst, arith, append-nil, append_assoc, length-append}
+use Rattle.std.proofs.Common.{◌≡◌, inl, inr, ℕ, suc, ◌+◌, true, false, List, [], ◌∷◌, ◌++◌, length, map, refl, sym, ap, ◌∙◌, subst, arith, append-nil, append_assoc, length-append}
 use Rattle.std.specs.Prelude.{All}
 use Rattle.std.proofs.lemmas.Bool.{cases_Bool}
 use Rattle.std.proofs.lemmas.List.Elements.{All-nil, All-cons, All-append}
@@ -22,15 +22,20 @@ use Rattle.flow_serve.specs.Boarding.{IsStill}
 use Rattle.flow_engine.specs.Driving.{NotesAll, all_halted, has_unknown, kept_of, receipts_in, receipts_told}
 use Rattle.flow_engine.specs.Counting.{IsCounted}
 use Rattle.flow_engine.specs.GivingUp.{AreGivenUp, WasRefused}
-use Rattle.flow_serve.specs.Serving.{HasAnswered, HasServed, IsBatch, TurnsAway, codes_in, codes_told}
+use Rattle.flow_machine.specs.declared.task.Task.{Task}
+use Rattle.flow_serve.specs.Posting.{HasTurn, HasTurns}
+use Rattle.flow_serve.specs.Serving.{HasAnswered, HasServed, IsBatch, ServesBoarded, TurnsAway, codes_in, codes_told}
+use Rattle.flow_serve.proofs.Posted.{answered_later}
+use Rattle.flow_serve.proofs.Turning.{no_turns, turns_more, turns_on}
 use Rattle.flow_engine.proofs.Gathering.{off, gathered_more, all_halted_more, replies_told}
 use Rattle.flow_engine.proofs.Counting.{counted_still, counted_then, none_counted}
 use Rattle.flow_engine.proofs.GivingUp.{all_given_up_on, given_up_then}
 use Rattle.flow_engine.proofs.OneMore.{Stands, WasOwn, book_left, nothing_yet, one_more, one_noted, own_more}
 
--- The batches that were taken so far have these answers, and this has answered by a code.
-pub record Served {S : Type 0} (g : Ghosts S) (old now : Keeping S) (was told : List Refused) : Type 0 where
+-- The batches that were taken so far, so many, have these answers, and this has answered by a code.
+pub record Served {S : Type 0} (g : Ghosts S) (old now : Keeping S) (was told : List Refused) (n : ℕ) : Type 0 where
   pub batches : List (List Taken)
+  pub many : length batches ≡ n
   pub dones : List Done
   pub sizes : All IsBatch batches
   pub fit : IsFit g now → IsFit g old
@@ -47,9 +52,10 @@ pub record Served {S : Type 0} (g : Ghosts S) (old now : Keeping S) (was told : 
   pub log : now.log ≡ old.log ++ receipts_told batches dones
   pub codes : told ≡ was ++ codes_told batches dones
 
-pub none_served : {S : Type 0} (g : Ghosts S) (old : Keeping S) (was : List Refused) → Served g old old was was
+pub none_served : {S : Type 0} (g : Ghosts S) (old : Keeping S) (was : List Refused) → Served g old old was was 0
 none_served g old was = record {
   batches = [];
+  many = refl;
   dones = [];
   sizes = All-nil IsBatch;
   fit = λ h. h;
@@ -81,7 +87,7 @@ module _ {S : Type 0} (g : Ghosts S) (old mid new : Keeping S) where
   refused_on still fit k cs (inr (inl cant)) = inr (inl cant)
   refused_on still fit k cs (inr (inr down)) = inr (inr (down_on g old.stored mid.stored new.stored still.stored fit down))
 
-  module _ (was told now : List Refused) (served : Served g old mid was told) where
+  module _ (was told now : List Refused) (n : ℕ) (served : Served g old mid was told n) where
     -- a board over an engine that goes on
     stands_on : IsStill g mid new → mid.halted ≡ false → IsFit g new → (b : Book) → Stands g old b mid served.batches served.dones → Stands g old b new served.batches served.dones
     stands_on still goes fit b s =
@@ -90,9 +96,10 @@ module _ {S : Type 0} (g : Ghosts S) (old mid new : Keeping S) where
           record { halted = still.halted ∙ s.1.halted; book = λ _. book; counts = λ known. still.kept ∙ s.1.counts known; still = λ _. book; stops = λ db may. inl (book.stops db may) },
         )
 
-    goes_still : IsStill g mid new → now ≡ told → mid.halted ≡ false → Served g old new was now
+    goes_still : IsStill g mid new → now ≡ told → mid.halted ≡ false → Served g old new was now n
     goes_still still same goes = record {
       batches = served.batches;
+      many = served.many;
       dones = served.dones;
       sizes = served.sizes;
       fit = λ h. served.fit (still.follows.1 h);
@@ -107,26 +114,30 @@ module _ {S : Type 0} (g : Ghosts S) (old mid new : Keeping S) where
       given = λ h. all_given_up_on (WasRefused g old mid) (WasRefused g old new) (λ k cs w. refused_on still h k cs w) (kept_book g old) served.batches served.dones (served.given (still.follows.1 h));
       counted = λ h. (let kept : new.kept ≡ mid.kept = still.kept in
           counted_still g old mid new (kept_book g old) served.batches served.dones (still.stored.3 h.0 h.1).0 (omega (arith, kept))
-          (shut_on (state_of g mid.stored).is_open (state_of g new.stored).is_open (up_before g mid.stored new.stored still.stored h)) (served.counted (still.follows.1 h)));
+          (shut_on (state_of g mid.stored).is_open (state_of g new.stored).is_open (up_before g mid.stored new.stored still.stored h))
+          (served.counted (still.follows.1 h)));
       log = still.log ∙ served.log;
       codes = same ∙ served.codes;
     }
 
     -- a board in between changes nothing of it
-    pub served_still : IsStill g mid new → now ≡ told → Served g old new was now
+    pub served_still : IsStill g mid new → now ≡ told → Served g old new was now n
     served_still still same = elim (cases_Bool mid.halted) [
-      | inl stopped ↦ subst (λ k. Served g old k was now) (sym (still.nothing stopped)) (subst (λ l. Served g old mid was l) (sym same) served)
+      | inl stopped ↦ subst (λ k. Served g old k was now n) (sym (still.nothing stopped))
+          (subst (λ l. Served g old mid was l n) (sym same) served)
       | inr goes ↦ goes_still still same goes
     ]
 
     -- one batch more
-    pub served_more : (batch : List Taken) → IsBatch batch → HasAnswered g mid new told now batch → Served g old new was now
+    pub served_more : (batch : List Taken) → IsBatch batch → HasAnswered g mid new told now batch → Served g old new was now (suc n)
     served_more batch size one =
         let bs = served.batches in
         let ds = served.dones in
         let before : old.halted ≡ true → mid.halted ≡ true = λ h. ap (λ (k : Keeping S). k.halted) (served.halted h) ∙ h in
         record {
           batches = bs ++ batch ∷ [];
+          many = (let long : length (bs ++ batch ∷ []) ≡ length bs + 1 = length-append bs (batch ∷ []) in let before : length bs ≡ n =
+              served.many in omega (arith, long, before));
           dones = ds ++ one.ended ∷ [];
           sizes = All-append IsBatch bs (batch ∷ []) served.sizes (All-cons IsBatch batch [] size (All-nil IsBatch));
           fit = λ h. served.fit (one.fit h);
@@ -140,8 +151,10 @@ module _ {S : Type 0} (g : Ghosts S) (old mid new : Keeping S) where
           since = λ h. since_then (state_of g old.stored) (state_of g mid.stored) (state_of g new.stored) (served.since (one.fit h)) (one.on h).since;
           given = λ h. given_up_then g old mid new (kept_book g old) bs ds batch one.ended served.count (λ k cs w. refused_after (served.since (one.fit h)) k cs w) (one.on h) one.later
               (book_left g old mid bs ds served.halted served.noted (served.up (one.fit h)) (served.own (one.fit h)) (served.stands (one.fit h))) (served.given (one.fit h)) (one.why h);
-          counted = λ h. counted_then g old mid new (kept_book g old) bs ds batch one.ended served.count (served.since (one.fit h)) (one.on h) one.later
-              (book_left g old mid bs ds served.halted served.noted (served.up (one.fit h)) (served.own (one.fit h)) (served.stands (one.fit h))) (served.counted (one.fit h)) (one.why h);
+          counted = λ h. counted_then g old mid new (kept_book g old) bs ds batch one.ended served.count (served.since (one.fit h))
+              (one.on h) one.later
+              (book_left g old mid bs ds served.halted served.noted (served.up (one.fit h)) (served.own (one.fit h))
+              (served.stands (one.fit h))) (served.counted (one.fit h)) (one.why h);
           log = one.log ∙ ap (λ l. l ++ receipts_in batch one.ended) served.log ∙ append_assoc old.log (receipts_told bs ds) (receipts_in batch one.ended)
               ∙ ap (λ l. old.log ++ l) (sym (gathered_more receipts_in bs ds batch one.ended (sym served.count)));
           codes = one.codes ∙ ap (λ l. l ++ codes_in batch one.ended) served.codes ∙ append_assoc was (codes_told bs ds) (codes_in batch one.ended)
@@ -151,8 +164,8 @@ module _ {S : Type 0} (g : Ghosts S) (old mid new : Keeping S) where
 ---- At the end
 
 module _ {S : Type 0} (g : Ghosts S) (old now : Keeping S) (was told : List Refused) where
-  pub has_served : Served g old now was told → HasServed g old now was told []
-  has_served served =
+  pub has_served : (n : ℕ) → Served g old now was told n → HasServed g old now was told []
+  has_served n served =
       let bs = served.batches in
       let ds = served.dones in
       record {
@@ -187,4 +200,89 @@ module _ {S : Type 0} (g : Ghosts S) (old now : Keeping S) (was told : List Refu
 
 -- nothing was taken, and all was turned away
 pub unserved : {S : Type 0} (g : Ghosts S) (old : Keeping S) (was last : List Refused) (waiting : List Taken) → TurnsAway was last waiting → HasServed g old old was last waiting
-unserved g old was last waiting turns = served_behind g old old was was last waiting (has_served g old old was was (none_served g old was)) turns
+unserved g old was last waiting turns = served_behind g old old was was last waiting
+    (has_served g old old was was 0 (none_served g old was)) turns
+
+---- Boards
+
+-- The batches so far, and the boards that were asked for: one more.
+pub record Turned {S : Type 0} (g : Ghosts S) (tells : ℕ → Type 0) (old now : Keeping S) (was told : List Refused)
+    (first posted : List Task) : Type 0 where
+  pub count : ℕ
+  pub served : Served g old now was told count
+  pub turns : HasTurns g tells old now first posted (suc count)
+
+module _ {S : Type 0} (g : Ghosts S) (tells : ℕ → Type 0) (old : Keeping S) (was : List Refused) (first : List Task) where
+  -- the first board
+  pub boarded_first : (new : Keeping S) (told : List Refused) (posted : List Task) → IsStill g old new → told ≡ was → HasTurn g tells old
+      new first posted → Turned g tells old new was told first posted
+  boarded_first new told posted still same turn = record {
+    count = 0;
+    served = served_still g old old new was was told 0 (none_served g old was) still same;
+    turns = turns_more g tells old old new first first posted 0 (no_turns g tells old first) refl still
+        (λ _. since_self (state_of g old.stored)) turn;
+  }
+
+  module _ (mid kept new : Keeping S) (then told now : List Refused) (posted : List Task) (batch : List Taken) (size : IsBatch batch)
+      (b : Turned g tells old mid was then first posted) (one : HasAnswered g mid kept then told batch) (found : kept.found ≡ mid.found)
+    where
+      behind : Served g old kept was told (suc b.count)
+      behind = served_more g old mid kept was then told b.count b.served batch size one
+
+      committed : (posted' : List Task) → posted' ≡ posted → HasTurns g tells old kept first posted' (suc b.count)
+      committed posted' same = turns_on g tells old mid kept first posted posted' (suc b.count)
+          (answered_later g mid kept then told batch one found) same one.on b.turns
+
+      -- one batch more, and a board behind it
+      pub boarded_more : (posted' after' : List Task) → posted' ≡ posted → kept.halted ≡ old.halted → IsStill g kept new → now ≡ told
+          → HasTurn g tells kept new posted' after' → Turned g tells old new was now first after'
+      boarded_more posted' after' same halted still told_on turn = record {
+        count = suc b.count;
+        served = served_still g old kept new was told now (suc b.count) behind still told_on;
+        turns = turns_more g tells old kept new first posted' after' (suc b.count) (committed posted' same) halted still behind.since turn;
+      }
+
+      -- one batch more, and nothing behind it
+      pub boarded_last : (posted' : List Task) → posted' ≡ posted → ServesBoarded g tells old kept was told [] first posted' 0
+      unfolding has_served behind
+      boarded_last posted' same =
+          let served = behind in
+          let many : length served.batches ≡ suc b.count = served.many in
+          let count : suc b.count ≡ 0 + length served.batches = omega (arith, many) in
+          record {
+            served = has_served g old kept was told (suc b.count) served;
+            turns = subst (λ (n : ℕ). HasTurns g tells old kept first posted' n) count (committed posted' same);
+          }
+
+  -- the hub is closed, and nothing more is taken
+  pub boarded_done : (mid : Keeping S) (then told : List Refused) (posted posted' : List Task) → told ≡ then → posted' ≡ posted
+      → Turned g tells old mid was then first posted → ServesBoarded g tells old mid was told [] first posted' 1
+  unfolding has_served
+  boarded_done mid then told posted posted' same none b =
+      let served = subst (λ (rs : List Refused). Served g old mid was rs b.count) (sym same) b.served in
+      let turns = subst (λ (ts : List Task). HasTurns g tells old mid first ts (suc b.count)) (sym none) b.turns in
+      let many : length served.batches ≡ b.count = served.many in
+      let count : suc b.count ≡ 1 + length served.batches = omega (arith, many) in
+      record {
+        served = has_served g old mid was told b.count served;
+        turns = subst (λ (n : ℕ). HasTurns g tells old mid first posted' n) count turns;
+      }
+
+  -- and what waited was turned away, behind which there is no board
+  pub boarded_behind : (now : Keeping S) (told last : List Refused) (posted posted' : List Task) (waiting : List Taken) → TurnsAway told
+      last waiting → posted' ≡ posted → ServesBoarded g tells old now was told [] first posted 0 → ServesBoarded g tells old now was last
+      waiting first posted' 0
+  unfolding served_behind
+  boarded_behind now told last posted posted' waiting turns same b = record {
+    served = served_behind g old now was told last waiting b.served turns;
+    turns = subst (λ (ts : List Task). HasTurns g tells old now first ts (0 + length b.served.batches)) (sym same) b.turns;
+  }
+
+  -- nothing was taken
+  pub unboarded : (last : List Refused) (posted : List Task) (waiting : List Taken) → TurnsAway was last waiting → posted ≡ first
+      → ServesBoarded g tells old old was last waiting first posted 0
+  unfolding unserved served_behind has_served none_served
+  unboarded last posted waiting turns same = record {
+    served = unserved g old was last waiting turns;
+    turns = subst (λ (ts : List Task). HasTurns g tells old old first ts 0) (sym same) (no_turns g tells old first);
+  }

@@ -1,12 +1,17 @@
 -- What an engine that serves a hub posts: what boards of the kept book name, at moments that the clock told.
-use Rattle.std.specs.Prelude.{◌≡◌, ℕ, List, [], ◌∷◌, ◌++◌, length}
+use Rattle.std.specs.Prelude.{◌≡◌, ◌⊎◌, ◌+◌, ℕ, suc, List, [], ◌∷◌, ◌++◌, length, All}
 use mathlib.Core.List.{IsPrefix}
 use Rattle.sqlite_trees.specs.declared.store.Store.{Ghosts}
+use Rattle.flow_base.specs.declared.fault.Fault.{Fault}
+use Rattle.flow_base.specs.declared.fault.Fault.TheVariants as fault
 use Rattle.flow_machine.specs.declared.submission.Receipt.{Receipt}
 use Rattle.flow_machine.specs.declared.task.Task.{Task}
 use Rattle.flow_model.specs.Apply.{after}
-use Rattle.flow_commit.specs.Boards.{Boarded, IsBoardOf}
+use Rattle.flow_tables.specs.Owned.{state_of}
+use Rattle.flow_commit.specs.Boards.{Boarded, IsBoardOf, IsOfBoard}
+use Rattle.flow_commit.specs.Committing.{IsDown}
 use Rattle.flow_commit.specs.Keeping.{Keeping, IsFit, logged, rules}
+use Rattle.flow_engine.specs.Counting.{IsHeldBack, IsMoreBy}
 use Rattle.flow_queues.specs.Posting.{HasKeys, new_ones}
 
 -- A board was posted where these tasks had been: it was made of the book that the first so many commands left which were kept since the
@@ -29,3 +34,43 @@ ArePosted g tells now was posted (x ∷ xs) = WasBoard g tells now was x × AreP
 pub record Posts {S : Type 0} (g : Ghosts S) (tells : ℕ → Type 0) (now : Keeping S) (was posted : List Task) : Type 0 where
   pub boards : List Boarded
   pub are : ArePosted g tells now was posted boards
+
+---- Boards that were skipped
+
+-- A board was made and posted.
+pub record PostsOne {S : Type 0} (g : Ghosts S) (tells : ℕ → Type 0) (now : Keeping S) (was posted : List Task) : Type 0 where
+  pub board : Boarded
+  pub made : WasBoard g tells now was board
+  pub is : posted ≡ was ++ new_ones was board.tasks
+
+-- Why there is no board: E01; E80, where the connection is shut or the store hindered something in between; E85, where the engine had
+-- halted.
+pub record HasNoBoard {S : Type 0} (g : Ghosts S) (old new : Keeping S) (f : Fault) : Type 0 where
+  pub among : IsOfBoard old.halted f
+  pub cause : IsFit g new → f ≡ fault.StoreRefused → IsDown g old.stored new.stored
+
+-- A board was asked for: it was posted, or there is none for this.
+abbrev pub HasTurn : {S : Type 0} → Ghosts S → (ℕ → Type 0) → Keeping S → Keeping S → List Task → List Task → Type 0
+HasTurn g tells old new was posted = PostsOne g tells new was posted ⊎ ((posted ≡ was) × ((f : Fault) × HasNoBoard g old new f))
+
+-- This stands behind each of these that is E80, but for so many.
+abbrev pub AreRefusedBut : Type 0 → ℕ → List Fault → Type 0
+AreRefusedBut why n [] = Unit {0}
+AreRefusedBut why n (f ∷ fs) = ((f ≡ fault.StoreRefused → why) × AreRefusedBut why n fs)
+    ⊎ ((fewer : ℕ) × (n ≡ suc fewer) × AreRefusedBut why fewer fs)
+
+-- So often there was no board for E80 at most as the store has counted failures, if nothing else holds it back.
+pub record AreSkipped {S : Type 0} (g : Ghosts S) (old new : Keeping S) (skipped : List Fault) : Type 0 where
+  pub failures : ℕ
+  pub counted : IsMoreBy failures (state_of g old.stored).faults (state_of g new.stored).faults
+  pub are : AreRefusedBut (IsHeldBack g old new) failures skipped
+
+-- A board was asked for so many times: these were posted one behind the other, and the others were skipped for these faults.
+pub record HasTurns {S : Type 0} (g : Ghosts S) (tells : ℕ → Type 0) (old new : Keeping S) (was posted : List Task)
+    (turns : ℕ) : Type 0 where
+  pub boards : List Boarded
+  pub are : ArePosted g tells new was posted boards
+  pub skipped : List Fault
+  pub all : turns ≡ length boards + length skipped
+  pub among : All (IsOfBoard old.halted) skipped
+  pub counted : IsFit g new → AreSkipped g old new skipped

@@ -1,5 +1,5 @@
 -- What becomes of the submissions to a hub that an engine serves.
-use Rattle.std.specs.Prelude.{◌≡◌, ◌⊎◌, ◌≤◌, true, false, List, [], ◌++◌, length, map, All}
+use Rattle.std.specs.Prelude.{◌≡◌, ◌⊎◌, ◌+◌, ◌≤◌, ℕ, true, false, List, [], ◌++◌, length, map, All}
 use Rattle.sqlite_trees.specs.declared.store.Store.{Ghosts}
 use Rattle.flow_base.specs.declared.code.Code.TheVariants as code
 use Rattle.flow_base.specs.declared.fault.Fault.{Fault}
@@ -12,11 +12,13 @@ use Rattle.flow_commit.specs.Keeping.{Keeping, rules, IsFit, IsUp, KeepsBook, ke
 use Rattle.flow_commit.specs.Committing.{HasGoneOn}
 use Rattle.flow_queues.specs.declared.refused.Refused.{Refused}
 use Rattle.flow_queues.specs.Refusing.{refused_by}
+use Rattle.flow_machine.specs.declared.task.Task.{Task}
 use Rattle.flow_engine.specs.declared.done.Done.{Done}
 use Rattle.flow_engine.specs.declared.done.Done.TheVariants as done
 use Rattle.flow_engine.specs.Driving.{HasDone, IsNoted, AreAnswers, NotesAll, LeadsTo, all_halted, gathered, has_unknown, kept_of, in_hand, receipts_in, receipts_told, replies_of}
 use Rattle.flow_engine.specs.Counting.{IsCounted}
 use Rattle.flow_engine.specs.GivingUp.{AreGivenUp, IsGivenUpFor, WasRefused}
+use Rattle.flow_serve.specs.Posting.{HasTurns}
 
 -- It was in a batch that wasn't applied: E80 or E01.
 abbrev pub IsGivenUp : Refused → Type 0
@@ -124,3 +126,9 @@ pub record HasServed {S : Type 0} (g : Ghosts S) (old new : Keeping S) (was now 
   pub codes : now ≡ was ++ codes_told batches dones ++ map (refused_by code.Halted) waiting
   pub given_up : IsFit g new → AreGivenUp (WasRefused g old new) (kept_book g old) batches dones
   pub counted : IsFit g new → IsCounted g old new (kept_book g old) batches dones
+
+-- What was taken was answered so, and a board was asked for before each batch, and so many times more.
+pub record ServesBoarded {S : Type 0} (g : Ghosts S) (tells : ℕ → Type 0) (old new : Keeping S) (was now : List Refused)
+    (waiting : List Taken) (first posted : List Task) (more : ℕ) : Type 0 where
+  pub served : HasServed g old new was now waiting
+  pub turns : HasTurns g tells old new first posted (more + length served.batches)

@@ -6,10 +6,10 @@ ghost use Rattle.flow_machine.specs.declared.submission.Taken.{Taken as ATaken};
 ghost use Rattle.flow_commit.specs.Keeping.{account_of};
 ghost use Rattle.flow_hub.specs.Knowing.{IsBefore};
 ghost use Rattle.flow_serve.specs.Boarding.{IsStill};
-ghost use Rattle.flow_serve.specs.Posting.{Posts};
+ghost use Rattle.flow_serve.specs.Posting.{HasNoBoard, HasTurn, Posts, PostsOne};
 ghost use Rattle.flow_hub.specs.Publishing.{InHand, IsDone, Together};
 ghost use Rattle.flow_engine.specs.Answering.{Follows};
-ghost use Rattle.flow_serve.specs.Serving.{EndsFor, GivesUp, HasAnswered, HasServed, StopsAt, StopsFor, TurnsAway};
+ghost use Rattle.flow_serve.specs.Serving.{EndsFor, GivesUp, HasAnswered, HasServed, ServesBoarded, StopsAt, StopsFor, TurnsAway};
 
 use flow_base::code::Code;
 use flow_base::fault::Fault;
@@ -79,16 +79,26 @@ fn commit_taken<S: Alter, B: Room, R: Wait>(
     }
 }
 
-/// Makes a board and posts it, or says for which code there is none.
+/// The code of a fault that is still to be handed on.
+fn code_of(fault: &Fault) -> Code
+    ensures { result ≡ fault_code fault.now }
+{
+    fault.code()
+}
+
+/// Makes a board and posts it, or says why there is none.
 fn try_board<S: Alter, B: Room, R: Wait, C: Clock>(
     rt: &R,
     engine: &mut Engine<S>,
     publisher: &mut Publisher<B>,
     clock: &C,
-) -> Result<(), Code>
+) -> Result<(), Fault>
     requires together { Together (account_of S.Store engine.old) publisher.old }
     ensures together { Together (account_of S.Store engine.new) publisher.new }
     ensures boarded { OnOk result (publisher.new.boarded ≡ true) }
+    ensures tried { MatchResult result
+        (λ _. PostsOne S.Store (C.tells clock.now) engine.new publisher.old.posted publisher.new.posted)
+        (λ f. (publisher.new.posted ≡ publisher.old.posted) × HasNoBoard S.Store engine.old engine.new f) }
     ensures posts { Posts S.Store (C.tells clock.now) engine.new publisher.old.posted publisher.new.posted }
     ensures still { IsStill S.Store engine.old engine.new }
     ensures refused { publisher.new.refused ≡ publisher.old.refused }
@@ -97,9 +107,9 @@ fn try_board<S: Alter, B: Room, R: Wait, C: Clock>(
     match engine.board(publisher.posted(), clock.now()) {
         Ok(board) => match publisher.post(rt, board) {
             Ok(()) => Ok(()),
-            Err((_board, refused)) => Err(NoMemory::from(refused).code()),
+            Err((_board, refused)) => Err(Fault::from(refused)),
         },
-        Err(fault) => Err(fault.code()),
+        Err(fault) => Err(fault),
     }
 }
 
@@ -113,6 +123,8 @@ fn post_board<S: Alter, B: Room, R: Wait, C: Clock>(
     requires together { Together (account_of S.Store engine.old) publisher.old }
     ensures together { Together (account_of S.Store engine.new) publisher.new }
     ensures boarded { publisher.new.boarded ≡ true }
+    // One was made and posted, or there is none for a fault that is told of this engine.
+    ensures turn { HasTurn S.Store (C.tells clock.now) engine.old engine.new publisher.old.posted publisher.new.posted }
     ensures posts { Posts S.Store (C.tells clock.now) engine.new publisher.old.posted publisher.new.posted }
     ensures still { IsStill S.Store engine.old engine.new }
     ensures refused { publisher.new.refused ≡ publisher.old.refused }
@@ -121,8 +133,8 @@ fn post_board<S: Alter, B: Room, R: Wait, C: Clock>(
     if try_board(rt, engine, publisher, clock).is_ok() {
         return;
     }
-    if let Err(code) = try_board(rt, engine, publisher, clock) {
-        publisher.skip(rt, code);
+    if let Err(fault) = try_board(rt, engine, publisher, clock) {
+        publisher.skip(rt, code_of(&fault));
     }
 }
 
@@ -146,6 +158,12 @@ fn serve_all<S: Alter, B: Room, R: Wait, C: Clock>(
     ensures stops { IfErr result
         (λ f. (waiting : List ATaken) × StopsFor engine.old engine.new publisher.old.refused publisher.new.refused waiting f) }
     ensures served { HasServed S.Store engine.old engine.new publisher.old.refused publisher.new.refused [] }
+    // A board was asked for before each batch, and behind the last one that doesn't halt the engine.
+    ensures boards { MatchResult result
+        (λ _. ServesBoarded S.Store (C.tells clock.now) engine.old engine.new
+        publisher.old.refused publisher.new.refused [] publisher.old.posted publisher.new.posted 1)
+        (λ _. ServesBoarded S.Store (C.tells clock.now) engine.old engine.new
+        publisher.old.refused publisher.new.refused [] publisher.old.posted publisher.new.posted 0) }
     ensures posts { Posts S.Store (C.tells clock.now) engine.new publisher.old.posted publisher.new.posted }
     ensures found { engine.new.found ≡ engine.old.found }
     ensures follows { Follows S.Store engine.old engine.new }
@@ -162,13 +180,6 @@ fn serve_all<S: Alter, B: Room, R: Wait, C: Clock>(
         taken = list_with_room(rt, engine.alloc(), most);
     }
     unreachable!()
-}
-
-/// The code of a fault that is still to be handed on.
-fn code_of(fault: &Fault) -> Code
-    ensures { result ≡ fault_code fault.now }
-{
-    fault.code()
 }
 
 /// Takes nothing more in, and answers all that waits that the engine has halted: E85. There is no board any more, for this code.
@@ -236,6 +247,13 @@ pub fn serve<S: Alter, B: Room, R: Wait, C: Clock>(
     ensures served { MatchResult result
         (λ _. HasServed S.Store engine.old engine.new publisher.old.refused publisher.new.refused [])
         (λ _. (waiting : List ATaken) × HasServed S.Store engine.old engine.new publisher.old.refused publisher.new.refused waiting) }
+    // A board was asked for before each batch, and behind the last one that doesn't halt the engine: it was posted, or there was none for
+    // E01, E85 of an engine that had halted, or E80, and that for no more times than the store has failed, if nothing else holds it back.
+    ensures boards { MatchResult result
+        (λ _. ServesBoarded S.Store (C.tells clock.now) engine.old engine.new
+        publisher.old.refused publisher.new.refused [] publisher.old.posted publisher.new.posted 1)
+        (λ _. (waiting : List ATaken) × ServesBoarded S.Store (C.tells clock.now) engine.old engine.new
+        publisher.old.refused publisher.new.refused waiting publisher.old.posted publisher.new.posted 0) }
     // All that is posted is what boards of the kept book name, each made behind a beginning of what is kept, at a moment of the clock.
     ensures posts { Posts S.Store (C.tells clock.now) engine.new publisher.old.posted publisher.new.posted }
     ensures found { engine.new.found ≡ engine.old.found }

@@ -74,5 +74,6 @@ returns-in-Ok-clause-leaves g c =
 pub returns-in-Ok-clause-part : goal.returns-in-Ok-clause-part
 returns-in-Ok-clause-part g c ts are =
     let its = alone_commands ts ∙ ap commands_in (sym are) in
-    both_parts g.S.Store c.args.engine.now c.drive.new.engine c.args.batches.items c.in-Ok.dones.items _ its c.in-Ok.ensures.runs c.in-Ok.ensures.counted (λ l. l.items) c.args.answers.items c.requires.none
+    both_parts g.S.Store c.args.engine.now c.drive.new.engine c.args.batches.items c.in-Ok.dones.items _ its c.in-Ok.ensures.runs
+    c.in-Ok.ensures.counted (λ l. l.items) c.args.answers.items c.requires.none
     c.all_answers.result c.all_answers.ensures.given c.all_answers.ensures.stops

@@ -66,7 +66,8 @@ returns-clause-unstopped g c = inr c.in-Err.ensures.same
 
 pub returns-in-Ok-clause-part : goal.returns-in-Ok-clause-part
 returns-in-Ok-clause-part g c t is =
-    one_part g.S.Store c.args.engine.now c.drive.new.engine c.args.batches.items c.in-Ok.dones.items (t.command ∷ []) (ap commands_in (sym is)) c.in-Ok.ensures.runs c.in-Ok.ensures.counted
+    one_part g.S.Store c.args.engine.now c.drive.new.engine c.args.batches.items c.in-Ok.dones.items (t.command ∷ [])
+    (ap commands_in (sym is)) c.in-Ok.ensures.runs c.in-Ok.ensures.counted
     c.one_answer.result c.one_answer.ensures.given c.one_answer.ensures.stops
 
 pub returns-clause-part : goal.returns-clause-part

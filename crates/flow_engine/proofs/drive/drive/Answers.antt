@@ -55,7 +55,8 @@ returns-clause-given_up g c =
 
 pub returns-clause-counted : goal.returns-clause-counted
 returns-clause-counted g c =
-    all_failures g.S.Store c.args.engine.now c.loop-batch.engine c.args.batches.items (into_iter_items c.loop-batch.batch-iterator) c.loop-batch.dones.items c.loop-batch.invariant.drove
+    all_failures g.S.Store c.args.engine.now c.loop-batch.engine c.args.batches.items (into_iter_items c.loop-batch.batch-iterator)
+    c.loop-batch.dones.items c.loop-batch.invariant.drove
     (none_left (into_iter_items c.loop-batch.batch-iterator) (sym c.loop-batch.invariant.left ∙ c.in-None.ensures.steps.0))
 
 -- This is what a life has of these batches.

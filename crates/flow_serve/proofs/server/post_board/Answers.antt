@@ -1,6 +1,8 @@
+use Rattle.std.proofs.Common.{sym, ◌∙◌}
 use Rattle.flow_hub.proofs.Growing.{before_trans}
 use Rattle.flow_serve.proofs.Posted.{later_self, posts_still, posts_then, still_later}
 use Rattle.flow_serve.proofs.Serving.{still_then}
+use Rattle.flow_serve.proofs.Turning.{refused_first, turn_again, turn_of, turn_skipped}
 use Rattle.flow_serve.proofs.server.post_board.Goals as goal
 
 pub returns-in-Err-clause-grows : goal.returns-in-Err-clause-grows
@@ -36,3 +38,26 @@ returns-in-Err-clause-posts g c =
     let then = c.try_board-2.new.publisher.posted in
     let more = posts_then g.S.Store tells mid new was c.try_board.new.publisher.posted then (still_later g.S.Store mid new c.try_board-2.ensures.still) c.try_board.ensures.posts c.try_board-2.ensures.posts in
     posts_still g.S.Store tells new new was then c.skip.new.self.posted (later_self g.S.Store new) more c.skip.ensures.skipped.posted
+
+-- the first one was posted
+pub returns-then-is_ok-clause-turn : goal.returns-then-is_ok-clause-turn
+returns-then-is_ok-clause-turn g c = turn_of c.try_board.result c.try_board.ensures.tried
+
+-- or the second, or there is none for what was told of it
+pub returns-in_default-clause-turn : goal.returns-in_default-clause-turn
+returns-in_default-clause-turn g c =
+    turn_again g.S.Store (g.C.Clock.tells c.args.clock.now) c.args.engine.now c.try_board.new.engine c.try_board-2.new.engine
+    c.args.publisher.now.posted c.try_board.new.publisher.posted c.try_board-2.new.publisher.posted
+    c.try_board.ensures.still c.try_board-2.ensures.still
+    (refused_first _ _ _ c.try_board.result (sym c.is_ok.ensures.value ∙ c.if-is_ok.false) c.try_board.ensures.tried)
+    (turn_of c.try_board-2.result c.try_board-2.ensures.tried)
+
+pub returns-in-Err-clause-turn : goal.returns-in-Err-clause-turn
+returns-in-Err-clause-turn g c =
+    turn_skipped g.S.Store (g.C.Clock.tells c.args.clock.now) c.args.engine.now c.try_board-2.new.engine c.args.publisher.now.posted
+    c.try_board-2.new.publisher.posted c.skip.new.self.posted c.skip.ensures.skipped.posted
+    (turn_again g.S.Store (g.C.Clock.tells c.args.clock.now) c.args.engine.now c.try_board.new.engine c.try_board-2.new.engine
+    c.args.publisher.now.posted c.try_board.new.publisher.posted c.try_board-2.new.publisher.posted
+    c.try_board.ensures.still c.try_board-2.ensures.still
+    (refused_first _ _ _ c.try_board.result (sym c.is_ok.ensures.value ∙ c.if-is_ok.false) c.try_board.ensures.tried)
+    (turn_of c.try_board-2.result c.try_board-2.ensures.tried))

@@ -1,6 +1,6 @@
 use Rattle.std.proofs.Common.{inl, ◌++◌}
 use Rattle.flow_serve.proofs.Posted.{later_self, posts_none, posts_still}
-use Rattle.flow_serve.proofs.Served.{served_behind, unserved}
+use Rattle.flow_serve.proofs.Served.{boarded_behind, served_behind, unboarded, unserved}
 use Rattle.flow_serve.proofs.Serving.{turned_behind}
 use Rattle.flow_serve.proofs.server.serve.Goals as goal
 
@@ -30,3 +30,23 @@ returns-in-Err-serve_all-clause-posts g c =
 
 pub returns-in-Err-clause-posts : goal.returns-in-Err-clause-posts
 returns-in-Err-clause-posts g c = posts_none g.S.Store (g.C.Clock.tells c.args.clock.now) c.args.engine.now c.args.publisher.now.posted c.turn_away-in-Err.new.publisher.posted c.turn_away-in-Err.ensures.posted
+
+-- what is turned away has no board
+pub returns-in-Err-serve_all-clause-boards : goal.returns-in-Err-serve_all-clause-boards
+returns-in-Err-serve_all-clause-boards g c =
+    let t = c.turn_away.ensures.turned in (
+      t.0,
+      boarded_behind g.S.Store (g.C.Clock.tells c.args.clock.now) c.args.engine.now c.args.publisher.now.refused
+          c.args.publisher.now.posted c.serve_all.new.engine c.serve_all.new.publisher.refused
+          c.turn_away.new.publisher.refused c.serve_all.new.publisher.posted c.turn_away.new.publisher.posted t.0 t.1
+          c.turn_away.ensures.posted c.in-Err-serve_all.ensures.boards,
+    )
+
+pub returns-in-Err-clause-boards : goal.returns-in-Err-clause-boards
+returns-in-Err-clause-boards g c =
+    let t = c.turn_away-in-Err.ensures.turned in (
+      t.0,
+      unboarded g.S.Store (g.C.Clock.tells c.args.clock.now) c.args.engine.now c.args.publisher.now.refused c.args.publisher.now.posted
+          c.turn_away-in-Err.new.publisher.refused c.turn_away-in-Err.new.publisher.posted t.0 t.1
+          c.turn_away-in-Err.ensures.posted,
+    )

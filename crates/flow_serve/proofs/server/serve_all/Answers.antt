@@ -1,11 +1,11 @@
-use Rattle.std.proofs.Common.{rules, ◌≡◌, ◌≤◌, true, List, length, sym, ◌∙◌, subst, true≢false}
+use Rattle.std.proofs.Common.{rules, ◌≡◌, ◌≤◌, true, suc, List, length, sym, ◌∙◌, subst, true≢false}
 use Rattle.std.proofs.lemmas.Result.{err_from_is_err_and}
 use Rattle.flow_machine.specs.declared.submission.Taken.{Taken}
 use Rattle.flow_queues.specs.declared.refused.Refused.{Refused}
 use Rattle.flow_hub.proofs.Growing.{before_trans}
 use Rattle.flow_serve.specs.Serving.{GivesUp, HasAnswered, IsBatch, StopsAt}
 use Rattle.flow_serve.proofs.Posted.{answered_later, later_self, posts_still, posts_then, still_later}
-use Rattle.flow_serve.proofs.Served.{Served, has_served, none_served, served_more, served_still}
+use Rattle.flow_serve.proofs.Served.{Served, boarded_done, boarded_first, boarded_last, boarded_more, has_served, served_more}
 use Rattle.flow_serve.proofs.Serving.{follows_then, gives_none, gives_then, stops_behind}
 use Rattle.flow_serve.proofs.server.serve_all.Goals as goal
 
@@ -38,14 +38,44 @@ returns-in_err-commit_taken-clause-served g c =
     let one = subst (λ (rs : List Refused). HasAnswered g.S.Store mid new rs now c.of.result) c.take.ensures.taken.refused c.commit_taken.ensures.answered in
     let hand = c.take.new.into.items in
     let some : (1 ≤ length hand) × (length hand ≤ 64) = search rules in
-    has_served g.S.Store old new was now (served_more g.S.Store old mid new was c.loop.publisher.refused now c.loop.invariant.served c.of.result (subst IsBatch (sym c.of.ensures) some) one)
+    let t = c.loop.invariant.turned in
+    has_served g.S.Store old new was now (suc t.count) (served_more g.S.Store old mid new was c.loop.publisher.refused now t.count
+    t.served c.of.result (subst IsBatch (sym c.of.ensures) some) one)
+
+pub returns-in_err-commit_taken-clause-boards : goal.returns-in_err-commit_taken-clause-boards
+returns-in_err-commit_taken-clause-boards g c =
+    let old = c.args.engine.now in
+    let mid = c.loop.engine in
+    let new = c.commit_taken.new.engine in
+    let was = c.args.publisher.now.refused in
+    let then = c.loop.publisher.refused in
+    let now = c.commit_taken.new.publisher in
+    let first = c.args.publisher.now.posted in
+    let tells = g.C.Clock.tells c.args.clock.now in
+    let one = subst (λ (rs : List Refused). HasAnswered g.S.Store mid new rs now.refused c.of.result) c.take.ensures.taken.refused c.commit_taken.ensures.answered in
+    let hand = c.take.new.into.items in
+    let some : (1 ≤ length hand) × (length hand ≤ 64) = search rules in
+    let p = err_from_is_err_and c.from_residual.result c.from_residual.ensures.1 in
+    rw (p.1) (boarded_last g.S.Store tells old was first mid new new then now.refused now.refused c.loop.publisher.posted c.of.result
+    (subst IsBatch (sym c.of.ensures) some) c.loop.invariant.turned one c.commit_taken.ensures.found
+    now.posted (c.commit_taken.ensures.posted ∙ c.take.ensures.taken.posted))
 
 -- the hub is closed, and nothing was taken any more
 pub returns-then-not-take-clause-served : goal.returns-then-not-take-clause-served
 returns-then-not-take-clause-served g c =
     let was = c.args.publisher.now.refused in
-    let served = subst (λ (rs : List Refused). Served g.S.Store c.args.engine.now c.loop.engine was rs) (sym c.take.ensures.taken.refused) c.loop.invariant.served in
-    has_served g.S.Store c.args.engine.now c.loop.engine was c.take.new.self.refused served
+    let t = c.loop.invariant.turned in
+    let served = subst (λ (rs : List Refused). Served g.S.Store c.args.engine.now c.loop.engine was rs t.count)
+    (sym c.take.ensures.taken.refused) t.served in
+    has_served g.S.Store c.args.engine.now c.loop.engine was c.take.new.self.refused t.count served
+
+pub returns-then-not-take-clause-boards : goal.returns-then-not-take-clause-boards
+returns-then-not-take-clause-boards g c =
+    let first = c.args.publisher.now.posted in
+    let tells = g.C.Clock.tells c.args.clock.now in
+    boarded_done g.S.Store tells c.args.engine.now c.args.publisher.now.refused first c.loop.engine c.loop.publisher.refused
+    c.take.new.self.refused c.loop.publisher.posted c.take.new.self.posted
+    c.take.ensures.taken.refused c.take.ensures.taken.posted c.loop.invariant.turned
 
 pub returns-in_err-commit_taken-clause-grows : goal.returns-in_err-commit_taken-clause-grows
 returns-in_err-commit_taken-clause-grows g c =
@@ -60,8 +90,9 @@ loop-init g c =
       together = b.together;
       halted = b.still.halted;
       still = λ h. (b.still.nothing (sym b.still.halted ∙ h), b.refused);
-      served = served_still g.S.Store c.args.engine.now c.args.engine.now c.post_board.new.engine c.args.publisher.now.refused c.args.publisher.now.refused c.post_board.new.publisher.refused
-          (none_served g.S.Store c.args.engine.now c.args.publisher.now.refused) b.still b.refused;
+      turned = boarded_first g.S.Store (g.C.Clock.tells c.args.clock.now) c.args.engine.now c.args.publisher.now.refused
+          c.args.publisher.now.posted c.post_board.new.engine c.post_board.new.publisher.refused
+          c.post_board.new.publisher.posted b.still b.refused b.turn;
       gives = gives_none c.args.publisher.now.refused c.post_board.new.publisher.refused b.refused;
       posts = b.posts;
       found = b.still.found;
@@ -97,8 +128,11 @@ loop-preserved g c =
       halted = b.still.halted ∙ (go.1 ∙ (sym go.0 ∙ i.halted));
       still = λ h. absurd (true≢false (sym h ∙ (b.still.halted ∙ go.1)));
       gives = subst (GivesUp was) (sym b.refused) gives;
-      served = served_still g.S.Store old kept c.post_board-in-loop.new.engine was told.refused c.post_board-in-loop.new.publisher.refused
-          (served_more g.S.Store old c.loop.engine kept was c.loop.publisher.refused told.refused i.served c.of.result (subst IsBatch (sym c.of.ensures) some) one) b.still b.refused;
+      turned = boarded_more g.S.Store tells old was posted c.loop.engine kept c.post_board-in-loop.new.engine c.loop.publisher.refused
+          told.refused c.post_board-in-loop.new.publisher.refused c.loop.publisher.posted c.of.result
+          (subst IsBatch (sym c.of.ensures) some) i.turned one c.commit_taken.ensures.found told.posted
+          c.post_board-in-loop.new.publisher.posted (c.commit_taken.ensures.posted ∙ c.take.ensures.taken.posted)
+          (go.1 ∙ (sym go.0 ∙ i.halted)) b.still b.refused b.turn;
       posts = posts_then g.S.Store tells kept c.post_board-in-loop.new.engine posted told.posted c.post_board-in-loop.new.publisher.posted
           (still_later g.S.Store kept c.post_board-in-loop.new.engine b.still) committed b.posts;
       found = b.still.found ∙ (c.commit_taken.ensures.found ∙ i.found);

@@ -6,7 +6,7 @@ use Rattle.flow_hub.specs.Publishing.{Together}
 use Rattle.flow_engine.specs.Answering.{Follows}
 use Rattle.flow_serve.specs.Posting.{Posts}
 use Rattle.flow_serve.specs.Serving.{GivesUp}
-use Rattle.flow_serve.proofs.Served.{Served}
+use Rattle.flow_serve.proofs.Served.{Turned}
 use Rattle.flow_serve.proofs.server.serve_all.Given as goal
 
 -- An engine that had halted has done nothing.
@@ -17,7 +17,8 @@ invariant-loop g l =
       halted : l.engine.halted ≡ l.fn.engine.halted;
       still : l.engine.halted ≡ true → (l.engine ≡ l.fn.engine) × (l.publisher.refused ≡ l.fn.publisher.refused);
       gives : GivesUp l.fn.publisher.refused l.publisher.refused;
-      served : Served g.S.Store l.fn.engine l.engine l.fn.publisher.refused l.publisher.refused;
+      turned : Turned g.S.Store (g.C.Clock.tells l.fn.clock) l.fn.engine l.engine l.fn.publisher.refused l.publisher.refused
+          l.fn.publisher.posted l.publisher.posted;
       posts : Posts g.S.Store (g.C.Clock.tells l.fn.clock) l.engine l.fn.publisher.posted l.publisher.posted;
       found : l.engine.found ≡ l.fn.engine.found;
       follows : Follows g.S.Store l.fn.engine l.engine;

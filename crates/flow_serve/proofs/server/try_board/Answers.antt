@@ -4,6 +4,7 @@ use Rattle.flow_hub.proofs.Serving.{boarded_together, is_fresh, same_history}
 use Rattle.flow_commit.specs.Keeping.{account_of}
 use Rattle.flow_serve.proofs.Posted.{board_was, posts_none, posts_one}
 use Rattle.flow_serve.proofs.Serving.{board_still, same_base}
+use Rattle.flow_serve.proofs.Turning.{no_memory_board}
 use Rattle.flow_serve.proofs.server.try_board.Goals as goal
 
 -- the board was made of what is kept, which is what is published
@@ -64,3 +65,24 @@ returns-in-Err-post-clause-posts g c = posts_none g.S.Store (g.C.Clock.tells c.a
 
 pub returns-in-Err-clause-posts : goal.returns-in-Err-clause-posts
 returns-in-Err-clause-posts g c = posts_none g.S.Store (g.C.Clock.tells c.args.clock.now) c.board.new.self c.args.publisher.now.posted c.args.publisher.now.posted refl
+
+-- what came of it
+pub returns-in-Ok-post-clause-tried : goal.returns-in-Ok-post-clause-tried
+returns-in-Ok-post-clause-tried g c =
+    let tells = g.C.Clock.tells c.args.clock.now in
+    let b = c.in-Ok.ensures in
+    let it = c.in-Ok.board in
+    record {
+      board = it;
+      made = board_was g.S.Store tells c.args.engine.now c.board.new.self c.args.publisher.now.posted c.posted.result.now c.now.result it
+          c.now.ensures c.board.ensures.same.3 c.board.ensures.same.2
+          b.counted b.names.1 c.posted.ensures b.behind;
+      is = c.in-Ok-post.ensures.posted.posted;
+    }
+
+pub returns-in-Err-post-clause-tried : goal.returns-in-Err-post-clause-tried
+returns-in-Err-post-clause-tried g c =
+    (sym c.in-Err-post.ensures.refused.1.posted, no_memory_board g.S.Store c.args.engine.now c.board.new.self c.from.result c.from.ensures)
+
+pub returns-in-Err-clause-tried : goal.returns-in-Err-clause-tried
+returns-in-Err-clause-tried g c = (refl, record { among = c.in-Err.ensures.among; cause = λ fit e. c.in-Err.ensures.cause fit e })

@@ -1,0 +1,200 @@
+-- Boards that were asked for, from turn to turn.
+use Rattle.std.proofs.Common.{◌≡◌, ◌⊎◌, inl, inr, ℕ, suc, ◌+◌, ◌≤◌, true, false, List, [], ◌∷◌, ◌++◌, length, refl, sym, ◌∙◌, subst, arith, true≢false, length-append}
+use Rattle.std.specs.Prelude.{Bool, MatchResult, Result, Ok, Err, is_ok}
+use Rattle.std.proofs.lemmas.List.Elements.{All-nil, All-cons}
+use Rattle.sqlite_trees.specs.declared.store.Store.{Ghosts}
+use Rattle.flow_base.specs.declared.fault.Fault.{Fault}
+use Rattle.flow_base.specs.declared.fault.Fault.TheVariants as fault
+use Rattle.flow_machine.specs.declared.task.Task.{Task}
+use Rattle.flow_tables.specs.Faults.{Since}
+use Rattle.flow_tables.specs.Owned.{state_of}
+use Rattle.flow_tables.proofs.Stopping.{hindering_after}
+use Rattle.flow_commit.specs.Boards.{IsOfBoard}
+use Rattle.flow_commit.specs.Committing.{HasGoneOn, IsDown}
+use Rattle.flow_commit.specs.Keeping.{Keeping, IsFit}
+use Rattle.flow_commit.proofs.Following.{up_before}
+use Rattle.flow_commit.proofs.Sealing.{shut_on}
+use Rattle.flow_engine.specs.Counting.{IsHeldBack, IsMoreBy}
+use Rattle.flow_engine.proofs.Counting.{failed_or_held, held_since, held_still, more_none, more_one, more_still}
+use Rattle.flow_serve.specs.Boarding.{IsStill}
+use Rattle.flow_serve.specs.Posting.{AreRefusedBut, AreSkipped, ArePosted, HasNoBoard, HasTurn, HasTurns, PostsOne}
+use Rattle.flow_serve.proofs.Posted.{IsLater, are_joined, are_later, still_later}
+
+---- Why there was none
+
+refused_on : (P Q : Type 0) → (P → Q) → (n : ℕ) (fs : List Fault) → AreRefusedBut P n fs → AreRefusedBut Q n fs
+refused_on P Q on n [] h = tt
+refused_on P Q on n (f ∷ fs) (inl one) = inl ((λ e. on (one.0 e)), refused_on P Q on n fs one.1)
+refused_on P Q on n (f ∷ fs) (inr one) = inr (one.0, one.1, refused_on P Q on one.0 fs one.2)
+
+-- of E80 it is known whether a failure that was counted stands behind it
+by_fault : (halted : Bool) (P Q : Type 0) (f : Fault) → IsOfBoard halted f → (f ≡ fault.StoreRefused → P ⊎ Q) →
+    (f ≡ fault.StoreRefused → P) ⊎ Q
+by_fault halted P Q (fault.NoMemory _) of why = inl (λ e. absurd (cc))
+by_fault halted P Q fault.StoreRefused of why = elim (why refl) [ inl held ↦ inl (λ e. held) | inr failed ↦ inr failed ]
+by_fault halted P Q fault.Halted of why = inl (λ e. absurd (cc))
+by_fault halted P Q _ of why = absurd of
+
+-- what came of asking for a board, by the result
+pub turn_of : {A B : Type 0} {C : Fault → Type 0} (r : Result Unit Fault) → MatchResult r (λ _. A) (λ f. B × C f) → A ⊎
+    (B × ((f : Fault) × C f))
+turn_of (Ok u) h = inl h
+turn_of (Err f) h = inr (h.0, (f, h.1))
+
+-- nothing where it was refused
+pub refused_first : (A B : Type 0) (C : Fault → Type 0) (r : Result Unit Fault) → is_ok r ≡ false → MatchResult r (λ _. A) (λ f. B × C f)
+    → B
+refused_first A B C (Ok u) e h = absurd (true≢false e)
+refused_first A B C (Err f) e h = h.0
+
+module _ {S : Type 0} (g : Ghosts S) where
+  none_skipped : (old : Keeping S) → AreSkipped g old old []
+  none_skipped old = record {
+    failures = 0;
+    counted = more_none (state_of g old.stored).faults (state_of g old.stored).faults
+        (omega arith);
+    are = tt;
+  }
+
+  skipped_still : (old mid new : Keeping S) (fs : List Fault) → (state_of g mid.stored).faults ≤ (state_of g new.stored).faults
+      → ((state_of g mid.stored).is_open ≡ false → (state_of g new.stored).is_open ≡ false) → AreSkipped g old mid fs → AreSkipped g old
+      new fs
+  skipped_still old mid new fs le shuts was = record {
+    failures = was.failures;
+    counted = more_still was.failures (state_of g old.stored).faults (state_of g mid.stored).faults (state_of g new.stored).faults
+        was.counted le;
+    are = refused_on (IsHeldBack g old mid) (IsHeldBack g old new) (held_still g old mid new shuts) was.failures fs was.are;
+  }
+
+  -- one more
+  module _ (old mid new : Keeping S) (fs : List Fault) (f : Fault) (since : Since (state_of g old.stored) (state_of g mid.stored))
+      (le : (state_of g mid.stored).faults ≤ (state_of g new.stored).faults)
+      (shuts : (state_of g mid.stored).is_open ≡ false → (state_of g new.stored).is_open ≡ false) (was : AreSkipped g old mid fs) where
+    skipped_by : (f ≡ fault.StoreRefused → IsHeldBack g old new) ⊎ IsMoreBy 1 (state_of g mid.stored).faults
+        (state_of g new.stored).faults → AreSkipped g old new (f ∷ fs)
+    skipped_by (inl held) =
+        let still = skipped_still old mid new fs le shuts was in
+        record { failures = still.failures; counted = still.counted; are = inl (held, still.are) }
+    skipped_by (inr failed) = record {
+      failures = suc was.failures;
+      counted = more_one was.failures (state_of g old.stored).faults (state_of g mid.stored).faults (state_of g new.stored).faults
+          was.counted failed;
+      are = inr (
+        was.failures,
+        refl,
+        refused_on (IsHeldBack g old mid) (IsHeldBack g old new) (held_still g old mid new shuts)
+            was.failures fs was.are,
+      );
+    }
+
+    held_or_failed : IsDown g mid.stored new.stored → IsHeldBack g old new ⊎ IsMoreBy 1 (state_of g mid.stored).faults
+        (state_of g new.stored).faults
+    held_or_failed down = elim (failed_or_held g mid new down) [
+      | inl held ↦ inl (held_since g old mid new since held)
+      | inr failed ↦ inr
+          failed
+    ]
+
+    skipped_more : (halted : Bool) → IsOfBoard halted f → (f ≡ fault.StoreRefused → IsDown g mid.stored new.stored) → AreSkipped g old new
+        (f ∷ fs)
+    skipped_more halted of why = skipped_by (by_fault halted (IsHeldBack g old new) (IsMoreBy 1 (state_of g mid.stored).faults
+        (state_of g new.stored).faults) f of (λ e. held_or_failed (why e)))
+
+  down_before : (old mid new : Keeping S) → Since (state_of g old.stored) (state_of g mid.stored) → IsDown g mid.stored new.stored
+      → IsDown g old.stored new.stored
+  down_before old mid new since (inl shut) = inl shut
+  down_before old mid new since (inr hindered) = inr (hindering_after g (state_of g old.stored) (state_of g mid.stored)
+      (state_of g new.stored) since hindered)
+
+  ---- One turn
+
+  -- there is none for want of memory
+  pub no_memory_board : (old new : Keeping S) (f : Fault) → f ≡ fault.NoMemory _ → HasNoBoard g old new f
+  no_memory_board old new f is = record {
+    among = subst (λ x. IsOfBoard old.halted x) (sym is) tt;
+    cause = λ fit e. absurd
+        (let clash = sym is ∙ e in cc);
+  }
+
+  -- why there is none the second time
+  none_again : (old mid new : Keeping S) (f : Fault) → IsStill g old mid → IsStill g mid new → HasNoBoard g mid new f → HasNoBoard g old
+      new f
+  none_again old mid new f first second why = record {
+    among = subst (λ h. IsOfBoard h f) first.halted why.among;
+    cause = λ fit e. (let before = second.follows.1 fit in down_before old mid new (first.stored.3 before.0 before.1) (why.cause fit e));
+  }
+
+  -- what came of it where nothing came of the first
+  pub turn_again : (tells : ℕ → Type 0) (old mid new : Keeping S) (was then posted : List Task) → IsStill g old mid → IsStill g mid new
+      → then ≡ was → HasTurn g tells mid new then posted → HasTurn g tells old new was posted
+  turn_again tells old mid new was then posted first second same (inl one) = inl
+      (subst (λ (ts : List Task). PostsOne g tells new ts posted) same one)
+  turn_again tells old mid new was then posted first second same (inr (none, (f, why))) = inr
+      (none ∙ same, (f, none_again old mid new f first second why))
+
+  pub turn_skipped : (tells : ℕ → Type 0) (old new : Keeping S) (was then posted : List Task) → posted ≡ then → HasTurn g tells old new
+      was then → HasTurn g tells old new was posted
+  turn_skipped tells old new was then posted same turn = subst (λ (ts : List Task). HasTurn g tells old new was ts) (sym same) turn
+
+  ---- Many
+
+  pub no_turns : (tells : ℕ → Type 0) (old : Keeping S) (was : List Task) → HasTurns g tells old old was was 0
+  no_turns tells old was = record {
+    boards = [];
+    are = refl;
+    skipped = [];
+    all = omega arith;
+    among = All-nil (IsOfBoard old.halted);
+    counted = λ _. none_skipped old;
+  }
+
+  -- what is committed asks for none
+  pub turns_on : (tells : ℕ → Type 0) (old mid new : Keeping S) (was then posted : List Task) (n : ℕ) → IsLater g mid new → posted ≡ then
+      → (IsFit g new → HasGoneOn g mid new) → HasTurns g tells old mid was then n → HasTurns g tells old new was posted n
+  turns_on tells old mid new was then posted n later same on t = record {
+    boards = t.boards;
+    are = subst (λ (ts : List Task). ArePosted g tells new was ts t.boards) (sym same)
+        (are_later g tells mid new was then t.boards later t.are);
+    skipped = t.skipped;
+    all = t.all;
+    among = t.among;
+    counted = λ fit. skipped_still old mid new t.skipped (on fit).since.0 (shut_on (state_of g mid.stored).is_open
+        (state_of g new.stored).is_open (on fit).up) (t.counted (later.fit fit));
+  }
+
+  -- one more
+  module _ (tells : ℕ → Type 0) (old mid new : Keeping S) (was then posted : List Task) (n : ℕ) (t : HasTurns g tells old mid was then n)
+      (halted : mid.halted ≡ old.halted) (still : IsStill g mid new) (since : IsFit g mid → Since (state_of g old.stored)
+      (state_of g mid.stored)) where
+    before : IsFit g new → IsFit g mid
+    before fit = still.follows.1 fit
+
+    shuts : IsFit g new → (state_of g mid.stored).is_open ≡ false → (state_of g new.stored).is_open ≡ false
+    shuts fit = shut_on (state_of g mid.stored).is_open (state_of g new.stored).is_open (up_before g mid.stored new.stored still.stored fit)
+
+    so_far : ArePosted g tells new was then t.boards
+    so_far = are_later g tells mid new was then t.boards (still_later g mid new still) t.are
+
+    pub turns_more : HasTurn g tells mid new then posted → HasTurns g tells old new was posted (suc n)
+    turns_more (inl one) =
+        let many : length (t.boards ++ one.board ∷ []) ≡ length t.boards + 1 = length-append t.boards (one.board ∷ []) in
+        let count : n ≡ length t.boards + length t.skipped = t.all in
+        record {
+          boards = t.boards ++ one.board ∷ [];
+          are = are_joined g tells new was then posted t.boards (one.board ∷ []) so_far (one.made, one.is);
+          skipped = t.skipped;
+          all = omega (arith, many, count);
+          among = t.among;
+          counted = λ fit. skipped_still old mid new t.skipped (still.stored.3 fit.0 fit.1).0 (shuts fit) (t.counted (before fit));
+        }
+    turns_more (inr (same, (f, why))) =
+        let count : n ≡ length t.boards + length t.skipped = t.all in
+        record {
+          boards = t.boards;
+          are = subst (λ (ts : List Task). ArePosted g tells new was ts t.boards) (sym same) so_far;
+          skipped = f ∷ t.skipped;
+          all = omega (arith, count);
+          among = All-cons (IsOfBoard old.halted) f t.skipped (subst (λ h. IsOfBoard h f) halted why.among) t.among;
+          counted = λ fit. skipped_more old mid new t.skipped f (since (before fit)) (still.stored.3 fit.0 fit.1).0 (shuts fit)
+              (t.counted (before fit)) mid.halted why.among (why.cause fit);
+        }
