@@ -31,6 +31,7 @@ pub record HasTaken (old new : Known) (xs : List Taken) : Type 0 where
   pub history : new.history ≡ old.history
   pub refused : new.refused ≡ old.refused
   pub last : new.last ≡ old.last
+  pub ended : new.ended ≡ old.ended
   pub posted : new.posted ≡ old.posted
   pub boarded : new.boarded ≡ old.boarded
   pub outlook : new.outlook ≡ old.outlook
@@ -57,6 +58,7 @@ pub record HasPublished (old new : Known) (stamp : Stamped) (rs : List Receipt) 
   pub last : new.last ≡ stamp.account ∷ []
   pub held : new.held ≡ []
   pub refused : new.refused ≡ old.refused
+  pub ended : new.ended ≡ old.ended
   pub posted : new.posted ≡ old.posted
   pub boarded : new.boarded ≡ false
   pub outlook : new.outlook ≡ None
@@ -67,6 +69,7 @@ pub record HasRefused (old new : Known) (xs : List Taken) (code : Code) : Type 0
   pub held : new.held ≡ []
   pub history : new.history ≡ old.history
   pub last : new.last ≡ old.last
+  pub ended : new.ended ≡ old.ended
   pub posted : new.posted ≡ old.posted
   pub boarded : new.boarded ≡ false
   pub outlook : new.outlook ≡ None
@@ -82,6 +85,7 @@ pub record IsSameHistory (old new : Known) : Type 0 where
   pub refused : new.refused ≡ old.refused
   pub last : new.last ≡ old.last
   pub held : new.held ≡ old.held
+  pub ended : new.ended ≡ old.ended
 
 -- Those of the board's tasks are posted that weren't posted before, each once and in their order, and it says what is open.
 pub record HasPosted (old new : Known) (board : Boarded) : Type 0 where

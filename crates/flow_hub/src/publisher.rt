@@ -1,13 +1,13 @@
 //! The calls of the thread that answers.
 ghost use Rattle.std.specs.Prelude.{◌≡◌, ◌<◌, ◌≤◌, true, false, [], length, IfErr, OnOk};
 ghost use Rattle.std.specs.Vec.{vec_capacity};
-ghost use Rattle.flow_hub.specs.Knowing.{IsBefore, IsHistory, IsSamePart};
+ghost use Rattle.flow_hub.specs.Knowing.{IsBefore, IsHistory, IsSamePart, with_ended};
 ghost use Rattle.flow_queues.specs.Posting.{HasKeys, IsOnce};
 ghost use Rattle.flow_hub.specs.Publishing.{Answers, HasTaken, HasPublished, HasRefused, HasPosted, HasSkipped, IsFresh, IsDone};
 ghost use Rattle.flow_hub.specs.Seating.{IsPublishers};
 
 use crate::feed::Feed;
-use crate::hub::{Closer, Shared, shared_in};
+use crate::hub::{Shared, shared_in};
 use crate::seats::{Pass, Room};
 use crate::submitter::Submitter;
 use crate::waits::{told_by, told_of};
@@ -31,7 +31,6 @@ pub struct Publisher<B: Room> {
     seat: Pass<B>,
     /// The keys of all that it has posted.
     keys: Keys,
-    closer: Closer,
 }
 
 impl<B: Room> Model for Publisher<B> {
@@ -83,12 +82,7 @@ fn taken<B: Room, R: Wait>(
 }
 
 impl<B: Room> Publisher<B> {
-    pub(crate) fn over(
-        alloc: Global,
-        shared: Arc<Shared<B>>,
-        seat: Pass<B>,
-        closer: Closer,
-    ) -> Publisher<B>
+    pub(crate) fn over(alloc: Global, shared: Arc<Shared<B>>, seat: Pass<B>) -> Publisher<B>
         requires seat { IsPublishers seat }
         requires none { seat.was.posted ≡ [] }
         ensures { result ≡ seat.was }
@@ -98,7 +92,6 @@ impl<B: Room> Publisher<B> {
             shared,
             seat,
             keys: BTreeSet::new(alloc),
-            closer,
         }
     }
 
@@ -194,15 +187,15 @@ impl<B: Room> Publisher<B> {
         shared.posted.notify_all();
     }
 
-    /// Nothing more is taken in, and what waits is still taken.
+    /// Nothing more is taken in, and what waits is still taken. That it was the publisher who has closed it stays known.
     pub fn close<R: Wait>(&mut self, rt: &R)
         ensures closed { self.new.closed ≡ true }
-        ensures part { IsSamePart self.old self.new }
+        ensures part { IsSamePart (with_ended self.old) self.new }
         ensures grows { IsBefore self.old self.new }
     {
         let shared = shared_in(&self.shared);
         let me = shared.seats.leave(&mut self.seat);
-        self.seat = shared.lock(rt).close(&shared.seats, me, &self.closer);
+        self.seat = shared.lock(rt).end(&shared.seats, me);
         shared.wake();
     }
 
