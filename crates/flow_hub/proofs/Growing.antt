@@ -260,22 +260,6 @@ closes_part k = record { history = refl; refused = refl; last = refl; held = ref
 pub gives_part : (k : Known) (t : Task) → IsSamePart (with_given k t) k
 gives_part k t = record { history = refl; refused = refl; last = refl; held = refl; ended = refl; posted = refl; boarded = refl; outlook = refl }
 
--- and what closing by the publisher leaves of its part
-pub ends_part : (was l : Known) → IsSamePart was l → IsSamePart (with_ended was) (with_ended l)
-ends_part was l same = record {
-  history = same.history;
-  refused = same.refused;
-  last = same.last;
-  held = same.held;
-  ended = refl;
-  posted = same.posted;
-  boarded = same.boarded;
-  outlook = same.outlook;
-}
-
-pub ended_by : (was l k : Known) → k ≡ with_ended l → IsSamePart was l → IsSamePart (with_ended was) k
-ended_by was l k e same = subst (λ x. IsSamePart (with_ended was) x) (sym e) (ends_part was l same)
-
 -- the same of equal ones
 pub grows_by : (k l m n : Known) → k ≡ l → n ≡ m → IsBefore l m → IsBefore k n
 grows_by k l m n e f b = subst (λ x. IsBefore x n) (sym e) (subst (λ y. IsBefore l y) (sym f) b)

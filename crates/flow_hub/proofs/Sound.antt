@@ -17,11 +17,11 @@ use Rattle.flow_hub.specs.declared.known.Outlook.{Outlook}
 use Rattle.flow_queues.specs.declared.refused.Refused.{Refused}
 use Rattle.flow_hub.specs.Asks.{Rises, ticket_in, ticket_of, tickets_in, tickets_of, takens_of, IsAsked, IsOwn, IsGone, IsTold, Stands}
 use Rattle.flow_queues.specs.Refusing.{refused_by}
-use Rattle.flow_hub.specs.Knowing.{IsSamePart, IsHistory, IsOver, answered_in, nothing, with_taken, with_published, with_refused, with_posted, with_skipped, with_given}
+use Rattle.flow_hub.specs.Knowing.{IsSamePart, IsHistory, IsOver, answered_in, nothing, with_taken, with_published, with_refused, with_posted, with_skipped, with_given, with_ended}
 use Rattle.flow_hub.specs.Feeding.{HasGiven, IsIdle, given_with}
 use Rattle.flow_queues.specs.Posting.{IsOnce, new_ones}
 use Rattle.flow_hub.specs.Halls.{Hall, IsSound, new_ask, submitted, took, published, refused_all, fetched_receipt, fetched_refusal, enrolled, closed, ended, posted_on, skipped, gave}
-use Rattle.flow_hub.specs.Publishing.{Answers, HasTaken, HasPublished, HasRefused, HasPosted, HasSkipped, IsDone}
+use Rattle.flow_hub.specs.Publishing.{Answers, HasTaken, HasPublished, HasRefused, HasPosted, HasSkipped, HasEnded, IsAllTaken, IsDone}
 use Rattle.flow_queues.proofs.Once.{still_once}
 use Rattle.flow_hub.proofs.Lists.{map-both, length-mapped, from_same, long_same, count_from-next, count_split, rises_count, rises-append, rises_higher, tickets_same, get_front, get_next, stands_on, stand_next}
 
@@ -130,8 +130,14 @@ has_taken h was xs rest is s same =
     }
 
 -- where nothing waits, all is answered or taken
+pub all_taken : (h : Hall) → h.waiting ≡ [] → IsSound h → IsAllTaken h.known
+all_taken h none s = omega (arith, s.asked, s.counts, ap length none)
+
 pub is_done : (h : Hall) → h.waiting ≡ [] → h.known.closed ≡ true → IsSound h → IsDone h.known
-is_done h none c s = record { closed = c; empty = omega (arith, s.asked, s.counts, ap length none) }
+is_done h none c s = record { closed = c; empty = all_taken h none s }
+
+pub all_taken_by : (k l : Known) → k ≡ l → IsAllTaken l → IsAllTaken k
+all_taken_by k l e a = subst (λ x. IsAllTaken x) (sym e) a
 
 owned : (asked : List Taken) (rs : List Receipt) → All (IsAsked asked) (takens_of rs) → All (IsOwn asked) rs
 owned asked [] a = All-nil (IsOwn asked)
@@ -439,6 +445,18 @@ has_skipped l was same = record {
   outlook = sym same.outlook;
 }
 
+pub has_ended : (l was : Known) → IsSamePart was l → HasEnded was (with_ended l)
+has_ended l was same = record {
+  ended = refl;
+  history = sym same.history;
+  refused = sym same.refused;
+  last = sym same.last;
+  held = sym same.held;
+  posted = sym same.posted;
+  boarded = sym same.boarded;
+  outlook = sym same.outlook;
+}
+
 -- what the giver's seat has of what was given out
 pub has_given : (h : Hall) (was : Known) (t : Task) (rest : List Task) → h.tasks ≡ t ∷ rest → IsSound h → was.given ≡ h.known.given → HasGiven was (with_given h.known t) (Some t)
 has_given h was t rest is s same = record {
@@ -504,6 +522,9 @@ posted_by was k l board e t = subst (λ x. HasPosted was x board) (sym e) t
 
 pub skipped_by : (was k l : Known) → k ≡ l → HasSkipped was l → HasSkipped was k
 skipped_by was k l e t = subst (λ x. HasSkipped was x) (sym e) t
+
+pub ended_by : (was k l : Known) → k ≡ l → HasEnded was l → HasEnded was k
+ended_by was k l e t = subst (λ x. HasEnded was x) (sym e) t
 
 pub given_by : (was k l : Known) (t : Option Task) → k ≡ l → HasGiven was l t → HasGiven was k t
 given_by was k l t e h = subst (λ x. HasGiven was x t) (sym e) h

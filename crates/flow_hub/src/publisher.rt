@@ -1,9 +1,9 @@
 //! The calls of the thread that answers.
 ghost use Rattle.std.specs.Prelude.{◌≡◌, ◌<◌, ◌≤◌, true, false, [], length, IfErr, OnOk};
 ghost use Rattle.std.specs.Vec.{vec_capacity};
-ghost use Rattle.flow_hub.specs.Knowing.{IsBefore, IsHistory, IsSamePart, with_ended};
+ghost use Rattle.flow_hub.specs.Knowing.{IsBefore, IsHistory, IsSamePart};
 ghost use Rattle.flow_queues.specs.Posting.{HasKeys, IsOnce};
-ghost use Rattle.flow_hub.specs.Publishing.{Answers, HasTaken, HasPublished, HasRefused, HasPosted, HasSkipped, IsFresh, IsDone};
+ghost use Rattle.flow_hub.specs.Publishing.{Answers, HasTaken, HasPublished, HasRefused, HasPosted, HasSkipped, HasEnded, IsFresh, IsAllTaken, IsDone};
 ghost use Rattle.flow_hub.specs.Seating.{IsPublishers};
 
 use crate::feed::Feed;
@@ -63,6 +63,7 @@ fn taken<B: Room, R: Wait>(
     ensures count { (length into.new.items ≤ most) × (vec_capacity into.new ≡ vec_capacity into.old) }
     ensures some { result.1 ≡ true → 0 < length into.new.items }
     ensures none { result.1 ≡ false → (into.new.items ≡ []) × IsDone result.0.was }
+    ensures all { length into.new.items < most → IsAllTaken result.0.was }
     ensures seat { IsPublishers result.0 }
     ensures grows { IsBefore seat.was result.0.was }
 {
@@ -95,8 +96,8 @@ impl<B: Room> Publisher<B> {
         }
     }
 
-    /// Waits until something waits, and moves 1 to `most` of it into an empty list with that room, in the order of submission.
-    /// False: the hub is closed, and nothing waits. By the caller's condition a board was posted or skipped since the hub was made and
+    /// Waits until something waits, and moves 1 to `most` of it into an empty list with that room, in the order of submission: all
+    /// that waits then, or `most`. False: the hub is closed, and nothing waits. By the caller's condition a board was posted or skipped since the hub was made and
     /// since what was taken last was answered, so that what is ready is given out before more is done.
     pub fn take<R: Wait>(&mut self, rt: &R, into: &mut Vec<Taken>, most: usize) -> bool
         requires boarded { self.old.boarded ≡ true }
@@ -106,6 +107,7 @@ impl<B: Room> Publisher<B> {
         ensures count { (length into.new.items ≤ most) × (vec_capacity into.new ≡ vec_capacity into.old) }
         ensures some { result ≡ true → 0 < length into.new.items }
         ensures none { result ≡ false → (into.new.items ≡ []) × IsDone self.new }
+        ensures all { length into.new.items < most → IsAllTaken self.new }
         ensures grows { IsBefore self.old self.new }
     {
         let shared = shared_in(&self.shared);
@@ -190,7 +192,7 @@ impl<B: Room> Publisher<B> {
     /// Nothing more is taken in, and what waits is still taken. That it was the publisher who has closed it stays known.
     pub fn close<R: Wait>(&mut self, rt: &R)
         ensures closed { self.new.closed ≡ true }
-        ensures part { IsSamePart (with_ended self.old) self.new }
+        ensures ended { HasEnded self.old self.new }
         ensures grows { IsBefore self.old self.new }
     {
         let shared = shared_in(&self.shared);

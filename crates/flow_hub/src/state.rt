@@ -2,10 +2,10 @@
 ghost use Rattle.std.specs.Prelude.{◌≡◌, ◌≢◌, ◌⊎◌, ◌+◌, ◌<◌, ◌≤◌, ◌^◌, [], ◌∷◌, ◌++◌, ℕ, length, true, false, All, Some, IfOk, IfErr, IfSome, IfNone, MatchOption, OnOk, OnErr, slice_get, remove};
 ghost use Rattle.std.specs.Vec.{vec_capacity};
 ghost use Rattle.flow_hub.specs.Asks.{Stands, IsOwn, IsGone, IsTold};
-ghost use Rattle.flow_hub.specs.Knowing.{IsBefore, IsHistory, IsSamePart, answered_in, nothing, with_ended};
+ghost use Rattle.flow_hub.specs.Knowing.{IsBefore, IsHistory, IsSamePart, answered_in, nothing};
 ghost use Rattle.flow_hub.specs.Seating.{opener, seeing, badge_of, IsSubmitters, IsPublishers};
 ghost use Rattle.flow_hub.specs.Halls.{submitted, took, published, refused_all, fetched_receipt, fetched_refusal, enrolled, closed, ended, new_ask, unfetched};
-ghost use Rattle.flow_hub.specs.Publishing.{Answers, HasTaken, HasPublished, HasRefused, IsDone};
+ghost use Rattle.flow_hub.specs.Publishing.{Answers, HasTaken, HasPublished, HasRefused, HasEnded, IsAllTaken, IsDone};
 ghost use Rattle.flow_hub.specs.Submitting.{HasTakenIn, IsFetched, IsOpen, IsDenied, IsSettled};
 
 mod boards;
@@ -257,6 +257,7 @@ impl<B: Room> State<B> {
         ensures seen { HasTaken me.was result.was into.new.items }
         ensures grows { IsBefore me.was result.was }
         ensures none { into.new.items ≡ [] → self.new.known.closed ≡ true → IsDone result.was }
+        ensures all { length into.new.items < most → IsAllTaken result.was }
     {
         move_front(&mut self.waiting, into, most);
         self.held += into.len();
@@ -462,8 +463,8 @@ impl<B: Room> State<B> {
         requires seat { IsPublishers me }
         ensures ended { self.new ≡ ended self.old }
         ensures seat { result ≡ seeing true false 0 self.new.known }
+        ensures seen { HasEnded me.was result.was }
         ensures grows { IsBefore me.was result.was }
-        ensures part { IsSamePart (with_ended me.was) result.was }
     {
         self.known.finish();
         seats.tell(&mut self.keeper, me, self.places, self.places, &self.known)

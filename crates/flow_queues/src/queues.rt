@@ -91,6 +91,7 @@ pub fn move_front(waiting: &mut VecDeque<Taken>, into: &mut Vec<Taken>, most: us
     ensures parts { waiting.old.items ≡ into.new.items ++ waiting.new.items }
     ensures count { (length into.new.items ≤ most) × (vec_capacity into.new ≡ vec_capacity into.old) }
     ensures some { into.new.items ≡ [] → 0 < most → waiting.old.items ≡ [] }
+    ensures all { length into.new.items < most → waiting.new.items ≡ [] }
     ensures lengths { (deque_len waiting.new + length into.new.items ≡ deque_len waiting.old) × (deque_capacity waiting.new ≡ deque_capacity waiting.old) }
 {
     while into.len() < most {
