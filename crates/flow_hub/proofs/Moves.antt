@@ -443,7 +443,7 @@ backs by v s h at =
           ))
           (at_end views' (handed_back v) u j e)),
       numbers_more now.members views' (handed_back v) refl (numbers_drop now.members by s.views w refl h.6),
-      owes_moved now s.views by v w (handed_back v) at refl h.7,
+      owes_moved now s.views by v w (handed_back v) at (omega arith) h.7,
     )
 
 -- giving out goes to a seat of its own
