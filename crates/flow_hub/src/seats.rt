@@ -364,14 +364,7 @@ impl<B: Room> Seats<B> {
     }
 
     /// Under the lock: what is known becomes `all`, the word the length of its history, and the seat that asks is told of it.
-    fn told(
-        &self,
-        keeper: &mut Pass<B>,
-        me: Pass<B>,
-        old: u64,
-        new: u64,
-        all: &Known,
-    ) -> Pass<B>
+    fn told(&self, keeper: &mut Pass<B>, me: Pass<B>, old: u64, new: u64, all: &Known) -> Pass<B>
         requires keeps { IsKeepers keeper.old }
         requires may { (me.pubs ≡ true) ⊎ IsSamePart all.now keeper.old.all }
         requires may_give { (me.gives ≡ true) ⊎ (all.now.given ≡ keeper.old.all.given) }
