@@ -10,7 +10,7 @@ use Rattle.flow_machine.specs.declared.task.Task.{Task}
 use Rattle.flow_hub.specs.declared.known.Known.{Known}
 use Rattle.flow_hub.specs.declared.known.Outlook.{Outlook}
 use Rattle.flow_queues.specs.Refusing.{refused_by}
-use Rattle.flow_hub.specs.Knowing.{nothing, with_ask, with_taken, with_published, with_refused, with_fetched, with_member, with_closed, with_posted, with_skipped, with_given, IsOver, IsBefore, IsSamePart}
+use Rattle.flow_hub.specs.Knowing.{nothing, with_ask, with_taken, with_published, with_refused, with_fetched, with_member, with_closed, with_ended, with_posted, with_skipped, with_given, IsOver, IsBefore, IsSamePart}
 
 pub prefix_self : {A : Type 0} (xs : List A) → IsPrefix xs xs
 prefix_self xs = ([], append-nil xs)
@@ -71,7 +71,7 @@ before_all k = record {
 }
 
 pub same_part : (k : Known) → IsSamePart k k
-same_part k = record { history = refl; refused = refl; last = refl; held = refl; posted = refl; boarded = refl; outlook = refl }
+same_part k = record { history = refl; refused = refl; last = refl; held = refl; ended = refl; posted = refl; boarded = refl; outlook = refl }
 
 -- two that agree with a third on the publisher's part agree
 pub part_of : (x now y k : Known) → IsSamePart x now → y ≡ now → IsSamePart k y → IsSamePart x k
@@ -80,6 +80,7 @@ part_of x now y k p e q = record {
   refused = p.refused ∙ (ap (λ (l : Known). l.refused) (sym e) ∙ sym q.refused);
   last = p.last ∙ (ap (λ (l : Known). l.last) (sym e) ∙ sym q.last);
   held = p.held ∙ (ap (λ (l : Known). l.held) (sym e) ∙ sym q.held);
+  ended = p.ended ∙ (ap (λ (l : Known). l.ended) (sym e) ∙ sym q.ended);
   posted = p.posted ∙ (ap (λ (l : Known). l.posted) (sym e) ∙ sym q.posted);
   boarded = p.boarded ∙ (ap (λ (l : Known). l.boarded) (sym e) ∙ sym q.boarded);
   outlook = p.outlook ∙ (ap (λ (l : Known). l.outlook) (sym e) ∙ sym q.outlook);
@@ -190,6 +191,19 @@ closes_on k = record {
   given = prefix_self k.given;
 }
 
+pub ends_on : (k : Known) → IsBefore k (with_ended k)
+ends_on k = record {
+  asked = prefix_self k.asked;
+  history = prefix_self k.history;
+  refused = prefix_self k.refused;
+  over = over_self k.last;
+  fetched = omega arith;
+  members = omega arith;
+  closed = λ _. refl;
+  posted = prefix_self k.posted;
+  given = prefix_self k.given;
+}
+
 pub posts_on : (k : Known) (ts : List Task) (outlook : Outlook) → IsBefore k (with_posted k ts outlook)
 posts_on k ts outlook = record {
   asked = prefix_self k.asked;
@@ -232,19 +246,19 @@ gives_on k t = record {
 ---- What a submitter changes, hub and lock included, isn't the publisher's
 
 pub asks_part : (k : Known) (t : Taken) → IsSamePart (with_ask k t) k
-asks_part k t = record { history = refl; refused = refl; last = refl; held = refl; posted = refl; boarded = refl; outlook = refl }
+asks_part k t = record { history = refl; refused = refl; last = refl; held = refl; ended = refl; posted = refl; boarded = refl; outlook = refl }
 
 pub fetches_part : (k : Known) → IsSamePart (with_fetched k) k
-fetches_part k = record { history = refl; refused = refl; last = refl; held = refl; posted = refl; boarded = refl; outlook = refl }
+fetches_part k = record { history = refl; refused = refl; last = refl; held = refl; ended = refl; posted = refl; boarded = refl; outlook = refl }
 
 pub enrolls_part : (k : Known) → IsSamePart (with_member k) k
-enrolls_part k = record { history = refl; refused = refl; last = refl; held = refl; posted = refl; boarded = refl; outlook = refl }
+enrolls_part k = record { history = refl; refused = refl; last = refl; held = refl; ended = refl; posted = refl; boarded = refl; outlook = refl }
 
 pub closes_part : (k : Known) → IsSamePart (with_closed k) k
-closes_part k = record { history = refl; refused = refl; last = refl; held = refl; posted = refl; boarded = refl; outlook = refl }
+closes_part k = record { history = refl; refused = refl; last = refl; held = refl; ended = refl; posted = refl; boarded = refl; outlook = refl }
 
 pub gives_part : (k : Known) (t : Task) → IsSamePart (with_given k t) k
-gives_part k t = record { history = refl; refused = refl; last = refl; held = refl; posted = refl; boarded = refl; outlook = refl }
+gives_part k t = record { history = refl; refused = refl; last = refl; held = refl; ended = refl; posted = refl; boarded = refl; outlook = refl }
 
 -- the same of equal ones
 pub grows_by : (k l m n : Known) → k ≡ l → n ≡ m → IsBefore l m → IsBefore k n

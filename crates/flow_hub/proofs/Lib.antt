@@ -1,3 +1,4 @@
+pub mod Fetching
 pub mod Growing
 pub mod Moves
 pub mod Lists

@@ -9,7 +9,7 @@ use Rattle.atomic_table.proofs.Lists.{at_set, at_snoc}
 use Rattle.flow_hub.specs.declared.known.Known.{Known}
 use Rattle.flow_hub.specs.declared.seats.Sight.{Sight}
 use Rattle.flow_hub.specs.Knowing.{nothing, IsBefore, IsSamePart, with_member}
-use Rattle.flow_hub.specs.Seating.{opener, nobody, Fits, IsApart, AreNumbered, Kept, Knows, added, adding, admitting, Adds, Admits, Looks, lent, keeps_left, handed_back, gives_none, gives_alone, member_none, member_alone, meeting, keeping, seeing}
+use Rattle.flow_hub.specs.Seating.{opener, nobody, Fits, IsApart, AreNumbered, Kept, Knows, owed_in, AreOwed, owed_after, IsOwing, added, adding, admitting, Adds, Admits, Looks, lent, keeps_left, handed_back, gives_none, gives_alone, member_none, member_alone, meeting, keeping, seeing}
 use Rattle.flow_hub.proofs.Growing.{before_self, before_trans, before_all, same_part, part_of, enrolls_on, enrolls_part, grows_by, part_by}
 
 off : false ≡ true → ⊥
@@ -158,8 +158,88 @@ fits_set a b c now views by w others mine j u e =
     (λ (x : (j ≢ by) × (get_elem? views j ≡ some u)). others j u x.0 x.1)
     (at_set views by j w u e)
 
+---- What is owed
+
+owed_set : (views : List Sight) (by : ℕ) (v w : Sight) → get_elem? views by ≡ some v → owed_in (set views by w) + v.owed ≡ owed_in views + w.owed
+owed_set [] zero v w at = absurd (some-ne-none v (sym at))
+owed_set [] (suc by) v w at = absurd (some-ne-none v (sym at))
+owed_set (x ∷ xs) zero v w at = let same : x.owed ≡ v.owed = ap (λ (y : Sight). y.owed) (some-injective _ _ at) in omega (arith, same)
+owed_set (x ∷ xs) (suc by) v w at = let rest = owed_set xs by v w at in omega (arith, rest)
+
+owed_end : (views : List Sight) (w : Sight) → owed_in (views ++ w ∷ []) ≡ owed_in views + w.owed
+owed_end [] w = omega arith
+owed_end (x ∷ xs) w = let rest = owed_end xs w in omega (arith, rest)
+
+owed_one : (views : List Sight) (by : ℕ) (v : Sight) → get_elem? views by ≡ some v → v.owed ≤ owed_in views
+owed_one views by v at = let rest = owed_set views by v nobody at in omega (arith, rest)
+
+-- as much is owed to the seat
+owes_still : (now : Known) (views : List Sight) (by : ℕ) (v w : Sight) → get_elem? views by ≡ some v → w.owed ≡ v.owed → AreOwed now views → AreOwed now (set views by w)
+owes_still now views by v w at same h = let one = owed_set views by v w at in omega (arith, one, same, h)
+
+-- a further seat to which nothing is owed
+owes_more : (now : Known) (views : List Sight) (w : Sight) → w.owed ≡ 0 → AreOwed now views → AreOwed now (views ++ w ∷ [])
+owes_more now views w none' h = let one = owed_end views w in omega (arith, one, none', h)
+
+-- what is owed to one seat is owed to a further one
+owes_moved : (now : Known) (views : List Sight) (by : ℕ) (v w u : Sight) → get_elem? views by ≡ some v → w.owed + u.owed ≡ v.owed → AreOwed now views → AreOwed now (set views by w ++ u ∷ [])
+owes_moved now views by v w u at same h =
+    let one = owed_set views by v w at in
+    let two = owed_end (set views by w) u in
+    omega (arith, one, two, same, h)
+
+-- what is owed to two seats is owed to one of them
+owes_both : (now : Known) (views : List Sight) (by other : ℕ) (v w u : Sight) → get_elem? views by ≡ some v → get_elem? (set views by w) other ≡ some u → w.owed ≡ v.owed + u.owed
+    → AreOwed now views → AreOwed now (set (set views by w) other nobody)
+owes_both now views by other v w u at there same h =
+    let one = owed_set views by v w at in
+    let two = owed_set (set views by w) other u nobody there in
+    omega (arith, one, two, same, h)
+
+-- what is owed behind a store
+owes_after : (now k : Known) (views : List Sight) (by : ℕ) (v w : Sight) → get_elem? views by ≡ some v → IsOwing v.owed now k → w.owed ≡ owed_after v.owed now k → AreOwed now views → AreOwed k (set views by w)
+owes_after now k views by v w at owing is h = let one = owed_set views by v w at in omega (arith, one, owing, is, h)
+
+-- no more is owed to a seat than what wasn't fetched
+owed_below : (now all : Known) (views : List Sight) (by : ℕ) (v : Sight) → get_elem? views by ≡ some v → all ≡ now → AreOwed now views → v.owed + all.fetched ≤ length all.asked
+owed_below now all views by v at same h =
+    let one = owed_one views by v at in
+    let asked = ap (λ (l : Known). length l.asked) same in
+    let fetched = ap (λ (l : Known). l.fetched) same in
+    omega (arith, one, asked, fetched, h)
+
+-- where nothing was asked for and nothing fetched
+pub owing_same : (n : ℕ) (old new : Known) → new.asked ≡ old.asked → new.fetched ≡ old.fetched → IsOwing n old new
+owing_same n old new asked fetched = let long = ap length asked in omega (arith, long, fetched)
+
+pub owed_same : (n : ℕ) (old new : Known) → new.asked ≡ old.asked → new.fetched ≡ old.fetched → owed_after n old new ≡ n
+owed_same n old new asked fetched = let long = ap length asked in omega (arith, long, fetched)
+
+-- where one more was asked for
+pub owing_more : (n : ℕ) (old new : Known) → length new.asked ≡ length old.asked + 1 → new.fetched ≡ old.fetched → IsOwing n old new
+owing_more n old new asked fetched = omega (arith, asked, fetched)
+
+pub owed_more : (n : ℕ) (old new : Known) → length new.asked ≡ length old.asked + 1 → new.fetched ≡ old.fetched → owed_after n old new ≡ n + 1
+owed_more n old new asked fetched = omega (arith, asked, fetched)
+
+-- where one more was fetched
+pub owing_less : (n : ℕ) (old new : Known) → 1 ≤ n → new.asked ≡ old.asked → new.fetched ≡ old.fetched + 1 → IsOwing n old new
+owing_less n old new some' asked fetched = let long = ap length asked in omega (arith, some', long, fetched)
+
+pub owed_less : (n : ℕ) (old new : Known) → 1 ≤ n → new.asked ≡ old.asked → new.fetched ≡ old.fetched + 1 → owed_after n old new + 1 ≡ n
+owed_less n old new some' asked fetched = let long = ap length asked in omega (arith, some', long, fetched)
+
+-- what the seat that asked is left with, behind the three steps under the lock
+pub hands_back : (v w x y z : Sight) (k : Known) → v.owed ≡ 0 → x ≡ lent v w → y ≡ adding x k → z ≡ handed_back y → z ≡ seeing w.pubs w.gives (owed_after w.owed v.all k) k
+hands_back v w x y z k none' e f h =
+    let here : v.owed + w.owed ≡ w.owed = omega (arith, none') in
+    h ∙ (ap handed_back (f ∙ ap (λ u. adding u k) e) ∙ ap (λ n. seeing w.pubs w.gives (owed_after n v.all k) k) here)
+
+pub seeing_by : (pubs gives : Bool) (m n : ℕ) (k : Known) (v : Sight) → v ≡ seeing pubs gives m k → m ≡ n → v ≡ seeing pubs gives n k
+seeing_by pubs gives m n k v e f = e ∙ ap (λ i. seeing pubs gives i k) f
+
 pub begins : Kept (opening (0 ∷ []) [] opener)
-begins = (0, 0, 0, nothing, refl, one, ((λ n. 0), unnamed))
+begins = (0, 0, 0, nothing, refl, one, ((λ n. 0), unnamed), refl)
   where
     unnamed : (by : ℕ) (v : Sight) → get_elem? (opener ∷ []) by ≡ some v → IsSeat 0 (λ n. 0) by v
     unnamed zero v e = subst (IsSeat 0 (λ n. 0) 0) (some-injective _ _ e) (without 0 (λ n. 0) 0 opener refl)
@@ -176,10 +256,10 @@ Leaves v member k n w = (w ≡ (added v member k, [])) × Knows v
 -- where the seat keeps, and publishes unless the publisher's part stays, and gives out unless what is given out stays, all that is
 -- known may grow, as far as the rule of the numbers holds
 stores : (by old new : ℕ) (v : Sight) (k : Known) (member : Option ℕ) → v.keeps ≡ true → (v.pubs ≡ true) ⊎ IsSamePart k v.all → (v.gives ≡ true) ⊎ (k.given ≡ v.all.given)
-    → IsBefore v.all k → length v.all.history ≡ old → length k.history ≡ new
+    → IsBefore v.all k → length v.all.history ≡ old → length k.history ≡ new → IsOwing v.owed v.all k
     → ((views : List Sight) → get_elem? views by ≡ some v → AreNumbered v.all.members views → AreNumbered k.members (set views by (added v member k)))
     → Allows Kept 0 by (v, []) 0 (λ n. either (n == old) new n) (Leaves v member k)
-stores by old new v k member keeping may may_give grows was is numbered s h homes at small =
+stores by old new v k member keeping may may_give grows was is owing numbered s h homes at small =
     let a = h.0 in
     let b = h.1 in
     let c = h.2 in
@@ -214,6 +294,7 @@ stores by old new v k member keeping may may_give grows was is numbered s h home
         words,
         fits_set a b c k s.views by w others ((λ kept. ((mine.0 kept).0, refl)), (λ pub'. ((mine.1 pub').0, same_part k)), (λ gives. ((mine.2 gives).0, refl)), before_self k),
         numbered s.views at (subst (λ (m : Known). AreNumbered m.members s.views) (sym same) h.6),
+        owes_after v.all k s.views by v w at owing refl (subst (λ (m : Known). AreOwed m s.views) (sym same) h.7),
       ),
       (
         refl,
@@ -221,6 +302,7 @@ stores by old new v k member keeping may may_give grows was is numbered s h home
           subst (λ m. IsBefore v.was m) (sym same) mine.3,
           (λ pub'. subst (λ m. IsSamePart v.was m) (sym same) (mine.1 pub').1),
           (λ gives. (mine.2 gives).1 ∙ ap (λ (m : Known). m.given) (sym same)),
+          owed_below now v.all s.views by v at same h.7,
         ),
       ),
     )
@@ -233,10 +315,10 @@ stores by old new v k member keeping may may_give grows was is numbered s h home
 
 -- the seat has the number that it had
 pub adds : (by old new : ℕ) (v : Sight) (k : Known) → v.keeps ≡ true → (v.pubs ≡ true) ⊎ IsSamePart k v.all → (v.gives ≡ true) ⊎ (k.given ≡ v.all.given)
-    → IsBefore v.all k → length v.all.history ≡ old → length k.history ≡ new
+    → IsBefore v.all k → length v.all.history ≡ old → length k.history ≡ new → IsOwing v.owed v.all k
     → Allows Kept 0 by (v, []) 0 (λ n. either (n == old) new n) (Adds (step 0 0 old new (some k)) (v, []))
-adds by old new v k keeping may may_give grows was is =
-    stores by old new v k v.member keeping may may_give grows was is (λ views at all. numbers_stay v.all.members k.members by views v (adding v k) at refl (λ _. met_none (adding v k) refl) grows.members all)
+adds by old new v k keeping may may_give grows was is owing =
+    stores by old new v k v.member keeping may may_give grows was is owing (λ views at all. numbers_stay v.all.members k.members by views v (adding v k) at refl (λ _. met_none (adding v k) refl) grows.members all)
 
 -- the seat has the number of one submitter more
 pub admits : (by places : ℕ) (v : Sight) (k : Known) → v.keeps ≡ true → k ≡ with_member v.all → length k.history ≡ places
@@ -249,6 +331,7 @@ admits by places v k keeping next is =
     (grows_by v.all v.all (with_member v.all) k refl next (enrolls_on v.all))
     (ap (λ (l : Known). length l.history) (sym next) ∙ is)
     is
+    (owing_same v.owed v.all k (ap (λ (l : Known). l.asked) next) (ap (λ (l : Known). l.fetched) next))
     (λ views at all. numbers_next v.all.members k.members by views (admitting v k) refl refl (omega (arith, more')) all)
 
 -- a load sees all
@@ -259,7 +342,7 @@ looks by v s h homes at small =
     let c = h.2 in
     let now = h.3 in
     let mine = h.5 by v at in
-    let w : Sight = record { keeps = v.keeps; pubs = v.pubs; gives = v.gives; member = v.member; met = v.met; all = v.all; was = now } in
+    let w : Sight = record { keeps = v.keeps; pubs = v.pubs; gives = v.gives; member = v.member; met = v.met; owed = v.owed; all = v.all; was = now } in
     let n = slice_index s.words 0 in
     let found : n ≡ length now.history = ap (λ ws. slice_index ws 0) h.4 in
     let words : set s.words 0 n ≡ length now.history ∷ [] = ap (λ ws. set ws 0 n) h.4 ∙ ap (λ m. m ∷ []) found in (
@@ -274,14 +357,15 @@ looks by v s h homes at small =
         words,
         fits_set a b c now s.views by w (λ j u apart e. h.5 j u e) (mine.0, (λ pub'. ((mine.1 pub').0, same_part now)), (λ gives. ((mine.2 gives).0, refl)), before_self now),
         numbers_stay now.members now.members by s.views v w at refl (λ f. f) (omega arith) h.6,
+        owes_still now s.views by v w at refl h.7,
       ),
-      (refl, refl, refl, refl, mine.3, sym found, refl, refl, (h.6.1 by v at).1),
+      (refl, refl, refl, refl, mine.3, sym found, refl, refl, refl, (h.6.1 by v at).1),
     )
 
 -- a new seat knows nothing yet
 pub enters : (after : ℕ → Sight → Type 0) → ((n : ℕ) → after n nobody) → Enters Kept 0 0 after
 enters after told s h homes small =
-    (nobody, (h.0, h.1, h.2, h.3, h.4, (λ j u e. ⊎_elim (h.5 j u) (λ (x : nobody ≡ u). subst (Fits h.0 h.1 h.2 h.3 j) x (nobody_fits h.0 h.1 h.2 h.3 j)) (at_snoc s.views nobody u j e)), numbers_more h.3.members s.views nobody refl h.6), told (slice_index s.words 0))
+    (nobody, (h.0, h.1, h.2, h.3, h.4, (λ j u e. ⊎_elim (h.5 j u) (λ (x : nobody ≡ u). subst (Fits h.0 h.1 h.2 h.3 j) x (nobody_fits h.0 h.1 h.2 h.3 j)) (at_snoc s.views nobody u j e)), numbers_more h.3.members s.views nobody refl h.6, owes_more h.3 s.views nobody refl h.7), told (slice_index s.words 0))
 
 -- the keeper takes in what another saw, and whether it publishes and gives out
 pub lends : (by : ℕ) (v : Sight) (other : ℕ) (u : Sight) → Joins Kept by v other u (lent v u) nobody
@@ -311,6 +395,7 @@ lends by v other u s h at apart there =
       h.4,
       fits_set a d e' now (set s.views by w) other nobody first (nobody_fits a d e' now other),
       numbers_drop now.members other (set s.views by w) nobody refl (numbers_stay now.members now.members by s.views v w at refl (λ _. met_none w refl) (omega arith) h.6),
+      owes_both now s.views by other v w u at there refl h.7,
     )
   where
     fits_set' : (a b c : ℕ) (now : Known) (views : List Sight) (by : ℕ) (w : Sight) (other j : ℕ) (x : Sight) → j ≢ other
@@ -358,6 +443,7 @@ backs by v s h at =
           ))
           (at_end views' (handed_back v) u j e)),
       numbers_more now.members views' (handed_back v) refl (numbers_drop now.members by s.views w refl h.6),
+      owes_moved now s.views by v w (handed_back v) at (omega arith) h.7,
     )
 
 -- giving out goes to a seat of its own
@@ -396,6 +482,7 @@ parts by v s h at =
           ))
           (at_end views' (gives_alone v) u j e)),
       numbers_more now.members views' (gives_alone v) refl (numbers_stay now.members now.members by s.views v w at refl (λ _. met_none w refl) (omega arith) h.6),
+      owes_moved now s.views by v w (gives_alone v) at (omega arith) h.7,
     )
 
 -- the number goes to a seat of its own
@@ -424,6 +511,7 @@ names by v s h at =
           ))
           (at_end views' (member_alone v) u j e)),
       numbers_move now.members by s.views v w (member_alone v) at refl refl refl h.6,
+      owes_moved now s.views by v w (member_alone v) at (omega arith) h.7,
     )
 
 -- a seat has met another one, which is spent
@@ -442,6 +530,7 @@ meets by v other u s h at apart there =
       h.4,
       fits_set a b c now (set s.views by w) other nobody (λ j x away e. first j x e) (nobody_fits a b c now other),
       numbers_meet now.members by other s.views v u at apart there h.6,
+      owes_both now s.views by other v w u at there refl h.7,
     )
 
 -- what a seat learns that has met another one
@@ -450,7 +539,7 @@ apart_of v u x w is member met apart n theirs mine =
     apart n (met ∙ (ap (λ (y : Sight). y.met) is ∙ theirs)) (member ∙ (ap (λ (y : Sight). y.member) is ∙ mine))
 
 -- what a seat that was told has seen
-pub was_of : (v : Sight) (pubs gives : Bool) (k : Known) → v ≡ seeing pubs gives k → v.was ≡ k
+pub was_of : (v : Sight) (pubs gives : Bool) {n : ℕ} (k : Known) → v ≡ seeing pubs gives n k → v.was ≡ k
 was_of v pubs gives k e = ap (λ (w : Sight). w.was) e
 
 -- what the seat under the lock knows

@@ -17,11 +17,11 @@ use Rattle.flow_hub.specs.declared.known.Outlook.{Outlook}
 use Rattle.flow_queues.specs.declared.refused.Refused.{Refused}
 use Rattle.flow_hub.specs.Asks.{Rises, ticket_in, ticket_of, tickets_in, tickets_of, takens_of, IsAsked, IsOwn, IsGone, IsTold, Stands}
 use Rattle.flow_queues.specs.Refusing.{refused_by}
-use Rattle.flow_hub.specs.Knowing.{IsSamePart, IsHistory, IsOver, answered_in, nothing, with_taken, with_published, with_refused, with_posted, with_skipped, with_given}
+use Rattle.flow_hub.specs.Knowing.{IsSamePart, IsHistory, IsOver, answered_in, nothing, with_taken, with_published, with_refused, with_posted, with_skipped, with_given, with_ended}
 use Rattle.flow_hub.specs.Feeding.{HasGiven, IsIdle, given_with}
 use Rattle.flow_queues.specs.Posting.{IsOnce, new_ones}
-use Rattle.flow_hub.specs.Halls.{Hall, IsSound, new_ask, submitted, took, published, refused_all, fetched_receipt, fetched_refusal, enrolled, closed, posted_on, skipped, gave}
-use Rattle.flow_hub.specs.Publishing.{Answers, HasTaken, HasPublished, HasRefused, HasPosted, HasSkipped, IsDone}
+use Rattle.flow_hub.specs.Halls.{Hall, IsSound, new_ask, submitted, took, published, refused_all, fetched_receipt, fetched_refusal, enrolled, closed, ended, posted_on, skipped, gave}
+use Rattle.flow_hub.specs.Publishing.{Answers, HasTaken, HasPublished, HasRefused, HasPosted, HasSkipped, HasEnded, IsAllTaken, IsDone}
 use Rattle.flow_queues.proofs.Once.{still_once}
 use Rattle.flow_hub.proofs.Lists.{map-both, length-mapped, from_same, long_same, count_from-next, count_split, rises_count, rises-append, rises_higher, tickets_same, get_front, get_next, stands_on, stand_next}
 
@@ -120,6 +120,7 @@ has_taken h was xs rest is s same =
       history = sym same.history;
       refused = sym same.refused;
       last = sym same.last;
+      ended = sym same.ended;
       posted = sym same.posted;
       boarded = sym same.boarded;
       outlook = sym same.outlook;
@@ -129,8 +130,14 @@ has_taken h was xs rest is s same =
     }
 
 -- where nothing waits, all is answered or taken
+pub all_taken : (h : Hall) → h.waiting ≡ [] → IsSound h → IsAllTaken h.known
+all_taken h none s = omega (arith, s.asked, s.counts, ap length none)
+
 pub is_done : (h : Hall) → h.waiting ≡ [] → h.known.closed ≡ true → IsSound h → IsDone h.known
-is_done h none c s = record { closed = c; empty = omega (arith, s.asked, s.counts, ap length none) }
+is_done h none c s = record { closed = c; empty = all_taken h none s }
+
+pub all_taken_by : (k l : Known) → k ≡ l → IsAllTaken l → IsAllTaken k
+all_taken_by k l e a = subst (λ x. IsAllTaken x) (sym e) a
 
 owned : (asked : List Taken) (rs : List Receipt) → All (IsAsked asked) (takens_of rs) → All (IsOwn asked) rs
 owned asked [] a = All-nil (IsOwn asked)
@@ -204,6 +211,7 @@ has_published l was stamp rs same a = record {
   last = refl;
   held = refl;
   refused = sym same.refused;
+  ended = sym same.ended;
   posted = sym same.posted;
   boarded = refl;
   outlook = refl;
@@ -303,6 +311,7 @@ has_refused l was xs code same = record {
   held = refl;
   history = sym same.history;
   last = sym same.last;
+  ended = sym same.ended;
   posted = sym same.posted;
   boarded = refl;
   outlook = refl;
@@ -328,6 +337,24 @@ enrolls h s = record {
 
 pub closes : (h : Hall) → IsSound h → IsSound (closed h)
 closes h s = record {
+  legal = record { kept = s.legal.kept; rising = s.legal.rising };
+  order = s.order;
+  counts = s.counts;
+  shared = s.shared;
+  asked = s.asked;
+  fetched = s.fetched;
+  taken = s.taken;
+  pending = s.pending;
+  own = s.own;
+  gone = s.gone;
+  stand = s.stand;
+  told = s.told;
+  queued = s.queued;
+  once = s.once;
+}
+
+pub ends : (h : Hall) → IsSound h → IsSound (ended h)
+ends h s = record {
   legal = record { kept = s.legal.kept; rising = s.legal.rising };
   order = s.order;
   counts = s.counts;
@@ -404,7 +431,7 @@ gives h t rest is s = record {
 pub has_posted : (l was : Known) (board : Boarded) → IsSamePart was l
     → HasPosted was (with_posted l (new_ones l.posted board.tasks) (record { due = board.due; open_runs = board.open_runs })) board
 has_posted l was board same = record {
-  rest = record { history = sym same.history; refused = sym same.refused; last = sym same.last; held = sym same.held };
+  rest = record { history = sym same.history; refused = sym same.refused; last = sym same.last; held = sym same.held; ended = sym same.ended };
   posted = ap (λ ts. ts ++ new_ones ts board.tasks) (sym same.posted);
   boarded = refl;
   outlook = refl;
@@ -412,9 +439,21 @@ has_posted l was board same = record {
 
 pub has_skipped : (l was : Known) → IsSamePart was l → HasSkipped was (with_skipped l)
 has_skipped l was same = record {
-  rest = record { history = sym same.history; refused = sym same.refused; last = sym same.last; held = sym same.held };
+  rest = record { history = sym same.history; refused = sym same.refused; last = sym same.last; held = sym same.held; ended = sym same.ended };
   posted = sym same.posted;
   boarded = refl;
+  outlook = sym same.outlook;
+}
+
+pub has_ended : (l was : Known) → IsSamePart was l → HasEnded was (with_ended l)
+has_ended l was same = record {
+  ended = refl;
+  history = sym same.history;
+  refused = sym same.refused;
+  last = sym same.last;
+  held = sym same.held;
+  posted = sym same.posted;
+  boarded = sym same.boarded;
   outlook = sym same.outlook;
 }
 
@@ -450,6 +489,7 @@ taken_since j k l xs same t = record {
   history = t.history ∙ sym same.history;
   refused = t.refused ∙ sym same.refused;
   last = t.last ∙ sym same.last;
+  ended = t.ended ∙ sym same.ended;
   posted = t.posted ∙ sym same.posted;
   boarded = t.boarded ∙ sym same.boarded;
   outlook = t.outlook ∙ sym same.outlook;
@@ -471,6 +511,7 @@ none_taken j k l xs none same t = record {
   refused = same.refused ∙ sym t.refused;
   last = same.last ∙ sym t.last;
   held = same.held ∙ sym (t.held ∙ (ap (λ x. k.held ++ x) none ∙ append-nil k.held));
+  ended = same.ended ∙ sym t.ended;
   posted = same.posted ∙ sym t.posted;
   boarded = same.boarded ∙ sym t.boarded;
   outlook = same.outlook ∙ sym t.outlook;
@@ -481,6 +522,9 @@ posted_by was k l board e t = subst (λ x. HasPosted was x board) (sym e) t
 
 pub skipped_by : (was k l : Known) → k ≡ l → HasSkipped was l → HasSkipped was k
 skipped_by was k l e t = subst (λ x. HasSkipped was x) (sym e) t
+
+pub ended_by : (was k l : Known) → k ≡ l → HasEnded was l → HasEnded was k
+ended_by was k l e t = subst (λ x. HasEnded was x) (sym e) t
 
 pub given_by : (was k l : Known) (t : Option Task) → k ≡ l → HasGiven was l t → HasGiven was k t
 given_by was k l t e h = subst (λ x. HasGiven was x t) (sym e) h

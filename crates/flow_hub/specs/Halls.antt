@@ -13,7 +13,7 @@ use Rattle.flow_hub.specs.declared.known.Outlook.{Outlook}
 use Rattle.flow_queues.specs.declared.refused.Refused.{Refused}
 use Rattle.flow_hub.specs.Asks.{tickets_in, IsAsked, IsOwn, IsGone, IsTold, Stands}
 use Rattle.flow_queues.specs.Refusing.{refused_by}
-use Rattle.flow_hub.specs.Knowing.{IsHistory, answered_in, known_code, refusals_code, task_list_code, with_ask, with_taken, with_published, with_refused, with_fetched, with_member, with_closed, with_posted, with_skipped, with_given}
+use Rattle.flow_hub.specs.Knowing.{IsHistory, answered_in, known_code, refusals_code, task_list_code, with_ask, with_taken, with_published, with_refused, with_fetched, with_member, with_closed, with_ended, with_posted, with_skipped, with_given}
 use Rattle.flow_queues.specs.Posting.{IsOnce, new_ones}
 
 -- What is known of the hub, and the four lists that its calls work on: what waits, the answers that were not fetched, and the tasks that
@@ -87,6 +87,9 @@ enrolled h = record h { known = with_member h.known }
 
 abbrev pub closed : Hall → Hall
 closed h = record h { known = with_closed h.known }
+
+abbrev pub ended : Hall → Hall
+ended h = record h { known = with_ended h.known }
 
 -- Of these tasks those are posted that weren't before, each once.
 abbrev pub posted_on : Hall → List Task → Outlook → Hall

@@ -31,16 +31,20 @@ Tasks = List Task × (List Task × (Bool × Option Outlook))
 abbrev tasks_code : Coded Tasks
 tasks_code = coded× task_list_code (coded× task_list_code (coded× coded_bool (coded_option outlook_row.the_row.coded)))
 
+-- closed by anybody, and by the publisher
+abbrev Closing : Type 0
+Closing = Bool × Bool
+
 abbrev pub known_code : Coded Known
 known_code =
-    code_by (List Taken × (List Receipt × (List Refused × (List Accounted × (List Taken × (ℕ × (ℕ × (Bool × Tasks))))))))
-    (coded× batch_code (coded× log_code (coded× refusals_code (coded× (coded_list account_code) (coded× batch_code (coded× coded_ℕ (coded× coded_ℕ (coded× coded_bool tasks_code))))))))
-    (λ k. (k.asked, (k.history, (k.refused, (k.last, (k.held, (k.fetched, (k.members, (k.closed, (k.posted, (k.given, (k.boarded, k.outlook))))))))))))
-    (λ p. record { asked = p.0; history = p.1.0; refused = p.1.1.0; last = p.1.1.1.0; held = p.1.1.1.1.0; fetched = p.1.1.1.1.1.0; members = p.1.1.1.1.1.1.0; closed = p.1.1.1.1.1.1.1.0; posted = p.1.1.1.1.1.1.1.1.0; given = p.1.1.1.1.1.1.1.1.1.0; boarded = p.1.1.1.1.1.1.1.1.1.1.0; outlook = p.1.1.1.1.1.1.1.1.1.1.1 })
+    code_by (List Taken × (List Receipt × (List Refused × (List Accounted × (List Taken × (ℕ × (ℕ × (Closing × Tasks))))))))
+    (coded× batch_code (coded× log_code (coded× refusals_code (coded× (coded_list account_code) (coded× batch_code (coded× coded_ℕ (coded× coded_ℕ (coded× (coded× coded_bool coded_bool) tasks_code))))))))
+    (λ k. (k.asked, (k.history, (k.refused, (k.last, (k.held, (k.fetched, (k.members, ((k.closed, k.ended), (k.posted, (k.given, (k.boarded, k.outlook))))))))))))
+    (λ p. record { asked = p.0; history = p.1.0; refused = p.1.1.0; last = p.1.1.1.0; held = p.1.1.1.1.0; fetched = p.1.1.1.1.1.0; members = p.1.1.1.1.1.1.0; closed = p.1.1.1.1.1.1.1.0.0; ended = p.1.1.1.1.1.1.1.0.1; posted = p.1.1.1.1.1.1.1.1.0; given = p.1.1.1.1.1.1.1.1.1.0; boarded = p.1.1.1.1.1.1.1.1.1.1.0; outlook = p.1.1.1.1.1.1.1.1.1.1.1 })
     (λ _. refl)
 
 abbrev pub nothing : Known
-nothing = record { asked = []; history = []; refused = []; last = []; held = []; fetched = 0; members = 0; closed = false; posted = []; given = []; boarded = false; outlook = None }
+nothing = record { asked = []; history = []; refused = []; last = []; held = []; fetched = 0; members = 0; closed = false; ended = false; posted = []; given = []; boarded = false; outlook = None }
 
 -- how many submissions are answered, by a receipt or by a code
 abbrev pub answered_in : Known → ℕ
@@ -68,6 +72,10 @@ with_member k = record k { members = k.members + 1 }
 
 abbrev pub with_closed : Known → Known
 with_closed k = record k { closed = true }
+
+-- its publisher has closed it
+abbrev pub with_ended : Known → Known
+with_ended k = record k { closed = true; ended = true }
 
 abbrev pub with_posted : Known → List Task → Outlook → Known
 with_posted k ts outlook = record k { posted = k.posted ++ ts; boarded = true; outlook = Some outlook }
@@ -99,13 +107,14 @@ pub record IsBefore (k l : Known) : Type 0 where
   pub posted : IsPrefix k.posted l.posted
   pub given : IsPrefix k.given l.given
 
--- What the publisher alone changes is the same: the history, the last stamp, what was answered by a code, what is taken, and what it
--- has posted.
+-- What the publisher alone changes is the same: the history, the last stamp, what was answered by a code, what is taken, what it has
+-- posted, and whether it has closed the hub.
 pub record IsSamePart (k l : Known) : Type 0 where
   pub history : k.history ≡ l.history
   pub refused : k.refused ≡ l.refused
   pub last : k.last ≡ l.last
   pub held : k.held ≡ l.held
+  pub ended : k.ended ≡ l.ended
   pub posted : k.posted ≡ l.posted
   pub boarded : k.boarded ≡ l.boarded
   pub outlook : k.outlook ≡ l.outlook

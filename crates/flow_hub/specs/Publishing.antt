@@ -31,16 +31,21 @@ pub record HasTaken (old new : Known) (xs : List Taken) : Type 0 where
   pub history : new.history ≡ old.history
   pub refused : new.refused ≡ old.refused
   pub last : new.last ≡ old.last
+  pub ended : new.ended ≡ old.ended
   pub posted : new.posted ≡ old.posted
   pub boarded : new.boarded ≡ old.boarded
   pub outlook : new.outlook ≡ old.outlook
   pub asked : All (IsAsked new.asked) xs
   pub order : tickets_in xs ≡ count_from (answered_in old + length old.held) (length xs)
 
+-- All that was submitted is answered or taken.
+abbrev pub IsAllTaken : Known → Type 0
+IsAllTaken k = length k.asked ≡ answered_in k + length k.held
+
 -- Nothing more is taken in, and all that was submitted is answered or taken.
 pub record IsDone (k : Known) : Type 0 where
   pub closed : k.closed ≡ true
-  pub empty : length k.asked ≡ answered_in k + length k.held
+  pub empty : IsAllTaken k
 
 -- The receipts are those of the stamp, and answer what was taken, whole and in order; and with them all that the stamp's keeper
 -- has kept is published, and nothing twice.
@@ -57,6 +62,7 @@ pub record HasPublished (old new : Known) (stamp : Stamped) (rs : List Receipt) 
   pub last : new.last ≡ stamp.account ∷ []
   pub held : new.held ≡ []
   pub refused : new.refused ≡ old.refused
+  pub ended : new.ended ≡ old.ended
   pub posted : new.posted ≡ old.posted
   pub boarded : new.boarded ≡ false
   pub outlook : new.outlook ≡ None
@@ -67,6 +73,7 @@ pub record HasRefused (old new : Known) (xs : List Taken) (code : Code) : Type 0
   pub held : new.held ≡ []
   pub history : new.history ≡ old.history
   pub last : new.last ≡ old.last
+  pub ended : new.ended ≡ old.ended
   pub posted : new.posted ≡ old.posted
   pub boarded : new.boarded ≡ false
   pub outlook : new.outlook ≡ None
@@ -82,6 +89,7 @@ pub record IsSameHistory (old new : Known) : Type 0 where
   pub refused : new.refused ≡ old.refused
   pub last : new.last ≡ old.last
   pub held : new.held ≡ old.held
+  pub ended : new.ended ≡ old.ended
 
 -- Those of the board's tasks are posted that weren't posted before, each once and in their order, and it says what is open.
 pub record HasPosted (old new : Known) (board : Boarded) : Type 0 where
@@ -95,4 +103,15 @@ pub record HasSkipped (old new : Known) : Type 0 where
   pub rest : IsSameHistory old new
   pub posted : new.posted ≡ old.posted
   pub boarded : new.boarded ≡ true
+  pub outlook : new.outlook ≡ old.outlook
+
+-- The publisher has closed the hub, and all else that it alone changes is as it was.
+pub record HasEnded (old new : Known) : Type 0 where
+  pub ended : new.ended ≡ true
+  pub history : new.history ≡ old.history
+  pub refused : new.refused ≡ old.refused
+  pub last : new.last ≡ old.last
+  pub held : new.held ≡ old.held
+  pub posted : new.posted ≡ old.posted
+  pub boarded : new.boarded ≡ old.boarded
   pub outlook : new.outlook ≡ old.outlook

@@ -1,10 +1,11 @@
 -- The numbers of what a hub refuses.
-use Rattle.std.specs.Prelude.{ℕ}
+use Rattle.std.specs.Prelude.{ℕ, Bool, true, false}
 use Rattle.flow_base.specs.Codes.{code_number}
 use Rattle.flow_hub.specs.declared.denied.Denied.{Denied}
 use Rattle.flow_hub.specs.declared.denied.Denied.TheVariants as denied
 use Rattle.flow_hub.specs.declared.denied.Unseated.{Unseated}
 use Rattle.flow_hub.specs.declared.denied.Unseated.TheVariants as unseated
+use Rattle.flow_hub.specs.declared.ticket.NotDone.{NotDone}
 use Rattle.flow_hub.specs.declared.ticket.Why.{Why}
 use Rattle.flow_hub.specs.declared.ticket.Why.TheVariants as why
 
@@ -19,3 +20,12 @@ unseated_number unseated.InboxFull = 90
 abbrev pub why_number : Why → ℕ
 why_number why.NotMine = 92
 why_number (why.Refused code) = code_number code
+
+---- Whether a ticket has had its answer
+
+abbrev pub spent_by : Why → Bool
+spent_by why.NotMine = false
+spent_by (why.Refused code) = true
+
+abbrev pub is_spent : NotDone → Bool
+is_spent n = spent_by n.code

@@ -1,6 +1,6 @@
 -- What submitters are, and what they are told.
-use Rattle.std.specs.Prelude.{ℕ, ◌≡◌, ◌≢◌, ◌⊎◌, ◌+◌, ◌<◌, ◌≤◌, ◌^◌, true, false, length, Some, None, slice_get, refl}
-use Rattle.std.specs.Coded.{Coded, code_by, coded×, coded_ℕ}
+use Rattle.std.specs.Prelude.{ℕ, ◌≡◌, ◌≢◌, ◌⊎◌, ◌+◌, ◌<◌, ◌≤◌, ◌^◌, Bool, true, false, List, length, Some, None, slice_get, remove, refl}
+use Rattle.std.specs.Coded.{Coded, code_by, coded×, coded_ℕ, coded_list}
 use Rattle.flow_base.specs.declared.command.Command.{Command}
 use Rattle.flow_machine.specs.declared.submission.Receipt.{Receipt}
 use Rattle.flow_hub.specs.declared.denied.Denied.{Denied}
@@ -15,18 +15,20 @@ use Rattle.flow_hub.specs.declared.ticket.Why.TheVariants as why
 use Rattle.flow_hub.specs.Asks.{IsAsked, IsOwn, IsTold, Stands}
 use Rattle.flow_hub.specs.Knowing.{IsHistory, known_code}
 
--- The value of a submitter: its number, what it has seen of the hub, and its share of the tickets given: of how many submitters,
--- itself and those that it has gathered, and how many tickets.
+-- The value of a submitter: its number, what it has seen of the hub, its share of the tickets given (of how many submitters, itself and
+-- those that it has gathered, and how many tickets), and those of its own tickets whose answer it hasn't fetched.
 pub record Member : Type 0 where
   pub id : ℕ
   pub was : Known
   pub parts : ℕ
   pub amount : ℕ
+  pub unfetched : List ℕ
 
 abbrev pub member_code : Coded Member
 member_code =
-    code_by (ℕ × (Known × (ℕ × ℕ))) (coded× coded_ℕ (coded× known_code (coded× coded_ℕ coded_ℕ)))
-    (λ m. (m.id, (m.was, (m.parts, m.amount)))) (λ p. record { id = p.0; was = p.1.0; parts = p.1.1.0; amount = p.1.1.1 }) (λ _. refl)
+    code_by (ℕ × (Known × (ℕ × (ℕ × List ℕ)))) (coded× coded_ℕ (coded× known_code (coded× coded_ℕ (coded× coded_ℕ (coded_list coded_ℕ)))))
+    (λ m. (m.id, (m.was, (m.parts, (m.amount, m.unfetched)))))
+    (λ p. record { id = p.0; was = p.1.0; parts = p.1.1.0; amount = p.1.1.1.0; unfetched = p.1.1.1.1 }) (λ _. refl)
 
 -- as many answers were not fetched as there is room for, or as many tickets were given
 abbrev pub IsFull : Known → Type 0
@@ -56,6 +58,12 @@ pub record IsTicket (old new : Member) (command : Command) (t : Ticket) : Type 0
   pub rises : length old.was.asked ≤ t.number
   pub last : length new.was.asked ≡ t.number + 1
   pub share : new.amount ≡ old.amount + 1
+
+-- The one is one of these no more, and all others are as before.
+pub record IsFetched (old new : List ℕ) (ticket : ℕ) : Type 0 where
+  pub at : ℕ
+  pub is : slice_get old at ≡ Some ticket
+  pub rest : new ≡ remove old at
 
 -- The receipt is the ticket's, repeats what was submitted at it, and stands at its place in the one history.
 pub record IsReceipt (m : Member) (ticket : Ticket) (r : Receipt) : Type 0 where

@@ -1,5 +1,5 @@
 //! The hub: what its threads share.
-ghost use Rattle.std.specs.Prelude.{◌≡◌, ◌+◌, IfOk, IfSome};
+ghost use Rattle.std.specs.Prelude.{◌≡◌, ◌+◌, [], IfOk, IfSome};
 ghost use Rattle.flow_hub.specs.Knowing.{nothing};
 ghost use Rattle.flow_hub.specs.Seating.{IsRoomOf};
 
@@ -7,7 +7,7 @@ use crate::denied::Unseated;
 use crate::feed::Feed;
 use crate::publisher::Publisher;
 use crate::seats::{Opened, Room, Seats};
-use crate::state::State;
+use crate::state::{MOST, State};
 use crate::submitter::Submitter;
 use crate::waits::Waits;
 use flow_base::memory::NoMemory;
@@ -49,8 +49,8 @@ impl<B: Room> Shared<B> {
     }
 }
 
-/// The right to close a hub. Its field is this module's, and `Hub::new` makes two: the hub has one, and its publisher. Submitters and
-/// whoever gives tasks out have none, so no call of theirs can close the hub that it then finds closed.
+/// The right to close a hub. Its field is this module's, and the hub alone has one. Submitters and whoever gives tasks out have none, so
+/// no call of theirs can close the hub that it then finds closed; and where its publisher closes it, that is known (`Known::ended`).
 #[derive(Drop)]
 pub(crate) struct Closer {
     made: (),
@@ -59,6 +59,7 @@ pub(crate) struct Closer {
 /// Takes commands from submitters on many threads, for one publisher, who answers them.
 #[derive(Drop)]
 pub struct Hub<B: Room> {
+    alloc: Global,
     shared: Arc<Shared<B>>,
     closer: Closer,
 }
@@ -83,29 +84,38 @@ impl<B: Room> Hub<B> {
             turned: Condvar::new(),
         };
         let shared = Arc::new(alloc, shared)?;
-        let closer = Closer { made: () };
-        let publisher = Publisher::over(alloc, Arc::try_clone(&shared)?, seat, closer);
-        let closer = Closer { made: () };
-        Ok((publisher, Hub { shared, closer }))
+        let publisher = Publisher::over(alloc, Arc::try_clone(&shared)?, seat);
+        let hub = Hub {
+            alloc,
+            shared,
+            closer: Closer { made: () },
+        };
+        Ok((publisher, hub))
     }
 
-    /// One more submitter. Its number is given under the lock, with a seat that has it, so that no other submitter of the hub does.
+    /// One more submitter. Its number is given under the lock, with a seat that has it, so that no other submitter of the hub does. It
+    /// asks for the room of the numbers of 1,024 tickets.
     ///
     /// # Failure
     /// E01; E90 where 2^62 submitters were given.
     pub fn submitter<R: Wait>(&self, rt: &R) -> Result<Submitter<B>, Unseated>
         ensures id { IfOk result (λ m. m.was.members ≡ m.id + 1) }
         ensures share { IfOk result (λ m. (m.parts ≡ 1) × (m.amount ≡ 0)) }
+        ensures unfetched { IfOk result (λ m. m.unfetched ≡ []) }
     {
         let shared = match Arc::try_clone(&self.shared) {
             Ok(shared) => shared,
+            Err(refused) => return Err(Unseated::NoMemory(NoMemory::from(refused))),
+        };
+        let unfetched = match Vec::with_capacity(self.alloc, MOST) {
+            Ok(unfetched) => unfetched,
             Err(refused) => return Err(Unseated::NoMemory(NoMemory::from(refused))),
         };
         let all = shared_in(&self.shared);
         let Some((id, badge, seat, share)) = all.lock(rt).enroll(&all.seats) else {
             return Err(Unseated::InboxFull);
         };
-        Ok(Submitter::over(shared, id, badge, seat, share))
+        Ok(Submitter::over(shared, id, badge, seat, share, unfetched))
     }
 
     /// Who gives the tasks out that are posted. None where it was asked for before, or there is no memory.

@@ -1,6 +1,6 @@
 //! What threads know of a hub.
 ghost use Rattle.std.specs.Prelude.{◌≡◌, [], ◌∷◌, ◌++◌, map};
-ghost use Rattle.flow_hub.specs.Knowing.{nothing, with_ask, with_taken, with_published, with_refused, with_posted, with_skipped, with_given};
+ghost use Rattle.flow_hub.specs.Knowing.{nothing, with_ask, with_taken, with_published, with_refused, with_posted, with_skipped, with_given, with_ended};
 ghost use Rattle.flow_queues.specs.Posting.{chosen};
 
 use flow_base::code::Code;
@@ -40,6 +40,8 @@ pub struct Known {
     pub members: u64,
     /// Whether nothing more is taken in.
     pub closed: bool,
+    /// Whether it is its publisher who has closed it. Where not, it is somebody who has the hub.
+    pub ended: bool,
     /// All tasks that were posted, in their order.
     pub posted: Listed<Task>,
     /// Those of them that were given to whoever hands them to workers, in their order.
@@ -118,6 +120,7 @@ impl Known {
             fetched: 0,
             members: 0,
             closed: false,
+            ended: false,
             posted: Listed::of::<(), Empty>(&()),
             given: Listed::of::<(), Empty>(&()),
             boarded: false,
@@ -185,6 +188,14 @@ impl Known {
         ensures { self.new ≡ with_skipped self.old }
     {
         self.boarded = true;
+    }
+
+    /// Its publisher has closed it.
+    pub(crate) fn finish(&mut self)
+        ensures { self.new ≡ with_ended self.old }
+    {
+        self.closed = true;
+        self.ended = true;
     }
 
     /// A task was given to whoever hands them to workers.

@@ -3,11 +3,11 @@ ghost use Rattle.std.specs.Prelude.{◌≡◌, ◌<◌, ◌≤◌, true, false, 
 ghost use Rattle.std.specs.Vec.{vec_capacity};
 ghost use Rattle.flow_hub.specs.Knowing.{IsBefore, IsHistory, IsSamePart};
 ghost use Rattle.flow_queues.specs.Posting.{HasKeys, IsOnce};
-ghost use Rattle.flow_hub.specs.Publishing.{Answers, HasTaken, HasPublished, HasRefused, HasPosted, HasSkipped, IsFresh, IsDone};
+ghost use Rattle.flow_hub.specs.Publishing.{Answers, HasTaken, HasPublished, HasRefused, HasPosted, HasSkipped, HasEnded, IsFresh, IsAllTaken, IsDone};
 ghost use Rattle.flow_hub.specs.Seating.{IsPublishers};
 
 use crate::feed::Feed;
-use crate::hub::{Closer, Shared, shared_in};
+use crate::hub::{Shared, shared_in};
 use crate::seats::{Pass, Room};
 use crate::submitter::Submitter;
 use crate::waits::{told_by, told_of};
@@ -31,7 +31,6 @@ pub struct Publisher<B: Room> {
     seat: Pass<B>,
     /// The keys of all that it has posted.
     keys: Keys,
-    closer: Closer,
 }
 
 impl<B: Room> Model for Publisher<B> {
@@ -64,6 +63,7 @@ fn taken<B: Room, R: Wait>(
     ensures count { (length into.new.items ≤ most) × (vec_capacity into.new ≡ vec_capacity into.old) }
     ensures some { result.1 ≡ true → 0 < length into.new.items }
     ensures none { result.1 ≡ false → (into.new.items ≡ []) × IsDone result.0.was }
+    ensures all { length into.new.items < most → IsAllTaken result.0.was }
     ensures seat { IsPublishers result.0 }
     ensures grows { IsBefore seat.was result.0.was }
 {
@@ -83,12 +83,7 @@ fn taken<B: Room, R: Wait>(
 }
 
 impl<B: Room> Publisher<B> {
-    pub(crate) fn over(
-        alloc: Global,
-        shared: Arc<Shared<B>>,
-        seat: Pass<B>,
-        closer: Closer,
-    ) -> Publisher<B>
+    pub(crate) fn over(alloc: Global, shared: Arc<Shared<B>>, seat: Pass<B>) -> Publisher<B>
         requires seat { IsPublishers seat }
         requires none { seat.was.posted ≡ [] }
         ensures { result ≡ seat.was }
@@ -98,12 +93,11 @@ impl<B: Room> Publisher<B> {
             shared,
             seat,
             keys: BTreeSet::new(alloc),
-            closer,
         }
     }
 
-    /// Waits until something waits, and moves 1 to `most` of it into an empty list with that room, in the order of submission.
-    /// False: the hub is closed, and nothing waits. By the caller's condition a board was posted or skipped since the hub was made and
+    /// Waits until something waits, and moves 1 to `most` of it into an empty list with that room, in the order of submission: all
+    /// that waits then, or `most`. False: the hub is closed, and nothing waits. By the caller's condition a board was posted or skipped since the hub was made and
     /// since what was taken last was answered, so that what is ready is given out before more is done.
     pub fn take<R: Wait>(&mut self, rt: &R, into: &mut Vec<Taken>, most: usize) -> bool
         requires boarded { self.old.boarded ≡ true }
@@ -113,6 +107,7 @@ impl<B: Room> Publisher<B> {
         ensures count { (length into.new.items ≤ most) × (vec_capacity into.new ≡ vec_capacity into.old) }
         ensures some { result ≡ true → 0 < length into.new.items }
         ensures none { result ≡ false → (into.new.items ≡ []) × IsDone self.new }
+        ensures all { length into.new.items < most → IsAllTaken self.new }
         ensures grows { IsBefore self.old self.new }
     {
         let shared = shared_in(&self.shared);
@@ -194,15 +189,15 @@ impl<B: Room> Publisher<B> {
         shared.posted.notify_all();
     }
 
-    /// Nothing more is taken in, and what waits is still taken.
+    /// Nothing more is taken in, and what waits is still taken. That it was the publisher who has closed it stays known.
     pub fn close<R: Wait>(&mut self, rt: &R)
         ensures closed { self.new.closed ≡ true }
-        ensures part { IsSamePart self.old self.new }
+        ensures ended { HasEnded self.old self.new }
         ensures grows { IsBefore self.old self.new }
     {
         let shared = shared_in(&self.shared);
         let me = shared.seats.leave(&mut self.seat);
-        self.seat = shared.lock(rt).close(&shared.seats, me, &self.closer);
+        self.seat = shared.lock(rt).end(&shared.seats, me);
         shared.wake();
     }
 

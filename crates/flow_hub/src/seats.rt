@@ -1,7 +1,7 @@
 //! The table of the published word, and its seats.
-ghost use Rattle.std.specs.Prelude.{ℕ, ◌≡◌, ◌≢◌, ◌^◌, ◌⊎◌, true, false, length, Some, IfOk};
+ghost use Rattle.std.specs.Prelude.{ℕ, ◌≡◌, ◌≢◌, ◌+◌, ◌≤◌, ◌^◌, ◌⊎◌, true, false, length, Some, IfOk};
 ghost use Rattle.flow_hub.specs.Knowing.{IsBefore, IsSamePart, with_member};
-ghost use Rattle.flow_hub.specs.Seating.{IsRoomOf, opener, nobody, lent, adding, admitting, keeps_left, handed_back, gives_none, gives_alone, member_none, member_alone, meeting, badge_of, keeping, seeing, IsApart, Knows};
+ghost use Rattle.flow_hub.specs.Seating.{IsRoomOf, opener, nobody, lent, adding, admitting, keeps_left, handed_back, gives_none, gives_alone, member_none, member_alone, meeting, badge_of, keeping, seeing, owed_after, IsApart, IsKeepers, IsOwing, Knows};
 
 use crate::known::Known;
 use atomic_table::{Join, Play, Seat, Split, Table, TableRule};
@@ -25,6 +25,8 @@ pub struct Sight {
     pub member: Option<u64>,
     /// The submitter's number that a seat had which it met, and which is another one.
     pub met: Option<u64>,
+    /// How many answers are owed to it, and not fetched.
+    pub owed: u64,
     pub all: Known,
     /// What was seen last.
     pub was: Known,
@@ -257,6 +259,7 @@ impl<B: Room> Seats<B> {
         ensures grows { IsBefore me.old.was me.new.was }
         ensures same { (me.new.keeps ≡ me.old.keeps) × (me.new.pubs ≡ me.old.pubs) × (me.new.gives ≡ me.old.gives) }
         ensures number { (me.new.member ≡ me.old.member) × (me.new.met ≡ me.old.met) }
+        ensures owed { me.new.owed ≡ me.old.owed }
         ensures apart { IsApart me.new }
     {
         self.table.shared.load::<Look>(&mut me.seat, 0)
@@ -299,6 +302,7 @@ impl<B: Room> Seats<B> {
         requires may_give { (keeper.old.gives ≡ true) ⊎ (all.now.given ≡ keeper.old.all.given) }
         requires grows { IsBefore keeper.old.all all.now }
         requires lengths { (length keeper.old.all.history ≡ old) × (length all.now.history ≡ new) }
+        requires owing { IsOwing keeper.old.owed keeper.old.all all.now }
         ensures added { keeper.new ≡ adding keeper.old all.now }
         ensures knows { Knows keeper.old }
     {
@@ -332,10 +336,10 @@ impl<B: Room> Seats<B> {
 
     /// Under the lock: one submitter more is known of, and a seat has its number, which no other has or had.
     pub(crate) fn admit(&self, keeper: &mut Pass<B>, places: u64, all: &Known) -> Pass<B>
-        requires keeps { keeper.old.keeps ≡ true }
+        requires keeps { IsKeepers keeper.old }
         requires one_more { all.now ≡ with_member keeper.old.all }
         requires length { length all.now.history ≡ places }
-        ensures keeper { (keeper.new.keeps ≡ true) × (keeper.new.all ≡ all.now) }
+        ensures keeper { IsKeepers keeper.new × (keeper.new.all ≡ all.now) }
         ensures badge { result ≡ badge_of keeper.old.all.members }
     {
         self.number(keeper, places, all);
@@ -360,6 +364,26 @@ impl<B: Room> Seats<B> {
     }
 
     /// Under the lock: what is known becomes `all`, the word the length of its history, and the seat that asks is told of it.
+    fn told(&self, keeper: &mut Pass<B>, me: Pass<B>, old: u64, new: u64, all: &Known) -> Pass<B>
+        requires keeps { IsKeepers keeper.old }
+        requires may { (me.pubs ≡ true) ⊎ IsSamePart all.now keeper.old.all }
+        requires may_give { (me.gives ≡ true) ⊎ (all.now.given ≡ keeper.old.all.given) }
+        requires grows { IsBefore keeper.old.all all.now }
+        requires lengths { (length keeper.old.all.history ≡ old) × (length all.now.history ≡ new) }
+        requires owing { IsOwing me.owed keeper.old.all all.now }
+        ensures keeper { keeper.new ≡ keeping all.now }
+        ensures told { result ≡ seeing me.pubs me.gives (owed_after me.owed keeper.old.all all.now) all.now }
+        ensures before { IsBefore me.was keeper.old.all }
+        ensures same { me.pubs ≡ true → IsSamePart me.was keeper.old.all }
+        ensures given { me.gives ≡ true → me.was.given ≡ keeper.old.all.given }
+        ensures owed { me.owed + keeper.old.all.fetched ≤ length keeper.old.all.asked }
+    {
+        self.lend(keeper, me);
+        self.store(keeper, old, new, all);
+        self.back(keeper)
+    }
+
+    /// The same where nothing was submitted and no answer fetched.
     pub(crate) fn tell(
         &self,
         keeper: &mut Pass<B>,
@@ -368,19 +392,70 @@ impl<B: Room> Seats<B> {
         new: u64,
         all: &Known,
     ) -> Pass<B>
-        requires keeps { keeper.old.keeps ≡ true }
+        requires keeps { IsKeepers keeper.old }
         requires may { (me.pubs ≡ true) ⊎ IsSamePart all.now keeper.old.all }
         requires may_give { (me.gives ≡ true) ⊎ (all.now.given ≡ keeper.old.all.given) }
         requires grows { IsBefore keeper.old.all all.now }
         requires lengths { (length keeper.old.all.history ≡ old) × (length all.now.history ≡ new) }
+        requires asked { all.now.asked ≡ keeper.old.all.asked }
+        requires fetched { all.now.fetched ≡ keeper.old.all.fetched }
         ensures keeper { keeper.new ≡ keeping all.now }
-        ensures told { result ≡ seeing me.pubs me.gives all.now }
+        ensures told { result ≡ seeing me.pubs me.gives me.owed all.now }
         ensures before { IsBefore me.was keeper.old.all }
         ensures same { me.pubs ≡ true → IsSamePart me.was keeper.old.all }
         ensures given { me.gives ≡ true → me.was.given ≡ keeper.old.all.given }
     {
-        self.lend(keeper, me);
-        self.store(keeper, old, new, all);
-        self.back(keeper)
+        self.told(keeper, me, old, new, all)
+    }
+
+    /// The same where one more was submitted, by the submitter whose seat it is: its answer is owed to it.
+    pub(crate) fn tell_asked(
+        &self,
+        keeper: &mut Pass<B>,
+        me: Pass<B>,
+        places: u64,
+        all: &Known,
+    ) -> Pass<B>
+        requires keeps { IsKeepers keeper.old }
+        requires may { (me.pubs ≡ true) ⊎ IsSamePart all.now keeper.old.all }
+        requires may_give { (me.gives ≡ true) ⊎ (all.now.given ≡ keeper.old.all.given) }
+        requires grows { IsBefore keeper.old.all all.now }
+        requires lengths { (length keeper.old.all.history ≡ places) × (length all.now.history ≡ places) }
+        requires asked { length all.now.asked ≡ length keeper.old.all.asked + 1 }
+        requires fetched { all.now.fetched ≡ keeper.old.all.fetched }
+        ensures keeper { keeper.new ≡ keeping all.now }
+        ensures told { result ≡ seeing me.pubs me.gives (me.owed + 1) all.now }
+        ensures before { IsBefore me.was keeper.old.all }
+        ensures same { me.pubs ≡ true → IsSamePart me.was keeper.old.all }
+        ensures given { me.gives ≡ true → me.was.given ≡ keeper.old.all.given }
+        ensures owed { me.owed + keeper.old.all.fetched ≤ length keeper.old.all.asked }
+    {
+        self.told(keeper, me, places, places, all)
+    }
+
+    /// The same where one answer more was fetched, which was owed to this seat.
+    pub(crate) fn tell_fetched(
+        &self,
+        keeper: &mut Pass<B>,
+        me: Pass<B>,
+        places: u64,
+        all: &Known,
+    ) -> Pass<B>
+        requires keeps { IsKeepers keeper.old }
+        requires may { (me.pubs ≡ true) ⊎ IsSamePart all.now keeper.old.all }
+        requires may_give { (me.gives ≡ true) ⊎ (all.now.given ≡ keeper.old.all.given) }
+        requires grows { IsBefore keeper.old.all all.now }
+        requires lengths { (length keeper.old.all.history ≡ places) × (length all.now.history ≡ places) }
+        requires owed { 1 ≤ me.owed }
+        requires asked { all.now.asked ≡ keeper.old.all.asked }
+        requires fetched { all.now.fetched ≡ keeper.old.all.fetched + 1 }
+        ensures keeper { keeper.new ≡ keeping all.now }
+        ensures told { result ≡ seeing me.pubs me.gives result.owed all.now }
+        ensures owed { result.owed + 1 ≡ me.owed }
+        ensures before { IsBefore me.was keeper.old.all }
+        ensures same { me.pubs ≡ true → IsSamePart me.was keeper.old.all }
+        ensures given { me.gives ≡ true → me.was.given ≡ keeper.old.all.given }
+    {
+        self.told(keeper, me, places, places, all)
     }
 }

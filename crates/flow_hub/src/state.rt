@@ -1,12 +1,12 @@
 //! What lies under the lock.
-ghost use Rattle.std.specs.Prelude.{◌≡◌, ◌≢◌, ◌+◌, ◌<◌, ◌≤◌, ◌^◌, [], ◌∷◌, ◌++◌, ℕ, length, true, false, Some, IfOk, IfErr, IfSome, IfNone, MatchOption, OnOk, slice_get, remove};
+ghost use Rattle.std.specs.Prelude.{◌≡◌, ◌≢◌, ◌⊎◌, ◌+◌, ◌<◌, ◌≤◌, ◌^◌, [], ◌∷◌, ◌++◌, ℕ, length, true, false, All, Some, IfOk, IfErr, IfSome, IfNone, MatchOption, OnOk, OnErr, slice_get, remove};
 ghost use Rattle.std.specs.Vec.{vec_capacity};
 ghost use Rattle.flow_hub.specs.Asks.{Stands, IsOwn, IsGone, IsTold};
 ghost use Rattle.flow_hub.specs.Knowing.{IsBefore, IsHistory, IsSamePart, answered_in, nothing};
 ghost use Rattle.flow_hub.specs.Seating.{opener, seeing, badge_of, IsSubmitters, IsPublishers};
-ghost use Rattle.flow_hub.specs.Halls.{submitted, took, published, refused_all, fetched_receipt, fetched_refusal, enrolled, closed, new_ask, unfetched};
-ghost use Rattle.flow_hub.specs.Publishing.{Answers, HasTaken, HasPublished, HasRefused, IsDone};
-ghost use Rattle.flow_hub.specs.Submitting.{HasTakenIn, IsOpen, IsDenied, IsSettled};
+ghost use Rattle.flow_hub.specs.Halls.{submitted, took, published, refused_all, fetched_receipt, fetched_refusal, enrolled, closed, ended, new_ask, unfetched};
+ghost use Rattle.flow_hub.specs.Publishing.{Answers, HasTaken, HasPublished, HasRefused, HasEnded, IsAllTaken, IsDone};
+ghost use Rattle.flow_hub.specs.Submitting.{HasTakenIn, IsFetched, IsOpen, IsDenied, IsSettled};
 
 mod boards;
 
@@ -21,7 +21,7 @@ use flow_commit::stamp::Stamp;
 use flow_machine::submission::{Receipt, Taken};
 use flow_machine::task::Task;
 use flow_queues::queues::{
-    move_front, push_receipts, refuse_all, refused_at, take_receipt, ticket_at,
+    move_front, place_of, push_receipts, refuse_all, refused_at, take_receipt, ticket_at,
 };
 use flow_queues::refused::Refused;
 use std::alloc::{AllocError, Global};
@@ -30,7 +30,7 @@ use std::marker::Model;
 use std::sync::ledger::{Book, Share};
 
 /// The most submissions whose answer wasn't fetched.
-const MOST: usize = 1024;
+pub(crate) const MOST: usize = 1024;
 
 /// How many tickets a hub gives.
 const TICKETS: u64 = 1 << 62;
@@ -71,7 +71,7 @@ impl<B: Room> Model for State<B> {
     ghost use Rattle.std.specs.VecDeque.{deque_capacity, deque_len};
     ghost use Rattle.flow_hub.specs.Halls.{Hall, IsSound, hall_code};
     ghost use Rattle.flow_hub.specs.Knowing.{nothing};
-    ghost use Rattle.flow_hub.specs.Seating.{seeing};
+    ghost use Rattle.flow_hub.specs.Seating.{seeing, IsKeepers};
 
     ghost Value = { Hall };
 
@@ -84,7 +84,7 @@ impl<B: Room> Model for State<B> {
         × (1024 ≤ deque_capacity s.waiting) × (1024 ≤ vec_capacity s.answered) × (1024 ≤ vec_capacity s.refused)
         × (deque_len s.waiting + s.held + vec_len s.answered + vec_len s.refused ≤ 1024) × (s.given ≤ 2 ^ 62)
         × (s.spare.amount ≡ 0) × (s.spare.parts + s.known.members ≡ 2 ^ 62) × (B.parts ≡ 2 ^ 62)
-        × (s.keeper.keeps ≡ true) × (s.keeper.all ≡ s.known) × IfSome s.feed (λ p. p ≡ seeing false true nothing) };
+        × IsKeepers s.keeper × (s.keeper.all ≡ s.known) × IfSome s.feed (λ p. p ≡ seeing false true 0 nothing) };
 }
 
 impl<B: Room> State<B> {
@@ -97,7 +97,7 @@ impl<B: Room> State<B> {
         requires tickets { named.tickets.total ≡ 0 }
         requires share { (named.share.parts ≡ 2 ^ 62) × (named.share.amount ≡ 0) }
         requires parts { B.parts ≡ 2 ^ 62 }
-        ensures seat { IfOk result (λ r. r.2 ≡ seeing true false nothing) }
+        ensures seat { IfOk result (λ r. r.2 ≡ seeing true false 0 nothing) }
         ensures empty { IfOk result (λ r. r.1 ≡ record { known = nothing; waiting = []; answered = []; refused = []; given = 0; shares = 0; tasks = [] }) }
     {
         let Named {
@@ -134,7 +134,7 @@ impl<B: Room> State<B> {
     /// The seat sees what lies here, and nothing changes.
     fn see(&mut self, seats: &Seats<B>, me: Pass<B>) -> Pass<B>
         ensures same { self.new ≡ self.old }
-        ensures seat { result ≡ seeing me.pubs me.gives self.new.known }
+        ensures seat { result ≡ seeing me.pubs me.gives me.owed self.new.known }
         ensures before { IsBefore me.was result.was }
         ensures part { me.pubs ≡ true → IsSamePart me.was result.was }
         ensures given { me.gives ≡ true → me.was.given ≡ result.was.given }
@@ -152,7 +152,7 @@ impl<B: Room> State<B> {
     ) -> Pass<B>
         requires seat { IsPublishers me }
         ensures same { self.new ≡ self.old }
-        ensures seat { result ≡ seeing true false self.new.known }
+        ensures seat { result ≡ seeing true false 0 self.new.known }
         ensures submitter { IsBefore submitter.was result.was }
         ensures giver { IsBefore giver.was result.was }
         ensures part { IsSamePart me.was result.was }
@@ -168,7 +168,7 @@ impl<B: Room> State<B> {
     pub(crate) fn enroll(&mut self, seats: &Seats<B>) -> Option<(u64, Pass<B>, Pass<B>, Share<B>)>
         ensures enrolled { IfSome result (λ m. (m.0 ≡ self.old.known.members) × (self.new ≡ enrolled self.old)) }
         ensures badge { IfSome result (λ m. m.1 ≡ badge_of m.0) }
-        ensures seat { IfSome result (λ m. m.2 ≡ seeing false false self.new.known) }
+        ensures seat { IfSome result (λ m. m.2 ≡ seeing false false 0 self.new.known) }
         ensures share { IfSome result (λ m. (m.3.parts ≡ 1) × (m.3.amount ≡ 0)) }
         ensures parts { B.parts ≡ 2 ^ 62 }
         ensures none { IfNone result ((self.new ≡ self.old) × (2 ^ 62 ≤ self.old.known.members)) }
@@ -220,7 +220,9 @@ impl<B: Room> State<B> {
         ensures taken_in { OnOk result.1 (HasTakenIn result.0.was) }
         ensures err { IfErr result.1 (λ e. (e.0 ≡ command) × (self.new ≡ self.old) × (mine.new.amount ≡ mine.old.amount) × IsDenied self.old.known e.1) }
         ensures parts { mine.new.parts ≡ mine.old.parts }
-        ensures seat { result.0 ≡ seeing false false self.new.known }
+        ensures seat { result.0 ≡ seeing false false result.0.owed self.new.known }
+        ensures owed { OnOk result.1 ((result.0.owed ≡ me.owed + 1) × (me.owed < 1024)) }
+        ensures owed_still { OnErr result.1 (result.0.owed ≡ me.owed) }
         ensures before { IsBefore me.was self.old.known }
         ensures grows { IsBefore me.was result.0.was }
         ensures ticket { IfOk result.1 (λ t. (length me.was.asked ≤ t) × (length result.0.was.asked ≡ t + 1) × (slice_get result.0.was.asked t ≡ Some (new_ask self.old command))) }
@@ -231,7 +233,7 @@ impl<B: Room> State<B> {
         let ticket = self.given;
         let taken = Taken { ticket, command };
         self.known.ask(&taken);
-        let me = seats.tell(&mut self.keeper, me, self.places, self.places, &self.known);
+        let me = seats.tell_asked(&mut self.keeper, me, self.places, &self.known);
         self.waiting.push_back_reserved(taken);
         self.tickets.add(mine, 1);
         self.given += 1;
@@ -251,10 +253,11 @@ impl<B: Room> State<B> {
         requires room { (into.old.items ≡ []) × (most ≤ vec_capacity into.old) }
         ensures taken { (self.old.waiting ≡ into.new.items ++ self.new.waiting) × (self.new ≡ took self.old into.new.items self.new.waiting) }
         ensures count { (length into.new.items ≤ most) × (vec_capacity into.new ≡ vec_capacity into.old) }
-        ensures seat { result ≡ seeing true false self.new.known }
+        ensures seat { result ≡ seeing true false 0 self.new.known }
         ensures seen { HasTaken me.was result.was into.new.items }
         ensures grows { IsBefore me.was result.was }
         ensures none { into.new.items ≡ [] → self.new.known.closed ≡ true → IsDone result.was }
+        ensures all { length into.new.items < most → IsAllTaken result.was }
     {
         move_front(&mut self.waiting, into, most);
         self.held += into.len();
@@ -273,7 +276,7 @@ impl<B: Room> State<B> {
         requires seat { IsPublishers me }
         requires answers { Answers me.was stamp receipts.items }
         ensures published { self.new ≡ published self.old stamp.account receipts.items }
-        ensures seat { result ≡ seeing true false self.new.known }
+        ensures seat { result ≡ seeing true false 0 self.new.known }
         ensures seen { HasPublished me.was result.was stamp receipts.items }
         ensures grows { IsBefore me.was result.was }
         ensures legal { IsHistory result.was }
@@ -301,7 +304,7 @@ impl<B: Room> State<B> {
         requires seat { IsPublishers me }
         requires all { all.items ≡ me.was.held }
         ensures refused { self.new ≡ refused_all self.old code }
-        ensures seat { result ≡ seeing true false self.new.known }
+        ensures seat { result ≡ seeing true false 0 self.new.known }
         ensures seen { HasRefused me.was result.was all.items code }
         ensures grows { IsBefore me.was result.was }
     {
@@ -313,7 +316,7 @@ impl<B: Room> State<B> {
         me
     }
 
-    /// The receipt for a ticket, if it came.
+    /// The receipt for a ticket, if it came. The answer is one that is owed to the seat.
     fn fetch_receipt(
         &mut self,
         seats: &Seats<B>,
@@ -321,10 +324,13 @@ impl<B: Room> State<B> {
         ticket: u64,
     ) -> (Pass<B>, Option<Receipt>)
         requires seat { IsSubmitters me }
+        requires owed { 1 ≤ me.owed }
         ensures own { IfSome result.1 (λ r. (r.ticket ≡ ticket) × IsOwn result.0.was.asked r × Stands result.0.was.history r) }
         ensures legal { IfSome result.1 (λ r. IsHistory result.0.was) }
         ensures fetched { MatchOption result.1 (self.new ≡ self.old) (λ r. (k : ℕ) × (slice_get self.old.answered k ≡ Some r) × (self.new ≡ fetched_receipt self.old (remove self.old.answered k))) }
+        ensures none { IfNone result.1 (All (λ r. r.ticket ≢ ticket) self.old.answered) }
         ensures one_more { IfSome result.1 (λ r. me.was.fetched < result.0.was.fetched) }
+        ensures owed { MatchOption result.1 (result.0.owed ≡ me.owed) (λ r. result.0.owed + 1 ≡ me.owed) }
         ensures seat { IsSubmitters result.0 }
         ensures grows { IsBefore me.was result.0.was }
     {
@@ -333,7 +339,7 @@ impl<B: Room> State<B> {
         };
         let receipt = take_receipt(&mut self.answered, k);
         self.known.fetched += 1;
-        let me = seats.tell(&mut self.keeper, me, self.places, self.places, &self.known);
+        let me = seats.tell_fetched(&mut self.keeper, me, self.places, &self.known);
         (me, Some(receipt))
     }
 
@@ -345,9 +351,12 @@ impl<B: Room> State<B> {
         ticket: u64,
     ) -> (Pass<B>, Option<Refused>)
         requires seat { IsSubmitters me }
+        requires owed { 1 ≤ me.owed }
         ensures own { IfSome result.1 (λ r. (r.asked.ticket ≡ ticket) × IsGone result.0.was.asked r × IsTold result.0.was.refused r) }
         ensures fetched { MatchOption result.1 (self.new ≡ self.old) (λ r. (k : ℕ) × (slice_get self.old.refused k ≡ Some r) × (self.new ≡ fetched_refusal self.old (remove self.old.refused k))) }
+        ensures none { IfNone result.1 (All (λ r. r.asked.ticket ≢ ticket) self.old.refused) }
         ensures one_more { IfSome result.1 (λ r. me.was.fetched < result.0.was.fetched) }
+        ensures owed { MatchOption result.1 (result.0.owed ≡ me.owed) (λ r. result.0.owed + 1 ≡ me.owed) }
         ensures seat { IsSubmitters result.0 }
         ensures grows { IsBefore me.was result.0.was }
     {
@@ -356,33 +365,47 @@ impl<B: Room> State<B> {
         };
         let refused = self.refused.remove(k);
         self.known.fetched += 1;
-        let me = seats.tell(&mut self.keeper, me, self.places, self.places, &self.known);
+        let me = seats.tell_fetched(&mut self.keeper, me, self.places, &self.known);
         (me, Some(refused))
     }
 
-    /// What a ticket was answered by, if it was. Its place is free then.
+    /// What a ticket was answered by, if it is one of these and its answer came. Its place is free then, and it is one of these no more.
     #[tactic(auto, using(crate::proofs::Growing::before_trans))]
     pub(crate) fn answer(
         &mut self,
         seats: &Seats<B>,
         me: Pass<B>,
+        mine: &mut Vec<u64>,
         ticket: u64,
     ) -> (Pass<B>, Option<Result<Receipt, Refused>>)
         requires seat { IsSubmitters me }
+        requires mine { length mine.old.items ≡ me.owed }
         ensures receipt { IfSome result.1 (λ a. IfOk a (λ r. (r.ticket ≡ ticket) × IsOwn result.0.was.asked r × Stands result.0.was.history r)) }
         ensures legal { IfSome result.1 (λ a. IfOk a (λ r. IsHistory result.0.was)) }
         ensures refused { IfSome result.1 (λ a. IfErr a (λ r. (r.asked.ticket ≡ ticket) × IsGone result.0.was.asked r × IsTold result.0.was.refused r)) }
         ensures one_more { IfSome result.1 (λ a. me.was.fetched < result.0.was.fetched) }
+        ensures none { IfNone result.1 (All (λ n. n ≢ ticket) mine.old.items
+            ⊎ (All (λ r. r.ticket ≢ ticket) self.old.answered × All (λ r. r.asked.ticket ≢ ticket) self.old.refused)) }
+        ensures mine { MatchOption result.1 (mine.new.items ≡ mine.old.items) (λ a. IsFetched mine.old.items mine.new.items ticket) }
+        ensures owed { length mine.new.items ≡ result.0.owed }
+        ensures capacity { vec_capacity mine.new ≡ vec_capacity mine.old }
         ensures seat { IsSubmitters result.0 }
         ensures grows { IsBefore me.was result.0.was }
     {
+        let Some(k) = place_of(mine.as_slice(), ticket) else {
+            return (me, None);
+        };
         let (me, receipt) = self.fetch_receipt(seats, me, ticket);
         if let Some(receipt) = receipt {
+            mine.remove(k);
             return (me, Some(Ok(receipt)));
         }
         let (me, refused) = self.fetch_refusal(seats, me, ticket);
         match refused {
-            Some(refused) => (me, Some(Err(refused))),
+            Some(refused) => {
+                mine.remove(k);
+                (me, Some(Err(refused)))
+            }
             None => (me, None),
         }
     }
@@ -401,7 +424,7 @@ impl<B: Room> State<B> {
         ensures settled { IfSome result.1 (λ s. (s.given ≡ all.new.amount) × IsSettled self.new.known s) }
         ensures waiting { IfSome result.1 (λ s. s.waiting ≡ length self.new.waiting) }
         ensures none { IfNone result.1 (self.old.known.members ≢ parts) }
-        ensures seat { result.0 ≡ seeing me.pubs me.gives self.new.known }
+        ensures seat { result.0 ≡ seeing me.pubs me.gives me.owed self.new.known }
         ensures grows { IsBefore me.was result.0.was }
     {
         let me = self.see(seats, me);
@@ -427,11 +450,23 @@ impl<B: Room> State<B> {
     /// that the hub is closed could close it first.
     pub(crate) fn close(&mut self, seats: &Seats<B>, me: Pass<B>, _closer: &Closer) -> Pass<B>
         ensures closed { self.new ≡ closed self.old }
-        ensures seat { result ≡ seeing me.pubs me.gives self.new.known }
+        ensures seat { result ≡ seeing me.pubs me.gives me.owed self.new.known }
         ensures grows { IsBefore me.was result.was }
         ensures part { me.pubs ≡ true → IsSamePart me.was result.was }
     {
         self.known.closed = true;
+        seats.tell(&mut self.keeper, me, self.places, self.places, &self.known)
+    }
+
+    /// The same by the publisher, whose right to it is its seat, and of which it stays known that it was the publisher.
+    pub(crate) fn end(&mut self, seats: &Seats<B>, me: Pass<B>) -> Pass<B>
+        requires seat { IsPublishers me }
+        ensures ended { self.new ≡ ended self.old }
+        ensures seat { result ≡ seeing true false 0 self.new.known }
+        ensures seen { HasEnded me.was result.was }
+        ensures grows { IsBefore me.was result.was }
+    {
+        self.known.finish();
         seats.tell(&mut self.keeper, me, self.places, self.places, &self.known)
     }
 

@@ -1,10 +1,12 @@
 //! The calls of a thread that submits.
-ghost use Rattle.std.specs.Prelude.{◌≡◌, ◌≢◌, ◌+◌, ◌^◌, ◌<◌, ◌≤◌, true, false, length, Some, IfOk, IfErr, IfSome, IfNone, OnOk};
+ghost use Rattle.std.specs.Prelude.{◌≡◌, ◌≢◌, ◌+◌, ◌^◌, ◌<◌, ◌≤◌, [], ◌∷◌, ◌++◌, true, false, length, Some, IfOk, IfErr, IfSome, IfNone, MatchResult, OnOk};
+ghost use Rattle.std.specs.Vec.{vec_capacity};
 ghost use Rattle.flow_hub.specs.Asks.{IsOwn, IsGone, IsTold, Stands};
 ghost use Rattle.flow_hub.specs.Feeding.{IsDueBy, IsIdle, IsRested, IsTickOf};
 ghost use Rattle.flow_hub.specs.Knowing.{IsBefore, IsHistory};
 ghost use Rattle.flow_hub.specs.Seating.{IsSubmitters};
-ghost use Rattle.flow_hub.specs.Submitting.{HasTakenIn, IsTicket, IsDenied, IsReceipt, IsNotDone, IsSettled};
+ghost use Rattle.flow_hub.specs.Submitting.{HasTakenIn, IsFetched, IsTicket, IsDenied, IsReceipt, IsNotDone, IsSettled};
+ghost use Rattle.flow_hub.specs.Refusals.{is_spent};
 
 use crate::denied::Denied;
 use crate::hub::{Shared, shared_in};
@@ -34,10 +36,13 @@ pub struct Submitter<B: Room> {
     share: Share<B>,
     /// How many submitters' parts of the ledger its share has.
     parts: u64,
+    /// Those of its tickets whose answer it hasn't fetched. It has the room of all that a hub may leave unfetched.
+    unfetched: Vec<u64>,
 }
 
 impl<B: Room> Model for Submitter<B> {
-    ghost use Rattle.std.specs.Prelude.{◌≡◌, ◌<◌, ◌≤◌, ◌^◌, Some};
+    ghost use Rattle.std.specs.Prelude.{◌≡◌, ◌<◌, ◌≤◌, ◌^◌, length, Some};
+    ghost use Rattle.std.specs.Vec.{vec_capacity};
     ghost use Rattle.flow_hub.specs.Seating.{IsSubmitters};
     ghost use Rattle.flow_hub.specs.Submitting.{Member, member_code};
 
@@ -45,30 +50,36 @@ impl<B: Room> Model for Submitter<B> {
 
     ghost coded = { member_code };
 
-    ghost view = { λ m. record { id = m.id; was = m.seat.was; parts = m.parts; amount = m.share.amount } };
+    ghost view = { λ m. record { id = m.id; was = m.seat.was; parts = m.parts; amount = m.share.amount; unfetched = m.unfetched.items } };
 
-    ghost invariant = { λ m. IsSubmitters m.seat × (m.share.parts ≡ m.parts) × (0 < m.parts) × (B.parts ≡ 2 ^ 62) × (m.badge.member ≡ Some m.id) };
+    ghost invariant = { λ m. IsSubmitters m.seat × (m.share.parts ≡ m.parts) × (0 < m.parts) × (B.parts ≡ 2 ^ 62) × (m.badge.member ≡ Some m.id)
+        × (length m.unfetched.items ≡ m.seat.owed) × (1024 ≤ vec_capacity m.unfetched) };
 }
 
-/// Waits until a ticket has its answer.
+/// Waits until a ticket, which is one of these, has its answer. It is one of them no more.
 fn awaited<B: Room, R: Wait>(
     rt: &R,
     shared: &Shared<B>,
     seat: Pass<B>,
+    mine: &mut Vec<u64>,
     ticket: u64,
 ) -> (Pass<B>, Result<Receipt, Refused>)
     requires seat { IsSubmitters seat }
+    requires mine { length mine.old.items ≡ seat.owed }
     ensures receipt { IfOk result.1 (λ r. (r.ticket ≡ ticket) × IsOwn result.0.was.asked r × Stands result.0.was.history r) }
     ensures legal { IfOk result.1 (λ r. IsHistory result.0.was) }
     ensures refused { IfErr result.1 (λ r. (r.asked.ticket ≡ ticket) × IsGone result.0.was.asked r × IsTold result.0.was.refused r) }
     ensures one_more { seat.was.fetched < result.0.was.fetched }
+    ensures mine { IsFetched mine.old.items mine.new.items ticket }
+    ensures owed { length mine.new.items ≡ result.0.owed }
+    ensures capacity { vec_capacity mine.new ≡ vec_capacity mine.old }
     ensures seat { IsSubmitters result.0 }
     ensures grows { IsBefore seat.was result.0.was }
 {
     let mut me = seat;
     let mut state = shared.lock(rt);
     for _ in rt.forever() {
-        let (seen, answer) = state.answer(&shared.seats, me, ticket);
+        let (seen, answer) = state.answer(&shared.seats, me, mine, ticket);
         me = seen;
         if let Some(answer) = answer {
             return (me, answer);
@@ -76,6 +87,34 @@ fn awaited<B: Room, R: Wait>(
         state = shared.answered.of(ticket).wait(rt, state);
     }
     unreachable!()
+}
+
+/// Lets go of an answer.
+fn let_go(_answer: Result<Receipt, Refused>) {}
+
+/// Waits until each of these tickets has its answer, and lets go of that. None of them is left.
+fn given_up<B: Room, R: Wait>(
+    rt: &R,
+    shared: &Shared<B>,
+    seat: Pass<B>,
+    mine: &mut Vec<u64>,
+) -> Pass<B>
+    requires seat { IsSubmitters seat }
+    requires mine { length mine.old.items ≡ seat.owed }
+    ensures none { (mine.new.items ≡ []) × (result.owed ≡ 0) }
+    ensures fetched { seat.was.fetched + length mine.old.items ≤ result.was.fetched }
+    ensures capacity { vec_capacity mine.new ≡ vec_capacity mine.old }
+    ensures seat { IsSubmitters result }
+    ensures grows { IsBefore seat.was result.was }
+{
+    let mut me = seat;
+    while !mine.is_empty() {
+        let first = mine[0];
+        let (seen, answer) = awaited(rt, shared, me, mine, first);
+        let_go(answer);
+        me = seen;
+    }
+    me
 }
 
 /// The longest pause before the clock is asked again, in milliseconds: it may be set, and stands still for the pauses of a machine that
@@ -110,6 +149,7 @@ fn ticked<B: Room, R: Wait + Timing, C: Clock>(
     requires seat { IsSubmitters seat }
     ensures tick { IfSome result.1 (λ c. IsTickOf (C.tells clock.now) result.0.was c) }
     ensures none { IfNone result.1 (result.0.was.closed ≡ true) }
+    ensures owed { result.0.owed ≡ seat.owed }
     ensures seat { IsSubmitters result.0 }
     ensures grows { IsBefore seat.was result.0.was }
 {
@@ -142,6 +182,7 @@ fn rested<B: Room, R: Wait>(rt: &R, shared: &Shared<B>, seat: Pass<B>) -> (Pass<
     requires seat { IsSubmitters seat }
     ensures idle { result.1 ≡ true → IsIdle result.0.was }
     ensures closed { result.1 ≡ false → (result.0.was.closed ≡ true) × (IsIdle result.0.was → ⊥) }
+    ensures owed { result.0.owed ≡ seat.owed }
     ensures seat { IsSubmitters result.0 }
     ensures grows { IsBefore seat.was result.0.was }
 {
@@ -169,6 +210,7 @@ fn rested_for<B: Room, R: Wait + Timing>(
 ) -> (Pass<B>, Rested)
     requires seat { IsSubmitters seat }
     ensures rested { IsRested result.0.was result.1 }
+    ensures owed { result.0.owed ≡ seat.owed }
     ensures seat { IsSubmitters result.0 }
     ensures grows { IsBefore seat.was result.0.was }
 {
@@ -189,12 +231,15 @@ impl<B: Room> Submitter<B> {
         badge: Pass<B>,
         seat: Pass<B>,
         share: Share<B>,
+        unfetched: Vec<u64>,
     ) -> Submitter<B>
         requires badge { badge.member ≡ Some id }
         requires seat { IsSubmitters seat }
         requires share { share.parts ≡ 1 }
+        requires unfetched { (unfetched.items ≡ []) × (1024 ≤ vec_capacity unfetched) }
+        requires owed { seat.owed ≡ 0 }
         requires parts { B.parts ≡ 2 ^ 62 }
-        ensures { result ≡ record { id = id; was = seat.was; parts = 1; amount = share.amount } }
+        ensures { result ≡ record { id = id; was = seat.was; parts = 1; amount = share.amount; unfetched = [] } }
     {
         Submitter {
             shared,
@@ -203,6 +248,7 @@ impl<B: Room> Submitter<B> {
             seat,
             share,
             parts: 1,
+            unfetched,
         }
     }
 
@@ -217,6 +263,7 @@ impl<B: Room> Submitter<B> {
             seat,
             share: _,
             parts: _,
+            unfetched: _,
         } = self;
         seat
     }
@@ -226,7 +273,7 @@ impl<B: Room> Submitter<B> {
         ensures length { result ≡ length self.new.was.history }
         ensures never_falls { length self.old.was.history ≤ result }
         ensures grows { IsBefore self.old.was self.new.was }
-        ensures same { (self.new.id ≡ self.old.id) × (self.new.parts ≡ self.old.parts) × (self.new.amount ≡ self.old.amount) }
+        ensures same { (self.new.id ≡ self.old.id) × (self.new.parts ≡ self.old.parts) × (self.new.amount ≡ self.old.amount) × (self.new.unfetched ≡ self.old.unfetched) }
     {
         self.shared.seats.look(&mut self.seat)
     }
@@ -239,6 +286,7 @@ impl<B: Room> Submitter<B> {
     pub fn submit<R: Wait>(&mut self, rt: &R, command: Command) -> Result<Ticket, (Command, Denied)>
         ensures ticket { IfOk result (λ t. IsTicket self.old self.new command t) }
         ensures denied { IfErr result (λ e. (e.0 ≡ command) × IsDenied self.new.was e.1 × (self.new.amount ≡ self.old.amount)) }
+        ensures unfetched { MatchResult result (λ t. self.new.unfetched ≡ self.old.unfetched ++ t.number ∷ []) (λ e. self.new.unfetched ≡ self.old.unfetched) }
         ensures taken_in { OnOk result (HasTakenIn self.new.was) }
         ensures open_until_then { OnOk result (self.old.was.closed ≡ false) }
         ensures grows { IsBefore self.old.was self.new.was }
@@ -251,6 +299,7 @@ impl<B: Room> Submitter<B> {
             .submit(&shared.seats, me, &mut self.share, command);
         self.seat = me;
         let number = answer?;
+        self.unfetched.push_reserved(number);
         shared.asked.notify_one();
         Ok(Ticket {
             number,
@@ -266,7 +315,10 @@ impl<B: Room> Submitter<B> {
     pub fn wait<R: Wait>(&mut self, rt: &R, ticket: Ticket) -> Result<Receipt, NotDone>
         ensures receipt { IfOk result (λ r. IsReceipt self.new ticket r) }
         ensures not_done { IfErr result (λ n. IsNotDone self.new ticket n) }
+        ensures spent { IfErr result (λ n. (is_spent n ≡ true → ticket.owner ≡ self.old.id) × (is_spent n ≡ false → ticket.owner ≢ self.old.id)) }
         ensures fetched { ticket.owner ≡ self.old.id → self.old.was.fetched < self.new.was.fetched }
+        ensures own { ticket.owner ≡ self.old.id → IsFetched self.old.unfetched self.new.unfetched ticket.number }
+        ensures anothers { ticket.owner ≢ self.old.id → self.new.unfetched ≡ self.old.unfetched }
         ensures grows { IsBefore self.old.was self.new.was }
         ensures same { (self.new.id ≡ self.old.id) × (self.new.parts ≡ self.old.parts) × (self.new.amount ≡ self.old.amount) }
     {
@@ -279,7 +331,7 @@ impl<B: Room> Submitter<B> {
         }
         let shared = shared_in(&self.shared);
         let me = shared.seats.leave(&mut self.seat);
-        let (me, answer) = awaited(rt, shared, me, ticket.number);
+        let (me, answer) = awaited(rt, shared, me, &mut self.unfetched, ticket.number);
         self.seat = me;
         match answer {
             Ok(receipt) => Ok(receipt),
@@ -304,7 +356,7 @@ impl<B: Room> Submitter<B> {
         ensures tick { IfSome result (λ c. IsTickOf (C.tells clock.now) self.new.was c) }
         ensures none { IfNone result (self.new.was.closed ≡ true) }
         ensures grows { IsBefore self.old.was self.new.was }
-        ensures same { (self.new.id ≡ self.old.id) × (self.new.parts ≡ self.old.parts) × (self.new.amount ≡ self.old.amount) }
+        ensures same { (self.new.id ≡ self.old.id) × (self.new.parts ≡ self.old.parts) × (self.new.amount ≡ self.old.amount) × (self.new.unfetched ≡ self.old.unfetched) }
     {
         let shared = shared_in(&self.shared);
         let me = shared.seats.leave(&mut self.seat);
@@ -320,7 +372,7 @@ impl<B: Room> Submitter<B> {
         ensures idle { result ≡ true → IsIdle self.new.was }
         ensures closed { result ≡ false → (self.new.was.closed ≡ true) × (IsIdle self.new.was → ⊥) }
         ensures grows { IsBefore self.old.was self.new.was }
-        ensures same { (self.new.id ≡ self.old.id) × (self.new.parts ≡ self.old.parts) × (self.new.amount ≡ self.old.amount) }
+        ensures same { (self.new.id ≡ self.old.id) × (self.new.parts ≡ self.old.parts) × (self.new.amount ≡ self.old.amount) × (self.new.unfetched ≡ self.old.unfetched) }
     {
         let shared = shared_in(&self.shared);
         let me = shared.seats.leave(&mut self.seat);
@@ -334,7 +386,7 @@ impl<B: Room> Submitter<B> {
     pub fn rest_for<R: Wait + Timing>(&mut self, rt: &R, pause: Duration) -> Rested
         ensures rested { IsRested self.new.was result }
         ensures grows { IsBefore self.old.was self.new.was }
-        ensures same { (self.new.id ≡ self.old.id) × (self.new.parts ≡ self.old.parts) × (self.new.amount ≡ self.old.amount) }
+        ensures same { (self.new.id ≡ self.old.id) × (self.new.parts ≡ self.old.parts) × (self.new.amount ≡ self.old.amount) × (self.new.unfetched ≡ self.old.unfetched) }
     {
         let shared = shared_in(&self.shared);
         let me = shared.seats.leave(&mut self.seat);
@@ -347,7 +399,7 @@ impl<B: Room> Submitter<B> {
     pub fn gather(&mut self, other: Submitter<B>)
         ensures share { (self.new.parts ≡ self.old.parts + other.parts) × (self.new.amount ≡ self.old.amount + other.amount) }
         ensures apart { self.old.id ≢ other.id }
-        ensures same { (self.new.id ≡ self.old.id) × (self.new.was ≡ self.old.was) }
+        ensures same { (self.new.id ≡ self.old.id) × (self.new.was ≡ self.old.was) × (self.new.unfetched ≡ self.old.unfetched) }
     {
         let Submitter {
             shared: _,
@@ -356,13 +408,27 @@ impl<B: Room> Submitter<B> {
             seat: _,
             share,
             parts,
+            unfetched: _,
         } = other;
         self.shared.seats.meet(&mut self.badge, badge);
         self.share.merge(share);
         self.parts += parts;
     }
 
-    /// Lets go of it. The answers to its tickets are fetched by nobody then, and keep their places.
+    /// Gives its tickets up whose answer it hasn't fetched: it waits until each of them is answered, and lets go of the answer, which
+    /// counts as fetching it. So their room is there again for others. Whoever still has one of these tickets has a spent one.
+    pub fn give_up<R: Wait>(&mut self, rt: &R)
+        ensures none { self.new.unfetched ≡ [] }
+        ensures fetched { self.old.was.fetched + length self.old.unfetched ≤ self.new.was.fetched }
+        ensures grows { IsBefore self.old.was self.new.was }
+        ensures same { (self.new.id ≡ self.old.id) × (self.new.parts ≡ self.old.parts) × (self.new.amount ≡ self.old.amount) }
+    {
+        let shared = shared_in(&self.shared);
+        let me = shared.seats.leave(&mut self.seat);
+        self.seat = given_up(rt, shared, me, &mut self.unfetched);
+    }
+
+    /// Lets go of it. The answers to its tickets that it hasn't given up are fetched by nobody then, and keep their places.
     pub fn leave(self) {}
 
     /// Where it has gathered all others of its hub: the tickets given, which are the sum of all shares, by what became of them.
@@ -370,7 +436,7 @@ impl<B: Room> Submitter<B> {
         ensures settled { IfSome result (λ s. (s.given ≡ self.new.amount) × IsSettled self.new.was s) }
         ensures none { IfNone result (self.new.was.members ≢ self.new.parts) }
         ensures grows { IsBefore self.old.was self.new.was }
-        ensures same { (self.new.id ≡ self.old.id) × (self.new.parts ≡ self.old.parts) × (self.new.amount ≡ self.old.amount) }
+        ensures same { (self.new.id ≡ self.old.id) × (self.new.parts ≡ self.old.parts) × (self.new.amount ≡ self.old.amount) × (self.new.unfetched ≡ self.old.unfetched) }
     {
         let shared = shared_in(&self.shared);
         let me = shared.seats.leave(&mut self.seat);

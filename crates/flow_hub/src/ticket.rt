@@ -1,6 +1,6 @@
 //! Tickets, and what a ticket has instead of a receipt.
 ghost use Rattle.std.specs.Prelude.{◌≡◌};
-ghost use Rattle.flow_hub.specs.Refusals.{why_number};
+ghost use Rattle.flow_hub.specs.Refusals.{is_spent, why_number};
 
 use flow_base::code::Code;
 use flow_base::command::Command;
@@ -41,4 +41,17 @@ pub struct NotDone {
     pub ticket: Ticket,
     pub code: Why,
     pub command: Option<Command>,
+}
+
+impl NotDone {
+    /// Whether the ticket is spent. If not, it is another submitter's, which may still wait with it; for one that is spent no answer
+    /// comes any more.
+    pub fn is_spent(&self) -> bool
+        ensures { result ≡ is_spent self.now }
+    {
+        match self.code {
+            Why::NotMine => false,
+            Why::Refused(_code) => true,
+        }
+    }
 }

@@ -1,5 +1,5 @@
 //! What a hub does with its lists under the lock.
-ghost use Rattle.std.specs.Prelude.{◌≡◌, ◌+◌, ◌<◌, ◌≤◌, [], ◌++◌, length, map, vec_len, slice_index_or, take, drop, remove, IfSome};
+ghost use Rattle.std.specs.Prelude.{◌≡◌, ◌≢◌, ◌+◌, ◌<◌, ◌≤◌, [], ◌++◌, length, map, vec_len, slice_index_or, take, drop, remove, All, IfSome, IfNone, Some, slice_get};
 ghost use Rattle.std.specs.Vec.{vec_capacity};
 ghost use Rattle.std.specs.VecDeque.{deque_len, deque_capacity};
 ghost use Rattle.flow_machine.specs.declared.submission.Receipt.{Receipt as AReceipt};
@@ -11,12 +11,26 @@ use flow_base::code::Code;
 use flow_machine::submission::{Receipt, Taken};
 use std::collections::VecDeque;
 
-/// Where the receipt for a ticket stands.
+/// Where the receipt for a ticket stands. None where it isn't there.
 pub fn ticket_at(answered: &[Receipt], ticket: u64) -> Option<usize>
-    ensures { IfSome result (λ k. (k < length answered.now) × ((d : AReceipt) → (slice_index_or answered.now k d).ticket ≡ ticket)) }
+    ensures found { IfSome result (λ k. (k < length answered.now) × ((d : AReceipt) → (slice_index_or answered.now k d).ticket ≡ ticket)) }
+    ensures none { IfNone result (All (λ r. r.ticket ≢ ticket) answered.now) }
 {
     for k in 0..answered.len() {
         if answered[k].ticket == ticket {
+            return Some(k);
+        }
+    }
+    None
+}
+
+/// Where a number stands among these. None where it isn't there.
+pub fn place_of(numbers: &[u64], number: u64) -> Option<usize>
+    ensures found { IfSome result (λ k. (k < length numbers.now) × (slice_get numbers.now k ≡ Some number)) }
+    ensures none { IfNone result (All (λ n. n ≢ number) numbers.now) }
+{
+    for k in 0..numbers.len() {
+        if numbers[k] == number {
             return Some(k);
         }
     }
@@ -47,9 +61,10 @@ pub fn push_receipts(answered: &mut Vec<Receipt>, mut receipts: Vec<Receipt>)
     }
 }
 
-/// Where the refusal of a ticket stands.
+/// Where the refusal of a ticket stands. None where it isn't there.
 pub fn refused_at(refused: &[Refused], ticket: u64) -> Option<usize>
-    ensures { IfSome result (λ k. (k < length refused.now) × ((d : ARefused) → (slice_index_or refused.now k d).asked.ticket ≡ ticket)) }
+    ensures found { IfSome result (λ k. (k < length refused.now) × ((d : ARefused) → (slice_index_or refused.now k d).asked.ticket ≡ ticket)) }
+    ensures none { IfNone result (All (λ r. r.asked.ticket ≢ ticket) refused.now) }
 {
     for k in 0..refused.len() {
         if refused[k].asked.ticket == ticket {
@@ -76,6 +91,7 @@ pub fn move_front(waiting: &mut VecDeque<Taken>, into: &mut Vec<Taken>, most: us
     ensures parts { waiting.old.items ≡ into.new.items ++ waiting.new.items }
     ensures count { (length into.new.items ≤ most) × (vec_capacity into.new ≡ vec_capacity into.old) }
     ensures some { into.new.items ≡ [] → 0 < most → waiting.old.items ≡ [] }
+    ensures all { length into.new.items < most → waiting.new.items ≡ [] }
     ensures lengths { (deque_len waiting.new + length into.new.items ≡ deque_len waiting.old) × (deque_capacity waiting.new ≡ deque_capacity waiting.old) }
 {
     while into.len() < most {

@@ -34,7 +34,7 @@ impl<B: Room> State<B> {
         ensures posted { OnOk result.1 (self.new ≡ posted_on self.old board.tasks (record { due = board.due; open_runs = board.open_runs })) }
         ensures refused { IfErr result.1 (λ e. (e.0 ≡ board) × (self.new ≡ self.old)) }
         ensures keys { HasKeys keys.new result.0.was.posted }
-        ensures seat { result.0 ≡ seeing true false self.new.known }
+        ensures seat { result.0 ≡ seeing true false 0 self.new.known }
         ensures seen { OnOk result.1 (HasPosted me.was result.0.was board) }
         ensures part { OnErr result.1 (IsSamePart me.was result.0.was) }
         ensures once { IsOnce result.0.was.posted }
@@ -59,7 +59,7 @@ impl<B: Room> State<B> {
     pub(crate) fn skip(&mut self, seats: &Seats<B>, me: Pass<B>) -> Pass<B>
         requires seat { IsPublishers me }
         ensures skipped { self.new ≡ skipped self.old }
-        ensures seat { result ≡ seeing true false self.new.known }
+        ensures seat { result ≡ seeing true false 0 self.new.known }
         ensures seen { HasSkipped me.was result.was }
         ensures grows { IsBefore me.was result.was }
     {
@@ -70,7 +70,7 @@ impl<B: Room> State<B> {
     /// The seat that gives tasks out, where nobody has it yet.
     pub(crate) fn take_feed(&mut self) -> Option<Pass<B>>
         ensures same { self.new ≡ self.old }
-        ensures seat { IfSome result (λ p. p ≡ seeing false true nothing) }
+        ensures seat { IfSome result (λ p. p ≡ seeing false true 0 nothing) }
     {
         self.feed.take()
     }
@@ -79,7 +79,7 @@ impl<B: Room> State<B> {
     pub(crate) fn give(&mut self, seats: &Seats<B>, me: Pass<B>) -> (Pass<B>, Option<Task>)
         requires seat { IsGivers me }
         ensures given { MatchOption result.1 (self.new ≡ self.old) (λ t. (self.old.tasks ≡ t ∷ self.new.tasks) × (self.new ≡ gave self.old t self.new.tasks)) }
-        ensures seat { result.0 ≡ seeing false true self.new.known }
+        ensures seat { result.0 ≡ seeing false true 0 self.new.known }
         ensures seen { HasGiven me.was result.0.was result.1 }
         ensures none { IfNone result.1 ((result.0.was.closed ≡ true) ⊎ (result.0.was.given ≡ result.0.was.posted)) }
         ensures grows { IsBefore me.was result.0.was }
@@ -123,7 +123,7 @@ impl<B: Room> State<B> {
         requires seat { IsSubmitters me }
         ensures same { self.new ≡ self.old }
         ensures due { result.1 ≡ due_in result.0.was }
-        ensures seat { result.0 ≡ seeing false false self.new.known }
+        ensures seat { result.0 ≡ seeing false false me.owed self.new.known }
         ensures grows { IsBefore me.was result.0.was }
     {
         let me = self.see(seats, me);
@@ -149,7 +149,7 @@ impl<B: Room> State<B> {
         ensures same { self.new ≡ self.old }
         ensures idle { result.1 ≡ true → IsIdle result.0.was }
         ensures busy { result.1 ≡ false → IsIdle result.0.was → ⊥ }
-        ensures seat { result.0 ≡ seeing false false self.new.known }
+        ensures seat { result.0 ≡ seeing false false me.owed self.new.known }
         ensures grows { IsBefore me.was result.0.was }
     {
         let me = self.see(seats, me);
@@ -173,7 +173,7 @@ impl<B: Room> State<B> {
         requires seat { IsSubmitters me }
         ensures same { self.new ≡ self.old }
         ensures rested { IsRested result.0.was result.1 }
-        ensures seat { result.0 ≡ seeing false false self.new.known }
+        ensures seat { result.0 ≡ seeing false false me.owed self.new.known }
         ensures grows { IsBefore me.was result.0.was }
     {
         let (me, idle) = self.is_idle(seats, me);

@@ -1,8 +1,8 @@
-use Rattle.std.proofs.Common.{rules, ◌≡◌, ◌+◌, ◌++◌, length, ◌∙◌, arith, length-append}
+use Rattle.std.proofs.Common.{rules, ◌≡◌, ◌+◌, [], ◌++◌, length, ◌∙◌, arith, length-append}
 use Rattle.flow_hub.proofs.Growing.{takes_on, grows_by}
 use Rattle.flow_hub.specs.Knowing.{IsSamePart}
 use Rattle.flow_hub.proofs.Moves.{was_of}
-use Rattle.flow_hub.proofs.Sound.{takes, has_taken, taken_by}
+use Rattle.flow_hub.proofs.Sound.{takes, has_taken, taken_by, all_taken, all_taken_by}
 use Rattle.flow_hub.proofs.state.State.take.Goals as goal
 
 pub invariant_of-self : goal.invariant_of-self
@@ -40,3 +40,12 @@ returns-clause-seen g c =
     let parts : i.waiting.items ≡ xs ++ c.move_front.new.waiting.items = search rules in
     let was = was_of c.tell.result _ _ c.take.new.self c.tell.ensures.told ∙ c.take.ensures in
     taken_by c.args.me.was c.tell.result.was _ xs was (has_taken _ c.args.me.was xs c.move_front.new.waiting.items parts c.self.invariant.0 same)
+
+pub returns-clause-all : goal.returns-clause-all
+returns-clause-all g c less =
+    let xs = c.move_front.new.into.items in
+    let rest = c.move_front.new.waiting.items in
+    let parts : c.self.inside.waiting.items ≡ xs ++ rest = search rules in
+    let none : rest ≡ [] = c.move_front.ensures.all less in
+    let was = was_of c.tell.result _ _ c.take.new.self c.tell.ensures.told ∙ c.take.ensures in
+    all_taken_by c.tell.result.was _ was (all_taken _ none (takes _ xs rest parts c.self.invariant.0))
