@@ -1,5 +1,5 @@
 -- What was printed of lines and tasks, and one more.
-use Rattle.std.proofs.Common.{◌≡◌, ℕ, List, [], ◌∷◌, ◌++◌, Bool, true, false, Option, Some, None, slice_get, refl, sym, ap, ◌∙◌, subst, append_assoc, append-nil}
+use Rattle.std.proofs.Common.{◌≡◌, ℕ, List, [], ◌∷◌, ◌++◌, Bool, true, false, Option, Some, slice_get, refl, sym, ap, ◌∙◌, subst, append_assoc, append-nil}
 use Rattle.std.specs.Io.KnownBytes.{Appends}
 use Rattle.std.proofs.KnownBytes.{Appends-nil, Appends-trans}
 use Rattle.flow_base.specs.declared.command.Command.{Command}
@@ -11,7 +11,7 @@ use Rattle.flow_hub.specs.declared.fed.Fed.TheVariants as fed
 use Rattle.flow_hub.specs.declared.known.Known.{Known}
 use Rattle.flow_hub.specs.declared.ticket.Ticket.{Ticket}
 use Rattle.flow_hub.specs.Knowing.{IsBefore, nothing}
-use Rattle.flow_hub.specs.Feeding.{HasGiven, HasFed}
+use Rattle.flow_hub.specs.Feeding.{HasFed}
 use Rattle.flow_hub.specs.Submitting.{Member}
 use Rattle.flow_hub.proofs.Growing.{before_trans}
 use Rattle.flow_hub.proofs.Lists.{get_front}
@@ -409,3 +409,9 @@ pub counted_as : (tells : ℕ → Type 0) (first : Option (List ℕ)) (feed then
 counted_as tells first feed then k m lines ls page now a b d e c =
     subst (λ x. Counted tells first x m ls now) (sym a)
     (subst (λ x. Counted tells first feed x ls now) (sym b) (subst (λ x. Counted tells first feed k x now) (sym d) (subst (Counted tells first feed k lines) (sym e) c)))
+
+-- and later
+pub counted_later : (tells : ℕ → Type 0) (first : Option (List ℕ)) (feed : Known) (k m : Member) (lines : List (List ℕ)) (page : Printed) → m.id ≡ k.id → IsBefore k.was m.was
+    → Counted tells first feed k lines page → Counted tells first feed m lines page
+counted_later tells first feed k m lines page same later c =
+    record { done = c.done; rest = c.rest; are = c.are; says = says_later tells first feed.given k m c.done page (sym same) later c.says; fed = c.fed }

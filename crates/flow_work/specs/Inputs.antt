@@ -1,5 +1,6 @@
 -- What is read.
-use Rattle.std.specs.Prelude.{◌≡◌, ℕ, List, [], Option, Some, Bool, true, false}
+use Rattle.std.specs.Prelude.{◌≡◌, ◌⊎◌, ℕ, List, [], ◌∷◌, ◌++◌, Option, Some, Bool, true, false, IfSome}
+use Rattle.std.specs.List.{AllByRecursion}
 use Rattle.flow_cli.specs.Answering.{FirstLine}
 use Rattle.flow_work.specs.declared.input.Input.{Input}
 use Rattle.flow_work.specs.declared.input.Input.TheVariants as input
@@ -17,3 +18,17 @@ IsNext bytes (input.Line line) left = FirstLine bytes line.items left
 IsNext bytes input.Ended left = (bytes ≡ []) × (left ≡ Some bytes)
 IsNext bytes input.Failed left = Unit {0}
 IsNext bytes input.Stopped left = ⊥
+
+-- These were read of these bytes, where they are known, one after the other; and these are left.
+abbrev pub Reads : Option (List ℕ) → List Input → Option (List ℕ) → Type 0
+Reads bytes [] left = left ≡ bytes
+Reads bytes (x ∷ xs) left = (mid : Option (List ℕ)) × IfSome bytes (λ now. IsNext now x mid) × Reads mid xs left
+
+abbrev pub IsALine : Input → Type 0
+IsALine x = is_line x ≡ true
+
+-- What was read was taken, line by line, and behind the lines their end, which is no line; or nobody took any more, what was read last.
+abbrev pub HasRead : Type 0 → Option (List ℕ) → Option (List ℕ) → (was now : List Input) → Type 0
+HasRead gone bytes left was now =
+    (lines : List Input) × (last : Input) × AllByRecursion IsALine lines × Reads bytes (lines ++ last ∷ []) left
+    × (((now ≡ was ++ lines ++ last ∷ []) × (is_line last ≡ false)) ⊎ ((now ≡ was ++ lines) × gone))

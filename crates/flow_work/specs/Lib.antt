@@ -7,6 +7,7 @@ pub mod Inputs
 pub mod Moments
 pub mod Printing
 pub mod Reading
+pub mod Resting
 pub mod Serving
 pub mod Showing
 pub mod Telling

@@ -1,9 +1,10 @@
 //! The thread that submits lines, prints their replies in the order of the lines, and prints tasks in between.
-ghost use Rattle.std.specs.Prelude.{◌≡◌, ◌<◌, [], ◌∷◌, ◌++◌, ℕ, List, Option, length};
+ghost use Rattle.std.specs.Prelude.{◌≡◌, ◌<◌, [], ℕ, List, Option, length};
 ghost use Rattle.flow_work.specs.Counting.{Counted, Counts, Goes, is_open, is_task};
 
 use crate::desk::Desk;
 use crate::input::Input;
+use crate::lines::{no_lines, with_line};
 use crate::page::Page;
 use crossbeam_channel::Receiver;
 use flow_base::text::RawText;
@@ -15,31 +16,7 @@ use flow_timers::Clock;
 use std::io::Write;
 use std::snapshot::Snapshot;
 use std::sync::Wait;
-use unseen::{Listed, Makes};
-
-struct Nothing;
-
-impl Makes<(), RawText> for Nothing {
-    ghost use Rattle.std.specs.Prelude.{[]};
-
-    ghost list = { λ _. [] };
-}
-
-struct OneMore;
-
-impl Makes<(Listed<RawText>, Snapshot<Vec<u8>>), RawText> for OneMore {
-    ghost use Rattle.std.specs.Prelude.{[], ◌∷◌, ◌++◌};
-
-    ghost list = { λ p. p.0 ++ p.1.value.items ∷ [] };
-}
-
-/// The lines that were taken in, and one more.
-fn with_line(lines: &Listed<RawText>, line: Snapshot<Vec<u8>>) -> Listed<RawText>
-    ensures { result ≡ lines.now ++ line.value.items ∷ [] }
-{
-    let more = (lines.again(), line);
-    Listed::of::<(Listed<RawText>, Snapshot<Vec<u8>>), OneMore>(&more)
-}
+use unseen::Listed;
 
 /// Whether more may come.
 fn is_open(fed: &Fed) -> bool
@@ -80,7 +57,7 @@ impl<B: Room, W: Write + Drop> Counter<B, W> {
         Counter {
             desk,
             feed,
-            lines: Listed::of::<(), Nothing>(&()),
+            lines: no_lines(),
         }
     }
 

@@ -1,8 +1,10 @@
 //! The threads that a running engine starts. Each owns all that it has.
 ghost use Rattle.std.specs.Prelude.{◌≡◌, IfErr};
 
+use crate::clerk::{Answered, run_clerk};
 use crate::desk::Desk;
-use crate::input::{Input, read_and_ring, read_lines};
+use crate::handing::{Handing, Ringing};
+use crate::input::{Input, Taking, read_lines};
 use crate::page::Page;
 use crate::progress::Progress;
 use crate::reports::Reporter;
@@ -56,6 +58,11 @@ fn run_timer<B: Room, R: Wait + time::Clock, C: Clock>(
     drop(group);
 }
 
+/// Reads until the input has ended, or nobody takes it any more.
+fn run_reader<R: Wait, I: BufRead + Drop, T: Taking>(rt: &R, alloc: Global, reader: I, taking: T) {
+    drop(read_lines(rt, alloc, reader, taking));
+}
+
 /// All that the thread has that answers lines.
 #[derive(Drop)]
 pub(crate) struct Answerer<B: Room, W: Write, P: Write> {
@@ -72,15 +79,17 @@ fn run_desk<B: Room, W: Write + Drop, R: Wait + time::Clock, C: Clock, P: Write 
     clock: &C,
 ) -> Page<W> {
     let Answerer {
-        mut desk,
+        desk,
         inputs,
         hub,
         progress,
     } = answerer;
-    desk.answer_lines(rt, clock, &inputs);
-    desk.rest(rt, clock, progress);
+    let Answered {
+        page,
+        submitter: _submitter,
+        lines: _lines,
+    } = run_clerk(rt, desk, clock, &inputs, progress);
     hub.close(rt);
-    let (page, _submitter) = desk.into_parts();
     page
 }
 
@@ -167,7 +176,8 @@ where
     ensures { IfErr result (λ f. f ≡ Fault.NoMemory _) }
 {
     let its = *rt;
-    match thread::spawn(rt, move || read_lines(&its, alloc, reader, lines)) {
+    let handing = Handing::new(lines);
+    match thread::spawn(rt, move || run_reader(&its, alloc, reader, handing)) {
         Ok(_thread) => Ok(()),
         Err(refused) => Err(Fault::from(AllocError::from(refused))),
     }
@@ -188,7 +198,8 @@ where
     ensures { IfErr result (λ f. f ≡ Fault.NoMemory _) }
 {
     let its = *rt;
-    match thread::spawn(rt, move || read_and_ring(&its, alloc, reader, lines, hub)) {
+    let ringing = Ringing::new(lines, hub);
+    match thread::spawn(rt, move || run_reader(&its, alloc, reader, ringing)) {
         Ok(_thread) => Ok(()),
         Err(refused) => Err(Fault::from(AllocError::from(refused))),
     }

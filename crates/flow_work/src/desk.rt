@@ -6,6 +6,7 @@ ghost use Rattle.flow_work.specs.Counting.{PrintsFed};
 ghost use Rattle.flow_work.specs.Endings.{IsToldOf, line_instead};
 ghost use Rattle.flow_work.specs.Printing.{blank};
 ghost use Rattle.flow_work.specs.Reading.{IsOf, IsPendingOf};
+ghost use Rattle.flow_work.specs.Resting.{HasRested};
 ghost use Rattle.flow_work.specs.Telling.{AnswersFirst, HasTold, IsAnswer, PrintsAnswer};
 ghost use Rattle.flow_work.specs.declared.queue.Pending.{Pending as APending};
 
@@ -235,7 +236,7 @@ impl<B: Room, W: Write + Drop> Desk<B, W> {
     }
 
     /// What is read next. None where there is nothing yet and a reply can be waited for meanwhile.
-    fn next_input<R: Wait>(&self, rt: &R, inputs: &Receiver<Input>) -> Option<Input>
+    pub(crate) fn next_input<R: Wait>(&self, rt: &R, inputs: &Receiver<Input>) -> Option<Input>
         ensures { IfSome result (λ _. length self.now.pending.lines.items < 64) }
     {
         let count = self.pending.len();
@@ -282,54 +283,24 @@ impl<B: Room, W: Write + Drop> Desk<B, W> {
         unreachable!()
     }
 
-    /// Takes in what is read next, or prints the oldest reply. No where the input has ended and all is printed, or nothing is answered
-    /// any more.
-    fn step<R: Wait, C: Clock>(&mut self, rt: &R, clock: &C, inputs: &Receiver<Input>) -> bool {
-        match self.next_input(rt, inputs) {
-            Some(Input::Line(line)) => self.take_line(rt, clock, line),
-            Some(Input::Ended) => {
-                self.tell_all(rt);
-                false
-            }
-            Some(Input::Failed) => {
-                self.fail();
-                self.tell_all(rt);
-                false
-            }
-            Some(Input::Stopped) => false,
-            None => self.tell_oldest(rt),
-        }
-    }
-
-    /// Submits the lines that are read, each at the moment that the clock tells then, and prints their replies, until the input has
-    /// ended and all is printed, or nothing is answered any more. A line is submitted again after E90; a command that was answered E80
-    /// or E01 is told as not applied.
-    pub(crate) fn answer_lines<R: Wait, C: Clock>(
-        &mut self,
-        rt: &R,
-        clock: &C,
-        inputs: &Receiver<Input>,
-    ) {
-        'steps: for _ in rt.forever() {
-            if !self.step(rt, clock, inputs) {
-                return;
-            }
-        }
-        unreachable!()
-    }
-
-    /// Waits until no run is open, or nothing is answered any more. A terminal shows meanwhile what is left: only now, since nothing
-    /// is printed any more that would mix with it.
+    /// Waits until no run is open, or the hub is closed. A terminal shows meanwhile what is left: only now, since nothing is printed any
+    /// more that would mix with it.
+    #[tactic(auto, using(crate::proofs::Resting::rested_by))]
     pub(crate) fn rest<R: Wait + time::Clock, C: Clock, P: Write + Drop>(
         &mut self,
         rt: &R,
         clock: &C,
         progress: Option<Progress<P>>,
-    ) {
+    )
+        ensures rested { HasRested self.new.submitter.was }
+        ensures grows { IsBefore self.old.submitter.was self.new.submitter.was }
+        ensures same { self.new.submitter.id ≡ self.old.submitter.id }
+        ensures page { self.new.page ≡ self.old.page }
+    {
         match progress {
             Some(progress) => self.rest_shown(rt, clock, progress),
             None => {
-                self.submitter.rest(rt);
+                let _idle = self.submitter.rest(rt);
             }
         }
     }
@@ -339,18 +310,49 @@ impl<B: Room, W: Write + Drop> Desk<B, W> {
         rt: &R,
         clock: &C,
         progress: Progress<P>,
-    ) {
+    )
+        ensures rested { HasRested self.new.submitter.was }
+        ensures grows { IsBefore self.old.submitter.was self.new.submitter.was }
+        ensures same { self.new.submitter.id ≡ self.old.submitter.id }
+        ensures page { self.new.page ≡ self.old.page }
+    {
         let mut progress = progress;
         'rests: for _ in rt.forever() {
-            let rest = self
-                .submitter
-                .rest_for(rt, Duration::from_millis(LONGEST_REST));
-            let Rested::NotYet(outlook) = rest else {
-                progress.clear();
+            if !self.rest_once(rt, clock, &mut progress) {
                 return;
-            };
-            progress.draw(outlook, clock.now());
+            }
         }
         unreachable!()
+    }
+
+    /// Waits for a while, and shows what is left then. No where nothing is, or the hub is closed.
+    fn rest_once<R: Wait + time::Clock, C: Clock, P: Write + Drop>(
+        &mut self,
+        rt: &R,
+        clock: &C,
+        progress: &mut Progress<P>,
+    ) -> bool
+        ensures rested { result ≡ false → HasRested self.new.submitter.was }
+        ensures grows { IsBefore self.old.submitter.was self.new.submitter.was }
+        ensures same { self.new.submitter.id ≡ self.old.submitter.id }
+        ensures page { self.new.page ≡ self.old.page }
+    {
+        match self
+            .submitter
+            .rest_for(rt, Duration::from_millis(LONGEST_REST))
+        {
+            Rested::NotYet(outlook) => {
+                progress.draw(outlook, clock.now());
+                true
+            }
+            Rested::Idle => {
+                progress.clear();
+                false
+            }
+            Rested::Closed => {
+                progress.clear();
+                false
+            }
+        }
     }
 }

@@ -1,14 +1,11 @@
 //! The thread that reads.
 ghost use Rattle.std.specs.Prelude.{◌≡◌, IfSome};
-ghost use Rattle.flow_work.specs.Inputs.{IsNext, is_line};
+ghost use Rattle.flow_work.specs.Inputs.{HasRead, IsNext, is_line};
 
-use crossbeam_channel::Sender;
 use flow_cli::streams::next_line;
-use flow_hub::hub::Hub;
-use flow_hub::seats::Room;
 use std::alloc::Global;
 use std::io::BufRead;
-use std::sync::{Arc, Wait};
+use std::sync::Wait;
 
 /// What comes of the input.
 #[derive(Debug, Drop)]
@@ -42,42 +39,42 @@ fn next_input<I: BufRead>(alloc: Global, reader: &mut I) -> Input
     }
 }
 
-/// Reads line after line and hands each on, until the input has ended or can't be read, or nobody takes it.
-pub fn read_lines<R: Wait, I: BufRead + Drop>(
-    rt: &R,
-    alloc: Global,
-    reader: I,
-    sender: Sender<Input>,
-) {
-    let mut reader = reader;
-    'lines: for _ in rt.forever() {
-        let input = next_input(alloc, &mut reader);
-        let is_last = !input.is_line();
-        if sender.send(rt, input).is_err() || is_last {
-            return;
-        }
-    }
-    unreachable!()
+/// Takes what is read, one after the other.
+pub trait Taking: Drop {
+    ghost use Rattle.std.specs.Prelude.{◌≡◌, [], ◌∷◌, ◌++◌, List, true, false};
+    ghost use Rattle.flow_work.specs.declared.input.Input.{Input};
+
+    /// All that it took, for contracts alone.
+    ghost taken: { Self → List Input };
+
+    /// Nobody takes anything any more, for contracts alone.
+    ghost gone: { Self → Type 0 };
+
+    /// Takes what is read next. No where nobody does any more.
+    fn take<R: Wait>(&mut self, rt: &R, input: Input) -> bool
+        ensures taken { result ≡ true → taken self.new ≡ taken self.old ++ input ∷ [] }
+        ensures gone { result ≡ false → (taken self.new ≡ taken self.old) × gone self.new };
 }
 
-/// Reads as `read_lines` does, and rings at a hub behind each line, so that one who sleeps there looks.
-pub fn read_and_ring<B: Room, R: Wait, I: BufRead + Drop>(
+/// Reads line after line and hands each on, until the input has ended or can't be read, or nobody takes it. Both come back.
+pub fn read_lines<R: Wait, I: BufRead + Drop, T: Taking>(
     rt: &R,
     alloc: Global,
     reader: I,
-    sender: Sender<Input>,
-    hub: Arc<Hub<B>, Global>,
-) {
+    taking: T,
+) -> (I, T)
+    ensures { HasRead (T.gone result.1) (I.remaining reader) (I.remaining result.0) (T.taken taking) (T.taken result.1) }
+{
     let mut reader = reader;
+    let mut taking = taking;
     'lines: for _ in rt.forever() {
         let input = next_input(alloc, &mut reader);
-        let is_last = !input.is_line();
-        if sender.send(rt, input).is_err() {
-            return;
+        let is_line = input.is_line();
+        if !taking.take(rt, input) {
+            return (reader, taking);
         }
-        hub.ring(rt);
-        if is_last {
-            return;
+        if !is_line {
+            return (reader, taking);
         }
     }
     unreachable!()

@@ -1,12 +1,15 @@
 //! The running engine as a program: threads that serve, run activities, fire timers, read lines and print replies.
 #![tactic(auto)]
 
+pub mod clerk;
 pub mod clock;
 pub mod counter;
 pub mod crew;
 pub mod desk;
 pub mod ended;
+pub mod handing;
 pub mod input;
+pub mod lines;
 pub mod moments;
 pub mod page;
 pub mod progress;

@@ -1,0 +1,13 @@
+use Rattle.std.proofs.Common.{sym, subst}
+use Rattle.flow_hub.specs.Knowing.{nothing}
+use Rattle.flow_work.specs.Counting.{Counted}
+use Rattle.flow_work.proofs.Counting.{counted_later}
+use Rattle.flow_work.proofs.clerk.Clerk.rest.Goals as goal
+
+pub returns-clause-counted : goal.returns-clause-counted
+returns-clause-counted g c =
+    let old = c.args.self.now in
+    let tells = g.C.Clock.tells c.args.clock.now in
+    let new = c.rest.new.self in
+    λ first k. subst (Counted tells first nothing new.submitter old.lines) (sym c.rest.ensures.page)
+    (counted_later tells first nothing old.desk.submitter new.submitter old.lines old.desk.page c.rest.ensures.same c.rest.ensures.grows k)

@@ -1,0 +1,16 @@
+use Rattle.std.proofs.Common.{rules, ◌≡◌, ◌++◌, ◌∷◌, [], List, ℕ, sym, subst}
+use Rattle.flow_hub.specs.Knowing.{nothing}
+use Rattle.flow_work.specs.Counting.{Goes}
+use Rattle.flow_work.proofs.Counting.{taken_goes}
+use Rattle.flow_work.proofs.clerk.Clerk.take.Goals as goal
+
+pub returns : goal.returns
+returns g c =
+    let old = c.args.self.now in
+    let tells = g.C.Clock.tells c.args.clock.now in
+    let taken = c.take_line-goes_on in
+    let new = taken.new.self in
+    let lines : c.with_line-lines.result ≡ old.lines ++ c.args.line.items ∷ [] = search rules in
+    λ first k. subst (λ (l : List (List ℕ)). Goes tells first taken.result nothing new.submitter new.pending.lines.items l new.page) (sym lines)
+    (taken_goes tells first nothing old.desk.submitter new.submitter taken.result old.desk.pending.lines.items new.pending.lines.items old.lines c.args.line.items old.desk.page new.page taken.ensures.same taken.ensures.grows
+    taken.ensures.taken taken.ensures.not_taken k)

@@ -1,0 +1,168 @@
+//! The thread that submits lines and prints their replies in the order of the lines.
+ghost use Rattle.std.specs.Prelude.{◌≡◌, ◌<◌, [], ℕ, List, Option, length};
+ghost use Rattle.flow_hub.specs.Knowing.{nothing};
+ghost use Rattle.flow_work.specs.Counting.{Counted, Counts, Goes, Owes};
+ghost use Rattle.flow_work.specs.Resting.{HasRested};
+
+use crate::desk::Desk;
+use crate::input::Input;
+use crate::lines::{no_lines, with_line};
+use crate::page::Page;
+use crate::progress::Progress;
+use crossbeam_channel::Receiver;
+use flow_base::text::RawText;
+use flow_hub::seats::Room;
+use flow_hub::submitter::Submitter;
+use flow_timers::Clock;
+use std::io::Write;
+use std::snapshot::Snapshot;
+use std::sync::Wait;
+use std::time;
+use unseen::Listed;
+
+/// A desk, and the lines that were taken in there.
+#[derive(Drop)]
+pub(crate) struct Clerk<B: Room, W: Write> {
+    desk: Desk<B, W>,
+    /// The lines that were taken in, for contracts alone.
+    lines: Listed<RawText>,
+}
+
+/// What is left of a clerk: what was printed, who submitted, and which lines were taken in.
+#[derive(Drop)]
+pub(crate) struct Answered<B: Room, W: Write> {
+    pub(crate) page: Page<W>,
+    pub(crate) submitter: Submitter<B>,
+    pub(crate) lines: Listed<RawText>,
+}
+
+impl<B: Room, W: Write + Drop> Clerk<B, W> {
+    /// Answers lines at this desk.
+    fn new(desk: Desk<B, W>) -> Clerk<B, W>
+        ensures { (result.desk ≡ desk) × (result.lines ≡ []) }
+    {
+        Clerk {
+            desk,
+            lines: no_lines(),
+        }
+    }
+
+    /// What is left of it.
+    fn into_answered(self) -> Answered<B, W>
+        ensures { (result.page ≡ self.desk.page) × (result.submitter ≡ self.desk.submitter) × (result.lines ≡ self.lines) }
+    {
+        let Clerk { desk, lines } = self;
+        let (page, submitter) = desk.into_parts();
+        Answered {
+            page,
+            submitter,
+            lines,
+        }
+    }
+
+    /// Waits until no run is open, or the hub is closed.
+    fn rest<R: Wait + time::Clock, C: Clock, P: Write + Drop>(
+        &mut self,
+        rt: &R,
+        clock: &C,
+        progress: Option<Progress<P>>,
+    )
+        ensures rested { HasRested self.new.desk.submitter.was }
+        ensures counted { (first : Option (List ℕ)) → Counted (C.tells clock.now) first nothing self.old.desk.submitter self.old.lines self.old.desk.page
+            → Counted (C.tells clock.now) first nothing self.new.desk.submitter self.new.lines self.new.desk.page }
+    {
+        self.desk.rest(rt, clock, progress);
+    }
+
+    /// Takes in a line. No where nothing is answered any more.
+    fn take<R: Wait, C: Clock>(&mut self, rt: &R, clock: &C, line: Vec<u8>) -> bool
+        requires { length self.old.desk.pending.lines.items < 64 }
+        ensures { (first : Option (List ℕ)) → Counts (C.tells clock.now) first nothing self.old.desk.submitter self.old.desk.pending.lines.items self.old.lines self.old.desk.page
+            → Goes (C.tells clock.now) first result nothing self.new.desk.submitter self.new.desk.pending.lines.items self.new.lines self.new.desk.page }
+    {
+        let read = Snapshot::of(&line);
+        let goes_on = self.desk.take_line(rt, clock, line);
+        let lines = with_line(&self.lines, read);
+        self.lines = lines;
+        goes_on
+    }
+
+    /// Prints all replies that are to come.
+    fn end<R: Wait, C: Clock>(&mut self, rt: &R, clock: &C)
+        ensures { (first : Option (List ℕ)) → Counts (C.tells clock.now) first nothing self.old.desk.submitter self.old.desk.pending.lines.items self.old.lines self.old.desk.page
+            → Counted (C.tells clock.now) first nothing self.new.desk.submitter self.new.lines self.new.desk.page }
+    {
+        self.desk.tell_all(rt);
+    }
+
+    /// As `end`, where the input can't be read any more.
+    fn fail<R: Wait, C: Clock>(&mut self, rt: &R, clock: &C)
+        ensures { (first : Option (List ℕ)) → Counts (C.tells clock.now) first nothing self.old.desk.submitter self.old.desk.pending.lines.items self.old.lines self.old.desk.page
+            → Counted (C.tells clock.now) first nothing self.new.desk.submitter self.new.lines self.new.desk.page }
+    {
+        self.desk.fail();
+        self.end(rt, clock);
+    }
+
+    /// Prints the oldest reply. No where nothing is answered any more.
+    fn tell<R: Wait, C: Clock>(&mut self, rt: &R, clock: &C) -> bool
+        ensures { (first : Option (List ℕ)) → Counts (C.tells clock.now) first nothing self.old.desk.submitter self.old.desk.pending.lines.items self.old.lines self.old.desk.page
+            → Goes (C.tells clock.now) first result nothing self.new.desk.submitter self.new.desk.pending.lines.items self.new.lines self.new.desk.page }
+    {
+        self.desk.tell_oldest(rt)
+    }
+
+    /// Takes in what is read next, or prints the oldest reply. No where the input has ended and all is printed, or nothing is answered
+    /// any more.
+    #[tactic(auto, using(crate::proofs::Counting::goes_over, crate::proofs::Counting::counted))]
+    fn step<R: Wait, C: Clock>(&mut self, rt: &R, clock: &C, inputs: &Receiver<Input>) -> bool
+        ensures { (first : Option (List ℕ)) → Counts (C.tells clock.now) first nothing self.old.desk.submitter self.old.desk.pending.lines.items self.old.lines self.old.desk.page
+            → Goes (C.tells clock.now) first result nothing self.new.desk.submitter self.new.desk.pending.lines.items self.new.lines self.new.desk.page }
+    {
+        match self.desk.next_input(rt, inputs) {
+            Some(Input::Line(line)) => self.take(rt, clock, line),
+            Some(Input::Ended) => {
+                self.end(rt, clock);
+                false
+            }
+            Some(Input::Failed) => {
+                self.fail(rt, clock);
+                false
+            }
+            Some(Input::Stopped) => false,
+            None => self.tell(rt, clock),
+        }
+    }
+
+    /// Submits the lines that are read, each at the moment that the clock tells then, and prints their replies, until the input has
+    /// ended and all is printed, or nothing is answered any more. A line is submitted again after E90; a command that was answered E80
+    /// or E01 is told as not applied.
+    fn answer_lines<R: Wait, C: Clock>(&mut self, rt: &R, clock: &C, inputs: &Receiver<Input>)
+        ensures { (first : Option (List ℕ)) → Counts (C.tells clock.now) first nothing self.old.desk.submitter self.old.desk.pending.lines.items self.old.lines self.old.desk.page
+            → Counted (C.tells clock.now) first nothing self.new.desk.submitter self.new.lines self.new.desk.page }
+    {
+        'steps: for _ in rt.forever() {
+            if !self.step(rt, clock, inputs) {
+                return;
+            }
+        }
+        unreachable!()
+    }
+}
+
+/// Answers lines at a desk until the input has ended and no run is open, or nothing is answered any more.
+pub(crate) fn run_clerk<B: Room, W: Write + Drop, R: Wait + time::Clock, C: Clock, P: Write + Drop>(
+    rt: &R,
+    desk: Desk<B, W>,
+    clock: &C,
+    inputs: &Receiver<Input>,
+    progress: Option<Progress<P>>,
+) -> Answered<B, W>
+    ensures owes { Owes (C.tells clock.now) desk.page desk.pending.lines.items nothing nothing result.submitter result.lines result.page }
+    ensures rested { HasRested result.submitter.was }
+{
+    let mut clerk = Clerk::new(desk);
+    clerk.answer_lines(rt, clock, inputs);
+    clerk.rest(rt, clock, progress);
+    clerk.into_answered()
+}
