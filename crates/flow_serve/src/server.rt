@@ -55,6 +55,7 @@ fn commit_taken<S: Alter, B: Room, R: Wait>(
     // It was committed, and this has become of it, with what stands behind E80.
     ensures answered { HasAnswered S.Store engine.old engine.new publisher.old.refused publisher.new.refused batch }
     ensures posted { publisher.new.posted ≡ publisher.old.posted }
+    ensures ended { publisher.new.ended ≡ publisher.old.ended }
     ensures found { engine.new.found ≡ engine.old.found }
     ensures follows { Follows S.Store engine.old engine.new }
     ensures grows { IsBefore publisher.old publisher.new }
@@ -102,6 +103,7 @@ fn try_board<S: Alter, B: Room, R: Wait, C: Clock>(
     ensures posts { Posts S.Store (C.tells clock.now) engine.new publisher.old.posted publisher.new.posted }
     ensures still { IsStill S.Store engine.old engine.new }
     ensures refused { publisher.new.refused ≡ publisher.old.refused }
+    ensures ended { publisher.new.ended ≡ publisher.old.ended }
     ensures grows { IsBefore publisher.old publisher.new }
 {
     match engine.board(publisher.posted(), clock.now()) {
@@ -128,6 +130,7 @@ fn post_board<S: Alter, B: Room, R: Wait, C: Clock>(
     ensures posts { Posts S.Store (C.tells clock.now) engine.new publisher.old.posted publisher.new.posted }
     ensures still { IsStill S.Store engine.old engine.new }
     ensures refused { publisher.new.refused ≡ publisher.old.refused }
+    ensures ended { publisher.new.ended ≡ publisher.old.ended }
     ensures grows { IsBefore publisher.old publisher.new }
 {
     if try_board(rt, engine, publisher, clock).is_ok() {
@@ -153,6 +156,7 @@ fn serve_all<S: Alter, B: Room, R: Wait, C: Clock>(
     requires room { (first.items ≡ []) × (most ≤ vec_capacity first) }
     ensures together { Together (account_of S.Store engine.new) publisher.new }
     ensures done { OnOk result (IsDone publisher.new) }
+    ensures ended { publisher.new.ended ≡ publisher.old.ended }
     ensures goes_on { OnOk result (engine.new.halted ≡ engine.old.halted) }
     ensures given_up { OnOk result (GivesUp publisher.old.refused publisher.new.refused) }
     ensures stops { IfErr result
@@ -238,6 +242,8 @@ pub fn serve<S: Alter, B: Room, R: Wait, C: Clock>(
     // At the end the hub's history is what the keeper has kept, and all that was submitted is answered.
     ensures together { Together (account_of S.Store engine.new) publisher.new }
     ensures done { IsDone publisher.new }
+    // It was closed before the call, or since then by whoever has the hub: the publisher hasn't closed it.
+    ensures closed { OnOk result (publisher.new.ended ≡ publisher.old.ended) }
     ensures goes_on { OnOk result (engine.new.halted ≡ engine.old.halted) }
     ensures given_up { OnOk result (GivesUp publisher.old.refused publisher.new.refused) }
     ensures stops { IfErr result

@@ -99,6 +99,7 @@ loop-init g c =
       follows = b.still.follows;
       grows = b.grows;
       boarded = b.boarded;
+      ended = b.ended;
       empty = search rules;
       room = search rules;
       next = search rules;
@@ -141,6 +142,7 @@ loop-preserved g c =
           before_trans c.args.publisher.now told c.post_board-in-loop.new.publisher
           (before_trans c.args.publisher.now mid told (before_trans c.args.publisher.now c.loop.publisher mid i.grows c.take.ensures.grows) c.commit_taken.ensures.grows) b.grows;
       boarded = b.boarded;
+      ended = b.ended ∙ (c.commit_taken.ensures.ended ∙ (c.take.ensures.taken.ended ∙ i.ended));
       empty = search rules;
       room = search rules;
       next = search rules;
@@ -162,3 +164,10 @@ returns-in_err-commit_taken-clause-posts g c =
     let one = subst (λ (rs : List Refused). HasAnswered g.S.Store mid new rs now.refused c.of.result) c.take.ensures.taken.refused c.commit_taken.ensures.answered in
     let later = answered_later g.S.Store mid new then now.refused c.of.result one c.commit_taken.ensures.found in
     posts_still g.S.Store (g.C.Clock.tells c.args.clock.now) mid new c.args.publisher.now.posted c.loop.publisher.posted now.posted later c.loop.invariant.posts (c.commit_taken.ensures.posted ∙ c.take.ensures.taken.posted)
+
+-- nothing here closes the hub
+pub returns-then-not-take-clause-ended : goal.returns-then-not-take-clause-ended
+returns-then-not-take-clause-ended g c = c.take.ensures.taken.ended ∙ c.loop.invariant.ended
+
+pub returns-in_err-commit_taken-clause-ended : goal.returns-in_err-commit_taken-clause-ended
+returns-in_err-commit_taken-clause-ended g c = c.commit_taken.ensures.ended ∙ (c.take.ensures.taken.ended ∙ c.loop.invariant.ended)

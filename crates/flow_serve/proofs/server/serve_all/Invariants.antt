@@ -24,6 +24,7 @@ invariant-loop g l =
       follows : Follows g.S.Store l.fn.engine l.engine;
       grows : IsBefore l.fn.publisher l.publisher;
       boarded : l.publisher.boarded ≡ true;
+      ended : l.publisher.ended ≡ l.fn.publisher.ended;
       empty : l.taken.items ≡ [];
       room : l.fn.most ≤ vec_capacity l.taken;
       next : (goal.iterator-loop g).can_next l.iterator';
