@@ -1,4 +1,5 @@
 pub mod Fetching
+pub mod Lasting
 pub mod Growing
 pub mod Moves
 pub mod Lists

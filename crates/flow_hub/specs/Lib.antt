@@ -1,4 +1,5 @@
 pub mod Asks
+pub mod Ending
 pub mod Knowing
 pub mod Seating
 pub mod Halls

@@ -1,5 +1,5 @@
 -- What submitters are, and what they are told.
-use Rattle.std.specs.Prelude.{ℕ, ◌≡◌, ◌≢◌, ◌⊎◌, ◌+◌, ◌<◌, ◌≤◌, ◌^◌, Bool, true, false, List, length, Some, None, slice_get, remove, refl}
+use Rattle.std.specs.Prelude.{ℕ, ◌≡◌, ◌≢◌, ◌⊎◌, ◌+◌, ◌<◌, ◌≤◌, ◌^◌, true, false, List, length, Some, None, slice_get, remove, refl}
 use Rattle.std.specs.Coded.{Coded, code_by, coded×, coded_ℕ, coded_list}
 use Rattle.flow_base.specs.declared.command.Command.{Command}
 use Rattle.flow_machine.specs.declared.submission.Receipt.{Receipt}

@@ -11,3 +11,14 @@ pub enum Fed {
     /// The hub is closed.
     Closed,
 }
+
+/// Until when to wait for a task, beside the hub's closing.
+#[derive(Clone, Copy)]
+pub(crate) enum Until {
+    /// Until it is there.
+    There,
+    /// Or somebody rings.
+    Rung,
+    /// Or none is left of what stands behind all that is answered.
+    Boarded,
+}

@@ -1,10 +1,11 @@
 //! Who gives the tasks out that are posted.
 ghost use Rattle.std.specs.Prelude.{◌≡◌, true, IfNone, MatchOption};
+ghost use Rattle.flow_hub.specs.Ending.{EndsAt};
 ghost use Rattle.flow_hub.specs.Feeding.{HasFed, HasGiven, IsLast};
 ghost use Rattle.flow_hub.specs.Knowing.{IsBefore};
 ghost use Rattle.flow_hub.specs.Seating.{IsGivers};
 
-use crate::fed::Fed;
+use crate::fed::{Fed, Until};
 use crate::hub::{Shared, shared_in};
 use crate::seats::{Pass, Room};
 use flow_machine::task::Task;
@@ -33,34 +34,16 @@ impl<B: Room> Model for Feed<B> {
     ghost invariant = { λ f. IsGivers f.seat };
 }
 
-/// Waits until a task is there, or the hub is closed.
-fn given<B: Room, R: Wait>(rt: &R, shared: &Shared<B>, seat: Pass<B>) -> (Pass<B>, Option<Task>)
-    requires seat { IsGivers seat }
-    ensures given { HasGiven seat.was result.0.was result.1 }
-    ensures none { IfNone result.1 (result.0.was.closed ≡ true) }
-    ensures seat { IsGivers result.0 }
-    ensures grows { IsBefore seat.was result.0.was }
-{
-    let mut me = seat;
-    let mut state = shared.lock(rt);
-    for _ in rt.forever() {
-        let (seen, task) = state.give(&shared.seats, me);
-        me = seen;
-        if let Some(task) = task {
-            return (me, Some(task));
-        }
-        if state.is_closed() {
-            return (me, None);
-        }
-        state = shared.posted.wait(rt, state);
-    }
-    unreachable!()
-}
-
-/// Waits until a task is there, somebody rings, or the hub is closed.
-fn heard<B: Room, R: Wait>(rt: &R, shared: &Shared<B>, seat: Pass<B>) -> (Pass<B>, Fed)
+/// Waits for the next task.
+fn given<B: Room, R: Wait>(
+    rt: &R,
+    shared: &Shared<B>,
+    seat: Pass<B>,
+    until: Until,
+) -> (Pass<B>, Fed)
     requires seat { IsGivers seat }
     ensures fed { HasFed seat.was result.0.was result.1 }
+    ensures ends { EndsAt until result.0.was result.1 }
     ensures seat { IsGivers result.0 }
     ensures grows { IsBefore seat.was result.0.was }
 {
@@ -75,34 +58,7 @@ fn heard<B: Room, R: Wait>(rt: &R, shared: &Shared<B>, seat: Pass<B>) -> (Pass<B
         if state.is_closed() {
             return (me, Fed::Closed);
         }
-        if state.was_rung() {
-            return (me, Fed::Nothing);
-        }
-        state = shared.posted.wait(rt, state);
-    }
-    unreachable!()
-}
-
-/// Waits until a task is there, none is left of what stands behind all that is answered, or the hub is closed.
-fn emptied<B: Room, R: Wait>(rt: &R, shared: &Shared<B>, seat: Pass<B>) -> (Pass<B>, Fed)
-    requires seat { IsGivers seat }
-    ensures fed { HasFed seat.was result.0.was result.1 }
-    ensures last { IsLast result.0.was result.1 }
-    ensures seat { IsGivers result.0 }
-    ensures grows { IsBefore seat.was result.0.was }
-{
-    let mut me = seat;
-    let mut state = shared.lock(rt);
-    for _ in rt.forever() {
-        let (seen, task) = state.give(&shared.seats, me);
-        me = seen;
-        if let Some(task) = task {
-            return (me, Fed::Task(task));
-        }
-        if state.is_closed() {
-            return (me, Fed::Closed);
-        }
-        if state.is_boarded() {
+        if state.has_come(until) {
             return (me, Fed::Nothing);
         }
         state = shared.posted.wait(rt, state);
@@ -134,9 +90,13 @@ impl<B: Room> Feed<B> {
     {
         let shared = shared_in(&self.shared);
         let me = shared.seats.leave(&mut self.seat);
-        let (me, task) = given(rt, shared, me);
+        let (me, fed) = given(rt, shared, me, Until::There);
         self.seat = me;
-        task
+        match fed {
+            Fed::Task(task) => Some(task),
+            Fed::Nothing => unreachable!(),
+            Fed::Closed => None,
+        }
     }
 
     /// Waits for the next task, or until somebody rings (`Hub::ring`). A task goes first, and one ring ends one wait.
@@ -146,7 +106,7 @@ impl<B: Room> Feed<B> {
     {
         let shared = shared_in(&self.shared);
         let me = shared.seats.leave(&mut self.seat);
-        let (me, fed) = heard(rt, shared, me);
+        let (me, fed) = given(rt, shared, me, Until::Rung);
         self.seat = me;
         fed
     }
@@ -160,7 +120,7 @@ impl<B: Room> Feed<B> {
     {
         let shared = shared_in(&self.shared);
         let me = shared.seats.leave(&mut self.seat);
-        let (me, fed) = emptied(rt, shared, me);
+        let (me, fed) = given(rt, shared, me, Until::Boarded);
         self.seat = me;
         fed
     }

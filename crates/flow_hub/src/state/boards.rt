@@ -5,10 +5,12 @@ ghost use Rattle.flow_hub.specs.Halls.{posted_on, skipped, gave};
 ghost use Rattle.flow_hub.specs.Knowing.{IsBefore, IsSamePart, answered_in, nothing};
 ghost use Rattle.flow_queues.specs.Posting.{HasKeys, IsOnce};
 ghost use Rattle.flow_hub.specs.Publishing.{HasPosted, HasSkipped};
+ghost use Rattle.flow_hub.specs.Ending.{HasCome};
 ghost use Rattle.flow_hub.specs.Feeding.{HasGiven, IsIdle, IsRested, due_in};
 ghost use Rattle.flow_hub.specs.Seating.{seeing, IsGivers, IsPublishers, IsSubmitters};
 
 use super::State;
+use crate::fed::Until;
 use crate::known::Outlook;
 use crate::rested::Rested;
 use crate::seats::{Pass, Room, Seats};
@@ -116,6 +118,18 @@ impl<B: Room> State<B> {
         ensures { result ≡ self.now.known.boarded }
     {
         self.known.boarded
+    }
+
+    /// Whether that has come with which a wait for a task may end.
+    pub(crate) fn has_come(&mut self, until: Until) -> bool
+        ensures same { self.new ≡ self.old }
+        ensures come { result ≡ true → HasCome until self.old.known }
+    {
+        match until {
+            Until::There => false,
+            Until::Rung => self.was_rung(),
+            Until::Boarded => self.is_boarded(),
+        }
     }
 
     /// When more is to be done, as the last board says, if nothing was answered since.

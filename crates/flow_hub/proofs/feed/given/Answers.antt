@@ -9,6 +9,9 @@ loop-init g c = (before_self c.args.seat.was, search rules, refl, search rules, 
 pub returns-then-is_closed-clause-grows : goal.returns-then-is_closed-clause-grows
 returns-then-is_closed-clause-grows g c = before_trans c.args.seat.was c.loop.me.was c.give-seen.result.0.was c.loop.invariant.0 c.give-seen.ensures.grows
 
+pub returns-then-has_come-clause-grows : goal.returns-then-has_come-clause-grows
+returns-then-has_come-clause-grows g c = before_trans c.args.seat.was c.loop.me.was c.give-seen.result.0.was c.loop.invariant.0 c.give-seen.ensures.grows
+
 pub loop-preserved : goal.loop-preserved
 loop-preserved g c = (
   before_trans c.args.seat.was c.loop.me.was c.give-seen.result.0.was c.loop.invariant.0 c.give-seen.ensures.grows,

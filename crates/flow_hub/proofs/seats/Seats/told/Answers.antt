@@ -1,6 +1,5 @@
-use Rattle.std.proofs.Common.{◌≡◌, ◌+◌, rules, arith, subst}
-use Rattle.flow_hub.specs.declared.seats.Sight.{Sight}
-use Rattle.flow_hub.specs.Seating.{IsOwing, lent}
+use Rattle.std.proofs.Common.{◌≡◌, arith}
+use Rattle.flow_hub.specs.Seating.{lent}
 use Rattle.flow_hub.proofs.Moves.{hands_back}
 use Rattle.flow_hub.proofs.seats.Seats.told.Goals as goal
 
