@@ -26,7 +26,7 @@ fn fill<B: Room, R: Wait>(rt: &R, submitter: &mut Submitter<B>, count: u64) -> O
 }
 
 /// What is told where 1,024 commands are submitted and none is taken, where all are answered and none is fetched, of the first
-/// one's ticket, and then.
+/// one's ticket, and then. Once all are answered and given up, as many are taken in again.
 fn overfilled<B: Room, R: Wait>(
     rt: &R,
     alloc: Global,
@@ -42,7 +42,11 @@ fn overfilled<B: Room, R: Wait>(
     }
     let unfetched = denied(rt, submitter, 2001);
     let fetched = told(rt, submitter, first);
-    Some([untaken, unfetched, fetched, denied(rt, submitter, 2002)])
+    let taken_in = denied(rt, submitter, 2002);
+    refuse_next(rt, alloc, publisher, 64, Code::Unknown)?;
+    submitter.give_up(rt);
+    fill(rt, submitter, 1024)?;
+    Some([untaken, unfetched, fetched, taken_in])
 }
 
 fn full<B: Room, R: Wait>(rt: &R, alloc: Global, opened: Opened) -> Option<[(u8, u64); 4]>
