@@ -10,7 +10,10 @@ use toml::{Table, Value};
 /// Whether a value is a whole number from 1 to the most.
 fn is_allowed(value: &Value, most: usize) -> bool {
     match value.as_integer() {
-        Some(number) => 1 <= number && number <= most as i64,
+        Some(number) => match usize::try_from(number) {
+            Ok(number) => 1 <= number && number <= most,
+            Err(_) => false,
+        },
         None => false,
     }
 }
