@@ -6,6 +6,7 @@ use Rattle.serde_json.proofs.OnLiterals.{serde_json_on_literals}
 use Rattle.flow_base.specs.declared.command.Reply.{Reply}
 use Rattle.flow_base.specs.declared.command.Reply.TheVariants as reply
 use Rattle.flow_base.specs.declared.event.Event.{Event}
+use Rattle.flow_events.specs.declared.spelling.Spelling.TheVariants.{Inside}
 use Rattle.flow_events.proofs.Laws.{plain}
 use Rattle.flow_cli.specs.Replies.{whole_out, event_out, reply_out, line_out, reply_text, line_text}
 use Rattle.flow_cli.specs.declared.reply.Line.{Line}
@@ -17,7 +18,7 @@ numbers_plain (n ∷ ns) = numbers_plain ns
 
 events_plain : (es : List Event) → items_have_float (items_of (map event_out es)) ≡ false
 events_plain [] = refl
-events_plain (e ∷ es) = rw (plain e, events_plain es) refl
+events_plain (e ∷ es) = rw (plain Inside e, events_plain es) refl
 
 reply_plain : (r : Reply) → has_float (reply_out r) ≡ false
 reply_plain (reply.Registered text) = refl
