@@ -17,3 +17,4 @@ pub mod SomeLines
 pub mod Stopping
 pub mod Histories
 pub mod Spellings
+pub mod Asks
