@@ -2,7 +2,7 @@
 use Rattle.std.specs.Prelude.{◌≡◌, ◌⊎◌}
 use Rattle.flow_tables.proofs.Names.{Change, Book, FitsTables, Tells, after_change, Database, Executes, HasCleanDisk, State, Survives, Error, Bool, IsTrue, List, MatchResult, Option, false, true, ℕ, Changes, HasBegun, HasCommitted, HasEnded, HasTables, Holds, IsOver, IsRefused, IsStill, IsUndone, tables_in, Refusal, Known, ViewFault, Err, IfOk, None, Ok, OnOk, Some, [], refl, Result, changed, subst, ◌∙◌, sym, ap, inl, inr, true≢false, was_clean, book_of, IsCutShort, IsOwn, Keeps, IsKnown, ShowsBook, rolled_back_ended, told_answer, IsAware, HasCounted, error_leaves, IsFileOf, IsSure, KeepsOn, WasUp, ReadsBook, IsNoted, Ghosts, kept_book, IsUp}
 use Rattle.flow_tables.proofs.Names.{OrCut, WasPut, Shows, AreUtf8, noted_fault, ShowsOddText, IsTypedChange}
-use Rattle.flow_tables.specs.Owned.{Stored, state_of}
+use Rattle.flow_tables.specs.Owned.{Stored, state_of, LeavesWritten}
 use Rattle.sqlite.specs.State.{IsUnchanged, IsRolledBack}
 use Rattle.flow_rows.proofs.Telling.{told}
 use Rattle.flow_rows.proofs.WholeChanges.{change_told}
@@ -283,6 +283,14 @@ begun_book old new r b h own keeps =
 pub commit_kept : (old new : State) (r s : Option Refusal) → r ≡ None → IsSettled new → IsOwn old r → HasCommitted old new → Keeps new (book_of old.now)
 commit_kept old new r s none law own h =
     keeps_now new s (book_of old.now) law (own_committed old new r s none own h) h.1.is_open (ap (λ (d : Database). book_of d) h.1.committed_is)
+
+-- a stop leaves what was kept, or the book that was shown
+pub written_either : (old new : State) (r : Option Refusal) (b : Book) (sure : Type 0) → r ≡ None → old.in_transaction ≡ true → IsOwn old r → sure → HasCleanDisk new
+    → Survives old new (λ db. db ≡ old.now.trees) → Keeps old b → LeavesWritten sure new b (book_of old.now)
+written_either old new r b sure none inside own so clean survives keeps db may = elim (survives.crash clean db may) [
+  | inl before ↦ inl (keeps.stops db before)
+  | inr wrote ↦ inr (so, subst (λ d. IsFileOf d (book_of old.now)) (sym wrote) (file_of old.now (book_of old.now) (own_over old old r own inside none).now (own.whole inside none).1.tells))
+]
 
 -- an open connection whose transaction has ended without a commit keeps what it kept
 pub ended_still : (old new : State) (b : Book) → IsSettled new → HasEnded old new → IsTrue new.is_open → Keeps old b → Keeps new b
