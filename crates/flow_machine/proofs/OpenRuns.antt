@@ -1,14 +1,17 @@
 -- Open runs, listed: by their numbers, each at its place, with what it waits for.
-use Rattle.std.proofs.Common.{◌≡◌, ℕ, zero, suc, ◌+◌, List, [], ◌∷◌, ◌++◌, length, map, take, drop, refl, sym, ap, ◌∙◌, subst, arith, add-one, Option, Some, None, Result, Ok, Err, Bool, true, false, inl, inr, Contains}
+use Rattle.std.proofs.Common.{◌≡◌, ℕ, zero, suc, ◌+◌, List, [], ◌∷◌, ◌++◌, length, map, take, drop, refl, sym, get_or, ap, ◌∙◌, ◌<◌, subst, arith, add-one, append_assoc, append-nil, drop-cons, Option, Some, None, Result, Ok, Err, Bool, true, false, inl, inr, Contains}
 use Rattle.std.specs.Prelude.{◌⊎◌, slice_get, nat_le, ◌&&◌, if◌then◌else◌}
 use Rattle.std.proofs.lemmas.List.{take-map}
 use Rattle.std.proofs.lemmas.Option.{none-some}
 use Rattle.flow_base.specs.Syntax.{Bytes, Program}
+use Rattle.flow_base.specs.declared.event.Event.{Event}
 use Rattle.flow_base.specs.declared.book.Run.{Run}
+use Rattle.flow_base.specs.declared.book.Task.{Task}
 use Rattle.flow_base.specs.declared.book.Change.{Change}
 use Rattle.flow_base.specs.declared.command.Command.{Command}
 use Rattle.flow_base.specs.declared.command.Command.TheVariants as command
 use Rattle.flow_base.specs.declared.command.OpenRun.{OpenRun}
+use Rattle.flow_base.specs.declared.command.OpenTask.{OpenTask}
 use Rattle.flow_base.specs.declared.command.Reply.{Reply}
 use Rattle.flow_base.specs.declared.command.Reply.TheVariants as reply
 use Rattle.flow_model.specs.Configuration.{Configuration, is_open}
@@ -17,7 +20,7 @@ use Rattle.flow_model.specs.Rest.{signals_awaited}
 use Rattle.flow_model.specs.Open.{state_of}
 use Rattle.flow_model.specs.Stands.{Stands}
 use Rattle.flow_model.specs.Book.{Book, nth, run_number, open_from, open_runs, open_numbers}
-use Rattle.flow_model.specs.Apply.{Rules, Outcome, program_at, signals_at, awaited, open_run_told, first_number, list_open, outcome}
+use Rattle.flow_model.specs.Apply.{Rules, Outcome, program_at, with_named, named_by, named_tasks, signals_at, awaited, open_run_told, first_number, list_open, outcome}
 use Rattle.flow_model.proofs.Positions.{position_computed}
 use Rattle.flow_run.specs.Position.{config_of}
 use Rattle.flow_run.specs.Shown.{waits_of}
@@ -32,12 +35,38 @@ use Rattle.flow_machine.proofs.Places.{nth_at}
 use Rattle.flow_machine.proofs.Seating.{fit_on, its_history, place_stands}
 use Rattle.flow_machine.specs.Deciding.{Decides}
 use Rattle.flow_machine.specs.Fitting.{HasUnfit}
-use Rattle.flow_machine.specs.Listed.{with_signal, signals_in, told_if, told_at, told_in, StuckAt, StuckIn}
+use Rattle.flow_machine.specs.Listed.{with_signal, signals_in, told_with, told_if, told_at, told_in, StuckAt, StuckIn}
 use Rattle.flow_machine.specs.Reached.{Meaning}
 use Rattle.flow_machine.specs.Seated.{FitSeats, IsPlace, KeepsNoMore}
 use Rattle.flow_machine.specs.Stuck.{HasMismatch, needs, StuckTold, StuckRuns, StuckOpen, IsStuck}
 use Rattle.flow_machine.specs.declared.seats.Led.{Led}
 use Rattle.flow_machine.specs.declared.seats.Seats.{Seats}
+
+---- Lists, one element after the other
+
+-- what an element gives, behind what those before it gave
+pub one_more : {A B : Type 0} (f : List A → List B) (g : A → List B) → ((x : A) (xs : List A) → f (x ∷ xs) ≡ g x ++ f xs) → (whole : List B) (cut : List A) (x : A) (rest : List A) (before after : List B) → cut ≡ x ∷ rest
+    → whole ≡ before ++ f cut → after ≡ before ++ g x → whole ≡ after ++ f rest
+one_more f g step whole cut x rest before after is was now =
+    was ∙ ap (λ l. before ++ f l) is ∙ ap (λ l. before ++ l) (step x rest) ∙ sym (append_assoc before (g x) (f rest)) ∙ ap (λ l. l ++ f rest) (sym now)
+
+-- the elements at a place and behind it
+pub cut_at : {A : Type 0} (xs : List A) (i : ℕ) (x : A) → i < length xs → x ≡ get_or xs i x → drop i xs ≡ x ∷ drop (i + 1) xs
+cut_at xs i x within is = drop-cons xs i x within ∙ ap (λ y. y ∷ drop (suc i) xs) (sym is) ∙ ap (λ n. x ∷ drop n xs) (sym (add-one i))
+
+-- behind the last of them there is none
+pub all_done : {A B : Type 0} (f : List A → List B) → f [] ≡ [] → (whole : List B) (xs : List A) (i : ℕ) (before : List B) → drop i xs ≡ [] → whole ≡ before ++ f (drop i xs) → before ≡ whole
+all_done f none whole xs i before ended was = sym (was ∙ ap (λ l. before ++ f l) ended ∙ ap (λ l. before ++ l) none ∙ append-nil before)
+
+---- Open activities
+
+behind_named : (o : Option OpenTask) (ts : List OpenTask) → with_named o ts ≡ with_named o [] ++ ts
+behind_named None ts = refl
+behind_named (Some t) ts = refl
+
+pub one_named : (h : List Event) (whole : List OpenTask) (cut : List Task) (t : Task) (rest : List Task) (before after : List OpenTask) → cut ≡ t ∷ rest → whole ≡ before ++ named_tasks h cut → after ≡ before ++ with_named (named_by t (nth h t.event)) []
+    → whole ≡ after ++ named_tasks h rest
+one_named h = one_more (named_tasks h) (λ (t : Task). with_named (named_by t (nth h t.event)) []) (λ t ts. behind_named (named_by t (nth h t.event)) (named_tasks h ts))
 
 ---- What a run waits for
 
@@ -46,6 +75,10 @@ put_behind (wait.Activity n x k) xs ys = refl
 put_behind (wait.Timer n) xs ys = refl
 put_behind (wait.Signal x s) xs ys = refl
 put_behind (wait.SignalFor x s n) xs ys = refl
+
+pub one_signal : (whole : List Bytes) (cut : List OpenWait) (w : OpenWait) (rest : List OpenWait) (before after : List Bytes) → cut ≡ w ∷ rest → whole ≡ before ++ signals_in cut → after ≡ before ++ with_signal w []
+    → whole ≡ after ++ signals_in rest
+one_signal = one_more signals_in (λ (w : OpenWait). with_signal w []) (λ w ws. put_behind w [] (signals_in ws))
 
 signals_joined : (a b : List OpenWait) → signals_in (a ++ b) ≡ signals_in a ++ signals_in b
 signals_joined [] b = refl
@@ -113,8 +146,8 @@ module _ (m : Meaning) (b : Book) where
   stuck_are (p ∷ ps) h (inr stuck) = inr (stuck_are ps h.1 stuck)
 
   -- one run
-  pub told_one : (n : ℕ) (r : Run) (o : OpenRun) → nth b.runs n ≡ Some r → o ≡ open_run_told m b (n, r) → told_at m b n ≡ o ∷ []
-  told_one n r o there is = ap (told_if m b n) there ∙ ap (λ x. x ∷ []) (sym is)
+  pub told_one : (n : ℕ) (r : Run) (o : OpenRun) (waits : List Bytes) → nth b.runs n ≡ Some r → waits ≡ awaited (program_at m b r.text) r → o ≡ told_with n r waits → told_at m b n ≡ o ∷ []
+  told_one n r o waits there are is = ap (told_if m b n) there ∙ ap (λ (ws : List Bytes). told_with n r ws ∷ []) (sym are) ∙ ap (λ x. x ∷ []) (sym is)
 
   pub stuck_missing : (n : ℕ) → nth b.runs n ≡ None → StuckAt m b n
   stuck_missing n none = subst (λ o. needs o (StuckTold m b)) (sym none) tt

@@ -1,10 +1,11 @@
 -- What is told of open runs, by their numbers.
-use Rattle.std.specs.Prelude.{◌⊎◌, ◌++◌, ℕ, List, [], ◌∷◌, Option, Some, None}
+use Rattle.std.specs.Prelude.{◌⊎◌, ◌++◌, ℕ, List, [], ◌∷◌, length, Option, Some, None}
 use Rattle.flow_base.specs.Syntax.{Bytes}
 use Rattle.flow_base.specs.declared.book.Run.{Run}
 use Rattle.flow_base.specs.declared.command.OpenRun.{OpenRun}
 use Rattle.flow_model.specs.Book.{Book, nth}
-use Rattle.flow_model.specs.Apply.{open_run_told}
+use Rattle.flow_model.specs.Open.{timers_left, moment_of}
+use Rattle.flow_model.specs.Apply.{named_tasks, open_run_told}
 use Rattle.flow_run.specs.declared.rest.OpenWait.{OpenWait}
 use Rattle.flow_run.specs.declared.rest.OpenWait.TheVariants as wait
 use Rattle.flow_machine.specs.Reached.{Meaning}
@@ -21,6 +22,20 @@ with_signal (wait.SignalFor x s n) ss = s ∷ ss
 abbrev pub signals_in : List OpenWait → List Bytes
 signals_in [] = []
 signals_in (w ∷ ws) = with_signal w (signals_in ws)
+
+-- a run that waits for these signals, told
+abbrev pub told_with : ℕ → Run → List Bytes → OpenRun
+told_with n r waits =
+    record {
+      run = n;
+      flow = r.flow;
+      text = r.text;
+      events = length r.history;
+      at = moment_of r.history;
+      activities = named_tasks r.history r.tasks;
+      timers = timers_left r.history;
+      waits = waits;
+    }
 
 abbrev pub told_if : Meaning → Book → ℕ → Option Run → List OpenRun
 told_if m b n None = []
