@@ -45,9 +45,9 @@ use Rattle.flow_machine.specs.declared.seats.Seats.{Seats}
 ---- Lists, one element after the other
 
 -- what an element gives, behind what those before it gave
-pub one_more : {A B : Type 0} (f : List A → List B) (g : A → List B) → ((x : A) (xs : List A) → f (x ∷ xs) ≡ g x ++ f xs) → (whole : List B) (cut : List A) (x : A) (rest : List A) (before after : List B) → cut ≡ x ∷ rest
+pub put_more : {A B : Type 0} (f : List A → List B) (g : A → List B) → ((x : A) (xs : List A) → f (x ∷ xs) ≡ g x ++ f xs) → (whole : List B) (cut : List A) (x : A) (rest : List A) (before after : List B) → cut ≡ x ∷ rest
     → whole ≡ before ++ f cut → after ≡ before ++ g x → whole ≡ after ++ f rest
-one_more f g step whole cut x rest before after is was now =
+put_more f g step whole cut x rest before after is was now =
     was ∙ ap (λ l. before ++ f l) is ∙ ap (λ l. before ++ l) (step x rest) ∙ sym (append_assoc before (g x) (f rest)) ∙ ap (λ l. l ++ f rest) (sym now)
 
 -- the elements at a place and behind it
@@ -66,7 +66,7 @@ behind_named (Some t) ts = refl
 
 pub one_named : (h : List Event) (whole : List OpenTask) (cut : List Task) (t : Task) (rest : List Task) (before after : List OpenTask) → cut ≡ t ∷ rest → whole ≡ before ++ named_tasks h cut → after ≡ before ++ with_named (named_by t (nth h t.event)) []
     → whole ≡ after ++ named_tasks h rest
-one_named h = one_more (named_tasks h) (λ (t : Task). with_named (named_by t (nth h t.event)) []) (λ t ts. behind_named (named_by t (nth h t.event)) (named_tasks h ts))
+one_named h = put_more (named_tasks h) (λ (t : Task). with_named (named_by t (nth h t.event)) []) (λ t ts. behind_named (named_by t (nth h t.event)) (named_tasks h ts))
 
 ---- What a run waits for
 
@@ -78,7 +78,7 @@ put_behind (wait.SignalFor x s n) xs ys = refl
 
 pub one_signal : (whole : List Bytes) (cut : List OpenWait) (w : OpenWait) (rest : List OpenWait) (before after : List Bytes) → cut ≡ w ∷ rest → whole ≡ before ++ signals_in cut → after ≡ before ++ with_signal w []
     → whole ≡ after ++ signals_in rest
-one_signal = one_more signals_in (λ (w : OpenWait). with_signal w []) (λ w ws. put_behind w [] (signals_in ws))
+one_signal = put_more signals_in (λ (w : OpenWait). with_signal w []) (λ w ws. put_behind w [] (signals_in ws))
 
 signals_joined : (a b : List OpenWait) → signals_in (a ++ b) ≡ signals_in a ++ signals_in b
 signals_joined [] b = refl

@@ -6,7 +6,7 @@ use Rattle.flow_model.specs.Book.{Book}
 use Rattle.flow_machine.specs.Listed.{StuckAt, StuckIn, told_at, told_in}
 use Rattle.flow_machine.specs.Seated.{FitSeats}
 use Rattle.flow_machine.proofs.Causes.{caused_by, other_side}
-use Rattle.flow_machine.proofs.OpenRuns.{all_done, cut_at, fit_less, one_more}
+use Rattle.flow_machine.proofs.OpenRuns.{all_done, cut_at, fit_less, put_more}
 use Rattle.flow_machine.proofs.listing.all_told.Goals as goal
 
 pub loop-number-preserved : goal.loop-number-preserved
@@ -31,7 +31,7 @@ loop-number-preserved g c =
           let less = fit_less m old c.args.seats.now c.loop-number.seats fit was.no_more was.ahead in
           let here : FitSeats m at c.loop-number.seats = subst (λ (b : Book). FitSeats m b c.loop-number.seats) (sym same) less in
           let one : told_at m old number ≡ run ∷ [] = subst (λ (b : Book). told_at m b number ≡ run ∷ []) same (c.in_ok-run.ensures.told sure here) in
-          one_more (told_in m old) (told_at m old) (λ x xs. refl) (told_in m old numbers) (drop i numbers) number rest before c.push.new.self.items cut (was.told (sure_at sure) fit)
+          put_more (told_in m old) (told_at m old) (λ x xs. refl) (told_in m old numbers) (drop i numbers) number rest before c.push.new.self.items cut (was.told (sure_at sure) fit)
           (pushed ∙ ap (λ l. before ++ l) (sym one));
       stuck = λ h. was.stuck (subst (StuckIn m old) (sym cut) (inr h));
       ahead = c.told.ensures.ahead ∙ was.ahead;
