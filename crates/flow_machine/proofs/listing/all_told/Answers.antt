@@ -21,7 +21,7 @@ loop-number-preserved g c =
     let cut = cut_at numbers i number c.loop-number-test.true c.number-item.is in
     let was = c.loop-number.invariant in
     let before = c.loop-number.list.items in
-    let run = c.in_ok-run.run in
+    let run = c.in_ok-run.run' in
     let pushed : c.push.new.self.items ≡ before ++ run ∷ [] = search rules in
     let sure_at = c.told.ensures.sure in
     record {
@@ -48,7 +48,8 @@ returns-clause-told g c = λ sure fit.
     let old = g.V.View.book c.args.view.now in
     let numbers = c.args.numbers.now in
     let i = c.loop-number.number-index in
-    all_done (told_in m old) refl (told_in m old numbers) numbers i c.loop-number.list.items (drop_all i numbers c.loop-number-test.false) (c.loop-number.invariant.told sure fit)
+    let listed : c.from_vec.result ≡ c.loop-number.list.items = search rules in
+    listed ∙ all_done (told_in m old) refl (told_in m old numbers) numbers i c.loop-number.list.items (drop_all i numbers c.loop-number-test.false) (c.loop-number.invariant.told sure fit)
 
 pub returns-in_err-run-clause-cause : goal.returns-in_err-run-clause-cause
 returns-in_err-run-clause-cause g c = λ a follows now first.
