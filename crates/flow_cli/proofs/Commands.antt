@@ -95,6 +95,7 @@ command_there (command.Terminate run reason at) f = rw (terminate_exact.there (a
 command_there (command.Upgrade run text) f = rw (upgrade_exact.there (tt, (run, (text, tt))) (tt, (f.0, (f.1, tt)))) refl
 command_there (command.Describe run) f = rw (describe_exact.there (tt, (run, tt)) (tt, (f, tt))) refl
 command_there (command.History run) f = rw (history_exact.there (tt, (run, tt)) (tt, (f, tt))) refl
+command_there (command.Open from most) f = absurd f
 
 line_back : (line : List ℕ) (c : Command) → option_and_then command_in (read line) ≡ Some c → read line ≡ Some (command_out c)
 line_back line c e = option_and_then_some command_in (read line) c e (λ d reads says. reads ∙ ap Some (command_back d c says))

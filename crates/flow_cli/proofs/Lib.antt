@@ -18,3 +18,4 @@ pub mod SomeLines
 pub mod Stopping
 pub mod Histories
 pub mod Spellings
+pub mod Asks

@@ -1,13 +1,17 @@
 -- The bytes of replies.
-use Rattle.std.proofs.Common.{◌≡◌, ℕ, List, [], ◌∷◌, map, true, false, refl}
+use Rattle.std.proofs.Common.{◌≡◌, ℕ, List, [], ◌∷◌, map, true, false, refl, Some, None}
 use Rattle.serde_json.specs.Written.{has_float, items_have_float, compact_text}
+use Rattle.serde_json.specs.Data.{string}
 use Rattle.serde_json.specs.View.{items_of}
 use Rattle.serde_json.proofs.OnLiterals.{serde_json_on_literals}
+use Rattle.flow_base.specs.declared.book.Timer.{Timer}
+use Rattle.flow_base.specs.declared.command.OpenTask.{OpenTask}
+use Rattle.flow_base.specs.declared.command.OpenRun.{OpenRun}
 use Rattle.flow_base.specs.declared.command.Reply.{Reply}
 use Rattle.flow_base.specs.declared.command.Reply.TheVariants as reply
 use Rattle.flow_base.specs.declared.event.Event.{Event}
 use Rattle.flow_events.proofs.Laws.{plain}
-use Rattle.flow_cli.specs.Replies.{whole_out, event_out, reply_out, line_out, reply_text, line_text}
+use Rattle.flow_cli.specs.Replies.{whole_out, event_out, open_task_out, timer_out, open_run_out, reply_out, line_out, reply_text, line_text}
 use Rattle.flow_cli.specs.declared.reply.Line.{Line}
 use Rattle.flow_cli.specs.declared.reply.Line.TheVariants as line
 
@@ -18,6 +22,22 @@ numbers_plain (n ∷ ns) = numbers_plain ns
 events_plain : (es : List Event) → items_have_float (items_of (map event_out es)) ≡ false
 events_plain [] = refl
 events_plain (e ∷ es) = rw (plain e, events_plain es) refl
+
+open_tasks_plain : (ts : List OpenTask) → items_have_float (items_of (map open_task_out ts)) ≡ false
+open_tasks_plain [] = refl
+open_tasks_plain (t ∷ ts) = open_tasks_plain ts
+
+timers_plain : (ts : List Timer) → items_have_float (items_of (map timer_out ts)) ≡ false
+timers_plain [] = refl
+timers_plain (t ∷ ts) = timers_plain ts
+
+texts_plain : (ts : List (List ℕ)) → items_have_float (items_of (map string ts)) ≡ false
+texts_plain [] = refl
+texts_plain (t ∷ ts) = texts_plain ts
+
+open_runs_plain : (rs : List OpenRun) → items_have_float (items_of (map open_run_out rs)) ≡ false
+open_runs_plain [] = refl
+open_runs_plain (r ∷ rs) = rw (open_tasks_plain r.activities, timers_plain r.timers, texts_plain r.waits, open_runs_plain rs) refl
 
 reply_plain : (r : Reply) → has_float (reply_out r) ≡ false
 reply_plain (reply.Registered text) = refl
@@ -30,6 +50,8 @@ reply_plain (reply.Fired count more) = refl
 reply_plain (reply.Upgraded run text) = refl
 reply_plain (reply.Run d) = rw (numbers_plain d.activities, numbers_plain d.timers) refl
 reply_plain (reply.History es) = rw (events_plain es) refl
+reply_plain (reply.Open rs None) = rw (open_runs_plain rs) refl
+reply_plain (reply.Open rs (Some next)) = rw (open_runs_plain rs) refl
 reply_plain (reply.Refused c) = refl
 reply_plain (reply.BadText f) = refl
 reply_plain (reply.Mismatch event wrong) = refl
@@ -53,6 +75,8 @@ reply_bytes (reply.Fired count false) = refl
 reply_bytes (reply.Upgraded run text) = refl
 reply_bytes (reply.Run d) = refl
 reply_bytes (reply.History es) = refl
+reply_bytes (reply.Open rs None) = refl
+reply_bytes (reply.Open rs (Some next)) = refl
 reply_bytes (reply.Refused c) = refl
 reply_bytes (reply.BadText f) = refl
 reply_bytes (reply.Mismatch event wrong) = refl

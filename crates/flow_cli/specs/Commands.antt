@@ -1,7 +1,7 @@
 -- Command lines: the members of each command, in the byte order of their keys.
 use Rattle.std.specs.Prelude.{ℕ, List, [], ◌∷◌, Option, None, codes, option_map, option_and_then, if◌then◌else◌}
 use Rattle.std.specs.Str.{is_utf8}
-use Rattle.serde_json.specs.Data.{Data, object, Members}
+use Rattle.serde_json.specs.Data.{Data, object, Members, no_members}
 use Rattle.serde_json.specs.Find.{as_object, as_str, get}
 use Rattle.serde_json.specs.Read.{read}
 use Rattle.flow_base.specs.Codec.{Table, with, nothing}
@@ -89,6 +89,8 @@ members_out (command.Terminate run reason at) = terminate.write (at, (tt, (reaso
 members_out (command.Upgrade run text) = upgrade.write (tt, (run, (text, tt)))
 members_out (command.Describe run) = describe.write (tt, (run, tt))
 members_out (command.History run) = history.write (tt, (run, tt))
+-- no line of commands spells it
+members_out (command.Open from most) = no_members
 
 -- what members say, if they are those of a command with this word
 abbrev pub members_in : Verb → Members → Option Command
@@ -131,3 +133,4 @@ IsCommand (command.Terminate run reason at) = IsPosition run × IsText reason ×
 IsCommand (command.Upgrade run text) = IsPosition run × IsPosition text
 IsCommand (command.Describe run) = IsPosition run
 IsCommand (command.History run) = IsPosition run
+IsCommand (command.Open from most) = ⊥

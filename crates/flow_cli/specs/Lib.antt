@@ -21,3 +21,4 @@ pub mod Totals
 pub mod Tasks
 pub mod Spelling
 pub mod Replaying
+pub mod Asks

@@ -1,12 +1,15 @@
 -- Lines of replies: what is written for one line that was read.
-use Rattle.std.specs.Prelude.{ℕ, List, map, ◌++◌, true, false, codes, decimal}
+use Rattle.std.specs.Prelude.{ℕ, List, map, Some, None, ◌++◌, true, false, codes, decimal}
 use Rattle.serde_json.specs.Data.{Data, object, array, boolean, number, unsigned, string, member, no_members, item, no_items}
 use Rattle.json.specs.Print.{quoted}
 use Rattle.serde_json.specs.View.{items_of}
 use Rattle.serde_json.specs.Written.{compact_text}
 use Rattle.flow_base.specs.Codes.{code_text, wrong_code}
+use Rattle.flow_base.specs.declared.book.Timer.{Timer}
 use Rattle.flow_base.specs.declared.code.Code.{Code}
 use Rattle.flow_base.specs.declared.command.Description.{Description}
+use Rattle.flow_base.specs.declared.command.OpenTask.{OpenTask}
+use Rattle.flow_base.specs.declared.command.OpenRun.{OpenRun}
 use Rattle.flow_base.specs.declared.command.Reply.{Reply}
 use Rattle.flow_base.specs.declared.command.Reply.TheVariants as reply
 use Rattle.flow_base.specs.declared.event.Event.{Event}
@@ -54,6 +57,37 @@ run_out d = object (
     member (codes "text") (whole_out d.text) (
     member (codes "timers") (numbers_out d.timers) no_members)))))))
 
+-- an open activity: the event that scheduled it, its name, its attempt, and when that is ready
+abbrev pub open_task_out : OpenTask → Data
+open_task_out t = array (item (whole_out t.event) (item (string t.activity) (item (whole_out t.attempt) (item (whole_out t.ready) no_items))))
+
+abbrev pub open_tasks_out : List OpenTask → Data
+open_tasks_out ts = array (items_of (map open_task_out ts))
+
+-- an open timer: the event that started it, and when it is due
+abbrev pub timer_out : Timer → Data
+timer_out t = array (item (whole_out t.id) (item (whole_out t.due) no_items))
+
+abbrev pub timers_out : List Timer → Data
+timers_out ts = array (items_of (map timer_out ts))
+
+abbrev pub texts_out : List (List ℕ) → Data
+texts_out ts = array (items_of (map string ts))
+
+abbrev pub open_run_out : OpenRun → Data
+open_run_out r = object (
+    member (codes "activities") (open_tasks_out r.activities) (
+    member (codes "at") (whole_out r.at) (
+    member (codes "events") (whole_out r.events) (
+    member (codes "flow") (string r.flow) (
+    member (codes "run") (whole_out r.run) (
+    member (codes "text") (whole_out r.text) (
+    member (codes "timers") (timers_out r.timers) (
+    member (codes "waits") (texts_out r.waits) no_members))))))))
+
+abbrev pub open_runs_out : List OpenRun → Data
+open_runs_out rs = array (items_of (map open_run_out rs))
+
 abbrev pub reply_out : Reply → Data
 reply_out (reply.Registered text) = object (member (codes "reply") (string (codes "registered")) (member (codes "text") (whole_out text) no_members))
 reply_out (reply.Started run) = object (member (codes "reply") (string (codes "started")) (member (codes "run") (whole_out run) no_members))
@@ -71,6 +105,9 @@ reply_out (reply.Upgraded run text) = object (
     member (codes "reply") (string (codes "upgraded")) (member (codes "run") (whole_out run) (member (codes "text") (whole_out text) no_members)))
 reply_out (reply.Run d) = run_out d
 reply_out (reply.History es) = object (member (codes "events") (events_out es) (member (codes "reply") (string (codes "history")) no_members))
+reply_out (reply.Open rs None) = object (member (codes "reply") (string (codes "open")) (member (codes "runs") (open_runs_out rs) no_members))
+reply_out (reply.Open rs (Some next)) = object (
+    member (codes "next") (whole_out next) (member (codes "reply") (string (codes "open")) (member (codes "runs") (open_runs_out rs) no_members)))
 reply_out (reply.Refused c) = refused_out c
 reply_out (reply.BadText f) = object (
     member (codes "at") (whole_out f.at) (member (codes "code") (string (code_text f.code)) (member (codes "reply") (string (codes "refused")) no_members)))
@@ -107,6 +144,8 @@ reply_text (reply.Run d) =
     ++ (codes ",\"text\":" ++ (decimal d.text
     ++ (codes ",\"timers\":" ++ (compact_text (numbers_out d.timers) ++ codes "}")))))))))))
 reply_text (reply.History es) = codes "{\"events\":" ++ (compact_text (events_out es) ++ codes ",\"reply\":\"history\"}")
+reply_text (reply.Open rs None) = codes "{\"reply\":\"open\",\"runs\":" ++ (compact_text (open_runs_out rs) ++ codes "}")
+reply_text (reply.Open rs (Some next)) = codes "{\"next\":" ++ (decimal next ++ (codes ",\"reply\":\"open\",\"runs\":" ++ (compact_text (open_runs_out rs) ++ codes "}")))
 reply_text (reply.Refused c) = codes "{\"code\":" ++ (quoted (code_text c) ++ codes ",\"reply\":\"refused\"}")
 reply_text (reply.BadText f) = codes "{\"at\":" ++ (decimal f.at ++ (codes ",\"code\":" ++ (quoted (code_text f.code) ++ codes ",\"reply\":\"refused\"}")))
 reply_text (reply.Mismatch event wrong) =

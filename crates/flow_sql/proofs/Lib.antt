@@ -22,3 +22,4 @@ pub mod RowChanges
 pub mod Coming
 pub mod Welcome
 pub mod InPlace
+pub mod OpenRuns

@@ -2,6 +2,10 @@
 use Rattle.flow_sql.proofs.Names.{all-map, all_from_map, cases_lt, get_or_past, suc, zero, IsUtf8, ◌≡◌, ◌∷◌, ◌<◌, all_from, all_has, has_kept, event_id, rising, events_of, EventRow, Kind, Integer, Text, Null, Row, col, overlay, IsAnswer, Output, Term, Trees, rowid, is_int, all-filter, all-permutation, all_both}
 use Rattle.flow_sql.proofs.Names.{all_weaker, bytes, column, Key, Decides-int_eq, IsPermutation-sym, AllByRecursion, int_eq, IsTrue, List, filter, map, slice_get, Some, length, ℕ, [], refl, take, sym, subst, inl, inr, AreOurs, tables_in, run_in, event_in, text_in, text_table, run_table, event_table, timer_table}
 use Rattle.flow_sql.proofs.Names.{task_table, Read, rows_where, query_of, first_where, IsReadAs, AreReadAs, AreUtf8, kinds_of}
+use Rattle.sqlite.specs.Query.{as_count, limited}
+use Rattle.sqlite.specs.Term.{eval}
+use Rattle.flow_sql.specs.Names.{Option, None}
+use Rattle.flow_sql.specs.Layout.{some_where}
 use Rattle.flow_sql.proofs.Numbered.{number_is}
 use Rattle.flow_sql.proofs.Columns.{AreTyped, columns}
 use Rattle.flow_sql.proofs.Reading.{meets, seen, kept_is, out}
@@ -32,6 +36,15 @@ all_taken : (D : Row → Type 0) (rows : List Row) → AllByRecursion D rows →
 all_taken D [] all = tt
 all_taken D (r ∷ rows) all = (all.0, tt)
 
+all_first : (D : Row → Type 0) (n : ℕ) (rows : List Row) → AllByRecursion D rows → AllByRecursion D (take n rows)
+all_first D zero rows all = tt
+all_first D (suc n) [] all = tt
+all_first D (suc n) (r ∷ rows) all = (all.0, all_first D n rows all.1)
+
+all_limited : (D : Row → Type 0) (limit : Option ℕ) (rows : List Row) → AllByRecursion D rows → AllByRecursion D (limited limit rows)
+all_limited D None rows all = all
+all_limited D (Some n) rows all = all_first D n rows all
+
 module _ (db : Trees) (params : Row) (tree : ℕ) (terms project : List Term) (bare : overlay db [] tree ≡ db tree) (C D : Row → Type 0) (shows : (r : Row) → C r → D (seen params project r)) (all : AllByRecursion C (db tree)) (order : List (Term × Key)) (rows : List Row) where
   ordered_hold : (limit : Term) (a : IsAnswer (record (rows_where tree terms project order) { limit = limit }) (overlay db []) params rows) → AllByRecursion (λ (o : Output). D o.1) a.ordered
   ordered_hold limit a =
@@ -44,6 +57,11 @@ module _ (db : Trees) (params : Row) (tree : ℕ) (terms project : List Term) (b
 
   first_holds : IsAnswer (first_where tree terms project order) (overlay db []) params rows → AllByRecursion D rows
   first_holds a = subst (AllByRecursion D) (sym a.shown) (all_taken D (map (λ (o : Output). o.1) a.ordered) (all-map D (λ (o : Output). o.1) a.ordered (ordered_hold _ a)))
+
+  some_hold : IsAnswer (some_where tree terms project order) (overlay db []) params rows → AllByRecursion D rows
+  some_hold a =
+      subst (AllByRecursion D) (sym a.shown)
+      (all_limited D (as_count (eval (col 0 1) (params ∷ []))) (map (λ (o : Output). o.1) a.ordered) (all-map D (λ (o : Output). o.1) a.ordered (ordered_hold _ a)))
 
 ---- Texts of whole tables
 
@@ -100,6 +118,7 @@ module _ (db : Trees) (ours : AreOurs db) (utf8 : AreUtf8 (tables_in db)) where
     are_readable Read.last_run = first_holds db params 4 _ _ refl ReadsRun _ (λ r h. (h.0, tt)) runs_read _ rows
     are_readable Read.requested = rows_hold db params 4 _ _ refl ReadsRun _ (λ r h. (h.0, tt)) runs_read _ rows
     are_readable Read.open_run = rows_hold db params 4 _ _ refl ReadsRun _ (λ r h. (h.0, tt)) runs_read _ rows
+    are_readable Read.open_numbers = some_hold db params 4 _ _ refl ReadsRun _ (λ r h. (h.0, tt)) runs_read _ rows
     are_readable Read.all_events = rows_hold db params 5 _ _ refl ReadsEvent _ (λ r h. (h.0, (h.1, (h.2, (h.3, tt))))) events_read _ rows
     are_readable Read.run_events = rows_hold db params 5 _ _ refl ReadsEvent _ (λ r h. (h.0, (h.1, (h.2, (h.3, tt))))) events_read _ rows
     are_readable Read.last_event = first_holds db params 5 _ _ refl ReadsEvent _ (λ r h. (h.1, tt)) events_read _ rows

@@ -33,6 +33,7 @@ read_takes Read.run_row = 1
 read_takes Read.last_run = 0
 read_takes Read.requested = 1
 read_takes Read.open_run = 1
+read_takes Read.open_numbers = 2
 read_takes Read.all_events = 0
 read_takes Read.run_events = 1
 read_takes Read.last_event = 1

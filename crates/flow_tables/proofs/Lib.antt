@@ -17,3 +17,4 @@ pub mod Questioned
 pub mod Altering
 pub mod Serving
 pub mod RunsRead
+pub mod Numbered
