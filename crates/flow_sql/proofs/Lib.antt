@@ -1,5 +1,6 @@
 pub mod Names
 pub mod Texts
+pub mod Places
 pub mod Leaves
 pub mod Numbered
 pub mod Added
