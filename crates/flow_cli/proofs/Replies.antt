@@ -10,6 +10,7 @@ use Rattle.flow_base.specs.declared.command.OpenRun.{OpenRun}
 use Rattle.flow_base.specs.declared.command.Reply.{Reply}
 use Rattle.flow_base.specs.declared.command.Reply.TheVariants as reply
 use Rattle.flow_base.specs.declared.event.Event.{Event}
+use Rattle.flow_events.specs.declared.spelling.Spelling.TheVariants.{Inside}
 use Rattle.flow_events.proofs.Laws.{plain}
 use Rattle.flow_cli.specs.Replies.{whole_out, event_out, open_task_out, timer_out, open_run_out, reply_out, line_out, reply_text, line_text}
 use Rattle.flow_cli.specs.declared.reply.Line.{Line}
@@ -21,7 +22,7 @@ numbers_plain (n ∷ ns) = numbers_plain ns
 
 events_plain : (es : List Event) → items_have_float (items_of (map event_out es)) ≡ false
 events_plain [] = refl
-events_plain (e ∷ es) = rw (plain e, events_plain es) refl
+events_plain (e ∷ es) = rw (plain Inside e, events_plain es) refl
 
 open_tasks_plain : (ts : List OpenTask) → items_have_float (items_of (map open_task_out ts)) ≡ false
 open_tasks_plain [] = refl

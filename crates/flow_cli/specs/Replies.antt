@@ -17,6 +17,7 @@ use Rattle.flow_base.specs.declared.event.State.{State}
 use Rattle.flow_base.specs.declared.event.State.TheVariants as state
 use Rattle.flow_events.specs.Body.{data_out}
 use Rattle.flow_events.specs.Kinds.{event_kind_name, kind_of}
+use Rattle.flow_events.specs.declared.spelling.Spelling.TheVariants.{Inside}
 use Rattle.flow_cli.specs.declared.reply.Line.{Line}
 use Rattle.flow_cli.specs.declared.reply.Line.TheVariants as line
 
@@ -39,7 +40,7 @@ numbers_out ns = array (items_of (map whole_out ns))
 
 -- an event of a history: its number, the name of its kind, and its body
 abbrev pub event_out : Event → Data
-event_out e = array (item (whole_out e.id) (item (string (event_kind_name (kind_of e.what))) (item (data_out e) no_items)))
+event_out e = array (item (whole_out e.id) (item (string (event_kind_name (kind_of e.what))) (item (data_out Inside e) no_items)))
 
 abbrev pub events_out : List Event → Data
 events_out es = array (items_of (map event_out es))
