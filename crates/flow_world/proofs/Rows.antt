@@ -8,30 +8,30 @@ use Rattle.flow_model.specs.Apply.{Rules}
 use Rattle.flow_model.specs.World.{Attempt, World, is_open_task, first, Report, Failure, Dispatch, Comes}
 
 -- the world in which an attempt was handed out
-abbrev handed_out : Book → Attempt → World
-handed_out base a = record (first base) { dispatched = a ∷ [] }
+abbrev handed_out : ℕ → Book → Attempt → World
+handed_out n base a = record (first n base) { dispatched = a ∷ [] }
 
 -- an activity that is open in the book is handed out
-dispatches : (u : Rules) (base : Book) (a : Attempt) → is_open_task base a ≡ true → Comes u (first base) (Dispatch a ∷ []) (handed_out base a)
-dispatches u base a is = (handed_out base a, (rw is refl, refl))
+dispatches : (u : Rules) (n : ℕ) (base : Book) (a : Attempt) → is_open_task base a ≡ true → Comes u (first n base) (Dispatch a ∷ []) (handed_out n base a)
+dispatches u n base a is = (handed_out n base a, (rw is refl, refl))
 
 -- one that isn't open is not
-not_handed_out : (u : Rules) (base : Book) (a : Attempt) → is_open_task base a ≡ false → Comes u (first base) (Dispatch a ∷ []) (first base)
-not_handed_out u base a other = (first base, (rw other refl, refl))
+not_handed_out : (u : Rules) (n : ℕ) (base : Book) (a : Attempt) → is_open_task base a ≡ false → Comes u (first n base) (Dispatch a ∷ []) (first n base)
+not_handed_out u n base a other = (first base, (rw other refl, refl))
 
 -- a report on an attempt that was handed out is submitted as a command
-reports : (u : Rules) (base : Book) (a : Attempt) (v : Value) (at : ℕ)
-    → Comes u (handed_out base a) (Report 0 v at ∷ []) (record (handed_out base a) { inbox = command.Complete a.run a.event a.attempt v at ∷ [] })
-reports u base a v at = (record (handed_out base a) { inbox = command.Complete a.run a.event a.attempt v at ∷ [] }, (refl, refl))
+reports : (u : Rules) (n : ℕ) (base : Book) (a : Attempt) (v : Value) (at : ℕ)
+    → Comes u (handed_out n base a) (Report 0 v at ∷ []) (record (handed_out n base a) { inbox = command.Complete a.run a.event a.attempt v at ∷ [] })
+reports u n base a v at = (record (handed_out n base a) { inbox = command.Complete a.run a.event a.attempt v at ∷ [] }, (refl, refl))
 
 -- and nothing on one that wasn't
-reports_nothing : (u : Rules) (base : Book) (a : Attempt) (v : Value) (at : ℕ) → Comes u (handed_out base a) (Report 1 v at ∷ []) (handed_out base a)
-reports_nothing u base a v at = (handed_out base a, (refl, refl))
+reports_nothing : (u : Rules) (n : ℕ) (base : Book) (a : Attempt) (v : Value) (at : ℕ) → Comes u (handed_out n base a) (Report 1 v at ∷ []) (handed_out n base a)
+reports_nothing u n base a v at = (handed_out n base a, (refl, refl))
 
 -- an attempt that failed is told in the same way
-tells_failure : (u : Rules) (base : Book) (a : Attempt) (reason : Bytes) (at : ℕ)
-    → Comes u (handed_out base a) (Failure 0 reason at ∷ []) (record (handed_out base a) { inbox = command.Fail a.run a.event a.attempt reason at ∷ [] })
-tells_failure u base a reason at = (record (handed_out base a) { inbox = command.Fail a.run a.event a.attempt reason at ∷ [] }, (refl, refl))
+tells_failure : (u : Rules) (n : ℕ) (base : Book) (a : Attempt) (reason : Bytes) (at : ℕ)
+    → Comes u (handed_out n base a) (Failure 0 reason at ∷ []) (record (handed_out n base a) { inbox = command.Fail a.run a.event a.attempt reason at ∷ [] })
+tells_failure u n base a reason at = (record (handed_out n base a) { inbox = command.Fail a.run a.event a.attempt reason at ∷ [] }, (refl, refl))
 
-tells_nothing : (u : Rules) (base : Book) (a : Attempt) (reason : Bytes) (at : ℕ) → Comes u (handed_out base a) (Failure 1 reason at ∷ []) (handed_out base a)
-tells_nothing u base a reason at = (handed_out base a, (refl, refl))
+tells_nothing : (u : Rules) (n : ℕ) (base : Book) (a : Attempt) (reason : Bytes) (at : ℕ) → Comes u (handed_out n base a) (Failure 1 reason at ∷ []) (handed_out n base a)
+tells_nothing u n base a reason at = (handed_out n base a, (refl, refl))
