@@ -17,7 +17,7 @@ dispatches u n base a is = (handed_out n base a, (rw is refl, refl))
 
 -- one that isn't open is not
 not_handed_out : (u : Rules) (n : ℕ) (base : Book) (a : Attempt) → is_open_task base a ≡ false → Comes u (first n base) (Dispatch a ∷ []) (first n base)
-not_handed_out u n base a other = (first base, (rw other refl, refl))
+not_handed_out u n base a other = (first n base, (rw other refl, refl))
 
 -- a report on an attempt that was handed out is submitted as a command
 reports : (u : Rules) (n : ℕ) (base : Book) (a : Attempt) (v : Value) (at : ℕ)
