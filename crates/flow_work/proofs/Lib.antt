@@ -5,4 +5,5 @@ mod Printing
 mod Reading
 mod Resting
 mod Served
+mod Silence
 mod Telling

@@ -10,4 +10,5 @@ pub mod Reading
 pub mod Resting
 pub mod Serving
 pub mod Showing
+pub mod Silence
 pub mod Telling
