@@ -2,6 +2,7 @@ mod Counting
 mod Firing
 mod Hearing
 mod Printing
+mod Questions
 mod Reading
 mod Resting
 mod Served
