@@ -2,8 +2,8 @@
 use Rattle.std.proofs.Common.{◌≡◌, Option, Some, None, Result, refl, sym, subst}
 use Rattle.std.specs.Option.{option_or}
 use Rattle.flow_base.specs.declared.command.Command.{Command}
-use Rattle.flow_cli.specs.Faults.{GivesLine}
-use Rattle.flow_cli.specs.declared.command.LineFault.{LineFault}
+use Rattle.flow_lines.specs.Faults.{GivesLine}
+use Rattle.flow_lines.specs.declared.command.LineFault.{LineFault}
 
 -- it spells a command
 pub by_command : (given asked : Option Command) (c : Command) → given ≡ Some c → option_or given asked ≡ Some c

@@ -1,6 +1,6 @@
 -- Why nothing is answered any more.
 use Rattle.std.proofs.Common.{◌≡◌, Bool, true, false, List, [], ◌∷◌, ◌++◌, Option, Some, None, inl, inr, refl, sym, ap, ◌∙◌, subst, append_assoc}
-use Rattle.flow_cli.specs.declared.reply.Line.{Line}
+use Rattle.flow_lines.specs.declared.reply.Line.{Line}
 use Rattle.flow_hub.specs.Knowing.{IsBefore}
 use Rattle.flow_hub.specs.Submitting.{Member}
 use Rattle.flow_hub.proofs.Growing.{before_self}

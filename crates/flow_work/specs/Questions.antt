@@ -2,8 +2,8 @@
 use Rattle.std.specs.Prelude.{ℕ, List, Option}
 use Rattle.std.specs.Option.{option_or}
 use Rattle.flow_base.specs.declared.command.Command.{Command}
-use Rattle.flow_cli.specs.Asks.{line_asked}
-use Rattle.flow_cli.specs.Commands.{line_command}
+use Rattle.flow_lines.specs.Asks.{line_asked}
+use Rattle.flow_lines.specs.Commands.{line_command}
 use Rattle.flow_work.specs.declared.question.Accepted.{Accepted}
 use Rattle.flow_work.specs.declared.question.Accepted.TheVariants as accepted
 

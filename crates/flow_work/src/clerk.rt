@@ -1,6 +1,6 @@
 //! The thread that submits lines and prints their replies in the order of the lines.
 ghost use Rattle.std.specs.Prelude.{◌≡◌, ◌<◌, [], ℕ, List, Option, length};
-ghost use Rattle.flow_cli.specs.Commands.{line_command};
+ghost use Rattle.flow_lines.specs.Commands.{line_command};
 ghost use Rattle.flow_hub.specs.Knowing.{nothing};
 ghost use Rattle.flow_work.specs.Counting.{Counted, Counts, Goes, Owes};
 ghost use Rattle.flow_work.specs.Resting.{HasRested};

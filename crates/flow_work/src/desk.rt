@@ -1,6 +1,6 @@
 //! The thread that submits lines and prints their replies, in the order of the lines.
 ghost use Rattle.std.specs.Prelude.{◌≡◌, ◌≤◌, ◌<◌, ◌⊎◌, ◌++◌, ◌∷◌, [], Option, List, true, false, length, is_some, IfNone, IfSome};
-ghost use Rattle.flow_cli.specs.declared.reply.Line.{Line as ALine};
+ghost use Rattle.flow_lines.specs.declared.reply.Line.{Line as ALine};
 ghost use Rattle.flow_hub.specs.Knowing.{IsBefore};
 ghost use Rattle.flow_work.specs.Counting.{PrintsFed};
 ghost use Rattle.flow_work.specs.Endings.{IsToldOf, line_instead};
@@ -23,8 +23,8 @@ use crossbeam_channel::Receiver;
 use flow_base::code::Code;
 use flow_base::command::Command;
 use flow_base::memory::NoMemory;
-use flow_cli::command::LineFault;
-use flow_cli::reply::Line;
+use flow_lines::command::LineFault;
+use flow_lines::reply::Line;
 use flow_hub::denied::Denied;
 use flow_hub::fed::Fed;
 use flow_hub::rested::Rested;

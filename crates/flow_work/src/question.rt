@@ -1,10 +1,10 @@
 //! Lines that are commands, and those that ask.
-ghost use Rattle.flow_cli.specs.Faults.{GivesLine};
+ghost use Rattle.flow_lines.specs.Faults.{GivesLine};
 ghost use Rattle.flow_work.specs.Questions.{line_served, read_as};
 
 use flow_base::command::Command;
-use flow_cli::ask::asked_of;
-use flow_cli::command::{LineFault, command_of};
+use flow_lines::ask::asked_of;
+use flow_lines::command::{LineFault, command_of};
 use std::alloc::Global;
 
 /// Which lines are read as commands.

@@ -1,5 +1,5 @@
 use Rattle.std.proofs.Common.{◌≡◌, refl, []}
-use Rattle.flow_cli.specs.Commands.{line_command}
+use Rattle.flow_lines.specs.Commands.{line_command}
 use Rattle.flow_hub.specs.Knowing.{nothing}
 use Rattle.flow_work.specs.Printing.{blank}
 use Rattle.flow_work.proofs.Counting.{counts_as, counted_as}

@@ -1,5 +1,5 @@
 use Rattle.std.proofs.Common.{ℕ, List, Option}
-use Rattle.flow_cli.specs.Commands.{line_command}
+use Rattle.flow_lines.specs.Commands.{line_command}
 use Rattle.flow_hub.specs.Knowing.{nothing}
 use Rattle.flow_work.specs.Counting.{Counts}
 use Rattle.flow_work.proofs.clerk.Clerk.answer_lines.Given as goal

@@ -1,4 +1,4 @@
-use Rattle.flow_cli.specs.Commands.{line_command}
+use Rattle.flow_lines.specs.Commands.{line_command}
 use Rattle.flow_hub.specs.Knowing.{nothing}
 use Rattle.flow_work.proofs.Counting.{all_told}
 use Rattle.flow_work.proofs.clerk.Clerk.end.Goals as goal

@@ -1,5 +1,5 @@
 use Rattle.std.proofs.Common.{rules, ◌≡◌, ◌++◌, ◌∷◌, [], List, ℕ, sym, subst}
-use Rattle.flow_cli.specs.Commands.{line_command}
+use Rattle.flow_lines.specs.Commands.{line_command}
 use Rattle.flow_hub.specs.Knowing.{nothing}
 use Rattle.flow_work.specs.Counting.{Goes}
 use Rattle.flow_work.proofs.Counting.{taken_goes}

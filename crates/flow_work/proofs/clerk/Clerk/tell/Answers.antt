@@ -1,4 +1,4 @@
-use Rattle.flow_cli.specs.Commands.{line_command}
+use Rattle.flow_lines.specs.Commands.{line_command}
 use Rattle.flow_hub.specs.Knowing.{nothing}
 use Rattle.flow_work.proofs.Counting.{goes_told}
 use Rattle.flow_work.proofs.clerk.Clerk.tell.Goals as goal
