@@ -49,3 +49,11 @@ pub returns-clause-own : goal.returns-clause-own
 returns-clause-own g c =
     let new = c.verify.new.self in
     subst (λ (k : Keeping g.row.S.Denot). IsFit g.S.Store new → IsUp g.S.Store k → (new ≡ k) ⊎ KeepsBook g.S.Store k (kept_book g.S.Store k)) c.self.view_is c.verify.ensures.own
+
+pub returns-clause-fit : goal.returns-clause-fit
+returns-clause-fit g c = subst (λ (k : Keeping g.row.S.Denot). IsFit g.S.Store c.verify.new.self → IsFit g.S.Store k) c.self.view_is c.verify.ensures.fit
+
+pub returns-clause-up : goal.returns-clause-up
+returns-clause-up g c =
+    let new = c.verify.new.self in
+    subst (λ (k : Keeping g.row.S.Denot). IsFit g.S.Store new → IsUp g.S.Store new → IsUp g.S.Store k) c.self.view_is c.verify.ensures.up
