@@ -17,5 +17,7 @@ pub mod Batches
 pub mod SomeLines
 pub mod Stopping
 pub mod Histories
+pub mod OpenPages
+pub mod Listings
 pub mod Spellings
 pub mod Asks

@@ -15,6 +15,7 @@ pub mod Ends
 pub mod Answering
 pub mod Stopping
 pub mod Histories
+pub mod Listings
 pub mod Ending
 pub mod Working
 pub mod Totals

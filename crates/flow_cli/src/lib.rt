@@ -12,6 +12,7 @@ pub mod ending;
 pub mod fault;
 pub mod history;
 pub mod input;
+pub mod listing;
 pub mod output;
 pub mod place;
 pub mod reason;

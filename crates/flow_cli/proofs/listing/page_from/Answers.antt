@@ -1,0 +1,8 @@
+use Rattle.std.proofs.lemmas.Result.{IfOk-weaker}
+use Rattle.flow_cli.proofs.Listings.{page_listed}
+use Rattle.flow_cli.proofs.listing.page_from.Goals as goal
+
+pub returns-in-Ok-Replied-clause-listed : goal.returns-in-Ok-Replied-clause-listed
+returns-in-Ok-Replied-clause-listed g c =
+    let answers = rw c.in-Ok-Replied.field-0-is at c.in-Ok-Replied.ensures.answers in
+    IfOk-weaker c.page_of.result _ _ (λ p is sure. page_listed g.E.Answering.rules _ _ c.args.from c.args.most _ p.runs p.next is (answers sure)) c.page_of.ensures.listed
