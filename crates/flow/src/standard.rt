@@ -2,19 +2,19 @@
 ghost use Rattle.std.specs.Prelude.{◌≡◌, ◌⊎◌, ◌∷◌, [], ℕ, None, IfOk, IfErr};
 ghost use Rattle.flow_base.specs.declared.code.Code.TheVariants as codes;
 ghost use Rattle.flow_base.specs.declared.command.Command.TheVariants as commands;
-ghost use Rattle.flow_cli.specs.Answering.{HasFew, IsFull, OfBatch, SomeAnswered, StatusWithin, StopsAmong};
-ghost use Rattle.flow_cli.specs.Faults.{fault_status};
+ghost use Rattle.flow_lines.specs.Answering.{HasFew, IsFull, OfBatch, SomeAnswered, StatusWithin, StopsAmong};
+ghost use Rattle.flow_lines.specs.Faults.{fault_status};
 ghost use Rattle.flow_cli.specs.Histories.{CausedUnwritten, TellsHistory};
 ghost use Rattle.flow_cli.specs.Listings.{TellsOpen};
-ghost use Rattle.flow_cli.specs.Stopping.{CausedFault, StoppedBy};
+ghost use Rattle.flow_lines.specs.Stopping.{CausedFault, StoppedBy};
 ghost use Rattle.flow_cli.specs.Working.{OfWork};
 ghost use Rattle.flow.specs.Standard.{OverSome};
 
 use flow_base::fault::Fault;
-use flow_cli::fault::fault_of_error;
 use flow_cli::listing::tell_open;
-use flow_cli::streams::{Reading, Writing};
 use flow_cli::work::{Work, perform};
+use flow_lines::fault::fault_of_error;
+use flow_lines::streams::{Reading, Writing};
 use flow_machine::answer::Answering;
 use std::io;
 use std::io::BufReader;

@@ -18,12 +18,12 @@ use Rattle.flow_model.specs.Book.{Book, open_runs}
 use Rattle.flow_machine.specs.Answers.{Answers}
 use Rattle.flow_machine.specs.declared.answer.Answer.TheVariants as answer
 use Rattle.flow_machine.specs.declared.answer.Stop.{Stop}
-use Rattle.flow_cli.specs.Answering.{WritesPart}
-use Rattle.flow_cli.specs.Driving.{WritesBeginning}
+use Rattle.flow_lines.specs.Answering.{WritesPart}
+use Rattle.flow_lines.specs.Driving.{WritesBeginning}
 use Rattle.flow_cli.specs.Histories.{CausedUntold, CausedUnwritten}
 use Rattle.flow_cli.specs.Listings.{listing_written, runs_written, open_lines, page_lines, next_open, TellsOpen, ListsPage, TellsPage, IsUnlisted}
-use Rattle.flow_cli.specs.Replies.{open_run_text}
-use Rattle.flow_cli.proofs.Answering.{kept_appends, part_by}
+use Rattle.flow_lines.specs.Replies.{open_run_text}
+use Rattle.flow_lines.proofs.Answering.{kept_appends, part_by}
 use Rattle.flow_cli.proofs.OpenPages.{behind, none_behind}
 
 ---- Line after line

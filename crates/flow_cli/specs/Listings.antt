@@ -7,7 +7,7 @@ use Rattle.flow_base.specs.declared.command.Reply.{Reply}
 use Rattle.flow_base.specs.declared.command.Reply.TheVariants as reply
 use Rattle.flow_model.specs.Apply.{Rules, open_run_told, first_number}
 use Rattle.flow_model.specs.Book.{Book, open_runs}
-use Rattle.flow_cli.specs.Replies.{open_run_text}
+use Rattle.flow_lines.specs.Replies.{open_run_text}
 
 -- each open run on a line of its own
 abbrev pub listing_written : List OpenRun → List ℕ

@@ -7,13 +7,13 @@ ghost use Rattle.flow_cli.specs.Calls.{flow, answering, over_lines, over_files, 
 ghost use Rattle.flow_cli.specs.Calls.{Call as Pure};
 ghost use Rattle.flow_cli.specs.Shown.{shown};
 
-use crate::batch::BatchSize;
 use crate::work::Work;
 use clap::error::ErrorKind;
 use clap::{Arg, ArgAction, ArgMatches, Command};
 use flow_base::fault::Fault;
 use flow_base::memory::NoMemory;
 use flow_base::number::RunId;
+use flow_lines::batch::BatchSize;
 use std::alloc::{AllocError, Global};
 use std::convert::AsStr;
 

@@ -3,7 +3,7 @@ use Rattle.std.proofs.Common.{◌≡◌, ℕ, List, [], ◌∷◌, ◌++◌, Boo
 use Rattle.std.specs.Io.KnownBytes.{Appends}
 use Rattle.std.proofs.KnownBytes.{Appends-nil, Appends-trans}
 use Rattle.flow_base.specs.declared.command.Command.{Command}
-use Rattle.flow_cli.specs.declared.reply.Line.{Line}
+use Rattle.flow_lines.specs.declared.reply.Line.{Line}
 use Rattle.flow_machine.specs.declared.submission.Taken.{Taken}
 use Rattle.flow_machine.specs.declared.task.Task.{Task}
 use Rattle.flow_hub.specs.declared.fed.Fed.{Fed}

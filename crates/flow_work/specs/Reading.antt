@@ -2,9 +2,9 @@
 use Rattle.std.specs.Prelude.{◌≡◌, ◌⊎◌, ℕ, List, Some, None, slice_get}
 use Rattle.flow_base.specs.declared.code.Code.TheVariants as code
 use Rattle.flow_base.specs.declared.command.Command.{Command}
-use Rattle.flow_cli.specs.Commands.{line_command}
-use Rattle.flow_cli.specs.declared.reply.Line.{Line}
-use Rattle.flow_cli.specs.declared.reply.Line.TheVariants as line
+use Rattle.flow_lines.specs.Commands.{line_command}
+use Rattle.flow_lines.specs.declared.reply.Line.{Line}
+use Rattle.flow_lines.specs.declared.reply.Line.TheVariants as line
 use Rattle.flow_hub.specs.declared.ticket.Ticket.{Ticket}
 use Rattle.flow_hub.specs.Submitting.{Member}
 use Rattle.flow_work.specs.Moments.{command_at}

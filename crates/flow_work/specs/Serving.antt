@@ -3,9 +3,9 @@ use Rattle.std.specs.Prelude.{◌≡◌, ◌⊎◌, ◌++◌, ℕ, List, [], ◌
 use mathlib.Core.List.{IsPrefix}
 use Rattle.sqlite_trees.specs.declared.store.Store.{Ghosts}
 use Rattle.flow_base.specs.declared.command.Command.{Command}
-use Rattle.flow_cli.specs.Commands.{line_command}
-use Rattle.flow_cli.specs.declared.reply.Line.{Line}
-use Rattle.flow_cli.specs.declared.reply.Line.TheVariants as line
+use Rattle.flow_lines.specs.Commands.{line_command}
+use Rattle.flow_lines.specs.declared.reply.Line.{Line}
+use Rattle.flow_lines.specs.declared.reply.Line.TheVariants as line
 use Rattle.flow_machine.specs.declared.submission.Receipt.{Receipt}
 use Rattle.flow_machine.specs.declared.submission.Taken.{Taken}
 use Rattle.flow_machine.specs.declared.task.Task.{Task}

@@ -1,6 +1,6 @@
 //! The thread that submits lines and prints their replies, in the order of the lines.
 ghost use Rattle.std.specs.Prelude.{◌≡◌, ◌≤◌, ◌<◌, ◌++◌, ◌∷◌, [], Option, List, true, false, length, is_some, IfSome};
-ghost use Rattle.flow_cli.specs.declared.reply.Line.{Line as ALine};
+ghost use Rattle.flow_lines.specs.declared.reply.Line.{Line as ALine};
 ghost use Rattle.flow_hub.specs.Knowing.{IsBefore};
 ghost use Rattle.flow_work.specs.Counting.{PrintsFed};
 ghost use Rattle.flow_work.specs.Endings.{IsToldOf, line_instead};
@@ -20,14 +20,14 @@ use crossbeam_channel::Receiver;
 use flow_base::code::Code;
 use flow_base::command::Command;
 use flow_base::memory::NoMemory;
-use flow_cli::command::{LineFault, command_of};
-use flow_cli::reply::Line;
 use flow_hub::denied::Denied;
 use flow_hub::fed::Fed;
 use flow_hub::rested::Rested;
 use flow_hub::seats::Room;
 use flow_hub::submitter::Submitter;
 use flow_hub::ticket::{NotDone, Ticket, Why};
+use flow_lines::command::{LineFault, command_of};
+use flow_lines::reply::Line;
 use flow_timers::Clock;
 use std::alloc::Global;
 use std::io::Write;

@@ -1,5 +1,5 @@
 use Rattle.std.proofs.Common.{ap, ◌∙◌}
-use Rattle.flow_cli.specs.Ends.{is_output}
+use Rattle.flow_lines.specs.Ends.{is_output}
 use Rattle.flow_cli.proofs.Listings.{one_more_listed, part_listed}
 use Rattle.flow_cli.proofs.listing.write_runs.Goals as goal
 
