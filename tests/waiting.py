@@ -282,9 +282,12 @@ class Store:
         return [it for it in self.runs if it.is_open]
 
     def register(self, block):
-        self.blocks.append(block)
-        self.ask({"reply": "registered", "text": len(self.blocks)}, "register", src=text_of(block))
-        return len(self.blocks)
+        """A text that is there keeps its number."""
+        if block not in self.blocks:
+            self.blocks.append(block)
+        text = self.blocks.index(block) + 1
+        self.ask({"reply": "registered", "text": text}, "register", src=text_of(block))
+        return text
 
     def begun(self, flow, text, left, at):
         run = Run(len(self.runs) + 1, flow, text, self.blocks[text - 1], left)
@@ -347,8 +350,8 @@ class Store:
         self.ask(self.recorded(run, at, "terminated"), "terminate", run=run.number, reason="enough", at=at)
 
     def upgrade(self, run):
-        """Under another text the same inputs have to lead to the same events; then it goes on where they lead."""
-        if any(it[0] == "patch" for it in run.block):
+        """Under another text the same inputs have to lead to the same events; then it goes on where they lead. Patches would ask for more."""
+        if "'patch'" in repr(run.block):
             return
         text = self.register(changed(self.rng, run.block))
         other = Run(run.number, run.flow, text, self.blocks[text - 1], run.left)
