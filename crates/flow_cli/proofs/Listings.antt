@@ -77,11 +77,11 @@ list_is_told : (u : Rules) (b : Book) (from most : ℕ)
 unfolding outcome list_open
 list_is_told u b from most = refl
 
-runs_in : Reply → List OpenRun
+abbrev runs_in : Reply → List OpenRun
 runs_in (reply.Open rs next) = rs
 runs_in r = []
 
-next_in : Reply → Option ℕ
+abbrev next_in : Reply → Option ℕ
 next_in (reply.Open rs next) = next
 next_in r = None
 

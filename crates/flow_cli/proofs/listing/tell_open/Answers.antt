@@ -3,7 +3,7 @@ use Rattle.flow_cli.proofs.Listings.{none_listed, page_more, all_listed, page_cu
 use Rattle.flow_cli.proofs.listing.tell_open.Goals as goal
 
 pub loop-init : goal.loop-init
-loop-init g c = record { listed = λ sure. (refl, none_listed _ _ c.first_run.result _ c.first_run.ensures); output = refl; since = λ e b cs s h. h; sure = λ s. s; follows = λ a f. f }
+loop-init g c = record { listed = λ sure. (refl, none_listed _ _ c.first_run-from.result _ c.first_run-from.ensures); output = refl; since = λ e b cs s h. h; sure = λ s. s; follows = λ a f. f }
 
 pub loop-preserved : goal.loop-preserved
 loop-preserved g c =
