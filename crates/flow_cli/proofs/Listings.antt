@@ -13,7 +13,7 @@ use Rattle.flow_base.specs.declared.command.Reply.{Reply}
 use Rattle.flow_base.specs.declared.command.Reply.TheVariants as reply
 use Rattle.flow_base.specs.declared.fault.Fault.{Fault}
 use Rattle.flow_base.specs.declared.fault.Fault.TheVariants as fault
-use Rattle.flow_model.specs.Apply.{Rules, outcome, list_open, open_run_told, first_number}
+use Rattle.flow_model.specs.Apply.{Rules, outcome, list_open, open_run_told}
 use Rattle.flow_model.specs.Book.{Book, open_runs}
 use Rattle.flow_machine.specs.Answers.{Answers}
 use Rattle.flow_machine.specs.declared.answer.Answer.TheVariants as answer
