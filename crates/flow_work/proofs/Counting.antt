@@ -24,7 +24,7 @@ use Rattle.flow_work.specs.Moments.{command_at}
 use Rattle.flow_work.specs.Printing.{Printed, PrintsBy, PrintsNow, PrintsLine, PrintsTask, blank, shown_line, status_by, status_with}
 use Rattle.flow_work.specs.Reading.{IsOf, IsPendingOf}
 use Rattle.flow_work.specs.Telling.{TellsAll, HasTold}
-use Rattle.flow_work.specs.Counting.{shown_bytes, tasks_in, replies_in, Holds, AreShown, Answered, AreAnswered, AreWaiting, IsStatusOf, Says, IsFed, Counts, Counted, PrintsFed, Goes}
+use Rattle.flow_work.specs.Counting.{shown_bytes, tasks_in, replies_in, Holds, AreShown, Answered, AreAnswered, AreWaiting, IsStatusOf, Says, IsFed, Counts, Counted, PrintsFed, Goes, IsPage}
 use Rattle.flow_work.specs.declared.queue.Pending.{Pending}
 use Rattle.flow_work.specs.declared.queue.Pending.TheVariants as pending
 use Rattle.flow_work.specs.declared.shown.Shown.{Shown}
@@ -91,31 +91,39 @@ three_most (line.Of r) = refl
 three_most line.Bad = refl
 three_most (line.NotApplied c) = refl
 
-status_most : (xs : List Shown) (x : Line) (was now : ℕ) → IsStatusOf xs was → now ≡ max was (answer_status x) → IsStatusOf (xs ++ shown.Reply x ∷ []) now
+status_most : (xs : List Shown) (x : Line) (was now : ℕ) → IsStatusOf false xs was → now ≡ max was (answer_status x) → IsStatusOf false (xs ++ shown.Reply x ∷ []) now
 status_most xs x was now (inl e) is = inl (is ∙ (ap (λ n. max n (answer_status x)) e ∙ three_most x))
 status_most xs x was now (inr e) is =
     inr (is ∙ (ap (λ n. max n (answer_status x)) e ∙ (status_more (replies_in xs) x ∙ ap final_status (sym (replies_more xs x)))))
 
+status_same : (xs : List Shown) (t : Task) (n : ℕ) → IsStatusOf false xs n → IsStatusOf false (xs ++ shown.Task t ∷ []) n
+status_same xs t n (inl e) = inl e
+status_same xs t n (inr e) = inr (e ∙ ap final_status (sym (replies_same xs t)))
+
+status_failed : (is : Bool) (xs : List Shown) → IsStatusOf is xs 3
+status_failed false xs = inl refl
+status_failed true xs = refl
+
 -- behind a reply
-status_reply : (x : Line) (old new : Printed) (was is : Bool) → is ≡ new.is_mute → PrintsBy (shown.Reply x) was old new → new.status ≡ status_with old.status x is → IsStatusOf old.shown old.status → IsStatusOf new.shown new.status
-status_reply x old new was true same p e s = inl e
+status_reply : (x : Line) (old new : Printed) (was is : Bool) → is ≡ new.is_mute → PrintsBy (shown.Reply x) was old new → new.status ≡ status_with old.status x is → IsStatusOf was old.shown old.status
+    → IsStatusOf new.is_mute new.shown new.status
+status_reply x old new was true same p e s = subst (λ b. IsStatusOf b new.shown new.status) same e
 status_reply x old new true false same p e s = absurd (cc (same, p.0))
 status_reply x old new false false same p e s =
     let now : PrintsNow (shown.Reply x) false old new = subst (λ b. PrintsNow (shown.Reply x) b old new) (sym same) p in
-    subst (λ (xs : List Shown). IsStatusOf xs new.status) (sym now.1) (status_most old.shown x old.status new.status s e)
+    subst (λ b. IsStatusOf b new.shown new.status) same
+    (subst (λ (xs : List Shown). IsStatusOf false xs new.status) (sym now.1) (status_most old.shown x old.status new.status s e))
 
 -- behind a task
-status_task : (t : Task) (old new : Printed) (was is : Bool) → is ≡ new.is_mute → PrintsBy (shown.Task t) was old new → new.status ≡ status_by old.status is → IsStatusOf old.shown old.status → IsStatusOf new.shown new.status
-status_task t old new was true same p e s = inl e
+status_task : (t : Task) (old new : Printed) (was is : Bool) → is ≡ new.is_mute → PrintsBy (shown.Task t) was old new → new.status ≡ status_by old.status is → IsStatusOf was old.shown old.status
+    → IsStatusOf new.is_mute new.shown new.status
+status_task t old new was true same p e s = subst (λ b. IsStatusOf b new.shown new.status) same e
 status_task t old new true false same p e s = absurd (cc (same, p.0))
 status_task t old new false false same p e s =
     let now : PrintsNow (shown.Task t) false old new = subst (λ b. PrintsNow (shown.Task t) b old new) (sym same) p in
-    subst (λ (xs : List Shown). IsStatusOf xs new.status) (sym now.1)
-    (subst (IsStatusOf (old.shown ++ shown.Task t ∷ [])) (sym e) (status_same s))
-  where
-    status_same : IsStatusOf old.shown old.status → IsStatusOf (old.shown ++ shown.Task t ∷ []) old.status
-    status_same (inl k) = inl k
-    status_same (inr k) = inr (k ∙ ap final_status (sym (replies_same old.shown t)))
+    subst (λ b. IsStatusOf b new.shown new.status) same
+    (subst (λ (xs : List Shown). IsStatusOf false xs new.status) (sym now.1)
+    (subst (IsStatusOf false (old.shown ++ shown.Task t ∷ [])) (sym e) (status_same old.shown t old.status s)))
 
 -- ---- what stands later too
 
@@ -206,7 +214,7 @@ tally_line reads tells m said l x old new true a one p =
     (said, l ∷ [], refl, subst (λ (s : List Shown). AreAnswered reads tells m said (replies_in s)) (sym p.1) a, λ e. absurd (cc e))
 
 line_by : (reads : List ℕ → Option Command) (tells : ℕ → Type 0) (first : Option (List ℕ)) (given : List Task) (m : Member) (said silent : List (List ℕ)) (l : List ℕ) (x : Line) (old new : Printed) (was : Bool) → Holds first was old.bytes old.shown → AreShown was given old.shown
-    → AreAnswered reads tells m said (replies_in old.shown) → (was ≡ false → silent ≡ []) → Answered reads tells m l x → PrintsBy (shown.Reply x) was old new → IsStatusOf new.shown new.status → Says reads tells first given m ((said ++ silent) ++ l ∷ []) new
+    → AreAnswered reads tells m said (replies_in old.shown) → (was ≡ false → silent ≡ []) → Answered reads tells m l x → PrintsBy (shown.Reply x) was old new → IsStatusOf new.is_mute new.shown new.status → Says reads tells first given m ((said ++ silent) ++ l ∷ []) new
 line_by reads tells first given m said silent l x old new false h t a all one p status =
     let r = tally_line reads tells m said l x old new new.is_mute a one p in
     let none : said ++ silent ≡ said = ap (λ w. said ++ w) (all refl) ∙ append-nil said in
@@ -254,7 +262,7 @@ says_all reads tells first given m (l ∷ ls) (p ∷ ps) lines old new w t s =
 -- ---- a task is printed
 
 task_by : (reads : List ℕ → Option Command) (tells : ℕ → Type 0) (first : Option (List ℕ)) (given : List Task) (m : Member) (lines said silent : List (List ℕ)) (t : Task) (old new : Printed) (was : Bool) → Holds first was old.bytes old.shown → AreShown was given old.shown
-    → lines ≡ said ++ silent → AreAnswered reads tells m said (replies_in old.shown) → (was ≡ false → silent ≡ []) → PrintsBy (shown.Task t) was old new → IsStatusOf new.shown new.status → Says reads tells first (given ++ t ∷ []) m lines new
+    → lines ≡ said ++ silent → AreAnswered reads tells m said (replies_in old.shown) → (was ≡ false → silent ≡ []) → PrintsBy (shown.Task t) was old new → IsStatusOf new.is_mute new.shown new.status → Says reads tells first (given ++ t ∷ []) m lines new
 task_by reads tells first given m lines said silent t old new false h g are a all p status = record {
   bytes = holds_now first (shown.Task t) old new new.is_mute h p;
   tasks = shown_task given t old new new.is_mute g p;
@@ -434,7 +442,7 @@ counts_failed reads tells first feed k m ps rest lines old new same left is c =
       done = c.done;
       waiting = c.waiting;
       are = c.are;
-      says = record { bytes = s.bytes; tasks = s.tasks; said = s.said; silent = s.silent; are = s.are; replies = s.replies; all = s.all; status = inl refl };
+      says = record { bytes = s.bytes; tasks = s.tasks; said = s.said; silent = s.silent; are = s.are; replies = s.replies; all = s.all; status = status_failed old.is_mute old.shown };
       waits = c.waits;
       fed = c.fed;
     } in
@@ -461,3 +469,7 @@ pub counted_later : (reads : List ℕ → Option Command) (tells : ℕ → Type 
     → Counted reads tells first feed k lines page → Counted reads tells first feed m lines page
 counted_later reads tells first feed k m lines page same later c =
     record { done = c.done; rest = c.rest; are = c.are; says = says_later reads tells first feed.given k m c.done page (sym same) later c.says; fed = c.fed }
+
+-- the page alone
+pub page_of : (reads : List ℕ → Option Command) (tells : ℕ → Type 0) (first : Option (List ℕ)) (feed : Known) (m : Member) (lines : List (List ℕ)) (page : Printed) → Counted reads tells first feed m lines page → IsPage first page
+page_of reads tells first feed m lines page c = record { bytes = c.says.bytes; status = c.says.status }

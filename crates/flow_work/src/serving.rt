@@ -224,7 +224,7 @@ where
     // between the tasks that were posted.
     ensures shown { IfOk result (λ e. Shows S.Store (C.tells clock) engine.old engine.new (W.contents writer) (W.contents e.ended.writer) e.is_mute e.lines e.shown) }
     // The status is the greatest of the replies that were printed, or 3.
-    ensures status { IfOk result (λ e. IsStatusOf e.shown e.ended.status) }
+    ensures status { IfOk result (λ e. IsStatusOf e.is_mute e.shown e.ended.status) }
 {
     let (group, opened) = begin(alloc)?;
     serve_in::<S, Brand, R, I, W, C>(
@@ -259,7 +259,7 @@ where
     ensures found { engine.new.found ≡ engine.old.found }
     ensures follows { Follows S.Store engine.old engine.new }
     ensures shown { IfOk result (λ e. Shows S.Store (C.tells clock) engine.old engine.new (W.contents writer) (W.contents e.ended.writer) e.is_mute e.lines e.shown) }
-    ensures status { IfOk result (λ e. IsStatusOf e.shown e.ended.status) }
+    ensures status { IfOk result (λ e. IsStatusOf e.is_mute e.shown e.ended.status) }
 {
     let (mut publisher, hub) = open_hub::<B>(alloc, opened)?;
     match start_all(rt, alloc, &hub, reader, writer, clock, &group) {

@@ -23,5 +23,7 @@ returns-in-Ok-clause-status g c =
     let told = c.join-told.result in
     let after = c.taken_back in
     let counted = c.join-told.ensures.counted first c.in-Ok.ensures.page.0 c.in-Ok.ensures.page.1 c.in-Ok.ensures.owed.0 in
-    subst (λ (xs : List Shown). IsStatusOf xs after.result.ended.status) (sym after.ensures.printed.2)
-    (subst (IsStatusOf told.page.shown) (sym after.ensures.status) counted.says.status)
+    let printed = after.ensures.printed in
+    subst (λ b. IsStatusOf b after.result.shown after.result.ended.status) (sym printed.1)
+    (subst (λ (xs : List Shown). IsStatusOf told.page.is_mute xs after.result.ended.status) (sym printed.2)
+    (subst (IsStatusOf told.page.is_mute told.page.shown) (sym after.ensures.status) counted.says.status))
