@@ -5,4 +5,6 @@ pub mod Runs
 pub mod Safeties
 pub mod Settlements
 pub mod Histories
+pub mod OpenPages
+pub mod Listings
 pub mod Spellings

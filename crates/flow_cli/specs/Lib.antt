@@ -8,6 +8,7 @@ pub mod Changes
 pub mod Safety
 pub mod Settlements
 pub mod Histories
+pub mod Listings
 pub mod Ending
 pub mod Working
 pub mod Totals

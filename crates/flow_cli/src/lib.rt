@@ -6,6 +6,7 @@ pub mod change;
 pub mod check;
 pub mod ending;
 pub mod history;
+pub mod listing;
 pub mod place;
 pub mod reason;
 pub mod replaying;
