@@ -36,6 +36,9 @@ texts_plain : (ts : List (List ℕ)) → items_have_float (items_of (map string 
 texts_plain [] = refl
 texts_plain (t ∷ ts) = texts_plain ts
 
+pub open_run_plain : (r : OpenRun) → has_float (open_run_out r) ≡ false
+open_run_plain r = rw (open_tasks_plain r.activities, timers_plain r.timers, texts_plain r.waits) refl
+
 open_runs_plain : (rs : List OpenRun) → items_have_float (items_of (map open_run_out rs)) ≡ false
 open_runs_plain [] = refl
 open_runs_plain (r ∷ rs) = rw (open_tasks_plain r.activities, timers_plain r.timers, texts_plain r.waits, open_runs_plain rs) refl

@@ -154,6 +154,10 @@ reply_text (reply.Mismatch event wrong) =
 reply_text (reply.Full run event) =
     codes "{\"code\":\"E69\",\"event\":" ++ (decimal event ++ (codes ",\"reply\":\"refused\",\"run\":" ++ (decimal run ++ codes "}")))
 
+-- an open run, as the reply lists it
+abbrev pub open_run_text : OpenRun → List ℕ
+open_run_text r = compact_text (open_run_out r)
+
 abbrev pub line_text : Line → List ℕ
 line_text (line.Of r) = reply_text r
 line_text line.Bad = codes "{\"code\":\"E02\",\"reply\":\"refused\"}"

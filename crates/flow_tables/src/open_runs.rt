@@ -5,6 +5,7 @@ ghost use Rattle.flow_model.specs.Book as words;
 ghost use Rattle.flow_rows.specs.Finding.{is_open_from, number_of_run};
 ghost use Rattle.flow_sql.specs.Stored.{number_said};
 ghost use Rattle.flow_sql.proofs.OpenRuns.{open_numbers_are};
+ghost use Rattle.flow_sql.proofs.Places.{in_both};
 ghost use Rattle.flow_tables.specs.Asking.{IsValue};
 ghost use Rattle.flow_tables.specs.Low.{HasLow};
 ghost use Rattle.flow_tables.specs.Owned.{IsBelowOne};
@@ -28,7 +29,7 @@ pub(crate) struct OpenRuns {
 impl Question for OpenRuns {
     type Item = i64;
 
-    ghost asks = { λ q. record { read = Read.open_numbers; params = Int (pos q.from) ∷ Int (pos q.most) ∷ []; said = number_said; tells = λ t xs. xs ≡ take q.most (map number_of_run (filter (is_open_from (pos q.from)) t.runs)); fits = (refl, refl); found = λ db ours rows. open_numbers_are db ours rows (pos q.from) q.most } };
+    ghost asks = { λ q. record { read = Read.open_numbers; params = Int (pos q.from) ∷ Int (pos q.most) ∷ []; said = number_said; tells = λ t xs. xs ≡ take q.most (map number_of_run (filter (is_open_from (pos q.from)) t.runs)); takes = refl; typed = in_both _ refl refl; found = λ l db ours rows. open_numbers_are l db ours rows (pos q.from) q.most } };
 
     fn send<S: Alter>(&self, conn: &mut Connection<S>) -> Result<Vec<Row>, Error> {
         let sql = "SELECT num FROM run WHERE num >= ?1 AND isopen = 1 ORDER BY num LIMIT ?2";
