@@ -20,7 +20,7 @@ loop-preserved g c = record {
   gathered = gathered_on _ _ _ _ _ _ _ _ _ c.loop.invariant.gathered c.in-Ok-true.ensures.gathered;
   some = search rules;
   few = search rules;
-  ends = ends_full _ _ _ _ (search rules) c.in-Ok-true.ensures.last;
+  ends = ends_full _ _ _ c.put_next.new.begun.marks.items (search rules) c.in-Ok-true.ensures.last;
   counted = search rules;
   given = gives_on 0 0 0 _ _ _ (omega arith) c.loop.invariant.given c.in-Ok-true.ensures.given;
   failed = c.in-Ok-true.ensures.input ∙ c.loop.invariant.failed;
@@ -37,4 +37,4 @@ pub returns-in-Ok-false-clause-given : goal.returns-in-Ok-false-clause-given
 returns-in-Ok-false-clause-given g c = gives_on 0 0 0 _ _ _ (omega arith) c.loop.invariant.given c.in-Ok-false.ensures.given
 
 pub returns-in-Ok-false-clause-ends : goal.returns-in-Ok-false-clause-ends
-returns-in-Ok-false-clause-ends g c = ends_full _ _ _ _ (search rules) c.in-Ok-false.ensures.last
+returns-in-Ok-false-clause-ends g c = ends_full _ _ _ c.put_next.new.begun.marks.items (search rules) c.in-Ok-false.ensures.last
