@@ -31,7 +31,8 @@ use Rattle.flow_tables.specs.States.{HasTables, HasEnded}
 use Rattle.flow_tables.specs.Owned.{IsOurs, IsFound, IsFileOf, Keeps, LeavesMade}
 use Rattle.flow_tables.proofs.Opened.{never_both}
 use Rattle.flow_tables.proofs.Owning.{file_of}
-use Rattle.flow_tables.proofs.Stops.{IsSettled, one_file, opened_file}
+use Rattle.flow_tables.proofs.Reopened.{one_file, opened_file}
+use Rattle.flow_tables.proofs.Stops.{IsSettled}
 use Rattle.flow_commit.specs.Keeping.{rules, IsWell}
 use Rattle.flow_recover.specs.Positions.{IsLeastMismatch, Names, OnlyMemory}
 use Rattle.flow_recover.specs.Recovering.{HoldsSound, AreBlank, HoldBook, StillHolds, IsOpenedOver, IsOfDisk, IsOfRecovery, IsPastTables, IsLeft}

@@ -1,5 +1,6 @@
 pub mod Names
 pub mod Stops
+pub mod Reopened
 pub mod Parts
 pub mod BookReads
 pub mod Owning
