@@ -143,19 +143,23 @@ module _ (u : Rules) (b b0 b1 : Book) (from count most : ℕ) (old mid new : Opt
   pub page_more : (next : ℕ) → TellsPage u b0 b1 from most (Some next) mid new → (b1 ≡ b) × HasListed u b next (count + 1) old new
   page_more next page =
       let here : TellsPage u b b1 from most (Some next) mid new = subst (λ (x : Book). TellsPage u x b1 from most (Some next) mid new) is page in
-      let far : from + most ≤ next = (behind from 1 b.runs most next (sym here.next_is)).1.0 in
-      (here.same, record {
-        done = listed.done ++ page_lines u b from most;
-        lines_are = listed.lines_are ∙ ap (λ l. listed.done ++ l) (next_page u b from most next (sym here.next_is)) ∙ sym (append_assoc listed.done (page_lines u b from most) (open_lines u b next));
-        written_are = Appends-trans old mid new _ _ listed.written_are here.written_are;
-        far = omega (arith, far, size, listed.far);
-      })
+      let far : from + most ≤ next = (behind from 1 b.runs most next (sym here.next_is)).1.0 in (
+        here.same,
+        record {
+          done = listed.done ++ page_lines u b from most;
+          lines_are = listed.lines_are ∙ ap (λ l. listed.done ++ l) (next_page u b from most next (sym here.next_is)) ∙ sym (append_assoc listed.done (page_lines u b from most) (open_lines u b next));
+          written_are = Appends-trans old mid new _ _ listed.written_are here.written_are;
+          far = omega (arith, far, size, listed.far);
+        },
+      )
 
   pub all_listed : TellsPage u b0 b1 from most None mid new → TellsOpen u b b1 old new
   all_listed page =
-      let here : TellsPage u b b1 from most None mid new = subst (λ (x : Book). TellsPage u x b1 from most None mid new) is page in
-      (here.same, subst (Appends old new) (sym (listed.lines_are ∙ ap (λ l. listed.done ++ l) (last_page u b from most (sym here.next_is))))
-      (Appends-trans old mid new _ _ listed.written_are here.written_are))
+      let here : TellsPage u b b1 from most None mid new = subst (λ (x : Book). TellsPage u x b1 from most None mid new) is page in (
+        here.same,
+        subst (Appends old new) (sym (listed.lines_are ∙ ap (λ l. listed.done ++ l) (last_page u b from most (sym here.next_is))))
+            (Appends-trans old mid new _ _ listed.written_are here.written_are),
+      )
 
   pub page_cut : WritesBeginning mid new (page_lines u b0 from most) → WritesBeginning old new (open_lines u b 1)
   page_cut page =
@@ -202,8 +206,14 @@ pub list_caused : {E : Type 0} (old mid new : E) (book : E → Book) (gives : E 
     → CausedUnwritten f ⊥ (sure → (n : ℕ) × gives old new (book old) (command.Open n 256 ∷ []) code.StoreRefused) (λ s. sure → (n : ℕ) × stops old new (book old) (command.Open n 256 ∷ []) s)
 list_caused old mid new book gives stops sure f from most size same still too =
     caused_by f ⊥ (sure → gives mid new (book mid) (command.Open from most ∷ []) code.StoreRefused) (sure → (n : ℕ) × gives old new (book old) (command.Open n 256 ∷ []) code.StoreRefused)
-        (stops mid new (book mid) (command.Open from most ∷ [])) (λ s. sure → (n : ℕ) × stops old new (book old) (command.Open n 256 ∷ []) s)
-        (λ h s. (from, subst (λ n. gives old new (book old) (command.Open from n ∷ []) code.StoreRefused) size
-            (subst (λ (b : Book). gives old new b (command.Open from most ∷ []) code.StoreRefused) (same s) (still (book mid) (command.Open from most ∷ []) code.StoreRefused (h s)))))
-        (λ stop h s. (from, subst (λ n. stops old new (book old) (command.Open from n ∷ []) stop) size
-            (subst (λ (b : Book). stops old new b (command.Open from most ∷ []) stop) (same s) (too (book mid) (command.Open from most ∷ []) stop h))))
+    (stops mid new (book mid) (command.Open from most ∷ [])) (λ s. sure → (n : ℕ) × stops old new (book old) (command.Open n 256 ∷ []) s)
+    (λ h s. (
+      from,
+      subst (λ n. gives old new (book old) (command.Open from n ∷ []) code.StoreRefused) size
+          (subst (λ (b : Book). gives old new b (command.Open from most ∷ []) code.StoreRefused) (same s) (still (book mid) (command.Open from most ∷ []) code.StoreRefused (h s))),
+    ))
+    (λ stop h s. (
+      from,
+      subst (λ n. stops old new (book old) (command.Open from n ∷ []) stop) size
+          (subst (λ (b : Book). stops old new b (command.Open from most ∷ []) stop) (same s) (too (book mid) (command.Open from most ∷ []) stop h)),
+    ))

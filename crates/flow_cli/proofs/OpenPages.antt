@@ -68,8 +68,8 @@ behind from n [] (suc k) next e = absurd (cc)
 behind from n (r ∷ rs) k next e =
     let w = is_open (state_of r.history) in
     one_behind from n next k r (open_from from (n + 1) rs) (open_from next (n + 1) rs) (nat_le from n && w) (nat_le next n && w)
-        (both_hold from n w) (late_test next n w) (other_holds from n next w) (λ h k. same_from next from (n + 1) rs h k)
-        (λ j here. behind from (n + 1) rs j next here) e
+    (both_hold from n w) (late_test next n w) (other_holds from n next w) (λ h k. same_from next from (n + 1) rs h k)
+    (λ j here. behind from (n + 1) rs j next here) e
 
 -- none is left
 pub none_behind : (ps : List (ℕ × Run)) → first_number ps ≡ None → ps ≡ []

@@ -35,6 +35,6 @@ returns-in-Err-clause-cause g c =
     let on = c.tell_page.ensures.follows mid (g.met.E.Answering.follows_self mid) in
     let since = c.loop.invariant.follows old (g.met.E.Answering.follows_self old) in
     list_caused old mid new g.E.Answering.book g.E.Answering.gives_up g.E.Answering.stops (g.E.Answering.is_sure new) c.in-Err.fault c.loop.from _ c.page_size.ensures
-        (λ sure. (c.loop.invariant.listed (c.tell_page.ensures.sure sure)).0)
-        (λ b cs k. g.met.E.Answering.gives_up_since old mid new b cs k since on)
-        (λ b cs s. c.loop.invariant.since new b cs s) c.in-Err.ensures.cause
+    (λ sure. (c.loop.invariant.listed (c.tell_page.ensures.sure sure)).0)
+    (λ b cs k. g.met.E.Answering.gives_up_since old mid new b cs k since on)
+    (λ b cs s. c.loop.invariant.since new b cs s) c.in-Err.ensures.cause
