@@ -10,12 +10,12 @@ use Rattle.flow_base.specs.declared.fault.Fault.TheVariants as fault
 use Rattle.flow_model.specs.Apply.{Rules}
 use Rattle.flow_model.specs.Book.{Book}
 use Rattle.flow_machine.specs.declared.answer.Stop.{Stop}
-use Rattle.flow_cli.specs.Answering.{StopsBetween}
-use Rattle.flow_cli.specs.Stopping.{CausedFault, StoppedBy}
+use Rattle.flow_lines.specs.Answering.{StopsBetween}
+use Rattle.flow_lines.specs.Stopping.{CausedFault, StoppedBy}
 use Rattle.flow_cli.specs.Working.{OfWork}
 use Rattle.flow_cli.specs.declared.work.Work.{Work}
 use Rattle.flow_cli.specs.declared.work.Work.TheVariants as work
-use Rattle.flow_cli.proofs.Stopping.{fault_by}
+use Rattle.flow_lines.proofs.Stopping.{fault_by}
 use Rattle.flow.specs.Standard.{OverSome}
 
 pub of_both : (w : Work) (drives tells : ℕ → Type 0) → ((most : ℕ) → drives most) → ((run : ℕ) → tells run) → OfWork w drives tells

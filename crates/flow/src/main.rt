@@ -12,17 +12,17 @@ mod texts;
 use crate::looking::is_not_there;
 use crate::replaying::replay;
 use crate::running::{Activities, Next, done, early, keep_running, run};
-use crate::standard::performed;
+use crate::standard::{listed, performed};
 use crate::store::{close_file, open_file, open_memory};
 use crate::texts::{check, safe, settle};
 use flow_base::fault::Fault;
 use flow_cli::call::{Call, call_of};
 use flow_cli::ending::ended_early;
-use flow_cli::fault::fault_of_error;
 use flow_cli::reason::Early;
-use flow_cli::streams::Writing;
 use flow_cli::totals::tell_totals;
 use flow_cli::work::Work;
+use flow_lines::fault::fault_of_error;
+use flow_lines::streams::Writing;
 use flow_machine::verify::Totals;
 use flow_settings::settings::Settings;
 use std::process::ExitCode;
@@ -83,6 +83,8 @@ fn answer<T: Threads + Wait + Clock + Copy + Send + Drop + 'static>(
         Call::Replay { file, history } => done(replay(rt, file, history)),
         Call::Over("-", work) => done(over_memory(rt, work)),
         Call::Over(file, work) => done(over_file(rt, file, work)),
+        Call::Open("-") => done(open_memory_listed(rt)),
+        Call::Open(file) => done(open_file_listed(rt, file)),
         Call::Verify("-") => done(verify_memory(rt)),
         Call::Verify(file) => done(verify_file(rt, file)),
         Call::Work {
@@ -117,6 +119,22 @@ fn over_file(rt: &HostRuntime, file: &str, work: &Work) -> Result<u8, Early> {
 fn over_memory(rt: &HostRuntime, work: &Work) -> Result<u8, Early> {
     let mut engine = open_memory(rt, Settings::usual())?;
     early(performed(rt, &mut engine, work))
+}
+
+/// A file that isn't there has no open run, and none is made.
+fn open_file_listed(rt: &HostRuntime, file: &str) -> Result<u8, Early> {
+    if is_not_there(rt, file) {
+        return Ok(0);
+    }
+    let mut engine = open_file(rt, file, Settings::usual())?;
+    let outcome = listed(rt, &mut engine);
+    close_file(engine);
+    early(outcome)
+}
+
+fn open_memory_listed(rt: &HostRuntime) -> Result<u8, Early> {
+    let mut engine = open_memory(rt, Settings::usual())?;
+    early(listed(rt, &mut engine))
 }
 
 /// Writes what a verify found, or hands its fault on.

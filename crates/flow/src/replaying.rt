@@ -3,12 +3,12 @@ use crate::running::early;
 use crate::texts::{text_in, unread};
 use flow_base::fault::Fault;
 use flow_check::language::Language;
-use flow_cli::fault::fault_of_error;
-use flow_cli::output::Output;
 use flow_cli::reason::Early;
 use flow_cli::replaying::{Replayed, tell_mismatch, tell_replayed, write_replayed};
 use flow_cli::spelling::{Unspelled, lines_of_reply};
-use flow_cli::streams::Writing;
+use flow_lines::fault::fault_of_error;
+use flow_lines::output::Output;
+use flow_lines::streams::Writing;
 use std::{fs, io};
 
 /// Replays under a text the history whose reply this is.

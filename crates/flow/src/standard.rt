@@ -1,16 +1,19 @@
 //! What is done from standard input to standard output.
-ghost use Rattle.std.specs.Prelude.{◌≡◌, ◌⊎◌, None, IfOk, IfErr};
-ghost use Rattle.flow_cli.specs.Answering.{HasFew, IsFull, OfBatch, SomeAnswered, StatusWithin, StopsAmong};
-ghost use Rattle.flow_cli.specs.Faults.{fault_status};
-ghost use Rattle.flow_cli.specs.Histories.{TellsHistory};
-ghost use Rattle.flow_cli.specs.Stopping.{CausedFault, StoppedBy};
+ghost use Rattle.std.specs.Prelude.{◌≡◌, ◌⊎◌, ◌∷◌, [], ℕ, None, IfOk, IfErr};
+ghost use Rattle.flow_base.specs.declared.code.Code.TheVariants as codes;
+ghost use Rattle.flow_base.specs.declared.command.Command.TheVariants as commands;
+ghost use Rattle.flow_lines.specs.Answering.{HasFew, IsFull, OfBatch, SomeAnswered, StatusWithin, StopsAmong};
+ghost use Rattle.flow_lines.specs.Faults.{fault_status};
+ghost use Rattle.flow_cli.specs.Histories.{CausedUnwritten, TellsHistory};
+ghost use Rattle.flow_lines.specs.Stopping.{CausedFault, StoppedBy};
 ghost use Rattle.flow_cli.specs.Working.{OfWork};
 ghost use Rattle.flow.specs.Standard.{OverSome};
 
 use flow_base::fault::Fault;
-use flow_cli::fault::fault_of_error;
-use flow_cli::streams::{Reading, Writing};
+use flow_cli::listing::tell_open;
 use flow_cli::work::{Work, perform};
+use flow_lines::fault::fault_of_error;
+use flow_lines::streams::{Reading, Writing};
 use flow_machine::answer::Answering;
 use std::io;
 use std::io::BufReader;
@@ -44,4 +47,22 @@ pub fn performed<E: Answering>(rt: &HostRuntime, engine: &mut E, work: &Work) ->
     let mut input = Reading::new(reader);
     let mut output = Writing::new(io::writer(rt));
     perform(rt.alloc(), engine, &mut input, &mut output, work)
+}
+
+/// Lists the open runs to standard output. Nobody knows which bytes it takes, so nothing is said of them.
+///
+/// # Failure
+/// As of `tell_open`.
+pub fn listed<E: Answering>(rt: &HostRuntime, engine: &mut E) -> Result<u8, Fault>
+    ensures same { IfOk result (λ n. E.is_sure engine.new → E.book engine.new ≡ E.book engine.old) }
+    ensures status { IfOk result (λ n. n ≡ 0) }
+    ensures early { IfErr result (λ e. fault_status e ≡ 3) }
+    ensures cause { IfErr result (λ f. CausedUnwritten f ⊥
+        (E.is_sure engine.new → (from : ℕ) × E.gives_up engine.old engine.new (E.book engine.old) (commands.Open from 256 ∷ []) codes.StoreRefused)
+        (λ s. E.is_sure engine.new → (from : ℕ) × E.stops engine.old engine.new (E.book engine.old) (commands.Open from 256 ∷ []) s)) }
+    ensures sure { E.is_sure engine.new → E.is_sure engine.old }
+    ensures follows { (a : E) → E.follows a engine.old → E.follows a engine.new }
+{
+    let mut output = Writing::new(io::writer(rt));
+    tell_open(rt.alloc(), engine, &mut output)
 }

@@ -6,7 +6,7 @@ use flow_cli::check::tell_verdict;
 use flow_cli::reason::Early;
 use flow_cli::safety::tell_safety;
 use flow_cli::settlement::tell_settlement;
-use flow_cli::streams::Writing;
+use flow_lines::streams::Writing;
 use std::io::ErrorKind;
 use std::{fs, io};
 

@@ -1,6 +1,7 @@
+use crate::book::Timer;
 use crate::code::Code;
 use crate::event::{Event, State, Wrong};
-use crate::number::{EventId, Moment, RunId, TextNo};
+use crate::number::{EventId, Moment, Most, RunId, TextNo};
 use crate::sequence::Sequence;
 use crate::text::{Key, RawText, Text};
 use crate::value::Value;
@@ -26,6 +27,8 @@ pub enum Command {
     Upgrade(RunId, TextNo),
     Describe(RunId),
     History(RunId),
+    /// Which runs are open: from this number on, and so many at most.
+    Open(RunId, Most),
 }
 
 /// What is wrong with a text: the number of the rule, and the byte where it is broken.
@@ -49,6 +52,33 @@ pub struct Description {
     pub timers: Sequence<EventId>,
 }
 
+/// An open activity, told: the event that scheduled it, its name, its attempt from 1 up, and when that is ready.
+#[derive(Debug, Drop)]
+pub struct OpenTask {
+    pub event: EventId,
+    pub activity: Key,
+    pub attempt: u64,
+    pub ready: Moment,
+}
+
+/// An open run, told: what it waits for, and since when.
+#[derive(Debug, Drop)]
+pub struct OpenRun {
+    pub run: RunId,
+    pub flow: Key,
+    pub text: TextNo,
+    /// How many events its history has.
+    pub events: usize,
+    /// The moment of the last one.
+    pub at: Moment,
+    /// Its open activities in rising order of their events.
+    pub activities: Sequence<OpenTask>,
+    /// Its open timers in rising order of their events.
+    pub timers: Sequence<Timer>,
+    /// The signals that it waits for, in the order of its text; one for which two branches wait stands twice.
+    pub waits: Sequence<Key>,
+}
+
 /// What the engine answers.
 #[derive(Debug, Drop)]
 pub enum Reply {
@@ -68,6 +98,8 @@ pub enum Reply {
     Upgraded(RunId, TextNo),
     Run(Description),
     History(Sequence<Event>),
+    /// Open runs, rising, and the number of the next one where there are more.
+    Open(Sequence<OpenRun>, Option<RunId>),
     /// E60 to E70 but E68 and E69.
     Refused(Code),
     /// E10 to E29: the text breaks a rule.

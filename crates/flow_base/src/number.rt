@@ -131,6 +131,47 @@ impl EventId {
     }
 }
 
+/// How many open runs are listed together at most: 1 to 256.
+#[derive(Clone, Copy, Debug, PartialEq, Eq)]
+pub struct Most {
+    number: u64,
+}
+
+impl Model for Most {
+    ghost use Rattle.std.specs.Prelude.{ℕ, ◌≤◌};
+
+    ghost Value = { ℕ };
+
+    ghost view = { λ m. m.number };
+
+    ghost invariant = { λ m. (1 ≤ m.number) × (m.number ≤ 256) };
+
+    ghost inverse = { λ n. record { number = n } };
+}
+
+impl Most {
+    /// So many, from 1 to 256.
+    pub fn new(number: u64) -> Option<Most>
+        ensures valid { IsSome result ↔ ((1 ≤ number) × (number ≤ 256)) }
+        ensures value { IfSome result (λ m. m ≡ number) }
+    {
+        if number >= 1 && number <= 256 {
+            Some(Most { number })
+        } else {
+            None
+        }
+    }
+
+    /// How many, 1 to 256.
+    pub fn get(self) -> u64
+        ensures value { result ≡ self }
+        ensures first { 1 ≤ result }
+        ensures last { result ≤ 256 }
+    {
+        self.number
+    }
+}
+
 /// Milliseconds, from 0 to [`LAST_MOMENT`].
 #[derive(Clone, Copy, Debug, PartialEq, Eq)]
 pub struct Moment {

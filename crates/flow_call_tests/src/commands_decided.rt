@@ -3,8 +3,9 @@ use crate::commands_kept::{CALLS, STARTS, commands};
 use flow_base::command::{Command, Description, Reply};
 use flow_base::event::State;
 use flow_check::language::Language;
-use flow_cli::command::command_of;
-use flow_cli::reply::{Line, reply_line};
+use flow_lines::ask::asked_of;
+use flow_lines::command::command_of;
+use flow_lines::reply::{Line, reply_line};
 use flow_machine::decide::{decide, decide_all};
 use flow_machine::seats::Seats;
 use flow_programs::kept::Kept;
@@ -106,6 +107,139 @@ const FIRED: &[Row] = &[
     ),
 ];
 
+/// The texts of which the runs of [`LISTED`] are.
+const LISTS_TEXTS: &[Row] = &[
+    (
+        r#"{"ask":"open","from":1,"most":1}"#,
+        r#"{"reply":"open","runs":[]}"#,
+        0,
+    ),
+    (
+        r#"{"do":"register","src":"workflow r() { activity p(text) -> int; let r = 0; r = call p(\"eur\") retry 3 every 500; return r; }"}"#,
+        REGISTERED,
+        1,
+    ),
+    (
+        r#"{"do":"register","src":"workflow w() { signal s: int; let v = 0; v = wait signal s for 100 else { v = 1; }; return v; }"}"#,
+        r#"{"reply":"registered","text":2}"#,
+        1,
+    ),
+    (
+        r#"{"do":"register","src":"workflow s() { signal s: int; let v = 0; sleep 50; v = wait signal s; return v; }"}"#,
+        r#"{"reply":"registered","text":3}"#,
+        1,
+    ),
+];
+
+/// An attempt that fails is told by the next one. Runs are told from a number on, the number of the next one stands there exactly where
+/// there are more, and what is closed isn't listed.
+const LISTED: &[Row] = &[
+    (
+        r#"{"args":[],"at":1000,"do":"start","flow":"f1","req":"q1","text":1}"#,
+        STARTED,
+        1,
+    ),
+    (
+        r#"{"args":[],"at":1200,"do":"start","flow":"f2","req":"q2","text":2}"#,
+        r#"{"reply":"started","run":2}"#,
+        1,
+    ),
+    (
+        r#"{"args":[],"at":1200,"do":"start","flow":"f3","req":"q3","text":3}"#,
+        r#"{"reply":"started","run":3}"#,
+        1,
+    ),
+    (
+        r#"{"at":2000,"attempt":1,"do":"fail","event":2,"reason":"no","run":1}"#,
+        r#"{"attempt":2,"from":2500,"reply":"retry","run":1}"#,
+        1,
+    ),
+    (
+        r#"{"at":1250,"do":"tick"}"#,
+        r#"{"count":1,"more":false,"reply":"fired"}"#,
+        1,
+    ),
+    (
+        r#"{"ask":"open","from":1,"most":1}"#,
+        r#"{"next":2,"reply":"open","runs":[{"activities":[[2,"p",2,2500]],"at":1000,"events":2,"flow":"f1","run":1,"text":1,"timers":[],"waits":[]}]}"#,
+        0,
+    ),
+    (
+        r#"{"ask":"open","from":2,"most":2}"#,
+        r#"{"reply":"open","runs":[{"activities":[],"at":1200,"events":2,"flow":"f2","run":2,"text":2,"timers":[[2,1300]],"waits":["s"]},{"activities":[],"at":1250,"events":3,"flow":"f3","run":3,"text":3,"timers":[],"waits":["s"]}]}"#,
+        0,
+    ),
+    (
+        r#"{"at":1260,"do":"signal","flow":"f2","name":"s","req":"q4","value":5}"#,
+        r#"{"event":3,"reply":"recorded","run":2}"#,
+        1,
+    ),
+    (
+        r#"{"ask":"open","from":1,"most":1}"#,
+        r#"{"next":3,"reply":"open","runs":[{"activities":[[2,"p",2,2500]],"at":1000,"events":2,"flow":"f1","run":1,"text":1,"timers":[],"waits":[]}]}"#,
+        0,
+    ),
+    (
+        r#"{"ask":"open","from":2,"most":256}"#,
+        r#"{"reply":"open","runs":[{"activities":[],"at":1250,"events":3,"flow":"f3","run":3,"text":3,"timers":[],"waits":["s"]}]}"#,
+        0,
+    ),
+    (
+        r#"{"ask":"open","from":4,"most":1}"#,
+        r#"{"reply":"open","runs":[]}"#,
+        0,
+    ),
+];
+
+/// A signal that lies there isn't waited for, one for which two branches wait stands twice, and after an upgrade its text decides.
+const AWAITED: &[Row] = &[
+    (
+        r#"{"do":"register","src":"workflow s() { signal s: int; let v = 0; sleep 50; parallel { { v = wait signal s; v = wait signal s; } { v = wait signal s; } } }"}"#,
+        REGISTERED,
+        1,
+    ),
+    (
+        r#"{"args":[],"at":0,"do":"start","flow":"f","req":"q","text":1}"#,
+        STARTED,
+        1,
+    ),
+    (
+        r#"{"at":7,"do":"signal","flow":"f","name":"s","req":"a","value":1}"#,
+        r#"{"event":3,"reply":"recorded","run":1}"#,
+        1,
+    ),
+    (
+        r#"{"ask":"open","from":1,"most":1}"#,
+        r#"{"reply":"open","runs":[{"activities":[],"at":7,"events":3,"flow":"f","run":1,"text":1,"timers":[[2,50]],"waits":[]}]}"#,
+        0,
+    ),
+    (
+        r#"{"at":50,"do":"tick"}"#,
+        r#"{"count":1,"more":false,"reply":"fired"}"#,
+        1,
+    ),
+    (
+        r#"{"ask":"open","from":1,"most":1}"#,
+        r#"{"reply":"open","runs":[{"activities":[],"at":50,"events":4,"flow":"f","run":1,"text":1,"timers":[],"waits":["s","s"]}]}"#,
+        0,
+    ),
+    (
+        r#"{"do":"register","src":"workflow s() { signal s: int; signal t: int; let v = 0; sleep 50; v = wait signal s; v = wait signal t; }"}"#,
+        r#"{"reply":"registered","text":2}"#,
+        1,
+    ),
+    (
+        r#"{"do":"upgrade","run":1,"text":2}"#,
+        r#"{"reply":"upgraded","run":1,"text":2}"#,
+        1,
+    ),
+    (
+        r#"{"ask":"open","from":1,"most":1}"#,
+        r#"{"reply":"open","runs":[{"activities":[],"at":50,"events":4,"flow":"f","run":1,"text":2,"timers":[],"waits":["t"]}]}"#,
+        0,
+    ),
+];
+
 /// Whether a line of output is written so.
 pub fn is_line(alloc: Global, line: &Line, wanted: &str) -> bool {
     match reply_line(alloc, line) {
@@ -150,10 +284,18 @@ fn is_put(
     }
 }
 
+// What a line spells: a command, or the question for open runs.
+fn spelled(alloc: Global, line: &str) -> Option<Command> {
+    match command_of(alloc, line.as_bytes()) {
+        Ok(command) => Some(command),
+        Err(_fault) => asked_of(alloc, line.as_bytes()).ok(),
+    }
+}
+
 fn is_answered(alloc: Global, book: &mut Lists, line: &str, wanted: &str, changes: usize) -> bool {
-    match &command_of(alloc, line.as_bytes()) {
-        Ok(command) => is_put(alloc, book, command, wanted, changes),
-        Err(_fault) => false,
+    match &spelled(alloc, line) {
+        Some(command) => is_put(alloc, book, command, wanted, changes),
+        None => false,
     }
 }
 
@@ -188,6 +330,24 @@ const LISTS: &[&[Row]] = &[REPORTED, ENDED, FIRED];
 #[test]
 fn what_is_refused_changes_nothing(rt: HostRuntime) -> Result<(), Fail> {
     assert!(rt; first_other(rt.alloc(), LISTS) == 3);
+    Ok(())
+}
+
+// Whether the open runs of this book are listed so, behind the texts that its runs have.
+fn are_listed(alloc: Global) -> bool {
+    let mut book = Lists::new(alloc);
+    are_rows(alloc, &mut book, LISTS_TEXTS) && are_rows(alloc, &mut book, LISTED)
+}
+
+#[test]
+fn open_runs_are_listed(rt: HostRuntime) -> Result<(), Fail> {
+    assert!(rt; are_listed(rt.alloc()));
+    Ok(())
+}
+
+#[test]
+fn signals_that_are_waited_for_are_told(rt: HostRuntime) -> Result<(), Fail> {
+    assert!(rt; are_decided(rt.alloc(), AWAITED));
     Ok(())
 }
 

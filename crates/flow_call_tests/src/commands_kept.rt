@@ -2,7 +2,7 @@
 use flow_base::command::Command;
 use flow_base::number::{RunId, TextNo};
 use flow_check::language::Language;
-use flow_cli::command::command_of;
+use flow_lines::command::command_of;
 use flow_machine::decide::decide_all;
 use flow_machine::seats::Seats;
 use flow_programs::kept::Kept;

@@ -3,7 +3,7 @@ use flow_base::event::{Event, Input, What};
 use flow_base::number::EventId;
 use flow_check::check::check;
 use flow_check::checked::Checked;
-use flow_events::row::of_row;
+use flow_events::row::of_row_1;
 use flow_syntax::parse::parse;
 use std::alloc::Global;
 
@@ -34,7 +34,7 @@ pub fn program(alloc: Global, text: &str) -> Option<Checked> {
 pub fn event(alloc: Global, row: Row) -> Option<Event> {
     let (id, kind, body) = row;
     let id = EventId::new(id)?;
-    of_row(alloc, id, kind, body).ok()
+    of_row_1(alloc, id, kind, body).ok()
 }
 
 /// The events of these rows.

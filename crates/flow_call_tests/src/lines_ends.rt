@@ -1,16 +1,16 @@
 //! Inputs and outputs that fail, and the order in which they are asked.
 ghost use Rattle.std.specs.Prelude.{◌≡◌};
-ghost use Rattle.flow_cli.specs.Ends.{unwritten_failed, unwritten_ran_out};
+ghost use Rattle.flow_lines.specs.Ends.{unwritten_failed, unwritten_ran_out};
 
 use crate::lines_deciding::over_lists;
 use flow_base::fault::Fault;
 use flow_base::memory::NoMemory;
-use flow_cli::batch::BatchSize;
-use flow_cli::drive::drive_lines;
-use flow_cli::input::{Input, Unread};
-use flow_cli::output::{Output, Unwritten};
-use flow_cli::reply::Line;
-use flow_cli::streams::Reading;
+use flow_lines::batch::BatchSize;
+use flow_lines::drive::drive_lines;
+use flow_lines::input::{Input, Unread};
+use flow_lines::output::{Output, Unwritten};
+use flow_lines::reply::Line;
+use flow_lines::streams::Reading;
 use std::alloc::Global;
 use std::cell::Cell;
 use std::test::Fail;
@@ -111,12 +111,12 @@ impl<'a> Output for Counting<'a> {
 
     ghost ran_out = { λ c. c.ran_out };
 
-    #[tactic(auto, using(flow_cli::proofs::Endings::none_written))]
+    #[tactic(auto, using(flow_lines::proofs::Endings::none_written))]
     fn put(&mut self, _bytes: &[u8]) -> Result<(), Unwritten> {
         Ok(())
     }
 
-    #[tactic(auto, using(flow_cli::proofs::Endings::none_written))]
+    #[tactic(auto, using(flow_lines::proofs::Endings::none_written))]
     fn put_line(&mut self, _alloc: Global, _line: &Line) -> Result<(), Unwritten> {
         let count = self.written.get();
         if count >= self.most_lines {

@@ -5,7 +5,7 @@ use Rattle.clap.proofs.WalkLemmas.{first_value-rows}
 use Rattle.clap.specs.Words.{Text, fault_of, first_of, first_value, rows_of}
 use Rattle.clap.specs.declared.error.kind.ErrorKind.TheVariants as kind
 use Rattle.clap.specs.declared.parser.matches.Found.{Found}
-use Rattle.flow_cli.specs.Calls.{flow, call_in, Check, Safe, Settle, Replay, Drive, History, Verify, Work, Serve}
+use Rattle.flow_cli.specs.Calls.{flow, call_in, Check, Safe, Settle, Replay, Drive, History, Open, Verify, Work, Serve}
 
 pub first_in_rows : (f : Found) (id : Text) → first_value f id ≡ first_of id (rows_of f)
 first_in_rows f id = first_value-rows f id
@@ -77,6 +77,14 @@ replay_is_taken = refl
 replay_says : call_in (codes "flow" ∷ codes "replay" ∷ codes "a" ∷ codes "-" ∷ []) ≡ Some (Replay (codes "a") (codes "-"))
 unfolding clap_on_literals
 replay_says = refl
+
+open_is_taken : fault_of flow (codes "flow" ∷ codes "open" ∷ codes "a" ∷ []) ≡ []
+unfolding clap_on_literals
+open_is_taken = refl
+
+open_says : call_in (codes "flow" ∷ codes "open" ∷ codes "a" ∷ []) ≡ Some (Open (codes "a"))
+unfolding clap_on_literals
+open_says = refl
 
 verify_is_taken : fault_of flow (codes "flow" ∷ codes "verify" ∷ codes "a" ∷ []) ≡ []
 unfolding clap_on_literals

@@ -6,7 +6,7 @@ use Rattle.std.specs.Str.Parse.{IsNumeral, digits_value, without_leading_plus}
 use Rattle.clap.specs.ValueTests.{is_unsigned_in}
 use Rattle.clap.proofs.ValueTestLemmas.{accepts-Accepts, Accepts-accepts}
 use Rattle.clap.specs.declared.builder.value_parser.ValueParser.TheVariants as vp
-use Rattle.flow_cli.proofs.Lines.{by_test}
+use Rattle.flow_lines.proofs.Lines.{by_test}
 use Rattle.flow_cli.specs.Calls.{number_in}
 
 -- a number that was read is named where it is within

@@ -6,7 +6,7 @@ use Rattle.clap.specs.Simple.{on_top}
 use Rattle.clap.specs.ValueTests.{is_unsigned_in}
 use Rattle.std.specs.Str.Parse.{digits_value, without_leading_plus}
 
--- ---- the program: `flow check FILE`, `flow drive DB [--batch N]`, `flow history DB RUN`, `flow replay FILE HISTORY`,
+-- ---- the program: `flow check FILE`, `flow drive DB [--batch N]`, `flow history DB RUN`, `flow open DB`, `flow replay FILE HISTORY`,
 -- ---- `flow safe OLD NEW`, `flow serve DB [--settings FILE]`, `flow settle OLD NEW`, `flow verify DB` and `flow work DB [--settings FILE] [--leave-unknown]`
 
 -- an argument with one value, which has to be there
@@ -56,6 +56,10 @@ history = with_rule (with_rule (new_app (codes "history")) base) run
 abbrev pub verify : App
 verify = with_rule (new_app (codes "verify")) base
 
+-- the call `open`
+abbrev pub listing : App
+listing = with_rule (new_app (codes "open")) base
+
 -- the file with the settings, which may be left out
 abbrev pub settings : Rule
 settings = record (new_rule (codes "settings")) { long = Some (codes "settings"); action = Some Set }
@@ -84,7 +88,7 @@ over_lines = with_subcommand (with_subcommand over_files drive.top) history.top
 
 -- with all that answer what is asked and end
 abbrev pub answering : App
-answering = with_subcommand over_lines verify.top
+answering = with_subcommand (with_subcommand over_lines verify.top) listing.top
 
 -- with all calls
 abbrev pub flow : App
@@ -99,6 +103,7 @@ pub data Call : Type 0 where
   Replay : (file history : Text) → Call
   Drive : Text → ℕ → Call
   History : Text → ℕ → Call
+  Open : Text → Call
   Verify : Text → Call
   Work : Text → Option Text → Bool → Call
   Serve : Text → Option Text → Call
@@ -144,12 +149,13 @@ named_call name rows =
     if bytes_eq name (codes "check") then option_map Check (first_of (codes "FILE") rows) else
     (if bytes_eq name (codes "drive") then drive_in rows else
     (if bytes_eq name (codes "history") then history_in rows else
+    (if bytes_eq name (codes "open") then option_map Open (first_of (codes "DB") rows) else
     (if bytes_eq name (codes "replay") then replay_in rows else
     (if bytes_eq name (codes "safe") then safe_in rows else
     (if bytes_eq name (codes "serve") then serve_in rows else
     (if bytes_eq name (codes "settle") then settle_in rows else
     (if bytes_eq name (codes "verify") then option_map Verify (first_of (codes "DB") rows) else
-    (if bytes_eq name (codes "work") then work_in rows else None))))))))
+    (if bytes_eq name (codes "work") then work_in rows else None)))))))))
 
 -- the call that clap's matches of the words are
 abbrev pub call_in : List Text → Option Call

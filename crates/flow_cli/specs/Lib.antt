@@ -1,8 +1,5 @@
-pub mod Faults
 pub mod Calls
 pub mod Shown
-pub mod Commands
-pub mod Replies
 pub mod Usages
 pub mod Places
 pub mod Reasons
@@ -10,14 +7,10 @@ pub mod Verdicts
 pub mod Changes
 pub mod Safety
 pub mod Settlements
-pub mod Driving
-pub mod Ends
-pub mod Answering
-pub mod Stopping
 pub mod Histories
+pub mod Listings
 pub mod Ending
 pub mod Working
 pub mod Totals
-pub mod Tasks
 pub mod Spelling
 pub mod Replaying

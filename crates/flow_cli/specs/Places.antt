@@ -1,7 +1,7 @@
 -- Where in a text a byte is, and the line of it with a mark below.
 use Rattle.std.specs.Prelude.{◌≡◌, ◌⊎◌, ℕ, Bool, true, Option, ◌+◌, ◌-◌, List, [], ◌∷◌, ◌++◌, max, take, drop, length, leb, ltb, not, ◌||◌, ◌&&◌, ◌==◌, if◌then◌else◌, codes, decimal}
 use Rattle.std.specs.Io.KnownBytes.{Appends}
-use Rattle.flow_cli.specs.Driving.{WritesBeginning}
+use Rattle.flow_lines.specs.Driving.{WritesBeginning}
 use Rattle.flow_cli.specs.declared.place.Spot.{Spot}
 use Rattle.flow_cli.specs.declared.place.Window.{Window}
 

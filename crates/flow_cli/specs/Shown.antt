@@ -12,6 +12,7 @@ shown (call.Settle old new) = pure.Settle old.now new.now
 shown (call.Replay file history) = pure.Replay file.now history.now
 shown (call.Over base (work.Drive most)) = pure.Drive base.now most
 shown (call.Over base (work.History run)) = pure.History base.now run
+shown (call.Open base) = pure.Open base.now
 shown (call.Verify base) = pure.Verify base.now
 shown (call.Work base settings leave_unknown) = pure.Work base.now (option_map (λ t. t.now) settings) leave_unknown
 shown (call.Serve base settings) = pure.Serve base.now (option_map (λ t. t.now) settings)

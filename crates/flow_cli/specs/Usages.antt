@@ -13,10 +13,11 @@ call_name call.Drive = codes "drive"
 call_name call.Work = codes "work"
 call_name call.Serve = codes "serve"
 call_name call.History = codes "history"
+call_name call.Open = codes "open"
 call_name call.Verify = codes "verify"
 
 abbrev pub calls : List CallName
-calls = call.Check ∷ call.Safe ∷ call.Settle ∷ call.Replay ∷ call.Drive ∷ call.Work ∷ call.Serve ∷ call.History ∷ call.Verify ∷ []
+calls = call.Check ∷ call.Safe ∷ call.Settle ∷ call.Replay ∷ call.Drive ∷ call.Work ∷ call.Serve ∷ call.History ∷ call.Open ∷ call.Verify ∷ []
 
 -- the call that begins with this word
 abbrev pub call_named : List ℕ → Option CallName
@@ -38,6 +39,7 @@ call_words call.Drive = codes "DB [--batch N]"
 call_words call.Work = codes "DB [--settings FILE] [--leave-unknown]"
 call_words call.Serve = codes "DB [--settings FILE]"
 call_words call.History = codes "DB RUN"
+call_words call.Open = codes "DB"
 call_words call.Verify = codes "DB"
 
 -- a line for each of these calls

@@ -3,17 +3,17 @@ ghost use Rattle.std.specs.Prelude.{◌≡◌, ◌⊎◌, IfOk, IfErr, false, ma
 ghost use Rattle.clap.specs.Words.{app_of, rule_of, found_of, rows_of, first_of, subcommand_rows_of};
 ghost use Rattle.clap.specs.declared.builder.command.Command.TheViews.{out-Command as fields_of};
 ghost use Rattle.clap.specs.declared.error.kind.ErrorKind.TheVariants.{OutOfMemory};
-ghost use Rattle.flow_cli.specs.Calls.{flow, answering, over_lines, over_files, over_texts, check, safe, settle, replay, drive, history, verify, work, serve, settings, leave_unknown, needed, batch, run_in, batch_in, safe_in, settle_in, replay_in, drive_in, history_in, is_set, work_in, serve_in, named_call, IsCall};
+ghost use Rattle.flow_cli.specs.Calls.{flow, answering, over_lines, over_files, over_texts, check, safe, settle, replay, drive, history, listing, verify, work, serve, settings, leave_unknown, needed, batch, run_in, batch_in, safe_in, settle_in, replay_in, drive_in, history_in, is_set, work_in, serve_in, named_call, IsCall};
 ghost use Rattle.flow_cli.specs.Calls.{Call as Pure};
 ghost use Rattle.flow_cli.specs.Shown.{shown};
 
-use crate::batch::BatchSize;
 use crate::work::Work;
 use clap::error::ErrorKind;
 use clap::{Arg, ArgAction, ArgMatches, Command};
 use flow_base::fault::Fault;
 use flow_base::memory::NoMemory;
 use flow_base::number::RunId;
+use flow_lines::batch::BatchSize;
 use std::alloc::{AllocError, Global};
 use std::convert::AsStr;
 
@@ -39,6 +39,8 @@ pub enum Call<'a> {
     },
     /// Do this over this store; `-` is a store in memory, which begins with no run.
     Over(&'a str, Work),
+    /// List the open runs of this store; `-` is a store in memory, which has none.
+    Open(&'a str),
     /// Replay each run of this store, closed ones too; `-` is a store in memory, which has none.
     Verify(&'a str),
     /// Keep an engine running over this store, by the settings in that file; `-` is a store in memory. Activities that the program
@@ -143,6 +145,13 @@ fn verify_command<'a>(alloc: Global) -> Result<Command<'a>, AllocError>
     Ok(Command::new(alloc, "verify").arg(needed_arg(alloc, "DB"))?)
 }
 
+fn open_command<'a>(alloc: Global) -> Result<Command<'a>, AllocError>
+    ensures app { IfOk result (λ c. app_of c ≡ listing) }
+    ensures local { IfOk result (λ c. (fields_of c).has_globals ≡ false) }
+{
+    Ok(Command::new(alloc, "open").arg(needed_arg(alloc, "DB"))?)
+}
+
 /// The file with the settings; it may be left out.
 fn settings_arg<'a>(alloc: Global) -> Arg<'a>
     ensures rule { rule_of result ≡ settings }
@@ -225,8 +234,9 @@ fn answering_command<'a>(alloc: Global) -> Result<Command<'a>, AllocError>
     ensures app { IfOk result (λ c. app_of c ≡ answering) }
 {
     let verify = verify_command(alloc)?;
+    let open = open_command(alloc)?;
     let lines = line_command(alloc)?;
-    Ok(lines.subcommand(verify)?)
+    Ok(lines.subcommand(verify)?.subcommand(open)?)
 }
 
 /// The program with all calls.
@@ -347,6 +357,10 @@ fn named_call<'a>(name: &str, found: &ArgMatches<'a>) -> Option<Call<'a>>
         },
         "drive" => drive_call(found),
         "history" => history_call(found),
+        "open" => match text_of(found, "DB") {
+            Some(base) => Some(Call::Open(base)),
+            None => None,
+        },
         "replay" => replay_call(found),
         "safe" => safe_call(found),
         "serve" => serve_call(found),

@@ -1,17 +1,17 @@
 //! What `flow check` says of a text.
 ghost use Rattle.std.specs.Prelude.{◌≡◌, ◌⊎◌, ◌++◌, ◌∷◌, [], Bool, IfOk, IfErr, string_bytes};
 ghost use Rattle.std.specs.Io.KnownBytes.{Appends};
-ghost use Rattle.flow_cli.specs.Answering.{WritesPart};
-ghost use Rattle.flow_cli.specs.Ends.{input_failed, output_failed};
-ghost use Rattle.flow_cli.specs.Faults.{fault_status};
+ghost use Rattle.flow_lines.specs.Answering.{WritesPart};
+ghost use Rattle.flow_lines.specs.Ends.{input_failed, output_failed};
+ghost use Rattle.flow_lines.specs.Faults.{fault_status};
 ghost use Rattle.flow_cli.specs.Places.{IsMarked};
 ghost use Rattle.flow_cli.specs.Verdicts.{verdict_mark, verdict_of, verdict_text, verdict_status};
 
-use crate::output::Output;
 use crate::place::{mark, write_marked};
 use flow_base::command::TextFault;
 use flow_base::fault::Fault;
 use flow_base::text::RawText;
+use flow_lines::output::Output;
 use flow_model::texts::Texts;
 use std::alloc::{AllocError, Global};
 
@@ -73,7 +73,7 @@ pub fn check_text<T: Texts>(alloc: Global, texts: &T, text: &str) -> Result<Verd
 ///
 /// # Failure
 /// Each has the status 3: E01, and E95 where a write failed.
-#[tactic(auto, using(crate::proofs::Endings::same_kept))]
+#[tactic(auto, using(flow_lines::proofs::Endings::same_kept))]
 pub fn tell_verdict<T: Texts, O: Output, P: Output>(
     alloc: Global,
     texts: &T,

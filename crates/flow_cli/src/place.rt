@@ -1,14 +1,14 @@
 //! Where in a text a byte is, and the line of it with a mark below.
 ghost use Rattle.std.specs.Prelude.{◌≡◌, ◌+◌, ◌-◌, ◌^◌, ◌<◌, ◌≤◌, ◌++◌, ◌∷◌, [], Bool, length, if◌then◌else◌, IfOk, IfErr, OnOk, string_bytes};
 ghost use Rattle.std.specs.Io.KnownBytes.{Appends};
-ghost use Rattle.flow_cli.specs.Answering.{WritesPart};
-ghost use Rattle.flow_cli.specs.Ends.{input_failed, output_failed};
-ghost use Rattle.flow_cli.specs.Faults.{fault_status};
+ghost use Rattle.flow_lines.specs.Answering.{WritesPart};
+ghost use Rattle.flow_lines.specs.Ends.{input_failed, output_failed};
+ghost use Rattle.flow_lines.specs.Faults.{fault_status};
 ghost use Rattle.flow_cli.specs.Places.{IsMarked, begins_char, between, blanks_of, first_line, mark_text, marked_line, spot_at, window_of};
 
-use crate::drive::write_text;
-use crate::output::Output;
 use flow_base::fault::Fault;
+use flow_lines::drive::write_text;
+use flow_lines::output::Output;
 use std::alloc::{AllocError, Global};
 
 /// The most characters of a line that is shown as a whole.

@@ -2,17 +2,17 @@
 ghost use Rattle.std.specs.Prelude.{◌≡◌, ◌↔◌, ◌⊎◌, ◌++◌, ◌∷◌, [], Bool, IfOk, IfErr, string_bytes};
 ghost use Rattle.std.specs.Io.KnownBytes.{Appends};
 ghost use Rattle.flow_model.specs.Checked.{shown_checked};
-ghost use Rattle.flow_cli.specs.Answering.{WritesPart};
-ghost use Rattle.flow_cli.specs.Ends.{input_failed, output_failed};
-ghost use Rattle.flow_cli.specs.Faults.{fault_status};
+ghost use Rattle.flow_lines.specs.Answering.{WritesPart};
+ghost use Rattle.flow_lines.specs.Ends.{input_failed, output_failed};
+ghost use Rattle.flow_lines.specs.Faults.{fault_status};
 ghost use Rattle.flow_cli.specs.Places.{IsMarked};
 ghost use Rattle.flow_cli.specs.Safety.{of_difference, safety_marks, safety_of, safety_status, safety_text, MeansWrap};
 ghost use Rattle.flow_patch.specs.Difference.{first_difference};
 
 use crate::change::{Broken, read_both};
-use crate::output::Output;
 use crate::place::{mark, write_marked};
 use flow_base::fault::Fault;
+use flow_lines::output::Output;
 use flow_model::checked::Checked;
 use flow_model::texts::Texts;
 use flow_patch::change::safe_change;
@@ -95,7 +95,7 @@ pub fn compare_texts<T: Texts>(
 ///
 /// # Failure
 /// Each has the status 3: E01, and E95 where a write failed.
-#[tactic(auto, using(crate::proofs::Endings::same_kept))]
+#[tactic(auto, using(flow_lines::proofs::Endings::same_kept))]
 pub fn tell_safety<T: Texts, O: Output, P: Output>(
     alloc: Global,
     texts: &T,

@@ -5,19 +5,19 @@ ghost use Rattle.serde_json.specs.Data.{string};
 ghost use Rattle.serde_json.specs.View.{view};
 ghost use Rattle.serde_json.specs.Written.{compact_text};
 ghost use Rattle.flow_model.specs.Checked.{shown_checked};
-ghost use Rattle.flow_cli.specs.Answering.{WritesPart};
-ghost use Rattle.flow_cli.specs.Ends.{input_failed, output_failed};
-ghost use Rattle.flow_cli.specs.Faults.{fault_status};
+ghost use Rattle.flow_lines.specs.Answering.{WritesPart};
+ghost use Rattle.flow_lines.specs.Ends.{input_failed, output_failed};
+ghost use Rattle.flow_lines.specs.Faults.{fault_status};
 ghost use Rattle.flow_cli.specs.Places.{IsMarked};
 ghost use Rattle.flow_cli.specs.Settlements.{ids_out, settlement_marks, settlement_of, settlement_status, settlement_text, MeansSettled};
 
 use crate::change::{Broken, read_both};
-use crate::output::Output;
 use crate::place::write_marked;
 use crate::safety::Safety;
 use flow_base::fault::Fault;
 use flow_base::sequence::Sequence;
 use flow_base::text::Key;
+use flow_lines::output::Output;
 use flow_model::checked::Checked;
 use flow_model::texts::Texts;
 use flow_patch::fault::{Unsafe, Unsettled};
@@ -131,7 +131,7 @@ pub fn settle_texts<T: Texts>(
 ///
 /// # Failure
 /// Each has the status 3: E01, and E95 where a write failed.
-#[tactic(auto, using(crate::proofs::Endings::same_kept))]
+#[tactic(auto, using(flow_lines::proofs::Endings::same_kept))]
 pub fn tell_settlement<T: Texts, O: Output, P: Output>(
     alloc: Global,
     texts: &T,

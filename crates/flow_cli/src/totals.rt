@@ -1,14 +1,14 @@
 //! What `flow verify` says of a store whose runs all replay.
 ghost use Rattle.std.specs.Prelude.{◌≡◌, ◌⊎◌, ◌++◌, ◌∷◌, [], Bool, IfOk, IfErr, string_bytes};
 ghost use Rattle.std.specs.Io.KnownBytes.{Appends};
-ghost use Rattle.flow_cli.specs.Answering.{WritesPart};
-ghost use Rattle.flow_cli.specs.Ends.{input_failed, output_failed};
-ghost use Rattle.flow_cli.specs.Faults.{fault_status};
+ghost use Rattle.flow_lines.specs.Answering.{WritesPart};
+ghost use Rattle.flow_lines.specs.Ends.{input_failed, output_failed};
+ghost use Rattle.flow_lines.specs.Faults.{fault_status};
 ghost use Rattle.flow_cli.specs.Totals.{totals_text};
 
-use crate::drive::write_text;
-use crate::output::Output;
 use flow_base::fault::Fault;
+use flow_lines::drive::write_text;
+use flow_lines::output::Output;
 use flow_machine::verify::Totals;
 use std::alloc::{AllocError, Global};
 
@@ -26,7 +26,7 @@ pub fn totals_line(alloc: Global, totals: &Totals) -> Result<String, AllocError>
 ///
 /// # Failure
 /// Each has the status 3: E01, and E95 where a write failed.
-#[tactic(auto, using(crate::proofs::Endings::same_kept))]
+#[tactic(auto, using(flow_lines::proofs::Endings::same_kept))]
 pub fn tell_totals<O: Output>(alloc: Global, output: &mut O, totals: &Totals) -> Result<u8, Fault>
     ensures told { IfOk result (λ n. Appends (O.contents output.old) (O.contents output.new) (totals_text totals.now ++ 10 ∷ [])) }
     ensures status { IfOk result (λ n. n ≡ 0) }

@@ -13,6 +13,7 @@ pub enum CallName {
     Work,
     Serve,
     History,
+    Open,
     Verify,
 }
 
@@ -30,6 +31,7 @@ impl CallName {
             "work" => Some(CallName::Work),
             "serve" => Some(CallName::Serve),
             "history" => Some(CallName::History),
+            "open" => Some(CallName::Open),
             "verify" => Some(CallName::Verify),
             _ => None,
         }
@@ -49,6 +51,7 @@ pub fn usage(call: Option<CallName>) -> &'static str
         Some(CallName::Work) => "  flow work DB [--settings FILE] [--leave-unknown]\n",
         Some(CallName::Serve) => "  flow serve DB [--settings FILE]\n",
         Some(CallName::History) => "  flow history DB RUN\n",
+        Some(CallName::Open) => "  flow open DB\n",
         Some(CallName::Verify) => "  flow verify DB\n",
         None => {
             "  flow check FILE\n\
@@ -59,6 +62,7 @@ pub fn usage(call: Option<CallName>) -> &'static str
             \x20 flow work DB [--settings FILE] [--leave-unknown]\n\
             \x20 flow serve DB [--settings FILE]\n\
             \x20 flow history DB RUN\n\
+            \x20 flow open DB\n\
             \x20 flow verify DB\n"
         }
     }

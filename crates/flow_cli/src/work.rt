@@ -2,21 +2,21 @@
 ghost use Rattle.std.specs.Prelude.{◌≡◌, ◌⊎◌, ◌∷◌, [], ℕ, true, IfOk, IfErr, IfSome};
 ghost use Rattle.flow_base.specs.declared.code.Code.TheVariants as codes;
 ghost use Rattle.flow_base.specs.declared.command.Command.TheVariants as commands;
-ghost use Rattle.flow_cli.specs.Answering.{AllAnswered, HasFew, IsFull, OfBatch, SomeAnswered, StatusWithin, StopsAmong, StopsWithin};
-ghost use Rattle.flow_cli.specs.Driving.{lines_of};
-ghost use Rattle.flow_cli.specs.Ends.{input_failed, output_failed};
-ghost use Rattle.flow_cli.specs.Faults.{fault_status};
+ghost use Rattle.flow_lines.specs.Answering.{AllAnswered, HasFew, IsFull, OfBatch, SomeAnswered, StatusWithin, StopsAmong, StopsWithin};
+ghost use Rattle.flow_lines.specs.Driving.{lines_of};
+ghost use Rattle.flow_lines.specs.Ends.{input_failed, output_failed};
+ghost use Rattle.flow_lines.specs.Faults.{fault_status};
 ghost use Rattle.flow_cli.specs.Histories.{TellsHistory, BeginsHistory, HasNoRun, CausedUnwritten};
-ghost use Rattle.flow_cli.specs.Stopping.{CausedFault, StoppedBy};
+ghost use Rattle.flow_lines.specs.Stopping.{CausedFault, StoppedBy};
 ghost use Rattle.flow_cli.specs.Working.{OfWork};
 
-use crate::batch::BatchSize;
-use crate::drive::drive_lines;
 use crate::history::tell_history;
-use crate::input::Input;
-use crate::output::Output;
 use flow_base::fault::Fault;
 use flow_base::number::RunId;
+use flow_lines::batch::BatchSize;
+use flow_lines::drive::drive_lines;
+use flow_lines::input::Input;
+use flow_lines::output::Output;
 use flow_machine::answer::Answering;
 use std::alloc::Global;
 

@@ -17,7 +17,7 @@ use Rattle.flow_commit.proofs.Following.{fit_before, keeps_behind, up_before}
 
 -- an open connection keeps one book
 pub one_kept : {S : Type 0} (g : Ghosts S) (t : Stored S) (b c : Book) → IsUp g t → Keeps (state_of g t) b → Keeps (state_of g t) c → b ≡ c
-one_kept g t b c up keeps_b keeps_c = sym (told (tables_in (state_of g t).committed.trees) b (keeps_b.kept up).1) ∙ told (tables_in (state_of g t).committed.trees) c (keeps_c.kept up).1
+one_kept g t b c up keeps_b keeps_c = sym (told (tables_in (state_of g t).committed) b (keeps_b.kept up).1) ∙ told (tables_in (state_of g t).committed) c (keeps_c.kept up).1
 
 pub fewer : (b : Book) (old new : Entries) → IsWithin old new → AllHave (ReachedIn meaning_of b) old → AllHave (ReachedIn meaning_of b) new
 fewer b old new within all run e there = all run e (within (run, e) there)

@@ -49,7 +49,7 @@ pub record IsUnopened {S : Type 0} (g : Ghosts S) (from to : State) (f : Fault) 
   -- E01, E68 and E80 to E83 alone are told: E82 and E83 only where the tables say so.
   pub among : IsOfRecovery f
   pub version : HasCleanDisk to → f ≡ fault.BadVersion → HasOtherFormat g to
-  pub damaged : HasCleanDisk to → (HasCleanDisk from → HasTables from.committed) → IsFirstDamage is_program (tables_in from.committed.trees) f
+  pub damaged : HasCleanDisk to → (HasCleanDisk from → HasTables from.committed) → IsFirstDamage is_program (tables_in from.committed) f
   pub cause : HasCleanDisk to → HasCause g f
   -- Over our tables, or none, E80 comes of the disk or of a limit on steps, E81 of such a limit or of a text that isn't UTF-8.
   pub why : HasCleanDisk to → IsOurs from → StopsOpening g from to f

@@ -31,3 +31,4 @@ pub mod Stepping
 pub mod Taking
 pub mod OneMoreCommand
 pub mod Replaying
+pub mod OpenRuns

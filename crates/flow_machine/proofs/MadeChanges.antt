@@ -31,7 +31,7 @@ use Rattle.flow_model.specs.Turned.{turned, position_by_inputs}
 use Rattle.flow_model.specs.Open.{timers_left, state_of, moment_of}
 use Rattle.flow_model.specs.Verdict.{verdict}
 use Rattle.flow_model.specs.Book.{Book, nth, text_number, requested, open_run, signalled}
-use Rattle.flow_model.specs.Apply.{Rules, Outcome, says, none_there, must_be, must_hold, tested, if_sound, program_if, program_at, first_turn, continued, run_from, next_run, history_limit, turn_made, recorded, input_recorded, report_refusal, tries_of, failure_refusal, on_program, register, start, signal_recorded, signal, complete, ready_after, retried, attempt_failed, fail, terminated, terminate, if_stands, upgrade, describe, history, outcome, fired, tick}
+use Rattle.flow_model.specs.Apply.{Rules, Outcome, says, none_there, must_be, must_hold, tested, if_sound, program_if, program_at, first_turn, continued, run_from, next_run, history_limit, turn_made, recorded, input_recorded, report_refusal, tries_of, failure_refusal, on_program, register, start, signal_recorded, signal, complete, ready_after, retried, attempt_failed, fail, terminated, terminate, if_stands, upgrade, describe, history, list_open, outcome, fired, tick}
 
 -- the moment of a turn that a run takes
 abbrev pub now_of : Run → ℕ → ℕ
@@ -256,6 +256,10 @@ module _ (u : Rules) (b : Book) (Q : List Change → Type 0) (c : CoversTurns u 
     unfolding history
     history_has n = must_be_has (nth b.runs n) NoRun (λ r. says (reply.History r.history)) (λ r there. c.nothing)
 
+    list_has : (from most : ℕ) → Has (list_open u.program_of b from most)
+    unfolding list_open
+    list_has from most = c.nothing
+
     -- Each command but a tick, whose firings change the book between them.
     pub changes_have : ((at : ℕ) → Has (tick u b at)) → (x : Command) → Has (outcome u b x)
     unfolding outcome
@@ -269,3 +273,4 @@ module _ (u : Rules) (b : Book) (Q : List Change → Type 0) (c : CoversTurns u 
     changes_have ticks (command.Upgrade run text) = upgrade_has run text
     changes_have ticks (command.Describe run) = describe_has run
     changes_have ticks (command.History run) = history_has run
+    changes_have ticks (command.Open from most) = list_has from most

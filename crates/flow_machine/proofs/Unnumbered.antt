@@ -28,7 +28,7 @@ use Rattle.flow_machine.specs.Fitting.{HasUnfit}
 use Rattle.flow_machine.specs.Soundness.{TextsRead}
 use Rattle.flow_machine.specs.Stuck.{unless_there, where_there, where_holds, needs, IsFull, StuckRegister, StuckStart, IsStuck}
 use Rattle.flow_machine.specs.Welcome.{IsUnnumbered, StuckUnnumbered}
-use Rattle.flow_machine.proofs.Unstuck.{text_reads, signal_goes_on, complete_goes_on, fail_goes_on, upgrade_goes_on}
+use Rattle.flow_machine.proofs.Unstuck.{text_reads, signal_goes_on, complete_goes_on, fail_goes_on, upgrade_goes_on, list_goes_on}
 use Rattle.flow_machine.proofs.TicksStand.{tick_goes_on}
 
 ---- A start whose arguments fit has a first turn
@@ -127,3 +127,4 @@ stuck_unnumbered u b (command.Terminate run reason at) reads h stuck = absurd st
 stuck_unnumbered u b (command.Upgrade run text) reads h stuck = absurd (upgrade_goes_on u b run text reads stuck)
 stuck_unnumbered u b (command.Describe run) reads h stuck = absurd stuck
 stuck_unnumbered u b (command.History run) reads h stuck = absurd stuck
+stuck_unnumbered u b (command.Open from most) reads h stuck = absurd (list_goes_on u b from most h stuck)

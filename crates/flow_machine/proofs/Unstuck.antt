@@ -1,5 +1,5 @@
 -- Over a sound book nothing but the end of the numbers keeps a command from being decided.
-use Rattle.std.proofs.Common.{◌≡◌, ℕ, ◌-◌, List, length, refl, sym, ap, ◌∙◌, subst, Option, Some, None, Bool, true, false, inl, inr, ⊎_elim}
+use Rattle.std.proofs.Common.{◌≡◌, ℕ, ◌-◌, List, [], ◌∷◌, length, take, refl, sym, ap, ◌∙◌, subst, Option, Some, None, Bool, true, false, inl, inr, ⊎_elim}
 use Rattle.std.specs.Prelude.{nat_eq, nat_lt}
 use Rattle.std.proofs.lemmas.Option.{none-some, same_Some}
 use Rattle.flow_base.specs.Syntax.{Bytes, Program}
@@ -14,18 +14,19 @@ use Rattle.flow_model.specs.Configuration.{is_open}
 use Rattle.flow_model.specs.Deliver.{all_fit, has_kind}
 use Rattle.flow_model.specs.Open.{state_of}
 use Rattle.flow_model.specs.Stands.{Stands}
-use Rattle.flow_model.specs.Book.{Book, nth, text_number, requested, open_run, signalled}
+use Rattle.flow_model.specs.Book.{Book, nth, text_number, requested, open_run, open_runs, signalled}
 use Rattle.flow_model.specs.Apply.{Rules, program_if, program_at, on_task, refuse_unless, task_at, gives_kind, report_refusal, failure_refusal, tries_of}
 use Rattle.flow_model.specs.Sound.{IsSoundRun, IsSound}
 use Rattle.flow_model.proofs.Chains.{not_both}
 use Rattle.flow_model.specs.Sound.{IsProgram}
 use Rattle.flow_machine.specs.Soundness.{TextsRead, NumbersEnd, SoundDecides}
-use Rattle.flow_machine.specs.Stuck.{HasMismatch, CantDeliver, CantRecord, unless_there, where_there, where_holds, unless_holds, needs, IsFull, StuckRegister, StuckStart, StuckSent, StuckSignal, StuckInput, StuckComplete, StuckFail, StuckUpgrade, IsStuck}
+use Rattle.flow_machine.specs.Stuck.{HasMismatch, CantDeliver, CantRecord, unless_there, where_there, where_holds, unless_holds, needs, IsFull, StuckRegister, StuckStart, StuckSent, StuckSignal, StuckInput, StuckComplete, StuckFail, StuckUpgrade, StuckTold, StuckRuns, StuckOpen, IsStuck}
 use Rattle.flow_machine.proofs.Places.{get_all, nth_place}
 use Rattle.flow_machine.proofs.Waiting.{completion_taken, failure_taken}
 use Rattle.flow_machine.proofs.TicksStand.{tick_goes_on}
 use Rattle.flow_machine.proofs.Heard.{signal_taken, open_is_there}
 use Rattle.flow_machine.proofs.Tried.{found_task, task_tried}
+use Rattle.flow_machine.proofs.OpenRuns.{AreThere, first_there, open_there}
 
 ---- Tests
 
@@ -191,6 +192,25 @@ module _ (u : Rules) (b : Book) where
       needs_then ⊥ (program_at u.program_of b r.text) (sent r) (λ none. none-some its.program (sym none ∙ its.its_text))
       (λ p text. hears r p request name v its text (subst (λ (q : Run). is_open (state_of q.history) ≡ true) is_it there.1.1)))))
 
+  -- a sound run is told
+  told_goes_on : (n : ℕ) (r : Run) → IsSound u b → nth b.runs n ≡ Some r → StuckTold u.program_of b r → ⊥
+  told_goes_on n r h there =
+      let its : IsSoundRun u b r = get_all (IsSoundRun u b) b.runs (n - 1) r (nth_place b.runs n r there) h.runs in
+      needs_then ⊥ (program_at u.program_of b r.text) (λ p. HasMismatch p r.history) (λ none. none-some its.program (sym none ∙ its.its_text))
+      (λ p text (m : HasMismatch p r.history).
+      let same : its.program ≡ p = same_Some its.program p (sym its.its_text ∙ text) in
+      not_both p r.history its.place m.0 m.1.0 m.1.1 (subst (λ (q : Program). Stands q r.history its.place) same its.stands))
+
+  runs_go_on : (ps : List (ℕ × Run)) → IsSound u b → AreThere b.runs ps → StuckRuns u.program_of b ps → ⊥
+  runs_go_on [] h there stuck = stuck
+  runs_go_on (p ∷ ps) h there (inl stuck) = told_goes_on p.0 p.1 h there.0 stuck
+  runs_go_on (p ∷ ps) h there (inr stuck) = runs_go_on ps h there.1 stuck
+
+  -- so are all that are listed
+  pub list_goes_on : (from most : ℕ) → IsSound u b → StuckOpen u.program_of b from most → ⊥
+  unfolding StuckOpen
+  list_goes_on from most h stuck = runs_go_on (take most (open_runs b from)) h (first_there b.runs most (open_runs b from) (open_there b from)) stuck
+
 pub sound_decides : SoundDecides
 unfolding IsStuck
 sound_decides u b (command.Register body) reads h stuck = register_decides u b body stuck
@@ -203,3 +223,4 @@ sound_decides u b (command.Terminate run reason at) reads h stuck = absurd stuck
 sound_decides u b (command.Upgrade run text) reads h stuck = absurd (upgrade_goes_on u b run text reads stuck)
 sound_decides u b (command.Describe run) reads h stuck = absurd stuck
 sound_decides u b (command.History run) reads h stuck = absurd stuck
+sound_decides u b (command.Open from most) reads h stuck = absurd (list_goes_on u b from most h stuck)

@@ -1,6 +1,6 @@
 -- Where a command can't be decided: what a sound book never lacks isn't there, or no number is left. Beside a refusal of the
 -- store this is all that stands behind E80.
-use Rattle.std.specs.Prelude.{◌≡◌, ◌≤◌, ◌+◌, ◌^◌, ◌⊎◌, ℕ, zero, suc, Bool, true, false, List, [], ◌∷◌, length, Option, Some, None, Result, nat_lt}
+use Rattle.std.specs.Prelude.{◌≡◌, ◌≤◌, ◌+◌, ◌^◌, ◌⊎◌, ℕ, zero, suc, Bool, true, false, List, [], ◌∷◌, length, take, Option, Some, None, Result, nat_lt}
 use Rattle.flow_base.specs.Syntax.{Bytes, Program}
 use Rattle.flow_base.specs.declared.value.Value.{Value}
 use Rattle.flow_base.specs.declared.event.Cmd.{Cmd}
@@ -18,7 +18,7 @@ use Rattle.flow_model.specs.WellFormed.{signal_of}
 use Rattle.flow_model.specs.Deliver.{deliver, all_fit, has_kind}
 use Rattle.flow_model.specs.Stands.{Stands, FirstMismatch}
 use Rattle.flow_model.specs.Open.{state_of}
-use Rattle.flow_model.specs.Book.{Book, nth, text_number, requested, open_run, signalled, least_due, changed_by}
+use Rattle.flow_model.specs.Book.{Book, nth, text_number, requested, open_run, signalled, least_due, open_runs, changed_by}
 use Rattle.flow_model.specs.Apply.{Rules, program_if, program_at, continued, report_refusal, failure_refusal, tries_of, fired, firing_limit, after_one}
 
 -- Turns.
@@ -135,6 +135,19 @@ StuckUpgrade program_of b run text =
     where_there (nth b.texts text) (λ body.
     needs (program_if (program_of body)) (λ p. ⊥))))
 
+-- a run that can't be told: it lacks its program, or its history has a mismatch
+abbrev pub StuckTold : (Bytes → Result Program TextFault) → Book → Run → Type 0
+StuckTold program_of b r = needs (program_at program_of b r.text) (λ p. HasMismatch p r.history)
+
+-- one of several
+abbrev pub StuckRuns : (Bytes → Result Program TextFault) → Book → List (ℕ × Run) → Type 0
+StuckRuns program_of b [] = ⊥
+StuckRuns program_of b (p ∷ ps) = StuckTold program_of b p.1 ⊎ StuckRuns program_of b ps
+
+-- one of the open runs that are listed
+unfoldable pub StuckOpen : (Bytes → Result Program TextFault) → Book → ℕ → ℕ → Type 0
+StuckOpen program_of b from most = StuckRuns program_of b (take most (open_runs b from))
+
 -- A command can't be decided over a book.
 unfoldable pub IsStuck : Rules → Book → Command → Type 0
 IsStuck u b (command.Register body) = StuckRegister u.program_of b body
@@ -147,6 +160,7 @@ IsStuck u b (command.Terminate run reason at) = ⊥
 IsStuck u b (command.Upgrade run text) = StuckUpgrade u.program_of b run text
 IsStuck u b (command.Describe run) = ⊥
 IsStuck u b (command.History run) = ⊥
+IsStuck u b (command.Open from most) = StuckOpen u.program_of b from most
 
 -- One of several can't, over the book that those before it leave.
 abbrev pub IsStuckWithin : Rules → Book → List Command → Type 0

@@ -22,7 +22,8 @@ pub record Fires (new : Book) (before after : List Change) (count : ℕ) (f : Fi
   pub count_is : count ≡ f.count
   pub book_is : new ≡ f.book
 
--- Decided in one step, over the book as it was: all but a tick.
+-- Decided in one step, over the book as it was and without a position: all but a tick and a list of open runs.
 abbrev pub IsOneStep : Command → Type 0
 IsOneStep (command.Tick at) = ⊥
+IsOneStep (command.Open from most) = ⊥
 IsOneStep c = Unit {0}

@@ -7,6 +7,7 @@ mod description;
 mod failing;
 mod going;
 pub mod laws;
+mod listing;
 pub mod programs;
 mod puts;
 pub mod reached;

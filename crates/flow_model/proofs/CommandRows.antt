@@ -1,6 +1,6 @@
 -- Signals, failures, ticks and upgrades on worked rows, by computation.
-use Rattle.std.proofs.Common.{◌≡◌, ℕ, List, [], ◌∷◌, ◌++◌, refl}
-use Rattle.std.specs.Prelude.{false, codes, pos, Result, Ok, Err, bytes_eq, if◌then◌else◌}
+use Rattle.std.proofs.Common.{◌≡◌, ℕ, List, [], ◌∷◌, ◌++◌, ◌+◌, refl}
+use Rattle.std.specs.Prelude.{false, codes, pos, Result, Ok, Err, Some, None, bytes_eq, if◌then◌else◌}
 use Rattle.flow_base.specs.Syntax.{Bytes, Expression, Number, Literal, Variable, Now, Combine, Statement, Let, Assign, Call, WaitSignal, WaitSignalFor, Sleep, While, Patch, Return, Continue, block_of, once, NoElse, Declared, Activity, Signal, Program}
 use Rattle.flow_base.specs.declared.syntax.Binary.TheVariants.{Add, Equal}
 use Rattle.flow_base.specs.declared.syntax.Parameter.{Parameter}
@@ -20,11 +20,12 @@ use Rattle.flow_base.specs.declared.code.Code.TheVariants.{Unexpected, NoText, N
 use Rattle.flow_base.specs.declared.command.Command.{Command}
 use Rattle.flow_base.specs.declared.command.Command.TheVariants as command
 use Rattle.flow_base.specs.declared.command.TextFault.{TextFault}
+use Rattle.flow_base.specs.declared.command.OpenRun.{OpenRun}
 use Rattle.flow_base.specs.declared.command.Reply.TheVariants as reply
 use Rattle.flow_model.specs.Turned.{turned, position_from}
 use Rattle.flow_model.specs.Verdict.{verdict_from}
 use Rattle.flow_model.specs.Book.{no_book}
-use Rattle.flow_model.specs.Apply.{Rules, rules_of, outcome, register, start, signal, complete, fail, tick, firings, fired, terminate, upgrade, describe, history, report_refusal, failure_refusal, input_recorded, recorded, after, replies}
+use Rattle.flow_model.specs.Apply.{Rules, rules_of, outcome, register, start, signal, complete, fail, tick, firings, fired, terminate, upgrade, describe, history, list_open, report_refusal, failure_refusal, input_recorded, recorded, after, replies}
 
 ---- Programs
 
@@ -92,6 +93,11 @@ R = program [] takes_text (
     ∷ Call 0 (codes "r") 0 (codes "p") (text (codes "eur") ∷ []) (record { tries_at = 0; tries = 3; every_at = 0; every = 500 }) NoElse
     ∷ Return 0 (var (codes "r")) ∷ [])
 
+-- signal s: int; let v = 0; sleep 50; v = wait signal s;
+abbrev S : Program
+S = program [] (Signal 0 0 (codes "s") kind.Int ∷ []) (
+    Let 0 0 (codes "v") (number 0) ∷ Sleep 0 (number 50) ∷ WaitSignal 0 (codes "v") 0 (codes "s") ∷ [])
+
 abbrev library : Bytes → Result Program TextFault
 library t =
     if bytes_eq t (codes "b") then Ok B else (
@@ -101,7 +107,8 @@ library t =
     if bytes_eq t (codes "dollars") then Ok dollars else (
     if bytes_eq t (codes "patched") then Ok patched else (
     if bytes_eq t (codes "w") then Ok W else (
-    if bytes_eq t (codes "r") then Ok R else Err (record { code = Unexpected; at = 0 }))))))))
+    if bytes_eq t (codes "s") then Ok S else (
+    if bytes_eq t (codes "r") then Ok R else Err (record { code = Unexpected; at = 0 })))))))))
 
 abbrev rules : Rules
 rules = rules_of library
@@ -243,3 +250,64 @@ failures = refl
 last_pause : replies rules (after rules no_book tried) (command.Fail 1 2 1 [] 999999999999900 ∷ []) ≡ reply.Retry 1 2 1000000000000000 ∷ []
 unfolding outcome register start fail failure_refusal turned
 last_pause = refl
+
+---- Open runs
+
+-- An activity that failed once, a wait with a timer, a sleep that is over, and another wait.
+abbrev several : List Command
+several =
+    command.Register (codes "r") ∷ command.Register (codes "b") ∷ command.Register (codes "t")
+    ∷ command.Start (codes "q1") (codes "f1") 1 [] 1000 ∷ command.Start (codes "q2") (codes "f2") 2 [] 1200
+    ∷ command.Start (codes "q3") (codes "f3") 3 (int 50 ∷ []) 1200 ∷ command.Fail 1 2 1 (codes "no") 2000
+    ∷ command.Tick 1250 ∷ command.Start (codes "q4") (codes "f4") 2 [] 1300 ∷ []
+
+abbrev failing : OpenRun
+failing =
+    record {
+      run = 1;
+      flow = codes "f1";
+      text = 1;
+      events = 2;
+      at = 1000;
+      activities = record { event = 2; activity = codes "p"; attempt = 2; ready = 2500 } ∷ [];
+      timers = [];
+      waits = [];
+    }
+
+abbrev waits_until : ℕ → Bytes → ℕ → OpenRun
+waits_until n f at =
+    record {
+      run = n;
+      flow = f;
+      text = 2;
+      events = 2;
+      at = at;
+      activities = [];
+      timers = record { id = 2; due = at + 100 } ∷ [];
+      waits = codes "s" ∷ [];
+    }
+
+-- The closed run isn't among them, and the next one's number is told where there are more.
+lists : replies rules (after rules no_book several) (command.Open 1 2 ∷ command.Open 2 1 ∷ command.Open 3 256 ∷ command.Open 1 3 ∷ command.Open 5 1 ∷ [])
+    ≡ reply.Open (failing ∷ waits_until 2 (codes "f2") 1200 ∷ []) (Some 4)
+    ∷ reply.Open (waits_until 2 (codes "f2") 1200 ∷ []) (Some 4)
+    ∷ reply.Open (waits_until 4 (codes "f4") 1300 ∷ []) None
+    ∷ reply.Open (failing ∷ waits_until 2 (codes "f2") 1200 ∷ waits_until 4 (codes "f4") 1300 ∷ []) None
+    ∷ reply.Open [] None ∷ []
+unfolding outcome register start fail tick firings fired list_open failure_refusal input_recorded recorded turned position_from
+lists = refl
+
+abbrev sleeping : ℕ → ℕ → List Bytes → OpenRun
+sleeping events at waits =
+    record { run = 1; flow = codes "f"; text = 1; events = events; at = at; activities = []; timers = record { id = 2; due = 50 } ∷ []; waits = waits }
+
+-- A signal that lies there isn't waited for; behind the sleep it is.
+lies_there : replies rules no_book (
+    command.Register (codes "s") ∷ command.Start (codes "q") (codes "f") 1 [] 0 ∷ command.Open 1 1
+    ∷ command.Signal (codes "a") (codes "f") (codes "s") (int 1) 7 ∷ command.Open 1 1 ∷ command.Start (codes "r") (codes "g") 1 [] 0
+    ∷ command.Tick 50 ∷ command.Open 1 1 ∷ [])
+    ≡ reply.Registered 1 ∷ reply.Started 1 ∷ reply.Open (sleeping 2 0 [] ∷ []) None ∷ reply.Recorded 1 3 ∷ reply.Open (sleeping 3 7 [] ∷ []) None
+    ∷ reply.Started 2 ∷ reply.Fired 2 false
+    ∷ reply.Open (record { run = 2; flow = codes "g"; text = 1; events = 3; at = 50; activities = []; timers = []; waits = codes "s" ∷ [] } ∷ []) None ∷ []
+unfolding outcome register start signal tick firings fired list_open input_recorded recorded turned position_from
+lies_there = refl

@@ -1,5 +1,5 @@
 -- Apply: what a command answers, and what it changes in a book. A refusal changes nothing, unless the history is full.
-use Rattle.std.specs.Prelude.{ℕ, zero, suc, ◌+◌, Bool, true, false, List, [], ◌∷◌, ◌++◌, length, map, max, min, codes, Option, Some, None, Result, Ok, Err, nat_eq, nat_lt, nat_le, is_some, if◌then◌else◌}
+use Rattle.std.specs.Prelude.{ℕ, zero, suc, ◌+◌, Bool, true, false, List, [], ◌∷◌, ◌++◌, length, map, take, drop, max, min, codes, Option, Some, None, Result, Ok, Err, nat_eq, nat_lt, nat_le, is_some, if◌then◌else◌}
 use Rattle.flow_base.specs.Syntax.{Bytes, Program}
 use Rattle.flow_base.specs.declared.value.Value.{Value}
 use Rattle.flow_base.specs.declared.event.Cmd.{Cmd}
@@ -21,9 +21,12 @@ use Rattle.flow_base.specs.declared.code.Code.TheVariants.{NoText, BadArguments,
 use Rattle.flow_base.specs.declared.command.Command.{Command}
 use Rattle.flow_base.specs.declared.command.Command.TheVariants as command
 use Rattle.flow_base.specs.declared.command.TextFault.{TextFault}
+use Rattle.flow_base.specs.declared.command.OpenTask.{OpenTask}
+use Rattle.flow_base.specs.declared.command.OpenRun.{OpenRun}
 use Rattle.flow_base.specs.declared.command.Reply.{Reply}
 use Rattle.flow_base.specs.declared.command.Reply.TheVariants as reply
 use Rattle.flow_model.specs.Values.{last_moment}
+use Rattle.flow_model.specs.Rest.{signals_awaited}
 use Rattle.flow_model.specs.Configuration.{Configuration, first_configuration, is_open}
 use Rattle.flow_model.specs.Deliver.{all_fit, has_kind}
 use Rattle.flow_model.specs.Turn.{Fresh}
@@ -31,7 +34,7 @@ use Rattle.flow_model.specs.Turned.{turned, position_by_inputs}
 use Rattle.flow_model.specs.Open.{timers_left, state_of, moment_of}
 use Rattle.flow_model.specs.WellFormed.{signal_of}
 use Rattle.flow_model.specs.Verdict.{verdict}
-use Rattle.flow_model.specs.Book.{Book, nth, text_number, requested, open_run, signalled, least_due, changed_by}
+use Rattle.flow_model.specs.Book.{Book, nth, text_number, requested, open_run, signalled, least_due, open_runs, changed_by}
 
 -- What decides beside the book: how many events a history may have, and which program a text is, or why it is none.
 pub record Rules : Type 0 where
@@ -332,6 +335,58 @@ describe b run =
 unfoldable pub history : Book → ℕ → Outcome
 history b run = must_be (nth b.runs run) NoRun (λ r. says (reply.History r.history))
 
+-- Open runs, listed.
+
+-- an open activity with its name; in a sound book its event always schedules one
+abbrev pub named_by : Task → Option Event → Option OpenTask
+named_by t None = None
+named_by t (Some e) =
+    elim e.what [
+      | Came i ↦ None
+      | Asked c ↦ elim c [ Schedule a vs tries every k ↦ Some (record { event = t.event; activity = a; attempt = t.attempt; ready = t.ready }) | _ ↦ None ]
+    ]
+
+abbrev pub with_named : Option OpenTask → List OpenTask → List OpenTask
+with_named None ts = ts
+with_named (Some t) ts = t ∷ ts
+
+abbrev pub named_tasks : List Event → List Task → List OpenTask
+named_tasks h [] = []
+named_tasks h (t ∷ ts) = with_named (named_by t (nth h t.event)) (named_tasks h ts)
+
+abbrev pub signals_at : Option Configuration → List Bytes
+signals_at None = []
+signals_at (Some k) = signals_awaited k.rest
+
+-- The signals that a run of this program waits for where its history leads it; one that was sent and lies there isn't waited for.
+abbrev pub awaited : Option Program → Run → List Bytes
+awaited None r = []
+awaited (Some p) r = signals_at (position_by_inputs p r.history)
+
+-- An open run, told: what it waits for, and since when.
+abbrev pub open_run_told : (Bytes → Result Program TextFault) → Book → ℕ × Run → OpenRun
+open_run_told program_of b p =
+    record {
+      run = p.0;
+      flow = p.1.flow;
+      text = p.1.text;
+      events = length p.1.history;
+      at = moment_of p.1.history;
+      activities = named_tasks p.1.history p.1.tasks;
+      timers = timers_left p.1.history;
+      waits = awaited (program_at program_of b p.1.text) p.1;
+    }
+
+-- the number of the first of them
+abbrev pub first_number : List (ℕ × Run) → Option ℕ
+first_number [] = None
+first_number (p ∷ ps) = Some p.0
+
+-- The open runs from a number on, rising and at most so many, and the number of the next one where there are more.
+unfoldable pub list_open : (Bytes → Result Program TextFault) → Book → ℕ → ℕ → Outcome
+list_open program_of b from most =
+    says (reply.Open (map (open_run_told program_of b) (take most (open_runs b from))) (first_number (drop most (open_runs b from))))
+
 -- The outcome of a command.
 unfoldable pub outcome : Rules → Book → Command → Outcome
 outcome u b (command.Register body) = register u.program_of b body
@@ -344,6 +399,7 @@ outcome u b (command.Terminate run reason at) = terminate b run reason at
 outcome u b (command.Upgrade run text) = upgrade u.program_of b run text
 outcome u b (command.Describe run) = describe b run
 outcome u b (command.History run) = history b run
+outcome u b (command.Open from most) = list_open u.program_of b from most
 
 -- After and replies: commands, one after the other.
 

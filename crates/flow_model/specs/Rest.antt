@@ -1,6 +1,6 @@
 -- The rest: what of a program is still to run. A tree, whose leaves are waits, what is done, faults that are due, and the
 -- statements of a block that haven't begun; its inner nodes are sequences and parallel branches.
-use Rattle.std.specs.Prelude.{ℕ, ◌+◌, Bool, true, false, ◌&&◌}
+use Rattle.std.specs.Prelude.{ℕ, ◌+◌, Bool, true, false, ◌&&◌, List, [], ◌∷◌, ◌++◌}
 use Rattle.flow_base.specs.Syntax.{Bytes, Block, End, Next, Otherwise, NoElse, Else, Branches, NoBranch, Branch}
 use Rattle.flow_base.specs.declared.value.Kind.{Kind}
 use Rattle.flow_base.specs.declared.event.Cause.{Cause}
@@ -57,3 +57,14 @@ open_waits (OnSignalFor x s n b) = 1
 open_waits (Raised c t) = 0
 open_waits (Then r b) = open_waits r
 open_waits (Beside a b) = open_waits a + open_waits b
+
+-- The signals that are waited for, from the left. One for which two branches wait stands twice.
+abbrev pub signals_awaited : Rest → List Bytes
+signals_awaited Done = []
+signals_awaited (OnActivity n x k o) = []
+signals_awaited (OnTimer n) = []
+signals_awaited (OnSignal x s) = s ∷ []
+signals_awaited (OnSignalFor x s n b) = s ∷ []
+signals_awaited (Raised c t) = []
+signals_awaited (Then r b) = signals_awaited r
+signals_awaited (Beside a b) = signals_awaited a ++ signals_awaited b

@@ -24,26 +24,26 @@ use Rattle.flow_rows.specs.Told.{Tells}
 use Rattle.flow_rows.proofs.Agreed.{kept_all}
 use Rattle.flow_rows.proofs.Stood.{stood}
 use Rattle.flow_rows.proofs.Telling.{told, all_told}
-use Rattle.flow_tables.specs.Layout.{schema, no_schema}
+use Rattle.flow_tables.specs.Layout.{schema_of, no_schema}
 use Rattle.flow_tables.specs.Stored.{tables_in}
 use Rattle.flow_tables.specs.Opening.{StandFor, IsFirstDamage, IsOfRows, IsOfStore, IsOfOpening, HasCause, StopsOpening}
-use Rattle.flow_tables.specs.States.{AreOurs, HasTables, HasEnded}
+use Rattle.flow_tables.specs.States.{HasTables, HasEnded}
 use Rattle.flow_tables.specs.Owned.{IsOurs, IsFound, IsFileOf, Keeps, LeavesMade}
-use Rattle.flow_tables.proofs.Stops.{IsSettled, opened_over}
+use Rattle.flow_tables.proofs.Opened.{never_both}
+use Rattle.flow_tables.proofs.Owning.{file_of}
+use Rattle.flow_tables.proofs.Reopened.{one_file, opened_file}
+use Rattle.flow_tables.proofs.Stops.{IsSettled}
 use Rattle.flow_commit.specs.Keeping.{rules, IsWell}
 use Rattle.flow_recover.specs.Positions.{IsLeastMismatch, Names, OnlyMemory}
 use Rattle.flow_recover.specs.Recovering.{HoldsSound, AreBlank, HoldBook, StillHolds, IsOpenedOver, IsOfDisk, IsOfRecovery, IsPastTables, IsLeft}
 
 ---- The book that is found
 
-our_tables : schema ≡ no_schema → ⊥
-our_tables e = absurd (cc)
-
 -- A store holds one book.
 pub one_found : (s : State) (b b' : Book) → IsFound s b → IsFound s b' → b ≡ b'
-one_found s b b' (inl h) (inl h') = sym (told (tables_in s.committed.trees) b h.1) ∙ told (tables_in s.committed.trees) b' h'.1
-one_found s b b' (inl h) (inr h') = absurd (our_tables (sym h.0.laid_out ∙ h'.0))
-one_found s b b' (inr h) (inl h') = absurd (our_tables (sym h'.0.laid_out ∙ h.0))
+one_found s b b' (inl h) (inl h') = sym (told (tables_in s.committed) b h.1) ∙ told (tables_in s.committed) b' h'.1
+one_found s b b' (inl h) (inr h') = never_both s.committed h.0 h'.0
+one_found s b b' (inr h) (inl h') = never_both s.committed h'.0 h.0
 one_found s b b' (inr h) (inr h') = h.1 ∙ sym h'.1
 
 -- in which a book is found is ours, or has no tables
@@ -55,7 +55,7 @@ stand_tell : (t : Tables) (b : Book) → StandFor is_program t b → Tells t b
 stand_tell t b h = record { same = h.same; runs = all_told (length b.texts) b.runs (kept_all (length b.texts) [] b.runs h.runs) }
 
 pub sound_found : (s : State) → HoldsSound s → (b : Book) × IsFound s b × IsSound rules b
-sound_found s (inl h) = (h.0, inl (h.1, stand_tell (tables_in s.committed.trees) h.0 h.2), h.3)
+sound_found s (inl h) = (h.0, inl (h.1, stand_tell (tables_in s.committed) h.0 h.2), h.3)
 sound_found s (inr none) = (no_book, inr (none, refl), nothing_sound rules)
 
 pub sound_ours : (s : State) → (HasCleanDisk s → HoldsSound s) → IsOurs s
@@ -66,7 +66,7 @@ sound_ours s sound clean = elim (sound clean) [ inl h ↦ inl h.1 | inr none ↦
 -- A store that holds a book isn't refused for its trees: they are a database, with our tables or with none.
 pub refused_by_disk : {S : Type 0} (g : Ghosts S) (old new : S) (e : Error) (b : Book) → FailsToOpen (g.view old).trees (MoreFaults (g.faults old) (g.faults new)) e
     → HoldBook (g.view old).trees b → IsOfDisk g old new e
-refused_by_disk g old new e b (inl none) (inl file) = absurd (none.1 schema file.ours.sound)
+refused_by_disk g old new e b (inl none) (inl file) = absurd (none.1 (schema_of file.layout) file.ours.sound)
 refused_by_disk g old new e b (inl none) (inr blank) = absurd (none.1 no_schema blank.0)
 refused_by_disk g old new e b (inr failed) held = failed
 
@@ -85,11 +85,8 @@ opened_trees : (s : State) (db : Trees) → IsOpenedOver s db → s.committed.tr
 opened_trees s db over = sym (ap (λ (d : Database). d.trees) over.opens.clean) ∙ over.trees
 
 -- The book of a file is found where a connection was just opened over it.
-opened_tells : (s : State) (db : Trees) (b : Book) → IsFileOf db b → IsOpenedOver s db → HasTables s.committed × Tells (tables_in s.committed.trees) b
-opened_tells s db b file over = (
-  (opened_over s over.opens over.live (subst AreOurs (sym over.trees) file.ours)).committed,
-  subst (λ d. Tells (tables_in d) b) (sym (opened_trees s db over)) file.tells,
-)
+opened_tells : (s : State) (db : Trees) (b : Book) → IsFileOf db b → IsOpenedOver s db → HasTables s.committed × Tells (tables_in s.committed) b
+opened_tells s db b file over = opened_file s db b over.opens over.live over.trees file
 
 pub opened_found : (s : State) (db : Trees) (b : Book) → IsFileOf db b → IsOpenedOver s db → IsFound s b
 opened_found s db b file over = inl (opened_tells s db b file over)
@@ -114,26 +111,28 @@ well_stands : (t : Tables) (b : Book) → Tells t b → IsWell b → StandFor is
 well_stands t b tells well = let stands = stood meaning_of meaning_is b tells.runs well.sound well.orderly in record { texts = stands.0; runs = stands.1; same = tells.same }
 
 pub well_sound : (s : State) (b : Book) → IsFound s b → IsWell b → HoldsSound s
-well_sound s b (inl h) well = inl (b, h.0, well_stands (tables_in s.committed.trees) b h.1 well, well.sound)
+well_sound s b (inl h) well = inl (b, h.0, well_stands (tables_in s.committed) b h.1 well, well.sound)
 well_sound s b (inr h) well = inr h.0
 
 -- a refusal that ended what ran keeps what was kept
 pub ended_keeps : (old new : State) (b : Book) → HasEnded old new → LeavesMade old new b → Keeps old b → Keeps new b
 ended_keeps old new b ended leaves keeps = record {
-  kept = λ up. subst (λ (d : Database). HasTables d × Tells (tables_in d.trees) b) (sym (ended.back up).1) (keeps.kept (ended.was_open up));
+  kept = λ up. subst (λ (d : Database). HasTables d × Tells (tables_in d) b) (sym (ended.back up).1) (keeps.kept (ended.was_open up));
   stops = λ db may. elim (leaves db may) [ inl before ↦ keeps.stops db before | inr made ↦ made ];
 }
 
 ---- A book, or an empty store
 
-not_both : (db : Trees) → AreOurs db → AreBlank db → ⊥
-not_both db ours none = our_tables (lists_once _ schema no_schema ours.sound.lists none.lists)
+not_both : {A : Type 0} (db : Trees) (b : Book) → IsFileOf db b → AreBlank db → A
+not_both db b file none =
+    let has : HasTables (record { schema = schema_of file.layout; trees = db }) = record { layout = file.layout; lie = record { laid_out = refl; ours = file.ours } } in
+    never_both (record { schema = schema_of file.layout; trees = db }) has (lists_once _ (schema_of file.layout) no_schema file.ours.sound.lists none.lists)
 
 -- Trees hold one book.
 pub one_held : (db : Trees) (b b' : Book) → HoldBook db b → HoldBook db b' → b ≡ b'
-one_held db b b' (inl h) (inl h') = sym (told (tables_in db) b h.tells) ∙ told (tables_in db) b' h'.tells
-one_held db b b' (inl h) (inr h') = absurd (not_both db h.ours h'.0)
-one_held db b b' (inr h) (inl h') = absurd (not_both db h'.ours h.0)
+one_held db b b' (inl h) (inl h') = one_file db b b' h h'
+one_held db b b' (inl h) (inr h') = not_both db b h h'.0
+one_held db b b' (inr h) (inl h') = not_both db b' h' h.0
 one_held db b b' (inr h) (inr h') = h.1 ∙ sym h'.1
 
 -- It is found where a connection was just opened over them.
@@ -145,7 +144,7 @@ held_found s db b (inr none) over =
 
 -- A stop of an open connection leaves what is found in it.
 left_held : (s : State) (b : Book) → IsSettled s → IsLive s → IsTrue s.is_open → IsFound s b → (db : Trees) → s.may_leave db → HoldBook db b
-left_held s b law live up (inl h) db may = inl (subst (λ d. IsFileOf d b) (sym (law db up may)) (record { ours = h.0.ours; tells = h.1 }))
+left_held s b law live up (inl h) db may = inl (subst (λ d. IsFileOf d b) (sym (law db up may)) (file_of s.committed b h.0 h.1))
 left_held s b law live up (inr none) db may =
     inr (subst AreBlank (sym (law db up may)) (subst (λ x. catalog.IsSound x s.committed.trees) none.0 (live up).1), none.1)
 
@@ -153,16 +152,16 @@ left_held s b law live up (inr none) db may =
 tables_keep : (s : State) (b : Book) → IsSettled s → IsTrue s.is_open → IsFound s b → HasTables s.committed → Keeps s b
 tables_keep s b law up (inl h) has = record {
   kept = λ _. h;
-  stops = λ db may. subst (λ d. IsFileOf d b) (sym (law db up may)) (record { ours = h.0.ours; tells = h.1 });
+  stops = λ db may. subst (λ d. IsFileOf d b) (sym (law db up may)) (file_of s.committed b h.0 h.1);
 }
-tables_keep s b law up (inr none) has = absurd (our_tables (sym has.laid_out ∙ none.0))
+tables_keep s b law up (inr none) has = never_both s.committed has none.0
 
 pub keeps_holds : (from to : State) (b : Book) → Keeps to b → StillHolds from to b
 keeps_holds from to b keeps = record { found = λ up. inl (keeps.kept up); stops = λ db may. inl (keeps.stops db may); tables = λ _. keeps }
 
 pub ended_holds : (from to : State) (b : Book) → IsSettled from → IsLive from → HasEnded from to → LeavesMade from to b → IsTrue from.is_open × IsFound from b → StillHolds from to b
 ended_holds from to b law live ended leaves holds = record {
-  found = λ up. subst (λ (d : Database). (HasTables d × Tells (tables_in d.trees) b) ⊎ ((d.schema ≡ no_schema) × (b ≡ no_book))) (sym (ended.back up).1) holds.1;
+  found = λ up. subst (λ (d : Database). (HasTables d × Tells (tables_in d) b) ⊎ ((d.schema ≡ no_schema) × (b ≡ no_book))) (sym (ended.back up).1) holds.1;
   stops = λ db may. elim (leaves db may) [ inl before ↦ left_held from b law live holds.0 holds.1 db before | inr made ↦ inl made ];
   tables = λ has. ended_keeps from to b ended leaves (tables_keep from b law holds.0 holds.1 has);
 }

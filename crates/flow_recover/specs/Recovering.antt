@@ -32,7 +32,7 @@ pub record IsRecovered {S : Type 0} (g : Ghosts S) (from : State) (k : Keeping S
 
 -- A store holds nothing that could be refused: its tables stand for a sound book, or it has none.
 abbrev pub HoldsSound : State → Type 0
-HoldsSound s = ((b : Book) × HasTables s.committed × StandFor is_program (tables_in s.committed.trees) b × IsSound rules b) ⊎ (s.committed.schema ≡ no_schema)
+HoldsSound s = ((b : Book) × HasTables s.committed × StandFor is_program (tables_in s.committed) b × IsSound rules b) ⊎ (s.committed.schema ≡ no_schema)
 
 ---- A book that is there
 

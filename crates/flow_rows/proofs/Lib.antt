@@ -25,3 +25,4 @@ pub mod Stood
 pub mod WholeBooks
 pub mod Behind
 pub mod DueFirst
+pub mod OpenFound

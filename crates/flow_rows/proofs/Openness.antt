@@ -13,6 +13,7 @@ use Rattle.flow_base.specs.declared.event.State.TheVariants as state
 use Rattle.flow_events.specs.Kinds.{kind_number, kind_of}
 use Rattle.flow_model.specs.Configuration.{is_open}
 use Rattle.flow_model.specs.Open.{state_after_one, state_after, state_of}
+use Rattle.flow_events.specs.declared.spelling.Spelling.TheVariants.{Inside}
 use Rattle.flow_events.proofs.Laws.{row_found}
 use Rattle.flow_rows.specs.declared.rows.EventRow.{EventRow}
 use Rattle.flow_rows.specs.Damages.{is_closing, closes, kind_fits, is_begun, damages_of_event, damages_from, read_event, history_from}
@@ -88,7 +89,7 @@ on_later : (run : ℤ) (i : ℕ) (s : State) (rs : List EventRow) → 1 < i → 
 on_later run i s [] later none = sym (and_true (is_open s))
 on_later run i s (r ∷ rs) later none =
     let v = is_event run i r (front_none _ (damages_from run (i + 1) rs) none) in
-    let row = row_found i r.kind r.body v.event v.reads in
+    let row = (row_found Inside i r.kind r.body v.event v.reads).row in
     let kind = subst (λ z. int_eq z (pos 1) ≡ false) row.of_kind (later_kind i r.kind later v.kind) in
     let step : is_open (state_after_one s v.event) ≡ (is_open s && not (is_closing r.kind)) =
     one_on s v.event.id v.event.at v.event.what kind ∙ ap (λ z. is_open s && not (is_closing z)) (sym row.of_kind) in
@@ -106,7 +107,7 @@ pub is_open_where : (run : ℤ) (rs : List EventRow) → is_begun rs ≡ true �
 is_open_where run [] begun none = absurd (let same = begun in cc)
 is_open_where run (r ∷ rs) begun none =
     let v = is_event run 1 r (front_none _ (damages_from run 2 rs) none) in
-    let row = row_found 1 r.kind r.body v.event v.reads in
+    let row = (row_found Inside 1 r.kind r.body v.event v.reads).row in
     let kind = subst (λ z. int_eq z (pos 1) ≡ true) row.of_kind v.kind in
     let step : is_open (state_after_one state.Unbegun v.event) ≡ not (is_closing r.kind) =
     first_on state.Unbegun v.event.id v.event.at v.event.what kind ∙ ap (λ z. not (is_closing z)) (sym row.of_kind) in

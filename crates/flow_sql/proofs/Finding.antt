@@ -1,6 +1,6 @@
 -- What reading the format leaves, and what it tells.
-use Rattle.flow_sql.proofs.Names.{schema, format_sql, no_schema, format_query, one_permutation, Database, Row, overlay, IsAnswer, Output, end, inner, output, IsUnchanged, State, Survives, Trees, Error, Int, Null, Compiled, CompileError, IsPermutation, IsTrue, List, false, map, pos, [], refl, Ok, Err, Result, Fails, IsOver, HasTables, HasEnded, IsAtRest, IsBlank, format_row, sym, ap, ◌∙◌, subst, inl, inr, true≢false, IsStoreError, TellsFailure, OutOfMemory}
-use Rattle.flow_sql.proofs.Names.{SqlInputError, SqliteFailure, first_as, IsSome, ◌≡◌, ◌∷◌, ◌⊎◌, ◌≢◌}
+use Rattle.flow_sql.proofs.Names.{Fresh, schema_of, format_sql, no_schema, format_query, one_permutation, Database, Row, overlay, IsAnswer, Output, end, inner, output, IsUnchanged, State, Survives, Trees, Error, Int, Null, Compiled, CompileError, IsPermutation, IsTrue, List, false, map, pos, [], refl, Ok, Err, Result, Fails, IsOver, HasTables, HasEnded, IsAtRest, IsBlank, format_row, sym, ap, ◌∙◌, subst, inl, inr, true≢false, IsStoreError, TellsFailure, OutOfMemory}
+use Rattle.flow_sql.proofs.Names.{Layout, Moved, accepts_program, true, SqlInputError, SqliteFailure, first_as, IsSome, ◌≡◌, ◌∷◌, ◌⊎◌, ◌≢◌}
 use Rattle.sqlite.specs.Order.{value_cmp}
 use Rattle.sqlite.specs.Ops.{binary}
 use Rattle.sqlite.specs.Query.{page, matches_as}
@@ -16,17 +16,17 @@ use Rattle.flow_sql.proofs.Texts.{format_read}
 ---- Under any schema
 
 pub read_survives : (old new : State) → Survives old new (CommitsShowing format_sql [] old) → Survives old new (λ _. ⊥)
-read_survives old new h = commits_none format_sql format_read.0.reading [] old new h
+read_survives old new h = commits_none format_sql (format_read Fresh).0.reading [] old new h
 
 -- a query that is refused changes nothing, or fails with the store
 pub read_leaves : (old new : State) (r : Result Row Error) → QueriesRow format_sql [] old new r → IsUnchanged old new ⊎ ((e : Error) × (r ≡ Err e) × Fails old new ⊥ e)
 unfolding QueriesRow FailsToQuery Shown IsNotRun
 read_leaves old new (Ok row) (inl h) = inl h.1
-read_leaves old new (Ok row) (inr h) = inl (rw (bare format_sql format_read.0.reading [] old new h.1.0 h.1.1.is) at h.1.2).3
+read_leaves old new (Ok row) (inr h) = inl (rw (bare format_sql (format_read Fresh).0.reading [] old new h.1.0 h.1.1.is) at h.1.2).3
 read_leaves old new (Err e) (inl (inl (inl refused))) = inl refused.1
 read_leaves old new (Err e) (inl (inl (inr fails))) = inr (e, refl, fails)
-read_leaves old new (Err e) (inl (inr h)) = inl (rw (bare format_sql format_read.0.reading [] old new h.0 h.1.is) at h.2).3
-read_leaves old new (Err e) (inr h) = inl (rw (bare format_sql format_read.0.reading [] old new h.1.0 h.1.1.is) at h.1.2).3
+read_leaves old new (Err e) (inl (inr h)) = inl (rw (bare format_sql (format_read Fresh).0.reading [] old new h.0 h.1.is) at h.2).3
+read_leaves old new (Err e) (inr h) = inl (rw (bare format_sql (format_read Fresh).0.reading [] old new h.1.0 h.1.1.is) at h.1.2).3
 
 module _ (start old new : State) (ended : HasEnded start old) where
   -- what the last commit left is shown behind a query that was answered
@@ -101,14 +101,21 @@ format_rows db format rows a =
 
 pub format_answer : (old new : State) (row : Row) → HasTables old.now → QueriesRow format_sql [] old new (Ok row) → row ≡ Int (pos 1) ∷ []
 format_answer old new row has h =
-    let got = (first_as format_sql [] old new schema has.laid_out _ format_read.0.is format_read.0.plain format_read.0.unlisted row h).1 in
-    let rows = format_rows old.now.trees has.ours.format (row ∷ got.0) (got.1 Null) in
+    let l = has.layout in
+    let got = (first_as format_sql [] old new (schema_of l) has.lie.laid_out _ (format_read l).0.is (format_read l).0.plain (format_read l).0.unlisted row h).1 in
+    let rows = format_rows old.now.trees has.lie.ours.format (row ∷ got.0) (got.1 Null) in
     cc
+
+format_typed : (l : Layout) → accepts_program (schema_of l) [] format_query [] ≡ true
+format_typed Fresh = refl
+format_typed Moved = refl
 
 -- it is refused by the disk or a limit alone
 pub format_refused : (old new : State) (e : Error) → e ≢ SqliteFailure OutOfMemory → IsTrue old.is_open → HasTables old.now → QueriesRow format_sql [] old new (Err e) → TellsFailure e old new ⊎ IsSome old.step_limit
 unfolding QueriesRow
 format_refused old new e other up has (inl fails) =
-    question_refused old new e other up has.laid_out format_sql format_query _ format_read.0 [] format_read.1 refl (λ db. never_sums (db 0)) fails
+    let l = has.layout in
+    question_refused old new e other up l has.lie.laid_out format_sql format_query _ (format_read l).0 [] (format_read l).1 (format_typed l) (λ db. never_sums (db 0)) fails
 format_refused old new e other up has (inr none) =
-    absurd (let rows = format_rows old.now.trees has.ours.format [] (answer format_sql format_query _ format_read.0 [] old new has [] none.1) in cc)
+    let l = has.layout in
+    absurd (let rows = format_rows old.now.trees has.lie.ours.format [] (answer l format_sql format_query _ (format_read l).0 [] old new has.lie.laid_out [] none.1) in cc)

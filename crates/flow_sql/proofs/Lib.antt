@@ -1,5 +1,6 @@
 pub mod Names
 pub mod Texts
+pub mod Places
 pub mod Leaves
 pub mod Numbered
 pub mod Added
@@ -22,3 +23,4 @@ pub mod RowChanges
 pub mod Coming
 pub mod Welcome
 pub mod InPlace
+pub mod OpenRuns

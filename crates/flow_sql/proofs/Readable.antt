@@ -1,8 +1,13 @@
 -- That what our tables hold can be read: a number always, and a text where it is UTF-8.
 use Rattle.flow_sql.proofs.Names.{all-map, all_from_map, cases_lt, get_or_past, suc, zero, IsUtf8, ◌≡◌, ◌∷◌, ◌<◌, all_from, all_has, has_kept, event_id, rising, events_of, EventRow, Kind, Integer, Text, Null, Row, col, overlay, IsAnswer, Output, Term, Trees, rowid, is_int, all-filter, all-permutation, all_both}
-use Rattle.flow_sql.proofs.Names.{all_weaker, bytes, column, Key, Decides-int_eq, IsPermutation-sym, AllByRecursion, int_eq, IsTrue, List, filter, map, slice_get, Some, length, ℕ, [], refl, take, sym, subst, inl, inr, AreOurs, tables_in, run_in, event_in, text_in, text_table, run_table, event_table, timer_table}
+use Rattle.flow_sql.proofs.Names.{all_weaker, bytes, column, Key, Decides-int_eq, IsPermutation-sym, AllByRecursion, int_eq, IsTrue, List, filter, map, slice_get, Some, length, ℕ, [], refl, take, sym, subst, inl, inr, Layout, place_of_events, tree_of_events, AreOurs, tables_by, run_in, event_in, text_in, text_table, run_table, event_table, timer_table}
 use Rattle.flow_sql.proofs.Names.{task_table, Read, rows_where, query_of, first_where, IsReadAs, AreReadAs, AreUtf8, kinds_of}
+use Rattle.sqlite.specs.Query.{as_count, limited}
+use Rattle.sqlite.specs.Term.{eval}
+use Rattle.flow_sql.specs.Names.{Option, None}
+use Rattle.flow_sql.specs.Layout.{some_where}
 use Rattle.flow_sql.proofs.Numbered.{number_is}
+use Rattle.flow_sql.proofs.Places.{event_bare, event_there, numbered_runs, numbered_texts, run_there, task_there, text_there, timer_there}
 use Rattle.flow_sql.proofs.Columns.{AreTyped, columns}
 use Rattle.flow_sql.proofs.Reading.{meets, seen, kept_is, out}
 use Rattle.flow_sql.proofs.Rising.{rising_moves}
@@ -32,6 +37,15 @@ all_taken : (D : Row → Type 0) (rows : List Row) → AllByRecursion D rows →
 all_taken D [] all = tt
 all_taken D (r ∷ rows) all = (all.0, tt)
 
+all_first : (D : Row → Type 0) (n : ℕ) (rows : List Row) → AllByRecursion D rows → AllByRecursion D (take n rows)
+all_first D zero rows all = tt
+all_first D (suc n) [] all = tt
+all_first D (suc n) (r ∷ rows) all = (all.0, all_first D n rows all.1)
+
+all_limited : (D : Row → Type 0) (limit : Option ℕ) (rows : List Row) → AllByRecursion D rows → AllByRecursion D (limited limit rows)
+all_limited D None rows all = all
+all_limited D (Some n) rows all = all_first D n rows all
+
 module _ (db : Trees) (params : Row) (tree : ℕ) (terms project : List Term) (bare : overlay db [] tree ≡ db tree) (C D : Row → Type 0) (shows : (r : Row) → C r → D (seen params project r)) (all : AllByRecursion C (db tree)) (order : List (Term × Key)) (rows : List Row) where
   ordered_hold : (limit : Term) (a : IsAnswer (record (rows_where tree terms project order) { limit = limit }) (overlay db []) params rows) → AllByRecursion (λ (o : Output). D o.1) a.ordered
   ordered_hold limit a =
@@ -45,13 +59,18 @@ module _ (db : Trees) (params : Row) (tree : ℕ) (terms project : List Term) (b
   first_holds : IsAnswer (first_where tree terms project order) (overlay db []) params rows → AllByRecursion D rows
   first_holds a = subst (AllByRecursion D) (sym a.shown) (all_taken D (map (λ (o : Output). o.1) a.ordered) (all-map D (λ (o : Output). o.1) a.ordered (ordered_hold _ a)))
 
+  some_hold : IsAnswer (some_where tree terms project order) (overlay db []) params rows → AllByRecursion D rows
+  some_hold a =
+      subst (AllByRecursion D) (sym a.shown)
+      (all_limited D (as_count (eval (col 0 1) (params ∷ []))) (map (λ (o : Output). o.1) a.ordered) (all-map D (λ (o : Output). o.1) a.ordered (ordered_hold _ a)))
+
 ---- Texts of whole tables
 
-module _ (db : Trees) (ours : AreOurs db) (utf8 : AreUtf8 (tables_in db)) where
-  event_bodies : AllByRecursion (λ r. IsUtf8 (bytes (column r 4))) (db 5)
+module _ (l : Layout) (db : Trees) (ours : AreOurs l db) (utf8 : AreUtf8 (tables_by l db)) where
+  event_bodies : AllByRecursion (λ r. IsUtf8 (bytes (column r 4))) (db (tree_of_events l))
   event_bodies =
-      let all = map event_in (db 5) in
-      all_from_map (λ (e : EventRow). IsUtf8 e.body) event_in (db 5) (all_from (λ (e : EventRow). IsUtf8 e.body) all (λ e has.
+      let all = map event_in (db (tree_of_events l)) in
+      all_from_map (λ (e : EventRow). IsUtf8 e.body) event_in (db (tree_of_events l)) (all_from (λ (e : EventRow). IsUtf8 e.body) all (λ e has.
       all_has (λ (x : EventRow). IsUtf8 x.body) (events_of all e.run) e
       (all-permutation (λ (x : EventRow). IsUtf8 x.body) (rising event_id (events_of all e.run)) (events_of all e.run) (IsPermutation-sym _ _ (rising_moves event_id (events_of all e.run))) (utf8.events e.run))
       (has_kept (λ x. int_eq x.run e.run) all e has ((Decides-int_eq e.run e.run).1 refl))))
@@ -63,8 +82,8 @@ module _ (db : Trees) (ours : AreOurs db) (utf8 : AreUtf8 (tables_in db)) where
 
   texts_read : AllByRecursion ReadsText (db 2)
   texts_read =
-      all_both (λ r. IsTrue (is_int (rowid r))) (λ r. IsReadAs Text (column r 2)) ReadsText (λ r int body. ((_, number_is (rowid r) int), body)) (db 2) ours.numbered.1.0.1
-      (all_both (AreTyped text_table) (λ r. IsUtf8 (bytes (column r 2))) (λ r. IsReadAs Text (column r 2)) (λ r h u. (_, h 1 _ refl refl refl refl, u)) (db 2) (columns db ours 1 text_table refl) (all_from_map _ text_in (db 2) utf8.texts))
+      all_both (λ r. IsTrue (is_int (rowid r))) (λ r. IsReadAs Text (column r 2)) ReadsText (λ r int body. ((_, number_is (rowid r) int), body)) (db 2) (numbered_texts l db ours).1
+      (all_both (AreTyped text_table) (λ r. IsUtf8 (bytes (column r 2))) (λ r. IsReadAs Text (column r 2)) (λ r h u. (_, h 1 _ refl refl refl refl, u)) (db 2) (columns l db ours 1 text_table (text_there l)) (all_from_map _ text_in (db 2) utf8.texts))
 
   abbrev ReadsRun : Row → Type 0
   ReadsRun r = IsReadAs Integer (column r 0) × IsReadAs Text (column r 2) × IsReadAs Text (column r 3) × IsReadAs Integer (column r 4) × IsReadAs Integer (column r 5)
@@ -72,17 +91,17 @@ module _ (db : Trees) (ours : AreOurs db) (utf8 : AreUtf8 (tables_in db)) where
   runs_read : AllByRecursion ReadsRun (db 4)
   runs_read =
       all_both (λ r. IsTrue (is_int (rowid r))) (λ r. IsReadAs Text (column r 2) × IsReadAs Text (column r 3) × IsReadAs Integer (column r 4) × IsReadAs Integer (column r 5)) ReadsRun
-      (λ r int rest. ((_, number_is (rowid r) int), rest.0, rest.1, rest.2, rest.3)) (db 4) ours.numbered.1.1.0.1
+      (λ r int rest. ((_, number_is (rowid r) int), rest.0, rest.1, rest.2, rest.3)) (db 4) (numbered_runs l db ours).1
       (all_both (AreTyped run_table) (λ r. IsUtf8 (bytes (column r 2)) × IsUtf8 (bytes (column r 3))) _
-      (λ r h u. ((_, h 1 _ refl refl refl refl, u.0), (_, h 2 _ refl refl refl refl, u.1), (_, h 3 _ refl refl refl refl), (_, h 4 _ refl refl refl refl))) (db 4) (columns db ours 2 run_table refl) (all_from_map _ run_in (db 4) utf8.runs))
+      (λ r h u. ((_, h 1 _ refl refl refl refl, u.0), (_, h 2 _ refl refl refl refl, u.1), (_, h 3 _ refl refl refl refl), (_, h 4 _ refl refl refl refl))) (db 4) (columns l db ours 2 run_table (run_there l)) (all_from_map _ run_in (db 4) utf8.runs))
 
   abbrev ReadsEvent : Row → Type 0
   ReadsEvent r = IsReadAs Integer (column r 1) × IsReadAs Integer (column r 2) × IsReadAs Integer (column r 3) × IsReadAs Text (column r 4)
 
-  events_read : AllByRecursion ReadsEvent (db 5)
+  events_read : AllByRecursion ReadsEvent (db (tree_of_events l))
   events_read =
-      all_both (AreTyped event_table) (λ r. IsUtf8 (bytes (column r 4))) ReadsEvent
-      (λ r h u. ((_, h 0 _ refl refl refl refl), (_, h 1 _ refl refl refl refl), (_, h 2 _ refl refl refl refl), (_, h 3 _ refl refl refl refl, u))) (db 5) (columns db ours 3 event_table refl) event_bodies
+      all_both (AreTyped (event_table l)) (λ r. IsUtf8 (bytes (column r 4))) ReadsEvent
+      (λ r h u. ((_, h 0 _ refl refl refl refl), (_, h 1 _ refl refl refl refl), (_, h 2 _ refl refl refl refl), (_, h 3 _ refl refl refl refl, u))) (db (tree_of_events l)) (columns l db ours (place_of_events l) (event_table l) (event_there l)) event_bodies
 
   ---- What each read answers
 
@@ -90,7 +109,7 @@ module _ (db : Trees) (ours : AreOurs db) (utf8 : AreUtf8 (tables_in db)) where
     task_reads : (r : Row) → AreTyped task_table r → AreReadAs (kinds_of Read.all_tasks) (seen params (col 1 1 ∷ col 1 2 ∷ col 1 3 ∷ col 1 4 ∷ []) r)
     task_reads r h = ((_, h 0 _ refl refl refl refl), ((_, h 1 _ refl refl refl refl), ((_, h 2 _ refl refl refl refl), ((_, h 3 _ refl refl refl refl), tt))))
 
-    pub are_readable : (r : Read) → IsAnswer (query_of r) (overlay db []) params rows → AllByRecursion (AreReadAs (kinds_of r)) rows
+    pub are_readable : (r : Read) → IsAnswer (query_of l r) (overlay db []) params rows → AllByRecursion (AreReadAs (kinds_of r)) rows
     are_readable Read.all_texts = rows_hold db params 2 _ _ refl ReadsText _ (λ r h. (h.0, (h.1, tt))) texts_read _ rows
     are_readable Read.text_body = rows_hold db params 2 _ _ refl ReadsText _ (λ r h. (h.1, tt)) texts_read _ rows
     are_readable Read.text_number = rows_hold db params 2 _ _ refl ReadsText _ (λ r h. (h.0, tt)) texts_read _ rows
@@ -100,11 +119,12 @@ module _ (db : Trees) (ours : AreOurs db) (utf8 : AreUtf8 (tables_in db)) where
     are_readable Read.last_run = first_holds db params 4 _ _ refl ReadsRun _ (λ r h. (h.0, tt)) runs_read _ rows
     are_readable Read.requested = rows_hold db params 4 _ _ refl ReadsRun _ (λ r h. (h.0, tt)) runs_read _ rows
     are_readable Read.open_run = rows_hold db params 4 _ _ refl ReadsRun _ (λ r h. (h.0, tt)) runs_read _ rows
-    are_readable Read.all_events = rows_hold db params 5 _ _ refl ReadsEvent _ (λ r h. (h.0, (h.1, (h.2, (h.3, tt))))) events_read _ rows
-    are_readable Read.run_events = rows_hold db params 5 _ _ refl ReadsEvent _ (λ r h. (h.0, (h.1, (h.2, (h.3, tt))))) events_read _ rows
-    are_readable Read.last_event = first_holds db params 5 _ _ refl ReadsEvent _ (λ r h. (h.1, tt)) events_read _ rows
-    are_readable Read.event_at = rows_hold db params 5 _ _ refl ReadsEvent _ (λ r h. (h.0, (h.1, (h.2, (h.3, tt))))) events_read _ rows
-    are_readable Read.newest_event = first_holds db params 5 _ _ refl ReadsEvent _ (λ r h. (h.0, (h.1, (h.2, (h.3, tt))))) events_read _ rows
-    are_readable Read.all_timers = rows_hold db params 7 _ _ refl (AreTyped timer_table) _ (λ r h. ((_, h 0 _ refl refl refl refl), ((_, h 1 _ refl refl refl refl), ((_, h 2 _ refl refl refl refl), tt)))) (columns db ours 4 timer_table refl) _ rows
-    are_readable Read.all_tasks = rows_hold db params 9 _ _ refl (AreTyped task_table) _ task_reads (columns db ours 5 task_table refl) _ rows
-    are_readable Read.run_tasks = rows_hold db params 9 _ _ refl (AreTyped task_table) _ task_reads (columns db ours 5 task_table refl) _ rows
+    are_readable Read.open_numbers = some_hold db params 4 _ _ refl ReadsRun _ (λ r h. (h.0, tt)) runs_read _ rows
+    are_readable Read.all_events = rows_hold db params (tree_of_events l) _ _ (event_bare l db) ReadsEvent _ (λ r h. (h.0, (h.1, (h.2, (h.3, tt))))) events_read _ rows
+    are_readable Read.run_events = rows_hold db params (tree_of_events l) _ _ (event_bare l db) ReadsEvent _ (λ r h. (h.0, (h.1, (h.2, (h.3, tt))))) events_read _ rows
+    are_readable Read.last_event = first_holds db params (tree_of_events l) _ _ (event_bare l db) ReadsEvent _ (λ r h. (h.1, tt)) events_read _ rows
+    are_readable Read.event_at = rows_hold db params (tree_of_events l) _ _ (event_bare l db) ReadsEvent _ (λ r h. (h.0, (h.1, (h.2, (h.3, tt))))) events_read _ rows
+    are_readable Read.newest_event = first_holds db params (tree_of_events l) _ _ (event_bare l db) ReadsEvent _ (λ r h. (h.0, (h.1, (h.2, (h.3, tt))))) events_read _ rows
+    are_readable Read.all_timers = rows_hold db params 7 _ _ refl (AreTyped timer_table) _ (λ r h. ((_, h 0 _ refl refl refl refl), ((_, h 1 _ refl refl refl refl), ((_, h 2 _ refl refl refl refl), tt)))) (columns l db ours 4 timer_table (timer_there l)) _ rows
+    are_readable Read.all_tasks = rows_hold db params 9 _ _ refl (AreTyped task_table) _ task_reads (columns l db ours 5 task_table (task_there l)) _ rows
+    are_readable Read.run_tasks = rows_hold db params 9 _ _ refl (AreTyped task_table) _ task_reads (columns l db ours 5 task_table (task_there l)) _ rows

@@ -1,7 +1,7 @@
 -- Why a statement of ours is refused: the store failed, or its database declines what is asked.
 use Rattle.sqlite_trees.specs.declared.error.StoreError.TheVariants as store
 use Rattle.sqlite.specs.Command.TheVariants as command
-use Rattle.flow_sql.proofs.Names.{schema, IsRead, write_takes, IsPlain, command_of, timed, Command, Does, Database, Row, overlay, Query, Executes, RunsCommand, State, mode_of, shows_rows, text_of, Trees, Error, Compiled, IsTrue, List, false, true, ℕ, [], refl, None}
+use Rattle.flow_sql.proofs.Names.{Layout, schema_of, IsRead, write_takes, IsPlain, command_of, timed, Command, Does, Database, Row, overlay, Query, Executes, RunsCommand, State, mode_of, shows_rows, text_of, Trees, Error, Compiled, IsTrue, List, false, true, ℕ, [], refl, None}
 use Rattle.flow_sql.proofs.Names.{Err, length, Some, reads_listing, Fails, IsMisplaced, sym, ap, ◌∙◌, subst, inl, inr, arith, true≢false, append-nil, Schema, IsDeclined, Read, read_sql, query_of, Write, write_sql, IsWrite, TellsFailure, OutOfMemory, QueryOverflows, RefusesToRead, SqliteFailure}
 use Rattle.flow_sql.proofs.Names.{accepts_program, read_takes, IsSome, Any, ◌≡◌, ◌⊎◌, ◌≢◌, ◌≤◌, Begin, Commit, Rollback, Release, RollbackTo}
 use Rattle.sqlite.specs.Listing.{understood, IsSourceOf}
@@ -13,17 +13,17 @@ pub never_sums : (rows : List Row) → ⊥ ⊎ Any (λ r. ⊥) rows → ⊥
 never_sums rows (inl none) = none
 never_sums rows (inr it) = it.4
 
-pub unsummed : (r : Read) (db : Trees) (params : Row) → ¬ QueryOverflows (query_of r) db params
-unsummed Read.all_texts db params = never_sums _
-unsummed _ db params = never_sums _
+pub unsummed : (l : Layout) (r : Read) (db : Trees) (params : Row) → ¬ QueryOverflows (query_of l r) db params
+unsummed l Read.all_texts db params = never_sums _
+unsummed l _ db params = never_sums _
 
 ---- Our texts are whole, and take so many values
 
-pub whole_read : (r : Read) (params : Row) → read_takes r ≡ length params → IsWhole (read_sql r) (length params) (understood schema (read_sql r))
-whole_read r params takes = subst (λ n. IsWhole (read_sql r) n (understood schema (read_sql r))) takes (read_whole r)
+pub whole_read : (l : Layout) (r : Read) (params : Row) → read_takes r ≡ length params → IsWhole (read_sql r) (length params) (understood (schema_of l) (read_sql r))
+whole_read l r params takes = subst (λ n. IsWhole (read_sql r) n (understood (schema_of l) (read_sql r))) takes (read_whole l r)
 
-pub whole_write : (w : Write) (params : Row) → write_takes w ≡ length params → IsWhole (write_sql w) (length params) (understood schema (write_sql w))
-whole_write w params takes = subst (λ n. IsWhole (write_sql w) n (understood schema (write_sql w))) takes (is_write w).1
+pub whole_write : (l : Layout) (w : Write) (params : Row) → write_takes w ≡ length params → IsWhole (write_sql w) (length params) (understood (schema_of l) (write_sql w))
+whole_write l w params takes = subst (λ n. IsWhole (write_sql w) n (understood (schema_of l) (write_sql w))) takes (is_write l w).1
 
 ---- Why one is refused
 
@@ -58,8 +58,8 @@ pub told_since : (e : Error) (a b c d : State) → a.faults ≤ b.faults → c.f
 told_since e a b c d before after (is, more) = (is, omega (arith, before, more, after))
 
 -- A question: the store failed, or a limit is set on the steps of a query.
-module _ (old new : State) (e : Error) (other : e ≢ SqliteFailure OutOfMemory) (up : IsTrue old.is_open) (laid : old.now.schema ≡ schema) (sql : List ℕ) (q : Query) (names : List (List ℕ)) (it : IsRead sql q names) (params : Row)
-    (whole : IsWhole sql (length params) (understood schema sql)) (typed : accepts_program schema [] q params ≡ true) (summed : (db : Trees) → ¬ QueryOverflows q db params) where
+module _ (old new : State) (e : Error) (other : e ≢ SqliteFailure OutOfMemory) (up : IsTrue old.is_open) (l : Layout) (laid : old.now.schema ≡ schema_of l) (sql : List ℕ) (q : Query) (names : List (List ℕ)) (it : IsRead l sql q names) (params : Row)
+    (whole : IsWhole sql (length params) (understood (schema_of l) sql)) (typed : accepts_program (schema_of l) [] q params ≡ true) (summed : (db : Trees) → ¬ QueryOverflows q db params) where
   refuses : (db : Database) → db ≡ old.now → RefusesToRead old.step_limit (command.Select (record { lets = []; body = q }) names) db params e → IsSome old.step_limit
   refuses db is (inl mistyped) = absurd (let same = ap (λ (d : Database). accepts_program d.schema [] q params) is in let has = ap (λ s. accepts_program s [] q params) laid in true≢false (sym typed ∙ sym has ∙ sym same ∙ mistyped.1))
   refuses db is (inr (inl summed')) = absurd (summed (overlay db.trees []) summed'.1)
@@ -67,7 +67,7 @@ module _ (old new : State) (e : Error) (other : e ≢ SqliteFailure OutOfMemory)
 
   pub question_refused : FailsToQuery sql params old new e → TellsFailure e old new ⊎ IsSome old.step_limit
   unfolding FailsToQuery IsNotRun
-  question_refused (inl (inl none)) = absurd (never_no_statement old e schema laid sql params whole it.plain none.0)
+  question_refused (inl (inl none)) = absurd (never_no_statement old e (schema_of l) laid sql params whole it.plain none.0)
   question_refused (inl (inr fails)) = inl (only_failed old new e other up fails)
   question_refused (inr h) =
       let known = sym h.1.is ∙ ap (λ s. understood s sql) laid in

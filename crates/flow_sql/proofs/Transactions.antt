@@ -1,12 +1,12 @@
 -- What BEGIN, COMMIT and ROLLBACK mean, under any schema.
-use Rattle.flow_sql.proofs.Names.{schema, IsPlain, command_of, runs_as, statement_of, survives_weaker, timed, Command, Begin, Commit, Rollback, Does, Row, Schema, Executes, IsRolledBack, Runs, State, Survives, mode_of, shows_rows, text_of, Trees, Error, Compiled, Bool, IfErr, IsTrue, List, MatchResult, codes, false, true, ℕ, [], refl, Ok, None, Err, Result, ⊤, Fails, IsMisplaced, IsOver, RunsTo, HasEnded, IsStill, GoesOn, IsUndone, HasBegun, HasCommitted, sym, ap, ◌∙◌, subst, inl, inr, arith, true≢false}
+use Rattle.flow_sql.proofs.Names.{Layout, schema_of, Write, write_sql, IsPlain, command_of, runs_as, statement_of, survives_weaker, timed, Command, Begin, Commit, Rollback, Does, Row, Schema, Executes, IsRolledBack, Runs, State, Survives, mode_of, shows_rows, text_of, Trees, Error, Compiled, Bool, IfErr, IsTrue, List, MatchResult, codes, false, true, ℕ, [], refl, Ok, None, Err, Result, ⊤, Fails, IsMisplaced, IsOver, RunsTo, HasEnded, IsStill, GoesOn, IsUndone, HasBegun, HasCommitted, sym, ap, ◌∙◌, subst, inl, inr, arith, true≢false}
 use Rattle.flow_sql.proofs.Names.{Holds, IsStoreError, IsWrite, OnOk, TellsFailure, OutOfMemory, SqliteFailure, ◌≡◌, ◌≢◌}
 use Rattle.sqlite_tied.specs.Compute.{everything}
 use Rattle.sqlite.specs.Listing.{understood}
 use Rattle.sqlite.specs.State.{CommitsBy, MayWrite}
 use Rattle.flow_sql.proofs.Refusing.{failed, fails_or_runs, never_misplaced}
 use Rattle.flow_sql.proofs.Leaves.{was_clean, over_both, rolled_back_ended, ended_undone}
-use Rattle.flow_sql.proofs.Texts.{IsWhole}
+use Rattle.flow_sql.proofs.Texts.{IsWhole, is_write, write_of, writes}
 
 -- the text is this command, and nothing else, whatever tables there are
 pub record Controls (sql : List ℕ) (command : Command) : Type 1 where
@@ -68,8 +68,8 @@ module _ (sql : List ℕ) (old : State) (command : Command) (it : Controls sql c
       ]
 
 -- a change commits nothing within a transaction
-module _ (sql : List ℕ) (command : Command) (is : command_of (understood schema sql) ≡ command) (write : IsWrite command) where
-  commits_nothing : (old : State) (params : Row) → old.now.schema ≡ schema → old.in_transaction ≡ true → (db : Trees) → ¬ CommitsBy sql params old db
+module _ (l : Layout) (sql : List ℕ) (command : Command) (is : command_of (understood (schema_of l) sql) ≡ command) (write : IsWrite command) where
+  commits_nothing : (old : State) (params : Row) → old.now.schema ≡ schema_of l → old.in_transaction ≡ true → (db : Trees) → ¬ CommitsBy sql params old db
   unfolding CommitsBy
   commits_nothing old params has inside db h =
       let known = sym h.1.is ∙ ap (λ s. understood s sql) has in
@@ -81,9 +81,13 @@ module _ (sql : List ℕ) (command : Command) (is : command_of (understood schem
         | inr outside ↦ absurd (let e = outside.0 in cc)
       ]
 
-  pub write_survives : (old new : State) (params : Row) → Holds true old → Survives old new (CommitsBy sql params old) → Survives old new (λ _. ⊥)
-  write_survives old new params was h =
-      survives_weaker old new _ _ (λ clean db. let now = was (was_clean old new _ h clean) in commits_nothing old params now.now.laid_out now.mode db) h
+-- nor does one of ours
+pub write_survives : (w : Write) (old new : State) (params : Row) → Holds true old → Survives old new (CommitsBy (write_sql w) params old) → Survives old new (λ _. ⊥)
+write_survives w old new params was h =
+    survives_weaker old new _ _ (λ clean db.
+    let over = was (was_clean old new _ h clean) in
+    let l = over.now.layout in
+    commits_nothing l (write_sql w) (write_of l w) (is_write l w).0.is (writes l w) old params over.now.lie.laid_out over.mode db) h
 
 ---- Why one of the three is refused
 

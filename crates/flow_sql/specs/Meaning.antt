@@ -3,21 +3,21 @@ use Rattle.flow_sql.specs.Names.{Tables, IsPlain, command_of, timed, Command, Se
 use Rattle.std.specs.Prelude.{IsSome, ◌≡◌, ◌⊎◌}
 use Rattle.sqlite.specs.State.{IsStatement}
 use Rattle.sqlite_typing.specs.Types.{accepts_program}
-use Rattle.flow_sql.specs.Layout.{schema, Read, query_of, Write, write_sql}
-use Rattle.flow_sql.specs.Stored.{tables_in, kinds_of, AreUtf8}
+use Rattle.flow_sql.specs.Layout.{Layout, schema_of, Read, query_of, Write, write_sql}
+use Rattle.flow_sql.specs.Stored.{tables_in, tables_by, kinds_of, AreUtf8}
 use Rattle.flow_sql.specs.Coming.{IsFull}
 use Rattle.flow_sql.specs.States.{AreOurs, IsOver, Changes, FirstIs, IsReading}
 
--- the text is this command, and nothing else
-pub record IsText (sql : List ℕ) (command : Command) : Type 0 where
-  pub is : command_of (understood schema sql) ≡ command
-  pub plain : IsPlain (understood schema sql)
+-- over our tables in this layout the text is this command, and nothing else
+pub record IsText (l : Layout) (sql : List ℕ) (command : Command) : Type 0 where
+  pub is : command_of (understood (schema_of l) sql) ≡ command
+  pub plain : IsPlain (understood (schema_of l) sql)
 
--- the text is this query, and nothing else
-pub record IsRead (sql : List ℕ) (q : Query) (names : List (List ℕ)) : Type 0 where
-  pub is : command_of (understood schema sql) ≡ Select (record { lets = []; body = q }) names
-  pub plain : IsPlain (understood schema sql)
-  pub unlisted : reads_listing schema sql ≡ false
+-- and this query, and nothing else
+pub record IsRead (l : Layout) (sql : List ℕ) (q : Query) (names : List (List ℕ)) : Type 0 where
+  pub is : command_of (understood (schema_of l) sql) ≡ Select (record { lets = []; body = q }) names
+  pub plain : IsPlain (understood (schema_of l) sql)
+  pub unlisted : reads_listing (schema_of l) sql ≡ false
   pub reading : FirstIs IsReading (first sql)
 
 ---- Our texts, with what is given to them
@@ -33,6 +33,7 @@ read_takes Read.run_row = 1
 read_takes Read.last_run = 0
 read_takes Read.requested = 1
 read_takes Read.open_run = 1
+read_takes Read.open_numbers = 2
 read_takes Read.all_events = 0
 read_takes Read.run_events = 1
 read_takes Read.last_event = 1
@@ -64,14 +65,16 @@ IsDeclined sql params s =
 ---- Questions and changes
 
 -- A question: one of our reads, what is given with it, what a row of its answer says, and what the rows tell of the tables. The read
--- fits what is given with it, and what it answers over our tables tells this of them.
+-- fits what is given with it, and what it answers over our tables tells this of them, in whichever layout they lie.
 pub record Asks (A : Type 0) : Type 1 where
   pub read : Read
   pub params : Row
   pub said : Row → A
   pub tells : Tables → List A → Type 0
-  pub fits : (read_takes read ≡ length params) × (accepts_program schema [] (query_of read) params ≡ true)
-  pub found : (db : Trees) → AreOurs db → (rows : List Row) → IsAnswer (query_of read) (overlay db []) params rows → tells (tables_in db) (map said rows)
+  pub takes : read_takes read ≡ length params
+  pub typed : (l : Layout) → accepts_program (schema_of l) [] (query_of l read) params ≡ true
+  pub found : (l : Layout) (db : Trees) → AreOurs l db → (rows : List Row) → IsAnswer (query_of l read) (overlay db []) params rows
+      → tells (tables_by l db) (map said rows)
 
 -- its rows are read so, as columns of these kinds
 abbrev pub IsReadSo : {A : Type 0} → Asks A → (Row → A) → List Kind → Type 0
@@ -79,11 +82,11 @@ IsReadSo asks said kinds = (asks.said ≡ said) × (kinds_of asks.read ≡ kinds
 
 -- A change with what is given with it makes this of our tables.
 abbrev pub Puts : Write → Row → (Tables → Type 0) → (Tables → Tables) → Type 1
-Puts w params fits after = (old new : State) (count : ℕ) → IsOver true old → fits (tables_in old.now.trees) → Executes (write_sql w) params old new (Ok count) → Changes old new (after (tables_in old.now.trees))
+Puts w params fits after = (old new : State) (count : ℕ) → IsOver true old → fits (tables_in old.now) → Executes (write_sql w) params old new (Ok count) → Changes old new (after (tables_in old.now))
 
 -- And where it is welcome a limit alone hinders it.
 abbrev pub IsTaken : Write → Row → (Tables → Type 0) → Type 1
-IsTaken w params welcome = (s : State) → IsOver true s → welcome (tables_in s.now.trees) → IsDeclined (write_sql w) params s → IsSome s.step_limit ⊎ IsFull s.now.trees
+IsTaken w params welcome = (s : State) → IsOver true s → welcome (tables_in s.now) → IsDeclined (write_sql w) params s → IsSome s.step_limit ⊎ IsFull s.now
 
 -- It fits what is given with it, does both, and leaves texts UTF-8 that were.
 pub record IsRowChange (write : Write) (params : Row) (fits welcome : Tables → Type 0) (after : Tables → Tables) : Type 1 where

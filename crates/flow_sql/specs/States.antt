@@ -3,8 +3,8 @@ use Rattle.std.specs.Prelude.{◌≡◌, ◌∷◌, ◌⊎◌, ◌≤◌}
 use Rattle.flow_sql.specs.Names.{Tables, Database, Held, state, Row, Schema, Executes, HasCleanDisk, Shows, State, Table, IsTable, Trees, rowid, is_int, Error, Statement, created, IsSound, Checked, Parsed, Ghosts, AllByRecursion, Bool, IsTrue, List, MatchResult, codes, false, true, ℕ, [], Ok, Err, Result, ⊤}
 use Rattle.sqlite_ast.specs.declared.Statement.TheVariants as written
 use Rattle.sqlite_ast.specs.declared.Conflict.TheVariants as conflict
-use Rattle.flow_sql.specs.Layout.{schema, no_schema, meta, text, run}
-use Rattle.flow_sql.specs.Stored.{tables_in, format_row}
+use Rattle.flow_sql.specs.Layout.{Layout, Fresh, schema_of, no_schema, meta, text, run}
+use Rattle.flow_sql.specs.Stored.{tables_in, tables_by, format_row}
 use Rattle.sqlite_disk.specs.Disk.{MoreFaults}
 use Rattle.sqlite.specs.State.{store_error}
 use Rattle.sqlite_trees.specs.declared.error.StoreError.{StoreError}
@@ -13,16 +13,25 @@ use Rattle.sqlite_trees.specs.declared.error.StoreError.{StoreError}
 abbrev pub AreNumbered : List Row → Type 0
 AreNumbered rows = IsTable rows × AllByRecursion (λ r. IsTrue (is_int (rowid r))) rows
 
--- The trees of a file with our tables, in their format.
-pub record AreOurs (db : Trees) : Type 0 where
-  pub sound : IsSound schema db
+-- The trees of a file with our tables in this layout, in their format.
+pub record AreOurs (l : Layout) (db : Trees) : Type 0 where
+  pub sound : IsSound (schema_of l) db
   pub format : db 0 ≡ format_row ∷ []
   -- what is sound in SQL says nothing of the order of rows
-  pub numbered : AllByRecursion (λ t. AreNumbered (db t.tree)) schema.tables
+  pub numbered : AllByRecursion (λ t. AreNumbered (db t.tree)) (schema_of l).tables
+
+-- its tables are ours, in one of the layouts
+abbrev pub IsLaidOut : Database → Type 0
+IsLaidOut db = (l : Layout) × (db.schema ≡ schema_of l)
+
+-- in this one
+pub record LieAs (l : Layout) (db : Database) : Type 0 where
+  pub laid_out : db.schema ≡ schema_of l
+  pub ours : AreOurs l db.trees
 
 pub record HasTables (db : Database) : Type 0 where
-  pub laid_out : db.schema ≡ schema
-  pub ours : AreOurs db.trees
+  pub layout : Layout
+  pub lie : LieAs layout db
 
 -- The connection is open, in a transaction or not, over our tables.
 pub record IsOver (inside : Bool) (s : State) : Type 0 where
@@ -38,7 +47,7 @@ Holds inside s = HasCleanDisk s → IsOver inside s
 -- A statement changed the tables so, and nothing else; what the last commit left is as it was.
 pub record Changes (old new : State) (after : Tables) : Type 0 where
   pub over : IsOver true new
-  pub tables : tables_in new.now.trees ≡ after
+  pub tables : tables_in new.now ≡ after
   pub committed : new.committed ≡ old.committed
 
 -- The transaction has ended with what the last commit left, unless the store has shut the connection.
@@ -138,16 +147,17 @@ IsBlank inside s = HasEmpty inside no_schema s
 abbrev pub no_tables : Tables
 no_tables = record { texts = []; runs = []; events = λ run. []; timers = λ run. []; outbox = λ run. [] }
 
--- The trees of our tables without rows.
+-- The trees of our tables without rows, as a new store has them.
 abbrev pub AreNew : Trees → Type 0
-AreNew db = AreOurs db × (tables_in db ≡ no_tables)
+AreNew db = AreOurs Fresh db × (tables_by Fresh db ≡ no_tables)
 
--- The transaction shows our tables without rows.
+-- The transaction shows our tables without rows, as a new store has them.
 pub record HasMade (s : State) : Type 0 where
   pub is_open : IsTrue s.is_open
   pub mode : s.in_transaction ≡ true
   pub now : HasTables s.now
-  pub tables : tables_in s.now.trees ≡ no_tables
+  pub tables : tables_in s.now ≡ no_tables
+  pub fresh : AreNew s.now.trees
 
 -- a CREATE TABLE, or an INSERT that has no clause and shows nothing
 abbrev pub IsMaking : Statement → Type 0

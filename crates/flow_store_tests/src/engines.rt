@@ -4,13 +4,13 @@ use crate::keepers::{batch, code_of};
 use crate::positions::are_waiting;
 use crate::verifying::{Verdict, is_reported};
 use flow_base::command::Command;
-use flow_cli::batch::BatchSize;
-use flow_cli::drive::drive_lines;
-use flow_cli::streams::{Reading, Writing};
 use flow_commit::batch::Batch;
 use flow_engine::done::{Done, Unanswered};
 use flow_engine::drive::drive;
 use flow_engine::engine::Engine;
+use flow_lines::batch::BatchSize;
+use flow_lines::drive::drive_lines;
+use flow_lines::streams::{Reading, Writing};
 use flow_machine::answer::{Answer, Stop};
 use flow_settings::settings::Settings;
 use sqlite::{Alter, Connection};
@@ -202,7 +202,7 @@ fn status<S: Alter>(
     let mut output = Writing::new(out);
     match drive_lines(alloc, engine, &mut input, &mut output, size) {
         Ok(done) => done,
-        Err(fault) => flow_cli::fault::status(&fault),
+        Err(fault) => flow_lines::fault::status(&fault),
     }
 }
 

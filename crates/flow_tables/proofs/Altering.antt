@@ -1,6 +1,6 @@
 -- What changes of a run beside its turns: the text that it goes on under, and the attempt at an activity.
 use Rattle.std.specs.Prelude.{◌≡◌, ◌∷◌}
-use Rattle.flow_tables.proofs.Names.{Book, Tells, Task, task_row, with_task, without_task, is_other_task, Tables, OutboxRow, State, AllByRecursion, List, Option, false, filter, int_eq, pos, true, ℕ, ℤ, [], refl, Result, Some, None, Changes, IsStill, tables_in, AreOurs, nth, Run, subst, ◌∙◌, sym, ap, inl, inr, true≢false}
+use Rattle.flow_tables.proofs.Names.{Book, Tells, Task, task_row, with_task, without_task, is_other_task, Tables, OutboxRow, State, AllByRecursion, List, Option, false, filter, int_eq, pos, true, ℕ, ℤ, [], refl, Result, Some, None, Changes, IsStill, tables_in, HasTables, nth, Run, subst, ◌∙◌, sym, ap, inl, inr, true≢false}
 use Rattle.flow_tables.proofs.Names.{OrCut, list_any, cases_Bool, Decides-int_eq, HasRun, IsWelcomeTask}
 use Rattle.flow_rows.specs.Changes.{with_task_in_place}
 use Rattle.flow_rows.proofs.Behind.{run_there, no_rows_yet}
@@ -37,12 +37,12 @@ run_of_task t b n id tells there = by_run (nth b.runs n) refl
     by_run None is = absurd (true≢false (there ∙ ap (λ rows. list_any (is_task_at id) rows) (no_rows_yet t b n tells is).2))
 
 -- nothing changes where it isn't there
-pub no_task_set : (old mid : State) (run : ℤ) (task : Task) → IsStill true old mid → false ≡ has_task run (pos task.event) (tables_in old.now.trees) → Changes old mid (with_task_in_place (task_row run task) (tables_in old.now.trees))
-no_task_set old mid run task still none = subst (Changes old mid) (sym (no_task_in_place (tables_in old.now.trees) (task_row run task) (sym none))) (still_changes old mid still)
+pub no_task_set : (old mid : State) (run : ℤ) (task : Task) → IsStill true old mid → false ≡ has_task run (pos task.event) (tables_in old.now) → Changes old mid (with_task_in_place (task_row run task) (tables_in old.now))
+no_task_set old mid run task still none = subst (Changes old mid) (sym (no_task_in_place (tables_in old.now) (task_row run task) (sym none))) (still_changes old mid still)
 
 -- and where it is there, its row is in its place
-pub task_set : {E : Type 0} (old mid new : State) (run : ℤ) (task : Task) (r : Result Unit E) → AreOurs old.now.trees → IsStill true old mid → true ≡ has_task run (pos task.event) (tables_in old.now.trees)
-    → OrCut mid new r (Changes mid new (with_task (task_row run task) (without_task run (pos task.event) (tables_in mid.now.trees)))) → OrCut old new r (Unit {0} × Changes old new (with_task_in_place (task_row run task) (tables_in old.now.trees)))
-task_set old mid new run task r ours still there = behind_put old mid new _ r (still_changes old mid still) (λ done.
+pub task_set : {E : Type 0} (old mid new : State) (run : ℤ) (task : Task) (r : Result Unit E) → HasTables old.now → IsStill true old mid → true ≡ has_task run (pos task.event) (tables_in old.now)
+    → OrCut mid new r (Changes mid new (with_task (task_row run task) (without_task run (pos task.event) (tables_in mid.now)))) → OrCut old new r (Unit {0} × Changes old new (with_task_in_place (task_row run task) (tables_in old.now)))
+task_set old mid new run task r has still there = behind_put old mid new _ r (still_changes old mid still) (λ done.
     let whole = still_then old mid new (λ t. with_task (task_row run task) (without_task run (pos task.event) t)) still done in
-    (tt, subst (Changes old new) (task_in_place old.now.trees ours (task_row run task) (sym there)) whole))
+    (tt, subst (Changes old new) (task_in_place old.now has (task_row run task) (sym there)) whole))

@@ -104,9 +104,9 @@ made_all run (e ∷ es) s t h =
     ∙ ap (λ v. after_events run v es (after_event run s.is_open e t)) (opens_alike s (effect_of e.what))
 
 -- so a turn that was put is the turn
-pub turn_made : (old new : State) (run : ℤ) (s : Standing) (count : ℕ) (turn : Turn) → Stands run s (tables_in old.now.trees) → Changes old new (made_turn run s count turn (tables_in old.now.trees))
-    → Changes old new (after_turn run s.is_open count turn (tables_in old.now.trees))
-turn_made old new run s count turn h done = subst (Changes old new) (made_all run (turn_events (count + 1) turn.at turn.input turn.commands) s (tables_in old.now.trees) h) done
+pub turn_made : (old new : State) (run : ℤ) (s : Standing) (count : ℕ) (turn : Turn) → Stands run s (tables_in old.now) → Changes old new (made_turn run s count turn (tables_in old.now))
+    → Changes old new (after_turn run s.is_open count turn (tables_in old.now))
+turn_made old new run s count turn h done = subst (Changes old new) (made_all run (turn_events (count + 1) turn.at turn.input turn.commands) s (tables_in old.now) h) done
 
 pub any_stands : (run : ℤ) (opened : Bool) (t : Tables) → Stands run (any_standing opened) t
 any_stands run opened t = record { mark = λ is. absurd (true≢false (sym is)); tasks = tt; timers = λ none. absurd (true≢false none) }

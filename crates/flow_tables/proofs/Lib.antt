@@ -1,5 +1,6 @@
 pub mod Names
 pub mod Stops
+pub mod Reopened
 pub mod Parts
 pub mod BookReads
 pub mod Owning
@@ -17,3 +18,4 @@ pub mod Questioned
 pub mod Altering
 pub mod Serving
 pub mod RunsRead
+pub mod Numbered

@@ -3,10 +3,10 @@ use Rattle.std.specs.Prelude.{◌≡◌, ◌∷◌, ◌⊎◌, ◌≢◌, ◌≤
 use Rattle.flow_tables.proofs.Names.{Bytes, Bool, Run, Fault, Damaged, NoMemory, NotOurs, StoreRefused, Book, no_book, event_row, of_run, task_row, timer_row, timers_left, Tells, format_sql, no_schema, Database, Held, state, HasCleanDisk, Survives, Row, State, Error, Int, Ghosts, IsSome, IsTrue, IsUnchanged, List, Option, map, pos, false, true, HasEnded, HasTables, IsAtRest, no_tables, tables_in, SqliteFailure, Err, Ok, ℕ, ℤ, [], refl, column, eqb as nat_eq, negsuc, QueriesRow, subst, ◌∙◌, sym, ap, inl, inr}
 use Rattle.flow_tables.specs.Names.{QueryReturnedNoRows}
 use Rattle.sqlite.specs.declared.error.ErrorCode.TheVariants as code
-use Rattle.flow_sql.specs.Names.{Schema}
 use Rattle.flow_rows.specs.Rows.{run_at}
 use Rattle.flow_sql.proofs.Transactions.{ends_again}
 use Rattle.flow_sql.proofs.Finding.{answered, blank_never_reads, format_answer, read_over, read_blank, refused, shut_fails, at_rest}
+use Rattle.flow_sql.proofs.Places.{never_none}
 use Rattle.flow_rows.proofs.Laws.{book_undamaged}
 use Rattle.flow_tables.proofs.Stopping.{error_after, format_cut, never_told, ours_limited, survived, was_shut}
 use Rattle.std.proofs.lemmas.Bool.{cases_Bool}
@@ -31,23 +31,23 @@ caused g e met = by_fault (opening_fault e) refl
 
 -- there are our tables, or none
 pub never_both : {A : Type 0} (db : Database) → HasTables db → db.schema ≡ no_schema → A
-never_both db has none = absurd (let clash = sym (ap (λ (s : Schema). s.tables) has.laid_out) ∙ ap (λ (s : Schema). s.tables) none in cc)
+never_both db has none = absurd (never_none has.layout (sym has.lie.laid_out ∙ none))
 
 module _ (is_program : Bytes → Bool) (db : Database) (f : Fault) where
   pub told_blank : db.schema ≡ no_schema → IsToldOf is_program db f → IsOfStore f
   told_blank none (inl of) = of
   told_blank none (inr damage) = never_both db damage.0 none
 
-  pub told_first : IsToldOf is_program db f → IsFirstDamage is_program (tables_in db.trees) f
+  pub told_first : IsToldOf is_program db f → IsFirstDamage is_program (tables_in db) f
   told_first (inl of) = harmless f of
     where
-      harmless : (f : Fault) → IsOfStore f → IsFirstDamage is_program (tables_in db.trees) f
+      harmless : (f : Fault) → IsOfStore f → IsFirstDamage is_program (tables_in db) f
       harmless (Damaged d) of = absurd of
       harmless _ of = tt
-  told_first (inr damage) = subst (IsFirstDamage is_program (tables_in db.trees)) (sym damage.2.1) (damage.1, damage.3, damage.2.2)
+  told_first (inr damage) = subst (IsFirstDamage is_program (tables_in db)) (sym damage.2.1) (damage.1, damage.3, damage.2.2)
 
   -- tables that stand for a book have none
-  pub told_whole : (b : Book) → StandFor is_program (tables_in db.trees) b → IsToldOf is_program db f → IsOfStore f
+  pub told_whole : (b : Book) → StandFor is_program (tables_in db) b → IsToldOf is_program db f → IsOfStore f
   told_whole b stand (inl of) = of
   told_whole b stand (inr damage) =
       absurd (let some = damage.2.2 in let none = book_undamaged is_program damage.1 b stand.texts stand.runs (damage.3.0 ∙ stand.same) in cc)
@@ -86,7 +86,7 @@ module _ {S : Type 0} (g : Ghosts S) (old : State) (mid new : Held S) (ended : H
           (mid, new, ended, survived old (state g mid) _ quiet, (e, asked, other, told)),
           (
             λ has. (
-              (read_over old (state g mid) (state g new) ended same has).0.now.laid_out,
+              (let now = (read_over old (state g mid) (state g new) ended same has).0.now in (now.layout, now.lie.laid_out)),
               subst (λ (o : Option ℕ). IsSome o) quiet.limit (ours_limited (state g mid) (state g new) e asked same.0.was_open (subst HasTables (sym (ended.back same.0.was_open).0) has) told),
             ),
             read_blank old (state g mid) (state g new) ended same,

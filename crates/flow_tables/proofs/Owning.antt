@@ -1,12 +1,13 @@
 -- What tables keep true of their connection, call by call.
 use Rattle.std.specs.Prelude.{◌≡◌, ◌⊎◌}
-use Rattle.flow_tables.proofs.Names.{Change, Book, FitsTables, Tells, after_change, Database, Executes, HasCleanDisk, State, Survives, Error, Bool, IsTrue, List, MatchResult, Option, false, true, ℕ, Changes, HasBegun, HasCommitted, HasEnded, HasTables, Holds, IsOver, IsRefused, IsStill, IsUndone, tables_in, Refusal, Known, ViewFault, Err, IfOk, None, Ok, OnOk, Some, [], refl, Result, changed, subst, ◌∙◌, sym, ap, inl, inr, true≢false, was_clean, book_of, IsCutShort, IsOwn, Keeps, IsKnown, ShowsBook, rolled_back_ended, told_answer, IsAware, HasCounted, error_leaves, IsFileOf, IsSure, KeepsOn, WasUp, ReadsBook, IsNoted, AreOurs, Ghosts, kept_book, IsUp}
+use Rattle.flow_tables.proofs.Names.{Change, Book, FitsTables, Tells, after_change, Database, Executes, HasCleanDisk, State, Survives, Error, Bool, IsTrue, List, MatchResult, Option, false, true, ℕ, Changes, HasBegun, HasCommitted, HasEnded, HasTables, Holds, IsOver, IsRefused, IsStill, IsUndone, tables_in, Refusal, Known, ViewFault, Err, IfOk, None, Ok, OnOk, Some, [], refl, Result, changed, subst, ◌∙◌, sym, ap, inl, inr, true≢false, was_clean, book_of, IsCutShort, IsOwn, Keeps, IsKnown, ShowsBook, rolled_back_ended, told_answer, IsAware, HasCounted, error_leaves, IsFileOf, IsSure, KeepsOn, WasUp, ReadsBook, IsNoted, Ghosts, kept_book, IsUp}
 use Rattle.flow_tables.proofs.Names.{OrCut, WasPut, Shows, AreUtf8, noted_fault, ShowsOddText, IsTypedChange}
-use Rattle.flow_tables.specs.Owned.{Stored, state_of}
+use Rattle.flow_tables.specs.Owned.{Stored, state_of, LeavesWritten}
 use Rattle.sqlite.specs.State.{IsUnchanged, IsRolledBack}
 use Rattle.flow_rows.proofs.Telling.{told}
 use Rattle.flow_rows.proofs.WholeChanges.{change_told}
 use Rattle.flow_sql.proofs.Leaves.{over_both}
+use Rattle.flow_sql.proofs.Places.{tables_are}
 use Rattle.flow_sql.proofs.Transactions.{begun_still, committed_over}
 use Rattle.flow_tables.proofs.Parts.{refused_first}
 use Rattle.flow_tables.proofs.Stopping.{since_then, survived}
@@ -14,7 +15,7 @@ use Rattle.flow_tables.proofs.Stops.{IsSettled}
 
 ---- What the tables keep true, in a transaction and out of one
 
-pub own_inside : (s : State) (r : Option Refusal) → IsOver true s → ShowsBook s.committed.trees → (r ≡ None → ShowsBook s.now.trees) → IsOwn s r
+pub own_inside : (s : State) (r : Option Refusal) → IsOver true s → ShowsBook s.committed → (r ≡ None → ShowsBook s.now) → IsOwn s r
 own_inside s r over kept shows = record {
   over = λ up. subst (λ b. IsOver b s) (sym over.mode) over;
   kept = λ up. kept;
@@ -22,7 +23,7 @@ own_inside s r over kept shows = record {
   whole = λ mode none. (over.is_open, shows none);
 }
 
-pub own_outside : (s : State) (r : Option Refusal) → s.in_transaction ≡ false → (IsTrue s.is_open → IsOver false s × (s.now ≡ s.committed) × ShowsBook s.committed.trees) → IsOwn s r
+pub own_outside : (s : State) (r : Option Refusal) → s.in_transaction ≡ false → (IsTrue s.is_open → IsOver false s × (s.now ≡ s.committed) × ShowsBook s.committed) → IsOwn s r
 own_outside s r mode shows = record {
   over = λ up. subst (λ b. IsOver b s) (sym mode) (shows up).0;
   kept = λ up. (shows up).2;
@@ -31,8 +32,8 @@ own_outside s r mode shows = record {
 }
 
 -- the rows of a database that is another tell what the other's tell
-tell_on : (a b : Database) → a ≡ b → ShowsBook b.trees → ShowsBook a.trees
-tell_on a b same told = subst (λ (d : Database). ShowsBook d.trees) (sym same) told
+tell_on : (a b : Database) → a ≡ b → ShowsBook b → ShowsBook a
+tell_on a b same told = subst (λ (d : Database). ShowsBook d) (sym same) told
 
 module _ (old new : State) where
   ---- What keeps the last commit
@@ -46,7 +47,7 @@ module _ (old new : State) where
   keeps_on ours survived left fit clean = let survives = survived fit in let leaves = left fit in (
     was_clean old new _ survives clean,
     λ b keeps. record {
-      kept = λ up. let it = leaves clean in subst (λ (d : Database). HasTables d × Tells (tables_in d.trees) b) (sym (it.same up)) (keeps.kept (it.was_open up));
+      kept = λ up. let it = leaves clean in subst (λ (d : Database). HasTables d × Tells (tables_in d) b) (sym (it.same up)) (keeps.kept (it.was_open up));
       stops = λ db may. elim (survives.crash clean db may) [
         | inl before ↦ keeps.stops db before
         | inr none ↦ absurd none
@@ -85,9 +86,9 @@ module _ (old new : State) where
       now = subst HasTables (sym h.now_is) was.now;
       committed = subst HasTables (sym h.committed_is) was.committed;
     };
-    kept = λ up. subst (λ (d : Database). ShowsBook d.trees) (sym h.committed_is) (own.kept h.was_open);
+    kept = λ up. subst (λ (d : Database). ShowsBook d) (sym h.committed_is) (own.kept h.was_open);
     rest = λ mode up. h.now_is ∙ own.rest (sym h.mode ∙ mode) h.was_open ∙ sym h.committed_is;
-    whole = λ mode none. (h.is_open, subst (λ (d : Database). ShowsBook d.trees) (sym h.now_is) (own.whole (sym h.mode ∙ mode) none).1);
+    whole = λ mode none. (h.is_open, subst (λ (d : Database). ShowsBook d) (sym h.now_is) (own.whole (sym h.mode ∙ mode) none).1);
   }
 
   -- a transaction that has begun shows what is kept
@@ -126,7 +127,7 @@ module _ (old new : State) where
     own_over = subst (λ b. IsOver b old) inside (own.over up_now)
 
     -- what the last commit left is as it was
-    still_kept : new.committed ≡ old.committed → ShowsBook new.committed.trees
+    still_kept : new.committed ≡ old.committed → ShowsBook new.committed
     still_kept same = tell_on new.committed old.committed same (own.kept up_now)
 
     pub own_still : (s : Option Refusal) → IsStill true old new → IsOwn new s
@@ -143,23 +144,23 @@ module _ (old new : State) where
     own_cut f (inl part) = own_inside new (Some f) part.over (still_kept part.committed) (λ e. absurd (cc))
     own_cut f (inr undone) = own_undone (Some f) undone
 
-    module _ (c : Change) (typed : IsTypedChange c) (fits : FitsTables (book_of old.now.trees) c) (done : Changes old new (after_change c (tables_in old.now.trees))) where
-      put_tells : Tells (tables_in new.now.trees) (changed (book_of old.now.trees) c)
+    module _ (c : Change) (typed : IsTypedChange c) (fits : FitsTables (book_of old.now) c) (done : Changes old new (after_change c (tables_in old.now))) where
+      put_tells : Tells (tables_in new.now) (changed (book_of old.now) c)
       put_tells =
-          subst (λ t. Tells t (changed (book_of old.now.trees) c)) (sym done.tables)
-          (change_told (tables_in old.now.trees) (book_of old.now.trees) c (own.whole inside none).1.tells fits typed)
+          subst (λ t. Tells t (changed (book_of old.now) c)) (sym done.tables)
+          (change_told (tables_in old.now) (book_of old.now) c (own.whole inside none).1.tells fits typed)
 
       -- the book that the tables then show
-      pub put_book : book_of new.now.trees ≡ changed (book_of old.now.trees) c
-      put_book = told (tables_in new.now.trees) (changed (book_of old.now.trees) c) put_tells
+      pub put_book : book_of new.now ≡ changed (book_of old.now) c
+      put_book = told (tables_in new.now) (changed (book_of old.now) c) put_tells
 
       pub own_put : (s : Option Refusal) → IsOwn new s
-      own_put s = own_inside new s done.over (still_kept done.committed) (λ _. record { tells = subst (λ b. Tells (tables_in new.now.trees) b) (sym put_book) put_tells; utf8 = done.utf8 (own.whole inside none).1.utf8 })
+      own_put s = own_inside new s done.over (still_kept done.committed) (λ _. record { tells = subst (λ b. Tells (tables_in new.now) b) (sym put_book) put_tells; utf8 = done.utf8 (own.whole inside none).1.utf8 })
 
 ---- A call of the view, once nothing hinders it
 
 -- what was cut short shows no odd text where there was none
-odd_cut : (old new : State) → AreUtf8 (tables_in old.now.trees) → IsCutShort old new → ShowsOddText new → ⊥
+odd_cut : (old new : State) → AreUtf8 (tables_in old.now) → IsCutShort old new → ShowsOddText new → ⊥
 odd_cut old new utf8 (inl part) odd = odd.1 (part.utf8 utf8)
 odd_cut old new utf8 (inr undone) odd = true≢false (sym odd.0.mode ∙ undone.mode)
 
@@ -167,14 +168,14 @@ module _ (old new : State) (ours : Type 0) (ro rn : Option Refusal) (owned : our
   pub holds : ours → Holds true old
   holds fit was = own_over old new ro (owned fit was) inside none
 
-  shows : ours → HasCleanDisk new → IsTrue old.is_open × ShowsBook old.now.trees
+  shows : ours → HasCleanDisk new → IsTrue old.is_open × ShowsBook old.now
   shows fit now = (owned fit (clean now)).whole inside none
 
   abbrev Read : {A : Type 0} → Result A ViewFault → A → Type 0
   Read r x = MatchResult r (λ v. IsStill true old new × (v ≡ x)) (λ _. IsRefused true old new)
 
-  pub told_at : {A : Type 0} (r : Result A ViewFault) (value : Book → A) → (HasCleanDisk new → ReadsBook old new r value) → ours → HasCleanDisk new → Read r (value (book_of old.now.trees))
-  told_at r value reads fit now = reads now (book_of old.now.trees) (shows fit now).1.tells (holds fit)
+  pub told_at : {A : Type 0} (r : Result A ViewFault) (value : Book → A) → (HasCleanDisk new → ReadsBook old new r value) → ours → HasCleanDisk new → Read r (value (book_of old.now))
+  told_at r value reads fit now = reads now (book_of old.now) (shows fit now).1.tells (holds fit)
 
   refused_so : {A : Type 0} (r : Result A ViewFault) (x : A) → Read r x → IsRefused true old new
   refused_so (Ok v) x h = inl h.0
@@ -186,8 +187,8 @@ module _ (old new : State) (ours : Type 0) (ro rn : Option Refusal) (owned : our
   read_sure (Err f) value reads n X = tt
 
   pub read_told : {A : Type 0} (r : Result A ViewFault) (value : Book → A) → (HasCleanDisk new → ReadsBook old new r value) → IsNoted noted_fault r ro rn
-      → IfOk r (λ v. IsSure ours new rn → (book_of new.now.trees ≡ book_of old.now.trees) × (v ≡ value (book_of old.now.trees)))
-  read_told (Ok v) value reads n = λ sure. let it = told_at (Ok v) value reads sure.fit sure.clean in (ap (λ (d : Database). book_of d.trees) it.0.1, it.1)
+      → IfOk r (λ v. IsSure ours new rn → (book_of new.now ≡ book_of old.now) × (v ≡ value (book_of old.now)))
+  read_told (Ok v) value reads n = λ sure. let it = told_at (Ok v) value reads sure.fit sure.clean in (ap (λ (d : Database). book_of d) it.0.1, it.1)
   read_told (Err f) value reads n = tt
 
   -- what is true of what is shown is true on, where nothing was refused
@@ -198,7 +199,7 @@ module _ (old new : State) (ours : Type 0) (ro rn : Option Refusal) (owned : our
   module _ {A : Type 0} (r : Result A ViewFault) (value : Book → A) (reads : HasCleanDisk new → ReadsBook old new r value) (noted : IsNoted noted_fault r ro rn) where
     -- it changed nothing, or was refused
     refused_at : ours → HasCleanDisk new → IsRefused true old new
-    refused_at fit now = refused_so r (value (book_of old.now.trees)) (told_at r value reads fit now)
+    refused_at fit now = refused_so r (value (book_of old.now)) (told_at r value reads fit now)
 
     pub read_own : ours → HasCleanDisk new → IsOwn new rn
     read_own fit now = own_refused old new ro (owned fit (clean now)) inside none rn (refused_at fit now)
@@ -211,7 +212,7 @@ module _ (old new : State) (ours : Type 0) (ro rn : Option Refusal) (owned : our
     read_leaves fit now = cut_leaves old new (shows fit now).0 (refused_first old new (refused_at fit now))
 
     pub read_aware : (k : Known) → (ours → HasCleanDisk old → IsAware old ro k) → ours → HasCleanDisk new → IsAware new rn k
-    read_aware k aware fit now same _ = still_so r (value (book_of old.now.trees)) (λ d. IsKnown k (tables_in d.trees)) (told_at r value reads fit now) noted (aware fit (clean now) none inside) same
+    read_aware k aware fit now same _ = still_so r (value (book_of old.now)) (λ d. IsKnown k (tables_in d)) (told_at r value reads fit now) noted (aware fit (clean now) none inside) same
 
   pub follows_on : (a : State) → (ours → Holds true old → Survives old new (λ _. ⊥)) → (ours → HasCleanDisk new → LeavesCommit old new) → KeepsOn ours a old → WasUp ours a old → HasCounted ours a old
       → KeepsOn ours a new × WasUp ours a new × HasCounted ours a new
@@ -228,10 +229,10 @@ module _ (old new : State) (ours : Type 0) (ro rn : Option Refusal) (owned : our
   Aware k = ours → HasCleanDisk old → IsAware old ro k
 
   abbrev Puts : Result Unit Refusal → Change → Known → Type 0
-  Puts r c k = (b : Book) → Tells (tables_in old.now.trees) b → IsKnown k (tables_in old.now.trees) → Holds true old → HasCleanDisk new → OrCut old new r (WasPut b c old new)
+  Puts r c k = (b : Book) → Tells (tables_in old.now) b → IsKnown k (tables_in old.now) → Holds true old → HasCleanDisk new → OrCut old new r (WasPut b c old new)
 
-  put_at : (r : Result Unit Refusal) (c : Change) (k : Known) → Aware k → Puts r c k → ours → HasCleanDisk new → OrCut old new r (WasPut (book_of old.now.trees) c old new)
-  put_at r c k aware put fit now = put (book_of old.now.trees) (shows fit now).1.tells (aware fit (clean now) none inside) (holds fit) now
+  put_at : (r : Result Unit Refusal) (c : Change) (k : Known) → Aware k → Puts r c k → ours → HasCleanDisk new → OrCut old new r (WasPut (book_of old.now) c old new)
+  put_at r c k aware put fit now = put (book_of old.now) (shows fit now).1.tells (aware fit (clean now) none inside) (holds fit) now
 
   pub put_own : (r : Result Unit Refusal) (c : Change) (k : Known) → Aware k → Puts r c k → IsNoted (λ x. x) r ro rn → IsTypedChange c → ours → HasCleanDisk new → IsOwn new rn
   put_own (Ok v) c k aware put n typed fit now = let it = put_at (Ok v) c k aware put fit now in own_put old new ro (owned fit (clean now)) inside none c typed it.0 it.1 rn
@@ -250,19 +251,23 @@ module _ (old new : State) (ours : Type 0) (ro rn : Option Refusal) (owned : our
   put_sure (Err f) c k aware put n X = tt
 
   pub put_told : (r : Result Unit Refusal) (c : Change) (k : Known) → Aware k → Puts r c k → IsNoted (λ x. x) r ro rn → IsTypedChange c
-      → OnOk (told_answer r) (IsSure ours new rn → book_of new.now.trees ≡ changed (book_of old.now.trees) c)
+      → OnOk (told_answer r) (IsSure ours new rn → book_of new.now ≡ changed (book_of old.now) c)
   put_told (Ok v) c k aware put n typed = λ sure. let it = put_at (Ok v) c k aware put sure.fit sure.clean in put_book old new ro (owned sure.fit (clean sure.clean)) inside none c typed it.0 it.1
   put_told (Err f) c k aware put n typed = tt
 
 ---- The ends of a transaction
 
+-- the trees of a database that tells a book are a file of it
+pub file_of : (d : Database) (b : Book) → HasTables d → Tells (tables_in d) b → IsFileOf d.trees b
+file_of d b has tells = record { layout = has.layout; ours = has.lie.ours; tells = subst (λ t. Tells t b) (tables_are has.layout d has.lie) tells }
+
 -- a connection with nothing under way keeps the book that its last commit tells
-settled_keeps : (s : State) (b : Book) → IsSettled s → IsTrue s.is_open → HasTables s.committed × Tells (tables_in s.committed.trees) b → Keeps s b
-settled_keeps s b law up it = record { kept = λ _. it; stops = λ db may. subst (λ d. IsFileOf d b) (sym (law db up may)) (record { ours = it.0.ours; tells = it.1 }) }
+settled_keeps : (s : State) (b : Book) → IsSettled s → IsTrue s.is_open → HasTables s.committed × Tells (tables_in s.committed) b → Keeps s b
+settled_keeps s b law up it = record { kept = λ _. it; stops = λ db may. subst (λ d. IsFileOf d b) (sym (law db up may)) (file_of s.committed b it.0 it.1) }
 
 -- what is kept is the book that was read off, and each stop leaves it
-pub keeps_now : (s : State) (r : Option Refusal) (b : Book) → IsSettled s → IsOwn s r → IsTrue s.is_open → book_of s.committed.trees ≡ b → Keeps s b
-keeps_now s r b law own up is = settled_keeps s b law up ((own.over up).committed, subst (λ k. Tells (tables_in s.committed.trees) k) is (own.kept up).tells)
+pub keeps_now : (s : State) (r : Option Refusal) (b : Book) → IsSettled s → IsOwn s r → IsTrue s.is_open → book_of s.committed ≡ b → Keeps s b
+keeps_now s r b law own up is = settled_keeps s b law up ((own.over up).committed, subst (λ k. Tells (tables_in s.committed) k) is (own.kept up).tells)
 
 -- an open connection keeps a book, in the words of the value
 pub keeps_own : {S : Type 0} (g : Ghosts S) (t u : Stored S) → t ≡ u → IsSettled (state_of g t) → IsOwn (state_of g t) t.refused → IsUp g u → Keeps (state_of g u) (kept_book g u)
@@ -270,16 +275,24 @@ keeps_own g t u same law own up =
     subst (λ x. Keeps (state_of g x) (kept_book g x)) same (keeps_now (state_of g t) t.refused (kept_book g t) law own (subst (λ x. IsUp g x) (sym same) up) refl)
 
 -- the book that a transaction shows when it begins
-pub begun_book : (old new : State) (r : Option Refusal) (b : Book) → HasBegun old new → IsOwn old r → Keeps old b → book_of new.now.trees ≡ b
+pub begun_book : (old new : State) (r : Option Refusal) (b : Book) → HasBegun old new → IsOwn old r → Keeps old b → book_of new.now ≡ b
 begun_book old new r b h own keeps =
-    ap (λ (d : Database). book_of d.trees) (h.1.now_is ∙ own.rest h.0 h.1.was_open) ∙ told (tables_in old.committed.trees) b (keeps.kept h.1.was_open).1
+    ap (λ (d : Database). book_of d) (h.1.now_is ∙ own.rest h.0 h.1.was_open) ∙ told (tables_in old.committed) b (keeps.kept h.1.was_open).1
 
 -- and the book that it showed is kept, where it wasn't
-pub commit_kept : (old new : State) (r s : Option Refusal) → r ≡ None → IsSettled new → IsOwn old r → HasCommitted old new → Keeps new (book_of old.now.trees)
+pub commit_kept : (old new : State) (r s : Option Refusal) → r ≡ None → IsSettled new → IsOwn old r → HasCommitted old new → Keeps new (book_of old.now)
 commit_kept old new r s none law own h =
-    keeps_now new s (book_of old.now.trees) law (own_committed old new r s none own h) h.1.is_open (ap (λ (d : Database). book_of d.trees) h.1.committed_is)
+    keeps_now new s (book_of old.now) law (own_committed old new r s none own h) h.1.is_open (ap (λ (d : Database). book_of d) h.1.committed_is)
+
+-- a stop leaves what was kept, or the book that was shown
+pub written_either : (old new : State) (r : Option Refusal) (b : Book) (sure : Type 0) → r ≡ None → old.in_transaction ≡ true → IsOwn old r → sure → HasCleanDisk new
+    → Survives old new (λ db. db ≡ old.now.trees) → Keeps old b → LeavesWritten sure new b (book_of old.now)
+written_either old new r b sure none inside own so clean survives keeps db may = elim (survives.crash clean db may) [
+  | inl before ↦ inl (keeps.stops db before)
+  | inr wrote ↦ inr (so, subst (λ d. IsFileOf d (book_of old.now)) (sym wrote) (file_of old.now (book_of old.now) (own_over old old r own inside none).now (own.whole inside none).1.tells))
+]
 
 -- an open connection whose transaction has ended without a commit keeps what it kept
 pub ended_still : (old new : State) (b : Book) → IsSettled new → HasEnded old new → IsTrue new.is_open → Keeps old b → Keeps new b
 ended_still old new b law ended up keeps =
-    settled_keeps new b law up (subst (λ (d : Database). HasTables d × Tells (tables_in d.trees) b) (sym (ended.back up).1) (keeps.kept (ended.was_open up)))
+    settled_keeps new b law up (subst (λ (d : Database). HasTables d × Tells (tables_in d) b) (sym (ended.back up).1) (keeps.kept (ended.was_open up)))

@@ -60,40 +60,40 @@ runs_on xs i x is more = ap (λ y. take i xs ++ y ∷ []) is ∙ sym (take_more 
 
 -- nothing is known
 pub any_serving : (m : Maps) (k : Bool) (s : State) (r : Option Refusal) → ((b : Book) → Serves m b) → ((b : Book) → Sees m b) → IsServing m k s r
-any_serving m k s r serves sees = record { last = λ is up. serves (book_of s.committed.trees); shown = λ none inside. (serves (book_of s.now.trees), sees (book_of s.now.trees)) }
+any_serving m k s r serves sees = record { last = λ is up. serves (book_of s.committed); shown = λ none inside. (serves (book_of s.now), sees (book_of s.now)) }
 
 -- the book was read whole
 pub opened_serving : (m : Maps) (k : Bool) (s : State) (r : Option Refusal) (b : Book) → s.in_transaction ≡ false → Keeps s b → Serves m b → IsServing m k s r
 opened_serving m k s r b rest kept serves = record {
-  last = λ is up. subst (λ x. Serves m x) (sym (told_back (tables_in s.committed.trees) b (kept.kept up).1)) serves;
+  last = λ is up. subst (λ x. Serves m x) (sym (told_back (tables_in s.committed) b (kept.kept up).1)) serves;
   shown = λ none inside. absurd (true≢false (sym inside ∙ rest));
 }
 
 -- the keys were read
-pub learnt_serving : (m : Maps) (s : State) (r : Option Refusal) → (r ≡ None → s.in_transaction ≡ true → Serves m (book_of s.now.trees)) → ((b : Book) → Sees m b) → IsServing m false s r
-learnt_serving m s r serves sees = record { last = λ is up. absurd (true≢false (sym is)); shown = λ none inside. (serves none inside, sees (book_of s.now.trees)) }
+pub learnt_serving : (m : Maps) (s : State) (r : Option Refusal) → (r ≡ None → s.in_transaction ≡ true → Serves m (book_of s.now)) → ((b : Book) → Sees m b) → IsServing m false s r
+learnt_serving m s r serves sees = record { last = λ is up. absurd (true≢false (sym is)); shown = λ none inside. (serves none inside, sees (book_of s.now)) }
 
 module _ (old new : State) where
   -- a transaction begins
   pub begun_serving : (r : Option Refusal) (m m' : Maps) (k : Bool) → IsOwn old r → HasBegun old new → ((b : Book) → (k ≡ true → Serves m b) → Serves m' b) → ((b : Book) → Sees m' b) → IsServing m k old r → IsServing m' true new None
   begun_serving r m m' k own h serves sees was =
-      let kept = serves (book_of old.committed.trees) (λ is. was.last is h.1.was_open) in
+      let kept = serves (book_of old.committed) (λ is. was.last is h.1.was_open) in
       record {
-        last = λ is up. subst (λ (d : Database). Serves m' (book_of d.trees)) (sym h.1.committed_is) kept;
-        shown = λ none inside. (subst (λ (d : Database). Serves m' (book_of d.trees)) (sym (h.1.now_is ∙ own.rest h.0 h.1.was_open)) kept, sees (book_of new.now.trees));
+        last = λ is up. subst (λ (d : Database). Serves m' (book_of d)) (sym h.1.committed_is) kept;
+        shown = λ none inside. (subst (λ (d : Database). Serves m' (book_of d)) (sym (h.1.now_is ∙ own.rest h.0 h.1.was_open)) kept, sees (book_of new.now));
       }
 
   -- it is committed
   pub committed_serving : (r s : Option Refusal) (m : Maps) (k : Bool) → old.in_transaction ≡ true → r ≡ None → HasCommitted old new → IsServing m k old r → IsServing m true new s
   committed_serving r s m k inside none h was = record {
-    last = λ is up. subst (λ (d : Database). Serves m (book_of d.trees)) (sym h.1.committed_is) (was.shown none inside).0;
+    last = λ is up. subst (λ (d : Database). Serves m (book_of d)) (sym h.1.committed_is) (was.shown none inside).0;
     shown = λ _ mode. absurd (true≢false (sym mode ∙ h.1.mode));
   }
 
   -- it has ended otherwise
   pub ended_serving : (r s : Option Refusal) (m : Maps) (k : Bool) → HasEnded old new → IsServing m k old r → IsServing m k new s
   ended_serving r s m k h was = record {
-    last = λ is up. subst (λ (d : Database). Serves m (book_of d.trees)) (sym (h.back up).1) (was.last is (h.was_open up));
+    last = λ is up. subst (λ (d : Database). Serves m (book_of d)) (sym (h.back up).1) (was.last is (h.was_open up));
     shown = λ _ mode. absurd (true≢false (sym mode ∙ h.mode));
   }
 
@@ -106,17 +106,17 @@ module _ (old new : State) where
         let left = read_leaves old new ours ro rn owned none inside clean result value reads noted fit now in
         let told = told_at old new ours ro rn owned none inside clean result value reads fit now in
         record {
-          last = λ is up. subst (λ (d : Database). Serves m (book_of d.trees)) (sym (left.same up)) (was.last is (left.was_open up));
-          shown = λ same _. still_so old new ours ro rn owned none inside clean result (value (book_of old.now.trees)) (λ d. Serves m (book_of d.trees) × Sees m (book_of d.trees)) told noted (was.shown none inside) same;
+          last = λ is up. subst (λ (d : Database). Serves m (book_of d)) (sym (left.same up)) (was.last is (left.was_open up));
+          shown = λ same _. still_so old new ours ro rn owned none inside clean result (value (book_of old.now)) (λ d. Serves m (book_of d) × Sees m (book_of d)) told noted (was.shown none inside) same;
         }
 
     -- the book was changed
     pub put_serving : ro ≡ None → old.in_transaction ≡ true → (HasCleanDisk new → HasCleanDisk old) → (m m' : Maps) (c : Change) (k : Bool) → (ours → HasCleanDisk old → IsServing m k old ro)
         → ((b : Book) → Sees m b → Serves m b → Serves m' (changed b c)) → ((b : Book) → Sees m' b) → (result : Result Unit Refusal) → IsNoted (λ x. x) result ro rn
-        → OnOk (told_answer result) (IsSure ours new rn → book_of new.now.trees ≡ changed (book_of old.now.trees) c) → ours → HasCleanDisk new → IsServing m' false new rn
+        → OnOk (told_answer result) (IsSure ours new rn → book_of new.now ≡ changed (book_of old.now) c) → ours → HasCleanDisk new → IsServing m' false new rn
     put_serving none inside clean m m' c k serving serves sees (Ok u) noted told fit now = learnt_serving m' new rn (λ same mode.
         let was = (serving fit (clean now)).shown none inside in
-        subst (λ b. Serves m' b) (sym (told (record { fit = fit; clean = now; mode = mode; none = same }))) (serves (book_of old.now.trees) was.1 was.0)) sees
+        subst (λ b. Serves m' b) (sym (told (record { fit = fit; clean = now; mode = mode; none = same }))) (serves (book_of old.now) was.1 was.0)) sees
     put_serving none inside clean m m' c k serving serves sees (Err f) noted told fit now = learnt_serving m' new rn (λ same _. absurd (let clash = sym noted ∙ same in cc)) sees
 
 ---- An answer behind another read
@@ -125,6 +125,10 @@ module _ (old new : State) where
 pub read_behind : {A E : Type 0} (r : Result A E) (middle last : Type 0) (b b' b'' : Book) (value : Book → A) → (middle → b' ≡ b) → (last → middle) → IfOk r (λ v. Reads last b' b'' v (value b')) → IfOk r (λ v. Reads last b b'' v (value b))
 read_behind (Ok v) middle last b b' b'' value one was two = λ sure. let first = one (was sure) in let later = two sure in (later.0 ∙ first, later.1 ∙ ap value first)
 read_behind (Err f) middle last b b' b'' value one was two = tt
+
+pub learnt_on : {A E : Type 0} (r : Result A E) (X : Type 0) → X → OnOk r X
+learnt_on (Ok v) X x = x
+learnt_on (Err f) X x = tt
 
 pub goes_behind : {A E : Type 0} (r : Result A E) (X Y Y' Z : Type 0) → (X → Y → Y') → OnOk r (X → Y' → Z) → OnOk r (X → Y → Z)
 goes_behind (Ok v) X Y Y' Z one two = λ x y. two x (one x y)

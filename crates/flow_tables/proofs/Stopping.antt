@@ -71,14 +71,14 @@ module _ {S : Type 0} (g : Ghosts S) where
     read_stopped (NoMemory _) h same = absurd (let clash = same in cc)
     read_stopped (Refused e) (inl (inl more)) same = inl (inl more.1)
     read_stopped (Refused e) (inl (inr limit)) same = inl (inr (inl limit))
-    read_stopped (Refused e) (inr odd) same = inr (odd.0.0, subst (λ (d : Database). HasOddText (tables_in d.trees)) (sym odd.0.1) odd.1)
+    read_stopped (Refused e) (inr odd) same = inr (odd.0.0, subst (λ (d : Database). HasOddText (tables_in d)) (sym odd.0.1) odd.1)
 
     pub read_because : (f : StoreFault) (x : Refusal) (U : Type 0) → x ≡ read_refusal f → StopsAsk true (state g old) (state g new) f → Because x (IsStopped g (state g old) (state g new)) U
     read_because (NoMemory _) x U is h = subst (λ y. Because y (IsStopped g (state g old) (state g new)) U) (sym is) tt
     read_because (Refused e) x U is h = subst (λ y. Because y (IsStopped g (state g old) (state g new)) U) (sym is) (read_stopped (Refused e) h refl)
 
   -- a change of rows that the store's failure or a limit refused
-  pub change_stopped : (old new : Held S) → IsOver true (state g old) → MoreFaults (state g old).faults (state g new).faults ⊎ (IsSome (state g old).step_limit ⊎ IsFull (state g old).now.trees)
+  pub change_stopped : (old new : Held S) → IsOver true (state g old) → MoreFaults (state g old).faults (state g new).faults ⊎ (IsSome (state g old).step_limit ⊎ IsFull (state g old).now)
       → IsStopped g (state g old) (state g new)
   change_stopped old new over (inl more) = inl (inl more)
   change_stopped old new over (inr (inl limit)) = inl (inr (inl limit))
@@ -194,7 +194,7 @@ module _ {S : Type 0} (g : Ghosts S) where
     where
       by_fault : (f : Fault) → f ≡ opening_fault e → StopsOpening g (state g old) (state g new) f
       by_fault fault.StoreRefused is = absurd (misread_told e odd.2 (sym is))
-      by_fault fault.NotOurs is = inr (over.committed, subst (λ (d : Database). HasOddText (tables_in d.trees)) rest odd.1)
+      by_fault fault.NotOurs is = inr (over.committed, subst (λ (d : Database). HasOddText (tables_in d)) rest odd.1)
       by_fault _ is = tt
 
   -- behind a call that left the connection open, and committed nothing
@@ -205,7 +205,7 @@ module _ {S : Type 0} (g : Ghosts S) where
     told_after (Err fault.StoreRefused) (inr (inl more)) = inr (inl (more_after a.faults b.faults c.faults since.0 more))
     told_after (Err fault.StoreRefused) (inr (inr limit)) = inr (inr (limit_before a b since limit))
     told_after (Err fault.NotOurs) (inl limit) = inl (limit_before a b since limit)
-    told_after (Err fault.NotOurs) (inr odd) = inr (subst (λ (d : Database). HasTables d × HasOddText (tables_in d.trees)) same odd)
+    told_after (Err fault.NotOurs) (inr odd) = inr (subst (λ (d : Database). HasTables d × HasOddText (tables_in d)) same odd)
     told_after (Err _) h = tt
 
   -- an error of a statement behind such a call, which may have shut the connection

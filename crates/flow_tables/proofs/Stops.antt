@@ -1,20 +1,7 @@
 -- What a stop may leave, from call to call.
 use Rattle.std.specs.Prelude.{◌≡◌}
-use Rattle.flow_tables.proofs.Names.{schema, State, Survives, IsTrue, false, HasTables, IsOver, AreOurs, subst, Trees}
-use Rattle.sqlite.specs.State.{Opens, IsLive}
+use Rattle.flow_tables.proofs.Names.{State, Survives, IsTrue, Trees}
 use Rattle.sqlite.proofs.StateLemmas.{survives_then}
-use Rattle.sqlite_catalog.proofs.ReadLemmas.{lists_once}
-
----- After a stop
-
--- A connection that was just opened over the trees of our tables shows them: it finds their schema.
-pub opened_over : (s : State) → Opens s → IsLive s → AreOurs s.now.trees → IsOver false s
-opened_over s opens live ours =
-    let lists = (live opens.is_open).0.lists in
-    let now : HasTables s.now = record { laid_out = lists_once _ _ schema lists ours.sound.lists; ours = ours } in
-    record { is_open = opens.is_open; mode = opens.autocommit; now = now; committed = subst HasTables opens.clean now }
-
----- Call by call
 
 -- the law `settled` of the store, at the state of a connection over it
 abbrev pub IsSettled : State → Type 0

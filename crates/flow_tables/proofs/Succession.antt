@@ -23,7 +23,7 @@ stops_after inside a b c (Ok v) since one h = tt
 stops_after inside a b c (Err (NoMemory _)) since one h = tt
 stops_after inside a b c (Err (Refused e)) since one (inl (inl more)) = inl (inl (more.0, more_after a.faults b.faults c.faults since.0 more.1))
 stops_after inside a b c (Err (Refused e)) since one (inl (inr limit)) = inl (inr (subst (λ (o : Option ℕ). IsSome o) since.1 limit))
-stops_after inside a b c (Err (Refused e)) since one (inr odd) = inr (still_then inside a b c one odd.0, subst (λ (d : Database). HasOddText (tables_in d.trees)) one.1 odd.1, odd.2)
+stops_after inside a b c (Err (Refused e)) since one (inr odd) = inr (still_then inside a b c one odd.0, subst (λ (d : Database). HasOddText (tables_in d)) one.1 odd.1, odd.2)
 
 -- a question behind another: both tell what they tell
 module _ {V W : Type 0} {before why : StoreFault → Type 0} {a b c : State} {P : Tables → V → Type 0} {Q : Tables → W → Type 0} {v : V} {r : Result W StoreFault} where
@@ -31,7 +31,7 @@ module _ {V W : Type 0} {before why : StoreFault → Type 0} {a b c : State} {P 
   then_asked one two = record {
     reads = λ inside was clean.
         let it = one.reads inside was (two.clean clean) in
-        MatchResult-weaker r (two.reads inside (λ _. it.0.0) clean) (λ x h. (still_then inside a b c it.0 h.0, (it.1, subst (λ (d : Database). Q (tables_in d.trees) x) it.0.1 h.1))) (λ _. still_refused inside a b c it.0);
+        MatchResult-weaker r (two.reads inside (λ _. it.0.0) clean) (λ x h. (still_then inside a b c it.0 h.0, (it.1, subst (λ (d : Database). Q (tables_in d) x) it.0.1 h.1))) (λ _. still_refused inside a b c it.0);
     clean = λ clean. one.clean (two.clean clean);
     cause = two.cause;
     stops = λ inside was clean.
@@ -45,7 +45,7 @@ module _ {V W : Type 0} {before why : StoreFault → Type 0} {a b c : State} {P 
 module _ {V W : Type 0} {before why : StoreFault → Type 0} {a b : State} {P : Tables → V → Type 0} {Q : Tables → W → Type 0} where
   pub made_asked : (v : V) (w : W) → ((t : Tables) → P t v → Q t w) → AreAsked before a b (Ok v) P → AreAsked why a b (Ok w) Q
   made_asked v w tells it = record {
-    reads = λ inside was clean. let read = it.reads inside was clean in (read.0, tells (tables_in a.now.trees) read.1);
+    reads = λ inside was clean. let read = it.reads inside was clean in (read.0, tells (tables_in a.now) read.1);
     clean = it.clean;
     cause = λ _. tt;
     stops = λ _ _ _. tt;

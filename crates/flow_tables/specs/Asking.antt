@@ -20,13 +20,13 @@ IsOfColumn e = (at : ℕ) × (v : Value) × IsReadError at v e
 -- tables hold a text that isn't UTF-8; then they are as they were. A failure and such a text are told as what they are.
 abbrev pub StopsAsk : Bool → State → State → StoreFault → Type 0
 StopsAsk inside old new (NoMemory _) = Unit {0}
-StopsAsk inside old new (Refused e) = (TellsFailure e old new ⊎ IsSome old.step_limit) ⊎ (IsStill inside old new × HasOddText (tables_in old.now.trees) × IsOfColumn e)
+StopsAsk inside old new (Refused e) = (TellsFailure e old new ⊎ IsSome old.step_limit) ⊎ (IsStill inside old new × HasOddText (tables_in old.now) × IsOfColumn e)
 
 -- What becomes of questions: they are answered so, and the tables are as they were, or one was refused, with this cause, and the
 -- transaction may have ended. Nothing is committed.
 pub record AreAsked {A : Type 0} (why : StoreFault → Type 0) (old new : State) (result : Result A StoreFault) (tells : Tables → A → Type 0) : Type 0 where
   pub reads : (inside : Bool) → Holds inside old → HasCleanDisk new
-      → MatchResult result (λ v. IsStill inside old new × tells (tables_in old.now.trees) v) (λ _. IsRefused inside old new)
+      → MatchResult result (λ v. IsStill inside old new × tells (tables_in old.now) v) (λ _. IsRefused inside old new)
   pub clean : HasCleanDisk new → HasCleanDisk old
   pub cause : HasCleanDisk new → IfErr result why
   -- of our tables it is refused for the store, or for a text of theirs
@@ -59,13 +59,13 @@ pub record IsRecalled {S A : Type 0} (g : Ghosts S) (old new : Held S) (result :
 -- What becomes of a change of rows, within a transaction: the tables are changed so, or it was refused, and the transaction may
 -- have ended. Nothing is committed.
 pub record IsChanged {S : Type 0} (g : Ghosts S) (sql : List ℕ) (params : Row) (old new : Held S) (result : Result (Unit {0}) Error) (fits welcome : Tables → Type 0) (after : Tables → Tables) : Type 0 where
-  pub put : Holds true (state g old) → fits (tables_in (state g old).now.trees) → HasCleanDisk (state g new)
-      → MatchResult result (λ _. Changes (state g old) (state g new) (after (tables_in (state g old).now.trees))) (λ _. IsRefused true (state g old) (state g new))
+  pub put : Holds true (state g old) → fits (tables_in (state g old).now) → HasCleanDisk (state g new)
+      → MatchResult result (λ _. Changes (state g old) (state g new) (after (tables_in (state g old).now))) (λ _. IsRefused true (state g old) (state g new))
   pub clean : HasCleanDisk (state g new) → HasCleanDisk (state g old)
   -- a refusal is that of the statement itself
   pub ran : HasCleanDisk (state g new) → IfErr result (λ e. Executes sql params (state g old) (state g new) (Err e))
   -- and where the tables take the change, that of the store
-  pub cause : Holds true (state g old) → welcome (tables_in (state g old).now.trees) → HasCleanDisk (state g new) → IfErr result (StopsWith g old new)
+  pub cause : Holds true (state g old) → welcome (tables_in (state g old).now) → HasCleanDisk (state g new) → IfErr result (StopsWith g old new)
   pub survives : Holds true (state g old) → Survives (state g old) (state g new) (λ _. ⊥)
 
 -- What becomes of a look at the tables, within a transaction: what was found is so of them, and they are as they were.
@@ -77,13 +77,13 @@ LooksUp g old new result found =
 abbrev pub IsAltered : {S E : Type 0} → Ghosts S → Held S → Held S → Result (Unit {0}) E → (Tables → Tables) → Type 0
 IsAltered g old new result after =
     Holds true (state g old) → HasCleanDisk (state g new)
-    → MatchResult result (λ _. Changes (state g old) (state g new) (after (tables_in (state g old).now.trees))) (λ _. IsCutShort (state g old) (state g new))
+    → MatchResult result (λ _. Changes (state g old) (state g new) (after (tables_in (state g old).now))) (λ _. IsCutShort (state g old) (state g new))
 
 -- the same of what fits the tables where it is put into them
 abbrev pub IsPut : {S E : Type 0} → Ghosts S → Held S → Held S → Result (Unit {0}) E → Type 0 → (Tables → Tables) → Type 0
 IsPut g old new result fits after =
     Holds true (state g old) → HasCleanDisk (state g new)
-    → MatchResult result (λ _. fits × Changes (state g old) (state g new) (after (tables_in (state g old).now.trees))) (λ _. IsCutShort (state g old) (state g new))
+    → MatchResult result (λ _. fits × Changes (state g old) (state g new) (after (tables_in (state g old).now))) (λ _. IsCutShort (state g old) (state g new))
 
 -- They were made on a disk that was clean before, if it still is, and committed nothing.
 abbrev pub IsQuiet : {S : Type 0} → Ghosts S → Held S → Held S → Type 0

@@ -21,11 +21,11 @@ WasStopped sql old new = (e : Error) × (e ≢ SqliteFailure OutOfMemory) × Exe
 
 -- Within a transaction over our tables, the last row of one of them had the last number that there is.
 abbrev pub WasFull : {S : Type 0} → Ghosts S → State → Type 0
-WasFull {S} g first = (mid : Held S) × Since first (state g mid) × IsOver true (state g mid) × IsFull (state g mid).now.trees
+WasFull {S} g first = (mid : Held S) × Since first (state g mid) × IsOver true (state g mid) × IsFull (state g mid).now
 
 -- The transaction shows our tables, and they hold a text that isn't UTF-8.
 abbrev pub ShowsOddText : State → Type 0
-ShowsOddText s = IsOver true s × HasOddText (tables_in s.now.trees)
+ShowsOddText s = IsOver true s × HasOddText (tables_in s.now)
 
 -- The store hindered what was done since the first state: the disk has failed, a limit is set on the steps of a query, or no row has
 -- a number left.

@@ -13,3 +13,4 @@ pub mod Known
 pub mod Owned
 pub mod Asking
 pub mod Asked
+pub mod Low

@@ -26,11 +26,11 @@ pub use Rattle.flow_rows.specs.Rows.{by_run, event_row, of_run, open_number, run
 pub use Rattle.flow_rows.specs.Told.{FitsTables, IsReadable, IsReadableTurn, StartsNone, Tells, after_change, after_effect, after_turn, book_in, new_run}
 pub use Rattle.flow_rows.specs.Whole.{shown_book}
 pub use Rattle.flow_rows.specs.declared.rows.StoreRows.{StoreRows}
-pub use Rattle.flow_sql.specs.Layout.{Write, format_sql, no_schema, schema, write_sql, Read, read_sql}
+pub use Rattle.flow_sql.specs.Layout.{Layout, Fresh, Write, format_sql, no_schema, schema_of, write_sql, Read, read_sql}
 pub use Rattle.flow_sql.specs.Names.{event_id, last, Tables, events_of, tasks_of, timers_of, OutboxRow, RunRow, survives_weaker, Database, Held, state, Kind, Row, Executes, HasCleanDisk, State, Survives, Error, Int, Words, Ghosts, column, ints, AllByRecursion, int_eq, Bool, IfErr, IsTrue, List, MatchResult, Option, codes, false, filter, int_lt, map, pos, true, ℕ}
 pub use Rattle.flow_sql.specs.Names.{TimerRow, Trees, Value, Shows, IsUnchanged, IsRolledBack, EventRow, IsSound, task_id, timer_id, value_cmp, rowid, is_int, TextRow}
-pub use Rattle.flow_sql.specs.States.{AreNew, HasBegun, HasCommitted, HasEnded, HasTables, Holds, IsAtRest, IsBlank, IsOver, IsRefusal, IsRefused, IsStill, IsUndone, RunsTo, no_tables, AreOurs, FirstIs, HasGoneBack}
-pub use Rattle.flow_sql.specs.Stored.{number_at, tables_in, AreUtf8, HasOddText}
+pub use Rattle.flow_sql.specs.States.{AreNew, IsLaidOut, LieAs, HasBegun, HasCommitted, HasEnded, HasTables, Holds, IsAtRest, IsBlank, IsOver, IsRefusal, IsRefused, IsStill, IsUndone, RunsTo, no_tables, AreOurs, FirstIs, HasGoneBack}
+pub use Rattle.flow_sql.specs.Stored.{number_at, tables_by, tables_in, AreUtf8, HasOddText}
 pub use Rattle.std.specs.List.{list_any}
 pub use Rattle.flow_events.specs.Row.{IsCommandWithinLimits, IsWithinLimits}
 pub use Rattle.flow_view.specs.Heads.{head_of}

@@ -1,7 +1,7 @@
 -- What opening reads and finds, and why it is refused.
 use Rattle.std.specs.Prelude.{◌≡◌, ◌⊎◌, ◌≢◌}
 use Rattle.sqlite_disk.specs.Disk.{MoreFaults}
-use Rattle.flow_tables.specs.Names.{schema, no_schema, Fault, BadVersion, Damaged, NoMemory, NotOurs, StoreRefused, Book, first_damage, by_run, StoreRows, format_sql, Read, read_sql, Tables, Database, Held, state, Row, Executes, State, Error, Int, Ghosts, column, AllByRecursion, Bool, List, false, pos, true, ℕ, HasEnded, HasTables, tables_in, IsReadError, QueriesRow, QueryReturnedNoRows, SqliteFailure, Err, Ok, Some, length, ℤ, [], IsSome, ⊤, IsOver, IsBlank, Tells, AreUtf8, AreNew, Trees}
+use Rattle.flow_tables.specs.Names.{no_schema, Fault, BadVersion, Damaged, NoMemory, NotOurs, StoreRefused, Book, first_damage, by_run, StoreRows, format_sql, Read, read_sql, Tables, Database, Held, state, Row, Executes, State, Error, Int, Ghosts, column, AllByRecursion, Bool, List, false, pos, true, ℕ, HasEnded, HasTables, IsLaidOut, tables_in, IsReadError, QueriesRow, QueryReturnedNoRows, SqliteFailure, Err, Ok, Some, length, ℤ, [], IsSome, ⊤, IsOver, IsBlank, Tells, AreUtf8, AreNew, Trees}
 use Rattle.flow_base.specs.Syntax.{Bytes}
 use Rattle.flow_base.specs.declared.fault.Damage.{Damage}
 use Rattle.flow_tables.specs.Owned.{IsFound}
@@ -75,7 +75,7 @@ IsDamageOf is_program rows f = (d : Damage) × (f ≡ Damaged d) × (first_damag
 
 -- What is told where the last commit left our tables, or none: a fault of the store, or the first damage of our tables.
 abbrev pub IsToldOf : (Bytes → Bool) → Database → Fault → Type 0
-IsToldOf is_program db f = IsOfStore f ⊎ (HasTables db × (rows : StoreRows) × IsDamageOf is_program rows f × AreReadOff rows (tables_in db.trees))
+IsToldOf is_program db f = IsOfStore f ⊎ (HasTables db × (rows : StoreRows) × IsDamageOf is_program rows f × AreReadOff rows (tables_in db))
 
 -- What opening tells at all: E01, E80 to E83.
 abbrev pub IsOfOpening : Fault → Type 0
@@ -115,7 +115,7 @@ StopsMaking g first new e = e ≢ SqliteFailure code.OutOfMemory → TellsFailur
 -- clauses of their own, and want of memory none.
 abbrev pub StopsOpening : {S : Type 0} → Ghosts S → State → State → Fault → Type 0
 StopsOpening g first new StoreRefused = (first.is_open ≡ false) ⊎ (MoreFaults first.faults new.faults ⊎ IsSome first.step_limit)
-StopsOpening g first new NotOurs = IsSome first.step_limit ⊎ (HasTables first.committed × HasOddText (tables_in first.committed.trees))
+StopsOpening g first new NotOurs = IsSome first.step_limit ⊎ (HasTables first.committed × HasOddText (tables_in first.committed))
 StopsOpening g first new _ = ⊤
 
 ---- What is opened
@@ -124,15 +124,15 @@ StopsOpening g first new _ = ⊤
 -- set on the steps of a query.
 abbrev pub IsFoundSo : {S : Type 0} → Ghosts S → State → State → Bool → Type 0
 IsFoundSo g old new true = (HasTables old.committed → IsOver false new × (new.now ≡ old.committed) × (new.committed ≡ old.committed)) × (old.committed.schema ≡ no_schema → ⊥)
-IsFoundSo g old new false = (HasTables old.committed → (new.now.schema ≡ schema) × IsSome old.step_limit) × (old.committed.schema ≡ no_schema → IsBlank false new)
+IsFoundSo g old new false = (HasTables old.committed → IsLaidOut new.now × IsSome old.step_limit) × (old.committed.schema ≡ no_schema → IsBlank false new)
 
 -- The connection shows the book that the file held, in our tables, and it is committed. Tables that were there are as they were.
 pub record IsOpened (old new : State) (b : Book) : Type 0 where
   pub over : IsOver false new
   pub same : new.now ≡ new.committed
   pub found : IsFound old b
-  pub tells : Tells (tables_in new.committed.trees) b
-  pub utf8 : AreUtf8 (tables_in new.committed.trees)
+  pub tells : Tells (tables_in new.committed) b
+  pub utf8 : AreUtf8 (tables_in new.committed)
   pub kept : (new.committed ≡ old.committed) ⊎ (old.committed.schema ≡ no_schema)
 
 -- A stop leaves new tables, and none where ours are.

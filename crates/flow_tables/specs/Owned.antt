@@ -1,6 +1,6 @@
 -- Tables as a value of the code: the book that they hold, and what becomes of it.
 use Rattle.std.specs.Prelude.{◌≡◌, ◌⊎◌, ◌<ℤ◌}
-use Rattle.flow_tables.specs.Names.{Bytes, Bool, Book, no_book, last_number, Tells, book_in, no_schema, RunRow, Held, state, HasCleanDisk, State, Ghosts, IfErr, IsTrue, MatchResult, Option, false, pos, true, ℕ, HasTables, Holds, IsOver, IsRefused, IsStill, AreOurs, tables_in, Refusal, Known, ViewFault, Err, None, Ok, Some, option_map, ℤ, refl, Result}
+use Rattle.flow_tables.specs.Names.{Bytes, Bool, Book, no_book, last_number, Tells, book_in, no_schema, RunRow, Held, state, HasCleanDisk, State, Ghosts, IfErr, IsTrue, MatchResult, Option, false, pos, true, ℕ, HasTables, Holds, IsOver, IsRefused, IsStill, AreOurs, Database, Layout, tables_by, tables_in, Refusal, Known, ViewFault, Err, None, Ok, Some, option_map, ℤ, refl, Result}
 use Rattle.std.specs.Coded.{Coded, code_by, coded×, coded_option}
 use Rattle.sqlite.specs.Tree.{Trees}
 use Rattle.sqlite.specs.Held.{held_code}
@@ -30,36 +30,36 @@ stored_code {S} store =
 abbrev pub state_of : {S : Type 0} → Ghosts S → Stored S → State
 state_of g t = state g t.held
 
-abbrev pub book_of : Trees → Book
+abbrev pub book_of : Database → Book
 book_of db = book_in (tables_in db)
 
 -- the rows tell the book that is read off them
-abbrev pub TellBook : Trees → Type 0
+abbrev pub TellBook : Database → Type 0
 TellBook db = Tells (tables_in db) (book_of db)
 
 -- and their texts are UTF-8
-pub record ShowsBook (db : Trees) : Type 0 where
+pub record ShowsBook (db : Database) : Type 0 where
   pub tells : TellBook db
   pub utf8 : AreUtf8 (tables_in db)
 
 -- What the tables keep true of a connection whose disk is clean.
 pub record IsOwn (s : State) (refused : Option Refusal) : Type 0 where
   pub over : IsTrue s.is_open → IsOver s.in_transaction s
-  pub kept : IsTrue s.is_open → ShowsBook s.committed.trees
+  pub kept : IsTrue s.is_open → ShowsBook s.committed
   -- at rest the connection shows what was committed
   pub rest : s.in_transaction ≡ false → IsTrue s.is_open → s.now ≡ s.committed
   -- a transaction in which nothing was refused shows a book
-  pub whole : s.in_transaction ≡ true → refused ≡ None → IsTrue s.is_open × ShowsBook s.now.trees
+  pub whole : s.in_transaction ≡ true → refused ≡ None → IsTrue s.is_open × ShowsBook s.now
 
 ---- The book
 
 -- the book that the connection shows
 abbrev pub book_now : {S : Type 0} → Ghosts S → Stored S → Book
-book_now g t = book_of (state_of g t).now.trees
+book_now g t = book_of (state_of g t).now
 
 -- the book that the last commit left, read off the tables
 abbrev pub kept_book : {S : Type 0} → Ghosts S → Stored S → Book
-kept_book g t = book_of (state_of g t).committed.trees
+kept_book g t = book_of (state_of g t).committed
 
 -- the connection is open
 abbrev pub IsUp : {S : Type 0} → Ghosts S → Stored S → Type 0
@@ -85,7 +85,7 @@ is_sure g t = IsSure (IsOurs (state g t.opened)) (state g t.held) t.refused
 
 -- What is known of the rows is true, where the transaction shows a book.
 abbrev pub IsAware : State → Option Refusal → Known → Type 0
-IsAware s refused known = refused ≡ None → s.in_transaction ≡ true → IsKnown known (tables_in s.now.trees)
+IsAware s refused known = refused ≡ None → s.in_transaction ≡ true → IsKnown known (tables_in s.now)
 
 -- the request of a run, by its row
 abbrev pub row_request : RunRow → Option Bytes
@@ -98,8 +98,8 @@ row_open r = key_if (mark_of r) r.flow
 -- What is known by keys is of the book that was kept, where nothing was put since; and of the one that the transaction shows,
 -- with the run that was read last.
 pub record IsServing (m : Maps) (is_kept : Bool) (s : State) (refused : Option Refusal) : Type 0 where
-  pub last : is_kept ≡ true → IsTrue s.is_open → Serves m (book_of s.committed.trees)
-  pub shown : refused ≡ None → s.in_transaction ≡ true → Serves m (book_of s.now.trees) × Sees m (book_of s.now.trees)
+  pub last : is_kept ≡ true → IsTrue s.is_open → Serves m (book_of s.committed)
+  pub shown : refused ≡ None → s.in_transaction ≡ true → Serves m (book_of s.now) × Sees m (book_of s.now)
 
 -- the store stopped what was done since the first
 abbrev pub Refuses : {S : Type 0} → Ghosts S → Stored S → Stored S → Type 0
@@ -111,12 +111,13 @@ IsBarred s refused f = ((r : Refusal) × (refused ≡ Some r) × (f ≡ told_fau
 
 -- the trees of a file hold this book
 pub record IsFileOf (db : Trees) (b : Book) : Type 0 where
-  pub ours : AreOurs db
-  pub tells : Tells (tables_in db) b
+  pub layout : Layout
+  pub ours : AreOurs layout db
+  pub tells : Tells (tables_by layout db) b
 
 -- The last commit left this book, as far as the connection is open, and each stop at this moment leaves it.
 pub record Keeps (s : State) (b : Book) : Type 0 where
-  pub kept : IsTrue s.is_open → HasTables s.committed × Tells (tables_in s.committed.trees) b
+  pub kept : IsTrue s.is_open → HasTables s.committed × Tells (tables_in s.committed) b
   pub stops : (db : Trees) → s.may_leave db → IsFileOf db b
 
 -- each stop at this moment leaves one of these books
@@ -149,12 +150,12 @@ Follows g a b =
 -- The answer is this of the book that the tables tell, which are as they were; a refusal has changed nothing, or ended it.
 abbrev pub ReadsBook : {A : Type 0} → State → State → Result A ViewFault → (Book → A) → Type 0
 ReadsBook old new result value =
-    (b : Book) → Tells (tables_in old.now.trees) b → Holds true old → MatchResult result (λ v. IsStill true old new × (v ≡ value b)) (λ _. IsRefused true old new)
+    (b : Book) → Tells (tables_in old.now) b → Holds true old → MatchResult result (λ v. IsStill true old new × (v ≡ value b)) (λ _. IsRefused true old new)
 
 -- A refusal has this behind it, where the tables tell a book.
 abbrev pub StopsRead : {A : Type 0} → State → Result A ViewFault → Type 0 → Type 0
 StopsRead old result why =
-    (b : Book) → Tells (tables_in old.now.trees) b → Holds true old → IfErr result (λ f. f ≡ fault.StoreRefused → why)
+    (b : Book) → Tells (tables_in old.now) b → Holds true old → IfErr result (λ f. f ≡ fault.StoreRefused → why)
 
 -- a number that no text and no run has
 abbrev pub IsBelowOne : Option ℤ → Type 0
@@ -178,7 +179,7 @@ IsNoted note (Err f) old new = new ≡ Some (note f)
 
 -- The book that a file holds when it is opened: our tables tell it, or there are none and it is the empty one.
 abbrev pub IsFound : State → Book → Type 0
-IsFound s b = (HasTables s.committed × Tells (tables_in s.committed.trees) b) ⊎ ((s.committed.schema ≡ no_schema) × (b ≡ no_book))
+IsFound s b = (HasTables s.committed × Tells (tables_in s.committed) b) ⊎ ((s.committed.schema ≡ no_schema) × (b ≡ no_book))
 
 -- A stop leaves what a stop before could leave, or the tables made for this book.
 abbrev pub LeavesMade : State → State → Book → Type 0

@@ -13,6 +13,7 @@ mod learning;
 mod one_event;
 mod one_run;
 pub mod open;
+mod open_runs;
 pub mod questions;
 pub mod row_changes;
 mod rows;

@@ -1,3 +1,4 @@
 pub mod Reading
 pub mod Codes
 pub mod Heads
+pub mod Listed

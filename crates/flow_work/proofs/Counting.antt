@@ -3,7 +3,7 @@ use Rattle.std.proofs.Common.{◌≡◌, ℕ, List, [], ◌∷◌, ◌++◌, Boo
 use Rattle.std.specs.Io.KnownBytes.{Appends}
 use Rattle.std.proofs.KnownBytes.{Appends-nil, Appends-trans}
 use Rattle.flow_base.specs.declared.command.Command.{Command}
-use Rattle.flow_cli.specs.declared.reply.Line.{Line}
+use Rattle.flow_lines.specs.declared.reply.Line.{Line}
 use Rattle.flow_machine.specs.declared.submission.Taken.{Taken}
 use Rattle.flow_machine.specs.declared.task.Task.{Task}
 use Rattle.flow_hub.specs.declared.fed.Fed.{Fed}
@@ -83,90 +83,90 @@ of_later k m same later c t is =
     let x : Taken = record { ticket = t.number; command = c } in
     (is.0 ∙ same, subst (λ (l : List Taken). slice_get l t.number ≡ Some x) later.asked.1 (get_front k.was.asked later.asked.0 t.number x is.1))
 
-pending_later : (tells : ℕ → Type 0) (k m : Member) → k.id ≡ m.id → IsBefore k.was m.was → (bytes : List ℕ) (p : Pending) → IsPendingOf tells k bytes p → IsPendingOf tells m bytes p
-pending_later tells k m same later bytes (pending.Submitted t) w =
+pending_later : (reads : List ℕ → Option Command) (tells : ℕ → Type 0) (k m : Member) → k.id ≡ m.id → IsBefore k.was m.was → (bytes : List ℕ) (p : Pending) → IsPendingOf reads tells k bytes p → IsPendingOf reads tells m bytes p
+pending_later reads tells k m same later bytes (pending.Submitted t) w =
     record { command = w.command; at = w.at; told = w.told; is = w.is; ticket = of_later k m same later (command_at w.command w.at) t w.ticket }
-pending_later tells k m same later bytes (pending.Known line) w = w
+pending_later reads tells k m same later bytes (pending.Known line) w = w
 
-one_later : (tells : ℕ → Type 0) (k m : Member) → k.id ≡ m.id → IsBefore k.was m.was → (bytes : List ℕ) (told : Line) → Answered tells k bytes told → Answered tells m bytes told
-one_later tells k m same later bytes told a = record {
+one_later : (reads : List ℕ → Option Command) (tells : ℕ → Type 0) (k m : Member) → k.id ≡ m.id → IsBefore k.was m.was → (bytes : List ℕ) (told : Line) → Answered reads tells k bytes told → Answered reads tells m bytes told
+one_later reads tells k m same later bytes told a = record {
   pending = a.pending;
   seen = a.seen;
-  waits = pending_later tells k m same later bytes a.pending a.waits;
+  waits = pending_later reads tells k m same later bytes a.pending a.waits;
   same = a.same ∙ same;
   before = before_trans a.seen.was k.was m.was a.before later;
   answer = a.answer;
 }
 
-answered_later : (tells : ℕ → Type 0) (k m : Member) → k.id ≡ m.id → IsBefore k.was m.was → (ls : List (List ℕ)) (xs : List Line) → AreAnswered tells k ls xs → AreAnswered tells m ls xs
-answered_later tells k m same later [] [] a = tt
-answered_later tells k m same later [] (x ∷ xs) a = absurd a
-answered_later tells k m same later (l ∷ ls) [] a = absurd a
-answered_later tells k m same later (l ∷ ls) (x ∷ xs) a = (one_later tells k m same later l x a.0, answered_later tells k m same later ls xs a.1)
+answered_later : (reads : List ℕ → Option Command) (tells : ℕ → Type 0) (k m : Member) → k.id ≡ m.id → IsBefore k.was m.was → (ls : List (List ℕ)) (xs : List Line) → AreAnswered reads tells k ls xs → AreAnswered reads tells m ls xs
+answered_later reads tells k m same later [] [] a = tt
+answered_later reads tells k m same later [] (x ∷ xs) a = absurd a
+answered_later reads tells k m same later (l ∷ ls) [] a = absurd a
+answered_later reads tells k m same later (l ∷ ls) (x ∷ xs) a = (one_later reads tells k m same later l x a.0, answered_later reads tells k m same later ls xs a.1)
 
-waiting_later : (tells : ℕ → Type 0) (k m : Member) → k.id ≡ m.id → IsBefore k.was m.was → (ls : List (List ℕ)) (ps : List Pending) → AreWaiting tells k ls ps → AreWaiting tells m ls ps
-waiting_later tells k m same later [] [] a = tt
-waiting_later tells k m same later [] (p ∷ ps) a = absurd a
-waiting_later tells k m same later (l ∷ ls) [] a = absurd a
-waiting_later tells k m same later (l ∷ ls) (p ∷ ps) a = (pending_later tells k m same later l p a.0, waiting_later tells k m same later ls ps a.1)
+waiting_later : (reads : List ℕ → Option Command) (tells : ℕ → Type 0) (k m : Member) → k.id ≡ m.id → IsBefore k.was m.was → (ls : List (List ℕ)) (ps : List Pending) → AreWaiting reads tells k ls ps → AreWaiting reads tells m ls ps
+waiting_later reads tells k m same later [] [] a = tt
+waiting_later reads tells k m same later [] (p ∷ ps) a = absurd a
+waiting_later reads tells k m same later (l ∷ ls) [] a = absurd a
+waiting_later reads tells k m same later (l ∷ ls) (p ∷ ps) a = (pending_later reads tells k m same later l p a.0, waiting_later reads tells k m same later ls ps a.1)
 
-says_later : (tells : ℕ → Type 0) (first : Option (List ℕ)) (given : List Task) (k m : Member) (lines : List (List ℕ)) (page : Printed) → k.id ≡ m.id → IsBefore k.was m.was
-    → Says tells first given k lines page → Says tells first given m lines page
-says_later tells first given k m lines page same later s = record {
+says_later : (reads : List ℕ → Option Command) (tells : ℕ → Type 0) (first : Option (List ℕ)) (given : List Task) (k m : Member) (lines : List (List ℕ)) (page : Printed) → k.id ≡ m.id → IsBefore k.was m.was
+    → Says reads tells first given k lines page → Says reads tells first given m lines page
+says_later reads tells first given k m lines page same later s = record {
   bytes = s.bytes;
   tasks = s.tasks;
   said = s.said;
   silent = s.silent;
   are = s.are;
-  replies = answered_later tells k m same later s.said (replies_in page.shown) s.replies;
+  replies = answered_later reads tells k m same later s.said (replies_in page.shown) s.replies;
   all = s.all;
 }
 
 -- ---- lists of lines by their parts
 
-answered_more : (tells : ℕ → Type 0) (m : Member) (ls : List (List ℕ)) (xs : List Line) (l : List ℕ) (x : Line) → AreAnswered tells m ls xs → Answered tells m l x → AreAnswered tells m (ls ++ l ∷ []) (xs ++ x ∷ [])
-answered_more tells m [] [] l x a one = (one, tt)
-answered_more tells m [] (y ∷ ys) l x a one = absurd a
-answered_more tells m (k ∷ ks) [] l x a one = absurd a
-answered_more tells m (k ∷ ks) (y ∷ ys) l x a one = (a.0, answered_more tells m ks ys l x a.1 one)
+answered_more : (reads : List ℕ → Option Command) (tells : ℕ → Type 0) (m : Member) (ls : List (List ℕ)) (xs : List Line) (l : List ℕ) (x : Line) → AreAnswered reads tells m ls xs → Answered reads tells m l x → AreAnswered reads tells m (ls ++ l ∷ []) (xs ++ x ∷ [])
+answered_more reads tells m [] [] l x a one = (one, tt)
+answered_more reads tells m [] (y ∷ ys) l x a one = absurd a
+answered_more reads tells m (k ∷ ks) [] l x a one = absurd a
+answered_more reads tells m (k ∷ ks) (y ∷ ys) l x a one = (a.0, answered_more reads tells m ks ys l x a.1 one)
 
-waiting_more : (tells : ℕ → Type 0) (m : Member) (ls : List (List ℕ)) (ps : List Pending) (l : List ℕ) (p : Pending) → AreWaiting tells m ls ps → IsPendingOf tells m l p → AreWaiting tells m (ls ++ l ∷ []) (ps ++ p ∷ [])
-waiting_more tells m [] [] l p a one = (one, tt)
-waiting_more tells m [] (q ∷ qs) l p a one = absurd a
-waiting_more tells m (k ∷ ks) [] l p a one = absurd a
-waiting_more tells m (k ∷ ks) (q ∷ qs) l p a one = (a.0, waiting_more tells m ks qs l p a.1 one)
+waiting_more : (reads : List ℕ → Option Command) (tells : ℕ → Type 0) (m : Member) (ls : List (List ℕ)) (ps : List Pending) (l : List ℕ) (p : Pending) → AreWaiting reads tells m ls ps → IsPendingOf reads tells m l p → AreWaiting reads tells m (ls ++ l ∷ []) (ps ++ p ∷ [])
+waiting_more reads tells m [] [] l p a one = (one, tt)
+waiting_more reads tells m [] (q ∷ qs) l p a one = absurd a
+waiting_more reads tells m (k ∷ ks) [] l p a one = absurd a
+waiting_more reads tells m (k ∷ ks) (q ∷ qs) l p a one = (a.0, waiting_more reads tells m ks qs l p a.1 one)
 
-waiting_split : (tells : ℕ → Type 0) (m : Member) (ls : List (List ℕ)) (ps qs : List Pending) → AreWaiting tells m ls (ps ++ qs)
-    → (front : List (List ℕ)) × (back : List (List ℕ)) × (ls ≡ front ++ back) × AreWaiting tells m front ps × AreWaiting tells m back qs
-waiting_split tells m ls [] qs a = ([], ls, refl, tt, a)
-waiting_split tells m [] (p ∷ ps) qs a = absurd a
-waiting_split tells m (l ∷ ls) (p ∷ ps) qs a =
-    let r = waiting_split tells m ls ps qs a.1 in
+waiting_split : (reads : List ℕ → Option Command) (tells : ℕ → Type 0) (m : Member) (ls : List (List ℕ)) (ps qs : List Pending) → AreWaiting reads tells m ls (ps ++ qs)
+    → (front : List (List ℕ)) × (back : List (List ℕ)) × (ls ≡ front ++ back) × AreWaiting reads tells m front ps × AreWaiting reads tells m back qs
+waiting_split reads tells m ls [] qs a = ([], ls, refl, tt, a)
+waiting_split reads tells m [] (p ∷ ps) qs a = absurd a
+waiting_split reads tells m (l ∷ ls) (p ∷ ps) qs a =
+    let r = waiting_split reads tells m ls ps qs a.1 in
     (l ∷ r.0, r.1, ap (λ x. l ∷ x) r.2, (a.0, r.3), r.4)
 
 -- ---- one line that was read is told of
 
 -- which lines are told of, behind one more
-abbrev Tallied : (ℕ → Type 0) → Member → List (List ℕ) → Bool → List Shown → Type 0
-Tallied tells m lines is xs = (said : List (List ℕ)) × (silent : List (List ℕ)) × (lines ≡ said ++ silent) × AreAnswered tells m said (replies_in xs) × (is ≡ false → silent ≡ [])
+abbrev Tallied : (List ℕ → Option Command) → (ℕ → Type 0) → Member → List (List ℕ) → Bool → List Shown → Type 0
+Tallied reads tells m lines is xs = (said : List (List ℕ)) × (silent : List (List ℕ)) × (lines ≡ said ++ silent) × AreAnswered reads tells m said (replies_in xs) × (is ≡ false → silent ≡ [])
 
-tally_line : (tells : ℕ → Type 0) (m : Member) (said : List (List ℕ)) (l : List ℕ) (x : Line) (old new : Printed) (is : Bool) → AreAnswered tells m said (replies_in old.shown) → Answered tells m l x → PrintsNow (shown.Reply x) is old new
-    → Tallied tells m (said ++ l ∷ []) is new.shown
-tally_line tells m said l x old new false a one p = (
+tally_line : (reads : List ℕ → Option Command) (tells : ℕ → Type 0) (m : Member) (said : List (List ℕ)) (l : List ℕ) (x : Line) (old new : Printed) (is : Bool) → AreAnswered reads tells m said (replies_in old.shown) → Answered reads tells m l x → PrintsNow (shown.Reply x) is old new
+    → Tallied reads tells m (said ++ l ∷ []) is new.shown
+tally_line reads tells m said l x old new false a one p = (
   said ++ l ∷ [],
   [],
   sym (append-nil (said ++ l ∷ [])),
-  subst (λ (s : List Shown). AreAnswered tells m (said ++ l ∷ []) (replies_in s)) (sym p.1)
-      (subst (AreAnswered tells m (said ++ l ∷ [])) (sym (replies_more old.shown x)) (answered_more tells m said (replies_in old.shown) l x a one)),
+  subst (λ (s : List Shown). AreAnswered reads tells m (said ++ l ∷ []) (replies_in s)) (sym p.1)
+      (subst (AreAnswered reads tells m (said ++ l ∷ [])) (sym (replies_more old.shown x)) (answered_more reads tells m said (replies_in old.shown) l x a one)),
   λ _. refl,
 )
-tally_line tells m said l x old new true a one p =
-    (said, l ∷ [], refl, subst (λ (s : List Shown). AreAnswered tells m said (replies_in s)) (sym p.1) a, λ e. absurd (cc e))
+tally_line reads tells m said l x old new true a one p =
+    (said, l ∷ [], refl, subst (λ (s : List Shown). AreAnswered reads tells m said (replies_in s)) (sym p.1) a, λ e. absurd (cc e))
 
-line_by : (tells : ℕ → Type 0) (first : Option (List ℕ)) (given : List Task) (m : Member) (said silent : List (List ℕ)) (l : List ℕ) (x : Line) (old new : Printed) (was : Bool) → Holds first was old.bytes old.shown → AreShown was given old.shown
-    → AreAnswered tells m said (replies_in old.shown) → (was ≡ false → silent ≡ []) → Answered tells m l x → PrintsBy (shown.Reply x) was old new → Says tells first given m ((said ++ silent) ++ l ∷ []) new
-line_by tells first given m said silent l x old new false h t a all one p =
-    let r = tally_line tells m said l x old new new.is_mute a one p in
+line_by : (reads : List ℕ → Option Command) (tells : ℕ → Type 0) (first : Option (List ℕ)) (given : List Task) (m : Member) (said silent : List (List ℕ)) (l : List ℕ) (x : Line) (old new : Printed) (was : Bool) → Holds first was old.bytes old.shown → AreShown was given old.shown
+    → AreAnswered reads tells m said (replies_in old.shown) → (was ≡ false → silent ≡ []) → Answered reads tells m l x → PrintsBy (shown.Reply x) was old new → Says reads tells first given m ((said ++ silent) ++ l ∷ []) new
+line_by reads tells first given m said silent l x old new false h t a all one p =
+    let r = tally_line reads tells m said l x old new new.is_mute a one p in
     let none : said ++ silent ≡ said = ap (λ w. said ++ w) (all refl) ∙ append-nil said in
     record {
       bytes = holds_now first (shown.Reply x) old new new.is_mute h p;
@@ -177,7 +177,7 @@ line_by tells first given m said silent l x old new false h t a all one p =
       replies = r.3;
       all = r.4;
     }
-line_by tells first given m said silent l x old new true h t a all one p = record {
+line_by reads tells first given m said silent l x old new true h t a all one p = record {
   bytes =
       subst (λ b. Holds first b new.bytes new.shown) (sym p.0)
       (subst (λ b. Holds first true b new.shown) (sym p.1) (subst (Holds first true old.bytes) (sym p.2) h));
@@ -185,33 +185,33 @@ line_by tells first given m said silent l x old new true h t a all one p = recor
   said = said;
   silent = silent ++ l ∷ [];
   are = append_assoc said silent (l ∷ []);
-  replies = subst (λ (s : List Shown). AreAnswered tells m said (replies_in s)) (sym p.2) a;
+  replies = subst (λ (s : List Shown). AreAnswered reads tells m said (replies_in s)) (sym p.2) a;
   all = λ e. absurd (cc (p.0, e));
 }
 
-says_line : (tells : ℕ → Type 0) (first : Option (List ℕ)) (given : List Task) (m : Member) (lines : List (List ℕ)) (l : List ℕ) (x : Line) (old new : Printed) → Says tells first given m lines old → Answered tells m l x → PrintsLine x old new
-    → Says tells first given m (lines ++ l ∷ []) new
-says_line tells first given m lines l x old new s one p =
-    subst (λ w. Says tells first given m (w ++ l ∷ []) new) (sym s.are)
-    (line_by tells first given m s.said s.silent l x old new old.is_mute s.bytes s.tasks s.replies s.all one p.0)
+says_line : (reads : List ℕ → Option Command) (tells : ℕ → Type 0) (first : Option (List ℕ)) (given : List Task) (m : Member) (lines : List (List ℕ)) (l : List ℕ) (x : Line) (old new : Printed) → Says reads tells first given m lines old → Answered reads tells m l x → PrintsLine x old new
+    → Says reads tells first given m (lines ++ l ∷ []) new
+says_line reads tells first given m lines l x old new s one p =
+    subst (λ w. Says reads tells first given m (w ++ l ∷ []) new) (sym s.are)
+    (line_by reads tells first given m s.said s.silent l x old new old.is_mute s.bytes s.tasks s.replies s.all one p.0)
 
 -- these lines are told of, one after the other
-says_all : (tells : ℕ → Type 0) (first : Option (List ℕ)) (given : List Task) (m : Member) (ls : List (List ℕ)) (ps : List Pending) (lines : List (List ℕ)) (old new : Printed) → AreWaiting tells m ls ps → TellsAll m ps old new
-    → Says tells first given m lines old → Says tells first given m (lines ++ ls) new
-says_all tells first given m [] [] lines old new w t s =
-    subst (Says tells first given m (lines ++ [])) (sym t) (subst (λ x. Says tells first given m x old) (sym (append-nil lines)) s)
-says_all tells first given m [] (p ∷ ps) lines old new w t s = absurd w
-says_all tells first given m (l ∷ ls) [] lines old new w t s = absurd w
-says_all tells first given m (l ∷ ls) (p ∷ ps) lines old new w t s =
-    let one : Answered tells m l t.1.line = record { pending = p; seen = t.1.seen; waits = w.0; same = t.1.same; before = t.1.before; answer = t.1.answer } in
-    subst (λ x. Says tells first given m x new) (append_assoc lines (l ∷ []) ls)
-    (says_all tells first given m ls ps (lines ++ l ∷ []) t.0 new w.1 t.2 (says_line tells first given m lines l t.1.line old t.0 s one t.1.printed))
+says_all : (reads : List ℕ → Option Command) (tells : ℕ → Type 0) (first : Option (List ℕ)) (given : List Task) (m : Member) (ls : List (List ℕ)) (ps : List Pending) (lines : List (List ℕ)) (old new : Printed) → AreWaiting reads tells m ls ps → TellsAll m ps old new
+    → Says reads tells first given m lines old → Says reads tells first given m (lines ++ ls) new
+says_all reads tells first given m [] [] lines old new w t s =
+    subst (Says reads tells first given m (lines ++ [])) (sym t) (subst (λ x. Says reads tells first given m x old) (sym (append-nil lines)) s)
+says_all reads tells first given m [] (p ∷ ps) lines old new w t s = absurd w
+says_all reads tells first given m (l ∷ ls) [] lines old new w t s = absurd w
+says_all reads tells first given m (l ∷ ls) (p ∷ ps) lines old new w t s =
+    let one : Answered reads tells m l t.1.line = record { pending = p; seen = t.1.seen; waits = w.0; same = t.1.same; before = t.1.before; answer = t.1.answer } in
+    subst (λ x. Says reads tells first given m x new) (append_assoc lines (l ∷ []) ls)
+    (says_all reads tells first given m ls ps (lines ++ l ∷ []) t.0 new w.1 t.2 (says_line reads tells first given m lines l t.1.line old t.0 s one t.1.printed))
 
 -- ---- a task is printed
 
-task_by : (tells : ℕ → Type 0) (first : Option (List ℕ)) (given : List Task) (m : Member) (lines said silent : List (List ℕ)) (t : Task) (old new : Printed) (was : Bool) → Holds first was old.bytes old.shown → AreShown was given old.shown
-    → lines ≡ said ++ silent → AreAnswered tells m said (replies_in old.shown) → (was ≡ false → silent ≡ []) → PrintsBy (shown.Task t) was old new → Says tells first (given ++ t ∷ []) m lines new
-task_by tells first given m lines said silent t old new false h g are a all p = record {
+task_by : (reads : List ℕ → Option Command) (tells : ℕ → Type 0) (first : Option (List ℕ)) (given : List Task) (m : Member) (lines said silent : List (List ℕ)) (t : Task) (old new : Printed) (was : Bool) → Holds first was old.bytes old.shown → AreShown was given old.shown
+    → lines ≡ said ++ silent → AreAnswered reads tells m said (replies_in old.shown) → (was ≡ false → silent ≡ []) → PrintsBy (shown.Task t) was old new → Says reads tells first (given ++ t ∷ []) m lines new
+task_by reads tells first given m lines said silent t old new false h g are a all p = record {
   bytes = holds_now first (shown.Task t) old new new.is_mute h p;
   tasks = shown_task given t old new new.is_mute g p;
   said = said;
@@ -221,10 +221,10 @@ task_by tells first given m lines said silent t old new false h g are a all p = 
   all = λ _. all refl;
 }
   where
-    answered_task : (is : Bool) → PrintsNow (shown.Task t) is old new → AreAnswered tells m said (replies_in new.shown)
-    answered_task false q = subst (λ (s : List Shown). AreAnswered tells m said (replies_in s)) (sym q.1) (subst (AreAnswered tells m said) (sym (replies_same old.shown t)) a)
-    answered_task true q = subst (λ (s : List Shown). AreAnswered tells m said (replies_in s)) (sym q.1) a
-task_by tells first given m lines said silent t old new true h g are a all p = record {
+    answered_task : (is : Bool) → PrintsNow (shown.Task t) is old new → AreAnswered reads tells m said (replies_in new.shown)
+    answered_task false q = subst (λ (s : List Shown). AreAnswered reads tells m said (replies_in s)) (sym q.1) (subst (AreAnswered reads tells m said) (sym (replies_same old.shown t)) a)
+    answered_task true q = subst (λ (s : List Shown). AreAnswered reads tells m said (replies_in s)) (sym q.1) a
+task_by reads tells first given m lines said silent t old new true h g are a all p = record {
   bytes =
       subst (λ b. Holds first b new.bytes new.shown) (sym p.0)
       (subst (λ b. Holds first true b new.shown) (sym p.1) (subst (Holds first true old.bytes) (sym p.2) h));
@@ -232,19 +232,19 @@ task_by tells first given m lines said silent t old new true h g are a all p = r
   said = said;
   silent = silent;
   are = are;
-  replies = subst (λ (s : List Shown). AreAnswered tells m said (replies_in s)) (sym p.2) a;
+  replies = subst (λ (s : List Shown). AreAnswered reads tells m said (replies_in s)) (sym p.2) a;
   all = λ e. absurd (cc (p.0, e));
 }
 
-says_task : (tells : ℕ → Type 0) (first : Option (List ℕ)) (given : List Task) (m : Member) (lines : List (List ℕ)) (t : Task) (old new : Printed) → Says tells first given m lines old → PrintsTask t old new → Says tells first (given ++ t ∷ []) m lines new
-says_task tells first given m lines t old new s p = task_by tells first given m lines s.said s.silent t old new old.is_mute s.bytes s.tasks s.are s.replies s.all p.0
+says_task : (reads : List ℕ → Option Command) (tells : ℕ → Type 0) (first : Option (List ℕ)) (given : List Task) (m : Member) (lines : List (List ℕ)) (t : Task) (old new : Printed) → Says reads tells first given m lines old → PrintsTask t old new → Says reads tells first (given ++ t ∷ []) m lines new
+says_task reads tells first given m lines t old new s p = task_by reads tells first given m lines s.said s.silent t old new old.is_mute s.bytes s.tasks s.are s.replies s.all p.0
 
 -- what was given out is printed
-says_fed : (tells : ℕ → Type 0) (first : Option (List ℕ)) (feed then : Known) (m : Member) (lines : List (List ℕ)) (f : Fed) (old new : Printed) → HasFed feed then f → PrintsFed f old new → Says tells first feed.given m lines old
-    → Says tells first then.given m lines new
-says_fed tells first feed then m lines (fed.Task t) old new h p s = subst (λ g. Says tells first g m lines new) (sym h.next) (says_task tells first feed.given m lines t old new s p)
-says_fed tells first feed then m lines fed.Nothing old new h p s = subst (λ g. Says tells first g m lines new) (sym h.0.next) (subst (Says tells first feed.given m lines) (sym p) s)
-says_fed tells first feed then m lines fed.Closed old new h p s = subst (λ g. Says tells first g m lines new) (sym h.0.next) (subst (Says tells first feed.given m lines) (sym p) s)
+says_fed : (reads : List ℕ → Option Command) (tells : ℕ → Type 0) (first : Option (List ℕ)) (feed then : Known) (m : Member) (lines : List (List ℕ)) (f : Fed) (old new : Printed) → HasFed feed then f → PrintsFed f old new → Says reads tells first feed.given m lines old
+    → Says reads tells first then.given m lines new
+says_fed reads tells first feed then m lines (fed.Task t) old new h p s = subst (λ g. Says reads tells first g m lines new) (sym h.next) (says_task reads tells first feed.given m lines t old new s p)
+says_fed reads tells first feed then m lines fed.Nothing old new h p s = subst (λ g. Says reads tells first g m lines new) (sym h.0.next) (subst (Says reads tells first feed.given m lines) (sym p) s)
+says_fed reads tells first feed then m lines fed.Closed old new h p s = subst (λ g. Says reads tells first g m lines new) (sym h.0.next) (subst (Says reads tells first feed.given m lines) (sym p) s)
 
 is_fed : (feed then : Known) (f : Fed) → HasFed feed then f → IsFed then
 is_fed feed then (fed.Task t) h = record { first = h.first; once = h.once }
@@ -254,8 +254,8 @@ is_fed feed then fed.Closed h = record { first = h.0.first; once = h.0.once }
 -- ---- what the counter has, behind each of its steps
 
 -- it has read and printed nothing
-pub counts_none : (tells : ℕ → Type 0) (first : Option (List ℕ)) (m : Member) → Counts tells first nothing m [] [] (blank first)
-counts_none tells first m = record {
+pub counts_none : (reads : List ℕ → Option Command) (tells : ℕ → Type 0) (first : Option (List ℕ)) (m : Member) → Counts reads tells first nothing m [] [] (blank first)
+counts_none reads tells first m = record {
   done = [];
   waiting = [];
   are = refl;
@@ -264,65 +264,65 @@ counts_none tells first m = record {
   fed = record { first = ([], refl); once = tt };
 }
 
-pub counted : (tells : ℕ → Type 0) (first : Option (List ℕ)) (feed : Known) (m : Member) (ps : List Pending) (lines : List (List ℕ)) (page : Printed) → Counts tells first feed m ps lines page → Counted tells first feed m lines page
-counted tells first feed m ps lines page c = record { done = c.done; rest = c.waiting; are = c.are; says = c.says; fed = c.fed }
+pub counted : (reads : List ℕ → Option Command) (tells : ℕ → Type 0) (first : Option (List ℕ)) (feed : Known) (m : Member) (ps : List Pending) (lines : List (List ℕ)) (page : Printed) → Counts reads tells first feed m ps lines page → Counted reads tells first feed m lines page
+counted reads tells first feed m ps lines page c = record { done = c.done; rest = c.waiting; are = c.are; says = c.says; fed = c.fed }
 
 -- it is over
-pub goes_over : (tells : ℕ → Type 0) (first : Option (List ℕ)) (feed : Known) (m : Member) (ps : List Pending) (lines : List (List ℕ)) (page : Printed) → Counted tells first feed m lines page → Goes tells first false feed m ps lines page
-goes_over tells first feed m ps lines page c = ((λ e. absurd (cc e)), c)
+pub goes_over : (reads : List ℕ → Option Command) (tells : ℕ → Type 0) (first : Option (List ℕ)) (feed : Known) (m : Member) (ps : List Pending) (lines : List (List ℕ)) (page : Printed) → Counted reads tells first feed m lines page → Goes reads tells first false feed m ps lines page
+goes_over reads tells first feed m ps lines page c = ((λ e. absurd (cc e)), c)
 
 -- the oldest lines are told of
-told_part : (tells : ℕ → Type 0) (first : Option (List ℕ)) (feed : Known) (k m : Member) (on : Bool) (ps rest : List Pending) (lines : List (List ℕ)) (old new : Printed) → m.id ≡ k.id → IsBefore k.was m.was → HasTold m on ps rest old new
-    → Counts tells first feed k ps lines old → Counted tells first feed m lines new
-told_part tells first feed k m on ps rest lines old new same later h c =
-    let waits = waiting_later tells k m (sym same) later c.waiting ps c.waits in
-    let r = waiting_split tells m c.waiting h.told (h.silent ++ rest) (subst (AreWaiting tells m c.waiting) (sym h.rest) waits) in
+told_part : (reads : List ℕ → Option Command) (tells : ℕ → Type 0) (first : Option (List ℕ)) (feed : Known) (k m : Member) (on : Bool) (ps rest : List Pending) (lines : List (List ℕ)) (old new : Printed) → m.id ≡ k.id → IsBefore k.was m.was → HasTold m on ps rest old new
+    → Counts reads tells first feed k ps lines old → Counted reads tells first feed m lines new
+told_part reads tells first feed k m on ps rest lines old new same later h c =
+    let waits = waiting_later reads tells k m (sym same) later c.waiting ps c.waits in
+    let r = waiting_split reads tells m c.waiting h.told (h.silent ++ rest) (subst (AreWaiting reads tells m c.waiting) (sym h.rest) waits) in
     record {
       done = c.done ++ r.0;
       rest = r.1;
       are = c.are ∙ (ap (λ w. c.done ++ w) r.2 ∙ sym (append_assoc c.done r.0 r.1));
-      says = says_all tells first feed.given m r.0 h.told c.done old new r.3 h.printed (says_later tells first feed.given k m c.done old (sym same) later c.says);
+      says = says_all reads tells first feed.given m r.0 h.told c.done old new r.3 h.printed (says_later reads tells first feed.given k m c.done old (sym same) later c.says);
       fed = c.fed;
     }
 
-pub told_on : (tells : ℕ → Type 0) (first : Option (List ℕ)) (feed : Known) (k m : Member) (ps rest : List Pending) (lines : List (List ℕ)) (old new : Printed) → m.id ≡ k.id → IsBefore k.was m.was → HasTold m true ps rest old new
-    → Counts tells first feed k ps lines old → Counts tells first feed m rest lines new
-told_on tells first feed k m ps rest lines old new same later h c =
-    let waits = waiting_later tells k m (sym same) later c.waiting ps c.waits in
+pub told_on : (reads : List ℕ → Option Command) (tells : ℕ → Type 0) (first : Option (List ℕ)) (feed : Known) (k m : Member) (ps rest : List Pending) (lines : List (List ℕ)) (old new : Printed) → m.id ≡ k.id → IsBefore k.was m.was → HasTold m true ps rest old new
+    → Counts reads tells first feed k ps lines old → Counts reads tells first feed m rest lines new
+told_on reads tells first feed k m ps rest lines old new same later h c =
+    let waits = waiting_later reads tells k m (sym same) later c.waiting ps c.waits in
     let all : h.told ++ rest ≡ ps = subst (λ s. h.told ++ (s ++ rest) ≡ ps) (h.all refl) h.rest in
-    let r = waiting_split tells m c.waiting h.told rest (subst (AreWaiting tells m c.waiting) (sym all) waits) in
+    let r = waiting_split reads tells m c.waiting h.told rest (subst (AreWaiting reads tells m c.waiting) (sym all) waits) in
     record {
       done = c.done ++ r.0;
       waiting = r.1;
       are = c.are ∙ (ap (λ w. c.done ++ w) r.2 ∙ sym (append_assoc c.done r.0 r.1));
-      says = says_all tells first feed.given m r.0 h.told c.done old new r.3 h.printed (says_later tells first feed.given k m c.done old (sym same) later c.says);
+      says = says_all reads tells first feed.given m r.0 h.told c.done old new r.3 h.printed (says_later reads tells first feed.given k m c.done old (sym same) later c.says);
       waits = r.4;
       fed = c.fed;
     }
 
-pub goes_told : (tells : ℕ → Type 0) (first : Option (List ℕ)) (feed : Known) (k m : Member) (on : Bool) (ps rest : List Pending) (lines : List (List ℕ)) (old new : Printed) → m.id ≡ k.id → IsBefore k.was m.was → HasTold m on ps rest old new
-    → Counts tells first feed k ps lines old → Goes tells first on feed m rest lines new
-goes_told tells first feed k m on ps rest lines old new same later h c =
-    ((λ e. told_on tells first feed k m ps rest lines old new same later (told_as m on true e h) c), told_part tells first feed k m on ps rest lines old new same later h c)
+pub goes_told : (reads : List ℕ → Option Command) (tells : ℕ → Type 0) (first : Option (List ℕ)) (feed : Known) (k m : Member) (on : Bool) (ps rest : List Pending) (lines : List (List ℕ)) (old new : Printed) → m.id ≡ k.id → IsBefore k.was m.was → HasTold m on ps rest old new
+    → Counts reads tells first feed k ps lines old → Goes reads tells first on feed m rest lines new
+goes_told reads tells first feed k m on ps rest lines old new same later h c =
+    ((λ e. told_on reads tells first feed k m ps rest lines old new same later (told_as m on true e h) c), told_part reads tells first feed k m on ps rest lines old new same later h c)
 
-pub all_told : (tells : ℕ → Type 0) (first : Option (List ℕ)) (feed : Known) (k m : Member) (ps rest : List Pending) (lines : List (List ℕ)) (old new : Printed) → m.id ≡ k.id → IsBefore k.was m.was → HasTold m false ps rest old new
-    → Counts tells first feed k ps lines old → Counted tells first feed m lines new
-all_told tells first feed k m ps rest lines old new same later h c = told_part tells first feed k m false ps rest lines old new same later h c
+pub all_told : (reads : List ℕ → Option Command) (tells : ℕ → Type 0) (first : Option (List ℕ)) (feed : Known) (k m : Member) (ps rest : List Pending) (lines : List (List ℕ)) (old new : Printed) → m.id ≡ k.id → IsBefore k.was m.was → HasTold m false ps rest old new
+    → Counts reads tells first feed k ps lines old → Counted reads tells first feed m lines new
+all_told reads tells first feed k m ps rest lines old new same later h c = told_part reads tells first feed k m false ps rest lines old new same later h c
 
 -- one more is read
-counts_more : (tells : ℕ → Type 0) (first : Option (List ℕ)) (feed : Known) (m : Member) (ps : List Pending) (p : Pending) (lines : List (List ℕ)) (l : List ℕ) (page : Printed) → IsPendingOf tells m l p → Counts tells first feed m ps lines page
-    → Counts tells first feed m (ps ++ p ∷ []) (lines ++ l ∷ []) page
-counts_more tells first feed m ps p lines l page one c = record {
+counts_more : (reads : List ℕ → Option Command) (tells : ℕ → Type 0) (first : Option (List ℕ)) (feed : Known) (m : Member) (ps : List Pending) (p : Pending) (lines : List (List ℕ)) (l : List ℕ) (page : Printed) → IsPendingOf reads tells m l p → Counts reads tells first feed m ps lines page
+    → Counts reads tells first feed m (ps ++ p ∷ []) (lines ++ l ∷ []) page
+counts_more reads tells first feed m ps p lines l page one c = record {
   done = c.done;
   waiting = c.waiting ++ l ∷ [];
   are = ap (λ w. w ++ l ∷ []) c.are ∙ append_assoc c.done c.waiting (l ∷ []);
   says = c.says;
-  waits = waiting_more tells m c.waiting ps l p c.waits one;
+  waits = waiting_more reads tells m c.waiting ps l p c.waits one;
   fed = c.fed;
 }
 
-counted_more : (tells : ℕ → Type 0) (first : Option (List ℕ)) (feed : Known) (m : Member) (lines : List (List ℕ)) (l : List ℕ) (page : Printed) → Counted tells first feed m lines page → Counted tells first feed m (lines ++ l ∷ []) page
-counted_more tells first feed m lines l page c = record {
+counted_more : (reads : List ℕ → Option Command) (tells : ℕ → Type 0) (first : Option (List ℕ)) (feed : Known) (m : Member) (lines : List (List ℕ)) (l : List ℕ) (page : Printed) → Counted reads tells first feed m lines page → Counted reads tells first feed m (lines ++ l ∷ []) page
+counted_more reads tells first feed m lines l page c = record {
   done = c.done;
   rest = c.rest ++ l ∷ [];
   are = ap (λ w. w ++ l ∷ []) c.are ∙ append_assoc c.done c.rest (l ∷ []);
@@ -331,60 +331,60 @@ counted_more tells first feed m lines l page c = record {
 }
 
 -- a line is taken in, or it isn't
-pub taken_in : (tells : ℕ → Type 0) (first : Option (List ℕ)) (feed : Known) (k m : Member) (ps now : List Pending) (lines : List (List ℕ)) (l : List ℕ) (old new : Printed) → m.id ≡ k.id → IsBefore k.was m.was
-    → (p : Pending) × (rest : List Pending) × IsPendingOf tells m l p × (now ≡ rest ++ p ∷ []) × HasTold m true ps rest old new
-    → Counts tells first feed k ps lines old → Counts tells first feed m now (lines ++ l ∷ []) new
-taken_in tells first feed k m ps now lines l old new same later (p, rest, one, is, h) c =
-    subst (λ w. Counts tells first feed m w (lines ++ l ∷ []) new) (sym is)
-    (counts_more tells first feed m rest p lines l new one (told_on tells first feed k m ps rest lines old new same later h c))
+pub taken_in : (reads : List ℕ → Option Command) (tells : ℕ → Type 0) (first : Option (List ℕ)) (feed : Known) (k m : Member) (ps now : List Pending) (lines : List (List ℕ)) (l : List ℕ) (old new : Printed) → m.id ≡ k.id → IsBefore k.was m.was
+    → (p : Pending) × (rest : List Pending) × IsPendingOf reads tells m l p × (now ≡ rest ++ p ∷ []) × HasTold m true ps rest old new
+    → Counts reads tells first feed k ps lines old → Counts reads tells first feed m now (lines ++ l ∷ []) new
+taken_in reads tells first feed k m ps now lines l old new same later (p, rest, one, is, h) c =
+    subst (λ w. Counts reads tells first feed m w (lines ++ l ∷ []) new) (sym is)
+    (counts_more reads tells first feed m rest p lines l new one (told_on reads tells first feed k m ps rest lines old new same later h c))
 
-pub taken_goes : (tells : ℕ → Type 0) (first : Option (List ℕ)) (feed : Known) (k m : Member) (on : Bool) (ps now : List Pending) (lines : List (List ℕ)) (l : List ℕ) (old new : Printed) → m.id ≡ k.id → IsBefore k.was m.was
-    → (on ≡ true → (p : Pending) × (rest : List Pending) × IsPendingOf tells m l p × (now ≡ rest ++ p ∷ []) × HasTold m true ps rest old new)
+pub taken_goes : (reads : List ℕ → Option Command) (tells : ℕ → Type 0) (first : Option (List ℕ)) (feed : Known) (k m : Member) (on : Bool) (ps now : List Pending) (lines : List (List ℕ)) (l : List ℕ) (old new : Printed) → m.id ≡ k.id → IsBefore k.was m.was
+    → (on ≡ true → (p : Pending) × (rest : List Pending) × IsPendingOf reads tells m l p × (now ≡ rest ++ p ∷ []) × HasTold m true ps rest old new)
     → (on ≡ false → HasTold m false ps now old new)
-    → Counts tells first feed k ps lines old → Goes tells first on feed m now (lines ++ l ∷ []) new
-taken_goes tells first feed k m true ps now lines l old new same later taken not_taken c =
-    let more = taken_in tells first feed k m ps now lines l old new same later (taken refl) c in
-    ((λ _. more), counted tells first feed m now (lines ++ l ∷ []) new more)
-taken_goes tells first feed k m false ps now lines l old new same later taken not_taken c =
-    ((λ e. absurd (cc e)), counted_more tells first feed m lines l new (told_part tells first feed k m false ps now lines old new same later (not_taken refl) c))
+    → Counts reads tells first feed k ps lines old → Goes reads tells first on feed m now (lines ++ l ∷ []) new
+taken_goes reads tells first feed k m true ps now lines l old new same later taken not_taken c =
+    let more = taken_in reads tells first feed k m ps now lines l old new same later (taken refl) c in
+    ((λ _. more), counted reads tells first feed m now (lines ++ l ∷ []) new more)
+taken_goes reads tells first feed k m false ps now lines l old new same later taken not_taken c =
+    ((λ e. absurd (cc e)), counted_more reads tells first feed m lines l new (told_part reads tells first feed k m false ps now lines old new same later (not_taken refl) c))
 
 -- what was given out is printed
-counts_fed : (tells : ℕ → Type 0) (first : Option (List ℕ)) (feed then : Known) (k m : Member) (ps rest : List Pending) (lines : List (List ℕ)) (f : Fed) (old new : Printed) → m ≡ k → rest ≡ ps → HasFed feed then f → PrintsFed f old new
-    → Counts tells first feed k ps lines old → Counts tells first then m rest lines new
-counts_fed tells first feed then k m ps rest lines f old new same left h p c =
-    subst (λ x. Counts tells first then x rest lines new) (sym same)
-    (subst (λ x. Counts tells first then k x lines new) (sym left) (record {
+counts_fed : (reads : List ℕ → Option Command) (tells : ℕ → Type 0) (first : Option (List ℕ)) (feed then : Known) (k m : Member) (ps rest : List Pending) (lines : List (List ℕ)) (f : Fed) (old new : Printed) → m ≡ k → rest ≡ ps → HasFed feed then f → PrintsFed f old new
+    → Counts reads tells first feed k ps lines old → Counts reads tells first then m rest lines new
+counts_fed reads tells first feed then k m ps rest lines f old new same left h p c =
+    subst (λ x. Counts reads tells first then x rest lines new) (sym same)
+    (subst (λ x. Counts reads tells first then k x lines new) (sym left) (record {
       done = c.done;
       waiting = c.waiting;
       are = c.are;
-      says = says_fed tells first feed then k c.done f old new h p c.says;
+      says = says_fed reads tells first feed then k c.done f old new h p c.says;
       waits = c.waits;
       fed = is_fed feed then f h;
     }))
 
-pub goes_fed : (tells : ℕ → Type 0) (first : Option (List ℕ)) (on : Bool) (feed then : Known) (k m : Member) (ps rest : List Pending) (lines : List (List ℕ)) (f : Fed) (old new : Printed) → m ≡ k → rest ≡ ps → HasFed feed then f
-    → PrintsFed f old new → Counts tells first feed k ps lines old → Goes tells first on then m rest lines new
-goes_fed tells first on feed then k m ps rest lines f old new same left h p c =
-    let now = counts_fed tells first feed then k m ps rest lines f old new same left h p c in
-    ((λ _. now), counted tells first then m rest lines new now)
+pub goes_fed : (reads : List ℕ → Option Command) (tells : ℕ → Type 0) (first : Option (List ℕ)) (on : Bool) (feed then : Known) (k m : Member) (ps rest : List Pending) (lines : List (List ℕ)) (f : Fed) (old new : Printed) → m ≡ k → rest ≡ ps → HasFed feed then f
+    → PrintsFed f old new → Counts reads tells first feed k ps lines old → Goes reads tells first on then m rest lines new
+goes_fed reads tells first on feed then k m ps rest lines f old new same left h p c =
+    let now = counts_fed reads tells first feed then k m ps rest lines f old new same left h p c in
+    ((λ _. now), counted reads tells first then m rest lines new now)
 
-pub counted_fed : (tells : ℕ → Type 0) (first : Option (List ℕ)) (feed then : Known) (k m : Member) (lines : List (List ℕ)) (f : Fed) (old new : Printed) → m ≡ k → HasFed feed then f → PrintsFed f old new
-    → Counted tells first feed k lines old → Counted tells first then m lines new
-counted_fed tells first feed then k m lines f old new same h p c =
-    subst (λ x. Counted tells first then x lines new) (sym same) (record {
+pub counted_fed : (reads : List ℕ → Option Command) (tells : ℕ → Type 0) (first : Option (List ℕ)) (feed then : Known) (k m : Member) (lines : List (List ℕ)) (f : Fed) (old new : Printed) → m ≡ k → HasFed feed then f → PrintsFed f old new
+    → Counted reads tells first feed k lines old → Counted reads tells first then m lines new
+counted_fed reads tells first feed then k m lines f old new same h p c =
+    subst (λ x. Counted reads tells first then x lines new) (sym same) (record {
       done = c.done;
       rest = c.rest;
       are = c.are;
-      says = says_fed tells first feed then k c.done f old new h p c.says;
+      says = says_fed reads tells first feed then k c.done f old new h p c.says;
       fed = is_fed feed then f h;
     })
 
 -- the status says nothing of what was printed
-pub counts_failed : (tells : ℕ → Type 0) (first : Option (List ℕ)) (feed : Known) (k m : Member) (ps rest : List Pending) (lines : List (List ℕ)) (old new : Printed) (n : ℕ) → m ≡ k → rest ≡ ps → new ≡ record old { status = n }
-    → Counts tells first feed k ps lines old → Counts tells first feed m rest lines new
-counts_failed tells first feed k m ps rest lines old new n same left is c =
+pub counts_failed : (reads : List ℕ → Option Command) (tells : ℕ → Type 0) (first : Option (List ℕ)) (feed : Known) (k m : Member) (ps rest : List Pending) (lines : List (List ℕ)) (old new : Printed) (n : ℕ) → m ≡ k → rest ≡ ps → new ≡ record old { status = n }
+    → Counts reads tells first feed k ps lines old → Counts reads tells first feed m rest lines new
+counts_failed reads tells first feed k m ps rest lines old new n same left is c =
     let s = c.says in
-    let now : Counts tells first feed k ps lines (record old { status = n }) = record {
+    let now : Counts reads tells first feed k ps lines (record old { status = n }) = record {
       done = c.done;
       waiting = c.waiting;
       are = c.are;
@@ -392,26 +392,26 @@ counts_failed tells first feed k m ps rest lines old new n same left is c =
       waits = c.waits;
       fed = c.fed;
     } in
-    subst (λ x. Counts tells first feed x rest lines new) (sym same)
-    (subst (λ x. Counts tells first feed k x lines new) (sym left) (subst (Counts tells first feed k ps lines) (sym is) now))
+    subst (λ x. Counts reads tells first feed x rest lines new) (sym same)
+    (subst (λ x. Counts reads tells first feed k x lines new) (sym left) (subst (Counts reads tells first feed k ps lines) (sym is) now))
 
 -- ---- the same, of what is the same
 
-pub counts_as : (tells : ℕ → Type 0) (first : Option (List ℕ)) (feed : Known) (m : Member) (ps : List Pending) (lines : List (List ℕ)) (page : Printed) → feed ≡ nothing → ps ≡ [] → lines ≡ [] → page ≡ blank first
-    → Counts tells first feed m ps lines page
-counts_as tells first feed m ps lines page a b d e =
-    subst (λ x. Counts tells first x m ps lines page) (sym a)
-    (subst (λ x. Counts tells first nothing m x lines page) (sym b)
-    (subst (λ x. Counts tells first nothing m [] x page) (sym d) (subst (Counts tells first nothing m [] []) (sym e) (counts_none tells first m))))
+pub counts_as : (reads : List ℕ → Option Command) (tells : ℕ → Type 0) (first : Option (List ℕ)) (feed : Known) (m : Member) (ps : List Pending) (lines : List (List ℕ)) (page : Printed) → feed ≡ nothing → ps ≡ [] → lines ≡ [] → page ≡ blank first
+    → Counts reads tells first feed m ps lines page
+counts_as reads tells first feed m ps lines page a b d e =
+    subst (λ x. Counts reads tells first x m ps lines page) (sym a)
+    (subst (λ x. Counts reads tells first nothing m x lines page) (sym b)
+    (subst (λ x. Counts reads tells first nothing m [] x page) (sym d) (subst (Counts reads tells first nothing m [] []) (sym e) (counts_none reads tells first m))))
 
-pub counted_as : (tells : ℕ → Type 0) (first : Option (List ℕ)) (feed then : Known) (k m : Member) (lines ls : List (List ℕ)) (page now : Printed) → then ≡ feed → m ≡ k → ls ≡ lines → now ≡ page
-    → Counted tells first feed k lines page → Counted tells first then m ls now
-counted_as tells first feed then k m lines ls page now a b d e c =
-    subst (λ x. Counted tells first x m ls now) (sym a)
-    (subst (λ x. Counted tells first feed x ls now) (sym b) (subst (λ x. Counted tells first feed k x now) (sym d) (subst (Counted tells first feed k lines) (sym e) c)))
+pub counted_as : (reads : List ℕ → Option Command) (tells : ℕ → Type 0) (first : Option (List ℕ)) (feed then : Known) (k m : Member) (lines ls : List (List ℕ)) (page now : Printed) → then ≡ feed → m ≡ k → ls ≡ lines → now ≡ page
+    → Counted reads tells first feed k lines page → Counted reads tells first then m ls now
+counted_as reads tells first feed then k m lines ls page now a b d e c =
+    subst (λ x. Counted reads tells first x m ls now) (sym a)
+    (subst (λ x. Counted reads tells first feed x ls now) (sym b) (subst (λ x. Counted reads tells first feed k x now) (sym d) (subst (Counted reads tells first feed k lines) (sym e) c)))
 
 -- and later
-pub counted_later : (tells : ℕ → Type 0) (first : Option (List ℕ)) (feed : Known) (k m : Member) (lines : List (List ℕ)) (page : Printed) → m.id ≡ k.id → IsBefore k.was m.was
-    → Counted tells first feed k lines page → Counted tells first feed m lines page
-counted_later tells first feed k m lines page same later c =
-    record { done = c.done; rest = c.rest; are = c.are; says = says_later tells first feed.given k m c.done page (sym same) later c.says; fed = c.fed }
+pub counted_later : (reads : List ℕ → Option Command) (tells : ℕ → Type 0) (first : Option (List ℕ)) (feed : Known) (k m : Member) (lines : List (List ℕ)) (page : Printed) → m.id ≡ k.id → IsBefore k.was m.was
+    → Counted reads tells first feed k lines page → Counted reads tells first feed m lines page
+counted_later reads tells first feed k m lines page same later c =
+    record { done = c.done; rest = c.rest; are = c.are; says = says_later reads tells first feed.given k m c.done page (sym same) later c.says; fed = c.fed }

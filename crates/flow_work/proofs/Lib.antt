@@ -2,7 +2,9 @@ mod Counting
 mod Firing
 mod Hearing
 mod Printing
+mod Questions
 mod Reading
 mod Resting
 mod Served
+mod Silence
 mod Telling

@@ -2,7 +2,7 @@
 use Rattle.std.proofs.Common.{◌≡◌, ◌++◌, ℕ, List, Option, Some, None, subst}
 use Rattle.std.specs.Io.KnownBytes.{Appends, Keeps}
 use Rattle.std.proofs.KnownBytes.{Keeps-refl, Keeps-trans}
-use Rattle.flow_cli.specs.Driving.{WritesBeginning}
+use Rattle.flow_lines.specs.Driving.{WritesBeginning}
 
 pub kept_self : (a : Option (List ℕ)) → Keeps a a
 kept_self a = Keeps-refl a

@@ -4,9 +4,8 @@ use Rattle.std.proofs.lemmas.Option.{same_Some, none-some}
 use mathlib.Core.List.{IsPrefix}
 use Rattle.sqlite_trees.specs.declared.store.Store.{Ghosts}
 use Rattle.flow_base.specs.declared.command.Command.{Command}
-use Rattle.flow_cli.specs.Commands.{line_command}
-use Rattle.flow_cli.specs.declared.reply.Line.{Line}
-use Rattle.flow_cli.specs.declared.reply.Line.TheVariants as line
+use Rattle.flow_lines.specs.declared.reply.Line.{Line}
+use Rattle.flow_lines.specs.declared.reply.Line.TheVariants as line
 use Rattle.flow_machine.specs.declared.submission.Receipt.{Receipt}
 use Rattle.flow_machine.specs.declared.submission.Taken.{Taken}
 use Rattle.flow_machine.specs.declared.task.Task.{Task}
@@ -32,6 +31,7 @@ use Rattle.flow_work.specs.Counting.{AreAnswered, Answered, Counted, replies_in}
 use Rattle.flow_work.specs.Endings.{IsToldOf, line_instead}
 use Rattle.flow_work.specs.Moments.{command_at}
 use Rattle.flow_work.specs.Printing.{Printed}
+use Rattle.flow_work.specs.Questions.{line_served}
 use Rattle.flow_work.specs.Reading.{IsKnown, IsSubmitted, IsPendingOf}
 use Rattle.flow_work.specs.Telling.{IsAnswer}
 use Rattle.flow_work.specs.Serving.{IsReply, IsUnapplied, IsTelling, AreTold, ServedBy, Shows}
@@ -65,14 +65,14 @@ same_command : (o : Option Taken) (x y : Taken) → o ≡ Some x → o ≡ Some 
 same_command o x y p q = let same : x ≡ y = cc (p, q) in ap (λ (t : Taken). t.command) same
 
 -- what was submitted for a line is what has this number
-asked_at : (tells : ℕ → Type 0) (m seen : Member) (bytes : List ℕ) (t : Ticket) (x : Taken) (n : ℕ) → IsBefore seen.was m.was → (w : IsSubmitted tells m bytes t) → n ≡ t.number → slice_get seen.was.asked n ≡ Some x → x.command ≡ command_at w.command w.at
+asked_at : (tells : ℕ → Type 0) (m seen : Member) (bytes : List ℕ) (t : Ticket) (x : Taken) (n : ℕ) → IsBefore seen.was m.was → (w : IsSubmitted line_served tells m bytes t) → n ≡ t.number → slice_get seen.was.asked n ≡ Some x → x.command ≡ command_at w.command w.at
 asked_at tells m seen bytes t x n before w is own =
     let there = w.ticket.1 in
     let later : slice_get m.was.asked n ≡ Some x = get_later seen.was.asked m.was.asked n x before.asked own in
     let now : slice_get m.was.asked t.number ≡ Some x = subst (λ k. slice_get m.was.asked k ≡ Some x) is later in
     same_command (slice_get m.was.asked t.number) x (record { ticket = t.number; command = command_at w.command w.at }) now there
 
-by_receipt : (tells : ℕ → Type 0) (m seen : Member) (log : List Receipt) (bytes : List ℕ) (told : Line) (t : Ticket) (r : Receipt) → IsBefore seen.was m.was → IsPrefix m.was.history log → IsSubmitted tells m bytes t → IsReceipt seen t r
+by_receipt : (tells : ℕ → Type 0) (m seen : Member) (log : List Receipt) (bytes : List ℕ) (told : Line) (t : Ticket) (r : Receipt) → IsBefore seen.was m.was → IsPrefix m.was.history log → IsSubmitted line_served tells m bytes t → IsReceipt seen t r
     → Some told ≡ Some (line.Of r.reply) → IsReply tells log bytes told
 by_receipt tells m seen log bytes told t r before on w is e = record {
   receipt = r;
@@ -85,7 +85,7 @@ by_receipt tells m seen log bytes told t r before on w is e = record {
   told = same_Some told (line.Of r.reply) e;
 }
 
-by_why : (tells : ℕ → Type 0) (m seen : Member) (refused : List Refused) (bytes : List ℕ) (told : Line) (t : Ticket) (n : NotDone) (w : Why) → IsBefore seen.was m.was → IsPrefix m.was.refused refused → IsSubmitted tells m bytes t → IsFor seen t n w
+by_why : (tells : ℕ → Type 0) (m seen : Member) (refused : List Refused) (bytes : List ℕ) (told : Line) (t : Ticket) (n : NotDone) (w : Why) → IsBefore seen.was m.was → IsPrefix m.was.refused refused → IsSubmitted line_served tells m bytes t → IsFor seen t n w
     → Some told ≡ line_instead w → IsUnapplied tells refused bytes told
 by_why tells m seen refused bytes told t n why.NotMine before on sent is e = absurd (cc e)
 by_why tells m seen refused bytes told t n (why.Refused code) before on sent is e =
@@ -101,18 +101,18 @@ by_why tells m seen refused bytes told t n (why.Refused code) before on sent is 
     }
 
 by_ticket : (tells : ℕ → Type 0) (m seen : Member) (log : List Receipt) (refused : List Refused) (bytes : List ℕ) (told : Line) (t : Ticket) → IsBefore seen.was m.was → IsPrefix m.was.history log → IsPrefix m.was.refused refused
-    → IsSubmitted tells m bytes t → IsToldOf seen t (Some told) → IsTelling tells log refused bytes told
+    → IsSubmitted line_served tells m bytes t → IsToldOf seen t (Some told) → IsTelling tells log refused bytes told
 by_ticket tells m seen log refused bytes told t before on off w (inl (r, is, e)) = inl (by_receipt tells m seen log bytes told t r before on w is e)
 by_ticket tells m seen log refused bytes told t before on off w (inr (n, is, e)) = inr (inl (by_why tells m seen refused bytes told t n n.code before off w is.1 e))
 
 by_pending : (tells : ℕ → Type 0) (m seen : Member) (log : List Receipt) (refused : List Refused) (bytes : List ℕ) (told : Line) (p : Pending) → IsBefore seen.was m.was → IsPrefix m.was.history log → IsPrefix m.was.refused refused
-    → IsPendingOf tells m bytes p → IsAnswer seen p (Some told) → IsTelling tells log refused bytes told
+    → IsPendingOf line_served tells m bytes p → IsAnswer seen p (Some told) → IsTelling tells log refused bytes told
 by_pending tells m seen log refused bytes told (pending.Submitted t) before on off w a = by_ticket tells m seen log refused bytes told t before on off w a
-by_pending tells m seen log refused bytes told (pending.Known known) before on off w a = inr (inr (subst (IsKnown bytes) (sym (same_Some told known a)) w))
+by_pending tells m seen log refused bytes told (pending.Known known) before on off w a = inr (inr (subst (IsKnown line_served bytes) (sym (same_Some told known a)) w))
 
 -- ---- all of them
 
-are_told : (tells : ℕ → Type 0) (m : Member) (log : List Receipt) (refused : List Refused) (ls : List (List ℕ)) (xs : List Line) (more : List (List ℕ)) → IsPrefix m.was.history log → IsPrefix m.was.refused refused → AreAnswered tells m ls xs
+are_told : (tells : ℕ → Type 0) (m : Member) (log : List Receipt) (refused : List Refused) (ls : List (List ℕ)) (xs : List Line) (more : List (List ℕ)) → IsPrefix m.was.history log → IsPrefix m.was.refused refused → AreAnswered line_served tells m ls xs
     → AreTold tells log refused xs (ls ++ more)
 are_told tells m log refused [] [] more on off a = tt
 are_told tells m log refused [] (x ∷ xs) more on off a = absurd a
@@ -121,7 +121,7 @@ are_told tells m log refused (l ∷ ls) (x ∷ xs) more on off a =
     (by_pending tells m a.0.seen log refused l x a.0.pending a.0.before on off a.0.waits a.0.answer, are_told tells m log refused ls xs more on off a.1)
 
 -- what was printed, by what is kept and posted
-shows_by : {S : Type 0} (g : Ghosts S) (tells : ℕ → Type 0) (old now : Keeping S) (first : Option (List ℕ)) (feed hub : Known) (m : Member) (lines : List (List ℕ)) (page : Printed) → Counted tells first feed m lines page → IsBefore m.was hub
+shows_by : {S : Type 0} (g : Ghosts S) (tells : ℕ → Type 0) (old now : Keeping S) (first : Option (List ℕ)) (feed hub : Known) (m : Member) (lines : List (List ℕ)) (page : Printed) → Counted line_served tells first feed m lines page → IsBefore m.was hub
     → IsBefore feed hub → ServedBy g tells old now hub → Shows g tells old now first page.bytes page.is_mute lines page.shown
 shows_by g tells old now first feed hub m lines page c submitter giver b =
     let s = c.says in
@@ -152,7 +152,7 @@ still_served g tells old now k l b p = record {
 }
 
 pub shows : {S : Type 0} (g : Ghosts S) (tells : ℕ → Type 0) (old now : Keeping S) (first last : Option (List ℕ)) (is_mute : Bool) (lines ls : List (List ℕ)) (shown : List Shown) (feed k l : Known) (m : Member) (page : Printed)
-    → Counted tells first feed m lines page → ServedBy g tells old now k → IsSamePart k l → IsBefore m.was l → IsBefore feed l → last ≡ page.bytes → is_mute ≡ page.is_mute → ls ≡ lines → shown ≡ page.shown
+    → Counted line_served tells first feed m lines page → ServedBy g tells old now k → IsSamePart k l → IsBefore m.was l → IsBefore feed l → last ≡ page.bytes → is_mute ≡ page.is_mute → ls ≡ lines → shown ≡ page.shown
     → Shows g tells old now first last is_mute ls shown
 shows g tells old now first last is_mute lines ls shown feed k l m page c b part submitter giver bytes mute same are =
     subst (λ x. Shows g tells old now first x is_mute ls shown) (sym bytes)

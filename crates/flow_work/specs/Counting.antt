@@ -2,7 +2,8 @@
 use Rattle.std.specs.Prelude.{◌≡◌, ℕ, List, [], ◌∷◌, ◌++◌, Bool, true, false, Option, Some}
 use Rattle.std.specs.Io.KnownBytes.{Appends}
 use mathlib.Core.List.{IsPrefix}
-use Rattle.flow_cli.specs.declared.reply.Line.{Line}
+use Rattle.flow_base.specs.declared.command.Command.{Command}
+use Rattle.flow_lines.specs.declared.reply.Line.{Line}
 use Rattle.flow_machine.specs.declared.task.Task.{Task}
 use Rattle.flow_hub.specs.declared.fed.Fed.{Fed}
 use Rattle.flow_hub.specs.declared.fed.Fed.TheVariants as fed
@@ -47,39 +48,39 @@ AreShown true given xs = (rest : List Task) × (tasks_in xs ++ rest ≡ given)
 -- ---- the lines that were read
 
 -- The line is answered by this, by what was seen then, a beginning of what is seen now.
-pub record Answered (tells : ℕ → Type 0) (m : Member) (bytes : List ℕ) (told : Line) : Type 0 where
+pub record Answered (reads : List ℕ → Option Command) (tells : ℕ → Type 0) (m : Member) (bytes : List ℕ) (told : Line) : Type 0 where
   pub pending : Pending
   pub seen : Member
-  pub waits : IsPendingOf tells m bytes pending
+  pub waits : IsPendingOf reads tells m bytes pending
   pub same : seen.id ≡ m.id
   pub before : IsBefore seen.was m.was
   pub answer : IsAnswer seen pending (Some told)
 
 -- each of these lines is answered by the reply at its place
-abbrev pub AreAnswered : (ℕ → Type 0) → Member → List (List ℕ) → List Line → Type 0
-AreAnswered tells m [] [] = Unit {0}
-AreAnswered tells m [] (x ∷ xs) = ⊥
-AreAnswered tells m (l ∷ ls) [] = ⊥
-AreAnswered tells m (l ∷ ls) (x ∷ xs) = Answered tells m l x × AreAnswered tells m ls xs
+abbrev pub AreAnswered : (List ℕ → Option Command) → (ℕ → Type 0) → Member → List (List ℕ) → List Line → Type 0
+AreAnswered reads tells m [] [] = Unit {0}
+AreAnswered reads tells m [] (x ∷ xs) = ⊥
+AreAnswered reads tells m (l ∷ ls) [] = ⊥
+AreAnswered reads tells m (l ∷ ls) (x ∷ xs) = Answered reads tells m l x × AreAnswered reads tells m ls xs
 
 -- for each of these lines this is waited for
-abbrev pub AreWaiting : (ℕ → Type 0) → Member → List (List ℕ) → List Pending → Type 0
-AreWaiting tells m [] [] = Unit {0}
-AreWaiting tells m [] (p ∷ ps) = ⊥
-AreWaiting tells m (l ∷ ls) [] = ⊥
-AreWaiting tells m (l ∷ ls) (p ∷ ps) = IsPendingOf tells m l p × AreWaiting tells m ls ps
+abbrev pub AreWaiting : (List ℕ → Option Command) → (ℕ → Type 0) → Member → List (List ℕ) → List Pending → Type 0
+AreWaiting reads tells m [] [] = Unit {0}
+AreWaiting reads tells m [] (p ∷ ps) = ⊥
+AreWaiting reads tells m (l ∷ ls) [] = ⊥
+AreWaiting reads tells m (l ∷ ls) (p ∷ ps) = IsPendingOf reads tells m l p × AreWaiting reads tells m ls ps
 
 -- ---- what was printed
 
 -- These lines are told of and these tasks were given out: what was printed since the writer held `first` is a reply for each line, in
 -- their order, and the tasks, in theirs. Once a write has failed it is a beginning of that.
-pub record Says (tells : ℕ → Type 0) (first : Option (List ℕ)) (given : List Task) (m : Member) (lines : List (List ℕ)) (page : Printed) : Type 0 where
+pub record Says (reads : List ℕ → Option Command) (tells : ℕ → Type 0) (first : Option (List ℕ)) (given : List Task) (m : Member) (lines : List (List ℕ)) (page : Printed) : Type 0 where
   pub bytes : Holds first page.is_mute page.bytes page.shown
   pub tasks : AreShown page.is_mute given page.shown
   pub said : List (List ℕ)
   pub silent : List (List ℕ)
   pub are : lines ≡ said ++ silent
-  pub replies : AreAnswered tells m said (replies_in page.shown)
+  pub replies : AreAnswered reads tells m said (replies_in page.shown)
   pub all : page.is_mute ≡ false → silent ≡ []
 
 -- The tasks that were given out are the first of those that were posted, and none of these was posted twice.
@@ -88,20 +89,20 @@ pub record IsFed (feed : Known) : Type 0 where
   pub once : IsOnce feed.posted
 
 -- Of the lines that were taken in the first are told of, and for each of the others this is waited for.
-pub record Counts (tells : ℕ → Type 0) (first : Option (List ℕ)) (feed : Known) (m : Member) (pending : List Pending) (lines : List (List ℕ)) (page : Printed) : Type 0 where
+pub record Counts (reads : List ℕ → Option Command) (tells : ℕ → Type 0) (first : Option (List ℕ)) (feed : Known) (m : Member) (pending : List Pending) (lines : List (List ℕ)) (page : Printed) : Type 0 where
   pub done : List (List ℕ)
   pub waiting : List (List ℕ)
   pub are : lines ≡ done ++ waiting
-  pub says : Says tells first feed.given m done page
-  pub waits : AreWaiting tells m waiting pending
+  pub says : Says reads tells first feed.given m done page
+  pub waits : AreWaiting reads tells m waiting pending
   pub fed : IsFed feed
 
 -- Of the lines that were taken in the first are told of.
-pub record Counted (tells : ℕ → Type 0) (first : Option (List ℕ)) (feed : Known) (m : Member) (lines : List (List ℕ)) (page : Printed) : Type 0 where
+pub record Counted (reads : List ℕ → Option Command) (tells : ℕ → Type 0) (first : Option (List ℕ)) (feed : Known) (m : Member) (lines : List (List ℕ)) (page : Printed) : Type 0 where
   pub done : List (List ℕ)
   pub rest : List (List ℕ)
   pub are : lines ≡ done ++ rest
-  pub says : Says tells first feed.given m done page
+  pub says : Says reads tells first feed.given m done page
   pub fed : IsFed feed
 
 -- what came of it is printed, if it is a task
@@ -122,9 +123,9 @@ is_task fed.Nothing = false
 is_task fed.Closed = false
 
 -- Where it goes on, for each line that isn't told of something is waited for; where it doesn't, some may be told of nothing.
-abbrev pub Goes : (ℕ → Type 0) → Option (List ℕ) → Bool → Known → Member → List Pending → List (List ℕ) → Printed → Type 0
-Goes tells first on feed m pending lines page = (on ≡ true → Counts tells first feed m pending lines page) × Counted tells first feed m lines page
+abbrev pub Goes : (List ℕ → Option Command) → (ℕ → Type 0) → Option (List ℕ) → Bool → Known → Member → List Pending → List (List ℕ) → Printed → Type 0
+Goes reads tells first on feed m pending lines page = (on ≡ true → Counts reads tells first feed m pending lines page) × Counted reads tells first feed m lines page
 
 -- What one who began with a blank page, no line and no task has done at its end.
-pub record Owes (tells : ℕ → Type 0) (page : Printed) (pending : List Pending) (given : Known) (feed : Known) (m : Member) (lines : List (List ℕ)) (now : Printed) : Type 0 where
-  pub counted : (first : Option (List ℕ)) → page ≡ blank first → pending ≡ [] → given ≡ nothing → Counted tells first feed m lines now
+pub record Owes (reads : List ℕ → Option Command) (tells : ℕ → Type 0) (page : Printed) (pending : List Pending) (given : Known) (feed : Known) (m : Member) (lines : List (List ℕ)) (now : Printed) : Type 0 where
+  pub counted : (first : Option (List ℕ)) → page ≡ blank first → pending ≡ [] → given ≡ nothing → Counted reads tells first feed m lines now

@@ -5,8 +5,8 @@ use Rattle.flow_base.specs.declared.code.Code.TheVariants as code
 use Rattle.flow_base.specs.declared.fault.Fault.{Fault}
 use Rattle.flow_machine.specs.declared.submission.Receipt.{Receipt}
 use Rattle.flow_machine.specs.declared.submission.Taken.{Taken}
-use Rattle.flow_cli.specs.declared.reply.Line.{Line}
-use Rattle.flow_cli.specs.declared.reply.Line.TheVariants as line
+use Rattle.flow_lines.specs.declared.reply.Line.{Line}
+use Rattle.flow_lines.specs.declared.reply.Line.TheVariants as line
 use Rattle.flow_commit.specs.Keeping.{Keeping}
 use Rattle.flow_serve.specs.Serving.{EndsFor, GivesUp, HasServed}
 use Rattle.flow_hub.specs.declared.denied.Denied.{Denied}

@@ -1,7 +1,7 @@
 -- What is read.
 use Rattle.std.specs.Prelude.{◌≡◌, ◌⊎◌, ℕ, List, [], ◌∷◌, ◌++◌, Option, Some, Bool, true, false, IfSome}
 use Rattle.std.specs.List.{AllByRecursion}
-use Rattle.flow_cli.specs.Answering.{FirstLine}
+use Rattle.flow_lines.specs.Answering.{FirstLine}
 use Rattle.flow_work.specs.declared.input.Input.{Input}
 use Rattle.flow_work.specs.declared.input.Input.TheVariants as input
 

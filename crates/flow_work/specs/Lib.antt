@@ -6,8 +6,10 @@ pub mod Hearing
 pub mod Inputs
 pub mod Moments
 pub mod Printing
+pub mod Questions
 pub mod Reading
 pub mod Resting
 pub mod Serving
 pub mod Showing
+pub mod Silence
 pub mod Telling

@@ -15,3 +15,4 @@ command_at (command.Register src) at = command.Register src
 command_at (command.Upgrade run text) at = command.Upgrade run text
 command_at (command.Describe run) at = command.Describe run
 command_at (command.History run) at = command.History run
+command_at (command.Open from most) at = command.Open from most

@@ -2,10 +2,10 @@
 use Rattle.std.specs.Prelude.{◌≡◌, ℕ, List, [], ◌∷◌, ◌++◌, Bool, true, false, Option, max, if◌then◌else◌, refl}
 use Rattle.std.specs.Coded.{Coded, code_by, coded×, coded_ℕ, coded_bool, coded_list, coded_option}
 use Rattle.std.specs.Io.KnownBytes.{Appends}
-use Rattle.flow_cli.specs.Driving.{WritesBeginning, answer_status}
-use Rattle.flow_cli.specs.Replies.{line_text}
-use Rattle.flow_cli.specs.Tasks.{task_text}
-use Rattle.flow_cli.specs.declared.reply.Line.{Line}
+use Rattle.flow_lines.specs.Driving.{WritesBeginning, answer_status}
+use Rattle.flow_lines.specs.Replies.{line_text}
+use Rattle.flow_lines.specs.Tasks.{task_text}
+use Rattle.flow_lines.specs.declared.reply.Line.{Line}
 use Rattle.flow_machine.specs.declared.task.Task.{Task}
 use Rattle.flow_work.specs.declared.shown.Shown.{Shown}
 use Rattle.flow_work.specs.declared.shown.Shown.TheVariants as shown

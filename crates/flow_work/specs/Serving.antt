@@ -3,9 +3,8 @@ use Rattle.std.specs.Prelude.{◌≡◌, ◌⊎◌, ◌++◌, ℕ, List, [], ◌
 use mathlib.Core.List.{IsPrefix}
 use Rattle.sqlite_trees.specs.declared.store.Store.{Ghosts}
 use Rattle.flow_base.specs.declared.command.Command.{Command}
-use Rattle.flow_cli.specs.Commands.{line_command}
-use Rattle.flow_cli.specs.declared.reply.Line.{Line}
-use Rattle.flow_cli.specs.declared.reply.Line.TheVariants as line
+use Rattle.flow_lines.specs.declared.reply.Line.{Line}
+use Rattle.flow_lines.specs.declared.reply.Line.TheVariants as line
 use Rattle.flow_machine.specs.declared.submission.Receipt.{Receipt}
 use Rattle.flow_machine.specs.declared.submission.Taken.{Taken}
 use Rattle.flow_machine.specs.declared.task.Task.{Task}
@@ -20,6 +19,7 @@ use Rattle.flow_serve.specs.Serving.{HasServed}
 use Rattle.flow_work.specs.Counting.{AreShown, Holds, replies_in}
 use Rattle.flow_work.specs.Endings.{line_instead}
 use Rattle.flow_work.specs.Moments.{command_at}
+use Rattle.flow_work.specs.Questions.{line_served}
 use Rattle.flow_work.specs.Reading.{IsKnown}
 use Rattle.flow_work.specs.declared.shown.Shown.{Shown}
 
@@ -29,7 +29,7 @@ pub record IsReply (tells : ℕ → Type 0) (log : List Receipt) (bytes : List �
   pub command : Command
   pub at : ℕ
   pub clock : tells at
-  pub is : line_command bytes ≡ Some command
+  pub is : line_served bytes ≡ Some command
   pub kept : receipt.command ≡ command_at command at
   pub stands : Stands log receipt
   pub told : printed ≡ line.Of receipt.reply
@@ -40,14 +40,14 @@ pub record IsUnapplied (tells : ℕ → Type 0) (refused : List Refused) (bytes 
   pub command : Command
   pub at : ℕ
   pub clock : tells at
-  pub is : line_command bytes ≡ Some command
+  pub is : line_served bytes ≡ Some command
   pub asked : answer.asked.command ≡ command_at command at
   pub stands : IsTold refused answer
   pub told : Some printed ≡ line_instead (why.Refused answer.code)
 
 -- What a line is told, by what was kept and what was answered by a code; or it is no command, or memory ran out before it was asked for.
 abbrev pub IsTelling : (ℕ → Type 0) → List Receipt → List Refused → List ℕ → Line → Type 0
-IsTelling tells log refused bytes told = IsReply tells log bytes told ⊎ (IsUnapplied tells refused bytes told ⊎ IsKnown bytes told)
+IsTelling tells log refused bytes told = IsReply tells log bytes told ⊎ (IsUnapplied tells refused bytes told ⊎ IsKnown line_served bytes told)
 
 -- these were told to the first of the lines, one to each, in their order
 abbrev pub AreTold : (ℕ → Type 0) → List Receipt → List Refused → List Line → List (List ℕ) → Type 0

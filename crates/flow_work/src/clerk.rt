@@ -1,5 +1,6 @@
 //! The thread that submits lines and prints their replies in the order of the lines.
 ghost use Rattle.std.specs.Prelude.{◌≡◌, ◌<◌, [], ℕ, List, Option, length};
+ghost use Rattle.flow_lines.specs.Commands.{line_command};
 ghost use Rattle.flow_hub.specs.Knowing.{nothing};
 ghost use Rattle.flow_work.specs.Counting.{Counted, Counts, Goes, Owes};
 ghost use Rattle.flow_work.specs.Resting.{HasRested};
@@ -9,6 +10,7 @@ use crate::input::Input;
 use crate::lines::{no_lines, with_line};
 use crate::page::Page;
 use crate::progress::Progress;
+use crate::question::Accepted;
 use crossbeam_channel::Receiver;
 use flow_base::text::RawText;
 use flow_hub::seats::Room;
@@ -68,8 +70,8 @@ impl<B: Room, W: Write + Drop> Clerk<B, W> {
         progress: Option<Progress<P>>,
     )
         ensures rested { HasRested self.new.desk.submitter.was }
-        ensures counted { (first : Option (List ℕ)) → Counted (C.tells clock.now) first nothing self.old.desk.submitter self.old.lines self.old.desk.page
-            → Counted (C.tells clock.now) first nothing self.new.desk.submitter self.new.lines self.new.desk.page }
+        ensures counted { (first : Option (List ℕ)) → Counted line_command (C.tells clock.now) first nothing self.old.desk.submitter self.old.lines self.old.desk.page
+            → Counted line_command (C.tells clock.now) first nothing self.new.desk.submitter self.new.lines self.new.desk.page }
     {
         self.desk.rest(rt, clock, progress);
     }
@@ -77,11 +79,11 @@ impl<B: Room, W: Write + Drop> Clerk<B, W> {
     /// Takes in a line. No where nothing is answered any more.
     fn take<R: Wait, C: Clock>(&mut self, rt: &R, clock: &C, line: Vec<u8>) -> bool
         requires { length self.old.desk.pending.lines.items < 64 }
-        ensures { (first : Option (List ℕ)) → Counts (C.tells clock.now) first nothing self.old.desk.submitter self.old.desk.pending.lines.items self.old.lines self.old.desk.page
-            → Goes (C.tells clock.now) first result nothing self.new.desk.submitter self.new.desk.pending.lines.items self.new.lines self.new.desk.page }
+        ensures { (first : Option (List ℕ)) → Counts line_command (C.tells clock.now) first nothing self.old.desk.submitter self.old.desk.pending.lines.items self.old.lines self.old.desk.page
+            → Goes line_command (C.tells clock.now) first result nothing self.new.desk.submitter self.new.desk.pending.lines.items self.new.lines self.new.desk.page }
     {
         let read = Snapshot::of(&line);
-        let goes_on = self.desk.take_line(rt, clock, line);
+        let goes_on = self.desk.take_line(rt, clock, Accepted::Commands, line);
         let lines = with_line(&self.lines, read);
         self.lines = lines;
         goes_on
@@ -89,16 +91,16 @@ impl<B: Room, W: Write + Drop> Clerk<B, W> {
 
     /// Prints all replies that are to come.
     fn end<R: Wait, C: Clock>(&mut self, rt: &R, clock: &C)
-        ensures { (first : Option (List ℕ)) → Counts (C.tells clock.now) first nothing self.old.desk.submitter self.old.desk.pending.lines.items self.old.lines self.old.desk.page
-            → Counted (C.tells clock.now) first nothing self.new.desk.submitter self.new.lines self.new.desk.page }
+        ensures { (first : Option (List ℕ)) → Counts line_command (C.tells clock.now) first nothing self.old.desk.submitter self.old.desk.pending.lines.items self.old.lines self.old.desk.page
+            → Counted line_command (C.tells clock.now) first nothing self.new.desk.submitter self.new.lines self.new.desk.page }
     {
         self.desk.tell_all(rt);
     }
 
     /// As `end`, where the input can't be read any more.
     fn fail<R: Wait, C: Clock>(&mut self, rt: &R, clock: &C)
-        ensures { (first : Option (List ℕ)) → Counts (C.tells clock.now) first nothing self.old.desk.submitter self.old.desk.pending.lines.items self.old.lines self.old.desk.page
-            → Counted (C.tells clock.now) first nothing self.new.desk.submitter self.new.lines self.new.desk.page }
+        ensures { (first : Option (List ℕ)) → Counts line_command (C.tells clock.now) first nothing self.old.desk.submitter self.old.desk.pending.lines.items self.old.lines self.old.desk.page
+            → Counted line_command (C.tells clock.now) first nothing self.new.desk.submitter self.new.lines self.new.desk.page }
     {
         self.desk.fail();
         self.end(rt, clock);
@@ -106,8 +108,8 @@ impl<B: Room, W: Write + Drop> Clerk<B, W> {
 
     /// Prints the oldest reply. No where nothing is answered any more.
     fn tell<R: Wait, C: Clock>(&mut self, rt: &R, clock: &C) -> bool
-        ensures { (first : Option (List ℕ)) → Counts (C.tells clock.now) first nothing self.old.desk.submitter self.old.desk.pending.lines.items self.old.lines self.old.desk.page
-            → Goes (C.tells clock.now) first result nothing self.new.desk.submitter self.new.desk.pending.lines.items self.new.lines self.new.desk.page }
+        ensures { (first : Option (List ℕ)) → Counts line_command (C.tells clock.now) first nothing self.old.desk.submitter self.old.desk.pending.lines.items self.old.lines self.old.desk.page
+            → Goes line_command (C.tells clock.now) first result nothing self.new.desk.submitter self.new.desk.pending.lines.items self.new.lines self.new.desk.page }
     {
         self.desk.tell_oldest(rt)
     }
@@ -116,8 +118,8 @@ impl<B: Room, W: Write + Drop> Clerk<B, W> {
     /// any more.
     #[tactic(auto, using(crate::proofs::Counting::goes_over, crate::proofs::Counting::counted))]
     fn step<R: Wait, C: Clock>(&mut self, rt: &R, clock: &C, inputs: &Receiver<Input>) -> bool
-        ensures { (first : Option (List ℕ)) → Counts (C.tells clock.now) first nothing self.old.desk.submitter self.old.desk.pending.lines.items self.old.lines self.old.desk.page
-            → Goes (C.tells clock.now) first result nothing self.new.desk.submitter self.new.desk.pending.lines.items self.new.lines self.new.desk.page }
+        ensures { (first : Option (List ℕ)) → Counts line_command (C.tells clock.now) first nothing self.old.desk.submitter self.old.desk.pending.lines.items self.old.lines self.old.desk.page
+            → Goes line_command (C.tells clock.now) first result nothing self.new.desk.submitter self.new.desk.pending.lines.items self.new.lines self.new.desk.page }
     {
         match self.desk.next_input(rt, inputs) {
             Some(Input::Line(line)) => self.take(rt, clock, line),
@@ -138,8 +140,8 @@ impl<B: Room, W: Write + Drop> Clerk<B, W> {
     /// ended and all is printed, or nothing is answered any more. A line is submitted again after E90; a command that was answered E80
     /// or E01 is told as not applied.
     fn answer_lines<R: Wait, C: Clock>(&mut self, rt: &R, clock: &C, inputs: &Receiver<Input>)
-        ensures { (first : Option (List ℕ)) → Counts (C.tells clock.now) first nothing self.old.desk.submitter self.old.desk.pending.lines.items self.old.lines self.old.desk.page
-            → Counted (C.tells clock.now) first nothing self.new.desk.submitter self.new.lines self.new.desk.page }
+        ensures { (first : Option (List ℕ)) → Counts line_command (C.tells clock.now) first nothing self.old.desk.submitter self.old.desk.pending.lines.items self.old.lines self.old.desk.page
+            → Counted line_command (C.tells clock.now) first nothing self.new.desk.submitter self.new.lines self.new.desk.page }
     {
         'steps: for _ in rt.forever() {
             if !self.step(rt, clock, inputs) {
@@ -158,7 +160,7 @@ pub(crate) fn run_clerk<B: Room, W: Write + Drop, R: Wait + time::Clock, C: Cloc
     inputs: &Receiver<Input>,
     progress: Option<Progress<P>>,
 ) -> Answered<B, W>
-    ensures owes { Owes (C.tells clock.now) desk.page desk.pending.lines.items nothing nothing result.submitter result.lines result.page }
+    ensures owes { Owes line_command (C.tells clock.now) desk.page desk.pending.lines.items nothing nothing result.submitter result.lines result.page }
     ensures rested { HasRested result.submitter.was }
 {
     let mut clerk = Clerk::new(desk);

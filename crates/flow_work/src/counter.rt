@@ -1,11 +1,13 @@
 //! The thread that submits lines, prints their replies in the order of the lines, and prints tasks in between.
 ghost use Rattle.std.specs.Prelude.{◌≡◌, ◌<◌, [], ℕ, List, Option, length};
 ghost use Rattle.flow_work.specs.Counting.{Counted, Counts, Goes, is_open, is_task};
+ghost use Rattle.flow_work.specs.Questions.{line_served};
 
 use crate::desk::Desk;
 use crate::input::Input;
 use crate::lines::{no_lines, with_line};
 use crate::page::Page;
+use crate::question::Accepted;
 use crossbeam_channel::Receiver;
 use flow_base::text::RawText;
 use flow_hub::fed::Fed;
@@ -78,11 +80,11 @@ impl<B: Room, W: Write + Drop> Counter<B, W> {
     /// Takes in a line. No where nothing is answered any more.
     fn take<R: Wait, C: Clock>(&mut self, rt: &R, clock: &C, line: Vec<u8>) -> bool
         requires { length self.old.desk.pending.lines.items < 64 }
-        ensures { (first : Option (List ℕ)) → Counts (C.tells clock.now) first self.old.feed self.old.desk.submitter self.old.desk.pending.lines.items self.old.lines self.old.desk.page
-            → Goes (C.tells clock.now) first result self.new.feed self.new.desk.submitter self.new.desk.pending.lines.items self.new.lines self.new.desk.page }
+        ensures { (first : Option (List ℕ)) → Counts line_served (C.tells clock.now) first self.old.feed self.old.desk.submitter self.old.desk.pending.lines.items self.old.lines self.old.desk.page
+            → Goes line_served (C.tells clock.now) first result self.new.feed self.new.desk.submitter self.new.desk.pending.lines.items self.new.lines self.new.desk.page }
     {
         let read = Snapshot::of(&line);
-        let goes_on = self.desk.take_line(rt, clock, line);
+        let goes_on = self.desk.take_line(rt, clock, Accepted::QuestionsToo, line);
         let lines = with_line(&self.lines, read);
         self.lines = lines;
         goes_on
@@ -90,8 +92,8 @@ impl<B: Room, W: Write + Drop> Counter<B, W> {
 
     /// Prints the task that is given out next, or sleeps until there is something else to be done. No where nothing is any more.
     fn listen<R: Wait, C: Clock>(&mut self, rt: &R, _clock: &C) -> bool
-        ensures { (first : Option (List ℕ)) → Counts (C.tells _clock.now) first self.old.feed self.old.desk.submitter self.old.desk.pending.lines.items self.old.lines self.old.desk.page
-            → Goes (C.tells _clock.now) first result self.new.feed self.new.desk.submitter self.new.desk.pending.lines.items self.new.lines self.new.desk.page }
+        ensures { (first : Option (List ℕ)) → Counts line_served (C.tells _clock.now) first self.old.feed self.old.desk.submitter self.old.desk.pending.lines.items self.old.lines self.old.desk.page
+            → Goes line_served (C.tells _clock.now) first result self.new.feed self.new.desk.submitter self.new.desk.pending.lines.items self.new.lines self.new.desk.page }
     {
         let fed = self.feed.listen(rt);
         self.desk.print_fed(rt, &fed);
@@ -100,8 +102,8 @@ impl<B: Room, W: Write + Drop> Counter<B, W> {
 
     /// Prints one more of the tasks that are ready once all that was submitted is answered. No where there is none.
     fn print_last<R: Wait, C: Clock>(&mut self, rt: &R, _clock: &C) -> bool
-        ensures { (first : Option (List ℕ)) → Counted (C.tells _clock.now) first self.old.feed self.old.desk.submitter self.old.lines self.old.desk.page
-            → Counted (C.tells _clock.now) first self.new.feed self.new.desk.submitter self.new.lines self.new.desk.page }
+        ensures { (first : Option (List ℕ)) → Counted line_served (C.tells _clock.now) first self.old.feed self.old.desk.submitter self.old.lines self.old.desk.page
+            → Counted line_served (C.tells _clock.now) first self.new.feed self.new.desk.submitter self.new.lines self.new.desk.page }
     {
         let fed = self.feed.last(rt);
         self.desk.print_fed(rt, &fed);
@@ -110,8 +112,8 @@ impl<B: Room, W: Write + Drop> Counter<B, W> {
 
     /// Prints all of these.
     fn print_all<R: Wait, C: Clock>(&mut self, rt: &R, clock: &C)
-        ensures { (first : Option (List ℕ)) → Counted (C.tells clock.now) first self.old.feed self.old.desk.submitter self.old.lines self.old.desk.page
-            → Counted (C.tells clock.now) first self.new.feed self.new.desk.submitter self.new.lines self.new.desk.page }
+        ensures { (first : Option (List ℕ)) → Counted line_served (C.tells clock.now) first self.old.feed self.old.desk.submitter self.old.lines self.old.desk.page
+            → Counted line_served (C.tells clock.now) first self.new.feed self.new.desk.submitter self.new.lines self.new.desk.page }
     {
         'tasks: for _ in rt.forever() {
             if !self.print_last(rt, clock) {
@@ -123,8 +125,8 @@ impl<B: Room, W: Write + Drop> Counter<B, W> {
 
     /// Prints all replies that are to come, and then the tasks that are ready.
     fn end<R: Wait, C: Clock>(&mut self, rt: &R, clock: &C)
-        ensures { (first : Option (List ℕ)) → Counts (C.tells clock.now) first self.old.feed self.old.desk.submitter self.old.desk.pending.lines.items self.old.lines self.old.desk.page
-            → Counted (C.tells clock.now) first self.new.feed self.new.desk.submitter self.new.lines self.new.desk.page }
+        ensures { (first : Option (List ℕ)) → Counts line_served (C.tells clock.now) first self.old.feed self.old.desk.submitter self.old.desk.pending.lines.items self.old.lines self.old.desk.page
+            → Counted line_served (C.tells clock.now) first self.new.feed self.new.desk.submitter self.new.lines self.new.desk.page }
     {
         self.desk.tell_all(rt);
         self.print_all(rt, clock);
@@ -132,8 +134,8 @@ impl<B: Room, W: Write + Drop> Counter<B, W> {
 
     /// As `end`, where the input can't be read any more.
     fn fail<R: Wait, C: Clock>(&mut self, rt: &R, clock: &C)
-        ensures { (first : Option (List ℕ)) → Counts (C.tells clock.now) first self.old.feed self.old.desk.submitter self.old.desk.pending.lines.items self.old.lines self.old.desk.page
-            → Counted (C.tells clock.now) first self.new.feed self.new.desk.submitter self.new.lines self.new.desk.page }
+        ensures { (first : Option (List ℕ)) → Counts line_served (C.tells clock.now) first self.old.feed self.old.desk.submitter self.old.desk.pending.lines.items self.old.lines self.old.desk.page
+            → Counted line_served (C.tells clock.now) first self.new.feed self.new.desk.submitter self.new.lines self.new.desk.page }
     {
         self.desk.fail();
         self.end(rt, clock);
@@ -141,8 +143,8 @@ impl<B: Room, W: Write + Drop> Counter<B, W> {
 
     /// Prints the oldest reply; where nothing is to be answered, a task, or sleeps until there is something. No where it is over.
     fn tell<R: Wait, C: Clock>(&mut self, rt: &R, clock: &C) -> bool
-        ensures { (first : Option (List ℕ)) → Counts (C.tells clock.now) first self.old.feed self.old.desk.submitter self.old.desk.pending.lines.items self.old.lines self.old.desk.page
-            → Goes (C.tells clock.now) first result self.new.feed self.new.desk.submitter self.new.desk.pending.lines.items self.new.lines self.new.desk.page }
+        ensures { (first : Option (List ℕ)) → Counts line_served (C.tells clock.now) first self.old.feed self.old.desk.submitter self.old.desk.pending.lines.items self.old.lines self.old.desk.page
+            → Goes line_served (C.tells clock.now) first result self.new.feed self.new.desk.submitter self.new.desk.pending.lines.items self.new.lines self.new.desk.page }
     {
         if self.desk.has_pending() {
             return self.desk.tell_oldest(rt);
@@ -154,8 +156,8 @@ impl<B: Room, W: Write + Drop> Counter<B, W> {
     /// waited for by one who waits for it: a task is printed only where no report waits. No where it is over.
     #[tactic(auto, using(crate::proofs::Counting::goes_over, crate::proofs::Counting::counted))]
     fn step<R: Wait, C: Clock>(&mut self, rt: &R, clock: &C, inputs: &Receiver<Input>) -> bool
-        ensures { (first : Option (List ℕ)) → Counts (C.tells clock.now) first self.old.feed self.old.desk.submitter self.old.desk.pending.lines.items self.old.lines self.old.desk.page
-            → Goes (C.tells clock.now) first result self.new.feed self.new.desk.submitter self.new.desk.pending.lines.items self.new.lines self.new.desk.page }
+        ensures { (first : Option (List ℕ)) → Counts line_served (C.tells clock.now) first self.old.feed self.old.desk.submitter self.old.desk.pending.lines.items self.old.lines self.old.desk.page
+            → Goes line_served (C.tells clock.now) first result self.new.feed self.new.desk.submitter self.new.desk.pending.lines.items self.new.lines self.new.desk.page }
     {
         match self.desk.ready_input(rt, inputs) {
             Some(Input::Line(line)) => self.take(rt, clock, line),
@@ -180,8 +182,8 @@ impl<B: Room, W: Write + Drop> Counter<B, W> {
         clock: &C,
         inputs: &Receiver<Input>,
     )
-        ensures { (first : Option (List ℕ)) → Counts (C.tells clock.now) first self.old.feed self.old.desk.submitter self.old.desk.pending.lines.items self.old.lines self.old.desk.page
-            → Counted (C.tells clock.now) first self.new.feed self.new.desk.submitter self.new.lines self.new.desk.page }
+        ensures { (first : Option (List ℕ)) → Counts line_served (C.tells clock.now) first self.old.feed self.old.desk.submitter self.old.desk.pending.lines.items self.old.lines self.old.desk.page
+            → Counted line_served (C.tells clock.now) first self.new.feed self.new.desk.submitter self.new.lines self.new.desk.page }
     {
         'steps: for _ in rt.forever() {
             if !self.step(rt, clock, inputs) {

@@ -1,12 +1,14 @@
 //! The thread that submits lines and prints their replies, in the order of the lines.
-ghost use Rattle.std.specs.Prelude.{◌≡◌, ◌≤◌, ◌<◌, ◌++◌, ◌∷◌, [], Option, List, true, false, length, is_some, IfSome};
-ghost use Rattle.flow_cli.specs.declared.reply.Line.{Line as ALine};
+ghost use Rattle.std.specs.Prelude.{◌≡◌, ◌≤◌, ◌<◌, ◌⊎◌, ◌++◌, ◌∷◌, [], Option, List, true, false, length, is_some, IfNone, IfSome};
+ghost use Rattle.flow_lines.specs.declared.reply.Line.{Line as ALine};
 ghost use Rattle.flow_hub.specs.Knowing.{IsBefore};
 ghost use Rattle.flow_work.specs.Counting.{PrintsFed};
 ghost use Rattle.flow_work.specs.Endings.{IsToldOf, line_instead};
 ghost use Rattle.flow_work.specs.Printing.{blank};
+ghost use Rattle.flow_work.specs.Questions.{read_as};
 ghost use Rattle.flow_work.specs.Reading.{IsOf, IsPendingOf};
 ghost use Rattle.flow_work.specs.Resting.{HasRested};
+ghost use Rattle.flow_work.specs.Silence.{IsSilent};
 ghost use Rattle.flow_work.specs.Telling.{AnswersFirst, HasTold, IsAnswer, PrintsAnswer};
 ghost use Rattle.flow_work.specs.declared.queue.Pending.{Pending as APending};
 
@@ -14,20 +16,21 @@ use crate::input::Input;
 use crate::moments::command_at;
 use crate::page::Page;
 use crate::progress::Progress;
+use crate::question::{Accepted, read_as};
 use crate::queue::{MOST_PENDING, Pending, Queue};
 use crate::status::Status;
 use crossbeam_channel::Receiver;
 use flow_base::code::Code;
 use flow_base::command::Command;
 use flow_base::memory::NoMemory;
-use flow_cli::command::{LineFault, command_of};
-use flow_cli::reply::Line;
 use flow_hub::denied::Denied;
 use flow_hub::fed::Fed;
 use flow_hub::rested::Rested;
 use flow_hub::seats::Room;
 use flow_hub::submitter::Submitter;
 use flow_hub::ticket::{NotDone, Ticket, Why};
+use flow_lines::command::LineFault;
+use flow_lines::reply::Line;
 use flow_timers::Clock;
 use std::alloc::Global;
 use std::io::Write;
@@ -177,6 +180,7 @@ impl<B: Room, W: Write + Drop> Desk<B, W> {
     #[tactic(auto, using(crate::proofs::Telling::told_none, crate::proofs::Telling::told_then, crate::proofs::Telling::told_later, crate::proofs::Telling::told_ends, flow_hub::proofs::Growing::before_trans))]
     fn submit<R: Wait>(&mut self, rt: &R, command: Command) -> Option<Ticket>
         ensures ticket { IfSome result (λ t. IsOf self.new.submitter command t) }
+        ensures silent { IfNone result (IsSilent self.new.submitter self.old.pending.lines.items) }
         ensures told { HasTold self.new.submitter (is_some result) self.old.pending.lines.items self.new.pending.lines.items self.old.page self.new.page }
         ensures grows { IsBefore self.old.submitter.was self.new.submitter.was }
         ensures same { self.new.submitter.id ≡ self.old.submitter.id }
@@ -198,14 +202,21 @@ impl<B: Room, W: Write + Drop> Desk<B, W> {
     }
 
     /// What becomes of a line. None where nothing is answered any more.
-    fn pending_of<R: Wait, C: Clock>(&mut self, rt: &R, clock: &C, line: Vec<u8>) -> Option<Pending>
-        ensures pending { IfSome result (λ p. IsPendingOf (C.tells clock.now) self.new.submitter line.items p) }
+    fn pending_of<R: Wait, C: Clock>(
+        &mut self,
+        rt: &R,
+        clock: &C,
+        accepted: Accepted,
+        line: Vec<u8>,
+    ) -> Option<Pending>
+        ensures pending { IfSome result (λ p. IsPendingOf (read_as accepted) (C.tells clock.now) self.new.submitter line.items p) }
+        ensures silent { IfNone result (IsSilent self.new.submitter self.old.pending.lines.items) }
         ensures told { HasTold self.new.submitter (is_some result) self.old.pending.lines.items self.new.pending.lines.items self.old.page self.new.page }
         ensures grows { IsBefore self.old.submitter.was self.new.submitter.was }
         ensures same { self.new.submitter.id ≡ self.old.submitter.id }
         ensures fewer { length self.new.pending.lines.items ≤ length self.old.pending.lines.items }
     {
-        match command_of(self.alloc, line.as_slice()) {
+        match read_as(self.alloc, accepted, line.as_slice()) {
             Ok(command) => {
                 let ticket = self.submit(rt, command_at(command, clock.now()))?;
                 Some(Pending::Submitted(ticket))
@@ -218,15 +229,22 @@ impl<B: Room, W: Write + Drop> Desk<B, W> {
     }
 
     /// Takes in a line. No where nothing is answered any more.
-    pub(crate) fn take_line<R: Wait, C: Clock>(&mut self, rt: &R, clock: &C, line: Vec<u8>) -> bool
+    pub(crate) fn take_line<R: Wait, C: Clock>(
+        &mut self,
+        rt: &R,
+        clock: &C,
+        accepted: Accepted,
+        line: Vec<u8>,
+    ) -> bool
         requires { length self.old.pending.lines.items < 64 }
-        ensures taken { result ≡ true → (p : APending) × (rest : List APending) × IsPendingOf (C.tells clock.now) self.new.submitter line.items p × (self.new.pending.lines.items ≡ rest ++ p ∷ [])
+        ensures taken { result ≡ true → (p : APending) × (rest : List APending) × IsPendingOf (read_as accepted) (C.tells clock.now) self.new.submitter line.items p × (self.new.pending.lines.items ≡ rest ++ p ∷ [])
             × HasTold self.new.submitter true self.old.pending.lines.items rest self.old.page self.new.page }
+        ensures silent { result ≡ false → IsSilent self.new.submitter self.old.pending.lines.items }
         ensures not_taken { result ≡ false → HasTold self.new.submitter false self.old.pending.lines.items self.new.pending.lines.items self.old.page self.new.page }
         ensures grows { IsBefore self.old.submitter.was self.new.submitter.was }
         ensures same { self.new.submitter.id ≡ self.old.submitter.id }
     {
-        match self.pending_of(rt, clock, line) {
+        match self.pending_of(rt, clock, accepted, line) {
             Some(pending) => {
                 self.pending.push(pending);
                 true
@@ -268,12 +286,13 @@ impl<B: Room, W: Write + Drop> Desk<B, W> {
 
     /// Prints all replies that are to come.
     pub(crate) fn tell_all<R: Wait>(&mut self, rt: &R)
+        ensures ends { (self.new.pending.lines.items ≡ []) ⊎ IsSilent self.new.submitter self.old.pending.lines.items }
         ensures told { HasTold self.new.submitter false self.old.pending.lines.items self.new.pending.lines.items self.old.page self.new.page }
         ensures grows { IsBefore self.old.submitter.was self.new.submitter.was }
         ensures same { self.new.submitter.id ≡ self.old.submitter.id }
     {
         'lines: for _ in rt.forever() {
-            if self.pending.len() == 0 {
+            if !self.has_pending() {
                 return;
             }
             if !self.tell_oldest(rt) {

@@ -2,7 +2,7 @@
 ghost use Rattle.std.specs.Prelude.{◌≡◌, IfSome};
 ghost use Rattle.flow_work.specs.Inputs.{HasRead, IsNext, is_line};
 
-use flow_cli::streams::next_line;
+use flow_lines::streams::next_line;
 use std::alloc::Global;
 use std::io::BufRead;
 use std::sync::Wait;

@@ -13,6 +13,7 @@ pub mod lines;
 pub mod moments;
 pub mod page;
 pub mod progress;
+pub mod question;
 pub mod queue;
 pub mod reports;
 pub mod running;

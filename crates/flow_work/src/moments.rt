@@ -28,5 +28,6 @@ pub fn command_at(command: Command, at: Moment) -> Command
         Command::Upgrade(run, text) => Command::Upgrade(run, text),
         Command::Describe(run) => Command::Describe(run),
         Command::History(run) => Command::History(run),
+        Command::Open(from, most) => Command::Open(from, most),
     }
 }

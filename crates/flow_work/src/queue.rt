@@ -2,8 +2,8 @@
 ghost use Rattle.std.specs.Prelude.{◌≡◌, ◌≤◌, ◌<◌, ◌∷◌, ◌++◌, [], length, IfOk, MatchOption};
 ghost use Rattle.std.specs.VecDeque.{deque_capacity};
 
-use flow_cli::reply::Line;
 use flow_hub::ticket::Ticket;
+use flow_lines::reply::Line;
 use std::alloc::{AllocError, Global};
 use std::collections::VecDeque;
 

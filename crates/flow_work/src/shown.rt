@@ -1,5 +1,5 @@
 //! What is printed.
-use flow_cli::reply::Line;
+use flow_lines::reply::Line;
 use flow_machine::task::Task;
 
 /// A line that was printed.

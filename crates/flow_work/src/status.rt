@@ -1,8 +1,8 @@
 //! What the program ends with.
 ghost use Rattle.std.specs.Prelude.{◌≡◌, ◌≤◌, max};
-ghost use Rattle.flow_cli.specs.Driving.{answer_status};
+ghost use Rattle.flow_lines.specs.Driving.{answer_status};
 
-use flow_cli::reply::Line;
+use flow_lines::reply::Line;
 use std::marker::Model;
 
 /// A status that the program may end with, 0 to 3.

@@ -1,6 +1,7 @@
 //! What the thread has that answers lines and prints tasks, and what it owes for it.
 ghost use Rattle.std.specs.Prelude.{◌≡◌, IfErr, IfOk};
 ghost use Rattle.flow_work.specs.Counting.{Owes};
+ghost use Rattle.flow_work.specs.Questions.{line_served};
 
 use crate::counter::{Counter, Told};
 use crate::desk::Desk;
@@ -38,8 +39,9 @@ pub(crate) struct Owed<B: Room, W: Write, C> {
 
 impl<B: Room, W: Write, C: Clock> Promise<Told<B, W>> for Owed<B, W, C> {
     ghost use Rattle.flow_work.specs.Counting.{Owes};
+    ghost use Rattle.flow_work.specs.Questions.{line_served};
 
-    ghost kept_by = { λ p r. Owes (C.tells p.clock.value) p.desk.value.page p.desk.value.pending.lines.items p.feed.value r.feed r.submitter r.lines r.page };
+    ghost kept_by = { λ p r. Owes line_served (C.tells p.clock.value) p.desk.value.page p.desk.value.pending.lines.items p.feed.value r.feed r.submitter r.lines r.page };
 }
 
 /// Answers lines and prints tasks until the input has ended, and then closes the hub.
@@ -48,7 +50,7 @@ fn run_teller<B: Room, W: Write + Drop, R: Wait, C: Clock>(
     teller: Teller<B, W>,
     clock: &C,
 ) -> Told<B, W>
-    ensures { Owes (C.tells clock.now) teller.desk.page teller.desk.pending.lines.items teller.feed result.feed result.submitter result.lines result.page }
+    ensures { Owes line_served (C.tells clock.now) teller.desk.page teller.desk.pending.lines.items teller.feed result.feed result.submitter result.lines result.page }
 {
     let Teller {
         desk,

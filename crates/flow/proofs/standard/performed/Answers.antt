@@ -1,7 +1,7 @@
 use Rattle.std.proofs.Common.{None}
-use Rattle.flow_cli.specs.Answering.{HasFew, IsFull, OfBatch, SomeAnswered, StopsAmong}
+use Rattle.flow_lines.specs.Answering.{HasFew, IsFull, OfBatch, SomeAnswered, StopsAmong}
 use Rattle.flow_cli.specs.Histories.{TellsHistory}
-use Rattle.flow_cli.proofs.SomeLines.{none_among}
+use Rattle.flow_lines.proofs.SomeLines.{none_among}
 use Rattle.flow.proofs.Works.{between_made, cause_on, done_on, of_both, stopped_on}
 use Rattle.flow.proofs.standard.performed.Goals as goal
 

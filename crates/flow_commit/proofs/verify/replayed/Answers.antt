@@ -3,6 +3,7 @@ use Rattle.flow_check.specs.Language.{meaning_of}
 use Rattle.flow_machine.specs.Verifying.{CantBeReplayed}
 use Rattle.flow_tables.specs.Owned.{is_sure, book_now}
 use Rattle.flow_commit.proofs.Following.{fit_before, follows_self}
+use Rattle.flow_commit.proofs.Ends.{cause_of}
 use Rattle.flow_commit.proofs.Verified.{caused_so, unless_so, verdict_on}
 use Rattle.flow_commit.proofs.verify.replayed.Goals as goal
 
@@ -32,3 +33,6 @@ returns-in-Ok-clause-cause g c fit b keeps =
       | inl refuses ↦ inl (inr refuses)
       | inr cant ↦ inr (subst (CantBeReplayed meaning_of) (start.1 b keeps) cant)
     ]) (c.verified.ensures.cause c.args.tables.now c.begin_anew.ensures.follows fit start.0)
+
+pub returns-in-Err-StoreRefused-clause-cause : goal.returns-in-Err-StoreRefused-clause-cause
+returns-in-Err-StoreRefused-clause-cause g c fit b keeps = inl (cause_of _ c.in-Err-StoreRefused.field-0 c.in-Err-StoreRefused.field-0-is (c.in-Err-StoreRefused.ensures.cause fit))

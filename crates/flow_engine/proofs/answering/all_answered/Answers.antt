@@ -77,3 +77,6 @@ returns-in-Ok-clause-part g c ts are =
     both_parts g.S.Store c.args.engine.now c.drive.new.engine c.args.batches.items c.in-Ok.dones.items _ its c.in-Ok.ensures.runs
     c.in-Ok.ensures.counted (λ l. l.items) c.args.answers.items c.requires.none
     c.all_answers.result c.all_answers.ensures.given c.all_answers.ensures.stops
+
+pub returns-in-Ok-clause-sure : goal.returns-in-Ok-clause-sure
+returns-in-Ok-clause-sure g c sure = record { fit = c.in-Ok.ensures.fit sure.fit; up = c.in-Ok.ensures.up sure.fit sure.up }

@@ -72,3 +72,6 @@ returns-in-Ok-clause-part g c t is =
 
 pub returns-clause-part : goal.returns-clause-part
 returns-clause-part g c t is = inr (record { same = c.in-Err.ensures.same; told = ap (λ k. answer.NotApplied k ∷ []) c.code.ensures; stop = refl })
+
+pub returns-in-Ok-clause-sure : goal.returns-in-Ok-clause-sure
+returns-in-Ok-clause-sure g c sure = record { fit = c.in-Ok.ensures.fit sure.fit; up = c.in-Ok.ensures.up sure.fit sure.up }

@@ -1,4 +1,5 @@
 use Rattle.std.proofs.Common.{◌≡◌, refl, []}
+use Rattle.flow_lines.specs.Commands.{line_command}
 use Rattle.flow_hub.specs.Knowing.{nothing}
 use Rattle.flow_work.specs.Printing.{blank}
 use Rattle.flow_work.proofs.Counting.{counts_as, counted_as}
@@ -14,6 +15,6 @@ returns-clause-owes g c =
           let page' : made.desk.page ≡ blank first = cc (c.new-clerk.ensures.0, page) in
           let none' : made.desk.pending.lines.items ≡ [] = cc (c.new-clerk.ensures.0, none) in
           let told = c.into_answered in
-          counted_as tells first nothing nothing now.desk.submitter told.result.submitter now.lines told.result.lines now.desk.page told.result.page refl told.ensures.1 told.ensures.2 told.ensures.0
-          (c.rest.ensures.counted first (c.answer_lines.ensures first (counts_as tells first nothing made.desk.submitter made.desk.pending.lines.items made.lines made.desk.page refl none' c.new-clerk.ensures.1 page')));
+          counted_as line_command tells first nothing nothing now.desk.submitter told.result.submitter now.lines told.result.lines now.desk.page told.result.page refl told.ensures.1 told.ensures.2 told.ensures.0
+          (c.rest.ensures.counted first (c.answer_lines.ensures first (counts_as line_command tells first nothing made.desk.submitter made.desk.pending.lines.items made.lines made.desk.page refl none' c.new-clerk.ensures.1 page')));
     }

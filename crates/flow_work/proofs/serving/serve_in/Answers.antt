@@ -1,5 +1,6 @@
 use Rattle.std.proofs.Common.{subst}
 use Rattle.flow_work.specs.Counting.{Counted}
+use Rattle.flow_work.specs.Questions.{line_served}
 use Rattle.flow_work.proofs.Served.{shows}
 use Rattle.flow_work.proofs.serving.serve_in.Goals as goal
 
@@ -11,6 +12,6 @@ returns-in-Ok-clause-shown g c =
     let after = c.taken_back in
     let printed = after.result in
     let counted = c.join-told.ensures.counted first c.in-Ok.ensures.page.0 c.in-Ok.ensures.page.1 c.in-Ok.ensures.owed.0 in
-    let now : Counted tells first told.feed told.submitter told.lines told.page = subst (λ (k : g.row.C.Denot). Counted (g.C.Clock.tells k) first told.feed told.submitter told.lines told.page) c.in-Ok.ensures.owed.1 counted in
+    let now : Counted line_served tells first told.feed told.submitter told.lines told.page = subst (λ (k : g.row.C.Denot). Counted line_served (g.C.Clock.tells k) first told.feed told.submitter told.lines told.page) c.in-Ok.ensures.owed.1 counted in
     shows g.S.Store tells c.args.engine.now c.serve_new-served.new.engine first (g.W.Write.contents printed.ended.writer) printed.is_mute told.lines printed.lines printed.shown told.feed c.serve_new-served.new.publisher after.new.publisher
     told.submitter told.page now c.serve_new-served.ensures.hub after.ensures.part after.ensures.submitter after.ensures.feed after.ensures.printed.0 after.ensures.printed.1 after.ensures.lines after.ensures.printed.2

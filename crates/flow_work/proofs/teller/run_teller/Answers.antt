@@ -1,4 +1,5 @@
 use Rattle.std.proofs.Common.{◌≡◌, rules, sym, subst, List, [], ℕ}
+use Rattle.flow_work.specs.Questions.{line_served}
 use Rattle.flow_hub.specs.Knowing.{nothing}
 use Rattle.flow_work.specs.Counting.{Counts, Counted}
 use Rattle.flow_work.specs.Printing.{blank}
@@ -16,6 +17,6 @@ returns g c =
           let none' : made.desk.pending.lines.items ≡ [] = cc (c.new-counter.ensures.0, none) in
           let fed' : made.feed ≡ nothing = cc (c.new-counter.ensures.1, fed) in
           let told = c.into_told in
-          counted_as tells first now.feed told.result.feed now.desk.submitter told.result.submitter now.lines told.result.lines now.desk.page told.result.page told.ensures.2 told.ensures.1 told.ensures.3 told.ensures.0
-          (c.serve_lines.ensures first (counts_as tells first made.feed made.desk.submitter made.desk.pending.lines.items made.lines made.desk.page fed' none' c.new-counter.ensures.2 page'));
+          counted_as line_served tells first now.feed told.result.feed now.desk.submitter told.result.submitter now.lines told.result.lines now.desk.page told.result.page told.ensures.2 told.ensures.1 told.ensures.3 told.ensures.0
+          (c.serve_lines.ensures first (counts_as line_served tells first made.feed made.desk.submitter made.desk.pending.lines.items made.lines made.desk.page fed' none' c.new-counter.ensures.2 page'));
     }

@@ -2,8 +2,9 @@ use Rattle.std.proofs.Common.{◌≡◌, ◌+◌, ◌≤◌, length, sym, ap, �
 use Rattle.std.proofs.lemmas.Result.{IfOk-weaker, IfErr-weaker}
 use Rattle.std.specs.Prelude.{MatchResult}
 use Rattle.flow_base.specs.declared.command.Command.{Command}
-use Rattle.flow_commit.specs.Keeping.{Keeping, KeepsBook, rules, kept_book}
-use Rattle.flow_engine.specs.Answering.{AnswersAll, AreCaused, KeepsAnswered, EndsEarly, LeavesBehind, IsPart, IsPartUpTo}
+use Rattle.flow_commit.specs.Committing.{HasGoneOn}
+use Rattle.flow_commit.specs.Keeping.{Keeping, KeepsBook, rules, kept_book, IsFit}
+use Rattle.flow_engine.specs.Answering.{AnswersAll, AreCaused, KeepsAnswered, EndsEarly, LeavesBehind, IsPart, IsPartUpTo, Follows, IsSure}
 use Rattle.flow_engine.specs.GivingUp.{GivesUp}
 use Rattle.flow_engine.proofs.Singly.{cut_alone, cut_long}
 use Rattle.flow_engine.proofs.engine.Engine.answer_all.Goals as goal
@@ -71,3 +72,15 @@ returns-in-Ok-cut-clause-part g c =
     subst (λ (k : Keeping g.row.S.Denot). MatchResult c.all_answered.result (λ all. IsPart g.S.Store k new c.args.commands.items all.items None) (λ u. IsPartUpTo g.S.Store k new c.args.commands.items u)) c.tickets-first.ensures
     (subst (λ (cs : List Command). MatchResult c.all_answered.result (λ all. IsPart g.S.Store old new cs all.items None) (λ u. IsPartUpTo g.S.Store old new cs u)) c.in-Ok-cut.ensures.same
     (c.all_answered.ensures.part c.in-Ok-cut.ensures.taken c.in-Ok-cut.ensures.are))
+
+pub returns-in-Ok-cut-clause-sure : goal.returns-in-Ok-cut-clause-sure
+returns-in-Ok-cut-clause-sure g c =
+    subst (λ (k : Keeping g.row.S.Denot). IsSure g.S.Store c.all_answered.new.engine → IsSure g.S.Store k) c.tickets-first.ensures c.all_answered.ensures.sure
+
+pub returns-in-Ok-cut-clause-follows : goal.returns-in-Ok-cut-clause-follows
+returns-in-Ok-cut-clause-follows g c = subst (λ (k : Keeping g.row.S.Denot). Follows g.S.Store k c.all_answered.new.engine) c.tickets-first.ensures c.all_answered.ensures.follows
+
+pub returns-in-Ok-cut-clause-goes_on : goal.returns-in-Ok-cut-clause-goes_on
+returns-in-Ok-cut-clause-goes_on g c =
+    let new = c.all_answered.new.engine in
+    subst (λ (k : Keeping g.row.S.Denot). IsFit g.S.Store new → HasGoneOn g.S.Store k new) c.tickets-first.ensures c.all_answered.ensures.goes_on

@@ -4,9 +4,10 @@ use Rattle.std.proofs.lemmas.Result.{IfOk-weaker}
 use Rattle.flow_model.specs.Apply.{after}
 use Rattle.flow_model.specs.Book.{Book}
 use Rattle.flow_tables.specs.Owned.{state_of, LeavesEither}
+use Rattle.flow_commit.specs.Committing.{HasGoneOn}
 use Rattle.flow_commit.specs.Keeping.{Keeping, IsFit, KeepsBook, rules, commands_of, kept_book}
 use Rattle.flow_machine.specs.Answers.{AnswersTogether, CausedTogether}
-use Rattle.flow_engine.specs.Answering.{HasAnswered}
+use Rattle.flow_engine.specs.Answering.{Follows, HasAnswered, IsSure}
 use Rattle.flow_engine.specs.GivingUp.{GivesUp}
 use Rattle.flow_engine.specs.Together.{KeepsTogether}
 use Rattle.flow_engine.proofs.engine.Engine.answer_together.Goals as goal
@@ -51,3 +52,19 @@ returns-in-Ok-one_batch-clause-leaves g c =
     let new = c.answered.new.engine in
     subst (λ cs. IfErr c.answered.result (λ s. IsFit g.S.Store new → (b : Book) → KeepsBook g.S.Store c.args.self.now b → LeavesEither (state_of g.S.Store new.stored) b (after rules b cs))) c.in-Ok-taken_of.ensures
     (subst (λ (k : Keeping g.row.S.Denot). IfErr c.answered.result (λ s. IsFit g.S.Store new → (b : Book) → KeepsBook g.S.Store k b → LeavesEither (state_of g.S.Store new.stored) b (after rules b (commands_of c.in-Ok-taken_of.taken.items)))) c.tickets-first.ensures its.leaves)
+
+pub returns-in-Ok-one_batch-clause-sure : goal.returns-in-Ok-one_batch-clause-sure
+returns-in-Ok-one_batch-clause-sure g c =
+    let its = c.answered.ensures c.in-Ok-taken_of.taken.items c.in-Ok-one_batch.ensures in
+    subst (λ (k : Keeping g.row.S.Denot). IsSure g.S.Store c.answered.new.engine → IsSure g.S.Store k) c.tickets-first.ensures its.sure
+
+pub returns-in-Ok-one_batch-clause-follows : goal.returns-in-Ok-one_batch-clause-follows
+returns-in-Ok-one_batch-clause-follows g c =
+    let its = c.answered.ensures c.in-Ok-taken_of.taken.items c.in-Ok-one_batch.ensures in
+    subst (λ (k : Keeping g.row.S.Denot). Follows g.S.Store k c.answered.new.engine) c.tickets-first.ensures its.follows
+
+pub returns-in-Ok-one_batch-clause-goes_on : goal.returns-in-Ok-one_batch-clause-goes_on
+returns-in-Ok-one_batch-clause-goes_on g c =
+    let its = c.answered.ensures c.in-Ok-taken_of.taken.items c.in-Ok-one_batch.ensures in
+    let new = c.answered.new.engine in
+    subst (λ (k : Keeping g.row.S.Denot). IsFit g.S.Store new → HasGoneOn g.S.Store k new) c.tickets-first.ensures its.goes_on

@@ -1,4 +1,4 @@
-use Rattle.std.proofs.Common.{◌≡◌, false, subst}
+use Rattle.std.proofs.Common.{◌≡◌, ◌⊎◌, false, subst}
 use Rattle.std.specs.Prelude.{IfErr, IfOk}
 use Rattle.flow_model.specs.Apply.{after}
 use Rattle.flow_model.specs.Book.{Book}
@@ -8,7 +8,7 @@ use Rattle.flow_tables.specs.Owned as tables
 use Rattle.flow_tables.specs.Owned.{state_of}
 use Rattle.flow_commit.specs.Boards.{Boarded, IsBoardOf}
 use Rattle.flow_commit.specs.Committing.{IsDown}
-use Rattle.flow_commit.specs.Keeping.{IsFit, Keeping, KeepsBook, logged, rules}
+use Rattle.flow_commit.specs.Keeping.{IsFit, IsUp, Keeping, KeepsBook, kept_book, logged, rules}
 use Rattle.flow_engine.proofs.engine.Engine.board.Goals as goal
 
 -- the keeper says it
@@ -34,3 +34,21 @@ pub returns-clause-behind : goal.returns-clause-behind
 returns-clause-behind g c =
     let new = c.board.new.self in
     subst (λ (k : Keeping g.row.S.Denot). IsFit g.S.Store new → IfOk c.board.result (λ (it : Boarded). IsBoardOf (after rules k.found (logged k.log)) c.args.posted.now.keys c.args.at it)) c.self.view_is c.board.ensures.behind
+
+pub returns-clause-made : goal.returns-clause-made
+returns-clause-made g c =
+    let new = c.board.new.self in
+    subst (λ (k : Keeping g.row.S.Denot). IsFit g.S.Store new → (b : Book) → KeepsBook g.S.Store k b → IfOk c.board.result (λ (it : Boarded). IsBoardOf b c.args.posted.now.keys c.args.at it)) c.self.view_is c.board.ensures.made
+
+pub returns-clause-fit : goal.returns-clause-fit
+returns-clause-fit g c = subst (λ (k : Keeping g.row.S.Denot). IsFit g.S.Store c.board.new.self → IsFit g.S.Store k) c.self.view_is c.board.ensures.fit
+
+pub returns-clause-up : goal.returns-clause-up
+returns-clause-up g c =
+    let new = c.board.new.self in
+    subst (λ (k : Keeping g.row.S.Denot). IsFit g.S.Store new → IsUp g.S.Store new → IsUp g.S.Store k) c.self.view_is c.board.ensures.up
+
+pub returns-clause-own : goal.returns-clause-own
+returns-clause-own g c =
+    let new = c.board.new.self in
+    subst (λ (k : Keeping g.row.S.Denot). IsFit g.S.Store new → IsUp g.S.Store k → (new ≡ k) ⊎ KeepsBook g.S.Store k (kept_book g.S.Store k)) c.self.view_is c.board.ensures.own

@@ -10,7 +10,7 @@ use Rattle.flow_tables.specs.Owned as tables
 use Rattle.flow_tables.specs.Owned.{state_of}
 use Rattle.flow_commit.specs.Boards.{IsOfBoard}
 use Rattle.flow_commit.specs.Committing.{IsDown}
-use Rattle.flow_commit.specs.Keeping.{IsFit, Keeping, KeepsBook, rules}
+use Rattle.flow_commit.specs.Keeping.{IsFit, IsUp, Keeping, KeepsBook, kept_book, rules}
 use Rattle.flow_commit.specs.Verifying.{IsVerified}
 use Rattle.flow_engine.proofs.engine.Engine.verify.Goals as goal
 
@@ -44,3 +44,16 @@ returns-clause-cause g c =
     let new = c.verify.new.self in
     subst (λ (k : Keeping g.row.S.Denot). IsFit g.S.Store new → (b : Book) → KeepsBook g.S.Store k b
     → IfErr c.verify.result (λ (f : Fault). f ≡ faults.StoreRefused → IsDown g.S.Store k.stored new.stored ⊎ CantBeReplayed meaning_of b)) c.self.view_is c.verify.ensures.cause
+
+pub returns-clause-own : goal.returns-clause-own
+returns-clause-own g c =
+    let new = c.verify.new.self in
+    subst (λ (k : Keeping g.row.S.Denot). IsFit g.S.Store new → IsUp g.S.Store k → (new ≡ k) ⊎ KeepsBook g.S.Store k (kept_book g.S.Store k)) c.self.view_is c.verify.ensures.own
+
+pub returns-clause-fit : goal.returns-clause-fit
+returns-clause-fit g c = subst (λ (k : Keeping g.row.S.Denot). IsFit g.S.Store c.verify.new.self → IsFit g.S.Store k) c.self.view_is c.verify.ensures.fit
+
+pub returns-clause-up : goal.returns-clause-up
+returns-clause-up g c =
+    let new = c.verify.new.self in
+    subst (λ (k : Keeping g.row.S.Denot). IsFit g.S.Store new → IsUp g.S.Store new → IsUp g.S.Store k) c.self.view_is c.verify.ensures.up

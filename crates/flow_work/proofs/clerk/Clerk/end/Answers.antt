@@ -1,3 +1,4 @@
+use Rattle.flow_lines.specs.Commands.{line_command}
 use Rattle.flow_hub.specs.Knowing.{nothing}
 use Rattle.flow_work.proofs.Counting.{all_told}
 use Rattle.flow_work.proofs.clerk.Clerk.end.Goals as goal
@@ -8,4 +9,4 @@ returns g c =
     let tells = g.C.Clock.tells c.args.clock.now in
     let told = c.tell_all in
     let new = told.new.self in
-    λ first k. all_told tells first nothing old.desk.submitter new.submitter old.desk.pending.lines.items new.pending.lines.items old.lines old.desk.page new.page told.ensures.same told.ensures.grows told.ensures.told k
+    λ first k. all_told line_command tells first nothing old.desk.submitter new.submitter old.desk.pending.lines.items new.pending.lines.items old.lines old.desk.page new.page told.ensures.same told.ensures.grows told.ensures.told k

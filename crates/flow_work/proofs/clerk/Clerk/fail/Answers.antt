@@ -1,4 +1,5 @@
 use Rattle.std.proofs.Common.{ap}
+use Rattle.flow_lines.specs.Commands.{line_command}
 use Rattle.flow_hub.specs.Knowing.{nothing}
 use Rattle.flow_work.proofs.Counting.{counts_failed}
 use Rattle.flow_work.proofs.clerk.Clerk.fail.Goals as goal
@@ -9,5 +10,5 @@ returns g c =
     let tells = g.C.Clock.tells c.args.clock.now in
     let new = c.fail.new.self in
     λ first k. c.end.ensures first
-    (counts_failed tells first nothing old.desk.submitter new.submitter old.desk.pending.lines.items new.pending.lines.items old.lines old.desk.page new.page 3 c.fail.ensures.submitter (ap (λ q. q.lines.items) c.fail.ensures.pending)
+    (counts_failed line_command tells first nothing old.desk.submitter new.submitter old.desk.pending.lines.items new.pending.lines.items old.lines old.desk.page new.page 3 c.fail.ensures.submitter (ap (λ q. q.lines.items) c.fail.ensures.pending)
     c.fail.ensures.page k)

@@ -1,4 +1,5 @@
 use Rattle.std.proofs.Common.{rules, ◌≡◌, ◌++◌, ◌∷◌, [], List, ℕ, sym, subst}
+use Rattle.flow_lines.specs.Commands.{line_command}
 use Rattle.flow_hub.specs.Knowing.{nothing}
 use Rattle.flow_work.specs.Counting.{Goes}
 use Rattle.flow_work.proofs.Counting.{taken_goes}
@@ -11,6 +12,6 @@ returns g c =
     let taken = c.take_line-goes_on in
     let new = taken.new.self in
     let lines : c.with_line-lines.result ≡ old.lines ++ c.args.line.items ∷ [] = search rules in
-    λ first k. subst (λ (l : List (List ℕ)). Goes tells first taken.result nothing new.submitter new.pending.lines.items l new.page) (sym lines)
-    (taken_goes tells first nothing old.desk.submitter new.submitter taken.result old.desk.pending.lines.items new.pending.lines.items old.lines c.args.line.items old.desk.page new.page taken.ensures.same taken.ensures.grows
+    λ first k. subst (λ (l : List (List ℕ)). Goes line_command tells first taken.result nothing new.submitter new.pending.lines.items l new.page) (sym lines)
+    (taken_goes line_command tells first nothing old.desk.submitter new.submitter taken.result old.desk.pending.lines.items new.pending.lines.items old.lines c.args.line.items old.desk.page new.page taken.ensures.same taken.ensures.grows
     taken.ensures.taken taken.ensures.not_taken k)

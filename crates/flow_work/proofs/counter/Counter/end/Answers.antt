@@ -1,3 +1,4 @@
+use Rattle.flow_work.specs.Questions.{line_served}
 use Rattle.flow_work.proofs.Counting.{all_told}
 use Rattle.flow_work.proofs.counter.Counter.end.Goals as goal
 
@@ -8,4 +9,4 @@ returns g c =
     let told = c.tell_all in
     let new = told.new.self in
     λ first k. c.print_all.ensures first
-    (all_told tells first old.feed old.desk.submitter new.submitter old.desk.pending.lines.items new.pending.lines.items old.lines old.desk.page new.page told.ensures.same told.ensures.grows told.ensures.told k)
+    (all_told line_served tells first old.feed old.desk.submitter new.submitter old.desk.pending.lines.items new.pending.lines.items old.lines old.desk.page new.page told.ensures.same told.ensures.grows told.ensures.told k)

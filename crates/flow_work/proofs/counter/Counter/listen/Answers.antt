@@ -1,4 +1,5 @@
 use Rattle.std.proofs.Common.{ap}
+use Rattle.flow_work.specs.Questions.{line_served}
 use Rattle.flow_work.proofs.Counting.{goes_fed}
 use Rattle.flow_work.proofs.counter.Counter.listen.Goals as goal
 
@@ -7,5 +8,5 @@ returns g c =
     let old = c.args.self.now in
     let tells = g.C.Clock.tells c.args._clock.now in
     let new = c.print_fed.new.self in
-    λ first k. goes_fed tells first c.is_open.result old.feed c.listen-fed.new.self old.desk.submitter new.submitter old.desk.pending.lines.items new.pending.lines.items old.lines c.listen-fed.result old.desk.page new.page
+    λ first k. goes_fed line_served tells first c.is_open.result old.feed c.listen-fed.new.self old.desk.submitter new.submitter old.desk.pending.lines.items new.pending.lines.items old.lines c.listen-fed.result old.desk.page new.page
     c.print_fed.ensures.submitter (ap (λ q. q.lines.items) c.print_fed.ensures.pending) c.listen-fed.ensures.fed c.print_fed.ensures.printed k

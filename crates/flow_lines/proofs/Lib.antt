@@ -1,0 +1,14 @@
+pub mod Faults
+pub mod Endings
+pub mod Ends
+pub mod Arguments
+pub mod Commands
+pub mod Replies
+pub mod Tasks
+pub mod Lines
+pub mod Answering
+pub mod Later
+pub mod Batches
+pub mod SomeLines
+pub mod Stopping
+pub mod Asks

@@ -1,0 +1,10 @@
+pub mod Faults
+pub mod Commands
+pub mod Replies
+pub mod Driving
+pub mod Ends
+pub mod Answering
+pub mod Stopping
+pub mod Ending
+pub mod Tasks
+pub mod Asks

@@ -1,0 +1,33 @@
+-- Why nothing is answered any more.
+use Rattle.std.proofs.Common.{◌≡◌, Bool, true, false, List, [], ◌∷◌, ◌++◌, Option, Some, None, inl, inr, refl, sym, ap, ◌∙◌, subst, append_assoc}
+use Rattle.flow_lines.specs.declared.reply.Line.{Line}
+use Rattle.flow_hub.specs.Knowing.{IsBefore}
+use Rattle.flow_hub.specs.Submitting.{Member}
+use Rattle.flow_hub.proofs.Growing.{before_self}
+use Rattle.flow_work.specs.Printing.{Printed}
+use Rattle.flow_work.specs.Silence.{IsUnanswered, IsSilent}
+use Rattle.flow_work.specs.Telling.{AnswersFirst, HasTold}
+use Rattle.flow_work.specs.declared.queue.Pending.{Pending}
+
+-- the oldest has no answer
+pub silent_first : (m : Member) (was now : List Pending) (told : Option Line) (on : Bool) → AnswersFirst m was now told on → on ≡ false → IsSilent m was
+silent_first m [] now told on a off = absurd (cc (a.2, off))
+silent_first m (p ∷ ps) now (Some l) on a off = absurd (cc (a.2, off))
+silent_first m (p ∷ ps) now None on a off = inr (record { front = []; line = p; back = ps; are = refl; seen = m; same = refl; before = before_self m.was; without = a.1 })
+
+unanswered_behind : (m : Member) (front now was : List Pending) → front ++ now ≡ was → IsUnanswered m now → IsUnanswered m was
+unanswered_behind m front now was is u = record {
+  front = front ++ u.front;
+  line = u.line;
+  back = u.back;
+  are = sym is ∙ (ap (λ ps. front ++ ps) u.are ∙ sym (append_assoc front u.front (u.line ∷ u.back)));
+  seen = u.seen;
+  same = u.same;
+  before = u.before;
+  without = u.without;
+}
+
+-- one that waits still has none
+pub silent_behind : (k m : Member) {was now : List Pending} {old new : Printed} → HasTold k true was now old new → IsSilent m now → IsSilent m was
+silent_behind k m {was} {now} h (inl closed) = inl closed
+silent_behind k m {was} {now} h (inr u) = inr (unanswered_behind m h.told now was (subst (λ s. h.told ++ (s ++ now) ≡ was) (h.all refl) h.rest) u)
