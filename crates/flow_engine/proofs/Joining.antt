@@ -12,6 +12,7 @@ use Rattle.flow_commit.specs.Keeping.{Keeping, rules, IsFit, KeepsBook, command_
 use Rattle.flow_engine.specs.declared.done.Done.{Done}
 use Rattle.flow_engine.specs.declared.done.Done.TheVariants as done
 use Rattle.flow_engine.specs.Driving.{AreAnswers, Passes, LeadsTo, Drives, Runs, all_halted, has_unknown, gathered, if_kept, kept_of, in_hand}
+use Rattle.flow_engine.proofs.OneMore.{nothing_yet}
 use Rattle.flow_engine.proofs.Gathering.{off, same_length, none_in_hand, no_hand_of_halted, none_kept_of_halted, replies_told}
 
 gathered_join : {A : Type 0} (f : List Taken → Done → List A) (bs cs : List (List Taken)) (ds es : List Done) → length bs ≡ length ds → gathered f (bs ++ cs) (ds ++ es) ≡ gathered f bs ds ++ gathered f cs es
@@ -152,4 +153,16 @@ module _ {S : Type 0} (g : Ghosts S) where
         let later = two.still (ap (λ (k : Keeping S). k.halted) same ∙ h) in
         (later.0 ∙ same, ap (λ l. l ++ es) was.1 ∙ ap (λ l. all_halted bs ++ l) later.1 ∙ sym (map-append (λ _. done.Halted) bs cs))
         );
+  }
+
+  -- No call is one with no batch.
+  pub runs_none : (k : Keeping S) → Runs g k k [] []
+  runs_none k = record {
+    opened = refl;
+    fit = λ h. h;
+    drives = λ h b keeps goes. (
+        let it = nothing_yet g k b keeps goes in
+        record { answers = it.0; replies = refl; leads = it.1; passes = refl }
+        );
+    still = λ h. (refl, refl);
   }

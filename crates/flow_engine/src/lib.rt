@@ -7,4 +7,5 @@ pub mod done;
 pub mod drive;
 pub mod engine;
 pub mod headline;
+pub mod life;
 pub mod together;

@@ -12,6 +12,7 @@ use crate::seats::{Pass, Room};
 use crate::submitter::Submitter;
 use crate::waits::{told_by, told_of};
 use flow_base::code::Code;
+use flow_base::fault::Fault;
 use flow_commit::board::Board;
 use flow_commit::stamp::Stamp;
 use flow_machine::submission::{Receipt, Taken};
@@ -178,8 +179,8 @@ impl<B: Room> Publisher<B> {
         &self.keys
     }
 
-    /// There is no board this time, for this cause.
-    pub fn skip<R: Wait>(&mut self, rt: &R, _code: Code)
+    /// There is no board this time, for this fault. It is the fault itself and no code, since nobody makes up an E01.
+    pub fn skip<R: Wait>(&mut self, rt: &R, _fault: &Fault)
         ensures skipped { HasSkipped self.old self.new }
         ensures grows { IsBefore self.old self.new }
     {

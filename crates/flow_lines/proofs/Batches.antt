@@ -1,5 +1,5 @@
 -- Lines whose commands are applied together.
-use Rattle.std.proofs.Common.{◌≡◌, ℕ, suc, ◌+◌, ◌≤◌, Bool, true, false, List, [], ◌∷◌, ◌++◌, length, Option, Some, None, IfSome, refl, sym, ap, ◌∙◌, subst, arith, append_assoc, append-nil, length-append, inl, inr, max}
+use Rattle.std.proofs.Common.{◌≡◌, ℕ, suc, ◌+◌, ◌≤◌, ◌<◌, Bool, true, false, List, [], ◌∷◌, ◌++◌, length, Option, Some, None, IfSome, refl, sym, ap, ◌∙◌, subst, arith, append_assoc, append-nil, length-append, inl, inr, max}
 use Rattle.std.specs.Prelude.{◌⊎◌, ◌^◌, is_some}
 use Rattle.std.specs.Io.KnownBytes.{Appends}
 use Rattle.std.specs.Io.BufRead.{drop_through}
@@ -13,7 +13,7 @@ use Rattle.flow_base.specs.declared.fault.Fault.{Fault}
 use Rattle.flow_model.specs.Book.{Book}
 use Rattle.flow_machine.specs.Answers.{IsGivenUp}
 use Rattle.flow_machine.specs.declared.answer.Stop.{Stop}
-use Rattle.flow_lines.specs.Answering.{Applied, GivenUp, FirstLine, Answered, BatchAnswered, Gathered, HasEnded, HasFew, HasOneMore, HoldsLines, IsBatch, IsFilled, IsFull, OfBatch, ReadAs, StatusWithin, StopsAtPart, StopsBetween, StopsWithin, TellsPart, WritesAll, WritesPart, WritesSome, all_applied, all_given_up, answers_by, are_commands, commands_in, lines_by, lines_told, marked, with_command}
+use Rattle.flow_lines.specs.Answering.{Applied, GivenUp, FirstLine, Answered, BatchAnswered, EndsFull, EndsNext, Gathered, HasEnded, HasFew, HasOneMore, HoldsLines, IsBatch, IsFilled, IsFull, OfBatch, ReadAs, StatusWithin, StopsAtPart, StopsBetween, StopsWithin, TellsPart, WritesAll, WritesPart, WritesSome, all_applied, all_given_up, answers_by, are_commands, commands_in, last_or, lines_by, lines_told, marked, with_command}
 use Rattle.flow_lines.specs.Commands.{line_command}
 use Rattle.flow_lines.specs.Driving.{lines_of, written, answer_status, final_status}
 use Rattle.flow_lines.specs.Replies.{line_text}
@@ -49,12 +49,15 @@ told_given_up k (l ∷ ls) = by_command (line_command l) (λ e. rw e (ap (λ x. 
 
 -- ---- a batch that was gathered
 
-module _ (most : ℕ) (first : List ℕ) (c : Command) (commands : List Command) (marks : List Bool) (given : line_command first ≡ Some c) (some : 1 ≤ length commands) (few : length commands ≤ most) where
+module _ (most : ℕ) (first : List ℕ) (c : Command) (commands : List Command) (marks : List Bool) (given : line_command first ≡ Some c) (some : 1 ≤ length commands) (few : length commands ≤ most) (ends : EndsFull most commands marks) where
   holds_few : (lines : List (List ℕ)) → HoldsLines (first ∷ lines) commands marks → IsBatch most (commands_in (first ∷ lines))
   holds_few lines h = let same = ap length h.commands_are in record { some = subst (λ n. 1 ≤ n) same some; few = subst (λ n. n ≤ most) same few }
 
+  holds_ends : (lines : List (List ℕ)) → HoldsLines (first ∷ lines) commands marks → EndsFull most (commands_in (first ∷ lines)) (are_commands (first ∷ lines))
+  holds_ends lines h e = subst (λ m. last_or false m ≡ true) h.marks_are (ends (ap length h.commands_are ∙ e))
+
   pub is_few : (lines later : List (List ℕ)) → HoldsLines (first ∷ lines) commands marks → HasFew most (first ∷ lines) later
-  is_few lines later h = (ap is_some given, holds_few lines h)
+  is_few lines later h = (ap is_some given, (holds_few lines h, holds_ends lines h))
 
   full_by : (lines : List (List ℕ)) (left : Option (List ℕ)) (rest : List ℕ) → HoldsLines (first ∷ lines) commands marks → left ≡ Some rest → (length commands ≡ most) ⊎ ((2 ^ 64 ≤ length marks) ⊎ IfSome left (λ r. r ≡ []))
       → (length (commands_in (first ∷ lines)) ≡ most) ⊎ ((2 ^ 64 ≤ length (first ∷ lines)) ⊎ (lines_of rest ≡ []))
@@ -63,7 +66,7 @@ module _ (most : ℕ) (first : List ℕ) (c : Command) (commands : List Command)
   full_by lines left rest h is (inr (inr ended)) = inr (inr (ap lines_of (subst (λ k. IfSome k (λ r. r ≡ [])) is ended)))
 
   pub is_full : (lines : List (List ℕ)) (left : Option (List ℕ)) (rest : List ℕ) → HoldsLines (first ∷ lines) commands marks → left ≡ Some rest → (length commands ≡ most) ⊎ ((2 ^ 64 ≤ length marks) ⊎ IfSome left (λ r. r ≡ [])) → IsFull most (first ∷ lines) (lines_of rest)
-  is_full lines left rest h is filled = record { begins = ap is_some given; batch = holds_few lines h; full = full_by lines left rest h is filled }
+  is_full lines left rest h is filled = record { begins = ap is_some given; batch = holds_few lines h; full = full_by lines left rest h is filled; ends = holds_ends lines h }
 
 module _ (u : Rules) (given_up : Book → List Command → Code → Type 0) where
   module _ (b b1 : Book) (lines : List (List ℕ)) (commands : List Command) (marks : List Bool) (holds : HoldsLines lines commands marks) (tells : List Line → Type 0) where
@@ -82,27 +85,27 @@ module _ (u : Rules) (given_up : Book → List Command → Code → Type 0) wher
 
   -- ---- the bytes that they were read from
 
-  pub begins_batch : (most : ℕ) (b b1 : Book) (c : Command) (commands : List Command) (marks : List Bool) (known left old new : Option (List ℕ)) (n : ℕ) → Gathered (c ∷ []) commands (true ∷ []) marks known left → 1 ≤ length commands → length commands ≤ most → IsFilled most commands marks known left
+  pub begins_batch : (most : ℕ) (b b1 : Book) (c : Command) (commands : List Command) (marks : List Bool) (known left old new : Option (List ℕ)) (n : ℕ) → Gathered (c ∷ []) commands (true ∷ []) marks known left → 1 ≤ length commands → length commands ≤ most → EndsFull most commands marks → IsFilled most commands marks known left
       → ((ls : List (List ℕ)) → HoldsLines ls commands marks → TellsPart u given_up b b1 ls (WritesAll old new n)) → IfSome known (λ bytes. (first : List ℕ) → line_command first ≡ Some c → BatchAnswered u given_up (IsFull most) b b1 first bytes left old new n)
-  begins_batch most b b1 c commands marks None left old new n g some few filled all = tt
-  begins_batch most b b1 c commands marks (Some bytes) left old new n g some few filled all = λ first given.
+  begins_batch most b b1 c commands marks None left old new n g some few last filled all = tt
+  begins_batch most b b1 c commands marks (Some bytes) left old new n g some few last filled all = λ first given.
       let holds = holds_first first c commands marks (Some bytes) left g given in
       record {
         lines = g.lines;
         rest = g.read.rest;
         left_is = g.read.left_is;
         lines_are = g.read.lines_are;
-        cut_is = is_full most first c commands marks given some few g.lines left g.read.rest holds g.read.left_is filled;
+        cut_is = is_full most first c commands marks given some few last g.lines left g.read.rest holds g.read.left_is filled;
         tells = all (first ∷ g.lines) holds;
       }
 
-  pub stops_batch : (stops : Book → List Command → Stop → Type 0) (most : ℕ) (b b1 : Book) (e : Fault) (c : Command) (commands : List Command) (marks : List Bool) (known left old new : Option (List ℕ)) → Gathered (c ∷ []) commands (true ∷ []) marks known left → 1 ≤ length commands → length commands ≤ most → IsFilled most commands marks known left
+  pub stops_batch : (stops : Book → List Command → Stop → Type 0) (most : ℕ) (b b1 : Book) (e : Fault) (c : Command) (commands : List Command) (marks : List Bool) (known left old new : Option (List ℕ)) → Gathered (c ∷ []) commands (true ∷ []) marks known left → 1 ≤ length commands → length commands ≤ most → EndsFull most commands marks → IsFilled most commands marks known left
       → ((ls : List (List ℕ)) → HoldsLines ls commands marks → StopsAtPart u given_up stops e b b1 ls old new) → IfSome known (λ bytes. (first : List ℕ) → line_command first ≡ Some c → StopsWithin u given_up stops (IsFull most) b b1 e (first ∷ lines_of bytes) old new)
-  stops_batch stops most b b1 e c commands marks None left old new g some few filled ends = tt
-  stops_batch stops most b b1 e c commands marks (Some bytes) left old new g some few filled ends = λ first given.
+  stops_batch stops most b b1 e c commands marks None left old new g some few last filled ends = tt
+  stops_batch stops most b b1 e c commands marks (Some bytes) left old new g some few last filled ends = λ first given.
       let holds = holds_first first c commands marks (Some bytes) left g given in
       first_stops u given_up (IsFull most) stops b b1 e (first ∷ lines_of bytes) (first ∷ g.lines) (lines_of g.read.rest) old new (ap (λ l. first ∷ l) g.read.lines_are)
-      (is_full most first c commands marks given some few g.lines left g.read.rest holds g.read.left_is filled) (ends (first ∷ g.lines) holds)
+      (is_full most first c commands marks given some few last g.lines left g.read.rest holds g.read.left_is filled) (ends (first ∷ g.lines) holds)
 
   module _ (cut : List (List ℕ) → List (List ℕ) → Type 0) where
     -- nothing of a batch is answered that wasn't begun
@@ -275,6 +278,24 @@ one_more_command cs cs1 l e =
     let same : cs1 ≡ cs ++ c ∷ [] = e ∙ ap (λ o. cs ++ with_command o []) is in
     let long : length cs1 ≡ length cs + 1 = ap length same ∙ length-append cs (c ∷ []) in
     record { longer = omega (arith, long); few = omega (arith, long) })
+
+-- ---- the last line of a batch
+
+last_of : (b : Bool) (ms : List Bool) (m : Bool) → last_or b (ms ++ m ∷ []) ≡ m
+last_of b [] m = refl
+last_of b (x ∷ ms) m = last_of x ms m
+
+-- a line that is a command is the last one
+pub ends_next : (cs cs1 : List Command) (ms ms1 : List Bool) (l : List ℕ) → cs1 ≡ cs ++ commands_in (l ∷ []) → ms1 ≡ ms ++ are_commands (l ∷ []) → EndsNext cs cs1 ms1
+ends_next cs cs1 ms ms1 l commands marks =
+    by_command (line_command l)
+    (λ is. let same : cs1 ≡ cs ++ [] = commands ∙ ap (λ o. cs ++ with_command o []) is in inl (ap length same ∙ ap length (append-nil cs)))
+    (λ c is. let same : ms1 ≡ ms ++ true ∷ [] = marks ∙ ap (λ o. ms ++ is_some o ∷ []) is in inr (ap (last_or false) same ∙ last_of false ms true))
+
+-- lines are read only while the batch isn't full, so it is full only by its last line
+pub ends_full : (most : ℕ) (cs cs1 : List Command) (ms1 : List Bool) → length cs < most → EndsNext cs cs1 ms1 → EndsFull most cs1 ms1
+ends_full most cs cs1 ms1 below (inl same) all = absurd (omega (arith, below, same, all))
+ends_full most cs cs1 ms1 below (inr last) all = last
 
 -- ---- what is written
 

@@ -8,7 +8,7 @@ use Rattle.flow_base.specs.declared.fault.Fault.{Fault}
 use Rattle.flow_model.specs.Apply.{Rules, after}
 use Rattle.flow_model.specs.Book.{Book}
 use Rattle.flow_machine.specs.declared.answer.Stop.{Stop}
-use Rattle.flow_lines.specs.Answering.{Part, Lone, Applied, GivenUp, AreParts, Gathered, HasFew, HoldsLines, SomeAnswered, StopsAmong, StopsAtPart, StopsBetween, StopsNext, TellsPart, WritesAll, WritesPart, answers_by, book_behind, commands_in, lines_by, lines_in}
+use Rattle.flow_lines.specs.Answering.{Part, Lone, Applied, GivenUp, AreParts, EndsFull, Gathered, HasFew, HoldsLines, SomeAnswered, StopsAmong, StopsAtPart, StopsBetween, StopsNext, TellsPart, WritesAll, WritesPart, answers_by, book_behind, commands_in, lines_by, lines_in}
 use Rattle.flow_lines.specs.Commands.{line_command}
 use Rattle.flow_lines.specs.Driving.{answer_status, final_status, written}
 use Rattle.flow_lines.specs.Replies.{line_text}
@@ -69,9 +69,9 @@ module _ (u : Rules) (given_up : Book → List Command → Code → Type 0) (mos
   }
 
   -- a batch that was begun
-  pub some_batch : (b b1 : Book) (c : Command) (commands : List Command) (marks : List Bool) (known left old new : Option (List ℕ)) (n : ℕ) → Gathered (c ∷ []) commands (true ∷ []) marks known left → 1 ≤ length commands → length commands ≤ most
+  pub some_batch : (b b1 : Book) (c : Command) (commands : List Command) (marks : List Bool) (known left old new : Option (List ℕ)) (n : ℕ) → Gathered (c ∷ []) commands (true ∷ []) marks known left → 1 ≤ length commands → length commands ≤ most → EndsFull most commands marks
       → ((ls : List (List ℕ)) → HoldsLines ls commands marks → TellsPart u given_up b b1 ls (WritesAll old new n)) → (first : List ℕ) → line_command first ≡ Some c → SomeAnswered u given_up (HasFew most) b b1 1 old new n
-  some_batch b b1 c commands marks known left old new n g some few all first given =
+  some_batch b b1 c commands marks known left old new n g some few last all first given =
       let holds = holds_first first c commands marks known left g given in
       let its = all (first ∷ g.lines) holds in
       let p = its.part in
@@ -79,7 +79,7 @@ module _ (u : Rules) (given_up : Book → List Command → Code → Type 0) (mos
       record {
         parts = p ∷ [];
         many = omega (arith, long);
-        parts_are = (its.part_is, (as_cut (HasFew most) p (first ∷ g.lines) [] its.lines_are (is_few most first c commands marks given some few g.lines [] holds), tt));
+        parts_are = (its.part_is, (as_cut (HasFew most) p (first ∷ g.lines) [] its.lines_are (is_few most first c commands marks given some few last g.lines [] holds), tt));
         book_is = its.book_is;
         written_are = subst (λ l. Appends old new (written l)) (sym (append-nil (answers_by u b p))) its.told.written_are;
         status_is = its.told.status_is ∙ ap final_status (sym (append-nil (answers_by u b p)));
@@ -101,15 +101,15 @@ module _ (u : Rules) (given_up : Book → List Command → Code → Type 0) (mos
     none_among b e out between = record { whole = []; stops_are = none_answered u given_up (HasFew most) stops b e [] out between }
 
     -- it ended in a batch that was begun
-    pub some_batch_stops : (b b1 : Book) (e : Fault) (c : Command) (commands : List Command) (marks : List Bool) (known left old new : Option (List ℕ)) → Gathered (c ∷ []) commands (true ∷ []) marks known left → 1 ≤ length commands → length commands ≤ most
+    pub some_batch_stops : (b b1 : Book) (e : Fault) (c : Command) (commands : List Command) (marks : List Bool) (known left old new : Option (List ℕ)) → Gathered (c ∷ []) commands (true ∷ []) marks known left → 1 ≤ length commands → length commands ≤ most → EndsFull most commands marks
         → ((ls : List (List ℕ)) → HoldsLines ls commands marks → StopsAtPart u given_up stops e b b1 ls old new) → (first : List ℕ) → line_command first ≡ Some c → StopsAmong u given_up stops (HasFew most) b b1 e old new
-    some_batch_stops b b1 e c commands marks known left old new g some few ends first given =
+    some_batch_stops b b1 e c commands marks known left old new g some few last ends first given =
         let holds = holds_first first c commands marks known left g given in
         record {
           whole = first ∷ g.lines;
           stops_are =
               first_stops u given_up (HasFew most) stops b b1 e (first ∷ g.lines) (first ∷ g.lines) [] old new (sym (append-nil (first ∷ g.lines)))
-              (is_few most first c commands marks given some few g.lines [] holds) (ends (first ∷ g.lines) holds);
+              (is_few most first c commands marks given some few last g.lines [] holds) (ends (first ∷ g.lines) holds);
         }
 
     -- what stops the lines behind stops them all

@@ -42,6 +42,15 @@ commands_in (l ∷ ls) = with_command (line_command l) (commands_in ls)
 abbrev pub are_commands : List (List ℕ) → List Bool
 are_commands ls = map (λ l. is_some (line_command l)) ls
 
+-- the last of these
+abbrev pub last_or : Bool → List Bool → Bool
+last_or b [] = b
+last_or b (m ∷ ms) = last_or m ms
+
+-- Of so many commands the last one is the last line: these are the marks of the lines.
+abbrev pub EndsFull : ℕ → List Command → List Bool → Type 0
+EndsFull most commands marks = length commands ≡ most → last_or false marks ≡ true
+
 -- ---- how lines are cut
 
 -- a batch begins with a command
@@ -49,16 +58,17 @@ abbrev pub BeginsBatch : List (List ℕ) → Type 0
 BeginsBatch [] = ⊥
 BeginsBatch (l ∷ ls) = is_some (line_command l) ≡ true
 
--- Where the bytes are known a batch has so many commands. It has fewer only where nothing comes behind it, or where it has 2^64
--- lines, more than are counted.
+-- Where the bytes are known a batch has so many commands, and ends with the last of them: a line behind it that is no command is
+-- another part. It has fewer only where nothing comes behind it, or where it has 2^64 lines, more than are counted.
 pub record IsFull (most : ℕ) (lines later : List (List ℕ)) : Type 0 where
   pub begins : BeginsBatch lines
   pub batch : IsBatch most (commands_in lines)
   pub full : (length (commands_in lines) ≡ most) ⊎ ((2 ^ 64 ≤ length lines) ⊎ (later ≡ []))
+  pub ends : EndsFull most (commands_in lines) (are_commands lines)
 
--- where they may be unknown it has at most so many
+-- where they may be unknown it has at most so many, and ends with the last of them where it has as many
 abbrev pub HasFew : ℕ → List (List ℕ) → List (List ℕ) → Type 0
-HasFew most = λ lines later. BeginsBatch lines × IsBatch most (commands_in lines)
+HasFew most = λ lines later. BeginsBatch lines × (IsBatch most (commands_in lines) × EndsFull most (commands_in lines) (are_commands lines))
 
 -- A part of the lines: one that is no command, those of a batch that is applied, or those of one that is given up.
 pub data Part : Type 0 where
@@ -289,6 +299,10 @@ HasEnded known left = IfSome known (λ bytes. IfSome left (λ rest. rest ≡ [])
 -- A batch has so many commands, or as many lines as can be counted, or nothing is left to read.
 abbrev pub IsFilled : ℕ → List Command → List Bool → Option (List ℕ) → Option (List ℕ) → Type 0
 IsFilled most commands marks known left = (length commands ≡ most) ⊎ ((2 ^ 64 ≤ length marks) ⊎ HasEnded known left)
+
+-- One command more, or none; where it is one, it is the last line.
+abbrev pub EndsNext : List Command → List Command → List Bool → Type 0
+EndsNext before now marks = (length now ≡ length before) ⊎ (last_or false marks ≡ true)
 
 -- no command more, or one
 pub record HasOneMore (before now : List Command) : Type 0 where

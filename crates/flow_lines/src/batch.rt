@@ -1,6 +1,6 @@
 //! Lines whose commands are applied together.
 ghost use Rattle.std.specs.Prelude.{◌≡◌, ◌≤◌, ◌↔◌, ◌+◌, ◌++◌, ◌∷◌, [], ℕ, true, false, List, length, Bool, Option, OnOk, IfOk, IfErr, IfSome, IsSome};
-ghost use Rattle.flow_lines.specs.Answering.{Gathered, HasEnded, HasOneMore, IsFilled, StopsBetween, commands_in, are_commands};
+ghost use Rattle.flow_lines.specs.Answering.{EndsFull, EndsNext, Gathered, HasEnded, HasOneMore, IsFilled, StopsBetween, commands_in, are_commands};
 ghost use Rattle.flow_lines.specs.Ends.{Gives, input_failed, output_failed};
 ghost use Rattle.flow_lines.specs.Faults.{fault_status};
 ghost use Rattle.flow_lines.specs.Stopping.{CausedFault};
@@ -97,6 +97,7 @@ fn put_line(alloc: Global, line: &[u8], begun: &mut Begun) -> Result<(), Fault>
 fn put_next<I: Input>(alloc: Global, input: &mut I, begun: &mut Begun) -> Result<bool, Fault>
     ensures gathered { IfOk result (λ found. Gathered begun.old.commands.items begun.new.commands.items begun.old.marks.items begun.new.marks.items (I.left input.old) (I.left input.new)) }
     ensures more { IfOk result (λ found. HasOneMore begun.old.commands.items begun.new.commands.items) }
+    ensures last { IfOk result (λ found. EndsNext begun.old.commands.items begun.new.commands.items begun.new.marks.items) }
     // Yes is one line more, and no is none, where nothing is left to read.
     ensures found { IfOk result (λ found. found ≡ true → length begun.new.marks.items ≡ length begun.old.marks.items + 1) }
     ensures ended { IfOk result (λ found. found ≡ false → begun.new.marks.items ≡ begun.old.marks.items) }
@@ -134,6 +135,8 @@ pub(crate) fn gather<I: Input>(
     ensures some { IfOk result (λ b. 1 ≤ length b.commands.items) }
     ensures few { IfOk result (λ b. length b.commands.items ≤ most) }
     ensures full { IfOk result (λ b. IsFilled most b.commands.items b.marks.items (I.left input.old) (I.left input.new)) }
+    // Where it has as many commands as it may, nothing was read behind the last of them.
+    ensures ends { IfOk result (λ b. EndsFull most b.commands.items b.marks.items) }
     ensures given { IfOk result (λ b. Gives 0 (I.given input.old) (I.given input.new)) }
     ensures input { I.failed input.new ≡ input_failed result (I.failed input.old) }
     ensures output { (before : Bool) → output_failed result before ≡ before }

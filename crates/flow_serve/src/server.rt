@@ -1,7 +1,6 @@
 //! The thread that keeps: it takes what was submitted to a hub, commits it and answers it.
 ghost use Rattle.std.specs.Prelude.{◌≡◌, ◌≤◌, true, false, [], List, IfErr, OnOk, MatchResult};
 ghost use Rattle.std.specs.Vec.{vec_capacity};
-ghost use Rattle.flow_base.specs.Codes.{fault_code};
 ghost use Rattle.flow_machine.specs.declared.submission.Taken.{Taken as ATaken};
 ghost use Rattle.flow_commit.specs.Keeping.{account_of};
 ghost use Rattle.flow_hub.specs.Knowing.{IsBefore};
@@ -13,7 +12,6 @@ ghost use Rattle.flow_serve.specs.Serving.{EndsFor, GivesUp, HasAnswered, HasSer
 
 use flow_base::code::Code;
 use flow_base::fault::Fault;
-use flow_base::memory::NoMemory;
 use flow_commit::batch::Batch;
 use flow_commit::outcome::Outcome;
 use flow_engine::engine::Engine;
@@ -80,13 +78,6 @@ fn commit_taken<S: Alter, B: Room, R: Wait>(
     }
 }
 
-/// The code of a fault that is still to be handed on.
-fn code_of(fault: &Fault) -> Code
-    ensures { result ≡ fault_code fault.now }
-{
-    fault.code()
-}
-
 /// Makes a board and posts it, or says why there is none.
 fn try_board<S: Alter, B: Room, R: Wait, C: Clock>(
     rt: &R,
@@ -137,7 +128,7 @@ fn post_board<S: Alter, B: Room, R: Wait, C: Clock>(
         return;
     }
     if let Err(fault) = try_board(rt, engine, publisher, clock) {
-        publisher.skip(rt, code_of(&fault));
+        publisher.skip(rt, &fault);
     }
 }
 
@@ -186,13 +177,13 @@ fn serve_all<S: Alter, B: Room, R: Wait, C: Clock>(
     unreachable!()
 }
 
-/// Takes nothing more in, and answers all that waits that the engine has halted: E85. There is no board any more, for this code.
+/// Takes nothing more in, and answers all that waits that the engine has halted: E85. There is no board any more, for this fault.
 fn turn_away<B: Room, R: Wait>(
     rt: &R,
     alloc: Global,
     publisher: &mut Publisher<B>,
     most: usize,
-    code: Code,
+    fault: &Fault,
 )
     requires none { publisher.old.held ≡ [] }
     requires most { (1 ≤ most) × (most ≤ 64) }
@@ -206,7 +197,7 @@ fn turn_away<B: Room, R: Wait>(
     publisher.close(rt);
     for _ in rt.forever() {
         let mut taken = list_with_room(rt, alloc, most);
-        publisher.skip(rt, code);
+        publisher.skip(rt, fault);
         if !publisher.take(rt, &mut taken, most) {
             return;
         }
@@ -270,19 +261,14 @@ pub fn serve<S: Alter, B: Room, R: Wait, C: Clock>(
         Ok(first) => match serve_all(rt, engine, publisher, clock, first, most) {
             Ok(()) => Ok(()),
             Err(fault) => {
-                turn_away(rt, engine.alloc(), publisher, most, code_of(&fault));
+                turn_away(rt, engine.alloc(), publisher, most, &fault);
                 Err(fault)
             }
         },
         Err(refused) => {
-            turn_away(
-                rt,
-                engine.alloc(),
-                publisher,
-                most,
-                NoMemory::from(refused).code(),
-            );
-            Err(Fault::from(refused))
+            let fault = Fault::from(refused);
+            turn_away(rt, engine.alloc(), publisher, most, &fault);
+            Err(fault)
         }
     }
 }

@@ -3,7 +3,7 @@
 ghost use Rattle.flow_hub.specs.Seating.{IsRoomOf};
 
 use crate::clock::Still;
-use flow_base::code::Code;
+use flow_base::fault::Fault;
 use flow_hub::fed::Fed;
 use flow_hub::feed::Feed;
 use flow_hub::hub::Hub;
@@ -33,7 +33,7 @@ fn heard<B: Room, R: Wait>(
 ) -> [bool; 2] {
     hub.ring(rt);
     let rung = is_nothing(&feed.listen(rt));
-    publisher.skip(rt, Code::StoreRefused);
+    publisher.skip(rt, &Fault::StoreRefused);
     [rung, is_nothing(&feed.last(rt))]
 }
 

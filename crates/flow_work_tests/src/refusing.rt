@@ -4,6 +4,7 @@ ghost use Rattle.std.specs.Prelude.{◌≡◌, ◌≤◌, []};
 use crate::commands::{asked_run, describe};
 use flow_base::code::Code;
 use flow_base::command::Command;
+use flow_base::fault::Fault;
 use flow_hub::publisher::Publisher;
 use flow_hub::seats::Room;
 use flow_hub::submitter::Submitter;
@@ -24,7 +25,7 @@ pub fn refuse_next<B: Room, R: Wait>(
     ensures { publisher.new.held ≡ [] }
 {
     let mut taken = Vec::with_capacity(alloc, most).ok()?;
-    publisher.skip(rt, code);
+    publisher.skip(rt, &Fault::StoreRefused);
     let some = publisher.take(rt, &mut taken, most);
     publisher.refuse(rt, taken, code);
     Some(some)

@@ -1,11 +1,14 @@
--- What a dispatch and a report do to the world, by computation: over any rules and any book.
-use Rattle.std.proofs.Common.{◌≡◌, ℕ, true, false, [], ◌∷◌, refl}
+-- What a dispatch and a report do to the world, and a stop and a refused rolling back with commands that wait, by computation: over any
+-- rules and any book.
+use Rattle.std.proofs.Common.{◌≡◌, ℕ, true, false, [], ◌∷◌, refl, arith, inl}
 use Rattle.flow_base.specs.Syntax.{Bytes}
 use Rattle.flow_base.specs.declared.value.Value.{Value}
+use Rattle.flow_base.specs.declared.command.Command.{Command}
 use Rattle.flow_base.specs.declared.command.Command.TheVariants as command
 use Rattle.flow_model.specs.Book.{Book}
 use Rattle.flow_model.specs.Apply.{Rules}
-use Rattle.flow_model.specs.World.{Attempt, World, is_open_task, first, Report, Failure, Dispatch, Comes}
+use Rattle.flow_model.specs.World.{Attempt, World, is_open_task, first, Report, Failure, Dispatch, Comes, Idle, Writing, Halted, Stopped, Submit, Take, CommitBegins, RefusedRollback, Publish, Crash, Reopen}
+use Rattle.flow_model.specs.World.{submitted, taken, commit_begun, not_rolled_back, published_in, stopped}
 
 -- the world in which an attempt was handed out
 abbrev handed_out : Book → Attempt → World
@@ -35,3 +38,71 @@ tells_failure u base a reason at = (record (handed_out base a) { inbox = command
 
 tells_nothing : (u : Rules) (base : Book) (a : Attempt) (reason : Bytes) (at : ℕ) → Comes u (handed_out base a) (Failure 1 reason at ∷ []) (handed_out base a)
 tells_nothing u base a reason at = (handed_out base a, (refl, refl))
+
+---- Worlds written out: what stands in them is told by no step of the definition
+
+-- A stop while commands wait and a commit is under way: nothing waits any more, nobody has a receipt, and what was found is all that a
+-- further stop may leave. The batch is still in hand, until the store is opened again.
+crashed : Book → Command → World
+crashed base c =
+    record {
+      base = base;
+      inbox = [];
+      batch = c ∷ [];
+      log = [];
+      may = base ∷ [];
+      opening = 0;
+      published = 0;
+      receipts = [];
+      dispatched = [];
+      stage = Stopped;
+    }
+
+crash_empties_inbox : (u : Rules) (base : Book) (c d e : Command) → Comes u (first base) (Submit c ∷ Submit d ∷ Submit e ∷ Take 1 ∷ CommitBegins ∷ Crash base ∷ []) (crashed base c)
+unfolding crashed
+crash_empties_inbox u base c d e =
+    let w1 = submitted (first base) Idle c in
+    let w2 = submitted w1 Idle d in
+    let w3 = submitted w2 Idle e in
+    let w4 = taken w3 Idle 1 in
+    let w5 = commit_begun u w4 Writing in
+    (w1, (refl, (w2, (refl, (w3, (refl, (w4, (refl, (w5, (refl, (stopped w5 base, (((0, omega arith, refl), refl), refl))))))))))))
+
+-- and what waited is in no life behind it
+none_waits : (u : Rules) (base : Book) (c d e : Command)
+    → Comes u (first base) (Submit c ∷ Submit d ∷ Submit e ∷ Take 1 ∷ CommitBegins ∷ Crash base ∷ Reopen ∷ Take 1 ∷ Publish ∷ []) (first base)
+none_waits u base c d e =
+    let w1 = submitted (first base) Idle c in
+    let w2 = submitted w1 Idle d in
+    let w3 = submitted w2 Idle e in
+    let w4 = taken w3 Idle 1 in
+    let w5 = commit_begun u w4 Writing in
+    let w6 = stopped w5 base in
+    let w7 = first base in
+    (w1, (refl, (w2, (refl, (w3, (refl, (w4, (refl, (w5, (refl, (w6, (((0, omega arith, refl), refl), (w7, (inl ((0, omega arith, refl), refl), (w7, (refl, (w7, (refl, refl))))))))))))))))))
+
+-- A batch was taken and couldn't be rolled back: nothing was committed, so a stop leaves the book before it alone; the batch is in hand,
+-- and what waits goes on waiting.
+refused : Book → Command → Command → World
+refused base c d =
+    record {
+      base = base;
+      inbox = d ∷ [];
+      batch = c ∷ [];
+      log = [];
+      may = base ∷ [];
+      opening = 0;
+      published = 0;
+      receipts = [];
+      dispatched = [];
+      stage = Halted;
+    }
+
+rollback_refused : (u : Rules) (base : Book) (c d : Command) → Comes u (first base) (Submit c ∷ Submit d ∷ Take 1 ∷ RefusedRollback ∷ Publish ∷ []) (refused base c d)
+unfolding refused
+rollback_refused u base c d =
+    let w1 = submitted (first base) Idle c in
+    let w2 = submitted w1 Idle d in
+    let w3 = taken w2 Idle 1 in
+    let w4 = not_rolled_back w3 Writing in
+    (w1, (refl, (w2, (refl, (w3, (refl, (w4, (refl, (published_in u w4 Halted, (refl, refl))))))))))

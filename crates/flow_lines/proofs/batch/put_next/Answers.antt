@@ -1,4 +1,4 @@
-use Rattle.flow_lines.proofs.Batches.{ended_left, one_gathered, one_more_command}
+use Rattle.flow_lines.proofs.Batches.{ended_left, ends_next, one_gathered, one_more_command}
 use Rattle.flow_lines.proofs.batch.put_next.Goals as goal
 
 pub returns-in-Ok-clause-gathered : goal.returns-in-Ok-clause-gathered
@@ -8,3 +8,6 @@ returns-in-Ok-clause-gathered g c =
 
 pub returns-in-Ok-clause-more : goal.returns-in-Ok-clause-more
 returns-in-Ok-clause-more g c = one_more_command _ _ c.as_slice.result.now c.in-Ok.ensures.commands
+
+pub returns-in-Ok-clause-last : goal.returns-in-Ok-clause-last
+returns-in-Ok-clause-last g c = ends_next _ _ _ _ c.as_slice.result.now c.in-Ok.ensures.commands c.in-Ok.ensures.marks
