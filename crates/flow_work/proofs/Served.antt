@@ -4,6 +4,7 @@ use Rattle.std.proofs.lemmas.Option.{same_Some, none-some}
 use mathlib.Core.List.{IsPrefix}
 use Rattle.sqlite_trees.specs.declared.store.Store.{Ghosts}
 use Rattle.flow_base.specs.declared.command.Command.{Command}
+use Rattle.flow_base.specs.declared.fault.Fault.{Fault}
 use Rattle.flow_lines.specs.declared.reply.Line.{Line}
 use Rattle.flow_lines.specs.declared.reply.Line.TheVariants as line
 use Rattle.flow_machine.specs.declared.submission.Receipt.{Receipt}
@@ -26,9 +27,9 @@ use Rattle.flow_hub.specs.declared.ticket.Why.TheVariants as why
 use Rattle.flow_hub.proofs.Growing.{prefix_trans}
 use Rattle.flow_hub.proofs.Lists.{get_front, stands_on}
 use Rattle.flow_serve.specs.Posting.{Posts}
-use Rattle.flow_serve.specs.Serving.{HasServed}
+use Rattle.flow_serve.specs.Serving.{EndsFor, GivesUp, HasServed}
 use Rattle.flow_work.specs.Counting.{AreAnswered, Answered, Counted, replies_in}
-use Rattle.flow_work.specs.Endings.{IsToldOf, line_instead}
+use Rattle.flow_work.specs.Endings.{EndsServing, HasServedAll, IsToldOf, line_instead}
 use Rattle.flow_work.specs.Moments.{command_at}
 use Rattle.flow_work.specs.Printing.{Printed}
 use Rattle.flow_work.specs.Questions.{line_served}
@@ -168,4 +169,25 @@ served_on g tells old now k l waiting none t h p = record {
   waiting = waiting;
   served = subst (λ (x : Known). HasServed g old now x.refused l.refused waiting) none h;
   posts = subst (λ (x : Known). Posts g tells now x.posted l.posted) none p;
+}
+
+-- what has kept nothing and what was told nothing stand together
+pub together_new : {S : Type 0} (g : Ghosts S) (old : Keeping S) (k : Known) → old.log ≡ [] → k ≡ nothing → Together (account_of g old) k
+together_new g old k fresh none = subst (λ (x : Known). Together (account_of g old) x) (sym none) (record { log = fresh; over = tt; none = refl })
+
+-- it has served such a hub to the end
+pub served_all : {S : Type 0} (g : Ghosts S) (old now : Keeping S) (k l : Known) → k ≡ nothing → GivesUp k.refused l.refused → HasServed g old now k.refused l.refused [] → HasServedAll g old now
+served_all g old now k l none gives h = record {
+  now = l.refused;
+  given_up = subst (λ (x : Known). GivesUp x.refused l.refused) none gives;
+  served = subst (λ (x : Known). HasServed g old now x.refused l.refused []) none h;
+}
+
+-- or until a fault ended it
+pub ends_serving : {S : Type 0} (g : Ghosts S) (old now : Keeping S) (k l : Known) (f : Fault) → k ≡ nothing → (waiting : List Taken) × EndsFor old now k.refused l.refused waiting f
+    → (waiting : List Taken) × HasServed g old now k.refused l.refused waiting → EndsServing g old now f
+ends_serving g old now k l f none how h = record {
+  now = l.refused;
+  how = (how.0, subst (λ (x : Known). EndsFor old now x.refused l.refused how.0 f) none how.1);
+  served = (h.0, subst (λ (x : Known). HasServed g old now x.refused l.refused h.0) none h.1);
 }

@@ -473,7 +473,6 @@ pub(crate) fn open_hub<B: Room>(alloc: Global, opened: Opened) -> Result<Parts<B
 }
 
 /// Serves a hub that was just made, until it is closed and nothing waits, or the engine serves no more.
-#[tactic(auto, using(crate::proofs::Served::served_on))]
 pub(crate) fn serve_new<S: Alter, B: Room, R: Wait, C: Clock>(
     rt: &R,
     engine: &mut Engine<S>,

@@ -1,7 +1,9 @@
-use Rattle.std.proofs.Common.{inl, ◌++◌}
+use Rattle.std.proofs.Common.{inl, ◌++◌, refl}
+use Rattle.flow_commit.specs.Keeping.{account_of}
+use Rattle.flow_hub.proofs.Growing.{before_trans}
 use Rattle.flow_serve.proofs.Posted.{later_self, posts_none, posts_still}
 use Rattle.flow_serve.proofs.Served.{boarded_behind, served_behind, unboarded, unserved}
-use Rattle.flow_serve.proofs.Serving.{turned_behind}
+use Rattle.flow_serve.proofs.Serving.{follows_self, together_still, turned_behind}
 use Rattle.flow_serve.proofs.server.serve.Goals as goal
 
 -- a batch has halted the engine, and what waits is turned away
@@ -50,3 +52,35 @@ returns-in-Err-clause-boards g c =
           c.turn_away-in-Err.new.publisher.refused c.turn_away-in-Err.new.publisher.posted t.0 t.1
           c.turn_away-in-Err.ensures.posted,
     )
+
+-- what is turned away changes nothing that is kept
+pub returns-in-Err-serve_all-clause-together : goal.returns-in-Err-serve_all-clause-together
+returns-in-Err-serve_all-clause-together g c =
+    let t = c.turn_away.ensures in
+    together_still (account_of g.S.Store c.serve_all.new.engine) c.serve_all.new.publisher c.turn_away.new.publisher
+    c.serve_all.ensures.together t.history.0 t.history.1 t.none
+
+pub returns-in-Err-clause-together : goal.returns-in-Err-clause-together
+returns-in-Err-clause-together g c =
+    let t = c.turn_away-in-Err.ensures in
+    together_still (account_of g.S.Store c.args.engine.now) c.args.publisher.now c.turn_away-in-Err.new.publisher
+    c.requires.together t.history.0 t.history.1 t.none
+
+pub returns-in-Err-serve_all-clause-found : goal.returns-in-Err-serve_all-clause-found
+returns-in-Err-serve_all-clause-found g c = c.serve_all.ensures.found
+
+pub returns-in-Err-clause-found : goal.returns-in-Err-clause-found
+returns-in-Err-clause-found g c = refl
+
+pub returns-in-Err-serve_all-clause-follows : goal.returns-in-Err-serve_all-clause-follows
+returns-in-Err-serve_all-clause-follows g c = c.serve_all.ensures.follows
+
+pub returns-in-Err-clause-follows : goal.returns-in-Err-clause-follows
+returns-in-Err-clause-follows g c = follows_self g.S.Store c.args.engine.now
+
+pub returns-in-Err-serve_all-clause-grows : goal.returns-in-Err-serve_all-clause-grows
+returns-in-Err-serve_all-clause-grows g c =
+    before_trans c.args.publisher.now c.serve_all.new.publisher c.turn_away.new.publisher c.serve_all.ensures.grows c.turn_away.ensures.grows
+
+pub returns-in-Err-clause-grows : goal.returns-in-Err-clause-grows
+returns-in-Err-clause-grows g c = c.turn_away-in-Err.ensures.grows

@@ -1,12 +1,14 @@
-use Rattle.std.proofs.Common.{rules, ◌≡◌, ◌≤◌, true, suc, List, length, sym, ◌∙◌, subst, true≢false}
+use Rattle.std.proofs.Common.{rules, ◌≡◌, ◌≤◌, true, suc, List, [], ◌∷◌, ◌++◌, length, sym, ap, ◌∙◌, subst, true≢false}
 use Rattle.std.proofs.lemmas.Result.{err_from_is_err_and}
 use Rattle.flow_machine.specs.declared.submission.Taken.{Taken}
+use Rattle.flow_commit.specs.Keeping.{account_of}
 use Rattle.flow_queues.specs.declared.refused.Refused.{Refused}
+use Rattle.flow_hub.specs.Knowing.{IsOver}
 use Rattle.flow_hub.proofs.Growing.{before_trans}
 use Rattle.flow_serve.specs.Serving.{GivesUp, HasAnswered, IsBatch, StopsAt}
 use Rattle.flow_serve.proofs.Posted.{answered_later, later_self, posts_still, posts_then, still_later}
 use Rattle.flow_serve.proofs.Served.{Served, boarded_done, boarded_first, boarded_last, boarded_more, has_served, served_more}
-use Rattle.flow_serve.proofs.Serving.{follows_then, gives_none, gives_then, stops_behind}
+use Rattle.flow_serve.proofs.Serving.{follows_then, gives_none, gives_then, stops_behind, together_still}
 use Rattle.flow_serve.proofs.server.serve_all.Goals as goal
 
 -- the batch that stops the engine is behind those that didn't
@@ -171,3 +173,52 @@ returns-then-not-take-clause-ended g c = c.take.ensures.taken.ended ∙ c.loop.i
 
 pub returns-in_err-commit_taken-clause-ended : goal.returns-in_err-commit_taken-clause-ended
 returns-in_err-commit_taken-clause-ended g c = c.commit_taken.ensures.ended ∙ (c.take.ensures.taken.ended ∙ c.loop.invariant.ended)
+
+-- what is taken stands beside what the engine has kept
+pub commit_taken-requires : goal.commit_taken-requires
+commit_taken-requires g c =
+    let i = c.loop.invariant.together in
+    let t = c.take.ensures.taken in
+    record {
+      hand = record {
+        log = i.log ∙ sym t.history;
+        over = subst (λ ks. IsOver ks (account_of g.S.Store c.loop.engine ∷ [])) (sym t.last) i.over;
+        taken = t.held ∙ (ap (λ (ts : List Taken). ts ++ c.take.new.into.items) i.none ∙ sym c.of.ensures);
+      };
+    }
+
+pub post_board-in-loop-requires : goal.post_board-in-loop-requires
+post_board-in-loop-requires g c = record { together = c.commit_taken.ensures.together }
+
+pub returns-then-not-take-clause-together : goal.returns-then-not-take-clause-together
+returns-then-not-take-clause-together g c =
+    let i = c.loop.invariant.together in
+    let t = c.take.ensures.taken in
+    let none = c.take.ensures.none c.if-not-take.true in
+    together_still (account_of g.S.Store c.loop.engine) c.loop.publisher c.take.new.self i t.history t.last
+    (t.held ∙ (ap (λ (ts : List Taken). ts ++ c.take.new.into.items) i.none ∙ none.0))
+
+pub returns-then-not-take-clause-given_up : goal.returns-then-not-take-clause-given_up
+returns-then-not-take-clause-given_up g c = subst (GivesUp c.args.publisher.now.refused) (sym c.take.ensures.taken.refused) c.loop.invariant.gives
+
+pub returns-then-not-take-clause-goes_on : goal.returns-then-not-take-clause-goes_on
+returns-then-not-take-clause-goes_on g c = c.loop.invariant.halted
+
+pub returns-then-not-take-clause-found : goal.returns-then-not-take-clause-found
+returns-then-not-take-clause-found g c = c.loop.invariant.found
+
+pub returns-then-not-take-clause-follows : goal.returns-then-not-take-clause-follows
+returns-then-not-take-clause-follows g c = c.loop.invariant.follows
+
+pub returns-then-not-take-clause-grows : goal.returns-then-not-take-clause-grows
+returns-then-not-take-clause-grows g c = before_trans c.args.publisher.now c.loop.publisher c.take.new.self c.loop.invariant.grows c.take.ensures.grows
+
+pub returns-in_err-commit_taken-clause-together : goal.returns-in_err-commit_taken-clause-together
+returns-in_err-commit_taken-clause-together g c = c.commit_taken.ensures.together
+
+pub returns-in_err-commit_taken-clause-found : goal.returns-in_err-commit_taken-clause-found
+returns-in_err-commit_taken-clause-found g c = c.commit_taken.ensures.found ∙ c.loop.invariant.found
+
+pub returns-in_err-commit_taken-clause-follows : goal.returns-in_err-commit_taken-clause-follows
+returns-in_err-commit_taken-clause-follows g c =
+    follows_then g.S.Store c.args.engine.now c.loop.engine c.commit_taken.new.engine c.loop.invariant.follows c.commit_taken.ensures.follows

@@ -1,4 +1,5 @@
-use Rattle.std.proofs.Common.{subst}
+use Rattle.std.proofs.Common.{refl, subst}
+use Rattle.flow_serve.proofs.Serving.{follows_self}
 use Rattle.flow_work.specs.Counting.{Counted}
 use Rattle.flow_work.specs.Questions.{line_served}
 use Rattle.flow_work.proofs.Served.{shows}
@@ -15,3 +16,29 @@ returns-in-Ok-clause-shown g c =
     let now : Counted line_served tells first told.feed told.submitter told.lines told.page = subst (λ (k : g.row.C.Denot). Counted line_served (g.C.Clock.tells k) first told.feed told.submitter told.lines told.page) c.in-Ok.ensures.owed.1 counted in
     shows g.S.Store tells c.args.engine.now c.serve_new-served.new.engine first (g.W.Write.contents printed.ended.writer) printed.is_mute told.lines printed.lines printed.shown told.feed c.serve_new-served.new.publisher after.new.publisher
     told.submitter told.page now c.serve_new-served.ensures.hub after.ensures.part after.ensures.submitter after.ensures.feed after.ensures.printed.0 after.ensures.printed.1 after.ensures.lines after.ensures.printed.2
+
+-- it has served
+pub returns-in-Ok-clause-served : goal.returns-in-Ok-clause-served
+returns-in-Ok-clause-served g c = rw c.taken_back.ensures.served c.serve_new-served.ensures.served
+
+pub returns-in-Ok-clause-ends : goal.returns-in-Ok-clause-ends
+returns-in-Ok-clause-ends g c = rw c.taken_back.ensures.served c.serve_new-served.ensures.ends
+
+pub returns-in-Ok-clause-goes_on : goal.returns-in-Ok-clause-goes_on
+returns-in-Ok-clause-goes_on g c = rw c.taken_back.ensures.served c.serve_new-served.ensures.goes_on
+
+pub returns-in-Ok-clause-found : goal.returns-in-Ok-clause-found
+returns-in-Ok-clause-found g c = c.serve_new-served.ensures.found
+
+pub returns-in-Ok-clause-follows : goal.returns-in-Ok-clause-follows
+returns-in-Ok-clause-follows g c = c.serve_new-served.ensures.follows
+
+-- nothing was begun
+pub returns-in-Err-clause-unserved : goal.returns-in-Err-clause-unserved
+returns-in-Err-clause-unserved g c = (c.in-Err.ensures.refused, refl)
+
+pub returns-in-Err-clause-found : goal.returns-in-Err-clause-found
+returns-in-Err-clause-found g c = refl
+
+pub returns-in-Err-clause-follows : goal.returns-in-Err-clause-follows
+returns-in-Err-clause-follows g c = follows_self g.S.Store c.args.engine.now
