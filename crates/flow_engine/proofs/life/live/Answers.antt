@@ -12,8 +12,8 @@ returns-in-Ok-driven-clause-lived g c clean = record {
 }
 
 -- Memory was wanting before the first batch: nothing was driven.
-pub returns-in-Ok-clause-early : goal.returns-in-Ok-clause-early
-returns-in-Ok-clause-early g c clean =
+pub returns-in-Err-driven-clause-early : goal.returns-in-Err-driven-clause-early
+returns-in-Err-driven-clause-early g c clean =
     let first = c.in-Ok.engine in
     let early = c.in-Err-driven.ensures.early in
     let was : HasCleanDisk (state g.S.Store first.stored.held) = subst (λ (h : Held g.row.S.Denot). HasCleanDisk (state g.S.Store h)) early.1 clean in
@@ -23,5 +23,5 @@ returns-in-Ok-clause-early g c clean =
       is = (was, c.in-Ok.ensures.opens, c.found.ensures.found, runs_none g.S.Store first);
     }))
 
-pub returns-clause-early : goal.returns-clause-early
-returns-clause-early g c clean = inl (clean, c.in-Err.ensures.refused)
+pub returns-in-Err-clause-early : goal.returns-in-Err-clause-early
+returns-in-Err-clause-early g c clean = inl (clean, c.in-Err.ensures.refused)
