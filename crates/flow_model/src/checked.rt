@@ -1,25 +1,30 @@
 ghost use Rattle.std.specs.Prelude.{◌≡◌};
 ghost use Rattle.flow_base.specs.Shown.{shown_program};
+ghost use Rattle.flow_nodes.specs.Links.{block_at};
 ghost use Rattle.flow_model.specs.WellFormed.{WellFormed};
 
 use flow_base::syntax::Program;
+use flow_nodes::linked::Linked;
 
-/// A program that keeps the checking rules.
+/// A program that keeps the checking rules, and its table, which all its runs share.
 #[derive(Debug, Drop)]
 pub struct Checked {
     program: Program,
+    table: Linked,
     pub ghost well_formed: { WellFormed (shown_program program) },
+    pub ghost tabled: { block_at table.lists.items table.body ≡ (shown_program program).body },
 }
 
 impl Checked {
     ghost use Rattle.flow_model.specs.Checked.{shown_checked};
 
-    /// A program that keeps the rules, which whoever makes one has shown.
-    pub fn of(program: Program) -> Checked
-        requires { WellFormed (shown_program program) }
+    /// A program that keeps the rules, which whoever makes one has shown, and the table of it.
+    pub fn of(program: Program, table: Linked) -> Checked
+        requires well_formed { WellFormed (shown_program program) }
+        requires tabled { block_at table.lists.items table.body ≡ (shown_program program).body }
         ensures { shown_checked result ≡ shown_program program }
     {
-        Checked { program }
+        Checked { program, table }
     }
 
     /// The program that was checked.
@@ -28,5 +33,12 @@ impl Checked {
         ensures well_formed { WellFormed (shown_checked self.now) }
     {
         &self.program
+    }
+
+    /// Its table.
+    pub fn table(&self) -> &Linked
+        ensures { block_at result.now.lists.items result.now.body ≡ (shown_checked self.now).body }
+    {
+        &self.table
     }
 }

@@ -1,5 +1,11 @@
+pub mod Counts
+pub mod Ending
 pub mod First
-pub mod Lefts
-pub mod Stores
+pub mod Forest
+pub mod Overs
+pub mod Parts
+pub mod Replacing
+pub mod Stepping
+pub mod Steps
 pub mod Turns
-pub mod Deprecated
+pub mod Walking

@@ -1,0 +1,209 @@
+ghost use Rattle.std.specs.Prelude.{◌≡◌, ◌∷◌, [], IfOk, OnOk, map};
+ghost use Rattle.flow_base.specs.Shown.{shown_block, shown_program, shown_stmt, shown_braced, shown_branch, branches_of};
+ghost use Rattle.flow_nodes.specs.Links.{AreLinked, Grows, IsLinked, LeadAll, LeadsTo, block_at};
+
+use crate::table::{Links, Listing, Table};
+use flow_base::syntax::{Block, Branch, Program, Stmt};
+use flow_base::text::Key;
+use std::alloc::{AllocError, Global};
+use std::sync::Arc;
+
+/// The table of a program.
+pub fn table_of(alloc: Global, program: &Program) -> Result<Table, AllocError>
+    ensures body { IfOk result (λ t. block_at t.lists.items t.body ≡ (shown_program program.now).body) }
+    ensures linked { IfOk result (λ t. AreLinked t.lists.items) }
+{
+    let mut lists = Vec::new(alloc);
+    let body = add_list(alloc, &program.body, &mut lists)?;
+    let names = names_of(alloc, program)?;
+    Ok(Table { lists, body, names })
+}
+
+// A list of statements, behind those within it; gives its number.
+#[cycle(lists)]
+fn add_list(
+    alloc: Global,
+    stmts: &Arc<Vec<Stmt>>,
+    lists: &mut Vec<Listing>,
+) -> Result<usize, AllocError>
+    requires { AreLinked lists.old.items }
+    ensures list { IfOk result (λ n. LeadsTo lists.new.items n (shown_block stmts.now.value.items)) }
+    ensures grows { OnOk result (Grows lists.old.items lists.new.items) }
+    ensures linked { OnOk result (AreLinked lists.new.items) }
+{
+    let mut links = Vec::new(alloc);
+    for stmt in stmts.as_slice() {
+        links.push(add_within(alloc, stmt, lists)?)?;
+    }
+    let number = lists.len();
+    let stmts = stmts.clone()?;
+    lists.push(Listing { stmts, links })?;
+    Ok(number)
+}
+
+// The lists within a statement.
+#[cycle(lists)]
+fn add_within(
+    alloc: Global,
+    stmt: &Stmt,
+    lists: &mut Vec<Listing>,
+) -> Result<Links, AllocError>
+    requires { AreLinked lists.old.items }
+    ensures links { IfOk result (λ k. IsLinked lists.new.items (shown_stmt stmt.now) k) }
+    ensures grows { OnOk result (Grows lists.old.items lists.new.items) }
+    ensures linked { OnOk result (AreLinked lists.new.items) }
+{
+    match stmt {
+        Stmt::Call(_, _, _, _, _, _, Some(late)) => add_one(alloc, late, lists),
+        Stmt::WaitSignalFor(_, _, _, _, _, late) => add_one(alloc, late, lists),
+        Stmt::If(_, _, a, b) => add_both(alloc, a, b, lists),
+        Stmt::While(_, _, b) => add_one(alloc, b, lists),
+        Stmt::Parallel(_, first, others, _) => add_branches(alloc, first, others, lists),
+        Stmt::Patch(_, _, _, a, b) => add_both(alloc, a, b, lists),
+        _ => Ok(none(alloc)),
+    }
+}
+
+// No list.
+fn none(alloc: Global) -> Links
+    ensures { result.branches.items ≡ [] }
+{
+    Links {
+        first: 0,
+        second: 0,
+        branches: Vec::new(alloc),
+    }
+}
+
+#[cycle(lists)]
+fn add_one(alloc: Global, a: &Block, lists: &mut Vec<Listing>) -> Result<Links, AllocError>
+    requires { AreLinked lists.old.items }
+    ensures list { IfOk result (λ k. LeadsTo lists.new.items k.first (shown_braced a.now).0 × (k.branches.items ≡ [])) }
+    ensures grows { OnOk result (Grows lists.old.items lists.new.items) }
+    ensures linked { OnOk result (AreLinked lists.new.items) }
+{
+    let first = add_list(alloc, &a.list, lists)?;
+    Ok(Links {
+        first,
+        second: 0,
+        branches: Vec::new(alloc),
+    })
+}
+
+#[cycle(lists)]
+fn add_both(
+    alloc: Global,
+    a: &Block,
+    b: &Block,
+    lists: &mut Vec<Listing>,
+) -> Result<Links, AllocError>
+    requires { AreLinked lists.old.items }
+    ensures first { IfOk result (λ k. LeadsTo lists.new.items k.first (shown_braced a.now).0) }
+    ensures second { IfOk result (λ k. LeadsTo lists.new.items k.second (shown_braced b.now).0) }
+    ensures none { IfOk result (λ k. k.branches.items ≡ []) }
+    ensures grows { OnOk result (Grows lists.old.items lists.new.items) }
+    ensures linked { OnOk result (AreLinked lists.new.items) }
+{
+    let first = add_list(alloc, &a.list, lists)?;
+    let second = add_list(alloc, &b.list, lists)?;
+    Ok(Links {
+        first,
+        second,
+        branches: Vec::new(alloc),
+    })
+}
+
+#[cycle(lists)]
+fn add_branches(
+    alloc: Global,
+    first: &Branch,
+    others: &[Branch],
+    lists: &mut Vec<Listing>,
+) -> Result<Links, AllocError>
+    requires { AreLinked lists.old.items }
+    ensures branches { IfOk result (λ k. LeadAll lists.new.items k.branches.items (branches_of (shown_branch first.now ∷ map shown_branch others.now))) }
+    ensures grows { OnOk result (Grows lists.old.items lists.new.items) }
+    ensures linked { OnOk result (AreLinked lists.new.items) }
+{
+    let mut branches = Vec::new(alloc);
+    branches.push(add_list(alloc, &first.body.list, lists)?)?;
+    for branch in others {
+        branches.push(add_list(alloc, &branch.body.list, lists)?)?;
+    }
+    Ok(Links {
+        first: 0,
+        second: 0,
+        branches,
+    })
+}
+
+// So many names at most have a number from the first: a text with more is read no slower for that.
+const MOST_NAMES: usize = 64;
+
+// The names of parameters, and of variables in the order in which statements give them a value.
+fn names_of(alloc: Global, program: &Program) -> Result<Arc<Vec<Key>>, AllocError> {
+    let mut names = Vec::new(alloc);
+    for p in &program.parameters {
+        add_name(alloc, &mut names, &p.name)?;
+    }
+    add_names(alloc, program.body.as_slice(), &mut names)?;
+    Ok(Arc::new(alloc, names)?)
+}
+
+fn add_name(alloc: Global, names: &mut Vec<Key>, name: &Key) -> Result<(), AllocError> {
+    if names.len() < MOST_NAMES && !is_among(names, name) {
+        names.push(name.copy(alloc)?)?;
+    }
+    Ok(())
+}
+
+fn is_among(names: &[Key], name: &Key) -> bool {
+    for n in names {
+        if n.is(name) {
+            return true;
+        }
+    }
+    false
+}
+
+#[cycle(names)]
+fn add_names(alloc: Global, stmts: &[Stmt], names: &mut Vec<Key>) -> Result<(), AllocError> {
+    for stmt in stmts {
+        add_names_within(alloc, stmt, names)?;
+    }
+    Ok(())
+}
+
+#[cycle(names)]
+fn add_names_within(alloc: Global, stmt: &Stmt, names: &mut Vec<Key>) -> Result<(), AllocError> {
+    match stmt {
+        Stmt::Let(_, _, x, _) => add_name(alloc, names, x),
+        Stmt::Call(_, x, _, _, _, _, None) => add_name(alloc, names, x),
+        Stmt::Call(_, x, _, _, _, _, Some(late)) => {
+            add_name(alloc, names, x)?;
+            add_names(alloc, late.list.as_slice(), names)
+        }
+        Stmt::WaitSignal(_, x, _, _) => add_name(alloc, names, x),
+        Stmt::WaitSignalFor(_, x, _, _, _, late) => {
+            add_name(alloc, names, x)?;
+            add_names(alloc, late.list.as_slice(), names)
+        }
+        Stmt::If(_, _, a, b) => {
+            add_names(alloc, a.list.as_slice(), names)?;
+            add_names(alloc, b.list.as_slice(), names)
+        }
+        Stmt::While(_, _, b) => add_names(alloc, b.list.as_slice(), names),
+        Stmt::Parallel(_, first, others, _) => {
+            add_names(alloc, first.body.list.as_slice(), names)?;
+            for branch in others {
+                add_names(alloc, branch.body.list.as_slice(), names)?;
+            }
+            Ok(())
+        }
+        Stmt::Patch(_, _, _, a, b) => {
+            add_names(alloc, a.list.as_slice(), names)?;
+            add_names(alloc, b.list.as_slice(), names)
+        }
+        _ => Ok(()),
+    }
+}

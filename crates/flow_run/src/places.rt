@@ -1,0 +1,65 @@
+ghost use Rattle.std.specs.Prelude.{◌≡◌, ◌<◌, ◌+◌, not, length, IfOk, All, take, drop, true, false, map};
+ghost use Rattle.flow_model.specs.Rest.{is_end, rest_of};
+ghost use Rattle.flow_run.specs.Marks.{within};
+ghost use Rattle.flow_run.specs.Flat.{AreFullPlaces, IsFull, IsNextOf, blocks_of, is_task, left_at, shown_doing};
+ghost use Rattle.flow_nodes.specs.Links.{block_at, stmts_at};
+
+use crate::cell::{Doing, Place};
+use flow_nodes::table::Table;
+use flow_values::fault::Fault;
+use std::alloc::Global;
+
+// Whether statements are left at a place behind its first.
+#[tactic(auto, using(crate::proofs::Parts::begun_part, crate::proofs::Parts::ended_part, crate::proofs::Parts::ended_list))]
+fn has_more(table: &Table, place: Place) -> bool
+    requires { IsFull table.now.lists.items place }
+    ensures { result ≡ not (is_end (left_at table.now.lists.items (record { list = place.list; at = place.at + 1; to = place.to }))) }
+{
+    let count = table.stmts(place.list).len();
+    if place.at >= count - 1 {
+        return false;
+    }
+    if place.at + 1 >= place.to {
+        return false;
+    }
+    true
+}
+
+/// The statement that is next of a task, which its places then are behind.
+pub fn advance(table: &Table, places: &mut Vec<Place>) -> Option<Place>
+    requires { AreFullPlaces table.now.lists.items places.old.items }
+    ensures next { IsNextOf table.now.lists.items places.old.items places.new.items result }
+    ensures full { AreFullPlaces table.now.lists.items places.new.items }
+{
+    let count = places.len();
+    if count == 0 {
+        return None;
+    }
+    let place = places[count - 1];
+    if has_more(table, place) {
+        places[count - 1].at += 1;
+    } else {
+        let _last = places.pop();
+    }
+    Some(place)
+}
+
+/// A list begins.
+pub fn enter(
+    alloc: Global,
+    table: &Table,
+    places: &mut Vec<Place>,
+    list: usize,
+) -> Result<Doing, Fault>
+    requires { AreFullPlaces table.now.lists.items places.old.items }
+    ensures rest { IfOk result (λ d. within (blocks_of table.now.lists.items places.new.items) (shown_doing table.now.lists.items d) ≡ within (blocks_of table.now.lists.items places.old.items) (rest_of (block_at table.now.lists.items list))) }
+    ensures full { IfOk result (λ _. AreFullPlaces table.now.lists.items places.new.items) }
+    ensures task { IfOk result (λ d. is_task d ≡ true) }
+{
+    let to = table.stmts(list).len();
+    if to == 0 {
+        return Ok(Doing::Empty);
+    }
+    places.push(Place { list, at: 0, to })?;
+    Ok(Doing::Over)
+}

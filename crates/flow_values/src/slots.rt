@@ -1,0 +1,194 @@
+ghost use Rattle.std.specs.Prelude.{◌≡◌, ◌∷◌, [], ◌++◌, ◌<◌, length, IfOk, OnOk, OnErr, MatchOption, None, Some, Option, List};
+ghost use Rattle.flow_base.specs.declared.value.Value.{Value as AValue};
+ghost use Rattle.flow_model.specs.Values.{with_variable, none_set};
+ghost use Rattle.flow_values.specs.Slots.{slot_of, slots, IsNumber, written};
+
+use crate::evaluate::Vars;
+use flow_base::text::Key;
+use flow_base::value::Value;
+use std::alloc::{AllocError, Global};
+use std::marker::Model;
+use std::sync::Arc;
+
+/// The values of variables, each by the number of its name in a list of names. What is shared are the same lists until one of the
+/// two changes; the names change only where a name gets a value that isn't among them.
+#[derive(Debug, Drop)]
+pub struct Slots {
+    names: Arc<Vec<Key>>,
+    /// None where no variable has a value yet, which takes no memory. A number past the end has none.
+    values: Option<Arc<Vec<Option<Value>>>>,
+}
+
+impl Model for Slots {
+    ghost use Rattle.std.specs.Prelude.{List, ℕ, Option};
+    ghost use Rattle.flow_base.specs.declared.value.Value.{Value as AValue};
+    ghost use Rattle.flow_values.specs.Held.{held};
+    ghost use Rattle.flow_values.specs.Slots.{slots};
+
+    ghost Value = { List (List ℕ × Option AValue) };
+
+    ghost view = { λ s. slots s.names.value.items (held s.values (λ a. a.value.items)) };
+}
+
+impl Slots {
+    /// No variable has a value.
+    pub fn new(names: Arc<Vec<Key>>) -> Slots
+        ensures { slot_of result ≡ none_set }
+    {
+        Slots {
+            names,
+            values: None,
+        }
+    }
+
+    /// The same values, not a copy of them.
+    pub fn share(&self) -> Result<Slots, AllocError>
+        ensures { IfOk result (λ s. s ≡ self.now) }
+    {
+        let names = self.names.clone()?;
+        match &self.values {
+            Some(values) => {
+                let values = Some(values.clone()?);
+                Ok(Slots { names, values })
+            }
+            None => Ok(Slots {
+                names,
+                values: None,
+            }),
+        }
+    }
+
+    /// Gives a variable a value.
+    ///
+    /// # Failure
+    /// E01.
+    pub fn set(&mut self, alloc: Global, name: &Key, value: Value) -> Result<(), AllocError>
+        ensures { OnOk result (slot_of self.new ≡ with_variable (slot_of self.old) name.now value) }
+    {
+        match number(&self.names, name) {
+            Some(i) => write(alloc, &mut self.values, i, value)?,
+            None => {
+                let names = with_name(alloc, &self.names, name)?;
+                write(alloc, &mut self.values, self.names.len(), value)?;
+                self.names = names;
+            }
+        }
+        Ok(())
+    }
+
+    /// The value of a variable, if it has one.
+    pub fn find(&self, name: &str) -> Option<&Value>
+        ensures { MatchOption result (slot_of self.now name.now ≡ None) (λ v. slot_of self.now name.now ≡ Some v.now) }
+    {
+        for (i, n) in self.names.iter().enumerate() {
+            if name == n.as_str() {
+                return self.value(i);
+            }
+        }
+        None
+    }
+
+    // What a number has.
+    fn value(&self, i: usize) -> Option<&Value> {
+        match &self.values {
+            Some(values) => match values.get(i) {
+                Some(value) => value.as_ref(),
+                None => None,
+            },
+            None => None,
+        }
+    }
+}
+
+impl Vars for Slots {
+    ghost use Rattle.flow_values.specs.Slots.{slot_of};
+
+    ghost variables = { slot_of };
+
+    fn get(&self, name: &Key) -> Option<&Value> {
+        self.find(name.as_str())
+    }
+}
+
+// The number of a name.
+fn number(names: &[Key], name: &Key) -> Option<usize> {
+    for (i, n) in names.iter().enumerate() {
+        if n.is(name) {
+            return Some(i);
+        }
+    }
+    None
+}
+
+// The names, and one more.
+fn with_name(alloc: Global, names: &[Key], name: &Key) -> Result<Arc<Vec<Key>>, AllocError> {
+    let mut list = Vec::new(alloc);
+    for n in names {
+        list.push(n.copy(alloc)?)?;
+    }
+    list.push(name.copy(alloc)?)?;
+    Ok(Arc::new(alloc, list)?)
+}
+
+// A number gets a value: values that nobody else has are changed in place, else a copy of them.
+fn write(
+    alloc: Global,
+    values: &mut Option<Arc<Vec<Option<Value>>>>,
+    i: usize,
+    value: Value,
+) -> Result<(), AllocError> {
+    match values {
+        Some(list) => write_shared(alloc, list, i, value)?,
+        None => {
+            let mut own = Vec::new(alloc);
+            write_in(&mut own, i, value)?;
+            *values = Some(Arc::new(alloc, own)?);
+        }
+    }
+    Ok(())
+}
+
+fn write_shared(
+    alloc: Global,
+    values: &mut Arc<Vec<Option<Value>>>,
+    i: usize,
+    value: Value,
+) -> Result<(), AllocError> {
+    match Arc::get_mut(values) {
+        Some(own) => write_in(own, i, value)?,
+        None => {
+            let mut own = copy_values(alloc, values)?;
+            write_in(&mut own, i, value)?;
+            *values = Arc::new(alloc, own)?;
+        }
+    }
+    Ok(())
+}
+
+fn write_in(values: &mut Vec<Option<Value>>, i: usize, value: Value) -> Result<(), AllocError> {
+    while values.len() <= i {
+        values.push(None)?;
+    }
+    values[i] = Some(value);
+    Ok(())
+}
+
+fn copy_values(alloc: Global, values: &[Option<Value>]) -> Result<Vec<Option<Value>>, AllocError> {
+    let mut list = Vec::new(alloc);
+    for v in values {
+        list.push(copy_value(alloc, v)?)?;
+    }
+    Ok(list)
+}
+
+fn copy_value(alloc: Global, value: &Option<Value>) -> Result<Option<Value>, AllocError>
+    ensures { IfOk result (λ v. v ≡ value.now) }
+{
+    match value {
+        Some(v) => {
+            let v = v.copy(alloc)?;
+            Ok(Some(v))
+        }
+        None => Ok(None),
+    }
+}
