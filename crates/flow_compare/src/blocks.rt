@@ -1,15 +1,15 @@
 //! A block of what is read: a text, and a history or a number of turns.
 use crate::compare::{Both, may_go_on, turn_both};
-use crate::inputs::{arguments, next_input};
-use flow_base::event::{Event, Input, What};
+use crate::inputs::{arguments, first_ended, next_input};
+use flow_base::event::{Event, Input, State, What};
 use flow_base::number::Moment;
 use flow_base::text::RawText;
 use flow_check::language::Language;
 use flow_cli::spelling::events_of;
 use flow_model::checked::Checked;
 use flow_model::texts::Texts;
-use flow_plain::plain::unbegun;
-use flow_run::stance::{Answers, Stance};
+use flow_plain::plain::{plain_turn, unbegun};
+use flow_run::stance::{Answers, OpenWait, Stance, turn};
 use std::alloc::{AllocError, Global};
 
 /// The turns of a block, and how many of them both refused.
@@ -57,6 +57,12 @@ fn compare_under(
     history: &str,
 ) -> Result<Outcome, AllocError> {
     let names = words_of(alloc, text)?;
+    if let Some(times) = history.strip_prefix("flat ") {
+        return repeat_flat(alloc, program, times.parse::<u64>().unwrap_or(1));
+    }
+    if let Some(times) = history.strip_prefix("plain ") {
+        return repeat_plain(alloc, program, times.parse::<u64>().unwrap_or(1));
+    }
     match history.parse::<u64>() {
         Ok(turns) => compare_made(alloc, program, &names, turns),
         Err(_) => match events_of(alloc, history) {
@@ -141,4 +147,54 @@ fn made_input(
     }
     let waits = stance.waits(alloc, program)?;
     next_input(alloc, program.program(), &waits, n)
+}
+
+// One interpreter alone, to be timed from outside: it makes so many turns, each run anew once it is over.
+fn repeat_flat(alloc: Global, program: &Checked, turns: u64) -> Result<Outcome, AllocError> {
+    let mut stance = Stance::unbegun(alloc);
+    let mut same = Same { made: 0, refused: 0 };
+    for n in 0..turns {
+        if !may_go_on(stance.state()) {
+            stance = Stance::unbegun(alloc);
+        }
+        if stance.events() >= 1 << 60 {
+            break;
+        }
+        let input = repeated_input(alloc, program, stance.state(), &stance.waits(alloc, program)?, n)?;
+        let at = Moment::new(n).unwrap_or(Moment::last());
+        let made = turn(alloc, &mut stance, program, at, &input, Answers::Fresh);
+        same = same.one_more(made.is_err());
+    }
+    Ok(Outcome::Same(same))
+}
+
+fn repeat_plain(alloc: Global, program: &Checked, turns: u64) -> Result<Outcome, AllocError> {
+    let mut run = unbegun(alloc);
+    let mut same = Same { made: 0, refused: 0 };
+    for n in 0..turns {
+        if !may_go_on(run.state()) {
+            run = unbegun(alloc);
+        }
+        if run.events() >= 1 << 60 {
+            break;
+        }
+        let input = repeated_input(alloc, program, run.state(), &run.waits(alloc)?, n)?;
+        let at = Moment::new(n).unwrap_or(Moment::last());
+        let made = plain_turn(alloc, &mut run, program.program(), at, &input, Answers::Fresh);
+        same = same.one_more(made.is_err());
+    }
+    Ok(Outcome::Same(same))
+}
+
+fn repeated_input(
+    alloc: Global,
+    program: &Checked,
+    state: State,
+    waits: &[OpenWait],
+    n: u64,
+) -> Result<Input, AllocError> {
+    match state {
+        State::Unbegun => Ok(Input::Started(arguments(alloc, program.program())?)),
+        _ => first_ended(alloc, program.program(), waits, n),
+    }
 }

@@ -47,6 +47,19 @@ pub fn next_input(
     }
 }
 
+/// What ends the first wait.
+pub fn first_ended(
+    alloc: Global,
+    program: &Program,
+    waits: &[OpenWait],
+    n: u64,
+) -> Result<Input, AllocError> {
+    match waits.first() {
+        Some(wait) => ends(alloc, program, wait, n.saturating_mul(14)),
+        None => signal(alloc, program, n),
+    }
+}
+
 fn id(n: u64) -> EventId {
     match EventId::new(n) {
         Some(id) => id,
