@@ -56,10 +56,18 @@ abbrev pub IsLinked : List Listing → Statement → Links → Type 0
 IsLinked ls st k = LeadsWithin ls st k × LeadAll ls k.branches.items (branches_in st)
 
 -- Each statement of the table has its links.
-abbrev pub AreLinked : List Listing → Type 0
-AreLinked ls = (n i : ℕ) (s : Stmt) → slice_get (stmts_at ls n) i ≡ Some s
-    → (k : Links) × ((slice_get (links_at ls n) i ≡ Some k) × IsLinked ls (shown_stmt s) k)
+pub record AreLinked (ls : List Listing) : Type 0 where
+  pub at : (n i : ℕ) (s : Stmt) → slice_get (stmts_at ls n) i ≡ Some s
+      → (k : Links) × ((slice_get (links_at ls n) i ≡ Some k) × IsLinked ls (shown_stmt s) k)
 
 -- more lists, behind those that were there
-abbrev pub Grows : List Listing → List Listing → Type 0
-Grows old new = (more : List Listing) × (new ≡ old ++ more)
+pub record Grows (old new : List Listing) : Type 0 where
+  pub more : List Listing
+  pub is : new ≡ old ++ more
+
+-- each of these statements has its links
+abbrev pub LinkEach : List Listing → List Stmt → List Links → Type 0
+LinkEach ls [] [] = Unit {0}
+LinkEach ls [] (k ∷ ks) = ⊥
+LinkEach ls (s ∷ ss) [] = ⊥
+LinkEach ls (s ∷ ss) (k ∷ ks) = IsLinked ls (shown_stmt s) k × LinkEach ls ss ks

@@ -1,6 +1,6 @@
 ghost use Rattle.std.specs.Prelude.{◌≡◌, ◌∷◌, [], IfOk, OnOk, map};
 ghost use Rattle.flow_base.specs.Shown.{shown_block, shown_program, shown_stmt, shown_braced, shown_branch, branches_of};
-ghost use Rattle.flow_nodes.specs.Links.{AreLinked, Grows, IsLinked, LeadAll, LeadsTo, block_at};
+ghost use Rattle.flow_nodes.specs.Links.{AreLinked, Grows, IsLinked, LeadAll, LeadsTo, LinkEach, block_at};
 
 use crate::table::{Links, Listing, Table};
 use flow_base::syntax::{Block, Branch, Program, Stmt};
@@ -32,12 +32,25 @@ fn add_list(
     ensures linked { OnOk result (AreLinked lists.new.items) }
 {
     let mut links = Vec::new(alloc);
-    for stmt in stmts.as_slice() {
+    let all = stmts.as_slice();
+    for stmt in all {
         links.push(add_within(alloc, stmt, lists)?)?;
     }
-    let number = lists.len();
     let stmts = stmts.clone()?;
-    lists.push(Listing { stmts, links })?;
+    let number = push_list(lists, Listing { stmts, links })?;
+    Ok(number)
+}
+
+// One list more, whose statements have their links; gives its number.
+fn push_list(lists: &mut Vec<Listing>, list: Listing) -> Result<usize, AllocError>
+    requires linked { AreLinked lists.old.items }
+    requires each { LinkEach lists.old.items list.stmts.value.items list.links.items }
+    ensures list { IfOk result (λ n. LeadsTo lists.new.items n (shown_block list.stmts.value.items)) }
+    ensures grows { OnOk result (Grows lists.old.items lists.new.items) }
+    ensures linked { OnOk result (AreLinked lists.new.items) }
+{
+    let number = lists.len();
+    lists.push(list)?;
     Ok(number)
 }
 

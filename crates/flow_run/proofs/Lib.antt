@@ -1,4 +1,6 @@
+pub mod Contents
 pub mod Counts
+pub mod Delivering
 pub mod Ending
 pub mod First
 pub mod Forest

@@ -2,7 +2,7 @@
 use Rattle.std.proofs.Common.{◌≡◌, ⊎_elim, ℕ, zero, suc, ◌+◌, ◌-◌, ◌<◌, ◌≤◌, add-one, List, [], ◌∷◌, ◌++◌, length, get_or, take, drop, map, refl, sym, ap, ◌∙◌, subst, arith, Option, Some, None, Result, Ok, Err, Bool, true, false}
 use Rattle.std.specs.Prelude.{slice_get, ◌⊎◌, if◌then◌else◌, nat_lt}
 use Rattle.std.proofs.lemmas.List.{drop_all, get_or_default, take-append-drop}
-use Rattle.flow_base.specs.Syntax.{Bytes, Statement, Let, Assign, Call, WaitSignal, WaitSignalFor, Sleep, If, While, Parallel, Patch, Return, FailWith, Continue, Block, End, Next}
+use Rattle.flow_base.specs.Syntax.{Bytes, Statement, Let, Assign, Call, WaitSignal, WaitSignalFor, Sleep, If, While, Parallel, Patch, Deprecate, Return, FailWith, Continue, Block, End, Next}
 use Rattle.flow_base.specs.Shown.{shown_stmt}
 use Rattle.flow_base.specs.declared.event.Cause.{Cause}
 use Rattle.flow_base.specs.declared.value.Value.{Value}
@@ -57,6 +57,7 @@ never_begin s t (If at e a a_end b b_end) = never_value (value t.variables s.at 
 never_begin s t (While at e b end) = never_if (nat_lt t.tests test_limit) _ _ (never_value (value t.variables s.at e) _ (λ v y. y)) (λ y. y)
 never_begin s t (Parallel at bs end) = λ y. y
 never_begin s t (Patch at id_at id a a_end b b_end) = never_patched s t id a b (t.decided id)
+never_begin s t (Deprecate at id_at id) = never_patched s t id End End (t.decided id)
 never_begin s t (Return at e) = never_value (value t.variables s.at e) _ (λ v y. y)
 never_begin s t (FailWith at e) = never_value (value t.variables s.at e) _ (λ v y. y)
 never_begin s t (Continue at es) = never_value (values t.variables s.at es) _ (λ vs. never_if s.is_first _ _ (λ y. y) (λ y. y))
@@ -114,7 +115,7 @@ first_asks s t u r q rs c e = rw e
 pub first_ends : (s : Setting) (t : Store) (r : Rest) (rs : List Rest) (c : _) → move s t r ≡ Ends c → moves s t (r ∷ rs) ≡ Finish c
 first_ends s t r rs c e = rw e
 
-cut_cell : (ls : List Listing) (cs : List Cell) (i : ℕ) (c : Cell) → i < length cs → c ≡ get_or cs i c → marks_of ls cs ≡ take i (marks_of ls cs) ++ (mark_of ls c ∷ drop (i + 1) (marks_of ls cs))
+pub cut_cell : (ls : List Listing) (cs : List Cell) (i : ℕ) (c : Cell) → i < length cs → c ≡ get_or cs i c → marks_of ls cs ≡ take i (marks_of ls cs) ++ (mark_of ls c ∷ drop (i + 1) (marks_of ls cs))
 cut_cell ls cs i c h e =
     cut_at (marks_of ls cs) i (mark_of ls c) (mark_at ls cs i c h e) ∙ ap (λ n. take i (marks_of ls cs) ++ (mark_of ls c ∷ drop n (marks_of ls cs))) (sym (add-one i))
 
@@ -164,13 +165,13 @@ acted_task ls s old new cs ones ds i c (stepped.Asks d) h e k front behind a =
     let ms = marks_of ls cs in
     let rs = onto (drop (i + 1) ms) [] in
     (a.0 ∷ rs, (ap (λ (xs : List Mark). moves s (shown_store old) (onto xs [])) (at_cell ls cs i c h e)
-        ∙ ap (moves s (shown_store old)) (task_put ls c rs k) ∙ first_asks s (shown_store old) (shown_store new) (task_rest ls c) a.0 rs d a.1.0,
+        ∙ ap (moves s (shown_store old)) (task_put ls c rs k) ∙ first_asks s (shown_store old) (shown_store new) (task_rest ls c) a.0 rs d.value a.1.0,
      a.1.1 ∙ (λ j. onto (front j) (a.0 ∷ onto (behind j) []))))
 acted_task ls s old new cs ones ds i c (stepped.Ends d) h e k front behind a =
     let ms = marks_of ls cs in
     let rs = onto (drop (i + 1) ms) [] in
     (ap (λ (xs : List Mark). moves s (shown_store old) (onto xs [])) (at_cell ls cs i c h e)
-        ∙ ap (moves s (shown_store old)) (task_put ls c rs k) ∙ first_ends s (shown_store old) (task_rest ls c) rs d a.0, a.1)
+        ∙ ap (moves s (shown_store old)) (task_put ls c rs k) ∙ first_ends s (shown_store old) (task_rest ls c) rs d.value a.0, a.1)
 
 -- a join whose branches are all over, as it stands and as it goes on
 module _ (ls : List Listing) (s : Setting) (old : CStore) (cs ones : List Cell) (i n : ℕ) (c : Cell) (h : i < length cs) (e : c ≡ get_or cs i c) (k : c.doing ≡ doing.Join n 0) (full : AreFullPlaces ls c.places.items) (some : 0 < length c.places.items) (counted : Counted (marks_of ls cs) []) (front : take i (marks_of ls ones) ≡ take i (marks_of ls cs)) (behind : onto (drop (i + 1) (marks_of ls ones)) [] ≡ drop n (onto (drop (i + 1) (marks_of ls cs)) [])) (a : Cell) (same : a.places.items ≡ c.places.items) (idle : a.doing ≡ doing.Over) where
@@ -213,10 +214,10 @@ module _ (ls : List Listing) (s : Setting) (old : CStore) (cs ones : List Cell) 
       (x.0 ∷ drop n rs, (ap (moves s (shown_store old)) starts ∙ first_goes s (shown_store old) (shown_store new) (within bs (besides n rs)) x.0 (drop n rs) (move_is (shown_store old) ∙ x.1.0),
        x.1.1 ∙ (λ j. onto (front j) (x.0 ∷ behind j))))
   acted_join new ds (stepped.Asks d) x =
-      (x.0 ∷ drop n rs, (ap (moves s (shown_store old)) starts ∙ first_asks s (shown_store old) (shown_store new) (within bs (besides n rs)) x.0 (drop n rs) d (move_is (shown_store old) ∙ x.1.0),
+      (x.0 ∷ drop n rs, (ap (moves s (shown_store old)) starts ∙ first_asks s (shown_store old) (shown_store new) (within bs (besides n rs)) x.0 (drop n rs) d.value (move_is (shown_store old) ∙ x.1.0),
        x.1.1 ∙ (λ j. onto (front j) (x.0 ∷ behind j))))
   acted_join new ds (stepped.Ends d) x =
-      (ap (moves s (shown_store old)) starts ∙ first_ends s (shown_store old) (within bs (besides n rs)) (drop n rs) d (move_is (shown_store old) ∙ x.0), x.1)
+      (ap (moves s (shown_store old)) starts ∙ first_ends s (shown_store old) (within bs (besides n rs)) (drop n rs) d.value (move_is (shown_store old) ∙ x.0), x.1)
 
 pub counted_behind : (ms : List Mark) (k : ℕ) → Counted ms [] → Counted (drop k ms) []
 counted_behind ms k h = (counted_parts (take k ms) (drop k ms) [] (subst (λ (xs : List Mark). Counted xs []) (sym (take-append-drop k ms)) h)).1
@@ -295,7 +296,7 @@ first_step ls s old mid new cs now ds i stepped.Goes q e f stays a =
     ∙ ap (λ (rs : List Rest). Go rs (shown_store new)) (ap (λ (ms : List Mark). onto (take i ms) a.0) (sym f) ∙ sym a.1.1)
 first_step ls s old mid new cs now ds i (stepped.Asks c) q e f stays a =
     stays ∙ ap (along (onto (take i (marks_of ls cs)))) ((λ j. moves s (shown_store (sym e j)) (onto (drop i (sym f j)) [])) ∙ a.1.0)
-    ∙ ap (λ (rs : List Rest). Ask rs (shown_store new) c) (ap (λ (ms : List Mark). onto (take i ms) a.0) (sym f) ∙ sym a.1.1)
+    ∙ ap (λ (rs : List Rest). Ask rs (shown_store new) c.value) (ap (λ (ms : List Mark). onto (take i ms) a.0) (sym f) ∙ sym a.1.1)
 first_step ls s old mid new cs now ds i (stepped.Ends c) q e f stays a =
     (stays ∙ ap (along (onto (take i (marks_of ls cs)))) ((λ j. moves s (shown_store (sym e j)) (onto (drop i (sym f j)) [])) ∙ a.0), a.1 ∙ e)
 

@@ -2,13 +2,13 @@
 use Rattle.std.proofs.Common.{◌≡◌, ℕ, zero, suc, ◌+◌, ◌-◌, ◌^◌, ⊎_elim, ◌<◌, ◌≤◌, add-one, List, [], ◌∷◌, ◌++◌, length, length-drop, length-take-le, length-set, get_or, set, take, drop, refl, sym, ap, ◌∙◌, subst, arith, Option, Some, None, Bool, true, false}
 use Rattle.std.specs.Prelude.{slice_get, insert, remove, min, ◌⊎◌, if◌then◌else◌}
 use Rattle.std.proofs.lemmas.Bool.{true≢false}
-use Rattle.std.proofs.lemmas.List.{take_at, drop_at, drop-drop, drop_all, take-take, drop_more}
+use Rattle.std.proofs.lemmas.List.{take_at, drop_at, drop-drop, drop_all, take-append-drop, take-take, drop_more}
 use Rattle.std.proofs.lemmas.List.Edits.{length-insert, length-remove}
 use Rattle.std.proofs.lemmas.Bool.{cases_lt}
 use Rattle.flow_base.specs.Syntax.{Block}
 use Rattle.flow_model.specs.Rest.{Rest, Beside, OnTimer, is_done, rest_of}
 use Rattle.flow_model.specs.Step.{Store, Setting, Move, Stays, Goes, Asks, Ends, move}
-use Rattle.flow_run.specs.Marks.{besides, running, within, Mark, One, Many, put, onto, first_rest, Counted, Owes, Moves, Go, Ask, Finish, at_head, along, or_moves, moves}
+use Rattle.flow_run.specs.Marks.{besides, running, within, Mark, One, Many, put, onto, first_rest, Counted, Owes, Settles, Moves, Go, Ask, Finish, at_head, along, or_moves, moves}
 use Rattle.flow_run.specs.Flat.{AreFull, AreFullCells, blocks_of, branches_at, branches_of, join_of, is_task, mark_by, mark_of, marks_of, shown_doing, task_rest}
 use Rattle.flow_nodes.specs.Links.{block_at}
 use Rattle.flow_nodes.specs.declared.table.Listing.{Listing}
@@ -18,7 +18,7 @@ use Rattle.flow_run.specs.declared.cell.Doing.{Doing}
 use Rattle.flow_run.specs.declared.cell.Doing.TheVariants as doing
 use Rattle.flow_run.proofs.Forest.{onto_append, done_stays}
 use Rattle.flow_run.proofs.Counts.{alike_self, counted_alike, counted_join, counted_parts}
-use Rattle.flow_run.proofs.Ending.{cut_at}
+use Rattle.flow_run.proofs.Ending.{cut_at, some_rest}
 use Rattle.flow_run.proofs.Overs.{mark_at, marks_set, marks_length}
 
 pub task_mark : (ls : List Listing) (bs : List Block) (d : Doing) → is_task d ≡ true → mark_by ls bs d ≡ One (within bs (shown_doing ls d))
@@ -45,36 +45,72 @@ some_put : (m : Mark) (rs : List Rest) → put m rs ≡ first_rest (put m rs) �
 some_put (One r) rs = refl
 some_put (Many bs n k) rs = refl
 
--- it isn't over
-pub counts_with : (ls : List Listing) (cs : List Cell) (i : ℕ) (c : Cell) → i < length cs
-    → ((r : Rest) → is_done r ≡ false → Counted (take i (marks_of ls cs)) (r ∷ drop 1 (put (mark_of ls c) (onto (drop (i + 1) (marks_of ls cs)) [])))) → Counted (mark_of ls c ∷ drop (i + 1) (marks_of ls cs)) [] → is_done (first_rest (put (mark_of ls c) (onto (drop (i + 1) (marks_of ls cs)) []))) ≡ false → Counted (marks_of ls (set cs i c)) []
-counts_with ls cs i c h f g a =
-    let behind = onto (drop (i + 1) (marks_of ls cs)) [] in
-    let front : Counted (take i (marks_of ls cs)) (put (mark_of ls c) behind) =
-    subst (Counted (take i (marks_of ls cs))) (sym (some_put (mark_of ls c) behind)) (f (first_rest (put (mark_of ls c) behind)) a) in
-    subst (λ (ms : List Mark). Counted ms []) (sym (marks_with ls cs i c h))
-    (counted_join (take i (marks_of ls cs)) (mark_of ls c ∷ drop (i + 1) (marks_of ls cs)) [] front g)
+-- a task in place of one: what stands behind, and its count
+pub task_put : (ls : List Listing) (c : Cell) (rs : List Rest) → is_task c.doing ≡ true → put (mark_of ls c) rs ≡ task_rest ls c ∷ rs
+task_put ls c rs e = ap (λ (m : Mark). put m rs) (task_mark ls (blocks_of ls c.places.items) c.doing e)
 
--- it is over
-pub owes_with : (ls : List Listing) (cs : List Cell) (i : ℕ) (c : Cell) → i < length cs
-    → ((r : Rest) → is_done r ≡ false → Counted (take i (marks_of ls cs)) (r ∷ drop 1 (put (mark_of ls c) (onto (drop (i + 1) (marks_of ls cs)) [])))) → Counted (mark_of ls c ∷ drop (i + 1) (marks_of ls cs)) [] → is_done (first_rest (put (mark_of ls c) (onto (drop (i + 1) (marks_of ls cs)) []))) ≡ true → Owes (marks_of ls (set cs i c)) i
-owes_with ls cs i c h f g a =
+pub task_counts : (ls : List Listing) (c : Cell) (ms : List Mark) → is_task c.doing ≡ true → Counted ms [] → Counted (mark_of ls c ∷ ms) []
+task_counts ls c ms e h = subst (λ (m : Mark). Counted (m ∷ ms) []) (sym (task_mark ls (blocks_of ls c.places.items) c.doing e)) h
+
+pub task_earlier : (ls : List Listing) (c : Cell) (before : List Mark) (rs : List Rest) → is_task c.doing ≡ true → ((r : Rest) → is_done r ≡ false → Counted before (r ∷ rs)) → (r : Rest) → is_done r ≡ false → Counted before (r ∷ drop 1 (put (mark_of ls c) rs))
+task_earlier ls c before rs e f r a = subst (λ (xs : List Rest). Counted before (r ∷ drop 1 xs)) (sym (task_put ls c rs e)) (f r a)
+
+-- another cell at a place: the marks in front of it and behind
+pub front_with : (ls : List Listing) (cs : List Cell) (i : ℕ) (c : Cell) → i < length cs → take i (marks_of ls (set cs i c)) ≡ take i (marks_of ls cs)
+front_with ls cs i c h =
     let ms = marks_of ls cs in
-    let new = marks_of ls (set cs i c) in
-    let m = mark_of ls c in
-    let all : new ≡ take i ms ++ (m ∷ drop (i + 1) ms) = marks_with ls cs i c h in
-    let size : length (take i ms) ≡ i = length-take-le i ms (omega (arith, h, marks_length ls cs)) in
-    let cut : drop i new ≡ m ∷ drop (i + 1) ms = ap (drop i) all ∙ drop_at (take i ms) (m ∷ drop (i + 1) ms) i size in
-    let front : take i new ≡ take i ms = ap (take i) all ∙ take_at (take i ms) (m ∷ drop (i + 1) ms) i size in
+    ap (take i) (marks_with ls cs i c h) ∙ take_at (take i ms) (mark_of ls c ∷ drop (i + 1) ms) i (length-take-le i ms (omega (arith, h, marks_length ls cs)))
+
+-- all counts, where what begins at a place isn't over
+pub settled_all : (ms : List Mark) (i : ℕ) → i < length ms → Settles ms i → is_done (first_rest (onto (drop i ms) [])) ≡ false → Counted ms []
+settled_all ms i h s a =
+    let rs = onto (drop i ms) [] in
+    let front : Counted (take i ms) rs = subst (Counted (take i ms)) (sym (some_rest ms i h)) (s.earlier (first_rest rs) a) in
+    subst (λ (xs : List Mark). Counted xs []) (take-append-drop i ms) (counted_join (take i ms) (drop i ms) [] front s.later)
+
+-- another cell at a place: what begins there
+pub cut_with : (ls : List Listing) (cs : List Cell) (i : ℕ) (c : Cell) → i < length cs → drop i (marks_of ls (set cs i c)) ≡ mark_of ls c ∷ drop (i + 1) (marks_of ls cs)
+cut_with ls cs i c h =
+    let ms = marks_of ls cs in
+    ap (drop i) (marks_with ls cs i c h) ∙ drop_at (take i ms) (mark_of ls c ∷ drop (i + 1) ms) i (length-take-le i ms (omega (arith, h, marks_length ls cs)))
+
+-- a task at a place, in place of one that wasn't over
+pub task_settles : (ls : List Listing) (cs : List Cell) (i : ℕ) (c : Cell) → i < length cs → is_task c.doing ≡ true
+    → ((r : Rest) → is_done r ≡ false → Counted (take i (marks_of ls cs)) (r ∷ onto (drop (i + 1) (marks_of ls cs)) [])) → Counted (drop (i + 1) (marks_of ls cs)) [] → Settles (marks_of ls (set cs i c)) i
+task_settles ls cs i c h k f g =
+    let ms = marks_of ls cs in
+    let cut = cut_with ls cs i c h in
+    record {
+      later = subst (λ (xs : List Mark). Counted xs []) (sym cut) (task_counts ls c (drop (i + 1) ms) k g);
+      earlier = λ r b.
+          subst (λ (xs : List Mark). Counted xs (r ∷ drop 1 (onto (drop i (marks_of ls (set cs i c))) []))) (sym (front_with ls cs i c h))
+          (subst (λ (xs : List Mark). Counted (take i ms) (r ∷ drop 1 (onto xs []))) (sym cut) (task_earlier ls c (take i ms) (onto (drop (i + 1) ms) []) k f r b));
+    }
+
+-- what the whole shows with a task at a place
+pub task_shows : (ls : List Listing) (cs : List Cell) (i : ℕ) (c : Cell) → i < length cs → is_task c.doing ≡ true → onto (marks_of ls (set cs i c)) [] ≡ onto (take i (marks_of ls cs)) (task_rest ls c ∷ onto (drop (i + 1) (marks_of ls cs)) [])
+task_shows ls cs i c h k =
+    shows_with ls cs i c h ∙ ap (onto (take i (marks_of ls cs))) (task_put ls c (onto (drop (i + 1) (marks_of ls cs)) []) k)
+
+-- a join at a place
+pub join_settles : (ls : List Listing) (cs : List Cell) (i n k : ℕ) (c : Cell) → i < length cs → c.doing ≡ doing.Join n k
+    → ((r : Rest) → is_done r ≡ false → Counted (take i (marks_of ls cs)) (r ∷ drop n (onto (drop (i + 1) (marks_of ls cs)) []))) → (k ≡ running n (onto (drop (i + 1) (marks_of ls cs)) [])) × Counted (drop (i + 1) (marks_of ls cs)) [] → Settles (marks_of ls (set cs i c)) i
+join_settles ls cs i n k c h e f g =
+    let ms = marks_of ls cs in
+    let bs = blocks_of ls c.places.items in
+    let is : mark_of ls c ≡ Many bs n k = ap (λ (d : Doing). mark_by ls bs d) e in
+    let cut : drop i (marks_of ls (set cs i c)) ≡ Many bs n k ∷ drop (i + 1) ms = cut_with ls cs i c h ∙ ap (λ (m : Mark). m ∷ drop (i + 1) ms) is in
     record {
       later = subst (λ (xs : List Mark). Counted xs []) (sym cut) g;
-      over = ap (λ (xs : List Mark). is_done (first_rest (onto xs []))) cut ∙ a;
       earlier = λ r b.
-          subst (λ (xs : List Mark). Counted xs (r ∷ drop 1 (onto (drop i new) []))) (sym front)
+          subst (λ (xs : List Mark). Counted xs (r ∷ drop 1 (onto (drop i (marks_of ls (set cs i c))) []))) (sym (front_with ls cs i c h))
           (subst (λ (xs : List Mark). Counted (take i ms) (r ∷ drop 1 (onto xs []))) (sym cut) (f r b));
     }
 
--- its own count is right
+pub join_shows : (ls : List Listing) (cs : List Cell) (i n k : ℕ) (c : Cell) → i < length cs → c.doing ≡ doing.Join n k → onto (marks_of ls (set cs i c)) [] ≡ onto (take i (marks_of ls cs)) (put (Many (blocks_of ls c.places.items) n k) (onto (drop (i + 1) (marks_of ls cs)) []))
+join_shows ls cs i n k c h e =
+    shows_with ls cs i c h ∙ ap (λ (m : Mark). onto (take i (marks_of ls cs)) (put m (onto (drop (i + 1) (marks_of ls cs)) []))) (ap (λ (d : Doing). mark_by ls (blocks_of ls c.places.items) d) e)
+
 pub own_count : (m : Mark) (ms : List Mark) → Counted (m ∷ ms) [] → Counted (m ∷ []) (onto ms [])
 own_count (One r) ms h = tt
 own_count (Many bs n k) ms h = (h.0, tt)
@@ -261,27 +297,11 @@ open_before s t r m e f =
       | false ↦ λ g. refl
     ] refl
 
--- a task in place of one: what stands behind, and its count
-pub task_put : (ls : List Listing) (c : Cell) (rs : List Rest) → is_task c.doing ≡ true → put (mark_of ls c) rs ≡ task_rest ls c ∷ rs
-task_put ls c rs e = ap (λ (m : Mark). put m rs) (task_mark ls (blocks_of ls c.places.items) c.doing e)
-
-pub task_counts : (ls : List Listing) (c : Cell) (ms : List Mark) → is_task c.doing ≡ true → Counted ms [] → Counted (mark_of ls c ∷ ms) []
-task_counts ls c ms e h = subst (λ (m : Mark). Counted (m ∷ ms) []) (sym (task_mark ls (blocks_of ls c.places.items) c.doing e)) h
-
-pub task_earlier : (ls : List Listing) (c : Cell) (before : List Mark) (rs : List Rest) → is_task c.doing ≡ true → ((r : Rest) → is_done r ≡ false → Counted before (r ∷ rs)) → (r : Rest) → is_done r ≡ false → Counted before (r ∷ drop 1 (put (mark_of ls c) rs))
-task_earlier ls c before rs e f r a = subst (λ (xs : List Rest). Counted before (r ∷ drop 1 xs)) (sym (task_put ls c rs e)) (f r a)
-
 -- a cell with the same places and doing
 pub marks_same : (ls : List Listing) (cs : List Cell) (i : ℕ) (c d : Cell) → i < length cs → d.places.items ≡ c.places.items → d.doing ≡ c.doing → marks_of ls (set cs i d) ≡ take i (marks_of ls cs) ++ (mark_of ls c ∷ drop (i + 1) (marks_of ls cs))
 marks_same ls cs i c d h e f =
     marks_with ls cs i d h
     ∙ (λ j. take i (marks_of ls cs) ++ (mark_by ls (blocks_of ls (e j)) (f j) ∷ drop (i + 1) (marks_of ls cs)))
-
--- another cell at a place: the marks in front of it and behind
-pub front_with : (ls : List Listing) (cs : List Cell) (i : ℕ) (c : Cell) → i < length cs → take i (marks_of ls (set cs i c)) ≡ take i (marks_of ls cs)
-front_with ls cs i c h =
-    let ms = marks_of ls cs in
-    ap (take i) (marks_with ls cs i c h) ∙ take_at (take i ms) (mark_of ls c ∷ drop (i + 1) ms) i (length-take-le i ms (omega (arith, h, marks_length ls cs)))
 
 pub behind_with : (ls : List Listing) (cs : List Cell) (i : ℕ) (c : Cell) → i < length cs → drop (i + 1) (marks_of ls (set cs i c)) ≡ drop (i + 1) (marks_of ls cs)
 behind_with ls cs i c h =

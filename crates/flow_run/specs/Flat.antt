@@ -93,18 +93,26 @@ AreFullPlaces ls ps = All (IsFull ls) ps
 abbrev pub AreFull : List Listing → Cell → Type 0
 AreFull ls c = AreFullPlaces ls c.places.items
 
+-- what a cell has, as lists
+abbrev pub content : Cell → List Place × Doing
+content c = (c.places.items, c.doing)
+
+abbrev pub contents_of : List Cell → List (List Place × Doing)
+contents_of cs = map content cs
+
 -- what a statement that begins leaves to do
 abbrev pub shown_onward : List Listing → Statement → Onward → tree.Rest
 shown_onward ls st onward.Over = tree.Done
+shown_onward ls st onward.Nothing = tree.rest_of End
 shown_onward ls st (onward.Enters n) = tree.rest_of (block_at ls n)
 shown_onward ls st (onward.Repeats n) = tree.Then (tree.rest_of (block_at ls n)) (Next st End)
-shown_onward ls st (onward.Does d) = shown_doing ls d
+shown_onward ls st (onward.Waits d) = shown_doing ls d.value
 
 abbrev pub shown_begun : List Listing → Statement → Store → Begun → step.Move
 shown_begun ls st t (begun.Goes n) = step.Goes (shown_onward ls st n) (shown_store t)
-shown_begun ls st t (begun.Asks n c) = step.Asks (shown_onward ls st n) (shown_store t) c
+shown_begun ls st t (begun.Asks n c) = step.Asks (shown_onward ls st n) (shown_store t) c.value
 shown_begun ls st t begun.Splits = step.Goes (branches_in st) (shown_store t)
-shown_begun ls st t (begun.Ends c) = step.Ends c
+shown_begun ls st t (begun.Ends c) = step.Ends c.value
 
 -- no join
 abbrev pub is_task : Doing → Bool
@@ -112,7 +120,7 @@ is_task (doing.Join n k) = false
 is_task d = true
 
 abbrev pub is_task_next : Onward → Bool
-is_task_next (onward.Does d) = is_task d
+is_task_next (onward.Waits d) = is_task d.value
 is_task_next n = true
 
 -- where the run ends the store stays
@@ -143,26 +151,27 @@ branches_in_links (Some k) = k.branches.items
 abbrev pub split_at : List Listing → Place → tree.Rest
 split_at ls p = branches_at ls (branches_in_links (slice_get (links_at ls p.list) p.at))
 
--- What one step does with a task.
-abbrev pub shown_went : List Listing → List Place → Store → Went → step.Move
-shown_went ls ps t (went.Stays d) = step.Stays
-shown_went ls ps t (went.Goes d) = step.Goes (within (blocks_of ls ps) (shown_doing ls d)) (shown_store t)
-shown_went ls ps t (went.Asks d c) = step.Asks (within (blocks_of ls ps) (shown_doing ls d)) (shown_store t) c
-shown_went ls ps t (went.Splits p) = step.Goes (within (blocks_of ls ps) (split_at ls p)) (shown_store t)
-shown_went ls ps t (went.Ends c) = step.Ends c
+-- What one step does with a task, of which this is left then.
+abbrev pub shown_went : List Listing → Cell → Store → Went → step.Move
+shown_went ls c t went.Stays = step.Stays
+shown_went ls c t went.Goes = step.Goes (task_rest ls c) (shown_store t)
+shown_went ls c t (went.Asks a) = step.Asks (task_rest ls c) (shown_store t) a.value
+shown_went ls c t (went.Splits p) = step.Goes (within (blocks_of ls c.places.items) (split_at ls p)) (shown_store t)
+shown_went ls c t (went.Ends a) = step.Ends a.value
 
 -- what it leaves where it doesn't go on
-abbrev pub KeepsTask : List Listing → List Place → Doing → Store → List Place → Store → Went → Type 0
-KeepsTask ls ps d old qs new (went.Stays e) = (qs ≡ ps) × (e ≡ d) × (new ≡ old)
-KeepsTask ls ps d old qs new (went.Goes e) = is_task e ≡ true
-KeepsTask ls ps d old qs new (went.Asks e c) = is_task e ≡ true
-KeepsTask ls ps d old qs new (went.Splits p) = p.at < length (links_at ls p.list)
-KeepsTask ls ps d old qs new (went.Ends c) = new ≡ old
+abbrev pub KeepsTask : List Listing → Cell → Store → Cell → Store → Went → Type 0
+KeepsTask ls old t new u went.Stays = (content new ≡ content old) × (u ≡ t)
+KeepsTask ls old t new u went.Goes = is_task new.doing ≡ true
+KeepsTask ls old t new u (went.Asks a) = is_task new.doing ≡ true
+KeepsTask ls old t new u (went.Splits p) = p.at < length (links_at ls p.list)
+KeepsTask ls old t new u (went.Ends a) = u ≡ t
 
 -- a task that does nothing by itself
-abbrev pub idle_of : Bool → Doing
-idle_of true = doing.Empty
-idle_of false = doing.Over
+abbrev pub is_idle : Doing → Bool
+is_idle doing.Over = true
+is_idle doing.Empty = true
+is_idle d = false
 
 abbrev pub AreFullCells : List Listing → List Cell → Type 0
 AreFullCells ls cs = All (AreFull ls) cs
@@ -178,8 +187,8 @@ ActedAt ls s old c cs i new ds stepped.Stays = (move s (shown_store old) (task_r
 ActedAt ls s old c cs i new ds stepped.Goes =
     (q : tree.Rest) × ((move s (shown_store old) (task_rest ls c) ≡ step.Goes q (shown_store new)) × (onto (marks_of ls ds) [] ≡ onto (take i (marks_of ls cs)) (q ∷ onto (drop (i + 1) (marks_of ls cs)) [])))
 ActedAt ls s old c cs i new ds (stepped.Asks a) =
-    (q : tree.Rest) × ((move s (shown_store old) (task_rest ls c) ≡ step.Asks q (shown_store new) a) × (onto (marks_of ls ds) [] ≡ onto (take i (marks_of ls cs)) (q ∷ onto (drop (i + 1) (marks_of ls cs)) [])))
-ActedAt ls s old c cs i new ds (stepped.Ends a) = (move s (shown_store old) (task_rest ls c) ≡ step.Ends a) × (new ≡ old)
+    (q : tree.Rest) × ((move s (shown_store old) (task_rest ls c) ≡ step.Asks q (shown_store new) a.value) × (onto (marks_of ls ds) [] ≡ onto (take i (marks_of ls cs)) (q ∷ onto (drop (i + 1) (marks_of ls cs)) [])))
+ActedAt ls s old c cs i new ds (stepped.Ends a) = (move s (shown_store old) (task_rest ls c) ≡ step.Ends a.value) × (new ≡ old)
 
 -- the joins know their branches, and each place has something left
 abbrev pub AreSound : List Listing → List Cell → Type 0
@@ -203,19 +212,12 @@ StepsAt ls s old cs i new ds stepped.Stays =
 StepsAt ls s old cs i new ds stepped.Goes =
     (rs : List tree.Rest) × ((moves s (shown_store old) (onto (drop i (marks_of ls cs)) []) ≡ Go rs (shown_store new)) × (onto (marks_of ls ds) [] ≡ onto (take i (marks_of ls cs)) rs))
 StepsAt ls s old cs i new ds (stepped.Asks c) =
-    (rs : List tree.Rest) × ((moves s (shown_store old) (onto (drop i (marks_of ls cs)) []) ≡ Ask rs (shown_store new) c) × (onto (marks_of ls ds) [] ≡ onto (take i (marks_of ls cs)) rs))
-StepsAt ls s old cs i new ds (stepped.Ends c) = (moves s (shown_store old) (onto (drop i (marks_of ls cs)) []) ≡ Finish c) × (new ≡ old)
+    (rs : List tree.Rest) × ((moves s (shown_store old) (onto (drop i (marks_of ls cs)) []) ≡ Ask rs (shown_store new) c.value) × (onto (marks_of ls ds) [] ≡ onto (take i (marks_of ls cs)) rs))
+StepsAt ls s old cs i new ds (stepped.Ends c) = (moves s (shown_store old) (onto (drop i (marks_of ls cs)) []) ≡ Finish c.value) × (new ≡ old)
 
 -- What one step does with a run: the first place that can step does.
 abbrev pub StepsFirst : List Listing → step.Setting → Store → List Cell → Store → List Cell → Stepped → Type 0
 StepsFirst ls s old cs new ds stepped.Stays = (moves s (shown_store old) (onto (marks_of ls cs) []) ≡ Stay) × ((new ≡ old) × (marks_of ls ds ≡ marks_of ls cs))
 StepsFirst ls s old cs new ds stepped.Goes = moves s (shown_store old) (onto (marks_of ls cs) []) ≡ Go (onto (marks_of ls ds) []) (shown_store new)
-StepsFirst ls s old cs new ds (stepped.Asks c) = moves s (shown_store old) (onto (marks_of ls cs) []) ≡ Ask (onto (marks_of ls ds) []) (shown_store new) c
-StepsFirst ls s old cs new ds (stepped.Ends c) = (moves s (shown_store old) (onto (marks_of ls cs) []) ≡ Finish c) × (new ≡ old)
-
--- what a cell has, as lists
-abbrev pub content : Cell → List Place × Doing
-content c = (c.places.items, c.doing)
-
-abbrev pub contents_of : List Cell → List (List Place × Doing)
-contents_of cs = map content cs
+StepsFirst ls s old cs new ds (stepped.Asks c) = moves s (shown_store old) (onto (marks_of ls cs) []) ≡ Ask (onto (marks_of ls ds) []) (shown_store new) c.value
+StepsFirst ls s old cs new ds (stepped.Ends c) = (moves s (shown_store old) (onto (marks_of ls cs) []) ≡ Finish c.value) × (new ≡ old)

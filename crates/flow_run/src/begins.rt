@@ -24,22 +24,24 @@ use std::alloc::Global;
 pub enum Next {
     /// What follows the statement.
     Over,
+    /// A list without statements.
+    Nothing,
     /// A list of the table.
     Enters(usize),
     /// A list of the table, and then the statement again.
     Repeats(usize),
-    /// This.
-    Does(Doing),
+    /// It waits.
+    Waits(Box<Doing>),
 }
 
 /// What a statement does that begins.
 #[derive(Debug, Drop)]
 pub enum Begun {
     Goes(Next),
-    Asks(Next, Cmd),
+    Asks(Next, Box<Cmd>),
     /// Its branches begin.
     Splits,
-    Ends(Cmd),
+    Ends(Box<Cmd>),
 }
 
 /// A statement begins.
@@ -77,6 +79,44 @@ pub fn begin(
     }
 }
 
+// The command closes the run.
+fn ends(alloc: Global, c: Cmd) -> Result<Begun, Fault>
+    ensures step { IfOk result (λ m. (ls : _) (st : _) (t : _) → shown_begun ls st t m ≡ model.Ends c) }
+    ensures kept { IfOk result (λ m. (t : _) → KeepsStore t t m) }
+{
+    Ok(Begun::Ends(Box::new(alloc, c)?))
+}
+
+// A fault fails the run.
+fn fails(alloc: Global, cause: Cause) -> Result<Begun, Fault>
+    ensures step { IfOk result (λ m. (ls : _) (st : _) (t : _) → shown_begun ls st t m ≡ model.raise cause) }
+    ensures kept { IfOk result (λ m. (t : _) → KeepsStore t t m) }
+{
+    ends(alloc, raise(alloc, cause))
+}
+
+// It waits, and asks a command for that.
+fn waits(alloc: Global, doing: Doing, c: Cmd) -> Result<Begun, Fault>
+    requires { is_task doing ≡ true }
+    ensures step { IfOk result (λ m. (ls : _) (st : _) (t : _) → shown_begun ls st t m ≡ model.Asks (shown_doing ls doing) (shown_store t) c) }
+    ensures kept { IfOk result (λ m. (t : _) (u : _) → KeepsStore t u m) }
+{
+    let doing = Box::new(alloc, doing)?;
+    let c = Box::new(alloc, c)?;
+    Ok(Begun::Asks(Next::Waits(doing), c))
+}
+
+// The marker of a patch is recorded.
+fn records(alloc: Global, next: Next, id: &Key) -> Result<Begun, Fault>
+    requires { is_task_next next ≡ true }
+    ensures step { IfOk result (λ m. (ls : _) (st : _) (t : _) → shown_begun ls st t m ≡ model.Asks (shown_onward ls st next) (shown_store t) (ACmd.RecordMarker id.now)) }
+    ensures kept { IfOk result (λ m. (t : _) (u : _) → KeepsStore t u m) }
+{
+    let id = id.copy(alloc)?;
+    let c = Box::new(alloc, Cmd::RecordMarker(id))?;
+    Ok(Begun::Asks(next, c))
+}
+
 fn assign(
     alloc: Global,
     table: &Table,
@@ -93,7 +133,7 @@ fn assign(
             set(alloc, t, name, v)?;
             Ok(Begun::Goes(Next::Over))
         }
-        Err(c) => Ok(Begun::Ends(raise(alloc, c))),
+        Err(c) => fails(alloc, c),
     }
 }
 
@@ -141,12 +181,12 @@ fn call(
                 let into = into.copy(alloc)?;
                 let late = late_of(table, otherwise, links);
                 let doing = Doing::OnActivity(s.event.get(), into, kind, late);
-                Ok(Begun::Asks(Next::Does(doing), asked))
+                waits(alloc, doing, asked)
             } else {
-                Ok(Begun::Ends(raise(alloc, Cause::WaitLimit)))
+                fails(alloc, Cause::WaitLimit)
             }
         }
-        Err(c) => Ok(Begun::Ends(raise(alloc, c))),
+        Err(c) => fails(alloc, c),
     }
 }
 
@@ -164,12 +204,12 @@ fn sleep(
         Ok(at) => {
             if may_wait(s) {
                 let doing = Doing::OnTimer(s.event.get());
-                Ok(Begun::Asks(Next::Does(doing), Cmd::StartTimer(at)))
+                waits(alloc, doing, Cmd::StartTimer(at))
             } else {
-                Ok(Begun::Ends(raise(alloc, Cause::WaitLimit)))
+                fails(alloc, Cause::WaitLimit)
             }
         }
-        Err(c) => Ok(Begun::Ends(raise(alloc, c))),
+        Err(c) => fails(alloc, c),
     }
 }
 
@@ -190,9 +230,9 @@ fn wait(
     }
     if may_wait(s) {
         let doing = Doing::OnSignal(into.copy(alloc)?, signal.copy(alloc)?);
-        Ok(Begun::Goes(Next::Does(doing)))
+        Ok(Begun::Goes(Next::Waits(Box::new(alloc, doing)?)))
     } else {
-        Ok(Begun::Ends(raise(alloc, Cause::WaitLimit)))
+        fails(alloc, Cause::WaitLimit)
     }
 }
 
@@ -222,12 +262,12 @@ fn wait_for(
                 let into = into.copy(alloc)?;
                 let signal = signal.copy(alloc)?;
                 let doing = Doing::OnSignalFor(into, signal, s.event, list);
-                Ok(Begun::Asks(Next::Does(doing), Cmd::StartTimer(at)))
+                waits(alloc, doing, Cmd::StartTimer(at))
             } else {
-                Ok(Begun::Ends(raise(alloc, Cause::WaitLimit)))
+                fails(alloc, Cause::WaitLimit)
             }
         }
-        Err(c) => Ok(Begun::Ends(raise(alloc, c))),
+        Err(c) => fails(alloc, c),
     }
 }
 
@@ -250,7 +290,7 @@ fn pick(
 {
     match eval(alloc, &t.variables, s.at, e)? {
         Ok(v) => Ok(Begun::Goes(picked(table, truth(&v), a, b, first, second))),
-        Err(c) => Ok(Begun::Ends(raise(alloc, c))),
+        Err(c) => fails(alloc, c),
     }
 }
 
@@ -291,7 +331,7 @@ fn repeat(
     ensures kept { IfOk result (λ m. KeepsStore t.old t.new m) }
 {
     if t.tests >= 10000 {
-        return Ok(Begun::Ends(raise(alloc, Cause::TurnBudget)));
+        return fails(alloc, Cause::TurnBudget);
     }
     match eval(alloc, &t.variables, s.at, e)? {
         Ok(v) => {
@@ -302,7 +342,7 @@ fn repeat(
                 Ok(Begun::Goes(Next::Over))
             }
         }
-        Err(c) => Ok(Begun::Ends(raise(alloc, c))),
+        Err(c) => fails(alloc, c),
     }
 }
 
@@ -331,7 +371,7 @@ fn since_patch(
             let next = picked(table, answer, a, b, first, second);
             t.decided.insert(alloc, id, answer)?;
             if answer {
-                Ok(Begun::Asks(next, Cmd::RecordMarker(id.copy(alloc)?)))
+                records(alloc, next, id)
             } else {
                 Ok(Begun::Goes(next))
             }
@@ -351,14 +391,14 @@ fn deprecate(
     ensures kept { IfOk result (λ m. KeepsStore t.old t.new m) }
 {
     match t.decided.find(id) {
-        Some(_first) => Ok(Begun::Goes(Next::Does(Doing::Empty))),
+        Some(_first) => Ok(Begun::Goes(Next::Nothing)),
         None => {
             let answer = is_answered(s, id);
             t.decided.insert(alloc, id, answer)?;
             if answer {
-                Ok(Begun::Asks(Next::Does(Doing::Empty), Cmd::RecordMarker(id.copy(alloc)?)))
+                records(alloc, Next::Nothing, id)
             } else {
-                Ok(Begun::Goes(Next::Does(Doing::Empty)))
+                Ok(Begun::Goes(Next::Nothing))
             }
         }
     }
@@ -375,8 +415,8 @@ fn finish(
     ensures kept { IfOk result (λ m. KeepsStore t.now t.now m) }
 {
     match eval(alloc, &t.variables, s.at, e)? {
-        Ok(v) => Ok(Begun::Ends(Cmd::Complete(v))),
-        Err(c) => Ok(Begun::Ends(raise(alloc, c))),
+        Ok(v) => ends(alloc, Cmd::Complete(v)),
+        Err(c) => fails(alloc, c),
     }
 }
 
@@ -391,8 +431,8 @@ fn give_up(
     ensures kept { IfOk result (λ m. KeepsStore t.now t.now m) }
 {
     match eval(alloc, &t.variables, s.at, e)? {
-        Ok(v) => Ok(Begun::Ends(Cmd::Fail(Cause::UserFail, text_in(alloc, v)))),
-        Err(c) => Ok(Begun::Ends(raise(alloc, c))),
+        Ok(v) => ends(alloc, Cmd::Fail(Cause::UserFail, text_in(alloc, v))),
+        Err(c) => fails(alloc, c),
     }
 }
 
@@ -410,11 +450,11 @@ fn go_on_anew(
     match eval_all(alloc, &t.variables, s.at, es)? {
         Ok(values) => {
             if s.is_first {
-                Ok(Begun::Ends(raise(alloc, Cause::ChainLimit)))
+                fails(alloc, Cause::ChainLimit)
             } else {
-                Ok(Begun::Ends(Cmd::ContinueAsNew(Sequence::from_vec(values))))
+                ends(alloc, Cmd::ContinueAsNew(Sequence::from_vec(values)))
             }
         }
-        Err(c) => Ok(Begun::Ends(raise(alloc, c))),
+        Err(c) => fails(alloc, c),
     }
 }

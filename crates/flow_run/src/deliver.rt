@@ -18,7 +18,7 @@ use crate::places::enter;
 use crate::position::Standing;
 use crate::setting::signal_fits;
 use crate::store::Store;
-use crate::walk::{branch, settle, take_cell};
+use crate::walk::{branch, settle};
 use flow_base::event::{Cause, Cmd, Input, State};
 use flow_base::number::EventId;
 use flow_base::syntax::{Parameter, Program};
@@ -166,7 +166,7 @@ fn complete(
                     return Ok(None);
                 }
                 let mut p = resumed(alloc, run)?;
-                becomes(alloc, table, &mut p.cells, i, Doing::Over);
+                becomes(table, &mut p.cells, i, Doing::Over);
                 p.store.variables.set(alloc, into, v.copy(alloc)?)?;
                 Ok(Some(p))
             }
@@ -198,7 +198,7 @@ fn fail(
                 Some(list) => begins(alloc, table, &mut p.cells, i, list)?,
                 None => {
                     let raised = Doing::Raised(Cause::ActivityFailed, text.copy(alloc)?);
-                    becomes(alloc, table, &mut p.cells, i, raised);
+                    becomes(table, &mut p.cells, i, raised);
                 }
             }
             Ok(Some(p))
@@ -226,7 +226,7 @@ fn fire(
             let mut p = resumed(alloc, run)?;
             match late(&run.cells[i].doing) {
                 Some(list) => begins(alloc, table, &mut p.cells, i, list)?,
-                None => becomes(alloc, table, &mut p.cells, i, Doing::Over),
+                None => becomes(table, &mut p.cells, i, Doing::Over),
             }
             Ok(Some(p))
         }
@@ -303,10 +303,9 @@ fn start_from(
 }
 
 // The task at a place does this.
-fn becomes(alloc: Global, table: &Table, cells: &mut Vec<Cell>, i: usize, doing: Doing) {
-    let cell = take_cell(alloc, table, cells, i);
-    let places = cell.places;
-    settle(table, cells, i, Cell { places, doing });
+fn becomes(table: &Table, cells: &mut Vec<Cell>, i: usize, doing: Doing) {
+    cells[i].doing = doing;
+    settle(table, cells, i);
 }
 
 // The task at a place does a list.
@@ -317,10 +316,8 @@ fn begins(
     i: usize,
     list: usize,
 ) -> Result<(), Fault> {
-    let cell = take_cell(alloc, table, cells, i);
-    let mut places = cell.places;
-    let doing = enter(alloc, table, &mut places, list)?;
-    settle(table, cells, i, Cell { places, doing });
+    enter(alloc, table, &mut cells[i], list)?;
+    settle(table, cells, i);
     Ok(())
 }
 

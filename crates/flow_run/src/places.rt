@@ -1,10 +1,10 @@
-ghost use Rattle.std.specs.Prelude.{◌≡◌, ◌<◌, ◌+◌, not, length, IfOk, All, take, drop, true, false, map};
+ghost use Rattle.std.specs.Prelude.{◌≡◌, ◌<◌, ◌+◌, not, length, OnOk, All, take, drop, true, false, map};
 ghost use Rattle.flow_model.specs.Rest.{is_end, rest_of};
 ghost use Rattle.flow_run.specs.Marks.{within};
 ghost use Rattle.flow_run.specs.Flat.{AreFullPlaces, IsFull, IsNextOf, blocks_of, is_task, left_at, shown_doing};
 ghost use Rattle.flow_nodes.specs.Links.{block_at, stmts_at};
 
-use crate::cell::{Doing, Place};
+use crate::cell::{Cell, Doing, Place};
 use flow_nodes::table::Table;
 use flow_values::fault::Fault;
 use std::alloc::Global;
@@ -45,21 +45,18 @@ pub fn advance(table: &Table, places: &mut Vec<Place>) -> Option<Place>
 }
 
 /// A list begins.
-pub fn enter(
-    alloc: Global,
-    table: &Table,
-    places: &mut Vec<Place>,
-    list: usize,
-) -> Result<Doing, Fault>
-    requires { AreFullPlaces table.now.lists.items places.old.items }
-    ensures rest { IfOk result (λ d. within (blocks_of table.now.lists.items places.new.items) (shown_doing table.now.lists.items d) ≡ within (blocks_of table.now.lists.items places.old.items) (rest_of (block_at table.now.lists.items list))) }
-    ensures full { IfOk result (λ _. AreFullPlaces table.now.lists.items places.new.items) }
-    ensures task { IfOk result (λ d. is_task d ≡ true) }
+pub fn enter(alloc: Global, table: &Table, cell: &mut Cell, list: usize) -> Result<(), Fault>
+    requires { AreFull table.now.lists.items cell.old }
+    ensures rest { OnOk result (task_rest table.now.lists.items cell.new ≡ within (blocks_of table.now.lists.items cell.old.places.items) (rest_of (block_at table.now.lists.items list))) }
+    ensures full { OnOk result (AreFull table.now.lists.items cell.new) }
+    ensures task { OnOk result (is_task cell.new.doing ≡ true) }
 {
     let to = table.stmts(list).len();
     if to == 0 {
-        return Ok(Doing::Empty);
+        cell.doing = Doing::Empty;
+        return Ok(());
     }
-    places.push(Place { list, at: 0, to })?;
-    Ok(Doing::Over)
+    cell.places.push(Place { list, at: 0, to })?;
+    cell.doing = Doing::Over;
+    Ok(())
 }

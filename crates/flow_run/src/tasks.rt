@@ -9,36 +9,23 @@ ghost use Rattle.flow_run.specs.Flat.{AreFullPlaces, KeepsTask, blocks_of, idle_
 ghost use Rattle.flow_nodes.specs.Links.{AreLinked, block_at, stmts_at};
 
 use crate::begins::{Begun, Next, begin};
-use crate::cell::{Doing, Place};
+use crate::cell::{Cell, Doing, Place};
 use flow_nodes::table::Table;
 use crate::places::{advance, enter};
 use crate::setting::Setting;
 use crate::store::{Store, take};
 use flow_base::event::Cmd;
-use flow_base::number::EventId;
-use flow_base::text::Key;
 use flow_values::fault::Fault;
 use std::alloc::Global;
 
-/// What one step does with a task: what it does then, or that the statement at a place splits it.
+/// What one step does with a task: the statement at a place may split it.
 #[derive(Debug, Drop)]
 pub enum Went {
-    Stays(Doing),
-    Goes(Doing),
-    Asks(Doing, Cmd),
+    Stays,
+    Goes,
+    Asks(Box<Cmd>),
     Splits(Place),
-    Ends(Cmd),
-}
-
-// A task that does nothing by itself; a list without statements may have begun.
-fn idle(is_empty: bool) -> Doing
-    ensures { result ≡ idle_of is_empty }
-{
-    if is_empty {
-        Doing::Empty
-    } else {
-        Doing::Over
-    }
+    Ends(Box<Cmd>),
 }
 
 // A task that waits for nothing goes on.
@@ -47,28 +34,28 @@ fn go_on(
     table: &Table,
     s: &Setting,
     t: &mut Store,
-    places: &mut Vec<Place>,
-    is_empty: bool,
+    cell: &mut Cell,
 ) -> Result<Went, Fault>
     requires linked { AreLinked table.now.lists.items }
-    requires full { AreFullPlaces table.now.lists.items places.old.items }
-    ensures step { IfOk result (λ w. shown_went table.now.lists.items places.new.items t.new w ≡ model.move (shown_setting s.now) (shown_store t.old) (within (blocks_of table.now.lists.items places.old.items) (shown_doing table.now.lists.items (idle_of is_empty)))) }
-    ensures kept { IfOk result (λ w. KeepsTask table.now.lists.items places.old.items (idle_of is_empty) t.old places.new.items t.new w) }
-    ensures full { IfOk result (λ _. AreFullPlaces table.now.lists.items places.new.items) }
+    requires full { AreFull table.now.lists.items cell.old }
+    requires idle { is_idle cell.old.doing ≡ true }
+    ensures step { IfOk result (λ w. shown_went table.now.lists.items cell.new t.new w ≡ model.move (shown_setting s.now) (shown_store t.old) (task_rest table.now.lists.items cell.old)) }
+    ensures kept { IfOk result (λ w. KeepsTask table.now.lists.items cell.old t.old cell.new t.new w) }
+    ensures full { IfOk result (λ _. AreFull table.now.lists.items cell.new) }
 {
-    match advance(table, places) {
-        None => Ok(Went::Stays(idle(is_empty))),
+    match advance(table, &mut cell.places) {
+        None => Ok(Went::Stays),
         Some(place) => {
             let stmt = table.stmt(place.list, place.at);
             let links = table.link(place.list, place.at);
             match begin(alloc, table, s, t, stmt, links)? {
                 Begun::Goes(next) => {
-                    let doing = onward(alloc, table, places, place, next)?;
-                    Ok(Went::Goes(doing))
+                    onward(alloc, table, cell, place, next)?;
+                    Ok(Went::Goes)
                 }
                 Begun::Asks(next, c) => {
-                    let doing = onward(alloc, table, places, place, next)?;
-                    Ok(Went::Asks(doing, c))
+                    onward(alloc, table, cell, place, next)?;
+                    Ok(Went::Asks(c))
                 }
                 Begun::Splits => Ok(Went::Splits(place)),
                 Begun::Ends(c) => Ok(Went::Ends(c)),
@@ -81,77 +68,40 @@ fn go_on(
 fn onward(
     alloc: Global,
     table: &Table,
-    places: &mut Vec<Place>,
+    cell: &mut Cell,
     place: Place,
     next: Next,
-) -> Result<Doing, Fault>
+) -> Result<(), Fault>
     requires at { place.at < length (stmts_at table.now.lists.items place.list) }
-    requires full { AreFullPlaces table.now.lists.items places.old.items }
+    requires full { AreFull table.now.lists.items cell.old }
     requires task { is_task_next next ≡ true }
-    ensures rest { IfOk result (λ d. (st : AStmt) → slice_get (stmts_at table.now.lists.items place.list) place.at ≡ Some st → within (blocks_of table.now.lists.items places.new.items) (shown_doing table.now.lists.items d) ≡ within (blocks_of table.now.lists.items places.old.items) (shown_onward table.now.lists.items (shown_stmt st) next)) }
-    ensures full { IfOk result (λ _. AreFullPlaces table.now.lists.items places.new.items) }
-    ensures task { IfOk result (λ d. is_task d ≡ true) }
+    ensures rest { OnOk result ((st : AStmt) → slice_get (stmts_at table.now.lists.items place.list) place.at ≡ Some st → task_rest table.now.lists.items cell.new ≡ within (blocks_of table.now.lists.items cell.old.places.items) (shown_onward table.now.lists.items (shown_stmt st) next)) }
+    ensures full { OnOk result (AreFull table.now.lists.items cell.new) }
+    ensures task { OnOk result (is_task cell.new.doing ≡ true) }
 {
     match next {
-        Next::Over => Ok(Doing::Over),
-        Next::Enters(list) => {
-            let doing = enter(alloc, table, places, list)?;
-            Ok(doing)
+        Next::Over => {
+            cell.doing = Doing::Over;
+            Ok(())
         }
+        Next::Nothing => {
+            cell.doing = Doing::Empty;
+            Ok(())
+        }
+        Next::Enters(list) => enter(alloc, table, cell, list),
         Next::Repeats(list) => {
-            places.push(Place {
+            cell.places.push(Place {
                 list: place.list,
                 at: place.at,
                 to: place.at + 1,
             })?;
-            let doing = enter(alloc, table, places, list)?;
-            Ok(doing)
+            enter(alloc, table, cell, list)?;
+            Ok(())
         }
-        Next::Does(doing) => Ok(doing),
-    }
-}
-
-// A wait takes its signal, where that is there.
-fn hear(
-    alloc: Global,
-    table: &Table,
-    s: &Setting,
-    t: &mut Store,
-    places: &[Place],
-    into: Key,
-    signal: Key,
-) -> Result<Went, Fault>
-    ensures step { IfOk result (λ w. shown_went table.now.lists.items places.now t.new w ≡ model.move (shown_setting s.now) (shown_store t.old) (within (blocks_of table.now.lists.items places.now) (tree.OnSignal into signal))) }
-    ensures kept { IfOk result (λ w. KeepsTask table.now.lists.items places.now (Doing.OnSignal into signal) t.old places.now t.new w) }
-{
-    let is_there = take(alloc, t, &into, &signal)?;
-    if is_there {
-        Ok(Went::Goes(Doing::Over))
-    } else {
-        Ok(Went::Stays(Doing::OnSignal(into, signal)))
-    }
-}
-
-// The same for a wait with a timer, which is cancelled then.
-fn hear_in_time(
-    alloc: Global,
-    table: &Table,
-    s: &Setting,
-    t: &mut Store,
-    places: &[Place],
-    into: Key,
-    signal: Key,
-    timer: EventId,
-    late: usize,
-) -> Result<Went, Fault>
-    ensures step { IfOk result (λ w. shown_went table.now.lists.items places.now t.new w ≡ model.move (shown_setting s.now) (shown_store t.old) (within (blocks_of table.now.lists.items places.now) (tree.OnSignalFor into signal timer (block_at table.now.lists.items late)))) }
-    ensures kept { IfOk result (λ w. KeepsTask table.now.lists.items places.now (Doing.OnSignalFor into signal timer late) t.old places.now t.new w) }
-{
-    let is_there = take(alloc, t, &into, &signal)?;
-    if is_there {
-        Ok(Went::Asks(Doing::Over, Cmd::CancelTimer(timer)))
-    } else {
-        Ok(Went::Stays(Doing::OnSignalFor(into, signal, timer, late)))
+        Next::Waits(doing) => {
+            cell.doing = Box::into_inner(doing);
+            Ok(())
+        }
     }
 }
 
@@ -161,36 +111,41 @@ pub fn act(
     table: &Table,
     s: &Setting,
     t: &mut Store,
-    places: &mut Vec<Place>,
-    doing: Doing,
+    cell: &mut Cell,
 ) -> Result<Went, Fault>
     requires linked { AreLinked table.now.lists.items }
-    requires full { AreFullPlaces table.now.lists.items places.old.items }
-    requires task { is_task doing ≡ true }
-    ensures step { IfOk result (λ w. shown_went table.now.lists.items places.new.items t.new w ≡ model.move (shown_setting s.now) (shown_store t.old) (within (blocks_of table.now.lists.items places.old.items) (shown_doing table.now.lists.items doing))) }
-    ensures kept { IfOk result (λ w. KeepsTask table.now.lists.items places.old.items doing t.old places.new.items t.new w) }
-    ensures full { IfOk result (λ _. AreFullPlaces table.now.lists.items places.new.items) }
+    requires full { AreFull table.now.lists.items cell.old }
+    requires task { is_task cell.old.doing ≡ true }
+    ensures step { IfOk result (λ w. shown_went table.now.lists.items cell.new t.new w ≡ model.move (shown_setting s.now) (shown_store t.old) (task_rest table.now.lists.items cell.old)) }
+    ensures kept { IfOk result (λ w. KeepsTask table.now.lists.items cell.old t.old cell.new t.new w) }
+    ensures full { IfOk result (λ _. AreFull table.now.lists.items cell.new) }
 {
-    match doing {
-        Doing::Over => {
-            let went = go_on(alloc, table, s, t, places, false)?;
-            Ok(went)
+    match &cell.doing {
+        Doing::Over => go_on(alloc, table, s, t, cell),
+        Doing::Empty => go_on(alloc, table, s, t, cell),
+        Doing::OnSignal(into, signal) => {
+            if take(alloc, t, into, signal)? {
+                cell.doing = Doing::Over;
+                Ok(Went::Goes)
+            } else {
+                Ok(Went::Stays)
+            }
         }
-        Doing::Empty => {
-            let went = go_on(alloc, table, s, t, places, true)?;
-            Ok(went)
+        Doing::OnSignalFor(into, signal, timer, _) => {
+            let cancel = Box::new(alloc, Cmd::CancelTimer(*timer))?;
+            if take(alloc, t, into, signal)? {
+                cell.doing = Doing::Over;
+                Ok(Went::Asks(cancel))
+            } else {
+                Ok(Went::Stays)
+            }
         }
-        Doing::OnActivity(n, x, k, o) => Ok(Went::Stays(Doing::OnActivity(n, x, k, o))),
-        Doing::OnTimer(n) => Ok(Went::Stays(Doing::OnTimer(n))),
-        Doing::OnSignal(x, name) => {
-            let went = hear(alloc, table, s, t, places, x, name)?;
-            Ok(went)
+        Doing::Raised(c, text) => {
+            let text = text.copy(alloc)?;
+            Ok(Went::Ends(Box::new(alloc, Cmd::Fail(*c, text))?))
         }
-        Doing::OnSignalFor(x, name, n, late) => {
-            let went = hear_in_time(alloc, table, s, t, places, x, name, n, late)?;
-            Ok(went)
-        }
-        Doing::Raised(c, text) => Ok(Went::Ends(Cmd::Fail(c, text))),
-        Doing::Join(n, k) => Ok(Went::Stays(Doing::Join(n, k))),
+        Doing::OnActivity(_, _, _, _) => Ok(Went::Stays),
+        Doing::OnTimer(_) => Ok(Went::Stays),
+        Doing::Join(_, _) => Ok(Went::Stays),
     }
 }

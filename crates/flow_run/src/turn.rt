@@ -175,11 +175,11 @@ fn next(alloc: Global, f: &Frame, table: &Table, p: &mut Turning) -> Result<bool
         Stepped::Stays => Ok(false),
         Stepped::Goes => Ok(true),
         Stepped::Asks(c) => {
-            p.asked.push(c)?;
+            p.asked.push(Box::into_inner(c))?;
             Ok(true)
         }
         Stepped::Ends(c) => {
-            ends(alloc, p, c)?;
+            ends(alloc, p, Box::into_inner(c))?;
             Ok(true)
         }
     }

@@ -6,7 +6,7 @@ ghost use Rattle.flow_run.specs.Shown.{shown_setting};
 ghost use Rattle.flow_run.specs.Flat.{ActedAt, AreFull, AreFullCells, AreFullPlaces, AreSound, KeepsSound, StepsAt, StepsFirst, blocks_of, branches_at, branches_of, is_task, join_of as joined, mark_of, marks_of, task_rest};
 ghost use Rattle.flow_nodes.specs.Links.{AreLinked, block_at};
 
-use crate::cell::{Cell, Doing, Place};
+use crate::cell::{Cell, Doing};
 use crate::joins::{end, is_over, join_of};
 use flow_nodes::table::Table;
 use crate::places::enter;
@@ -22,21 +22,18 @@ use std::alloc::Global;
 pub enum Stepped {
     Stays,
     Goes,
-    Asks(Cmd),
-    Ends(Cmd),
+    Asks(Box<Cmd>),
+    Ends(Box<Cmd>),
 }
 
-/// A task or a join stands at a place, in place of a task that wasn't over.
-pub fn settle(table: &Table, cells: &mut Vec<Cell>, i: usize, cell: Cell)
+/// What began at a place has gone on. If it is over, the join that it is a branch of knows it then.
+pub fn settle(table: &Table, cells: &mut Vec<Cell>, i: usize)
     requires there { i < length cells.old.items }
     requires full { AreFullCells table.now.lists.items cells.old.items }
-    requires cell { AreFull table.now.lists.items cell }
-    requires earlier { (r : Rest) → is_done r ≡ false → Counted (take i (marks_of table.now.lists.items cells.old.items)) (r ∷ drop 1 (put (mark_of table.now.lists.items cell) (onto (drop (i + 1) (marks_of table.now.lists.items cells.old.items)) []))) }
-    requires later { Counted (mark_of table.now.lists.items cell ∷ drop (i + 1) (marks_of table.now.lists.items cells.old.items)) [] }
-    ensures shows { onto (marks_of table.now.lists.items cells.new.items) [] ≡ onto (take i (marks_of table.now.lists.items cells.old.items)) (put (mark_of table.now.lists.items cell) (onto (drop (i + 1) (marks_of table.now.lists.items cells.old.items)) [])) }
+    requires settles { Settles (marks_of table.now.lists.items cells.old.items) i }
+    ensures shows { onto (marks_of table.now.lists.items cells.new.items) [] ≡ onto (marks_of table.now.lists.items cells.old.items) [] }
     ensures sound { AreSound table.now.lists.items cells.new.items }
 {
-    cells[i] = cell;
     if is_over(table, &cells[i]) {
         end(table, cells, i);
     }
@@ -47,9 +44,12 @@ pub fn branch(alloc: Global, table: &Table, list: usize) -> Result<Cell, Fault>
     ensures mark { IfOk result (λ c. mark_of table.now.lists.items c ≡ One (rest_of (block_at table.now.lists.items list))) }
     ensures full { IfOk result (λ c. AreFull table.now.lists.items c) }
 {
-    let mut places = Vec::new(alloc);
-    let doing = enter(alloc, table, &mut places, list)?;
-    Ok(Cell { places, doing })
+    let mut cell = Cell {
+        places: Vec::new(alloc),
+        doing: Doing::Over,
+    };
+    enter(alloc, table, &mut cell, list)?;
+    Ok(cell)
 }
 
 // What a branch counts for in its join.
@@ -69,15 +69,13 @@ pub fn split(
     table: &Table,
     cells: &mut Vec<Cell>,
     i: usize,
-    places: Vec<Place>,
     lists: &[usize],
 ) -> Result<(), Fault>
     requires there { i < length cells.old.items }
     requires full { AreFullCells table.now.lists.items cells.old.items }
-    requires places { AreFullPlaces table.now.lists.items places.items }
     requires earlier { (r : Rest) → is_done r ≡ false → Counted (take i (marks_of table.now.lists.items cells.old.items)) (r ∷ onto (drop (i + 1) (marks_of table.now.lists.items cells.old.items)) []) }
     requires later { Counted (drop (i + 1) (marks_of table.now.lists.items cells.old.items)) [] }
-    ensures shows { OnOk result (onto (marks_of table.now.lists.items cells.new.items) [] ≡ onto (take i (marks_of table.now.lists.items cells.old.items)) (within (blocks_of table.now.lists.items places.items) (branches_at table.now.lists.items lists.now) ∷ onto (drop (i + 1) (marks_of table.now.lists.items cells.old.items)) [])) }
+    ensures shows { OnOk result ((c : ACell) → c ≡ slice_index_or cells.old.items i c → onto (marks_of table.now.lists.items cells.new.items) [] ≡ onto (take i (marks_of table.now.lists.items cells.old.items)) (within (blocks_of table.now.lists.items c.places.items) (branches_at table.now.lists.items lists.now) ∷ onto (drop (i + 1) (marks_of table.now.lists.items cells.old.items)) [])) }
     ensures sound { OnOk result (AreSound table.now.lists.items cells.new.items) }
 {
     let mut running = 0;
@@ -88,8 +86,8 @@ pub fn split(
         running += count(is_over(table, &child));
         cells.insert(i + 1, child)?;
     }
-    let doing = Doing::Join(lists.len(), running);
-    settle(table, cells, i, Cell { places, doing });
+    cells[i].doing = Doing::Join(lists.len(), running);
+    settle(table, cells, i);
     Ok(())
 }
 
@@ -143,7 +141,7 @@ pub fn clear(table: &Table, cells: &mut Vec<Cell>, i: usize, n: usize)
     }
 }
 
-/// The task at a place steps, if it can; it was taken out of there.
+/// The task at a place steps, if it can.
 pub fn act_at(
     alloc: Global,
     table: &Table,
@@ -151,79 +149,33 @@ pub fn act_at(
     t: &mut Store,
     cells: &mut Vec<Cell>,
     i: usize,
-    cell: Cell,
 ) -> Result<Stepped, Fault>
     requires there { i < length cells.old.items }
     requires linked { AreLinked table.now.lists.items }
     requires full { AreFullCells table.now.lists.items cells.old.items }
-    requires cell { AreFull table.now.lists.items cell }
-    requires task { is_task cell.doing ≡ true }
-    requires earlier { is_done (task_rest table.now.lists.items cell) ≡ false → (r : Rest) → is_done r ≡ false → Counted (take i (marks_of table.now.lists.items cells.old.items)) (r ∷ onto (drop (i + 1) (marks_of table.now.lists.items cells.old.items)) []) }
+    requires task { (c : ACell) → c ≡ slice_index_or cells.old.items i c → is_task c.doing ≡ true }
+    requires earlier { (c : ACell) → c ≡ slice_index_or cells.old.items i c → is_done (task_rest table.now.lists.items c) ≡ false → (r : Rest) → is_done r ≡ false → Counted (take i (marks_of table.now.lists.items cells.old.items)) (r ∷ onto (drop (i + 1) (marks_of table.now.lists.items cells.old.items)) []) }
     requires later { Counted (drop (i + 1) (marks_of table.now.lists.items cells.old.items)) [] }
-    ensures step { IfOk result (λ m. ActedAt table.now.lists.items (shown_setting s.now) t.old cell cells.old.items i t.new cells.new.items m) }
+    ensures step { IfOk result (λ m. (c : ACell) → c ≡ slice_index_or cells.old.items i c → ActedAt table.now.lists.items (shown_setting s.now) t.old c cells.old.items i t.new cells.new.items m) }
     ensures sound { IfOk result (λ m. KeepsSound table.now.lists.items cells.new.items m) }
 {
-    let Cell { places, doing } = cell;
-    let mut places = places;
-    match act(alloc, table, s, t, &mut places, doing)? {
-        Went::Stays(doing) => {
-            cells[i] = Cell { places, doing };
-            Ok(Stepped::Stays)
-        }
-        Went::Goes(doing) => {
-            settle(table, cells, i, Cell { places, doing });
+    match act(alloc, table, s, t, &mut cells[i])? {
+        Went::Stays => Ok(Stepped::Stays),
+        Went::Goes => {
+            settle(table, cells, i);
             Ok(Stepped::Goes)
         }
-        Went::Asks(doing, c) => {
-            settle(table, cells, i, Cell { places, doing });
+        Went::Asks(c) => {
+            settle(table, cells, i);
             Ok(Stepped::Asks(c))
         }
         Went::Splits(place) => {
             let links = table.link(place.list, place.at);
-            split(alloc, table, cells, i, places, &links.branches)?;
+            split(alloc, table, cells, i, &links.branches)?;
             Ok(Stepped::Goes)
         }
         Went::Ends(c) => Ok(Stepped::Ends(c)),
     }
-}
-
-/// A task is taken out of its place, for a moment.
-pub fn take_cell(alloc: Global, _table: &Table, cells: &mut Vec<Cell>, i: usize) -> Cell
-    requires there { i < length cells.old.items }
-    requires full { AreFullCells _table.now.lists.items cells.old.items }
-    ensures value { result ≡ slice_index_or cells.old.items i result }
-    ensures length { length cells.new.items ≡ length cells.old.items }
-    ensures front { take i (marks_of _table.now.lists.items cells.new.items) ≡ take i (marks_of _table.now.lists.items cells.old.items) }
-    ensures behind { drop (i + 1) (marks_of _table.now.lists.items cells.new.items) ≡ drop (i + 1) (marks_of _table.now.lists.items cells.old.items) }
-    ensures full { AreFullCells _table.now.lists.items cells.new.items }
-    ensures cell { AreFull _table.now.lists.items result }
-{
-    let nothing = Cell {
-        places: Vec::new(alloc),
-        doing: Doing::Over,
-    };
-    std::mem::replace(&mut cells[i], nothing)
-}
-
-/// The task at a place steps, if it can.
-pub fn step_task(
-    alloc: Global,
-    table: &Table,
-    s: &Setting,
-    t: &mut Store,
-    cells: &mut Vec<Cell>,
-    i: usize,
-) -> Result<Stepped, Fault>
-    requires there { i < length cells.old.items }
-    requires linked { AreLinked table.now.lists.items }
-    requires sound { AreSound table.now.lists.items cells.old.items }
-    requires task { (c : ACell) → c ≡ slice_index_or cells.old.items i c → is_task c.doing ≡ true }
-    ensures step { IfOk result (λ m. StepsAt table.now.lists.items (shown_setting s.now) t.old cells.old.items i t.new cells.new.items m) }
-    ensures sound { IfOk result (λ m. KeepsSound table.now.lists.items cells.new.items m) }
-{
-    let cell = take_cell(alloc, table, cells, i);
-    let m = act_at(alloc, table, s, t, cells, i, cell)?;
-    Ok(m)
 }
 
 /// A join whose branches are all over goes on.
@@ -244,13 +196,8 @@ pub fn resume(
     ensures sound { IfOk result (λ m. KeepsSound table.now.lists.items cells.new.items m) }
 {
     clear(table, cells, i, n);
-    let cell = take_cell(alloc, table, cells, i);
-    let places = cell.places;
-    let idle = Cell {
-        places,
-        doing: Doing::Over,
-    };
-    let m = act_at(alloc, table, s, t, cells, i, idle)?;
+    cells[i].doing = Doing::Over;
+    let m = act_at(alloc, table, s, t, cells, i)?;
     Ok(m)
 }
 
@@ -282,7 +229,7 @@ fn step_at(
             Ok(m)
         }
         None => {
-            let m = step_task(alloc, table, s, t, cells, i)?;
+            let m = act_at(alloc, table, s, t, cells, i)?;
             Ok(m)
         }
     }
