@@ -1,10 +1,12 @@
 -- Links stay right where lists are added.
-use Rattle.std.proofs.Common.{◌≡◌, ℕ, zero, suc, ◌+◌, ◌<◌, List, [], ◌∷◌, ◌++◌, append_assoc, length, length-append, map, refl, sym, ap, ◌∙◌, subst, arith, Option, Some, None}
+use Rattle.std.proofs.Common.{◌≡◌, ℕ, zero, suc, ◌+◌, ◌<◌, List, [], ◌∷◌, ◌++◌, append_assoc, length, length-append, get_or, take, map, map-append, refl, sym, ap, ◌∙◌, subst, arith, Option, Some, None}
 use Rattle.std.specs.Prelude.{slice_get}
 use Rattle.flow_base.specs.Syntax as syntax
 use Rattle.flow_base.specs.Syntax.{Statement, Block, Otherwise, NoElse, Else, Branches, NoBranch, Branch, block_of}
-use Rattle.flow_base.specs.Shown.{Braced, branches_of, shown_stmt}
+use Rattle.flow_base.specs.Shown.{Braced, branches_of, shown_branch, shown_stmt}
+use Rattle.std.proofs.lemmas.List.{take_more}
 use Rattle.flow_base.specs.declared.syntax.Stmt.{Stmt}
+use Rattle.flow_base.specs.declared.syntax.Branch.{Branch as Branched}
 use Rattle.flow_nodes.specs.declared.table.Listing.{Listing}
 use Rattle.flow_nodes.specs.declared.table.Links.{Links}
 use Rattle.flow_nodes.specs.Links.{AreLinked, Grows, IsLinked, LeadAll, LeadsTo, LeadsWithin, LinkEach, block_at, branches_in, links_at, links_in, stmts_at, stmts_in}
@@ -144,3 +146,20 @@ pushed_linked ls new l e are each = subst AreLinked (sym e) (linked_more ls l ar
 
 pub pushed_grows : (ls new : List Listing) (l : Listing) → new ≡ ls ++ (l ∷ []) → Grows ls new
 pushed_grows ls new l e = record { more = l ∷ []; is = e }
+
+-- one statement more, where lists were added meanwhile
+pub each_step : (ls ms : List Listing) (ss : List Stmt) (ks new : List Links) (i : ℕ) (s : Stmt) (k : Links) → i < length ss → s ≡ get_or ss i s → new ≡ ks ++ (k ∷ []) → Grows ls ms → LinkEach ls (take i ss) ks → IsLinked ms (shown_stmt s) k → LinkEach ms (take (i + 1) ss) new
+each_step ls ms ss ks new i s k h f e g each l =
+    let taken : take (i + 1) ss ≡ take i ss ++ (s ∷ []) = take_more ss i s h ∙ ap (λ (x : Stmt). take i ss ++ (x ∷ [])) (sym f) in
+    subst (λ (xs : List Links). LinkEach ms (take (i + 1) ss) xs) (sym e)
+    (subst (λ (xs : List Stmt). LinkEach ms xs (ks ++ (k ∷ []))) (sym taken) (each_more ms (take i ss) ks s k (each_on ls ms (take i ss) ks g each) l))
+
+-- one branch more, where lists were added meanwhile
+pub branch_step : (ls ms : List Listing) (cs : List Branched) (ns new : List ℕ) (i : ℕ) (c : Branched) (n : ℕ) (b : ℕ × Braced) → i < length cs → c ≡ get_or cs i c → new ≡ ns ++ (n ∷ []) → Grows ls ms → LeadAll ls ns (branches_of (b ∷ map shown_branch (take i cs))) → LeadsTo ms n (shown_branch c).1.0
+    → LeadAll ms new (branches_of (b ∷ map shown_branch (take (i + 1) cs)))
+branch_step ls ms cs ns new i c n b h f e g all l =
+    let taken : take (i + 1) cs ≡ take i cs ++ (c ∷ []) = take_more cs i c h ∙ ap (λ (x : Branched). take i cs ++ (x ∷ [])) (sym f) in
+    let shown : map shown_branch (take (i + 1) cs) ≡ map shown_branch (take i cs) ++ (shown_branch c ∷ []) = ap (map shown_branch) taken ∙ map-append shown_branch (take i cs) (c ∷ []) in
+    subst (λ (xs : List ℕ). LeadAll ms xs (branches_of (b ∷ map shown_branch (take (i + 1) cs)))) (sym e)
+    (subst (λ (bs : List (ℕ × Braced)). LeadAll ms (ns ++ (n ∷ [])) (branches_of (b ∷ bs))) (sym shown)
+    (lead_all_more ms ns (b ∷ map shown_branch (take i cs)) n (shown_branch c) (lead_all_on ls ms ns (branches_of (b ∷ map shown_branch (take i cs))) g all) l))

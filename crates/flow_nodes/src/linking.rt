@@ -1,5 +1,5 @@
-ghost use Rattle.std.specs.Prelude.{◌≡◌, ◌∷◌, [], IfOk, OnOk, map};
-ghost use Rattle.flow_base.specs.Shown.{shown_block, shown_program, shown_stmt, shown_braced, shown_branch, branches_of};
+ghost use Rattle.std.specs.Prelude.{◌≡◌, ◌∷◌, [], ℕ, IfOk, OnOk, map};
+ghost use Rattle.flow_base.specs.Shown.{shown_block, shown_program, shown_stmt, shown_braced, shown_branch, branches_of, Braced};
 ghost use Rattle.flow_nodes.specs.Links.{AreLinked, Grows, IsLinked, LeadAll, LeadsTo, LinkEach, block_at};
 
 use crate::table::{Links, Listing, Table};
@@ -34,7 +34,8 @@ fn add_list(
     let mut links = Vec::new(alloc);
     let all = stmts.as_slice();
     for stmt in all {
-        links.push(add_within(alloc, stmt, lists)?)?;
+        let within = add_within(alloc, stmt, lists)?;
+        links.push(within)?;
     }
     let stmts = stmts.clone()?;
     let number = push_list(lists, Listing { stmts, links })?;
@@ -69,10 +70,19 @@ fn add_within(
     match stmt {
         Stmt::Call(_, _, _, _, _, _, Some(late)) => add_one(alloc, late, lists),
         Stmt::WaitSignalFor(_, _, _, _, _, late) => add_one(alloc, late, lists),
-        Stmt::If(_, _, a, b) => add_both(alloc, a, b, lists),
+        Stmt::If(_, _, a, b) => {
+            let links = add_one(alloc, a, lists)?;
+            add_second(alloc, b, links, lists)
+        }
         Stmt::While(_, _, b) => add_one(alloc, b, lists),
-        Stmt::Parallel(_, first, others, _) => add_branches(alloc, first, others, lists),
-        Stmt::Patch(_, _, _, a, b) => add_both(alloc, a, b, lists),
+        Stmt::Parallel(_, first, others, _) => {
+            let number = add_list(alloc, &first.body.list, lists)?;
+            add_branches(alloc, others, number, lists)
+        }
+        Stmt::Patch(_, _, _, a, b) => {
+            let links = add_one(alloc, a, lists)?;
+            add_second(alloc, b, links, lists)
+        }
         _ => Ok(none(alloc)),
     }
 }
@@ -103,45 +113,52 @@ fn add_one(alloc: Global, a: &Block, lists: &mut Vec<Listing>) -> Result<Links, 
     })
 }
 
+// A second list of the same statement.
 #[cycle(lists)]
-fn add_both(
+fn add_second(
     alloc: Global,
-    a: &Block,
     b: &Block,
+    links: Links,
     lists: &mut Vec<Listing>,
 ) -> Result<Links, AllocError>
     requires { AreLinked lists.old.items }
-    ensures first { IfOk result (λ k. LeadsTo lists.new.items k.first (shown_braced a.now).0) }
+    ensures first { IfOk result (λ k. (a : _) → LeadsTo lists.old.items links.first a → LeadsTo lists.new.items k.first a) }
     ensures second { IfOk result (λ k. LeadsTo lists.new.items k.second (shown_braced b.now).0) }
-    ensures none { IfOk result (λ k. k.branches.items ≡ []) }
+    ensures branches { IfOk result (λ k. k.branches.items ≡ links.branches.items) }
     ensures grows { OnOk result (Grows lists.old.items lists.new.items) }
     ensures linked { OnOk result (AreLinked lists.new.items) }
 {
-    let first = add_list(alloc, &a.list, lists)?;
     let second = add_list(alloc, &b.list, lists)?;
+    let Links {
+        first,
+        second: _,
+        branches,
+    } = links;
     Ok(Links {
         first,
         second,
-        branches: Vec::new(alloc),
+        branches,
     })
 }
 
+// The branches behind the first, which has this number.
 #[cycle(lists)]
 fn add_branches(
     alloc: Global,
-    first: &Branch,
     others: &[Branch],
+    first: usize,
     lists: &mut Vec<Listing>,
 ) -> Result<Links, AllocError>
     requires { AreLinked lists.old.items }
-    ensures branches { IfOk result (λ k. LeadAll lists.new.items k.branches.items (branches_of (shown_branch first.now ∷ map shown_branch others.now))) }
+    ensures branches { IfOk result (λ k. (b : ℕ × Braced) → LeadsTo lists.old.items first b.1.0 → LeadAll lists.new.items k.branches.items (branches_of (b ∷ map shown_branch others.now))) }
     ensures grows { OnOk result (Grows lists.old.items lists.new.items) }
     ensures linked { OnOk result (AreLinked lists.new.items) }
 {
     let mut branches = Vec::new(alloc);
-    branches.push(add_list(alloc, &first.body.list, lists)?)?;
+    branches.push(first)?;
     for branch in others {
-        branches.push(add_list(alloc, &branch.body.list, lists)?)?;
+        let number = add_list(alloc, &branch.body.list, lists)?;
+        branches.push(number)?;
     }
     Ok(Links {
         first: 0,

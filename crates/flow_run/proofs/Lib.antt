@@ -9,5 +9,7 @@ pub mod Parts
 pub mod Replacing
 pub mod Stepping
 pub mod Steps
+pub mod Turning
 pub mod Turns
+pub mod Waits
 pub mod Walking

@@ -3,6 +3,7 @@ use Rattle.std.specs.Prelude.{◌≡◌, ℕ, ◌≤◌, List, [], ◌∷◌, le
 use Rattle.flow_base.specs.Syntax.{Bytes, Program, activities_of}
 use Rattle.flow_base.specs.Shown.{shown_declaration}
 use Rattle.flow_base.specs.declared.value.Value.{Value}
+use Rattle.flow_base.specs.declared.event.Cmd.{Cmd}
 use Rattle.flow_base.specs.declared.event.State.{State}
 use Rattle.flow_base.specs.declared.event.State.TheVariants.{Unbegun}
 use Rattle.flow_nodes.specs.declared.table.Listing.{Listing}
@@ -91,3 +92,10 @@ shown_frame f =
       events = f.events;
       answer = turn.answer_of (shown_answers f.answers);
     }
+
+-- From a run within a turn, steps lead to these commands and this configuration.
+pub record Leads (f : turn.Frame) (start : Progress) (commands : List Cmd) (new : Configuration) : Type 0 where
+  pub last : Progress
+  pub runs : (n : ℕ) × (turn.steps n f start ≡ Some last)
+  pub asks : commands ≡ last.asked
+  pub leaves : new ≡ turn.left_by f last

@@ -20,6 +20,13 @@ on_timer n (doing.OnTimer m) = nat_eq m n
 on_timer n (doing.OnSignalFor x s m late) = nat_eq m n
 on_timer n d = false
 
+-- a task that waits on an activity or a timer
+abbrev pub waits_itself : Doing → Bool
+waits_itself (doing.OnActivity m x k o) = true
+waits_itself (doing.OnTimer m) = true
+waits_itself (doing.OnSignalFor x s m late) = true
+waits_itself d = false
+
 -- the variable that waits on an activity, and the type that it wants
 abbrev pub target_in : Doing → Option (Bytes × Kind)
 target_in (doing.OnActivity m x k o) = Some (x, k)

@@ -1,14 +1,14 @@
 ghost use Rattle.std.specs.Prelude.{◌≡◌, ◌<◌, ◌+◌, ◌∷◌, ◌++◌, [], length, take, drop, slice_index_or, IfOk, IfSome, OnOk, OnErr, MatchOption, Some, None, is_some, true, false, if◌then◌else◌};
 ghost use Rattle.flow_base.specs.Syntax.{signals_of};
 ghost use Rattle.flow_base.specs.Shown.{shown_program};
-ghost use Rattle.flow_nodes.specs.Links.{AreLinked, block_at};
+ghost use Rattle.flow_nodes.specs.Links.{block_at};
 ghost use Rattle.flow_values.specs.Named.{look_up};
 ghost use Rattle.flow_values.specs.Slots.{slot_of};
 ghost use Rattle.flow_model.specs.Rest as tree;
 ghost use Rattle.flow_model.specs.Deliver as model;
-ghost use Rattle.flow_run.specs.Marks.{within, onto, Counted};
-ghost use Rattle.flow_run.specs.Flat.{AreFullCells, AreSound, blocks_of, marks_of, shown_doing, is_task};
-ghost use Rattle.flow_run.specs.Waiting.{IsFirst, IsFirstOf, on_activity, on_timer, late_in, target_in};
+ghost use Rattle.flow_run.specs.Marks.{within, onto};
+ghost use Rattle.flow_run.specs.Flat.{AreSound, blocks_of, contents_of, marks_of, shown_doing, is_task};
+ghost use Rattle.flow_run.specs.Waiting.{IsFirstOf, on_activity, on_timer, late_in, target_in, waits_itself};
 ghost use Rattle.flow_run.specs.Position.{IsWhole, IsWholeTurning, shown_standing, shown_started, started_with, rest_at, shown_progress};
 ghost use Rattle.flow_run.specs.declared.cell.Cell.{Cell as ACell};
 
@@ -270,7 +270,10 @@ fn terminate(alloc: Global, table: &Table, run: &Standing) -> Result<Option<Turn
 }
 
 // A copy of an open run, in a turn that has asked nothing yet.
-fn resumed(alloc: Global, run: &Standing) -> Result<Turning, AllocError> {
+fn resumed(alloc: Global, run: &Standing) -> Result<Turning, AllocError>
+    ensures cells { IfOk result (λ p. contents_of p.cells.items ≡ contents_of run.now.cells.items) }
+    ensures shows { IfOk result (λ p. (ls : _) → shown_progress ls p ≡ started_with (rest_at ls p.cells.items) (slot_of run.now.variables) run.now.buffer (look_up run.now.decided) State.Open) }
+{
     let cells = copy_cells(alloc, &run.cells)?;
     let variables = run.variables.share()?;
     let buffer = run.buffer.share()?;
@@ -303,7 +306,14 @@ fn start_from(
 }
 
 // The task at a place does this.
-fn becomes(table: &Table, cells: &mut Vec<Cell>, i: usize, doing: Doing) {
+fn becomes(table: &Table, cells: &mut Vec<Cell>, i: usize, doing: Doing)
+    requires there { i < length cells.old.items }
+    requires sound { AreSound table.now.lists.items cells.old.items }
+    requires waits { (c : ACell) → c ≡ slice_index_or cells.old.items i c → waits_itself c.doing ≡ true }
+    requires task { is_task doing ≡ true }
+    ensures shows { (c : ACell) → c ≡ slice_index_or cells.old.items i c → onto (marks_of table.now.lists.items cells.new.items) [] ≡ onto (take i (marks_of table.now.lists.items cells.old.items)) (within (blocks_of table.now.lists.items c.places.items) (shown_doing table.now.lists.items doing) ∷ onto (drop (i + 1) (marks_of table.now.lists.items cells.old.items)) []) }
+    ensures sound { AreSound table.now.lists.items cells.new.items }
+{
     cells[i].doing = doing;
     settle(table, cells, i);
 }
@@ -315,7 +325,13 @@ fn begins(
     cells: &mut Vec<Cell>,
     i: usize,
     list: usize,
-) -> Result<(), Fault> {
+) -> Result<(), Fault>
+    requires there { i < length cells.old.items }
+    requires sound { AreSound table.now.lists.items cells.old.items }
+    requires waits { (c : ACell) → c ≡ slice_index_or cells.old.items i c → waits_itself c.doing ≡ true }
+    ensures shows { OnOk result ((c : ACell) → c ≡ slice_index_or cells.old.items i c → onto (marks_of table.now.lists.items cells.new.items) [] ≡ onto (take i (marks_of table.now.lists.items cells.old.items)) (within (blocks_of table.now.lists.items c.places.items) (tree.rest_of (block_at table.now.lists.items list)) ∷ onto (drop (i + 1) (marks_of table.now.lists.items cells.old.items)) [])) }
+    ensures sound { OnOk result (AreSound table.now.lists.items cells.new.items) }
+{
     enter(alloc, table, &mut cells[i], list)?;
     settle(table, cells, i);
     Ok(())

@@ -1,21 +1,19 @@
-ghost use Rattle.std.specs.Prelude.{◌≡◌, ◌<◌, ◌≤◌, ◌+◌, ◌^◌, length, ℕ, min, IfOk, IfErr, OnErr, [], ◌∷◌, ◌++◌, None, Some, MatchOption, IfSome, is_some, true, false, if◌then◌else◌};
+ghost use Rattle.std.specs.Prelude.{◌≡◌, ◌<◌, ◌≤◌, ◌+◌, ◌^◌, length, ℕ, min, IfOk, OnOk, OnErr, [], ◌∷◌, ◌++◌, None, Some, MatchOption, IfSome, is_some, true, false, if◌then◌else◌};
 ghost use Rattle.flow_base.specs.Shown.{shown_program};
 ghost use Rattle.flow_base.specs.declared.event.Input.TheVariants as input_of;
 ghost use Rattle.flow_nodes.specs.Links.{AreLinked, block_at};
 ghost use Rattle.flow_model.specs.Checked.{shown_checked};
-ghost use Rattle.flow_model.specs.Rest.{is_done, open_waits as open_in};
+ghost use Rattle.flow_model.specs.Rest.{is_done};
 ghost use Rattle.flow_model.specs.Configuration as configuration;
 ghost use Rattle.flow_model.specs.Configuration.{Configuration, first_configuration};
 ghost use Rattle.flow_model.specs.Deliver.{deliver as delivered, all_fit as fit};
 ghost use Rattle.flow_model.specs.Turn as model;
 ghost use Rattle.flow_run.specs.Shown.{shown_answers};
-ghost use Rattle.flow_run.specs.Flat.{marks_of};
-ghost use Rattle.flow_run.specs.Waiting.{waits_in_all, opens_in_all, is_waiting};
-ghost use Rattle.flow_run.specs.Position.{IsWhole, IsWholeTurning, rest_at, shown_frame, shown_progress, shown_standing, shown_stepped, waits_at};
-ghost use Rattle.flow_run.specs.declared.position.Standing.{Standing as AStanding};
+ghost use Rattle.flow_run.specs.Flat.{AreSound};
+ghost use Rattle.flow_run.specs.Waiting.{waits_in_all, wait_in, opens_in_all, one_if, is_waiting as is_waiting_in};
+ghost use Rattle.flow_run.specs.Position.{IsWhole, IsWholeTurning, Leads, rest_at, shown_frame, shown_progress, shown_standing};
 
 use crate::cell::{Cell, Doing};
-use crate::decided::Decided;
 use crate::deliver::{Turning, begin, deliver};
 use crate::joins::is_over;
 use crate::position::{Position, Standing};
@@ -122,7 +120,7 @@ fn led(
     requires table { table.now ≡ linked.now }
     requires linked { AreLinked table.now.lists.items }
     requires whole { IsWholeTurning table.now.lists.items p }
-    ensures led { IfOk result (λ r. model.Leads (shown_frame f.now) (shown_progress table.now.lists.items p) r.1.items (shown_standing r.0)) }
+    ensures led { IfOk result (λ r. Leads (shown_frame f.now) (shown_progress table.now.lists.items p) r.1.items (shown_standing r.0)) }
     ensures counted { IfOk result (λ r. r.0.events ≡ f.now.events + length r.1.items) }
 {
     let linked = linked.share()?;
@@ -186,7 +184,10 @@ fn next(alloc: Global, f: &Frame, table: &Table, p: &mut Turning) -> Result<bool
 }
 
 // Whether nothing is left of a run.
-fn is_finished(table: &Table, cells: &[Cell]) -> bool {
+fn is_finished(table: &Table, cells: &[Cell]) -> bool
+    requires { AreSound table.now.lists.items cells.now }
+    ensures { result ≡ is_done (rest_at table.now.lists.items cells.now) }
+{
     match cells.first() {
         Some(cell) => is_over(table, cell),
         None => true,
@@ -194,21 +195,30 @@ fn is_finished(table: &Table, cells: &[Cell]) -> bool {
 }
 
 // How many waits are open, or 32 where they are more.
-fn open_waits(cells: &[Cell]) -> u32 {
+fn open_waits(cells: &[Cell]) -> u32
+    ensures { result ≡ min (opens_in_all cells.now) 32 }
+{
     let mut waits = 0;
     for c in cells {
-        if waits < 32 {
-            waits += one_if(is_waiting(&c.doing));
-        }
+        waits = one_more(waits, is_waiting(&c.doing));
     }
     waits
 }
 
-fn one_if(is: bool) -> u32 {
-    if is { 1 } else { 0 }
+fn one_more(waits: u32, is_one: bool) -> u32
+    requires { waits ≤ 32 }
+    ensures { result ≡ min (waits + one_if is_one) 32 }
+{
+    if is_one {
+        (waits + 1).min(32)
+    } else {
+        waits
+    }
 }
 
-fn is_waiting(doing: &Doing) -> bool {
+fn is_waiting(doing: &Doing) -> bool
+    ensures { result ≡ is_waiting_in doing.now }
+{
     match doing {
         Doing::OnActivity(_, _, _, _) => true,
         Doing::OnTimer(_) => true,
@@ -219,7 +229,10 @@ fn is_waiting(doing: &Doing) -> bool {
 }
 
 // A command closes a run, of which nothing is left then.
-fn ends(alloc: Global, p: &mut Turning, c: Cmd) -> Result<(), Fault> {
+fn ends(alloc: Global, p: &mut Turning, c: Cmd) -> Result<(), Fault>
+    ensures ends { OnOk result ((ls : _) → shown_progress ls p.new ≡ model.ended (shown_progress ls p.old) c) }
+    ensures whole { OnOk result ((ls : _) → IsWholeTurning ls p.new) }
+{
     p.state = effect_of_command(&c).leaves(State::Open);
     p.cells = Vec::new(alloc);
     p.asked.push(c)?;
@@ -254,7 +267,13 @@ fn count(asked: &[Cmd]) -> u64
 }
 
 // Where a turn leaves a run.
-fn left_by(f: &Frame, table: Linked, p: Turning) -> (Position, Vec<Cmd>) {
+fn left_by(f: &Frame, table: Linked, p: Turning) -> (Position, Vec<Cmd>)
+    requires events { f.now.events < 2 ^ 62 }
+    requires whole { IsWholeTurning table.lists.items p }
+    ensures run { shown_standing result.0 ≡ model.left_by (shown_frame f.now) (shown_progress table.lists.items p) }
+    ensures commands { result.1.items ≡ p.asked.items }
+    ensures counted { result.0.events ≡ f.now.events + length p.asked.items }
+{
     let Turning {
         cells,
         store,
@@ -281,7 +300,9 @@ fn left_by(f: &Frame, table: Linked, p: Turning) -> (Position, Vec<Cmd>) {
 }
 
 /// The open waits of tasks, from the left.
-pub fn waits(alloc: Global, cells: &[Cell]) -> Result<Vec<OpenWait>, AllocError> {
+pub fn waits(alloc: Global, cells: &[Cell]) -> Result<Vec<OpenWait>, AllocError>
+    ensures { IfOk result (λ ws. ws.items ≡ waits_in_all cells.now) }
+{
     let mut list = Vec::new(alloc);
     for c in cells {
         if let Some(wait) = wait_of(alloc, &c.doing)? {
@@ -291,7 +312,9 @@ pub fn waits(alloc: Global, cells: &[Cell]) -> Result<Vec<OpenWait>, AllocError>
     Ok(list)
 }
 
-fn wait_of(alloc: Global, doing: &Doing) -> Result<Option<OpenWait>, AllocError> {
+fn wait_of(alloc: Global, doing: &Doing) -> Result<Option<OpenWait>, AllocError>
+    ensures { IfOk result (λ w. w ≡ wait_in doing.now) }
+{
     match doing {
         Doing::OnActivity(n, x, k, _) => Ok(Some(OpenWait::Activity(*n, x.copy(alloc)?, *k))),
         Doing::OnTimer(n) => Ok(Some(OpenWait::Timer(*n))),

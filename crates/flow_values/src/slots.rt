@@ -1,7 +1,7 @@
-ghost use Rattle.std.specs.Prelude.{◌≡◌, ◌∷◌, [], ◌++◌, ◌<◌, length, IfOk, OnOk, OnErr, MatchOption, None, Some, Option, List};
-ghost use Rattle.flow_base.specs.declared.value.Value.{Value as AValue};
+ghost use Rattle.std.specs.Prelude.{◌≡◌, ◌∷◌, [], ◌++◌, IfOk, OnOk, MatchOption, None, Some};
 ghost use Rattle.flow_model.specs.Values.{with_variable, none_set};
-ghost use Rattle.flow_values.specs.Slots.{slot_of, slots, IsNumber, written};
+ghost use Rattle.flow_values.specs.Held.{held};
+ghost use Rattle.flow_values.specs.Slots.{number_of, slot_of, slots, value_at, written};
 
 use crate::evaluate::Vars;
 use flow_base::text::Key;
@@ -80,23 +80,7 @@ impl Slots {
     pub fn find(&self, name: &str) -> Option<&Value>
         ensures { MatchOption result (slot_of self.now name.now ≡ None) (λ v. slot_of self.now name.now ≡ Some v.now) }
     {
-        for (i, n) in self.names.iter().enumerate() {
-            if name == n.as_str() {
-                return self.value(i);
-            }
-        }
-        None
-    }
-
-    // What a number has.
-    fn value(&self, i: usize) -> Option<&Value> {
-        match &self.values {
-            Some(values) => match values.get(i) {
-                Some(value) => value.as_ref(),
-                None => None,
-            },
-            None => None,
-        }
+        found(&self.names, &self.values, name)
     }
 }
 
@@ -110,8 +94,39 @@ impl Vars for Slots {
     }
 }
 
-// The number of a name.
-fn number(names: &[Key], name: &Key) -> Option<usize> {
+// The value of the first number that a name has.
+fn found<'a>(
+    names: &[Key],
+    values: &'a Option<Arc<Vec<Option<Value>>>>,
+    name: &str,
+) -> Option<&'a Value>
+    ensures { MatchOption result (slot_of (slots names.now (held values.now (λ a. a.value.items))) name.now ≡ None) (λ v. slot_of (slots names.now (held values.now (λ a. a.value.items))) name.now ≡ Some v.now) }
+{
+    for (i, n) in names.iter().enumerate() {
+        if name == n.as_str() {
+            return value_in(values, i);
+        }
+    }
+    None
+}
+
+// What a number has.
+fn value_in(values: &Option<Arc<Vec<Option<Value>>>>, i: usize) -> Option<&Value>
+    ensures { MatchOption result (value_at (held values.now (λ a. a.value.items)) i ≡ None) (λ v. value_at (held values.now (λ a. a.value.items)) i ≡ Some v.now) }
+{
+    match values {
+        Some(list) => match list.get(i) {
+            Some(value) => value.as_ref(),
+            None => None,
+        },
+        None => None,
+    }
+}
+
+// The first number of a name.
+fn number(names: &[Key], name: &Key) -> Option<usize>
+    ensures { result ≡ number_of names.now name.now }
+{
     for (i, n) in names.iter().enumerate() {
         if n.is(name) {
             return Some(i);
@@ -121,7 +136,9 @@ fn number(names: &[Key], name: &Key) -> Option<usize> {
 }
 
 // The names, and one more.
-fn with_name(alloc: Global, names: &[Key], name: &Key) -> Result<Arc<Vec<Key>>, AllocError> {
+fn with_name(alloc: Global, names: &[Key], name: &Key) -> Result<Arc<Vec<Key>>, AllocError>
+    ensures { IfOk result (λ a. a.value.items ≡ names.now ++ name.now ∷ []) }
+{
     let mut list = Vec::new(alloc);
     for n in names {
         list.push(n.copy(alloc)?)?;
@@ -136,7 +153,9 @@ fn write(
     values: &mut Option<Arc<Vec<Option<Value>>>>,
     i: usize,
     value: Value,
-) -> Result<(), AllocError> {
+) -> Result<(), AllocError>
+    ensures { OnOk result (held values.new (λ a. a.value.items) ≡ written (held values.old (λ a. a.value.items)) i value) }
+{
     match values {
         Some(list) => write_shared(alloc, list, i, value)?,
         None => {
@@ -153,7 +172,9 @@ fn write_shared(
     values: &mut Arc<Vec<Option<Value>>>,
     i: usize,
     value: Value,
-) -> Result<(), AllocError> {
+) -> Result<(), AllocError>
+    ensures { OnOk result (values.new.value.items ≡ written values.old.value.items i value) }
+{
     match Arc::get_mut(values) {
         Some(own) => write_in(own, i, value)?,
         None => {
@@ -165,7 +186,9 @@ fn write_shared(
     Ok(())
 }
 
-fn write_in(values: &mut Vec<Option<Value>>, i: usize, value: Value) -> Result<(), AllocError> {
+fn write_in(values: &mut Vec<Option<Value>>, i: usize, value: Value) -> Result<(), AllocError>
+    ensures { OnOk result (values.new.items ≡ written values.old.items i value) }
+{
     while values.len() <= i {
         values.push(None)?;
     }
@@ -173,8 +196,10 @@ fn write_in(values: &mut Vec<Option<Value>>, i: usize, value: Value) -> Result<(
     Ok(())
 }
 
-fn copy_values(alloc: Global, values: &[Option<Value>]) -> Result<Vec<Option<Value>>, AllocError> {
-    let mut list = Vec::new(alloc);
+fn copy_values(alloc: Global, values: &[Option<Value>]) -> Result<Vec<Option<Value>>, AllocError>
+    ensures { IfOk result (λ v. v.items ≡ values.now) }
+{
+    let mut list = Vec::with_capacity(alloc, values.len())?;
     for v in values {
         list.push(copy_value(alloc, v)?)?;
     }
