@@ -1,10 +1,10 @@
 -- Links stay right where lists are added.
-use Rattle.std.proofs.Common.{◌≡◌, ℕ, zero, suc, ◌+◌, ◌<◌, List, [], ◌∷◌, ◌++◌, append_assoc, length, length-append, get_or, take, map, map-append, refl, sym, ap, ◌∙◌, subst, arith, Option, Some, None}
+use Rattle.std.proofs.Common.{◌≡◌, ℕ, zero, suc, ◌+◌, ◌<◌, List, [], ◌∷◌, ◌++◌, append_assoc, length, length-append, get_or, take, map, refl, sym, ap, ◌∙◌, subst, arith, Option, Some, None}
 use Rattle.std.specs.Prelude.{slice_get}
 use Rattle.flow_base.specs.Syntax as syntax
 use Rattle.flow_base.specs.Syntax.{Statement, Block, Otherwise, NoElse, Else, Branches, NoBranch, Branch, block_of}
 use Rattle.flow_base.specs.Shown.{Braced, branches_of, shown_branch, shown_stmt}
-use Rattle.std.proofs.lemmas.List.{take_more}
+use Rattle.std.proofs.lemmas.List.{map-append, take_more}
 use Rattle.flow_base.specs.declared.syntax.Stmt.{Stmt}
 use Rattle.flow_base.specs.declared.syntax.Branch.{Branch as Branched}
 use Rattle.flow_nodes.specs.declared.table.Listing.{Listing}
