@@ -79,42 +79,12 @@ pub fn begin(
     }
 }
 
-// The command closes the run.
-fn ends(alloc: Global, c: Cmd) -> Result<Begun, Fault>
-    ensures step { IfOk result (λ m. (ls : _) (st : _) (t : _) → shown_begun ls st t m ≡ model.Ends c) }
-    ensures kept { IfOk result (λ m. (t : _) → KeepsStore t t m) }
-{
-    Ok(Begun::Ends(Box::new(alloc, c)?))
-}
-
 // A fault fails the run.
-fn fails(alloc: Global, cause: Cause) -> Result<Begun, Fault>
-    ensures step { IfOk result (λ m. (ls : _) (st : _) (t : _) → shown_begun ls st t m ≡ model.raise cause) }
-    ensures kept { IfOk result (λ m. (t : _) → KeepsStore t t m) }
+fn raised(alloc: Global, cause: Cause) -> Result<Box<Cmd>, Fault>
+    ensures { IfOk result (λ b. b.value ≡ Cmd.Fail cause []) }
 {
-    ends(alloc, raise(alloc, cause))
-}
-
-// It waits, and asks a command for that.
-fn waits(alloc: Global, doing: Doing, c: Cmd) -> Result<Begun, Fault>
-    requires { is_task doing ≡ true }
-    ensures step { IfOk result (λ m. (ls : _) (st : _) (t : _) → shown_begun ls st t m ≡ model.Asks (shown_doing ls doing) (shown_store t) c) }
-    ensures kept { IfOk result (λ m. (t : _) (u : _) → KeepsStore t u m) }
-{
-    let doing = Box::new(alloc, doing)?;
-    let c = Box::new(alloc, c)?;
-    Ok(Begun::Asks(Next::Waits(doing), c))
-}
-
-// The marker of a patch is recorded.
-fn records(alloc: Global, next: Next, id: &Key) -> Result<Begun, Fault>
-    requires { is_task_next next ≡ true }
-    ensures step { IfOk result (λ m. (ls : _) (st : _) (t : _) → shown_begun ls st t m ≡ model.Asks (shown_onward ls st next) (shown_store t) (ACmd.RecordMarker id.now)) }
-    ensures kept { IfOk result (λ m. (t : _) (u : _) → KeepsStore t u m) }
-{
-    let id = id.copy(alloc)?;
-    let c = Box::new(alloc, Cmd::RecordMarker(id))?;
-    Ok(Begun::Asks(next, c))
+    let c = Box::new(alloc, raise(alloc, cause))?;
+    Ok(c)
 }
 
 fn assign(
@@ -133,7 +103,7 @@ fn assign(
             set(alloc, t, name, v)?;
             Ok(Begun::Goes(Next::Over))
         }
-        Err(c) => fails(alloc, c),
+        Err(c) => Ok(Begun::Ends(raised(alloc, c)?)),
     }
 }
 
@@ -181,12 +151,14 @@ fn call(
                 let into = into.copy(alloc)?;
                 let late = late_of(table, otherwise, links);
                 let doing = Doing::OnActivity(s.event.get(), into, kind, late);
-                waits(alloc, doing, asked)
+                let doing = Box::new(alloc, doing)?;
+                let asked = Box::new(alloc, asked)?;
+                Ok(Begun::Asks(Next::Waits(doing), asked))
             } else {
-                fails(alloc, Cause::WaitLimit)
+                Ok(Begun::Ends(raised(alloc, Cause::WaitLimit)?))
             }
         }
-        Err(c) => fails(alloc, c),
+        Err(c) => Ok(Begun::Ends(raised(alloc, c)?)),
     }
 }
 
@@ -203,13 +175,14 @@ fn sleep(
     match due(alloc, &t.variables, s.at, delay)? {
         Ok(at) => {
             if may_wait(s) {
-                let doing = Doing::OnTimer(s.event.get());
-                waits(alloc, doing, Cmd::StartTimer(at))
+                let doing = Box::new(alloc, Doing::OnTimer(s.event.get()))?;
+                let asked = Box::new(alloc, Cmd::StartTimer(at))?;
+                Ok(Begun::Asks(Next::Waits(doing), asked))
             } else {
-                fails(alloc, Cause::WaitLimit)
+                Ok(Begun::Ends(raised(alloc, Cause::WaitLimit)?))
             }
         }
-        Err(c) => fails(alloc, c),
+        Err(c) => Ok(Begun::Ends(raised(alloc, c)?)),
     }
 }
 
@@ -232,7 +205,7 @@ fn wait(
         let doing = Doing::OnSignal(into.copy(alloc)?, signal.copy(alloc)?);
         Ok(Begun::Goes(Next::Waits(Box::new(alloc, doing)?)))
     } else {
-        fails(alloc, Cause::WaitLimit)
+        Ok(Begun::Ends(raised(alloc, Cause::WaitLimit)?))
     }
 }
 
@@ -261,13 +234,14 @@ fn wait_for(
             if may_wait(s) {
                 let into = into.copy(alloc)?;
                 let signal = signal.copy(alloc)?;
-                let doing = Doing::OnSignalFor(into, signal, s.event, list);
-                waits(alloc, doing, Cmd::StartTimer(at))
+                let doing = Box::new(alloc, Doing::OnSignalFor(into, signal, s.event, list))?;
+                let asked = Box::new(alloc, Cmd::StartTimer(at))?;
+                Ok(Begun::Asks(Next::Waits(doing), asked))
             } else {
-                fails(alloc, Cause::WaitLimit)
+                Ok(Begun::Ends(raised(alloc, Cause::WaitLimit)?))
             }
         }
-        Err(c) => fails(alloc, c),
+        Err(c) => Ok(Begun::Ends(raised(alloc, c)?)),
     }
 }
 
@@ -290,7 +264,7 @@ fn pick(
 {
     match eval(alloc, &t.variables, s.at, e)? {
         Ok(v) => Ok(Begun::Goes(picked(table, truth(&v), a, b, first, second))),
-        Err(c) => fails(alloc, c),
+        Err(c) => Ok(Begun::Ends(raised(alloc, c)?)),
     }
 }
 
@@ -331,7 +305,7 @@ fn repeat(
     ensures kept { IfOk result (λ m. KeepsStore t.old t.new m) }
 {
     if t.tests >= 10000 {
-        return fails(alloc, Cause::TurnBudget);
+        return Ok(Begun::Ends(raised(alloc, Cause::TurnBudget)?));
     }
     match eval(alloc, &t.variables, s.at, e)? {
         Ok(v) => {
@@ -342,7 +316,7 @@ fn repeat(
                 Ok(Begun::Goes(Next::Over))
             }
         }
-        Err(c) => fails(alloc, c),
+        Err(c) => Ok(Begun::Ends(raised(alloc, c)?)),
     }
 }
 
@@ -371,7 +345,8 @@ fn since_patch(
             let next = picked(table, answer, a, b, first, second);
             t.decided.insert(alloc, id, answer)?;
             if answer {
-                records(alloc, next, id)
+                let asked = Box::new(alloc, Cmd::RecordMarker(id.copy(alloc)?))?;
+                Ok(Begun::Asks(next, asked))
             } else {
                 Ok(Begun::Goes(next))
             }
@@ -396,7 +371,8 @@ fn deprecate(
             let answer = is_answered(s, id);
             t.decided.insert(alloc, id, answer)?;
             if answer {
-                records(alloc, Next::Nothing, id)
+                let asked = Box::new(alloc, Cmd::RecordMarker(id.copy(alloc)?))?;
+                Ok(Begun::Asks(Next::Nothing, asked))
             } else {
                 Ok(Begun::Goes(Next::Nothing))
             }
@@ -415,8 +391,8 @@ fn finish(
     ensures kept { IfOk result (λ m. KeepsStore t.now t.now m) }
 {
     match eval(alloc, &t.variables, s.at, e)? {
-        Ok(v) => ends(alloc, Cmd::Complete(v)),
-        Err(c) => fails(alloc, c),
+        Ok(v) => Ok(Begun::Ends(Box::new(alloc, Cmd::Complete(v))?)),
+        Err(c) => Ok(Begun::Ends(raised(alloc, c)?)),
     }
 }
 
@@ -431,8 +407,8 @@ fn give_up(
     ensures kept { IfOk result (λ m. KeepsStore t.now t.now m) }
 {
     match eval(alloc, &t.variables, s.at, e)? {
-        Ok(v) => ends(alloc, Cmd::Fail(Cause::UserFail, text_in(alloc, v))),
-        Err(c) => fails(alloc, c),
+        Ok(v) => Ok(Begun::Ends(Box::new(alloc, Cmd::Fail(Cause::UserFail, text_in(alloc, v)))?)),
+        Err(c) => Ok(Begun::Ends(raised(alloc, c)?)),
     }
 }
 
@@ -450,11 +426,11 @@ fn go_on_anew(
     match eval_all(alloc, &t.variables, s.at, es)? {
         Ok(values) => {
             if s.is_first {
-                fails(alloc, Cause::ChainLimit)
+                Ok(Begun::Ends(raised(alloc, Cause::ChainLimit)?))
             } else {
-                ends(alloc, Cmd::ContinueAsNew(Sequence::from_vec(values)))
+                Ok(Begun::Ends(Box::new(alloc, Cmd::ContinueAsNew(Sequence::from_vec(values)))?))
             }
         }
-        Err(c) => fails(alloc, c),
+        Err(c) => Ok(Begun::Ends(raised(alloc, c)?)),
     }
 }
