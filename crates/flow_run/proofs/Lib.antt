@@ -4,6 +4,7 @@ pub mod Delivering
 pub mod Ending
 pub mod First
 pub mod Forest
+pub mod OpenWaits
 pub mod Overs
 pub mod Parts
 pub mod Replacing
@@ -11,5 +12,4 @@ pub mod Stepping
 pub mod Steps
 pub mod Turning
 pub mod Turns
-pub mod Waits
 pub mod Walking

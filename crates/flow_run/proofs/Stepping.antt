@@ -5,6 +5,7 @@ use Rattle.flow_base.specs.Syntax as syntax
 use Rattle.flow_base.specs.Syntax.{Statement, Block, Next, NoElse, Else, Branches, NoBranch, Branch}
 use Rattle.flow_base.specs.Shown.{shown_stmt}
 use Rattle.flow_base.specs.declared.syntax.Stmt.{Stmt}
+use Rattle.flow_base.specs.declared.event.Cmd.TheVariants.{Fail}
 use Rattle.flow_model.specs.Rest.{Rest, Beside, branches_of, is_done, rest_of}
 use Rattle.flow_model.specs.Step.{Store, Setting, Move, Stays, Goes, Asks, Ends, around, followed_by, begin, move}
 use Rattle.flow_run.specs.Marks.{within}
@@ -16,7 +17,7 @@ use Rattle.flow_nodes.specs.Links.{LeadAll, LeadsWithin, AreLinked, stmts_at, li
 use Rattle.flow_nodes.specs.declared.table.Listing.{Listing}
 use Rattle.flow_nodes.specs.declared.table.Links.{Links}
 use Rattle.flow_run.specs.declared.cell.Place.{Place}
-use Rattle.flow_run.proofs.Forest.{within_append, within_begins, around_twice}
+use Rattle.flow_run.proofs.Forest.{within_append, within_begins, within_moves, around_twice}
 
 pub in_list : {A : Type 0} (xs : List A) (i : ℕ) (x : A) → slice_get xs i ≡ Some x → i < length xs
 in_list [] i x e = cc
@@ -120,3 +121,22 @@ idle_stays s t ls (doing.Join n k) e = cc
 
 pub no_blocks : (s : Setting) (t : Store) (ls : List Listing) (d : Doing) (ps : List Place) → is_idle d ≡ true → ps ≡ [] → Stays ≡ move s t (within (blocks_of ls ps) (shown_doing ls d))
 no_blocks s t ls d ps i e = idle_stays s t ls d i ∙ ap (λ (xs : List Place). move s t (within (blocks_of ls xs) (shown_doing ls d))) (sym e)
+
+-- what a task does by itself decides its step, where that isn't done
+at_once : (s : Setting) (t : Store) (bs : List Block) (r q : Rest) (m : Move) → r ≡ q → is_done q ≡ false → move s t q ≡ m → around (within bs) m ≡ move s t (within bs r)
+at_once s t bs r q m e d h = ap (around (within bs)) (sym h) ∙ sym (within_moves s t bs q d) ∙ ap (λ (x : Rest). move s t (within bs x)) (sym e)
+
+pub activity_stays : (s : Setting) (t : Store) (ls : List Listing) (ps : List Place) (d : Doing) (n : ℕ) (x : _) (k : _) (o : _) → d ≡ doing.OnActivity n x k o → Stays ≡ move s t (within (blocks_of ls ps) (shown_doing ls d))
+activity_stays s t ls ps d n x k o e = at_once s t (blocks_of ls ps) (shown_doing ls d) (shown_doing ls (doing.OnActivity n x k o)) Stays (ap (shown_doing ls) e) refl refl
+
+pub timer_stays : (s : Setting) (t : Store) (ls : List Listing) (ps : List Place) (d : Doing) (n : ℕ) → d ≡ doing.OnTimer n → Stays ≡ move s t (within (blocks_of ls ps) (shown_doing ls d))
+timer_stays s t ls ps d n e = at_once s t (blocks_of ls ps) (shown_doing ls d) (shown_doing ls (doing.OnTimer n)) Stays (ap (shown_doing ls) e) refl refl
+
+pub raised_ends : (s : Setting) (t : Store) (ls : List Listing) (ps : List Place) (d : Doing) (w : _) (text : _) → d ≡ doing.Raised w text → Ends (Fail w text) ≡ move s t (within (blocks_of ls ps) (shown_doing ls d))
+raised_ends s t ls ps d w text e = at_once s t (blocks_of ls ps) (shown_doing ls d) (shown_doing ls (doing.Raised w text)) (Ends (Fail w text)) (ap (shown_doing ls) e) refl refl
+
+pub signal_steps : (s : Setting) (t : Store) (ls : List Listing) (ps : List Place) (d : Doing) (x : _) (g : _) (m : Move) → d ≡ doing.OnSignal x g → m ≡ move s t (shown_doing ls (doing.OnSignal x g)) → around (within (blocks_of ls ps)) m ≡ move s t (within (blocks_of ls ps) (shown_doing ls d))
+signal_steps s t ls ps d x g m e h = at_once s t (blocks_of ls ps) (shown_doing ls d) (shown_doing ls (doing.OnSignal x g)) m (ap (shown_doing ls) e) refl (sym h)
+
+pub signal_for_steps : (s : Setting) (t : Store) (ls : List Listing) (ps : List Place) (d : Doing) (x : _) (g : _) (n : ℕ) (b : ℕ) (m : Move) → d ≡ doing.OnSignalFor x g n b → m ≡ move s t (shown_doing ls (doing.OnSignalFor x g n b)) → around (within (blocks_of ls ps)) m ≡ move s t (within (blocks_of ls ps) (shown_doing ls d))
+signal_for_steps s t ls ps d x g n b m e h = at_once s t (blocks_of ls ps) (shown_doing ls d) (shown_doing ls (doing.OnSignalFor x g n b)) m (ap (shown_doing ls) e) refl (sym h)

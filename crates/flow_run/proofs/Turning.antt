@@ -7,7 +7,7 @@ use Rattle.flow_model.specs.Rest.{Rest, Done, is_done}
 use Rattle.flow_model.specs.Step.{Store, Setting, Move, Stays, Goes, Asks, Ends, move}
 use Rattle.flow_model.specs.Turn.{state_after_command}
 use Rattle.flow_run.specs.Marks.{Moves, Stay, Go, Ask, Finish, at_head, along, or_moves, moves, first_rest}
-use Rattle.flow_run.specs.Position.{is_unbegun}
+use Rattle.flow_run.specs.Whole.{is_unbegun}
 
 -- what a list of at most one rest does
 abbrev first_move : Moves → Move

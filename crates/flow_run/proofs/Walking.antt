@@ -2,7 +2,7 @@
 use Rattle.std.proofs.Common.{◌≡◌, ℕ, zero, suc, ◌+◌, ◌-◌, ◌^◌, ⊎_elim, ◌<◌, ◌≤◌, add-one, List, [], ◌∷◌, ◌++◌, length, length-drop, length-take-le, length-set, get_or, set, take, drop, refl, sym, ap, ◌∙◌, subst, arith, Option, Some, None, Bool, true, false}
 use Rattle.std.specs.Prelude.{slice_get, insert, remove, min, ◌⊎◌, if◌then◌else◌}
 use Rattle.std.proofs.lemmas.Bool.{true≢false}
-use Rattle.std.proofs.lemmas.List.{take_at, drop_at, drop-drop, drop_all, take-append-drop, take-take, drop_more}
+use Rattle.std.proofs.lemmas.List.{take_at, drop_at, drop-drop, drop_all, get_or_default, take-append-drop, take-take, drop_more}
 use Rattle.std.proofs.lemmas.List.Edits.{length-insert, length-remove}
 use Rattle.std.proofs.lemmas.Bool.{cases_lt}
 use Rattle.flow_base.specs.Syntax.{Block}
@@ -319,3 +319,16 @@ remove_before (x ∷ cs) (suc n) (suc k) d h g = remove_before cs n k d (omega (
 
 pub kept_before : (cs ds : List Cell) (n k : ℕ) (d : Cell) → ds ≡ remove cs n → k < n → n < length cs → get_or ds k d ≡ get_or cs k d
 kept_before cs ds n k d e h g = ap (λ (xs : List Cell). get_or xs k d) e ∙ remove_before cs n k d h g
+
+insert_before : (cs : List Cell) (n k : ℕ) (c d : Cell) → k < n → n ≤ length cs → get_or (insert cs n c) k d ≡ get_or cs k d
+insert_before cs zero k c d h g = absurd (omega (arith, h))
+insert_before [] (suc n) k c d h g = absurd (omega (arith, g))
+insert_before (x ∷ cs) (suc n) zero c d h g = refl
+insert_before (x ∷ cs) (suc n) (suc k) c d h g = insert_before cs n k c d (omega (arith, h)) (omega (arith, g))
+
+pub kept_in_front : (cs ds : List Cell) (n k : ℕ) (c d : Cell) → ds ≡ insert cs n c → k < n → n ≤ length cs → get_or ds k d ≡ get_or cs k d
+kept_in_front cs ds n k c d e h g = ap (λ (xs : List Cell). get_or xs k d) e ∙ insert_before cs n k c d h g
+
+-- one cell of a list
+pub same_cell : (cs : List Cell) (i : ℕ) (c d : Cell) → i < length cs → c ≡ get_or cs i c → d ≡ get_or cs i d → c ≡ d
+same_cell cs i c d h e f = e ∙ get_or_default cs i c d h ∙ sym f

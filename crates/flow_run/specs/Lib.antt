@@ -4,3 +4,4 @@ pub mod Marks
 pub mod Position
 pub mod Shown
 pub mod Waiting
+pub mod Whole

@@ -1,11 +1,10 @@
 -- The position of a run, as the code holds it, and a run within a turn.
-use Rattle.std.specs.Prelude.{◌≡◌, ℕ, ◌≤◌, List, [], ◌∷◌, length, map, Bool, true, false, Option, Some, None, if◌then◌else◌}
+use Rattle.std.specs.Prelude.{◌≡◌, ℕ, List, [], map, Bool, Option, Some, None}
 use Rattle.flow_base.specs.Syntax.{Bytes, Program, activities_of}
 use Rattle.flow_base.specs.Shown.{shown_declaration}
 use Rattle.flow_base.specs.declared.value.Value.{Value}
 use Rattle.flow_base.specs.declared.event.Cmd.{Cmd}
 use Rattle.flow_base.specs.declared.event.State.{State}
-use Rattle.flow_base.specs.declared.event.State.TheVariants.{Unbegun}
 use Rattle.flow_nodes.specs.declared.table.Listing.{Listing}
 use Rattle.flow_values.specs.Named.{look_up}
 use Rattle.flow_values.specs.Slots.{slot_of}
@@ -14,54 +13,16 @@ use Rattle.flow_model.specs.Rest.{Rest}
 use Rattle.flow_model.specs.Configuration.{Configuration, first_configuration}
 use Rattle.flow_model.specs.Deliver.{Progress}
 use Rattle.flow_model.specs.Turn as turn
-use Rattle.flow_run.specs.Marks.{first_rest, onto}
-use Rattle.flow_run.specs.Flat.{AreSound, contents_of, marks_of}
 use Rattle.flow_run.specs.Shown.{shown_answers, shown_store}
 use Rattle.flow_run.specs.declared.cell.Cell.{Cell}
-use Rattle.flow_run.specs.declared.position.Standing.{Standing}
+use Rattle.flow_run.specs.declared.standing.Standing.{Standing}
+use Rattle.flow_run.specs.Whole.{IsWholeAt, rest_at, shown_standing}
 use Rattle.flow_run.specs.declared.deliver.Turning.{Turning}
 use Rattle.flow_run.specs.declared.turn.Frame.{Frame}
 use Rattle.flow_run.specs.declared.stance.Stance.{Stance}
 
--- what is left of a run
-abbrev pub rest_at : List Listing → List Cell → Rest
-rest_at ls cs = first_rest (onto (marks_of ls cs) [])
-
--- the cells are those of one rest, or of none
-abbrev pub AreOne : List Listing → List Cell → Type 0
-AreOne ls cs = length (onto (marks_of ls cs) []) ≤ 1
-
-abbrev pub is_unbegun : State → Bool
-is_unbegun Unbegun = true
-is_unbegun s = false
-
--- What every turn keeps.
-pub record IsWholeAt (ls : List Listing) (cs : List Cell) (s : State) : Type 0 where
-  pub sound : AreSound ls cs
-  pub one : AreOne ls cs
-  pub begun : is_unbegun s ≡ false
-
-abbrev pub IsWhole : Standing → Type 0
-IsWhole r = IsWholeAt r.table.lists.items r.cells.items r.state
-
 abbrev pub IsWholeTurning : List Listing → Turning → Type 0
 IsWholeTurning ls p = IsWholeAt ls p.cells.items p.state
-
--- The configuration that a run stands for.
-abbrev pub shown_standing : Standing → Configuration
-shown_standing r =
-    record {
-      rest = rest_at r.table.lists.items r.cells.items;
-      variables = slot_of r.variables;
-      buffer = r.buffer;
-      decided = look_up r.decided;
-      events = r.events;
-      moment = r.moment;
-      state = r.state;
-    }
-
-abbrev pub same_standing : Standing → Standing → Type 0
-same_standing r q = shown_standing r ≡ shown_standing q
 
 abbrev pub shown_begun : Option Standing → Configuration
 shown_begun None = first_configuration

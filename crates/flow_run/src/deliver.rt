@@ -9,13 +9,14 @@ ghost use Rattle.flow_model.specs.Deliver as model;
 ghost use Rattle.flow_run.specs.Marks.{within, onto};
 ghost use Rattle.flow_run.specs.Flat.{AreSound, blocks_of, contents_of, marks_of, shown_doing, is_task};
 ghost use Rattle.flow_run.specs.Waiting.{IsFirstOf, on_activity, on_timer, late_in, target_in, waits_itself};
-ghost use Rattle.flow_run.specs.Position.{IsWhole, IsWholeTurning, shown_standing, shown_started, started_with, rest_at, shown_progress};
+ghost use Rattle.flow_run.specs.Position.{IsWholeTurning, shown_started, started_with, shown_progress};
+ghost use Rattle.flow_run.specs.Whole.{IsWhole, shown_standing, rest_at};
 ghost use Rattle.flow_run.specs.declared.cell.Cell.{Cell as ACell};
 
 use crate::cell::{Cell, Doing, copy_cells};
 use crate::decided::Decided;
 use crate::places::enter;
-use crate::position::Standing;
+use crate::standing::Standing;
 use crate::setting::signal_fits;
 use crate::store::Store;
 use crate::walk::{branch, settle};

@@ -8,10 +8,11 @@ ghost use Rattle.flow_model.specs.Deliver.{deliver, all_fit};
 ghost use Rattle.flow_model.specs.Turn.{Turn};
 ghost use Rattle.flow_model.specs.Turned.{turned};
 ghost use Rattle.flow_run.specs.Shown.{shown_answers, waits_of};
-ghost use Rattle.flow_run.specs.Position.{config_of, shown_standing};
+ghost use Rattle.flow_run.specs.Position.{config_of};
+ghost use Rattle.flow_run.specs.Whole.{shown_standing};
 
 use crate::fault::RunFault;
-use crate::position::Position;
+use crate::standing::Position;
 pub use crate::setting::Answers;
 use crate::turn::{begun, continued, is_closed, waits};
 pub use crate::waits::OpenWait;

@@ -11,12 +11,13 @@ ghost use Rattle.flow_model.specs.Turn as model;
 ghost use Rattle.flow_run.specs.Shown.{shown_answers};
 ghost use Rattle.flow_run.specs.Flat.{AreSound};
 ghost use Rattle.flow_run.specs.Waiting.{waits_in_all, wait_in, opens_in_all, one_if, is_waiting as is_waiting_in};
-ghost use Rattle.flow_run.specs.Position.{IsWhole, IsWholeTurning, Leads, rest_at, shown_frame, shown_progress, shown_standing};
+ghost use Rattle.flow_run.specs.Position.{IsWholeTurning, Leads, shown_frame, shown_progress};
+ghost use Rattle.flow_run.specs.Whole.{IsWhole, rest_at, shown_standing};
 
 use crate::cell::{Cell, Doing};
 use crate::deliver::{Turning, begin, deliver};
 use crate::joins::is_over;
-use crate::position::{Position, Standing};
+use crate::standing::{Position, Standing};
 use crate::setting::{Answers, Setting};
 use crate::store::Store;
 use crate::waits::OpenWait;
@@ -138,7 +139,8 @@ fn go_on(alloc: Global, f: &Frame, table: &Table, p: &mut Turning) -> Result<(),
     ensures whole { OnOk result (IsWholeTurning table.now.lists.items p.new) }
 {
     loop {
-        if !next(alloc, f, table, p)? {
+        let steps = next(alloc, f, table, p)?;
+        if !steps {
             return Ok(());
         }
     }

@@ -1,5 +1,5 @@
 ghost use Rattle.std.specs.Prelude.{◌≡◌, IfOk};
-ghost use Rattle.flow_run.specs.Position.{IsWhole, same_standing};
+ghost use Rattle.flow_run.specs.Whole.{IsWhole, same_standing};
 
 use crate::cell::{Cell, copy_cells};
 use crate::decided::Decided;
@@ -33,9 +33,9 @@ pub struct Position {
 }
 
 impl Model for Position {
-    ghost use Rattle.flow_run.specs.declared.position.Standing.{Standing as AStanding};
-    ghost use Rattle.flow_run.specs.contracts.position.Standing as row;
-    ghost use Rattle.flow_run.specs.Position.{IsWhole};
+    ghost use Rattle.flow_run.specs.declared.standing.Standing.{Standing as AStanding};
+    ghost use Rattle.flow_run.specs.contracts.standing.Standing as row;
+    ghost use Rattle.flow_run.specs.Whole.{IsWhole};
 
     ghost Value = { AStanding };
 
