@@ -3,16 +3,16 @@ use Rattle.std.proofs.Common.{◌≡◌, ℕ, zero, suc, ◌+◌, ◌<◌, ◌�
 use Rattle.std.specs.Prelude.{nat_eq, if◌then◌else◌}
 use Rattle.flow_base.specs.Syntax.{Bytes, Block}
 use Rattle.flow_base.specs.declared.value.Kind.{Kind}
-use Rattle.flow_model.specs.Rest.{Rest, Done, Then, Beside, OnActivity, rest_else, rest_of, Raised}
+use Rattle.flow_model.specs.Rest.{Rest, Done, Then, Beside, OnActivity, is_done, rest_else, rest_of, Raised}
 use Rattle.flow_model.specs.Deliver.{map_rest, replaced, target_of, when_completed, when_failed, when_fired}
 use Rattle.flow_nodes.specs.declared.table.Listing.{Listing}
 use Rattle.flow_run.specs.Marks.{within, Mark, One, Many, besides, put, onto, first_rest, or_rests, with_tail, map_rests}
-use Rattle.flow_run.specs.Flat.{blocks_of, is_task, late_at, mark_by, mark_of, marks_of, shown_doing}
-use Rattle.flow_run.specs.Waiting.{IsFirst, NoneOf, on_activity, on_timer, late_in, list_of, target_in}
+use Rattle.flow_run.specs.Flat.{blocks_of, is_task, late_at, task_rest, mark_by, mark_of, marks_of, shown_doing}
+use Rattle.flow_run.specs.Waiting.{IsFirst, NoneOf, on_activity, on_timer, late_in, list_of, target_in, waits_itself}
 use Rattle.flow_run.specs.declared.cell.Cell.{Cell}
 use Rattle.flow_run.specs.declared.cell.Doing.{Doing}
 use Rattle.flow_run.specs.declared.cell.Doing.TheVariants as doing
-use Rattle.flow_run.proofs.Forest.{onto_append}
+use Rattle.flow_run.proofs.Forest.{onto_append, within_open}
 use Rattle.flow_run.proofs.Replacing.{join_replaces, replaces, task_replaces_none, within_replaces}
 use Rattle.flow_run.proofs.Steps.{cut_cell}
 use Rattle.flow_run.proofs.Walking.{task_mark}
@@ -205,3 +205,47 @@ first_target n ls cs i c x h g none k is t =
     ∙ none_targets n ls (take i cs) (put (mark_of ls c) rs) none
     ∙ ap (λ (m : Mark). targets n (put m rs)) (task_mark ls bs c.doing k)
     ∙ ap (λ o. or_target o (targets n rs)) (within_targets n bs (shown_doing ls c.doing) ∙ target_here n ls c.doing is ∙ t)
+
+-- what waits by itself is a task that isn't over
+pub waits_task : (d : Doing) → waits_itself d ≡ true → is_task d ≡ true
+waits_task doing.Over h = cc
+waits_task doing.Empty h = cc
+waits_task (doing.OnActivity m x k o) h = refl
+waits_task (doing.OnTimer m) h = refl
+waits_task (doing.OnSignal x s) h = cc
+waits_task (doing.OnSignalFor x s m b) h = refl
+waits_task (doing.Raised w t) h = cc
+waits_task (doing.Join m k) h = cc
+
+waits_doing : (ls : List Listing) (d : Doing) → waits_itself d ≡ true → is_done (shown_doing ls d) ≡ false
+waits_doing ls doing.Over h = cc
+waits_doing ls doing.Empty h = cc
+waits_doing ls (doing.OnActivity m x k o) h = refl
+waits_doing ls (doing.OnTimer m) h = refl
+waits_doing ls (doing.OnSignal x s) h = cc
+waits_doing ls (doing.OnSignalFor x s m b) h = refl
+waits_doing ls (doing.Raised w t) h = cc
+waits_doing ls (doing.Join m k) h = cc
+
+pub waits_open : (ls : List Listing) (c : Cell) → waits_itself c.doing ≡ true → is_done (task_rest ls c) ≡ false
+waits_open ls c h = within_open (blocks_of ls c.places.items) (shown_doing ls c.doing) (waits_doing ls c.doing h)
+
+pub activity_waits : (n : ℕ) (d : Doing) → on_activity n d ≡ true → waits_itself d ≡ true
+activity_waits n doing.Over h = cc
+activity_waits n doing.Empty h = cc
+activity_waits n (doing.OnActivity m x k o) h = refl
+activity_waits n (doing.OnTimer m) h = cc
+activity_waits n (doing.OnSignal x s) h = cc
+activity_waits n (doing.OnSignalFor x s m b) h = cc
+activity_waits n (doing.Raised w t) h = cc
+activity_waits n (doing.Join m k) h = cc
+
+pub timer_waits : (n : ℕ) (d : Doing) → on_timer n d ≡ true → waits_itself d ≡ true
+timer_waits n doing.Over h = cc
+timer_waits n doing.Empty h = cc
+timer_waits n (doing.OnActivity m x k o) h = cc
+timer_waits n (doing.OnTimer m) h = refl
+timer_waits n (doing.OnSignal x s) h = cc
+timer_waits n (doing.OnSignalFor x s m b) h = refl
+timer_waits n (doing.Raised w t) h = cc
+timer_waits n (doing.Join m k) h = cc
