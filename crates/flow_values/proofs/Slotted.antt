@@ -2,7 +2,7 @@
 use Rattle.std.proofs.Common.{◌≡◌, ℕ, zero, suc, ◌+◌, ◌<◌, ◌≤◌, add-one, List, [], ◌∷◌, ◌++◌, length, get_or, take, drop, set, drop-cons, refl, sym, ap, ◌∙◌, subst, arith, ⊎_elim, inl, inr, Option, Some, None, Bool, true, false}
 use Rattle.std.proofs.lemmas.Bool.{true≢false}
 use Rattle.std.specs.Cmp.Lexicographic.{bytes_decides}
-use Rattle.std.specs.Prelude.{◌⊎◌, bytes_eq, if◌then◌else◌}
+use Rattle.std.specs.Prelude.{◌⊎◌, bytes_eq, slice_get, if◌then◌else◌}
 use Rattle.flow_base.specs.Syntax.{Bytes}
 use Rattle.flow_base.specs.declared.value.Value.{Value}
 use Rattle.flow_model.specs.Values.{Variables, with_variable, none_set}
@@ -48,35 +48,40 @@ no_number true o e = cc
 no_number false None e = (refl, refl)
 no_number false (Some j) e = cc
 
+written_first : (x name : Bytes) (v : Value) (n : Bytes) (ns : List Bytes) (i : ℕ) → bytes_eq n name ≡ true → (vs : List (Option Value)) → i ≡ 0 → slot_of (slots (n ∷ ns) (written vs i v)) x ≡ with_variable (slot_of (slots (n ∷ ns) vs)) name v x
+written_first x name v n ns i t [] z = rw z (covered x name n v None (slot_of (slots ns []) x) t)
+written_first x name v n ns i t (w ∷ ws) z = rw z (covered x name n v w (slot_of (slots ns ws) x) t)
+
+written_later : (x name : Bytes) (v : Value) (n : Bytes) (ns : List Bytes) (i : ℕ) → bytes_eq n name ≡ false → (vs : List (Option Value)) → (j : ℕ) → i ≡ suc j → ((us : List (Option Value)) → slot_of (slots ns (written us j v)) x ≡ with_variable (slot_of (slots ns us)) name v x) → slot_of (slots (n ∷ ns) (written vs i v)) x ≡ with_variable (slot_of (slots (n ∷ ns) vs)) name v x
+written_later x name v n ns i t [] j h again =
+    rw h (ap (λ (o : Option Value). if bytes_eq x n then None else o) (again []) ∙ swapped x name n v None (slot_of (slots ns []) x) t)
+written_later x name v n ns i t (w ∷ ws) j h again =
+    rw h (ap (λ (o : Option Value). if bytes_eq x n then w else o) (again ws) ∙ swapped x name n v w (slot_of (slots ns ws) x) t)
+
 -- the value of a name's first number is that of the name
 written_at : (x name : Bytes) (v : Value) (ns : List Bytes) (vs : List (Option Value)) (i : ℕ) → number_of ns name ≡ Some i → slot_of (slots ns (written vs i v)) x ≡ with_variable (slot_of (slots ns vs)) name v x
 written_at x name v [] vs i e = cc
 written_at x name v (n ∷ ns) vs i e =
-    ⊎_elim (λ (t : bytes_eq n name ≡ true). written_first t vs (first_number (bytes_eq n name) (one_further (number_of ns name)) i t e))
-    (λ (t : bytes_eq n name ≡ false). written_later t vs (next_number (bytes_eq n name) (number_of ns name) i t e)) (cases (bytes_eq n name))
-  where
-    written_first : bytes_eq n name ≡ true → (vs : List (Option Value)) → i ≡ 0 → slot_of (slots (n ∷ ns) (written vs i v)) x ≡ with_variable (slot_of (slots (n ∷ ns) vs)) name v x
-    written_first t [] z = rw z (covered x name n v None (slot_of (slots ns []) x) t)
-    written_first t (w ∷ ws) z = rw z (covered x name n v w (slot_of (slots ns ws) x) t)
-
-    written_later : bytes_eq n name ≡ false → (vs : List (Option Value)) → (j : ℕ) × ((i ≡ suc j) × (number_of ns name ≡ Some j)) → slot_of (slots (n ∷ ns) (written vs i v)) x ≡ with_variable (slot_of (slots (n ∷ ns) vs)) name v x
-    written_later t [] h =
-        rw h.1.0 (ap (λ (o : Option Value). if bytes_eq x n then None else o) (written_at x name v ns [] h.0 h.1.1) ∙ swapped x name n v None (slot_of (slots ns []) x) t)
-    written_later t (w ∷ ws) h =
-        rw h.1.0 (ap (λ (o : Option Value). if bytes_eq x n then w else o) (written_at x name v ns ws h.0 h.1.1) ∙ swapped x name n v w (slot_of (slots ns ws) x) t)
+    ⊎_elim (λ (t : bytes_eq n name ≡ true). written_first x name v n ns i t vs (first_number (bytes_eq n name) (one_further (number_of ns name)) i t e))
+    (λ (t : bytes_eq n name ≡ false).
+    let next = next_number (bytes_eq n name) (number_of ns name) i t e in
+    written_later x name v n ns i t vs next.0 next.1.0 (λ us. written_at x name v ns us next.0 next.1.1)) (cases (bytes_eq n name))
 
 pub written_is : (name : Bytes) (v : Value) (ns : List Bytes) (vs us : List (Option Value)) (i : ℕ) → us ≡ written vs i v → number_of ns name ≡ Some i → slot_of (slots ns us) ≡ with_variable (slot_of (slots ns vs)) name v
 written_is name v ns vs us i f e = ap (λ (ws : List (Option Value)). slot_of (slots ns ws)) f ∙ (λ j. λ x. written_at x name v ns vs i e j)
+
+appended_later : (x name : Bytes) (v : Value) (n : Bytes) (ns : List Bytes) → bytes_eq n name ≡ false → (vs : List (Option Value)) → ((us : List (Option Value)) → slot_of (slots (ns ++ (name ∷ [])) (written us (length ns) v)) x ≡ with_variable (slot_of (slots ns us)) name v x)
+    → slot_of (slots ((n ∷ ns) ++ (name ∷ [])) (written vs (length (n ∷ ns)) v)) x ≡ with_variable (slot_of (slots (n ∷ ns) vs)) name v x
+appended_later x name v n ns t [] again = ap (λ (o : Option Value). if bytes_eq x n then None else o) (again []) ∙ swapped x name n v None (slot_of (slots ns []) x) t
+appended_later x name v n ns t (w ∷ ws) again = ap (λ (o : Option Value). if bytes_eq x n then w else o) (again ws) ∙ swapped x name n v w (slot_of (slots ns ws) x) t
 
 -- a name behind all others
 appended_at : (x name : Bytes) (v : Value) (ns : List Bytes) (vs : List (Option Value)) → number_of ns name ≡ None → slot_of (slots (ns ++ (name ∷ [])) (written vs (length ns) v)) x ≡ with_variable (slot_of (slots ns vs)) name v x
 appended_at x name v [] [] e = refl
 appended_at x name v [] (w ∷ ws) e = refl
-appended_at x name v (n ∷ ns) vs e = more vs (no_number (bytes_eq n name) (number_of ns name) e)
-  where
-    more : (vs : List (Option Value)) → (bytes_eq n name ≡ false) × (number_of ns name ≡ None) → slot_of (slots ((n ∷ ns) ++ (name ∷ [])) (written vs (length (n ∷ ns)) v)) x ≡ with_variable (slot_of (slots (n ∷ ns) vs)) name v x
-    more [] h = ap (λ (o : Option Value). if bytes_eq x n then None else o) (appended_at x name v ns [] h.1) ∙ swapped x name n v None (slot_of (slots ns []) x) h.0
-    more (w ∷ ws) h = ap (λ (o : Option Value). if bytes_eq x n then w else o) (appended_at x name v ns ws h.1) ∙ swapped x name n v w (slot_of (slots ns ws) x) h.0
+appended_at x name v (n ∷ ns) vs e =
+    let none = no_number (bytes_eq n name) (number_of ns name) e in
+    appended_later x name v n ns none.0 vs (λ us. appended_at x name v ns us none.1)
 
 pub appended_is : (name : Bytes) (v : Value) (ns ms : List Bytes) (vs us : List (Option Value)) (i : ℕ) → ms ≡ ns ++ (name ∷ []) → i ≡ length ns → us ≡ written vs i v → number_of ns name ≡ None → slot_of (slots ms us) ≡ with_variable (slot_of (slots ns vs)) name v
 appended_is name v ns ms vs us i f g h e =
@@ -157,3 +162,16 @@ none_slots ns = λ j. λ x. none_at ns x j
     none_at : (ns : List Bytes) (x : Bytes) → slot_of (slots ns []) x ≡ None
     none_at [] x = refl
     none_at (n ∷ ns) x = rw (none_at ns x) (elim (bytes_eq x n) as (λ (b : Bool). ◌≡◌ {A = Option Value} (if b then None else None) None) [ true ↦ refl | false ↦ refl ])
+
+pub value_get : (vs : List (Option Value)) (i : ℕ) (o : Option Value) → slice_get vs i ≡ Some o → value_at vs i ≡ o
+value_get [] i o e = cc
+value_get (v ∷ vs) zero o e = some_is v o e
+  where
+    some_is : (x y : Option Value) → Some x ≡ Some y → x ≡ y
+    some_is x y e = cc
+value_get (v ∷ vs) (suc i) o e = value_get vs i o e
+
+pub value_none : (vs : List (Option Value)) (i : ℕ) → slice_get vs i ≡ None → value_at vs i ≡ None
+value_none [] i e = refl
+value_none (v ∷ vs) zero e = cc
+value_none (v ∷ vs) (suc i) e = value_none vs i e

@@ -1,4 +1,5 @@
-ghost use Rattle.std.specs.Prelude.{◌≡◌, ◌∷◌, [], ◌++◌, IfOk, OnOk, MatchOption, None, Some};
+ghost use Rattle.std.specs.Prelude.{◌≡◌, ◌<◌, ◌∷◌, [], ◌++◌, length, IfOk, OnOk, MatchOption, None, Some};
+ghost use Rattle.flow_base.specs.declared.value.Value.{Value as AValue};
 ghost use Rattle.flow_model.specs.Values.{with_variable, none_set};
 ghost use Rattle.flow_values.specs.Held.{held};
 ghost use Rattle.flow_values.specs.Slots.{number_of, slot_of, slots, value_at, written};
@@ -116,7 +117,8 @@ fn value_in(values: &Option<Arc<Vec<Option<Value>>>>, i: usize) -> Option<&Value
 {
     match values {
         Some(list) => match list.get(i) {
-            Some(value) => value.as_ref(),
+            Some(Some(value)) => Some(value),
+            Some(None) => None,
             None => None,
         },
         None => None,
@@ -189,10 +191,19 @@ fn write_shared(
 fn write_in(values: &mut Vec<Option<Value>>, i: usize, value: Value) -> Result<(), AllocError>
     ensures { OnOk result (values.new.items ≡ written values.old.items i value) }
 {
+    make_room(values, i)?;
+    values[i] = Some(value);
+    Ok(())
+}
+
+// Numbers up to this one are there, those that weren't with no value.
+fn make_room(values: &mut Vec<Option<Value>>, i: usize) -> Result<(), AllocError>
+    ensures there { OnOk result (i < length values.new.items) }
+    ensures same { OnOk result ((v : AValue) → written values.new.items i v ≡ written values.old.items i v) }
+{
     while values.len() <= i {
         values.push(None)?;
     }
-    values[i] = Some(value);
     Ok(())
 }
 
