@@ -2,7 +2,7 @@
 use Rattle.std.proofs.Common.{◌≡◌, ℕ, zero, suc, ◌+◌, ◌<◌, ◌≤◌, add-one, List, [], ◌∷◌, ◌++◌, length, get_or, take, drop, set, drop-cons, refl, sym, ap, ◌∙◌, subst, arith, ⊎_elim, inl, inr, Option, Some, None, Bool, true, false}
 use Rattle.std.proofs.lemmas.Bool.{true≢false}
 use Rattle.std.specs.Cmp.Lexicographic.{bytes_decides}
-use Rattle.std.specs.Prelude.{◌⊎◌, bytes_eq, slice_get, if◌then◌else◌}
+use Rattle.std.specs.Prelude.{◌⊎◌, bytes_eq, if◌then◌else◌}
 use Rattle.flow_base.specs.Syntax.{Bytes}
 use Rattle.flow_base.specs.declared.value.Value.{Value}
 use Rattle.flow_model.specs.Values.{Variables, with_variable, none_set}
@@ -163,15 +163,12 @@ none_slots ns = λ j. λ x. none_at ns x j
     none_at [] x = refl
     none_at (n ∷ ns) x = rw (none_at ns x) (elim (bytes_eq x n) as (λ (b : Bool). ◌≡◌ {A = Option Value} (if b then None else None) None) [ true ↦ refl | false ↦ refl ])
 
-pub value_get : (vs : List (Option Value)) (i : ℕ) (o : Option Value) → slice_get vs i ≡ Some o → value_at vs i ≡ o
-value_get [] i o e = cc
-value_get (v ∷ vs) zero o e = some_is v o e
-  where
-    some_is : (x y : Option Value) → Some x ≡ Some y → x ≡ y
-    some_is x y e = cc
-value_get (v ∷ vs) (suc i) o e = value_get vs i o e
+pub value_index : (vs : List (Option Value)) (i : ℕ) (o : Option Value) → i < length vs → o ≡ get_or vs i o → value_at vs i ≡ o
+value_index [] i o h e = absurd (omega (arith, h))
+value_index (v ∷ vs) zero o h e = sym e
+value_index (v ∷ vs) (suc i) o h e = value_index vs i o (omega (arith, h)) e
 
-pub value_none : (vs : List (Option Value)) (i : ℕ) → slice_get vs i ≡ None → value_at vs i ≡ None
-value_none [] i e = refl
-value_none (v ∷ vs) zero e = cc
-value_none (v ∷ vs) (suc i) e = value_none vs i e
+pub value_past : (vs : List (Option Value)) (i : ℕ) → length vs ≤ i → value_at vs i ≡ None
+value_past [] i h = refl
+value_past (v ∷ vs) zero h = absurd (omega (arith, h))
+value_past (v ∷ vs) (suc i) h = value_past vs i (omega (arith, h))

@@ -116,11 +116,20 @@ fn value_in(values: &Option<Arc<Vec<Option<Value>>>>, i: usize) -> Option<&Value
     ensures { MatchOption result (value_at (held values.now (λ a. a.value.items)) i ≡ None) (λ v. value_at (held values.now (λ a. a.value.items)) i ≡ Some v.now) }
 {
     match values {
-        Some(list) => match list.get(i) {
-            Some(Some(value)) => Some(value),
-            Some(None) => None,
-            None => None,
-        },
+        Some(list) => nth(list, i),
+        None => None,
+    }
+}
+
+#[tactic(auto, using(crate::proofs::Slotted::value_index, crate::proofs::Slotted::value_past))]
+fn nth(values: &[Option<Value>], i: usize) -> Option<&Value>
+    ensures { MatchOption result (value_at values.now i ≡ None) (λ v. value_at values.now i ≡ Some v.now) }
+{
+    if i >= values.len() {
+        return None;
+    }
+    match &values[i] {
+        Some(value) => Some(value),
         None => None,
     }
 }
