@@ -1,8 +1,8 @@
-ghost use Rattle.std.specs.Prelude.{◌≡◌, ◌<◌, ◌+◌, not, length, OnOk, All, take, drop, true, false, map};
+ghost use Rattle.std.specs.Prelude.{◌≡◌, ◌+◌, not, OnOk, true};
 ghost use Rattle.flow_model.specs.Rest.{is_end, rest_of};
 ghost use Rattle.flow_run.specs.Marks.{within};
-ghost use Rattle.flow_run.specs.Flat.{AreFullPlaces, IsFull, IsNextOf, blocks_of, is_task, left_at, shown_doing};
-ghost use Rattle.flow_nodes.specs.Links.{block_at, stmts_at};
+ghost use Rattle.flow_run.specs.Flat.{AreFullPlaces, IsFull, IsNextOf, blocks_of, is_task, left_at, AreFull, task_rest};
+ghost use Rattle.flow_nodes.specs.Links.{block_at};
 
 use crate::cell::{Cell, Doing, Place};
 use flow_nodes::table::Table;

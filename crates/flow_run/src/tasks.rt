@@ -1,12 +1,11 @@
-ghost use Rattle.std.specs.Prelude.{◌≡◌, ◌<◌, length, IfOk, Some, slice_get, true};
+ghost use Rattle.std.specs.Prelude.{◌≡◌, ◌<◌, length, IfOk, OnOk, Some, slice_get, true};
 ghost use Rattle.flow_base.specs.declared.syntax.Stmt.{Stmt as AStmt};
 ghost use Rattle.flow_base.specs.Shown.{shown_stmt};
-ghost use Rattle.flow_model.specs.Rest as tree;
 ghost use Rattle.flow_model.specs.Step as model;
 ghost use Rattle.flow_run.specs.Marks.{within};
 ghost use Rattle.flow_run.specs.Shown.{shown_store, shown_setting};
-ghost use Rattle.flow_run.specs.Flat.{AreFullPlaces, KeepsTask, blocks_of, idle_of, is_task, is_task_next, shown_doing, shown_onward, shown_went};
-ghost use Rattle.flow_nodes.specs.Links.{AreLinked, block_at, stmts_at};
+ghost use Rattle.flow_run.specs.Flat.{KeepsTask, blocks_of, is_task, is_task_next, shown_onward, shown_went, AreFull, is_idle, task_rest};
+ghost use Rattle.flow_nodes.specs.Links.{AreLinked, stmts_at};
 
 use crate::begins::{Begun, Next, begin};
 use crate::cell::{Cell, Doing, Place};

@@ -1,7 +1,7 @@
 ghost use Rattle.std.specs.Prelude.{◌≡◌, ◌<◌, ◌≤◌, ◌+◌, ◌^◌, length, ℕ, min, IfOk, OnOk, OnErr, [], ◌∷◌, ◌++◌, None, Some, MatchOption, IfSome, is_some, true, false, if◌then◌else◌};
 ghost use Rattle.flow_base.specs.Shown.{shown_program};
 ghost use Rattle.flow_base.specs.declared.event.Input.TheVariants as input_of;
-ghost use Rattle.flow_nodes.specs.Links.{AreLinked, block_at};
+ghost use Rattle.flow_nodes.specs.Links.{AreLinked};
 ghost use Rattle.flow_model.specs.Checked.{shown_checked};
 ghost use Rattle.flow_model.specs.Rest.{is_done};
 ghost use Rattle.flow_model.specs.Configuration as configuration;
@@ -12,7 +12,7 @@ ghost use Rattle.flow_run.specs.Shown.{shown_answers};
 ghost use Rattle.flow_run.specs.Flat.{AreSound};
 ghost use Rattle.flow_run.specs.Waiting.{waits_in_all, wait_in, opens_in_all, one_if, is_waiting as is_waiting_in};
 ghost use Rattle.flow_run.specs.Position.{IsWholeTurning, Leads, shown_frame, shown_progress};
-ghost use Rattle.flow_run.specs.Whole.{IsWhole, rest_at, shown_standing};
+ghost use Rattle.flow_run.specs.Whole.{rest_at, shown_standing};
 
 use crate::cell::{Cell, Doing};
 use crate::deliver::{Turning, begin, deliver};

@@ -1,9 +1,9 @@
 ghost use Rattle.std.specs.Prelude.{◌≡◌, ◌<◌, ◌+◌, ◌^◌, ◌∷◌, [], length, take, drop, remove, slice_index_or, if◌then◌else◌, IfOk, OnOk, true, false};
 ghost use Rattle.flow_model.specs.Rest.{Rest, is_done, rest_of};
-ghost use Rattle.flow_run.specs.Marks.{Counted, One, onto, put, within};
+ghost use Rattle.flow_run.specs.Marks.{Counted, One, onto, within, Settles};
 ghost use Rattle.flow_run.specs.declared.cell.Cell.{Cell as ACell};
 ghost use Rattle.flow_run.specs.Shown.{shown_setting};
-ghost use Rattle.flow_run.specs.Flat.{ActedAt, AreFull, AreFullCells, AreFullPlaces, AreSound, KeepsSound, StepsAt, StepsFirst, blocks_of, branches_at, branches_of, is_task, join_of as joined, mark_of, marks_of, task_rest};
+ghost use Rattle.flow_run.specs.Flat.{ActedAt, AreFull, AreFullCells, AreSound, KeepsSound, StepsAt, StepsFirst, blocks_of, branches_at, branches_of, is_task, join_of as joined, mark_of, marks_of, task_rest};
 ghost use Rattle.flow_nodes.specs.Links.{AreLinked, block_at};
 
 use crate::cell::{Cell, Doing};
