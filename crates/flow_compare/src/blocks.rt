@@ -23,7 +23,11 @@ impl Same {
     fn one_more(self, is_refused: bool) -> Same {
         Same {
             made: self.made.saturating_add(1),
-            refused: if is_refused { self.refused.saturating_add(1) } else { self.refused },
+            refused: if is_refused {
+                self.refused.saturating_add(1)
+            } else {
+                self.refused
+            },
         }
     }
 }
@@ -96,12 +100,24 @@ fn compare_events(
 ) -> Result<Outcome, AllocError> {
     let mut stance = Stance::unbegun(alloc);
     let mut run = unbegun(alloc);
-    let mut same = Same { made: 0, refused: 0 };
+    let mut same = Same {
+        made: 0,
+        refused: 0,
+    };
     for i in 0..events.len() {
         if let What::Came(input) = &events[i].what {
             let answers = Answers::Recorded(&events[i + 1..]);
             let at = events[i].at;
-            match turn_both(alloc, program, &mut stance, &mut run, names, at, input, answers)? {
+            match turn_both(
+                alloc,
+                program,
+                &mut stance,
+                &mut run,
+                names,
+                at,
+                input,
+                answers,
+            )? {
                 Both::Differ => return Ok(Outcome::Differs(same.made)),
                 Both::Refused => same = same.one_more(true),
                 Both::Made => same = same.one_more(false),
@@ -120,11 +136,23 @@ fn compare_made(
 ) -> Result<Outcome, AllocError> {
     let mut stance = Stance::unbegun(alloc);
     let mut run = unbegun(alloc);
-    let mut same = Same { made: 0, refused: 0 };
+    let mut same = Same {
+        made: 0,
+        refused: 0,
+    };
     for n in 0..turns {
         let input = made_input(alloc, program, &stance, n)?;
         let at = Moment::new(n).unwrap_or(Moment::last());
-        match turn_both(alloc, program, &mut stance, &mut run, names, at, &input, Answers::Fresh)? {
+        match turn_both(
+            alloc,
+            program,
+            &mut stance,
+            &mut run,
+            names,
+            at,
+            &input,
+            Answers::Fresh,
+        )? {
             Both::Differ => return Ok(Outcome::Differs(n)),
             Both::Refused => same = same.one_more(true),
             Both::Made => same = same.one_more(false),
@@ -152,7 +180,10 @@ fn made_input(
 // One interpreter alone, to be timed from outside: it makes so many turns, each run anew once it is over.
 fn repeat_flat(alloc: Global, program: &Checked, turns: u64) -> Result<Outcome, AllocError> {
     let mut stance = Stance::unbegun(alloc);
-    let mut same = Same { made: 0, refused: 0 };
+    let mut same = Same {
+        made: 0,
+        refused: 0,
+    };
     for n in 0..turns {
         if !may_go_on(stance.state()) {
             stance = Stance::unbegun(alloc);
@@ -160,7 +191,13 @@ fn repeat_flat(alloc: Global, program: &Checked, turns: u64) -> Result<Outcome, 
         if stance.events() >= 1 << 60 {
             break;
         }
-        let input = repeated_input(alloc, program, stance.state(), &stance.waits(alloc, program)?, n)?;
+        let input = repeated_input(
+            alloc,
+            program,
+            stance.state(),
+            &stance.waits(alloc, program)?,
+            n,
+        )?;
         let at = Moment::new(n).unwrap_or(Moment::last());
         let made = turn(alloc, &mut stance, program, at, &input, Answers::Fresh);
         same = same.one_more(made.is_err());
@@ -170,7 +207,10 @@ fn repeat_flat(alloc: Global, program: &Checked, turns: u64) -> Result<Outcome, 
 
 fn repeat_plain(alloc: Global, program: &Checked, turns: u64) -> Result<Outcome, AllocError> {
     let mut run = unbegun(alloc);
-    let mut same = Same { made: 0, refused: 0 };
+    let mut same = Same {
+        made: 0,
+        refused: 0,
+    };
     for n in 0..turns {
         if !may_go_on(run.state()) {
             run = unbegun(alloc);
@@ -180,7 +220,14 @@ fn repeat_plain(alloc: Global, program: &Checked, turns: u64) -> Result<Outcome,
         }
         let input = repeated_input(alloc, program, run.state(), &run.waits(alloc)?, n)?;
         let at = Moment::new(n).unwrap_or(Moment::last());
-        let made = plain_turn(alloc, &mut run, program.program(), at, &input, Answers::Fresh);
+        let made = plain_turn(
+            alloc,
+            &mut run,
+            program.program(),
+            at,
+            &input,
+            Answers::Fresh,
+        );
         same = same.one_more(made.is_err());
     }
     Ok(Outcome::Same(same))

@@ -135,7 +135,9 @@ fn are_same_waits(left: &[OpenWait], right: &[OpenWait]) -> bool {
 
 fn is_same_wait(left: &OpenWait, right: &OpenWait) -> bool {
     match (left, right) {
-        (OpenWait::Activity(n, x, k), OpenWait::Activity(m, y, j)) => *n == *m && x.is(y) && *k == *j,
+        (OpenWait::Activity(n, x, k), OpenWait::Activity(m, y, j)) => *n == *m
+            && x.is(y)
+            && *k == *j,
         (OpenWait::Timer(n), OpenWait::Timer(m)) => *n == *m,
         (OpenWait::Signal(x, s), OpenWait::Signal(y, t)) => x.is(y) && s.is(t),
         (OpenWait::SignalFor(x, s, n), OpenWait::SignalFor(y, t, m)) => {

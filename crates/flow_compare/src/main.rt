@@ -42,6 +42,8 @@ fn compared(rt: &HostRuntime) -> io::Result<bool> {
             Err(AllocError { .. }) => return Ok(false),
         }
     }
-    println!(rt; "{blocks} blocks: {turns} turns the same, {refused} of them refused; {differ} blocks differ, {unread} not read")?;
+    println!(rt;
+        "{blocks} blocks: {turns} turns the same, {refused} of them refused; {differ} blocks differ, {unread} not read"
+    )?;
     Ok(differ == 0)
 }

@@ -4,6 +4,8 @@ use Rattle.std.specs.Prelude.{nat_eq, if◌then◌else◌}
 use Rattle.flow_base.specs.Syntax.{Bytes, Block}
 use Rattle.flow_base.specs.declared.value.Kind.{Kind}
 use Rattle.flow_model.specs.Rest.{Rest, Done, Then, Beside, OnActivity, is_done, rest_else, rest_of, Raised}
+use Rattle.flow_base.specs.declared.event.Cause.TheVariants.{ActivityFailed}
+use Rattle.flow_nodes.specs.Links.{block_at}
 use Rattle.flow_model.specs.Deliver.{map_rest, replaced, target_of, when_completed, when_failed, when_fired}
 use Rattle.flow_nodes.specs.declared.table.Listing.{Listing}
 use Rattle.flow_run.specs.Marks.{within, Mark, One, Many, besides, put, onto, first_rest, or_rests, with_tail, map_rests}
@@ -249,3 +251,65 @@ timer_waits n (doing.OnSignal x s) h = cc
 timer_waits n (doing.OnSignalFor x s m b) h = refl
 timer_waits n (doing.Raised w t) h = cc
 timer_waits n (doing.Join m k) h = cc
+
+-- what becomes of a task's own part
+pub completed_becomes : (n : ℕ) (ls : List Listing) (d : Doing) → on_activity n d ≡ true → replaced (when_completed n) (shown_doing ls d) ≡ Some Done
+completed_becomes n ls doing.Over h = cc
+completed_becomes n ls doing.Empty h = cc
+completed_becomes n ls (doing.OnActivity m x k o) h = rw h
+completed_becomes n ls (doing.OnTimer m) h = cc
+completed_becomes n ls (doing.OnSignal x s) h = cc
+completed_becomes n ls (doing.OnSignalFor x s m b) h = cc
+completed_becomes n ls (doing.Raised w t) h = cc
+completed_becomes n ls (doing.Join m k) h = cc
+
+abbrev pub failed_rest : List Listing → Bytes → Option ℕ → Rest
+failed_rest ls text None = Raised ActivityFailed text
+failed_rest ls text (Some l) = rest_of (block_at ls l)
+
+pub failed_becomes : (n : ℕ) (text : Bytes) (ls : List Listing) (d : Doing) → on_activity n d ≡ true → replaced (when_failed n text) (shown_doing ls d) ≡ Some (failed_rest ls text (late_in d))
+failed_becomes n text ls doing.Over h = cc
+failed_becomes n text ls doing.Empty h = cc
+failed_becomes n text ls (doing.OnActivity m x k None) h = rw h
+failed_becomes n text ls (doing.OnActivity m x k (Some l)) h = rw h
+failed_becomes n text ls (doing.OnTimer m) h = cc
+failed_becomes n text ls (doing.OnSignal x s) h = cc
+failed_becomes n text ls (doing.OnSignalFor x s m b) h = cc
+failed_becomes n text ls (doing.Raised w t) h = cc
+failed_becomes n text ls (doing.Join m k) h = cc
+
+abbrev pub fired_rest : List Listing → Option ℕ → Rest
+fired_rest ls None = Done
+fired_rest ls (Some l) = rest_of (block_at ls l)
+
+pub fired_becomes : (n : ℕ) (ls : List Listing) (d : Doing) → on_timer n d ≡ true → replaced (when_fired n) (shown_doing ls d) ≡ Some (fired_rest ls (late_in d))
+fired_becomes n ls doing.Over h = cc
+fired_becomes n ls doing.Empty h = cc
+fired_becomes n ls (doing.OnActivity m x k o) h = cc
+fired_becomes n ls (doing.OnTimer m) h = rw h
+fired_becomes n ls (doing.OnSignal x s) h = cc
+fired_becomes n ls (doing.OnSignalFor x s m b) h = rw h
+fired_becomes n ls (doing.Raised w t) h = cc
+fired_becomes n ls (doing.Join m k) h = cc
+
+-- the rest of a run in which the first task that is such a leaf goes on as this, and the rest of one in which none is
+pub replaced_at : (f : Rest → Option Rest) → f Done ≡ None → (ls : List Listing) (p : Doing → Bool) → ((d : Doing) → p d ≡ false → replaced f (shown_doing ls d) ≡ None)
+    → (cs ds : List Cell) (i : ℕ) (c : Cell) (r : Rest) → i < length cs → c ≡ get_or cs i c → NoneOf p (take i cs) → is_task c.doing ≡ true → replaced f (shown_doing ls c.doing) ≡ Some r → length (onto (marks_of ls cs) []) ≤ 1
+    → onto (marks_of ls ds) [] ≡ onto (take i (marks_of ls cs)) (within (blocks_of ls c.places.items) r ∷ onto (drop (i + 1) (marks_of ls cs)) [])
+    → replaced f (first_rest (onto (marks_of ls cs) [])) ≡ Some (first_rest (onto (marks_of ls ds) []))
+replaced_at f e ls p none cs ds i c r h g n k is one shows =
+    whole_replaced f (onto (marks_of ls cs) []) e one
+    ∙ ap firsts (first_replaced f e ls p none cs i c r h g n k is)
+    ∙ ap (λ (rs : List Rest). Some (first_rest rs)) (sym shows)
+
+pub none_at_all : (f : Rest → Option Rest) → f Done ≡ None → (ls : List Listing) (p : Doing → Bool) → ((d : Doing) → p d ≡ false → replaced f (shown_doing ls d) ≡ None)
+    → (cs : List Cell) → NoneOf p cs → length (onto (marks_of ls cs) []) ≤ 1 → replaced f (first_rest (onto (marks_of ls cs) [])) ≡ None
+none_at_all f e ls p none cs n one =
+    whole_replaced f (onto (marks_of ls cs) []) e one ∙ ap firsts (none_replaced f e ls p none cs [] n)
+
+pub no_target : (n : ℕ) (ls : List Listing) (cs : List Cell) → NoneOf (on_activity n) cs → length (onto (marks_of ls cs) []) ≤ 1 → target_of n (first_rest (onto (marks_of ls cs) [])) ≡ None
+no_target n ls cs none one = whole_target n (onto (marks_of ls cs) []) one ∙ none_targets n ls cs [] none
+
+pub target_at : (n : ℕ) (ls : List Listing) (cs : List Cell) (i : ℕ) (c : Cell) (x : Bytes × Kind) → i < length cs → c ≡ get_or cs i c → NoneOf (on_activity n) (take i cs) → is_task c.doing ≡ true → on_activity n c.doing ≡ true → target_in c.doing ≡ Some x → length (onto (marks_of ls cs) []) ≤ 1
+    → target_of n (first_rest (onto (marks_of ls cs) [])) ≡ Some x
+target_at n ls cs i c x h g none k is t one = whole_target n (onto (marks_of ls cs) []) one ∙ first_target n ls cs i c x h g none k is t

@@ -96,9 +96,11 @@ marks_length ls (c ∷ cs) = ap suc (marks_length ls cs)
 
 pub join_rest : (ls : List Listing) (ps : List Place) (d : Doing) (rs : List Rest) (n k : ℕ) → ps ≡ [] → d ≡ doing.Join n k → Counted (mark_by ls (blocks_of ls ps) d ∷ []) rs → (is_done (first_rest (put (mark_by ls (blocks_of ls ps) d) rs)) ≡ is_done (besides n rs)) × (k ≡ running n rs)
 join_rest ls ps d rs n k e f h =
-    let g : Counted (mark_by ls (blocks_of ls ps) (doing.Join n k) ∷ []) rs = subst (λ (x : Doing). Counted (mark_by ls (blocks_of ls ps) x ∷ []) rs) f h in
-    (ap (λ (x : Doing). is_done (first_rest (put (mark_by ls (blocks_of ls ps) x) rs))) f
-    ∙ ap (λ (xs : List Place). is_done (within (blocks_of ls xs) (besides n rs))) e, g.0)
+    let g : Counted (mark_by ls (blocks_of ls ps) (doing.Join n k) ∷ []) rs = subst (λ (x : Doing). Counted (mark_by ls (blocks_of ls ps) x ∷ []) rs) f h in (
+      ap (λ (x : Doing). is_done (first_rest (put (mark_by ls (blocks_of ls ps) x) rs))) f
+          ∙ ap (λ (xs : List Place). is_done (within (blocks_of ls xs) (besides n rs))) e,
+      g.0,
+    )
 
 -- what two equal joins have
 abbrev runs_of : Mark → ℕ

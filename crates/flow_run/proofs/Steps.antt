@@ -147,31 +147,45 @@ pub acted_task : (ls : List Listing) (s : Setting) (old new : CStore) (cs ones d
 acted_task ls s old new cs ones ds i c stepped.Stays h e k front behind a =
     let ms = marks_of ls cs in
     let rs = onto (drop (i + 1) ms) [] in
-    let is : mark_of ls c ≡ One (task_rest ls c) = task_mark ls (blocks_of ls c.places.items) c.doing k in
-    (a.1.0, (a.1.1 ∙ (λ j. front j ++ (mark_of ls c ∷ behind j)) ∙ sym (cut_cell ls cs i c h e),
-     λ m f.
-         let same : mark_of ls c ≡ m = same_mark ls cs i c m h e f in
-         ap (λ (xs : List Mark). moves s (shown_store old) (onto xs [])) (at_cell ls cs i c h e)
-         ∙ ap (λ (x : Mark). moves s (shown_store old) (put x rs)) is
-         ∙ task_stays s (shown_store old) (task_rest ls c) rs a.0
-         ∙ ap (λ (x : Mark). along (put x) (moves s (shown_store old) rs)) (sym is ∙ same)))
+    let is : mark_of ls c ≡ One (task_rest ls c) = task_mark ls (blocks_of ls c.places.items) c.doing k in (
+      a.1.0,
+      (
+        a.1.1 ∙ (λ j. front j ++ (mark_of ls c ∷ behind j)) ∙ sym (cut_cell ls cs i c h e),
+        λ m f.
+            let same : mark_of ls c ≡ m = same_mark ls cs i c m h e f in
+            ap (λ (xs : List Mark). moves s (shown_store old) (onto xs [])) (at_cell ls cs i c h e)
+            ∙ ap (λ (x : Mark). moves s (shown_store old) (put x rs)) is
+            ∙ task_stays s (shown_store old) (task_rest ls c) rs a.0
+            ∙ ap (λ (x : Mark). along (put x) (moves s (shown_store old) rs)) (sym is ∙ same),
+      ),
+    )
 acted_task ls s old new cs ones ds i c stepped.Goes h e k front behind a =
     let ms = marks_of ls cs in
-    let rs = onto (drop (i + 1) ms) [] in
-    (a.0 ∷ rs, (ap (λ (xs : List Mark). moves s (shown_store old) (onto xs [])) (at_cell ls cs i c h e)
-        ∙ ap (moves s (shown_store old)) (task_put ls c rs k) ∙ first_goes s (shown_store old) (shown_store new) (task_rest ls c) a.0 rs a.1.0,
-     a.1.1 ∙ (λ j. onto (front j) (a.0 ∷ onto (behind j) []))))
+    let rs = onto (drop (i + 1) ms) [] in (
+      a.0 ∷ rs,
+      (
+        ap (λ (xs : List Mark). moves s (shown_store old) (onto xs [])) (at_cell ls cs i c h e)
+            ∙ ap (moves s (shown_store old)) (task_put ls c rs k) ∙ first_goes s (shown_store old) (shown_store new) (task_rest ls c) a.0 rs a.1.0,
+        a.1.1 ∙ (λ j. onto (front j) (a.0 ∷ onto (behind j) [])),
+      ),
+    )
 acted_task ls s old new cs ones ds i c (stepped.Asks d) h e k front behind a =
     let ms = marks_of ls cs in
-    let rs = onto (drop (i + 1) ms) [] in
-    (a.0 ∷ rs, (ap (λ (xs : List Mark). moves s (shown_store old) (onto xs [])) (at_cell ls cs i c h e)
-        ∙ ap (moves s (shown_store old)) (task_put ls c rs k) ∙ first_asks s (shown_store old) (shown_store new) (task_rest ls c) a.0 rs d.value a.1.0,
-     a.1.1 ∙ (λ j. onto (front j) (a.0 ∷ onto (behind j) []))))
+    let rs = onto (drop (i + 1) ms) [] in (
+      a.0 ∷ rs,
+      (
+        ap (λ (xs : List Mark). moves s (shown_store old) (onto xs [])) (at_cell ls cs i c h e)
+            ∙ ap (moves s (shown_store old)) (task_put ls c rs k) ∙ first_asks s (shown_store old) (shown_store new) (task_rest ls c) a.0 rs d.value a.1.0,
+        a.1.1 ∙ (λ j. onto (front j) (a.0 ∷ onto (behind j) [])),
+      ),
+    )
 acted_task ls s old new cs ones ds i c (stepped.Ends d) h e k front behind a =
     let ms = marks_of ls cs in
-    let rs = onto (drop (i + 1) ms) [] in
-    (ap (λ (xs : List Mark). moves s (shown_store old) (onto xs [])) (at_cell ls cs i c h e)
-        ∙ ap (moves s (shown_store old)) (task_put ls c rs k) ∙ first_ends s (shown_store old) (task_rest ls c) rs d.value a.0, a.1)
+    let rs = onto (drop (i + 1) ms) [] in (
+      ap (λ (xs : List Mark). moves s (shown_store old) (onto xs [])) (at_cell ls cs i c h e)
+          ∙ ap (moves s (shown_store old)) (task_put ls c rs k) ∙ first_ends s (shown_store old) (task_rest ls c) rs d.value a.0,
+      a.1,
+    )
 
 -- a join whose branches are all over, as it stands and as it goes on
 module _ (ls : List Listing) (s : Setting) (old : CStore) (cs ones : List Cell) (i n : ℕ) (c : Cell) (h : i < length cs) (e : c ≡ get_or cs i c) (k : c.doing ≡ doing.Join n 0) (full : AreFullPlaces ls c.places.items) (some : 0 < length c.places.items) (counted : Counted (marks_of ls cs) []) (front : take i (marks_of ls ones) ≡ take i (marks_of ls cs)) (behind : onto (drop (i + 1) (marks_of ls ones)) [] ≡ drop n (onto (drop (i + 1) (marks_of ls cs)) [])) (a : Cell) (same : a.places.items ≡ c.places.items) (idle : a.doing ≡ doing.Over) where
@@ -210,12 +224,20 @@ module _ (ls : List Listing) (s : Setting) (old : CStore) (cs ones : List Cell) 
   pub acted_join : (new : CStore) (ds : List Cell) (m : Stepped) → ActedAt ls s old a ones i new ds m → StepsAt ls s old cs i new ds m
   acted_join new ds stepped.Stays x =
       absurd (join_steps s (shown_store old) ls c.places.items (get_or c.places.items 0 (record { list = 0; at = 0; to = 0 })) full some (ap (move s (shown_store old)) (sym rest_is) ∙ x.0))
-  acted_join new ds stepped.Goes x =
-      (x.0 ∷ drop n rs, (ap (moves s (shown_store old)) starts ∙ first_goes s (shown_store old) (shown_store new) (within bs (besides n rs)) x.0 (drop n rs) (move_is (shown_store old) ∙ x.1.0),
-       x.1.1 ∙ (λ j. onto (front j) (x.0 ∷ behind j))))
-  acted_join new ds (stepped.Asks d) x =
-      (x.0 ∷ drop n rs, (ap (moves s (shown_store old)) starts ∙ first_asks s (shown_store old) (shown_store new) (within bs (besides n rs)) x.0 (drop n rs) d.value (move_is (shown_store old) ∙ x.1.0),
-       x.1.1 ∙ (λ j. onto (front j) (x.0 ∷ behind j))))
+  acted_join new ds stepped.Goes x = (
+    x.0 ∷ drop n rs,
+    (
+      ap (moves s (shown_store old)) starts ∙ first_goes s (shown_store old) (shown_store new) (within bs (besides n rs)) x.0 (drop n rs) (move_is (shown_store old) ∙ x.1.0),
+      x.1.1 ∙ (λ j. onto (front j) (x.0 ∷ behind j)),
+    ),
+  )
+  acted_join new ds (stepped.Asks d) x = (
+    x.0 ∷ drop n rs,
+    (
+      ap (moves s (shown_store old)) starts ∙ first_asks s (shown_store old) (shown_store new) (within bs (besides n rs)) x.0 (drop n rs) d.value (move_is (shown_store old) ∙ x.1.0),
+      x.1.1 ∙ (λ j. onto (front j) (x.0 ∷ behind j)),
+    ),
+  )
   acted_join new ds (stepped.Ends d) x =
       (ap (moves s (shown_store old)) starts ∙ first_ends s (shown_store old) (within bs (besides n rs)) (drop n rs) d.value (move_is (shown_store old) ∙ x.0), x.1)
 
@@ -254,9 +276,10 @@ task_here cs i c d h e k f =
 
 pub join_here : (cs : List Cell) (i : ℕ) (c d : Cell) (n k : ℕ) → i < length cs → c ≡ get_or cs i c → Some (n, k) ≡ join_of c.doing → k ≤ 0 → 0 < length c.places.items → d ≡ get_or cs i d → (d.doing ≡ doing.Join n 0) × (0 < length d.places.items)
 join_here cs i c d n k h e j z p f =
-    let same : d ≡ c = f ∙ get_or_default cs i d c h ∙ sym e in
-    (ap (λ (x : Cell). x.doing) same ∙ some_is_join c.doing n k j ∙ ap (doing.Join n) (omega (arith, z)),
-     subst (λ (x : Cell). 0 < length x.places.items) (sym same) p)
+    let same : d ≡ c = f ∙ get_or_default cs i d c h ∙ sym e in (
+      ap (λ (x : Cell). x.doing) same ∙ some_is_join c.doing n k j ∙ ap (doing.Join n) (omega (arith, z)),
+      subst (λ (x : Cell). 0 < length x.places.items) (sym same) p,
+    )
 
 -- a join that stays
 pub join_rests : (ls : List Listing) (s : Setting) (t : Store) (cs : List Cell) (i : ℕ) (c : Cell) (n k : ℕ) → i < length cs → c ≡ get_or cs i c → Some (n, k) ≡ join_of c.doing → Counted (marks_of ls cs) [] → (0 < k) ⊎ (c.places.items ≡ []) → (m : Mark) → slice_get (marks_of ls cs) i ≡ Some m → moves s t (onto (drop i (marks_of ls cs)) []) ≡ along (put m) (moves s t (onto (drop (i + 1) (marks_of ls cs)) []))

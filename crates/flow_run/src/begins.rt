@@ -8,13 +8,13 @@ ghost use Rattle.flow_run.specs.Flat.{IsLinked, KeepsStore, late_at, shown_begun
 ghost use Rattle.flow_nodes.specs.Links.{block_at};
 
 use crate::cell::{Doing, Late};
-use flow_nodes::table::{Links, Table};
 use crate::setting::{Setting, gives, is_answered, may_wait, raise, text_in};
 use crate::store::{Store, set, take};
 use flow_base::event::{Cause, Cmd};
 use flow_base::sequence::Sequence;
 use flow_base::syntax::{Block, Expr, Retry, Stmt};
 use flow_base::text::Key;
+use flow_nodes::table::{Links, Table};
 use flow_values::evaluate::{due, eval, eval_all, truth};
 use flow_values::fault::Fault;
 use std::alloc::Global;
@@ -162,13 +162,7 @@ fn call(
     }
 }
 
-fn sleep(
-    alloc: Global,
-    table: &Table,
-    s: &Setting,
-    t: &Store,
-    delay: &Expr,
-) -> Result<Begun, Fault>
+fn sleep(alloc: Global, table: &Table, s: &Setting, t: &Store, delay: &Expr) -> Result<Begun, Fault>
     ensures step { IfOk result (λ m. shown_begun table.now.lists.items (ASleep 0 (shown_expr delay.now)) t.now m ≡ model.begin (shown_setting s.now) (shown_store t.now) (ASleep 0 (shown_expr delay.now))) }
     ensures kept { IfOk result (λ m. KeepsStore t.now t.now m) }
 {
@@ -268,14 +262,7 @@ fn pick(
     }
 }
 
-fn picked(
-    table: &Table,
-    is_first: bool,
-    a: &Block,
-    b: &Block,
-    first: usize,
-    second: usize,
-) -> Next
+fn picked(table: &Table, is_first: bool, a: &Block, b: &Block, first: usize, second: usize) -> Next
     requires first { block_at table.now.lists.items first ≡ (shown_braced a.now).0 }
     requires second { block_at table.now.lists.items second ≡ (shown_braced b.now).0 }
     ensures list { result ≡ Next.Enters (if is_first then first else second) }
@@ -380,13 +367,7 @@ fn deprecate(
     }
 }
 
-fn finish(
-    alloc: Global,
-    table: &Table,
-    s: &Setting,
-    t: &Store,
-    e: &Expr,
-) -> Result<Begun, Fault>
+fn finish(alloc: Global, table: &Table, s: &Setting, t: &Store, e: &Expr) -> Result<Begun, Fault>
     ensures step { IfOk result (λ m. shown_begun table.now.lists.items (AReturn 0 (shown_expr e.now)) t.now m ≡ model.begin (shown_setting s.now) (shown_store t.now) (AReturn 0 (shown_expr e.now))) }
     ensures kept { IfOk result (λ m. KeepsStore t.now t.now m) }
 {
@@ -396,13 +377,7 @@ fn finish(
     }
 }
 
-fn give_up(
-    alloc: Global,
-    table: &Table,
-    s: &Setting,
-    t: &Store,
-    e: &Expr,
-) -> Result<Begun, Fault>
+fn give_up(alloc: Global, table: &Table, s: &Setting, t: &Store, e: &Expr) -> Result<Begun, Fault>
     ensures step { IfOk result (λ m. shown_begun table.now.lists.items (AFailWith 0 (shown_expr e.now)) t.now m ≡ model.begin (shown_setting s.now) (shown_store t.now) (AFailWith 0 (shown_expr e.now))) }
     ensures kept { IfOk result (λ m. KeepsStore t.now t.now m) }
 {

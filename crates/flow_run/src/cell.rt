@@ -64,7 +64,12 @@ impl Doing {
         match self {
             Doing::Over => Ok(Doing::Over),
             Doing::Empty => Ok(Doing::Empty),
-            Doing::OnActivity(n, x, k, late) => Ok(Doing::OnActivity(*n, x.copy(alloc)?, *k, *late)),
+            Doing::OnActivity(n, x, k, late) => Ok(Doing::OnActivity(
+                *n,
+                x.copy(alloc)?,
+                *k,
+                *late,
+            )),
             Doing::OnTimer(n) => Ok(Doing::OnTimer(*n)),
             Doing::OnSignal(x, s) => {
                 let x = x.copy(alloc)?;

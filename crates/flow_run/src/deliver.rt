@@ -16,8 +16,8 @@ ghost use Rattle.flow_run.specs.declared.cell.Cell.{Cell as ACell};
 use crate::cell::{Cell, Doing, copy_cells};
 use crate::decided::Decided;
 use crate::places::enter;
-use crate::standing::Standing;
 use crate::setting::signal_fits;
+use crate::standing::Standing;
 use crate::store::Store;
 use crate::walk::{branch, settle};
 use flow_base::event::{Cause, Cmd, Input, State};
@@ -209,12 +209,7 @@ fn fail(
 }
 
 // A sleep is over, or a wait for a signal does what is to be done where none came.
-fn fire(
-    alloc: Global,
-    table: &Table,
-    run: &Standing,
-    n: EventId,
-) -> Result<Option<Turning>, Fault>
+fn fire(alloc: Global, table: &Table, run: &Standing, n: EventId) -> Result<Option<Turning>, Fault>
     requires table { table.now ≡ run.now.table }
     requires whole { IsWhole run.now }
     requires is_open { run.now.state ≡ State.Open }

@@ -12,8 +12,8 @@ ghost use Rattle.flow_run.specs.Position.{config_of};
 ghost use Rattle.flow_run.specs.Whole.{shown_standing};
 
 use crate::fault::RunFault;
-use crate::standing::Position;
 pub use crate::setting::Answers;
+use crate::standing::Position;
 use crate::turn::{begun, continued, is_closed, waits};
 pub use crate::waits::OpenWait;
 use flow_base::event::{Cmd, Input, State, copy_values};

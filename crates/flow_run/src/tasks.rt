@@ -9,11 +9,11 @@ ghost use Rattle.flow_nodes.specs.Links.{AreLinked, stmts_at};
 
 use crate::begins::{Begun, Next, begin};
 use crate::cell::{Cell, Doing, Place};
-use flow_nodes::table::Table;
 use crate::places::{advance, enter};
 use crate::setting::Setting;
 use crate::store::{Store, take};
 use flow_base::event::Cmd;
+use flow_nodes::table::Table;
 use flow_values::fault::Fault;
 use std::alloc::Global;
 

@@ -17,8 +17,8 @@ ghost use Rattle.flow_run.specs.Whole.{rest_at, shown_standing};
 use crate::cell::{Cell, Doing};
 use crate::deliver::{Turning, begin, deliver};
 use crate::joins::is_over;
-use crate::standing::{Position, Standing};
 use crate::setting::{Answers, Setting};
+use crate::standing::{Position, Standing};
 use crate::store::Store;
 use crate::waits::OpenWait;
 use crate::walk::{Stepped, step};
@@ -211,11 +211,7 @@ fn one_more(waits: u32, is_one: bool) -> u32
     requires { waits ≤ 32 }
     ensures { result ≡ min (waits + one_if is_one) 32 }
 {
-    if is_one {
-        (waits + 1).min(32)
-    } else {
-        waits
-    }
+    if is_one { (waits + 1).min(32) } else { waits }
 }
 
 fn is_waiting(doing: &Doing) -> bool

@@ -8,12 +8,12 @@ ghost use Rattle.flow_nodes.specs.Links.{AreLinked, block_at};
 
 use crate::cell::{Cell, Doing};
 use crate::joins::{end, is_over, join_of};
-use flow_nodes::table::Table;
 use crate::places::enter;
 use crate::setting::Setting;
 use crate::store::Store;
 use crate::tasks::{Went, act};
 use flow_base::event::Cmd;
+use flow_nodes::table::Table;
 use flow_values::fault::Fault;
 use std::alloc::Global;
 
@@ -56,11 +56,7 @@ pub fn branch(alloc: Global, table: &Table, list: usize) -> Result<Cell, Fault>
 fn count(is_over: bool) -> usize
     ensures { result ≡ (if is_over then 0 else 1) }
 {
-    if is_over {
-        0
-    } else {
-        1
-    }
+    if is_over { 0 } else { 1 }
 }
 
 /// The branches of a statement begin, behind the place of the task that it splits.

@@ -67,9 +67,10 @@ settle-requires-clause-settles c =
     let earlier : (r : Rest) → is_done r ≡ false → Counted (take i now) (r ∷ drop (length ns) (onto (drop (i + 1) now) [])) = λ r a.
     subst (λ (ms : List Mark). Counted ms (r ∷ drop (length ns) (onto (drop (i + 1) now) []))) (sym (same_front now first i c.loop-k.invariant.front))
     (subst (λ (rs : List Rest). Counted (take i first) (r ∷ rs)) (sym left) (c.requires.earlier r a)) in
-    join_settles ls c.loop-k.cells.items i (length ns) c.loop-k.running (record { places = q.places; doing = doing.Join (length ns) c.loop-k.running }) c.loop-k.invariant.there refl earlier
-    (runs ∙ branches_run ls ns (drop (i + 1) first) ∙ ap (λ (ms : List Mark). running (length ns) (onto ms [])) (sym behind),
-     subst (λ (ms : List Mark). Counted ms []) (sym behind) (branches_counted ls ns (drop (i + 1) first) c.requires.later))
+    join_settles ls c.loop-k.cells.items i (length ns) c.loop-k.running (record { places = q.places; doing = doing.Join (length ns) c.loop-k.running }) c.loop-k.invariant.there refl earlier (
+      runs ∙ branches_run ls ns (drop (i + 1) first) ∙ ap (λ (ms : List Mark). running (length ns) (onto ms [])) (sym behind),
+      subst (λ (ms : List Mark). Counted ms []) (sym behind) (branches_counted ls ns (drop (i + 1) first) c.requires.later),
+    )
 
 pub returns-clause-shows : goal.returns-clause-shows
 returns-clause-shows c = λ old is.
