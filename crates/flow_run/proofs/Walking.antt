@@ -119,7 +119,7 @@ own_count (Many bs n k) ms h = (h.0, tt)
 pub goes_at : (s : Setting) (t u : Store) (r q : Rest) (rs : List Rest) → Goes q u ≡ move s t r → moves s t (r ∷ rs) ≡ Go (q ∷ rs) u
 goes_at s t u r q rs e = ap (λ m. or_moves (at_head rs m) (along (λ qs. r ∷ qs) (moves s t rs))) (sym e)
 
-set_there : (cs : List Cell) (i : ℕ) (c d : Cell) → i < length cs → get_or (set cs i c) i d ≡ c
+pub set_there : (cs : List Cell) (i : ℕ) (c d : Cell) → i < length cs → get_or (set cs i c) i d ≡ c
 set_there [] i c d h = absurd (omega (arith, h))
 set_there (x ∷ cs) zero c d h = refl
 set_there (x ∷ cs) (suc i) c d h = set_there cs i c d (omega (arith, h))
