@@ -155,7 +155,8 @@ pub fn act_at(
     ensures step { IfOk result (λ m. (c : ACell) → c ≡ slice_index_or cells.old.items i c → ActedAt table.now.lists.items (shown_setting s.now) t.old c cells.old.items i t.new cells.new.items m) }
     ensures sound { IfOk result (λ m. KeepsSound table.now.lists.items cells.new.items m) }
 {
-    match act(alloc, table, s, t, &mut cells[i])? {
+    let went = act(alloc, table, s, t, &mut cells[i])?;
+    match went {
         Went::Stays => Ok(Stepped::Stays),
         Went::Goes => {
             settle(table, cells, i);
