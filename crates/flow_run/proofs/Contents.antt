@@ -13,11 +13,11 @@ use Rattle.flow_run.specs.declared.cell.Cell.{Cell}
 abbrev Content : Type 0
 Content = List Place × Doing
 
-first_content : Content → List Content → Content
+abbrev first_content : Content → List Content → Content
 first_content x [] = x
 first_content x (y ∷ ys) = y
 
-later_contents : List Content → List Content
+abbrev later_contents : List Content → List Content
 later_contents [] = []
 later_contents (x ∷ xs) = xs
 
@@ -27,7 +27,7 @@ head_same x y xs ys e = ap (first_content x) e
 tail_same : (x y : Content) (xs ys : List Content) → ◌≡◌ {A = List Content} (x ∷ xs) (y ∷ ys) → xs ≡ ys
 tail_same x y xs ys e = ap later_contents e
 
-mark_from : List Listing → Content → Mark
+abbrev mark_from : List Listing → Content → Mark
 mark_from ls x = mark_by ls (blocks_of ls x.0) x.1
 
 marks_from : (ls : List Listing) (cs : List Cell) → marks_of ls cs ≡ map (mark_from ls) (contents_of cs)

@@ -79,6 +79,14 @@ pub fn begin(
     }
 }
 
+// A wait in a box of its own.
+fn boxed(alloc: Global, doing: Doing) -> Result<Box<Doing>, Fault>
+    ensures { IfOk result (λ b. b.value ≡ doing) }
+{
+    let b = Box::new(alloc, doing)?;
+    Ok(b)
+}
+
 // A fault fails the run.
 fn raised(alloc: Global, cause: Cause) -> Result<Box<Cmd>, Fault>
     ensures { IfOk result (λ b. b.value ≡ Cmd.Fail cause []) }
@@ -197,7 +205,8 @@ fn wait(
     }
     if may_wait(s) {
         let doing = Doing::OnSignal(into.copy(alloc)?, signal.copy(alloc)?);
-        Ok(Begun::Goes(Next::Waits(Box::new(alloc, doing)?)))
+        let doing = boxed(alloc, doing)?;
+        Ok(Begun::Goes(Next::Waits(doing)))
     } else {
         Ok(Begun::Ends(raised(alloc, Cause::WaitLimit)?))
     }
@@ -228,7 +237,7 @@ fn wait_for(
             if may_wait(s) {
                 let into = into.copy(alloc)?;
                 let signal = signal.copy(alloc)?;
-                let doing = Box::new(alloc, Doing::OnSignalFor(into, signal, s.event, list))?;
+                let doing = boxed(alloc, Doing::OnSignalFor(into, signal, s.event, list))?;
                 let asked = Box::new(alloc, Cmd::StartTimer(at))?;
                 Ok(Begun::Asks(Next::Waits(doing), asked))
             } else {

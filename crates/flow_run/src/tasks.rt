@@ -123,7 +123,8 @@ pub fn act(
         Doing::Over => go_on(alloc, table, s, t, cell),
         Doing::Empty => go_on(alloc, table, s, t, cell),
         Doing::OnSignal(into, signal) => {
-            if take(alloc, t, into, signal)? {
+            let heard = take(alloc, t, into, signal)?;
+            if heard {
                 cell.doing = Doing::Over;
                 Ok(Went::Goes)
             } else {
@@ -132,7 +133,8 @@ pub fn act(
         }
         Doing::OnSignalFor(into, signal, timer, _) => {
             let cancel = Box::new(alloc, Cmd::CancelTimer(*timer))?;
-            if take(alloc, t, into, signal)? {
+            let in_time = take(alloc, t, into, signal)?;
+            if in_time {
                 cell.doing = Doing::Over;
                 Ok(Went::Asks(cancel))
             } else {
@@ -141,7 +143,8 @@ pub fn act(
         }
         Doing::Raised(c, text) => {
             let text = text.copy(alloc)?;
-            Ok(Went::Ends(Box::new(alloc, Cmd::Fail(*c, text))?))
+            let fail = Box::new(alloc, Cmd::Fail(*c, text))?;
+            Ok(Went::Ends(fail))
         }
         Doing::OnActivity(_, _, _, _) => Ok(Went::Stays),
         Doing::OnTimer(_) => Ok(Went::Stays),

@@ -25,7 +25,7 @@ returns-in_ok-enter-in-Repeats-clause-rest c = λ st there.
     let old = c.args.cell.now.places.items in
     let body : Rest = rest_of (block_at ls c.in-Repeats.list) in
     c.in_ok-enter-in-Repeats.ensures.rest
-    ∙ ap (λ (ps : List Place). within (blocks_of ls ps) body) c.in_ok-push.ensures.items
+    ∙ ap (λ (ps : List Place). within (blocks_of ls ps) body) c.in_ok-push-in-Repeats.ensures.items
     ∙ pushed_place ls old q body
     ∙ ap (λ (b : Block). within (blocks_of ls old) (Then body b)) (again_at ls p st there)
     ∙ ap (λ (n : Next). within (blocks_of ls old) (shown_onward ls (shown_stmt st) n)) (sym c.in-Repeats.is)
