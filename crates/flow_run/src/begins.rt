@@ -1,5 +1,5 @@
 ghost use Rattle.std.specs.Prelude.{◌≡◌, ◌∷◌, IfOk, MatchOption, map, Option, [], false, nat_lt, if◌then◌else◌, OnOk};
-ghost use Rattle.flow_base.specs.Syntax.{Let as ALet, Call as ACall, WaitSignal as AWaitSignal, WaitSignalFor as AWaitSignalFor, Sleep as ASleep, If as AIf, While as AWhile, Parallel as AParallel, Patch as APatch, Return as AReturn, FailWith as AFailWith, Continue as AContinue, Deprecate as ADeprecate};
+ghost use Rattle.flow_base.specs.Syntax.{Let as ALet, Call as ACall, WaitSignal as AWaitSignal, WaitSignalFor as AWaitSignalFor, Sleep as ASleep, If as AIf, While as AWhile, Parallel as AParallel, Patch as APatch, Return as AReturn, FailWith as AFailWith, Continue as AContinue, Deprecate as ADeprecate, Now as ANow};
 ghost use Rattle.flow_base.specs.Shown.{shown_stmt, shown_braced, shown_otherwise, shown_expr};
 ghost use Rattle.flow_model.specs.Rest as tree;
 ghost use Rattle.flow_model.specs.Step as model;
@@ -11,6 +11,7 @@ use crate::cell::{Doing, Late};
 use crate::setting::{Setting, gives, is_answered, may_wait, raise, text_in};
 use crate::store::{Store, set, take};
 use flow_base::event::{Cause, Cmd};
+use flow_base::number::Moment;
 use flow_base::sequence::Sequence;
 use flow_base::syntax::{Block, Expr, Retry, Stmt};
 use flow_base::text::Key;
@@ -234,17 +235,37 @@ fn wait_for(
     }
     match due(alloc, &t.variables, s.at, delay)? {
         Ok(at) => {
-            if may_wait(s) {
-                let into = into.copy(alloc)?;
-                let signal = signal.copy(alloc)?;
-                let doing = boxed(alloc, Doing::OnSignalFor(into, signal, s.event, list))?;
-                let asked = Box::new(alloc, Cmd::StartTimer(at))?;
-                Ok(Begun::Asks(Next::Waits(doing), asked))
-            } else {
-                Ok(Begun::Ends(raised(alloc, Cause::WaitLimit)?))
-            }
+            let m = wait_open(alloc, table, s, t, into, signal, at, late, list)?;
+            Ok(m)
         }
         Err(c) => Ok(Begun::Ends(raised(alloc, c)?)),
+    }
+}
+
+// The wait with its timer opens.
+fn wait_open(
+    alloc: Global,
+    table: &Table,
+    s: &Setting,
+    t: &Store,
+    into: &Key,
+    signal: &Key,
+    at: Moment,
+    late: &Block,
+    list: usize,
+) -> Result<Begun, Fault>
+    requires linked { block_at table.now.lists.items list ≡ (shown_braced late.now).0 }
+    ensures step { IfOk result (λ m. shown_begun table.now.lists.items (AWaitSignalFor 0 into.now 0 signal.now (ANow 0) (shown_braced late.now).0 0) t.now m ≡ model.waiting (shown_setting s.now) (model.Asks (tree.OnSignalFor into.now signal.now s.now.event (shown_braced late.now).0) (shown_store t.now) (Cmd.StartTimer at))) }
+    ensures kept { IfOk result (λ m. KeepsStore t.now t.now m) }
+{
+    if may_wait(s) {
+        let into = into.copy(alloc)?;
+        let signal = signal.copy(alloc)?;
+        let doing = boxed(alloc, Doing::OnSignalFor(into, signal, s.event, list))?;
+        let asked = Box::new(alloc, Cmd::StartTimer(at))?;
+        Ok(Begun::Asks(Next::Waits(doing), asked))
+    } else {
+        Ok(Begun::Ends(raised(alloc, Cause::WaitLimit)?))
     }
 }
 
