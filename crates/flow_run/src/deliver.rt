@@ -5,6 +5,7 @@ ghost use Rattle.flow_nodes.specs.Links.{block_at};
 ghost use Rattle.flow_values.specs.Named.{look_up};
 ghost use Rattle.flow_values.specs.Slots.{slot_of};
 ghost use Rattle.flow_model.specs.Rest as tree;
+ghost use Rattle.flow_model.specs.Values.{none_set};
 ghost use Rattle.flow_model.specs.Deliver as model;
 ghost use Rattle.flow_run.specs.Marks.{within, onto};
 ghost use Rattle.flow_run.specs.Flat.{AreSound, blocks_of, contents_of, marks_of, shown_doing, is_task};
@@ -94,7 +95,7 @@ fn bind(
 }
 
 fn none_bound(names: &Arc<Vec<Key>>) -> Result<Slots, AllocError>
-    ensures { IfOk result (λ vars. (vs : _) → slot_of vars ≡ model.bound [] vs) }
+    ensures { IfOk result (λ vars. slot_of vars ≡ none_set) }
 {
     let names = names.clone()?;
     Ok(Slots::new(names))

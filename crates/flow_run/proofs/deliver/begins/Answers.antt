@@ -1,5 +1,6 @@
 use Rattle.std.proofs.Common.{◌≡◌, ◌+◌, ◌∷◌, ◌∙◌, [], List, take, drop, ap, refl, sym, subst, true, false}
-use Rattle.flow_model.specs.Rest.{Rest, is_done}
+use Rattle.flow_model.specs.Rest.{Rest, is_done, rest_of}
+use Rattle.flow_nodes.specs.Links.{block_at}
 use Rattle.flow_run.specs.Marks.{onto, within}
 use Rattle.flow_run.specs.Flat.{AreFull, blocks_of, is_task, marks_of, task_rest}
 use Rattle.flow_run.specs.declared.cell.Cell.{Cell}
@@ -36,4 +37,4 @@ returns-clause-shows c = λ old same.
     c.settle.ensures.shows
     ∙ task_shows ls cs c.args.i c.enter.new.cell c.requires.there c.in_ok-enter.ensures.task
     ∙ ap (λ (r : Rest). onto (take c.args.i (marks_of ls cs)) (r ∷ onto (drop (c.args.i + 1) (marks_of ls cs)) [])) c.in_ok-enter.ensures.rest
-    ∙ ap (λ (x : Cell). onto (take c.args.i (marks_of ls cs)) (within (blocks_of ls x.places.items) _ ∷ onto (drop (c.args.i + 1) (marks_of ls cs)) [])) one
+    ∙ ap (λ (x : Cell). onto (take c.args.i (marks_of ls cs)) (within (blocks_of ls x.places.items) (rest_of (block_at ls c.args.list)) ∷ onto (drop (c.args.i + 1) (marks_of ls cs)) [])) one
