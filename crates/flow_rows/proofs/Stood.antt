@@ -29,7 +29,7 @@ use Rattle.flow_model.specs.Sound.{IsSoundTask, IsSoundRun, IsSound, IsProgram, 
 use Rattle.flow_model.proofs.Tries.{well_formed_tried}
 use Rattle.flow_model.proofs.Starts.{is_start, StartNone, StartsOnce, starts_once, none_left}
 use Rattle.flow_model.specs.Checked.{is_program_by}
-use Rattle.flow_rows.specs.Rows.{activities_left}
+use Rattle.flow_rows.specs.Rows.{Two, activities_left}
 use Rattle.flow_rows.specs.Damages.{tries_of, tries_at}
 use Rattle.flow_rows.specs.Standing.{AreEvents, AreTasks, IsKept, AreApart, AreKept}
 use Rattle.flow_rows.specs.Told.{AreRead, IsTold}
@@ -84,7 +84,7 @@ start_is_first (Asked (Complete v)) = refl
 start_is_first (Asked (Fail c t)) = refl
 start_is_first (Asked (ContinueAsNew vs)) = refl
 
-later_events : (i : ℕ) (es : List Event) → 1 < i → AreRead i es → StartNone es → AreEvents i es
+later_events : (i : ℕ) (es : List Event) → 1 < i → AreRead i es → StartNone es → AreEvents Two i es
 later_events i [] behind read none = tt
 later_events i (e ∷ es) behind read none = (
   read.0,
@@ -93,7 +93,7 @@ later_events i (e ∷ es) behind read none = (
   later_events (i + 1) es (omega (arith, behind)) read.2 none.1,
 )
 
-all_events : (es : List Event) → AreRead 1 es → StartsOnce es → AreEvents 1 es
+all_events : (es : List Event) → AreRead 1 es → StartsOnce es → AreEvents Two 1 es
 all_events [] read once = tt
 all_events (e ∷ es) read once = (read.0, start_is_first e.what ∙ once.0, read.1, later_events 2 es (omega arith) read.2 once.1)
 
@@ -135,7 +135,7 @@ left_is false ts none = none refl
 
 ---- Each run
 
-kept_run : (meaning : Bytes → Result Program TextFault) → ((text : Bytes) → Means text (meaning text)) → (b : Book) (r : Run) → IsSoundRun (rules_of meaning) b r → IsTold r → IsKept (length b.texts) r
+kept_run : (meaning : Bytes → Result Program TextFault) → ((text : Bytes) → Means text (meaning text)) → (b : Book) (r : Run) → IsSoundRun (rules_of meaning) b r → IsTold r → IsKept Two (length b.texts) r
 kept_run meaning means b r sound told =
     let there = text_there meaning b r.text sound.program sound.its_text in
     let tried = well_formed_tried sound.program (text_well_formed meaning means b r.text sound.program there) in
@@ -152,7 +152,7 @@ kept_run meaning means b r sound told =
     }
 
 kept_runs : (meaning : Bytes → Result Program TextFault) → ((text : Bytes) → Means text (meaning text)) → (b : Book) (rs : List Run) → AllByRecursion (IsSoundRun (rules_of meaning) b) rs → AllByRecursion IsTold rs
-    → AllByRecursion (IsKept (length b.texts)) rs
+    → AllByRecursion (IsKept Two (length b.texts)) rs
 kept_runs meaning means b [] sound told = tt
 kept_runs meaning means b (r ∷ rs) sound told = (kept_run meaning means b r sound.0 told.0, kept_runs meaning means b rs sound.1 told.1)
 
@@ -181,7 +181,7 @@ module _ (u : Rules) (b : Book) (sound : IsSound u b) (orderly : IsOrderly u b) 
       (λ i x there. apart i (length before) x r (slice_get_within before i x there) (ap (λ rs. slice_get rs i) cut ∙ get_front before (r ∷ rest) i x there)
       (ap (λ rs. slice_get rs (length before)) cut ∙ get_middle before r rest))
 
-  runs_kept : (count : ℕ) (before rs : List Run) → b.runs ≡ before ++ rs → AllByRecursion (IsKept count) rs → AreKept count before rs
+  runs_kept : (count : ℕ) (before rs : List Run) → b.runs ≡ before ++ rs → AllByRecursion (IsKept Two count) rs → AreKept Two count before rs
   runs_kept count before [] cut kept = tt
   runs_kept count before (r ∷ rs) cut kept =
       (kept.0, all_apart before rs r cut, runs_kept count (before ++ r ∷ []) rs (cut ∙ again before r rs) kept.1)
@@ -198,7 +198,7 @@ texts_are meaning (t ∷ ts) all = (ap is_ok all.0.1, texts_are meaning ts all.1
 
 pub stood : (meaning : Bytes → Result Program TextFault) → ((text : Bytes) → Means text (meaning text)) → (b : Book)
     → AllByRecursion IsTold b.runs → IsSound (rules_of meaning) b → IsOrderly (rules_of meaning) b
-    → AllByRecursion (λ text. is_program_by meaning text ≡ true) b.texts × AreKept (length b.texts) [] b.runs
+    → AllByRecursion (λ text. is_program_by meaning text ≡ true) b.texts × AreKept Two (length b.texts) [] b.runs
 stood meaning means b told sound orderly = (
   texts_are meaning b.texts (recursion_from_All (IsProgram (rules_of meaning)) b.texts orderly.texts),
   runs_kept (rules_of meaning) b sound orderly (length b.texts) [] b.runs refl

@@ -24,6 +24,17 @@ fn number_at(row: &Row, at: usize) -> Result<i64, StoreFault>
     }
 }
 
+/// The column of a moment.
+fn moment_at(row: &Row, at: usize) -> Result<Option<i64>, StoreFault>
+    ensures value { IfOk result (λ o. o ≡ moment_of (column row.now at)) }
+    ensures cause { (kinds : List Kind) → slice_get kinds at ≡ Some Integer → IfErr result (IsMisread kinds row.now) }
+{
+    match row.get(at) {
+        Ok(number) => Ok(Some(number)),
+        Err(error) => Err(StoreFault::from(error)),
+    }
+}
+
 fn text_at(alloc: Global, row: &Row, at: usize) -> Result<RawText, StoreFault>
     ensures value { IfOk result (λ t. t ≡ bytes (column row.now at)) }
     ensures cause { (kinds : List Kind) → slice_get kinds at ≡ Some Text → IfErr result (IsMisread kinds row.now) }
@@ -60,8 +71,29 @@ impl Said for EventRow {
             run: number_at(row, 0)?,
             id: number_at(row, 1)?,
             kind: number_at(row, 2)?,
-            body: text_at(alloc, row, 3)?,
+            at: moment_at(row, 3)?,
+            body: text_at(alloc, row, 4)?,
         })
+    }
+}
+
+/// A row of `event` of the first format, which has no column of the moment.
+#[derive(Drop)]
+pub struct PastRow(pub EventRow);
+
+impl Said for PastRow {
+    ghost said = { past_row_said };
+
+    ghost kinds = { past_row_kinds };
+
+    fn read(alloc: Global, row: &Row) -> Result<PastRow, StoreFault> {
+        Ok(PastRow(EventRow {
+            run: number_at(row, 0)?,
+            id: number_at(row, 1)?,
+            kind: number_at(row, 2)?,
+            at: None,
+            body: text_at(alloc, row, 3)?,
+        }))
     }
 }
 
