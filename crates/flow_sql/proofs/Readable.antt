@@ -67,7 +67,7 @@ module _ (db : Trees) (params : Row) (tree : ℕ) (terms project : List Term) (b
 ---- Texts of whole tables
 
 module _ (l : Layout) (db : Trees) (ours : AreOurs l db) (utf8 : AreUtf8 (tables_by l db)) where
-  event_bodies : AllByRecursion (λ r. IsUtf8 (bytes (column r 4))) (db (tree_of_events l))
+  event_bodies : AllByRecursion (λ r. IsUtf8 (bytes (column r 5))) (db (tree_of_events l))
   event_bodies =
       let all = map event_in (db (tree_of_events l)) in
       all_from_map (λ (e : EventRow). IsUtf8 e.body) event_in (db (tree_of_events l)) (all_from (λ (e : EventRow). IsUtf8 e.body) all (λ e has.
@@ -96,12 +96,12 @@ module _ (l : Layout) (db : Trees) (ours : AreOurs l db) (utf8 : AreUtf8 (tables
       (λ r h u. ((_, h 1 _ refl refl refl refl, u.0), (_, h 2 _ refl refl refl refl, u.1), (_, h 3 _ refl refl refl refl), (_, h 4 _ refl refl refl refl))) (db 4) (columns l db ours 2 run_table (run_there l)) (all_from_map _ run_in (db 4) utf8.runs))
 
   abbrev ReadsEvent : Row → Type 0
-  ReadsEvent r = IsReadAs Integer (column r 1) × IsReadAs Integer (column r 2) × IsReadAs Integer (column r 3) × IsReadAs Text (column r 4)
+  ReadsEvent r = IsReadAs Integer (column r 1) × IsReadAs Integer (column r 2) × IsReadAs Integer (column r 3) × IsReadAs Integer (column r 4) × IsReadAs Text (column r 5)
 
   events_read : AllByRecursion ReadsEvent (db (tree_of_events l))
   events_read =
-      all_both (AreTyped (event_table l)) (λ r. IsUtf8 (bytes (column r 4))) ReadsEvent
-      (λ r h u. ((_, h 0 _ refl refl refl refl), (_, h 1 _ refl refl refl refl), (_, h 2 _ refl refl refl refl), (_, h 3 _ refl refl refl refl, u))) (db (tree_of_events l)) (columns l db ours (place_of_events l) (event_table l) (event_there l)) event_bodies
+      all_both (AreTyped (event_table l)) (λ r. IsUtf8 (bytes (column r 5))) ReadsEvent
+      (λ r h u. ((_, h 0 _ refl refl refl refl), (_, h 1 _ refl refl refl refl), (_, h 2 _ refl refl refl refl), (_, h 3 _ refl refl refl refl), (_, h 4 _ refl refl refl refl, u))) (db (tree_of_events l)) (columns l db ours (place_of_events l) (event_table l) (event_there l)) event_bodies
 
   ---- What each read answers
 
@@ -120,11 +120,11 @@ module _ (l : Layout) (db : Trees) (ours : AreOurs l db) (utf8 : AreUtf8 (tables
     are_readable Read.requested = rows_hold db params 4 _ _ refl ReadsRun _ (λ r h. (h.0, tt)) runs_read _ rows
     are_readable Read.open_run = rows_hold db params 4 _ _ refl ReadsRun _ (λ r h. (h.0, tt)) runs_read _ rows
     are_readable Read.open_numbers = some_hold db params 4 _ _ refl ReadsRun _ (λ r h. (h.0, tt)) runs_read _ rows
-    are_readable Read.all_events = rows_hold db params (tree_of_events l) _ _ (event_bare l db) ReadsEvent _ (λ r h. (h.0, (h.1, (h.2, (h.3, tt))))) events_read _ rows
-    are_readable Read.run_events = rows_hold db params (tree_of_events l) _ _ (event_bare l db) ReadsEvent _ (λ r h. (h.0, (h.1, (h.2, (h.3, tt))))) events_read _ rows
+    are_readable Read.all_events = rows_hold db params (tree_of_events l) _ _ (event_bare l db) ReadsEvent _ (λ r h. (h.0, (h.1, (h.2, (h.3, (h.4, tt)))))) events_read _ rows
+    are_readable Read.run_events = rows_hold db params (tree_of_events l) _ _ (event_bare l db) ReadsEvent _ (λ r h. (h.0, (h.1, (h.2, (h.3, (h.4, tt)))))) events_read _ rows
     are_readable Read.last_event = first_holds db params (tree_of_events l) _ _ (event_bare l db) ReadsEvent _ (λ r h. (h.1, tt)) events_read _ rows
-    are_readable Read.event_at = rows_hold db params (tree_of_events l) _ _ (event_bare l db) ReadsEvent _ (λ r h. (h.0, (h.1, (h.2, (h.3, tt))))) events_read _ rows
-    are_readable Read.newest_event = first_holds db params (tree_of_events l) _ _ (event_bare l db) ReadsEvent _ (λ r h. (h.0, (h.1, (h.2, (h.3, tt))))) events_read _ rows
+    are_readable Read.event_at = rows_hold db params (tree_of_events l) _ _ (event_bare l db) ReadsEvent _ (λ r h. (h.0, (h.1, (h.2, (h.3, (h.4, tt)))))) events_read _ rows
+    are_readable Read.newest_event = first_holds db params (tree_of_events l) _ _ (event_bare l db) ReadsEvent _ (λ r h. (h.0, (h.1, (h.2, (h.3, (h.4, tt)))))) events_read _ rows
     are_readable Read.all_timers = rows_hold db params 7 _ _ refl (AreTyped timer_table) _ (λ r h. ((_, h 0 _ refl refl refl refl), ((_, h 1 _ refl refl refl refl), ((_, h 2 _ refl refl refl refl), tt)))) (columns l db ours 4 timer_table (timer_there l)) _ rows
     are_readable Read.all_tasks = rows_hold db params 9 _ _ refl (AreTyped task_table) _ task_reads (columns l db ours 5 task_table (task_there l)) _ rows
     are_readable Read.run_tasks = rows_hold db params 9 _ _ refl (AreTyped task_table) _ task_reads (columns l db ours 5 task_table (task_there l)) _ rows

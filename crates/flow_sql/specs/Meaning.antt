@@ -46,8 +46,8 @@ read_takes Read.run_tasks = 1
 abbrev pub write_takes : Write → ℕ
 write_takes Write.insert_text = 2
 write_takes Write.insert_run = 5
-write_takes Write.insert_event = 4
-write_takes Write.insert_events = 8
+write_takes Write.insert_event = 5
+write_takes Write.insert_events = 10
 write_takes Write.insert_timer = 3
 write_takes Write.insert_task = 4
 write_takes Write.delete_timer = 2

@@ -24,17 +24,6 @@ fn number_at(row: &Row, at: usize) -> Result<i64, StoreFault>
     }
 }
 
-/// The column of a moment.
-fn moment_at(row: &Row, at: usize) -> Result<Option<i64>, StoreFault>
-    ensures value { IfOk result (λ o. o ≡ moment_of (column row.now at)) }
-    ensures cause { (kinds : List Kind) → slice_get kinds at ≡ Some Integer → IfErr result (IsMisread kinds row.now) }
-{
-    match row.get(at) {
-        Ok(number) => Ok(Some(number)),
-        Err(error) => Err(StoreFault::from(error)),
-    }
-}
-
 fn text_at(alloc: Global, row: &Row, at: usize) -> Result<RawText, StoreFault>
     ensures value { IfOk result (λ t. t ≡ bytes (column row.now at)) }
     ensures cause { (kinds : List Kind) → slice_get kinds at ≡ Some Text → IfErr result (IsMisread kinds row.now) }
@@ -71,7 +60,7 @@ impl Said for EventRow {
             run: number_at(row, 0)?,
             id: number_at(row, 1)?,
             kind: number_at(row, 2)?,
-            at: moment_at(row, 3)?,
+            at: Some(number_at(row, 3)?),
             body: text_at(alloc, row, 4)?,
         })
     }
