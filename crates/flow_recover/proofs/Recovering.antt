@@ -21,6 +21,7 @@ use Rattle.flow_model.specs.Sound.{IsSound}
 use Rattle.flow_machine.proofs.Keeps.{nothing_sound}
 use Rattle.flow_rows.specs.Rows.{Tables}
 use Rattle.flow_rows.specs.Told.{Tells}
+use Rattle.flow_rows.specs.Rows.{Two}
 use Rattle.flow_rows.proofs.Agreed.{kept_all}
 use Rattle.flow_rows.proofs.Stood.{stood}
 use Rattle.flow_rows.proofs.Telling.{told, all_told}
@@ -52,7 +53,7 @@ found_ours s b found clean = elim (found clean) [ inl h ↦ inl h.0 | inr h ↦ 
 
 -- tables that stand for a book tell it
 stand_tell : (t : Tables) (b : Book) → StandFor is_program t b → Tells t b
-stand_tell t b h = record { same = h.same; runs = all_told (length b.texts) b.runs (kept_all (length b.texts) [] b.runs h.runs) }
+stand_tell t b h = record { same = h.same; runs = all_told Two (length b.texts) b.runs (kept_all Two (length b.texts) [] b.runs h.runs) }
 
 pub sound_found : (s : State) → HoldsSound s → (b : Book) × IsFound s b × IsSound rules b
 sound_found s (inl h) = (h.0, inl (h.1, stand_tell (tables_in s.committed) h.0 h.2), h.3)

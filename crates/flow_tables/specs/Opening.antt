@@ -7,7 +7,7 @@ use Rattle.flow_base.specs.declared.fault.Damage.{Damage}
 use Rattle.flow_tables.specs.Owned.{IsFound}
 use Rattle.sqlite.specs.declared.error.ErrorCode.TheVariants as code
 use Rattle.flow_rows.specs.Damages.{event_place, task_place, timer_place}
-use Rattle.flow_rows.specs.Rows.{rows_of}
+use Rattle.flow_rows.specs.Rows.{Two, rows_of}
 use Rattle.flow_rows.specs.Standing.{AreKept}
 use Rattle.flow_tables.specs.declared.fault.StoreFault.TheVariants as read
 use Rattle.flow_sql.specs.States.{Since, TellsFailure}
@@ -18,7 +18,7 @@ use Rattle.flow_tables.specs.Reads.{IsReadFault}
 
 -- The number of the format was read, and is another.
 abbrev pub HasOtherFormat : {S : Type 0} → Ghosts S → State → Type 0
-HasOtherFormat {S} g new = (old : Held S) × (row : Row) × (n : ℤ) × QueriesRow format_sql [] (state g old) new (Ok row) × (column row 0 ≡ Int n) × (n ≢ pos 1)
+HasOtherFormat {S} g new = (old : Held S) × (row : Row) × (n : ℤ) × QueriesRow format_sql [] (state g old) new (Ok row) × (column row 0 ≡ Int n) × (n ≢ pos 2)
 
 ---- How an error of the store is told
 
@@ -34,7 +34,7 @@ opening_fault _ = NotOurs
 
 -- What reading the format answers where it is our number, or else where there is no such table.
 abbrev pub IsAnswered : Bool → State → State → Type 0
-IsAnswered true old new = (row : Row) × QueriesRow format_sql [] old new (Ok row) × (column row 0 ≡ Int (pos 1))
+IsAnswered true old new = (row : Row) × QueriesRow format_sql [] old new (Ok row) × (column row 0 ≡ Int (pos 2))
 IsAnswered false old new = (e : Error) × QueriesRow format_sql [] old new (Err e) × (e ≢ QueryReturnedNoRows) × (opening_fault e ≡ NotOurs)
 
 -- The format was read so, of what the last commit left at the start, under the limit on steps that was set there.
@@ -46,7 +46,7 @@ HasFormat {S} g start is_there = (old new : Held S) × HasEnded start (state g o
 -- Tables stand for a book: they are its rows, its texts are programs, and its runs keep the rules.
 pub record StandFor (is_program : Bytes → Bool) (t : Tables) (b : Book) : Type 0 where
   pub texts : AllByRecursion (λ text. is_program text ≡ true) b.texts
-  pub runs : AreKept (length b.texts) [] b.runs
+  pub runs : AreKept Two (length b.texts) [] b.runs
   pub same : t ≡ rows_of b
 
 -- Its own rows stand for a book: its texts are programs, and its runs keep the rules.

@@ -1,4 +1,4 @@
-//! The book in SQL tables.
+//! The book in six SQL tables.
 #![tactic(auto)]
 
 pub mod all_rows;
@@ -10,7 +10,6 @@ mod first_due;
 mod keys;
 pub mod known;
 mod learning;
-pub mod old;
 mod one_event;
 mod one_run;
 pub mod open;

@@ -66,26 +66,6 @@ impl Said for EventRow {
     }
 }
 
-/// A row of `event` of the first format, which has no column of the moment.
-#[derive(Drop)]
-pub struct PastRow(pub EventRow);
-
-impl Said for PastRow {
-    ghost said = { past_row_said };
-
-    ghost kinds = { past_row_kinds };
-
-    fn read(alloc: Global, row: &Row) -> Result<PastRow, StoreFault> {
-        Ok(PastRow(EventRow {
-            run: number_at(row, 0)?,
-            id: number_at(row, 1)?,
-            kind: number_at(row, 2)?,
-            at: None,
-            body: text_at(alloc, row, 3)?,
-        }))
-    }
-}
-
 impl Said for i64 {
     ghost said = { number_said };
 
