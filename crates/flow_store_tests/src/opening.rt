@@ -250,7 +250,7 @@ fn what_was_committed_is_there_after_a_stop(rt: HostRuntime) -> Result<(), Fail>
 const OTHER_ARGUMENT: &[Act] = &[
     REGISTER,
     START,
-    Act::Changes("UPDATE event SET body = replace(body, 'eur', 'usd') WHERE id = 2"),
+    Act::Changes("UPDATE event2 SET body = replace(body, 'eur', 'usd') WHERE id = 2"),
     Act::Recovers(Recovering::Finds(Found::Mismatch)),
 ];
 
