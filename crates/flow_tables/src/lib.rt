@@ -16,7 +16,7 @@ pub mod open;
 mod open_runs;
 pub mod questions;
 pub mod row_changes;
-mod rows;
+pub mod rows;
 pub mod run_changes;
 pub mod tables;
 pub mod turn_changes;

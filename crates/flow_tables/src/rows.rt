@@ -39,7 +39,7 @@ fn text_at(alloc: Global, row: &Row, at: usize) -> Result<RawText, StoreFault>
 }
 
 /// What a row of an answer says.
-pub(crate) trait Said: Sized {
+pub trait Said: Sized {
     ghost said: { SqlRow → Self };
 
     // What its columns hold.
@@ -145,7 +145,7 @@ impl Said for OutboxRow {
 }
 
 /// What the rows of an answer say.
-pub(crate) fn read_all<T: Said + Drop>(alloc: Global, rows: &[Row]) -> Result<Vec<T>, StoreFault>
+pub fn read_all<T: Said + Drop>(alloc: Global, rows: &[Row]) -> Result<Vec<T>, StoreFault>
     ensures value { IfOk result (λ v. v.items ≡ map T.Said.said rows.now) }
     ensures cause { IfErr result (AreMisread T.Said.kinds rows.now) }
 {
