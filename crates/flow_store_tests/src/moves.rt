@@ -3,7 +3,7 @@
 use crate::books::Books;
 use crate::course::NOTHING;
 use crate::failures;
-use crate::files::{copies, counting, empty, found_in, left_of, opened, stopping};
+use crate::files::{counting, empty, found_in, left_of, opened, stopping};
 use crate::stops;
 use crate::stride::stride;
 use flow_crash::calls::{Calls, Part, Stop};
