@@ -8,7 +8,7 @@ use Rattle.flow_base.specs.declared.command.Command.{Command}
 use Rattle.flow_base.specs.declared.command.Reply.{Reply}
 use Rattle.flow_model.specs.Book.{Book, nth}
 use Rattle.flow_model.specs.Apply.{Rules}
-use Rattle.flow_model.specs.Logs.{Entry, limited, its_command, commands_in, after_entry, after_log, log_replies}
+use Rattle.flow_model.specs.Logs.{Entry, limited, entered, its_command, commands_in, after_entry, after_log, log_replies}
 use Rattle.flow_model.specs.Sound.{IsSound}
 use Rattle.flow_model.specs.World.{Attempt, is_open_task, Receipt, Stage, Idle, Writing, Committing, Halted, Stopped, World, first, Step, Submit, Report, Failure, Take, Write, WriteFails, CommitBegins, CommitDone, CommitFails, RefusedRollback, Publish, Dispatch, Crash, Reopen, Migrate, submitted, reported, completion, failure, batch_limit, taken, rolled_back, not_rolled_back, commit_begun, commit_done, commit_failed, receipts_from, published_in, dispatched_in, stopped, opened, migrated, Opens, Goes, Comes, IsIn, HoldsAcknowledged, IsSafe, TakesOver, WorldIsSafe, WorldOpensWell}
 use Rattle.flow_model.proofs.Logs.{log_replies_cut, length-log_replies, nth_next}
@@ -163,7 +163,7 @@ either u base false new old i j = j
 takes : (u : Rules) (base : Book) (w : World) (st : Stage) (k : ℕ) → w.stage ≡ st → Invariant u base w → Invariant u base (taken w st k)
 takes u base w Idle k e i =
     either u base (nat_le 1 k && nat_le k batch_limit && nat_le k (length w.inbox))
-    (record w { batch = take k w.inbox; inbox = drop k w.inbox; stage = Writing }) w
+    (record w { batch = entered w.limit (take k w.inbox); inbox = drop k w.inbox; stage = Writing }) w
     (record { based = i.based; there = i.there; left = λ x h. subst (λ s. LeftAt u w s x) e (i.left x h); order = i.order; told = i.told; alone = tt }) i
 takes u base w Writing k e i = i
 takes u base w Committing k e i = i
