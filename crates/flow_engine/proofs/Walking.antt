@@ -201,11 +201,11 @@ module _ (b : Book) (opening : ℕ) where
     refused_steps = comes_on _ (at b [] log (logged cs) may opening rs Writing) _ (map Submit cs ++ Take (length cs) ∷ []) (WriteFails ∷ []) begun (at b [] log [] may opening rs Idle, (refl, refl))
 
     -- one of which nobody knows
-    unknown_steps : Comes rules (at b [] log [] may opening rs Idle) ((map Submit cs ++ Take (length cs) ∷ []) ++ CommitBegins ∷ CommitFails ∷ []) (at b [] log cs (may ++ after_log rules b (log ++ logged cs) ∷ []) opening rs Halted)
+    unknown_steps : Comes rules (at b [] log [] may opening rs Idle) ((map Submit cs ++ Take (length cs) ∷ []) ++ CommitBegins ∷ CommitFails ∷ []) (at b [] log (logged cs) (may ++ after_log rules b (log ++ logged cs) ∷ []) opening rs Halted)
     unknown_steps =
         let writing = at b [] log (logged cs) may opening rs Writing in
         let committing = record writing { stage = Committing; may = may ++ after_log rules b (log ++ logged cs) ∷ [] } in
-        let end = at b [] log cs (may ++ after_log rules b (log ++ logged cs) ∷ []) opening rs Halted in
+        let end = at b [] log (logged cs) (may ++ after_log rules b (log ++ logged cs) ∷ []) opening rs Halted in
         comes_on _ writing end (map Submit cs ++ Take (length cs) ∷ []) (CommitBegins ∷ CommitFails ∷ []) begun (committing, (refl, (end, (refl, refl))))
 
   no_receipts_of_halted : (bs ys : List (List Taken)) → receipts_told bs (all_halted ys) ≡ []
@@ -327,22 +327,22 @@ module _ {S : Type 0} (g : Ghosts S) (safe : WorldIsSafe rules) (b : Book) (soun
   walked : (limit : ℕ) (log : List Entry) (may : List Book) (rs : List world.Receipt) (l : Life S) → Contains may (after_log rules b log) → AreGathered l → IsAnswered g (after_log rules b log) l
       → Walk limit b (length log) log may rs (seen l).kept (seen l).hand (seen l).receipts
   walked limit log may rs (Lived conn first qs last bs ds) has some h =
-      let walk = walk b (length log) 0 log may rs bs ds (omega arith) has some h in
+      let its = walk b (length log) 0 log may rs bs ds (omega arith) has some h in
       let moved : at b [] log [] may (length log) rs Idle ≡ migrated rules (under limit b [] log [] may (length log) rs Idle) Idle = rw (same_number (length log)) refl in
       record {
-        steps = Migrate ∷ walk.steps;
-        limit1 = walk.limit1;
-        log1 = walk.log1;
-        batch1 = walk.batch1;
-        may1 = walk.may1;
-        receipts1 = walk.receipts1;
-        stage1 = walk.stage1;
-        comes = (at b [] log [] may (length log) rs Idle, (moved, walk.comes));
-        log_is = walk.log_is;
-        batch_is = walk.batch_is;
-        receipts_are = walk.receipts_are;
-        has = walk.has;
-        whole = walk.whole;
+        steps = Migrate ∷ its.steps;
+        limit1 = its.limit1;
+        log1 = its.log1;
+        batch1 = its.batch1;
+        may1 = its.may1;
+        receipts1 = its.receipts1;
+        stage1 = its.stage1;
+        comes = (at b [] log [] may (length log) rs Idle, (moved, its.comes));
+        log_is = its.log_is;
+        batch_is = its.batch_is;
+        receipts_are = its.receipts_are;
+        has = its.has;
+        whole = its.whole;
       }
   walked limit log may rs (Refused conn f back) has some h = none_more b (length log) limit log may rs has
 
