@@ -85,7 +85,7 @@ def check_end(tally, what, base, reason):
 def by_signals(tally, folder):
     answered(tally, "a full history, over memory", "-", FULL)
     base = os.path.join(folder, "full.db")
-    for part in [FULL[:1000], FULL[1000:-4]] + [[it] for it in FULL[-4:]]:
+    for part in [FULL[:4000], FULL[4000:-4]] + [[it] for it in FULL[-4:]]:
         answered(tally, "a full history, over a file", base, part)
     check_end(tally, "a full history", base, "history limit")
 
