@@ -115,7 +115,7 @@ pub format_refused : (old new : State) (e : Error) → e ≢ SqliteFailure OutOf
 unfolding QueriesRow
 format_refused old new e other up has (inl fails) =
     let l = has.layout in
-    question_refused old new e other up l has.lie.laid_out format_sql format_query _ (format_read l).0 [] (format_read l).1 (format_typed l) (λ db. never_sums (db 0)) fails
+    question_refused old new e other up (schema_of l) has.lie.laid_out format_sql format_query _ (format_read l).0 [] (format_read l).1 (format_typed l) (λ db. never_sums (db 0)) fails
 format_refused old new e other up has (inr none) =
     let l = has.layout in
-    absurd (let rows = format_rows old.now.trees has.lie.ours.format [] (answer l format_sql format_query _ (format_read l).0 [] old new has.lie.laid_out [] none.1) in cc)
+    absurd (let rows = format_rows old.now.trees has.lie.ours.format [] (answer (schema_of l) format_sql format_query _ (format_read l).0 [] old new has.lie.laid_out [] none.1) in cc)

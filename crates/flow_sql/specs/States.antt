@@ -13,6 +13,11 @@ use Rattle.sqlite_trees.specs.declared.error.StoreError.{StoreError}
 abbrev pub AreNumbered : List Row → Type 0
 AreNumbered rows = IsTable rows × AllByRecursion (λ r. IsTrue (is_int (rowid r))) rows
 
+-- The trees of a file hold these tables: what is sound in SQL says nothing of the order of rows.
+pub record AreLaid (s : Schema) (db : Trees) : Type 0 where
+  pub sound : IsSound s db
+  pub numbered : AllByRecursion (λ t. AreNumbered (db t.tree)) s.tables
+
 -- The trees of a file with our tables in this layout, in their format.
 pub record AreOurs (l : Layout) (db : Trees) : Type 0 where
   pub sound : IsSound (schema_of l) db
