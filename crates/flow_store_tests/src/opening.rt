@@ -14,6 +14,7 @@ use flow_commit::keeper::Keeper;
 use flow_machine::decide::decide_all;
 use flow_machine::seats::Seats;
 use flow_programs::kept::Kept;
+use flow_move::watch::Unwatched;
 use flow_recover::positions::Position;
 use flow_recover::recover::recover;
 use flow_tables::tables::Tables;
@@ -162,7 +163,7 @@ pub fn recovers<S: Alter>(
     conn: Connection<S>,
     recovering: Recovering,
 ) -> (bool, Connection<S>) {
-    match recover(alloc, conn, most_of(recovering)) {
+    match recover(alloc, conn, most_of(recovering), &mut Unwatched) {
         Ok((keeper, positions)) => {
             let found = found_at(positions.as_slice(), keeper.is_halted());
             drop(positions);
