@@ -25,4 +25,5 @@ pub mod Welcome
 pub mod InPlace
 pub mod OpenRuns
 pub mod Past
+pub mod Aside
 pub mod Moving

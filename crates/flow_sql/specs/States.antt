@@ -164,10 +164,12 @@ pub record HasMade (s : State) : Type 0 where
   pub tables : tables_in s.now ≡ no_tables
   pub fresh : AreNew s.now.trees
 
--- a CREATE TABLE, or an INSERT that has no clause and shows nothing
+-- a CREATE TABLE, an INSERT that has no clause, an UPDATE or a DELETE, of which none shows anything
 abbrev pub IsMaking : Statement → Type 0
 IsMaking (written.CreateTable def) = ⊤
 IsMaking (written.Insert conflict.Abort name columns rows clauses shown) = (clauses ≡ []) × (shown ≡ [])
+IsMaking (written.Update name sets test shown) = shown ≡ []
+IsMaking (written.Delete name test shown) = shown ≡ []
 IsMaking _ = ⊥
 
 abbrev pub IsReading : Statement → Type 0
