@@ -1,10 +1,10 @@
 -- The tables of a store of before, which is read whole once and then moved: its events stand in a table of their own kind, and the
 -- other tables are ours.
-use Rattle.std.specs.Prelude.{None, ◌≡◌, ◌∷◌}
+use Rattle.std.specs.Prelude.{None, ◌≡◌, ◌⊎◌, ◌∷◌}
 use Rattle.flow_sql.specs.Names.{Database, EventRow, Int, Integer, Text, Kind, List, Query, Row, Schema, State, Table, Tables, Trees, Words, IsTrue, Bool, true, HasCleanDisk, bytes, codes, col, column, created, event_id, events_of, map, pos, rising, ℕ, ℤ, []}
 use Rattle.flow_sql.specs.Layout.{Fresh, Moved, schema_of, Read, meta, no_schema, outbox, past, query_of, read_sql, rows_where, run, text, timer, upward}
 use Rattle.sqlite.specs.Change.{KeepsRows}
-use Rattle.flow_sql.specs.States.{AreLaid, HasTables, LieAs}
+use Rattle.flow_sql.specs.States.{AreLaid, HasTables, IsLaidOut, LieAs}
 use Rattle.flow_sql.specs.Stored.{kinds_of, number_at, tables_by, tables_in}
 
 abbrev pub past_schema : Schema
@@ -27,6 +27,10 @@ past_format_row = Int (pos 1) ∷ Words (codes "format") ∷ Int (pos 1) ∷ []
 pub record ArePast (db : Trees) : Type 0 where
   pub laid : AreLaid past_schema db
   pub format : db 0 ≡ past_format_row ∷ []
+
+-- tables are there, ours or those of before
+abbrev pub HasMeta : Database → Type 0
+HasMeta d = IsLaidOut d ⊎ (d.schema ≡ past_schema)
 
 pub record HasPast (d : Database) : Type 0 where
   pub laid_out : d.schema ≡ past_schema

@@ -1,17 +1,19 @@
 -- What opening reads and finds, and why it is refused.
 use Rattle.std.specs.Prelude.{◌≡◌, ◌⊎◌, ◌≢◌}
 use Rattle.sqlite_disk.specs.Disk.{MoreFaults}
-use Rattle.flow_tables.specs.Names.{no_schema, Fault, BadVersion, Damaged, NoMemory, NotOurs, StoreRefused, Book, first_damage, by_run, StoreRows, format_sql, Read, read_sql, Tables, Database, Held, state, Row, Executes, State, Error, Int, Ghosts, column, AllByRecursion, Bool, List, false, pos, true, ℕ, HasEnded, HasTables, IsLaidOut, tables_in, IsReadError, QueriesRow, QueryReturnedNoRows, SqliteFailure, Err, Ok, Some, length, ℤ, [], IsSome, ⊤, IsOver, IsBlank, Tells, AreUtf8, AreNew, Trees}
+use Rattle.flow_tables.specs.Names.{EventRow, no_schema, Fault, BadVersion, Damaged, NoMemory, NotOurs, StoreRefused, Book, first_damage, by_run, StoreRows, format_sql, Read, read_sql, Tables, Database, Held, state, Row, Executes, State, Error, Int, Ghosts, column, AllByRecursion, Bool, List, false, pos, true, ℕ, HasEnded, HasTables, IsLaidOut, tables_in, IsReadError, QueriesRow, QueryReturnedNoRows, SqliteFailure, Err, Ok, Some, length, ℤ, [], IsSome, ⊤, IsOver, IsBlank, Tells, AreUtf8, AreNew, Trees}
 use Rattle.flow_base.specs.Syntax.{Bytes}
 use Rattle.flow_base.specs.declared.fault.Damage.{Damage}
-use Rattle.flow_tables.specs.Owned.{IsFound}
+use Rattle.flow_tables.specs.Owned.{IsHeld}
+use Rattle.flow_sql.specs.Past.{HasPast, PastRead, past_kinds, past_schema, past_sql}
 use Rattle.sqlite.specs.declared.error.ErrorCode.TheVariants as code
 use Rattle.flow_rows.specs.Damages.{event_place, task_place, timer_place}
 use Rattle.flow_rows.specs.Rows.{Two, rows_of}
 use Rattle.flow_rows.specs.Standing.{AreKept}
 use Rattle.flow_tables.specs.declared.fault.StoreFault.TheVariants as read
 use Rattle.flow_sql.specs.States.{Since, TellsFailure}
-use Rattle.flow_sql.specs.Stored.{HasOddText, kinds_of, LieByRun}
+use Rattle.flow_sql.specs.Layout.{Write, write_sql}
+use Rattle.flow_sql.specs.Stored.{HasOddText, event_params, kinds_of, LieByRun}
 use Rattle.flow_tables.specs.Reads.{IsReadFault}
 
 ---- The format
@@ -95,7 +97,9 @@ IsMet {S} g e =
     × (Executes sql [] (state g old) (state g new) (Err e)
     ⊎ (QueriesRow sql [] (state g old) (state g new) (Err e)
     ⊎ (((r : Read) × (read_sql r ≡ sql) × IsReadFault (kinds_of r) sql [] (state g old) (state g new) (read.Refused e))
-    ⊎ ((row : Row) × QueriesRow sql [] (state g old) (state g new) (Ok row) × IsReadError 0 (column row 0) e))))
+    ⊎ (((row : Row) × QueriesRow sql [] (state g old) (state g new) (Ok row) × IsReadError 0 (column row 0) e)
+    ⊎ (((r : PastRead) × (past_sql r ≡ sql) × IsReadFault (past_kinds r) sql [] (state g old) (state g new) (read.Refused e))
+    ⊎ ((r : EventRow) × (sql ≡ write_sql Write.insert_event) × Executes sql (event_params r) (state g old) (state g new) (Err e)))))))
 
 -- The other faults have clauses of their own, and want of memory none.
 abbrev pub HasCause : {S : Type 0} → Ghosts S → Fault → Type 0
@@ -121,16 +125,18 @@ StopsOpening g first new _ = ⊤
 ---- What is opened
 
 -- What is found of our tables, or of none: they are shown, or there are none. Ours aren't found only where a limit is
--- set on the steps of a query.
+-- set on the steps of a query. Those of the first format aren't ours, and are there.
 abbrev pub IsFoundSo : {S : Type 0} → Ghosts S → State → State → Bool → Type 0
-IsFoundSo g old new true = (HasTables old.committed → IsOver false new × (new.now ≡ old.committed) × (new.committed ≡ old.committed)) × (old.committed.schema ≡ no_schema → ⊥)
-IsFoundSo g old new false = (HasTables old.committed → IsLaidOut new.now × IsSome old.step_limit) × (old.committed.schema ≡ no_schema → IsBlank false new)
+IsFoundSo g old new true =
+    (HasTables old.committed → IsOver false new × (new.now ≡ old.committed) × (new.committed ≡ old.committed)) × (old.committed.schema ≡ no_schema → ⊥) × (HasPast old.committed → ⊥)
+IsFoundSo g old new false =
+    (HasTables old.committed → IsLaidOut new.now × IsSome old.step_limit) × (old.committed.schema ≡ no_schema → IsBlank false new) × (HasPast old.committed → new.now.schema ≡ past_schema)
 
 -- The connection shows the book that the file held, in our tables, and it is committed. Tables that were there are as they were.
 pub record IsOpened (old new : State) (b : Book) : Type 0 where
   pub over : IsOver false new
   pub same : new.now ≡ new.committed
-  pub found : IsFound old b
+  pub found : IsHeld old b
   pub tells : Tells (tables_in new.committed) b
   pub utf8 : AreUtf8 (tables_in new.committed)
   pub kept : (new.committed ≡ old.committed) ⊎ (old.committed.schema ≡ no_schema)

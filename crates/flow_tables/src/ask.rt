@@ -52,7 +52,8 @@ pub(crate) trait BookRead {
         ensures { IsRecalled S.Store conn.old conn.new result (value self.now) };
 }
 
-fn ask_rows<Q: Question, S: Alter>(
+/// What the rows of the answer say, whatever tables there are.
+pub fn ask_rows<Q: Question, S: Alter>(
     alloc: Global,
     conn: &mut Connection<S>,
     question: &Q,

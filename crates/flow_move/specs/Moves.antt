@@ -1,0 +1,52 @@
+-- What the move of a store does, and what a refusal or a stop leaves.
+use Rattle.std.specs.Prelude.{◌≡◌, ◌≢◌, ◌⊎◌, MatchResult, Result, false, ℤ, pos, [], Ok}
+use Rattle.sqlite_trees.specs.declared.store.Store.{Ghosts}
+use Rattle.sqlite_value.specs.Order.{Row, column}
+use Rattle.sqlite.specs.Tree.{Trees}
+use Rattle.sqlite.specs.Held.{Held, state}
+use Rattle.sqlite.specs.State.{State, QueriesRow}
+use Rattle.sqlite.specs.declared.types.Value.TheVariants.{Int}
+use Rattle.flow_base.specs.declared.fault.Fault.{Fault}
+use Rattle.flow_base.specs.declared.fault.Fault.TheVariants as fault
+use Rattle.flow_model.specs.Book.{Book}
+use Rattle.flow_rows.specs.Rows.{One}
+use Rattle.flow_rows.specs.Told.{TellsIn}
+use Rattle.flow_sql.specs.Layout.{format_sql}
+use Rattle.flow_sql.specs.Past.{IsOverPast, past_tables}
+use Rattle.flow_sql.specs.States.{CommitsNothing, GoesOn, HasEnded, Since}
+use Rattle.flow_sql.specs.Stored.{AreUtf8}
+use Rattle.flow_tables.specs.Opening.{IsOfStore}
+use Rattle.flow_tables.specs.Owned.{IsFileOf, IsPastFileOf}
+
+-- The connection shows a store of the first format at rest, whose rows tell this book.
+pub record IsToMove (s : State) (b : Book) : Type 0 where
+  pub over : IsOverPast false s
+  pub same : s.now ≡ s.committed
+  pub tells : TellsIn One (past_tables s.committed.trees) b
+  pub utf8 : AreUtf8 (past_tables s.committed.trees)
+
+-- The trees of a file hold the book, in either format.
+abbrev pub IsFileOfEither : Trees → Book → Type 0
+IsFileOfEither db b = IsFileOf db b ⊎ IsPastFileOf db b
+
+-- What is done within a transaction that began at a state: it goes on, and behind a refusal it goes on or has ended. Nothing is committed.
+abbrev pub StaysIn : {S E : Type 0} → Ghosts S → Held S → Held S → Result (Unit {0}) E → Type 0
+StaysIn {S} g old new result =
+    (first : Held S) → GoesOn (state g first) (state g old) → MatchResult result (λ _. GoesOn (state g first) (state g new)) (λ _. CommitsNothing (state g first) (state g new))
+
+-- a transaction runs
+abbrev pub Goes : State → Type 0
+Goes s = GoesOn s s
+
+-- Why a move is refused at all: E01, E80, E81, or E84.
+abbrev pub IsOfMove : Fault → Type 0
+IsOfMove fault.Unknown = Unit {0}
+IsOfMove f = IsOfStore f
+
+-- The format was read, of what the last commit left at the start, under the limit on steps that was set there; it is the first.
+abbrev pub HasFirstFormat : {S : Type 0} → Ghosts S → State → Type 0
+HasFirstFormat {S} g start = (old new : Held S) × (row : Row) × HasEnded start (state g old) × Since start (state g old) × QueriesRow format_sql [] (state g old) (state g new) (Ok row) × (column row 0 ≡ Int (pos 1))
+
+-- The format was read, and isn't the first.
+abbrev pub HasNotFirst : {S : Type 0} → Ghosts S → State → State → Type 0
+HasNotFirst {S} g old new = (row : Row) × (n : ℤ) × QueriesRow format_sql [] old new (Ok row) × (column row 0 ≡ Int n) × (n ≢ pos 1)
