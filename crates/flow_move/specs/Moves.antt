@@ -12,11 +12,13 @@ use Rattle.flow_model.specs.Book.{Book}
 use Rattle.flow_rows.specs.Rows.{One}
 use Rattle.flow_rows.specs.Told.{TellsIn}
 use Rattle.flow_sql.specs.Layout.{format_sql}
-use Rattle.flow_sql.specs.Past.{IsOverPast, past_tables}
+use Rattle.flow_sql.specs.Past.{IsOverPast, PastRead, past_kinds, past_sql, past_tables}
 use Rattle.flow_sql.specs.States.{CommitsNothing, GoesOn, HasEnded, Since}
 use Rattle.flow_sql.specs.Stored.{AreUtf8}
 use Rattle.flow_tables.specs.Opening.{IsOfStore}
 use Rattle.flow_tables.specs.Owned.{IsFileOf, IsPastFileOf}
+use Rattle.flow_tables.specs.Reads.{IsReadFault}
+use Rattle.flow_tables.specs.declared.fault.StoreFault.{StoreFault}
 
 -- The connection shows a store of the first format at rest, whose rows tell this book.
 pub record IsToMove (s : State) (b : Book) : Type 0 where
@@ -42,6 +44,10 @@ Goes s = GoesOn s s
 abbrev pub IsOfMove : Fault → Type 0
 IsOfMove fault.Unknown = Unit {0}
 IsOfMove f = IsOfStore f
+
+-- one of the reads of tables of the first format failed so
+abbrev pub IsPastFault : {S : Type 0} → Ghosts S → StoreFault → Type 0
+IsPastFault {S} g f = (old new : Held S) × (r : PastRead) × IsReadFault (past_kinds r) (past_sql r) [] (state g old) (state g new) f
 
 -- The format was read, of what the last commit left at the start, under the limit on steps that was set there; it is the first.
 abbrev pub HasFirstFormat : {S : Type 0} → Ghosts S → State → Type 0

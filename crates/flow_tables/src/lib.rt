@@ -20,4 +20,4 @@ pub mod rows;
 pub mod run_changes;
 pub mod tables;
 pub mod turn_changes;
-mod utf8;
+pub mod utf8;

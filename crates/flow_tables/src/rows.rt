@@ -14,7 +14,8 @@ use flow_rows::rows::{EventRow, OutboxRow, RunRow, TextRow, TimerRow};
 use sqlite::Row;
 use std::alloc::Global;
 
-fn number_at(row: &Row, at: usize) -> Result<i64, StoreFault>
+/// A column that is a number.
+pub fn number_at(row: &Row, at: usize) -> Result<i64, StoreFault>
     ensures value { IfOk result (λ n. n ≡ number_at row.now at) }
     ensures cause { (kinds : List Kind) → slice_get kinds at ≡ Some Integer → IfErr result (IsMisread kinds row.now) }
 {
@@ -24,7 +25,8 @@ fn number_at(row: &Row, at: usize) -> Result<i64, StoreFault>
     }
 }
 
-fn text_at(alloc: Global, row: &Row, at: usize) -> Result<RawText, StoreFault>
+/// A column that is a text.
+pub fn text_at(alloc: Global, row: &Row, at: usize) -> Result<RawText, StoreFault>
     ensures value { IfOk result (λ t. t ≡ bytes (column row.now at)) }
     ensures cause { (kinds : List Kind) → slice_get kinds at ≡ Some Text → IfErr result (IsMisread kinds row.now) }
 {
