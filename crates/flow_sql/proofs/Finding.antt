@@ -1,6 +1,6 @@
 -- What reading the format leaves, and what it tells.
 use Rattle.flow_sql.proofs.Names.{Fresh, schema_of, format_sql, no_schema, format_query, one_permutation, Database, Row, overlay, IsAnswer, Output, end, inner, output, IsUnchanged, State, Survives, Trees, Error, Int, Null, Compiled, CompileError, IsPermutation, IsTrue, List, false, map, pos, [], refl, Ok, Err, Result, Fails, IsOver, HasTables, HasEnded, IsAtRest, IsBlank, format_row, sym, ap, ◌∙◌, subst, inl, inr, true≢false, IsStoreError, TellsFailure, OutOfMemory}
-use Rattle.flow_sql.proofs.Names.{IsReadOver, Layout, Moved, Schema, Words, codes, accepts_program, true, ℕ, ℤ, SqlInputError, SqliteFailure, first_as, IsSome, ◌≡◌, ◌∷◌, ◌⊎◌, ◌≢◌}
+use Rattle.flow_sql.proofs.Names.{IsReadOver, Layout, Moved, Schema, Words, arith, codes, accepts_program, true, ℕ, ℤ, SqlInputError, SqliteFailure, first_as, IsSome, ◌≡◌, ◌∷◌, ◌⊎◌, ◌≢◌}
 use Rattle.sqlite.specs.Order.{value_cmp}
 use Rattle.sqlite.specs.Ops.{binary}
 use Rattle.sqlite.specs.Query.{page, matches_as}
@@ -111,7 +111,7 @@ value_name = codes "value" ∷ []
 module _ (s : Schema) (n : ℤ) (is : IsReadOver s format_sql format_query value_name) (old new : State) (has : old.now.schema ≡ s) (format : old.now.trees 0 ≡ numbered n ∷ []) where
   number_read : (row : Row) → QueriesRow format_sql [] old new (Ok row) → row ≡ Int n ∷ []
   number_read row h =
-      let got = (first_as format_sql [] old new s has value_name is.is is.plain is.unlisted row h).1 in
+      let got = (first_as format_sql [] old new s has _ is.is is.plain is.unlisted row h).1 in
       let rows = format_rows n old.now.trees format (row ∷ got.0) (got.1 Null) in
       cc
 
