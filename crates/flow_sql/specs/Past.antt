@@ -4,8 +4,8 @@ use Rattle.std.specs.Prelude.{None, ◌≡◌, ◌⊎◌, ◌∷◌}
 use Rattle.flow_sql.specs.Names.{Database, EventRow, Int, Integer, Text, Kind, List, Query, Row, Schema, State, Table, Tables, Trees, Words, IsTrue, Bool, true, HasCleanDisk, bytes, codes, col, column, created, event_id, events_of, map, pos, rising, ℕ, ℤ, []}
 use Rattle.flow_sql.specs.Layout.{Fresh, Moved, schema_of, Read, meta, no_schema, outbox, past, query_of, read_sql, rows_where, run, text, timer, upward}
 use Rattle.sqlite.specs.Change.{KeepsRows}
-use Rattle.flow_sql.specs.States.{AreLaid, HasTables, IsLaidOut, LieAs}
-use Rattle.flow_sql.specs.Stored.{kinds_of, number_at, tables_by, tables_in}
+use Rattle.flow_sql.specs.States.{AreLaid, IsLaidOut, LieAs}
+use Rattle.flow_sql.specs.Stored.{kinds_of, number_at, tables_by}
 
 abbrev pub past_schema : Schema
 past_schema = created (created (created (created (created (created no_schema meta) text) run) past) timer) outbox
@@ -99,25 +99,18 @@ pub record HasMovedHalf (start s : State) : Type 0 where
 abbrev pub move_format_sql : List ℕ
 move_format_sql = codes "UPDATE meta SET value = 2 WHERE name = 'format'"
 
+-- given a run
 abbrev pub drop_events_sql : List ℕ
-drop_events_sql = codes "DELETE FROM event"
+drop_events_sql = codes "DELETE FROM event WHERE run = ?1"
 
 -- tables of before, in ours, with no event yet
 abbrev pub without_events : Trees → Tables
 without_events db = record (past_tables db) { events = λ run. [] }
 
--- The format is set too: these are the tables of a store that was moved, with no event yet.
-pub record HasMovedFormat (start s : State) : Type 0 where
-  pub is_open : IsTrue s.is_open
-  pub mode : s.in_transaction ≡ true
-  pub lie : LieAs Moved s.now
-  pub tables : tables_by Moved s.now.trees ≡ without_events start.now.trees
-  pub committed : s.committed ≡ start.committed
-
--- The transaction that moves a store shows our tables with these rows. The last commit left this.
+-- The transaction that moves a store shows our tables with these rows, once the format is set. The last commit left this.
 pub record IsMoved (committed : Database) (s : State) (t : Tables) : Type 0 where
   pub is_open : IsTrue s.is_open
   pub mode : s.in_transaction ≡ true
-  pub now : HasTables s.now
-  pub tables : tables_in s.now ≡ t
+  pub lie : LieAs Moved s.now
+  pub tables : tables_by Moved s.now.trees ≡ t
   pub same : s.committed ≡ committed

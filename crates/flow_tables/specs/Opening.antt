@@ -1,11 +1,11 @@
 -- What opening reads and finds, and why it is refused.
-use Rattle.std.specs.Prelude.{◌≡◌, ◌⊎◌, ◌≢◌}
+use Rattle.std.specs.Prelude.{◌≡◌, ◌∷◌, ◌⊎◌, ◌≢◌}
 use Rattle.sqlite_disk.specs.Disk.{MoreFaults}
 use Rattle.flow_tables.specs.Names.{EventRow, no_schema, Fault, BadVersion, Damaged, NoMemory, NotOurs, StoreRefused, Book, first_damage, by_run, StoreRows, format_sql, Read, read_sql, Tables, Database, Held, state, Row, Executes, State, Error, Int, Ghosts, column, AllByRecursion, Bool, List, false, pos, true, ℕ, HasEnded, HasTables, IsLaidOut, tables_in, IsReadError, QueriesRow, QueryReturnedNoRows, SqliteFailure, Err, Ok, Some, length, ℤ, [], IsSome, ⊤, IsOver, IsBlank, Tells, AreUtf8, AreNew, Trees}
 use Rattle.flow_base.specs.Syntax.{Bytes}
 use Rattle.flow_base.specs.declared.fault.Damage.{Damage}
 use Rattle.flow_tables.specs.Owned.{IsHeld}
-use Rattle.flow_sql.specs.Past.{HasPast, PastRead, past_kinds, past_schema, past_sql}
+use Rattle.flow_sql.specs.Past.{HasPast, PastRead, drop_events_sql, past_kinds, past_schema, past_sql}
 use Rattle.sqlite.specs.declared.error.ErrorCode.TheVariants as code
 use Rattle.flow_rows.specs.Damages.{event_place, task_place, timer_place}
 use Rattle.flow_rows.specs.Rows.{Two, rows_of}
@@ -99,7 +99,8 @@ IsMet {S} g e =
     ⊎ (((r : Read) × (read_sql r ≡ sql) × IsReadFault (kinds_of r) sql [] (state g old) (state g new) (read.Refused e))
     ⊎ (((row : Row) × QueriesRow sql [] (state g old) (state g new) (Ok row) × IsReadError 0 (column row 0) e)
     ⊎ (((r : PastRead) × (past_sql r ≡ sql) × IsReadFault (past_kinds r) sql [] (state g old) (state g new) (read.Refused e))
-    ⊎ ((r : EventRow) × (sql ≡ write_sql Write.insert_event) × Executes sql (event_params r) (state g old) (state g new) (Err e)))))))
+    ⊎ (((r : EventRow) × (sql ≡ write_sql Write.insert_event) × Executes sql (event_params r) (state g old) (state g new) (Err e))
+    ⊎ ((run : ℤ) × (sql ≡ drop_events_sql) × Executes sql (Int run ∷ []) (state g old) (state g new) (Err e))))))))
 
 -- The other faults have clauses of their own, and want of memory none.
 abbrev pub HasCause : {S : Type 0} → Ghosts S → Fault → Type 0
