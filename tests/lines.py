@@ -213,7 +213,7 @@ def totals(base):
     """What `flow verify` says of a store whose runs all replay, counted by SQLite."""
     conn = sqlite3.connect(base)
     try:
-        counts = [conn.execute(f"SELECT count(*) FROM {table}").fetchone()[0] for table in ("text", "run", "event")]
+        counts = [conn.execute(f"SELECT count(*) FROM {table}").fetchone()[0] for table in ("text", "run", "event2")]
     finally:
         conn.close()
     return (0, b"ok texts=%d runs=%d events=%d\n" % tuple(counts), b"")
