@@ -1,18 +1,19 @@
 -- What the move of a store does, and what a refusal or a stop leaves.
-use Rattle.std.specs.Prelude.{◌≡◌, ◌≢◌, ◌⊎◌, MatchResult, Result, false, ℤ, pos, [], Ok}
+use Rattle.std.specs.Prelude.{◌≡◌, ◌≢◌, ◌⊎◌, MatchResult, OnOk, Result, false, ℤ, pos, [], Ok}
 use Rattle.sqlite_trees.specs.declared.store.Store.{Ghosts}
 use Rattle.sqlite_value.specs.Order.{Row, column}
 use Rattle.sqlite.specs.Tree.{Trees}
 use Rattle.sqlite.specs.Held.{Held, state}
-use Rattle.sqlite.specs.State.{State, QueriesRow}
+use Rattle.sqlite.specs.Effect.{Database}
+use Rattle.sqlite.specs.State.{HasCleanDisk, State, Survives, QueriesRow}
 use Rattle.sqlite.specs.declared.types.Value.TheVariants.{Int}
 use Rattle.flow_base.specs.declared.fault.Fault.{Fault}
 use Rattle.flow_base.specs.declared.fault.Fault.TheVariants as fault
 use Rattle.flow_model.specs.Book.{Book}
-use Rattle.flow_rows.specs.Rows.{One}
+use Rattle.flow_rows.specs.Rows.{One, Tables}
 use Rattle.flow_rows.specs.Told.{TellsIn}
 use Rattle.flow_sql.specs.Layout.{format_sql}
-use Rattle.flow_sql.specs.Past.{IsOverPast, PastRead, past_kinds, past_sql, past_tables}
+use Rattle.flow_sql.specs.Past.{IsMoved, IsOverPast, PastRead, past_kinds, past_sql, past_tables}
 use Rattle.flow_sql.specs.States.{CommitsNothing, GoesOn, HasEnded, Since}
 use Rattle.flow_sql.specs.Stored.{AreUtf8}
 use Rattle.flow_tables.specs.Opening.{IsOfStore}
@@ -39,6 +40,20 @@ StaysIn {S} g old new result =
 -- a transaction runs
 abbrev pub Goes : State → Type 0
 Goes s = GoesOn s s
+
+-- What becomes of a part of a move.
+pub record IsStep {S E : Type 0} (g : Ghosts S) (old new : Held S) (result : Result (Unit {0}) E) : Type 0 where
+  -- a disk that told no lie had told none before
+  pub clean : HasCleanDisk (state g new) → HasCleanDisk (state g old)
+  -- no failure of the disk is forgotten, and the limit on the steps of a query stays
+  pub since : Since (state g old) (state g new)
+  pub inside : HasCleanDisk (state g new) → StaysIn g old new result
+  -- and a stop leaves what it left before
+  pub survives : (HasCleanDisk (state g old) → Goes (state g old)) → Survives (state g old) (state g new) (λ _. ⊥)
+
+-- The tables that the move shows become so.
+abbrev pub MovesOn : {S E : Type 0} → Ghosts S → Held S → Held S → Result (Unit {0}) E → (Tables → Tables) → Type 0
+MovesOn g old new result after = HasCleanDisk (state g new) → (d : Database) (t : Tables) → IsMoved d (state g old) t → OnOk result (IsMoved d (state g new) (after t))
 
 -- Why a move is refused at all: E01, E80, E81, or E84.
 abbrev pub IsOfMove : Fault → Type 0

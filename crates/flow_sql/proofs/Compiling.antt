@@ -166,12 +166,16 @@ module _ (old new : State) (inside : IsTrue old.in_transaction) where
     | inr runs ↦ ran h.0.returning h.0.command (understood_inside old.now.schema sql making h.0 h.1.is).0 (text_of sql h.0) (timed params h.0.formats h.1.now) count (rw runs at h.2)
   ]
 
-  pub making_becomes : (sql : List ℕ) → FirstIs IsMaking (first sql) → (r : Result (Unit {0}) Error) → RunsTo sql old new r → MatchResult r (λ _. GoesOn old new) (λ _. CommitsNothing old new)
-  making_becomes sql making (Ok x) h = making_goes_on sql [] h.0 making h.1
-  making_becomes sql making (Err e) h = elim (error_leaves old new sql [] e h) [
+  pub changing_becomes : (sql : List ℕ) (params : Row) → FirstIs IsMaking (first sql) → (r : Result ℕ Error) → Executes sql params old new r → MatchResult r (λ _. GoesOn old new) (λ _. CommitsNothing old new)
+  changing_becomes sql params making (Ok count) h = making_goes_on sql params count making h
+  changing_becomes sql params making (Err e) h = elim (error_leaves old new sql params e h) [
     | inl same ↦ inl (record { was_open = same.0.was_open; is_open = same.0.is_open; mode = same.0.mode ∙ inside; committed = same.0.committed_is })
     | inr undone ↦ inr (rolled_back_ended old new undone)
   ]
+
+  pub making_becomes : (sql : List ℕ) → FirstIs IsMaking (first sql) → (r : Result (Unit {0}) Error) → RunsTo sql old new r → MatchResult r (λ _. GoesOn old new) (λ _. CommitsNothing old new)
+  making_becomes sql making (Ok x) h = making_goes_on sql [] h.0 making h.1
+  making_becomes sql making (Err e) h = changing_becomes sql [] making (Err e) h
 
   making_commits_nothing : (sql : List ℕ) (params : Row) → FirstIs IsMaking (first sql) → (db : Trees) → ¬ CommitsBy sql params old db
   unfolding CommitsBy
