@@ -1,11 +1,11 @@
 -- What the move of a store does, and what a refusal or a stop leaves.
-use Rattle.std.specs.Prelude.{◌≡◌, ◌≢◌, ◌⊎◌, MatchResult, OnOk, Result, false, ℤ, pos, [], Ok}
+use Rattle.std.specs.Prelude.{◌≡◌, ◌≢◌, ◌⊎◌, IfErr, IfOk, MatchResult, OnOk, Result, false, ℤ, pos, [], Ok}
 use Rattle.sqlite_trees.specs.declared.store.Store.{Ghosts}
 use Rattle.sqlite_value.specs.Order.{Row, column}
 use Rattle.sqlite.specs.Tree.{Trees}
 use Rattle.sqlite.specs.Held.{Held, state}
 use Rattle.sqlite.specs.Effect.{Database}
-use Rattle.sqlite.specs.State.{HasCleanDisk, State, Survives, QueriesRow}
+use Rattle.sqlite.specs.State.{HasCleanDisk, IsUnchanged, State, Survives, QueriesRow}
 use Rattle.sqlite.specs.declared.types.Value.TheVariants.{Int}
 use Rattle.flow_base.specs.declared.fault.Fault.{Fault}
 use Rattle.flow_base.specs.declared.fault.Fault.TheVariants as fault
@@ -14,7 +14,7 @@ use Rattle.flow_rows.specs.Rows.{One, Tables}
 use Rattle.flow_rows.specs.Told.{TellsIn}
 use Rattle.flow_sql.specs.Layout.{format_sql}
 use Rattle.flow_sql.specs.Past.{IsMoved, IsOverPast, PastRead, past_kinds, past_sql, past_tables}
-use Rattle.flow_sql.specs.States.{CommitsNothing, GoesOn, HasEnded, Since}
+use Rattle.flow_sql.specs.States.{CommitsNothing, GoesOn, HasEnded, IsAtRest, Since}
 use Rattle.flow_sql.specs.Stored.{AreUtf8}
 use Rattle.flow_tables.specs.Opening.{IsOfStore}
 use Rattle.flow_tables.specs.Owned.{IsFileOf, IsPastFileOf}
@@ -63,6 +63,15 @@ IsOfMove f = IsOfStore f
 -- one of the reads of tables of the first format failed so
 abbrev pub IsPastFault : {S : Type 0} → Ghosts S → StoreFault → Type 0
 IsPastFault {S} g f = (old new : Held S) × (r : PastRead) × IsReadFault (past_kinds r) (past_sql r) [] (state g old) (state g new) f
+
+-- What becomes of reads of tables of the first format: they are told so, and nothing has changed.
+pub record IsPastRead {S A : Type 0} (g : Ghosts S) (old new : Held S) (result : Result A StoreFault) (tells : Tables → A → Type 0) : Type 0 where
+  pub reads : HasCleanDisk (state g new) → IsOverPast false (state g old)
+      → IfOk result (λ v. IsUnchanged (state g old) (state g new) × tells (past_tables (state g old).now.trees) v)
+  pub clean : HasCleanDisk (state g new) → HasCleanDisk (state g old)
+  pub cause : HasCleanDisk (state g new) → IfErr result (IsPastFault g)
+  pub ended : HasCleanDisk (state g new) → IsAtRest (state g old) → HasEnded (state g old) (state g new)
+  pub survives : Survives (state g old) (state g new) (λ _. ⊥)
 
 -- The format was read, of what the last commit left at the start, under the limit on steps that was set there; it is the first.
 abbrev pub HasFirstFormat : {S : Type 0} → Ghosts S → State → Type 0
