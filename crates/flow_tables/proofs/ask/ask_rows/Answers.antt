@@ -11,4 +11,4 @@ returns-in-Err-clause-cause g c clean =
     subst (IsReadFault g.Q.Item.Said.kinds (read_sql asks.read) asks.params _ _) (sym c.from.ensures) (fault_told g.Q.Item.Said.kinds (read_sql asks.read) asks.params _ _ c.in-Err.error (c.in-Err.ensures.err clean))
 
 pub returns-in-Ok-clause-shown : goal.returns-in-Ok-clause-shown
-returns-in-Ok-clause-shown g c = IfOk-weaker c.read_all.result _ _ (λ v is. (c.in-Ok.rows.items, is)) c.read_all.ensures.value
+returns-in-Ok-clause-shown g c = IfOk-weaker c.read_all.result _ _ (λ v is. (c.as_slice.result.now, is)) c.read_all.ensures.value
