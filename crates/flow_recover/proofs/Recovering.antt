@@ -28,7 +28,7 @@ use Rattle.std.specs.Ordering.{int_eq}
 use Rattle.flow_sql.specs.Past.{ArePast, HasPast, past_format_row, past_schema, past_tables}
 use Rattle.flow_sql.specs.Stored.{format_row, number_at}
 use Rattle.flow_rows.proofs.Agreed.{kept_all}
-use Rattle.flow_rows.proofs.Stood.{stood}
+use Rattle.flow_rows.proofs.Stood.{stood, stood_in}
 use Rattle.flow_rows.proofs.Telling.{told, told_in, all_told}
 use Rattle.flow_tables.specs.Layout.{schema_of, no_schema}
 use Rattle.flow_tables.specs.Stored.{tables_in}
@@ -41,7 +41,7 @@ use Rattle.flow_tables.proofs.Reopened.{one_file, opened_file}
 use Rattle.flow_tables.proofs.Stops.{IsSettled}
 use Rattle.flow_commit.specs.Keeping.{rules, IsWell}
 use Rattle.flow_recover.specs.Positions.{IsLeastMismatch, Names, OnlyMemory}
-use Rattle.flow_recover.specs.Recovering.{HoldsSound, AreBlank, HoldBook, StillHolds, IsOpenedOver, IsOfDisk, IsOfRecovery, IsPastTables, IsLeft, KeepsEither}
+use Rattle.flow_recover.specs.Recovering.{HoldsSound, HoldsSoundBefore, AreBlank, HoldBook, StillHolds, IsOpenedOver, IsOfDisk, IsOfRecovery, IsPastTables, IsLeft, KeepsEither}
 
 ---- The book that is found
 
@@ -143,6 +143,12 @@ well_stands t b tells well = let stands = stood meaning_of meaning_is b tells.ru
 pub well_sound : (s : State) (b : Book) → IsHeld s b → IsWell b → HoldsSound s
 well_sound s b (inl h) well = inl (b, h.0, well_stands (tables_in s.committed) b h.1 well, well.sound)
 well_sound s b (inr h) well = inr h.0
+
+-- and those of the first format
+pub well_before : (s : State) (b : Book) → IsHeldBefore s b → IsWell b → HoldsSoundBefore s
+well_before s b before well =
+    let stands = stood_in meaning_of meaning_is One b before.tells.runs well.sound well.orderly in
+    (b, before.past, record { texts = stands.0; runs = stands.1; same = before.tells.same }, well.sound)
 
 -- a refusal that ended what ran keeps what was kept
 pub ended_keeps : (old new : State) (b : Book) → HasEnded old new → LeavesMade old new b → Keeps old b → Keeps new b
