@@ -1,4 +1,5 @@
-use Rattle.flow_tables.proofs.Names.{was_clean, BadVersion, Bool, state, subst, sym, inl, inr, ◌≡◌, ◌⊎◌}
+use Rattle.std.specs.Prelude.{◌≡◌, ◌⊎◌}
+use Rattle.flow_tables.proofs.Names.{was_clean, BadVersion, Bool, state, subst, sym, inl, inr}
 use Rattle.flow_tables.specs.Opening.{IsOfStore, HasCause, HasFormat, StopsOpening, IsFoundSo}
 use Rattle.std.proofs.lemmas.Result.{IfErr-weaker, IfOk-weaker}
 use Rattle.flow_tables.proofs.Opened.{caused, of_store, found_there, found_missing, format_stopped, row_ours}
