@@ -1,4 +1,4 @@
 pub mod Copied
 pub mod Moved
-pub mod Reads
+pub mod PastReads
 pub mod Steps
