@@ -164,10 +164,13 @@ besides_targets n (suc k) (r ∷ rs) =
     ∙ or_twice (target_of n r) (target_of n (besides k rs)) (targets n (drop k rs))
     ∙ ap (or_target (target_of n r)) (besides_targets n k rs)
 
+not_here : (n m : ℕ) (x : Bytes) (k : Kind) → nat_eq m n ≡ false → ◌≡◌ {A = Option (Bytes × Kind)} (if nat_eq m n then Some (x, k) else None) None
+not_here n m x k h = rw h
+
 passed_target : (n : ℕ) (ls : List Listing) (bs : List Block) (d : Doing) (rs : List Rest) → on_activity n d ≡ false → targets n (put (mark_by ls bs d) rs) ≡ targets n rs
 passed_target n ls bs doing.Over rs h = ap (λ o. or_target o (targets n rs)) (within_targets n bs _)
 passed_target n ls bs doing.Empty rs h = ap (λ o. or_target o (targets n rs)) (within_targets n bs _)
-passed_target n ls bs (doing.OnActivity m x k o) rs h = ap (λ o. or_target o (targets n rs)) (within_targets n bs _ ∙ rw h)
+passed_target n ls bs (doing.OnActivity m x k o) rs h = ap (λ o. or_target o (targets n rs)) (within_targets n bs _ ∙ not_here n m x k h)
 passed_target n ls bs (doing.OnTimer m) rs h = ap (λ o. or_target o (targets n rs)) (within_targets n bs _)
 passed_target n ls bs (doing.OnSignal x s) rs h = ap (λ o. or_target o (targets n rs)) (within_targets n bs _)
 passed_target n ls bs (doing.OnSignalFor x s m b) rs h = ap (λ o. or_target o (targets n rs)) (within_targets n bs _)

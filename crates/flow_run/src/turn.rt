@@ -303,11 +303,22 @@ pub fn waits(alloc: Global, cells: &[Cell]) -> Result<Vec<OpenWait>, AllocError>
 {
     let mut list = Vec::new(alloc);
     for c in cells {
-        if let Some(wait) = wait_of(alloc, &c.doing)? {
-            list.push(wait)?;
-        }
+        let wait = wait_of(alloc, &c.doing)?;
+        add_wait(&mut list, wait)?;
     }
     Ok(list)
+}
+
+fn add_wait(list: &mut Vec<OpenWait>, wait: Option<OpenWait>) -> Result<(), AllocError>
+    ensures { OnOk result (MatchOption wait (list.new.items ≡ list.old.items) (λ w. list.new.items ≡ list.old.items ++ w ∷ [])) }
+{
+    match wait {
+        Some(one) => {
+            list.push(one)?;
+            Ok(())
+        }
+        None => Ok(()),
+    }
 }
 
 fn wait_of(alloc: Global, doing: &Doing) -> Result<Option<OpenWait>, AllocError>

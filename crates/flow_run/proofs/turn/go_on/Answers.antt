@@ -8,19 +8,19 @@ returns-then-not-steps-clause-runs c =
     let ls = c.args.table.now.lists.items in
     let step = rw c.if-not-steps.true at c.in_ok-steps.ensures.step in
     let kept = c.in_ok-steps.ensures.kept c.if-not-steps.true in
-    c.loop-p.invariant.leads 1 (shown_progress ls c.next.new.p) (rests_here (shown_frame c.args.f.now) (shown_progress ls c.loop-p.p) (sym step) ∙ ap Some (sym kept))
+    c.loop-steps.invariant.leads 1 (shown_progress ls c.next.new.p) (rests_here (shown_frame c.args.f.now) (shown_progress ls c.loop-steps.p) (sym step) ∙ ap Some (sym kept))
 
-pub loop-p-smaller : goal.loop-p-smaller
-loop-p-smaller c =
+pub loop-steps-smaller : goal.loop-steps-smaller
+loop-steps-smaller c =
     let ls = c.args.table.now.lists.items in
     let step = rw c.if-not-steps.false at c.in_ok-steps.ensures.step in
-    next_lighter (shown_frame c.args.f.now) (shown_progress ls c.loop-p.p) (shown_progress ls c.next.new.p) (sym step)
+    next_lighter (shown_frame c.args.f.now) (shown_progress ls c.loop-steps.p) (shown_progress ls c.next.new.p) (sym step)
 
-pub loop-p-preserved : goal.loop-p-preserved
-loop-p-preserved c =
+pub loop-steps-preserved : goal.loop-steps-preserved
+loop-steps-preserved c =
     let ls = c.args.table.now.lists.items in
     let step = rw c.if-not-steps.false at c.in_ok-steps.ensures.step in
     record {
-      leads = λ m q h. c.loop-p.invariant.leads (suc m) q (one_more (shown_frame c.args.f.now) (shown_progress ls c.loop-p.p) (shown_progress ls c.next.new.p) m (sym step) ∙ h);
+      leads = λ m q h. c.loop-steps.invariant.leads (suc m) q (one_more (shown_frame c.args.f.now) (shown_progress ls c.loop-steps.p) (shown_progress ls c.next.new.p) m (sym step) ∙ h);
       whole = c.in_ok-steps.ensures.whole;
     }

@@ -6,11 +6,11 @@ use Rattle.flow_run.specs.Position.{IsWholeTurning, shown_frame, shown_progress}
 use Rattle.flow_run.proofs.turn.go_on.Given as goal
 
 -- where the steps from here lead, the steps from the start lead too
-abbrev pub invariant-loop-p : goal.invariant-loop-p
-invariant-loop-p l = record {
+abbrev pub invariant-loop-steps : goal.invariant-loop-steps
+invariant-loop-steps l = record {
   leads : (m : ℕ) (q : Progress) → steps m (shown_frame l.f) (shown_progress l.table.lists.items l.p) ≡ Some q → (n : ℕ) × (steps n (shown_frame l.f) (shown_progress l.table.lists.items l.initial.p) ≡ Some q);
   whole : IsWholeTurning l.table.lists.items l.p;
 }
 
-abbrev pub decreases-loop-p : goal.decreases-loop-p
-decreases-loop-p l = weight_of (shown_progress l.table.lists.items l.p)
+abbrev pub decreases-loop-steps : goal.decreases-loop-steps
+decreases-loop-steps l = weight_of (shown_progress l.table.lists.items l.p)
