@@ -8,9 +8,10 @@ use Rattle.flow_base.specs.declared.event.State.TheVariants.{Open}
 use Rattle.flow_nodes.specs.declared.table.Listing.{Listing}
 use Rattle.flow_nodes.specs.declared.table.Table.{Table}
 use Rattle.flow_model.specs.Values.{Variables}
+use Rattle.flow_model.specs.Rest.{Rest}
 use Rattle.flow_model.specs.Deliver.{Progress}
-use Rattle.flow_run.specs.Marks.{Mark, Counted, first_rest, onto}
-use Rattle.flow_run.specs.Flat.{contents_of, marks_of}
+use Rattle.flow_run.specs.Marks.{Mark, One, Counted, first_rest, onto}
+use Rattle.flow_run.specs.Flat.{AreFull, contents_of, mark_of, marks_of}
 use Rattle.flow_run.specs.Waiting.{is_waiting, one_if, one_wait, opens_in_all, wait_in, waits_in_all}
 use Rattle.flow_run.specs.Whole.{IsWhole, IsWholeAt, is_unbegun, rest_at}
 use Rattle.flow_run.specs.Position.{shown_progress, started_with}
@@ -31,12 +32,12 @@ with_signal ls cs p vars buffer new decided x same e is =
 
 -- what every turn keeps holds of a copy
 pub whole_again : (ls : List Listing) (cs ds : List Cell) (s t : State) → contents_of ds ≡ contents_of cs → IsWholeAt ls cs t → s ≡ Open → IsWholeAt ls ds s
-whole_again ls cs ds s t same w open =
+whole_again ls cs ds s t same w opened =
     let marks : marks_of ls cs ≡ marks_of ls ds = sym (same_marks ls ds cs same) in
     record {
       sound = (same_full ls cs ds (sym same) w.sound.0, subst (λ (ms : List Mark). Counted ms []) marks w.sound.1);
       one = subst (λ (ms : List Mark). length (onto ms []) ≤ 1) marks w.one;
-      begun = ap is_unbegun open;
+      begun = ap is_unbegun opened;
     }
 
 pub if_fits : (b : Bool) (x y : Option Progress) → b ≡ true → x ≡ (if b then x else y)
@@ -109,3 +110,16 @@ opens_more cs i c b old new h e was is more =
   where
     capped : (n m x : ℕ) → n ≡ min m 32 → min (n + x) 32 ≡ min (m + x) 32
     capped n m x k = omega (arith, k)
+
+-- what every turn keeps holds where one task begins
+pub whole_one : (ls : List Listing) (ds : List Cell) (s : State) (c : Cell) (r : Rest) → ds ≡ c ∷ [] → mark_of ls c ≡ One r → AreFull ls c → is_unbegun s ≡ false → IsWholeAt ls ds s
+whole_one ls ds s c r e mark full b = subst (λ (xs : List Cell). IsWholeAt ls xs s) (sym e)
+    (record {
+      sound = (λ i x h. at i x h, subst (λ (m : Mark). Counted (m ∷ []) []) (sym mark) tt);
+      one = subst (λ (m : Mark). length (onto (m ∷ []) []) ≤ 1) (sym mark) (omega arith);
+      begun = b;
+    })
+  where
+    at : (i : ℕ) (x : Cell) → i < 1 → AreFull ls (get_or (c ∷ []) i x)
+    at zero x h = full
+    at (suc i) x h = absurd (omega (arith, h))

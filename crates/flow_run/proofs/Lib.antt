@@ -1,4 +1,5 @@
 pub mod Contents
+pub mod Copied
 pub mod Counts
 pub mod Delivering
 pub mod Ending
