@@ -33,9 +33,10 @@ use Rattle.flow.specs.Openings.{IsNotOpened, IsOver, IsUnmade}
 
 -- The file was opened, an engine was made over it, which did that, and what it left of the connection was closed.
 pub record HasKept {S : Type 0} (g : Ghosts S) (opens : Held S → Type 0) (closes : Held S → Type 0) (does : Keeping S → Keeping S → Result ℕ Fault → Type 0) (r : Result ℕ Early) : Type 0 where
+  pub conn : Held S
+  pub opened : opens conn
   pub first : Keeping S
-  pub opened : opens first.stored.opened
-  pub over : IsOver g first.stored.opened first
+  pub over : IsOver g conn first
   pub last : Keeping S
   pub told : Result ℕ Fault
   pub did : does first last told
@@ -64,9 +65,10 @@ Asks misses w absent present r = OfWork w (λ most. present r) (λ run. IsOnFile
 
 -- An engine was made over an empty store, which did that.
 pub record HasMade {S : Type 0} (g : Ghosts S) (does : Keeping S → Keeping S → Result ℕ Fault → Type 0) (r : Result ℕ Early) : Type 0 where
+  pub conn : Held S
+  pub empty : IsEmpty (state g conn)
   pub first : Keeping S
-  pub empty : IsEmpty (state g first.stored.opened)
-  pub over : IsOver g first.stored.opened first
+  pub over : IsOver g conn first
   pub last : Keeping S
   pub told : Result ℕ Fault
   pub did : does first last told
@@ -103,7 +105,8 @@ totals_line t = totals_text t ++ 10 ∷ []
 
 -- how much a store holds was told
 pub record TellsTotals {O : Type 0} (o : Outputs O) (t : Totals) (old new : O) (r : Result ℕ Fault) : Type 0 where
-  pub written : IfOk r (λ n. Appends (o.contents old) (o.contents new) (totals_line t) × (n ≡ 0))
+  pub written : IfOk r (λ n. Appends (o.contents old) (o.contents new) (totals_line t))
+  pub status : IfOk r (λ n. n ≡ 0)
   pub stopped : IfErr r (λ f. WritesPart f (o.contents old) (o.contents new) (totals_line t))
   pub output : o.failed new ≡ output_failed r (o.failed old)
 

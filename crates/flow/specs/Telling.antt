@@ -44,7 +44,8 @@ tells_settlement old new =
 
 -- It is told with its status; or a write failed behind a beginning of the line, or memory ran out before one.
 pub record Tells {O P : Type 0} (o : Ghosts O) (p : Ghosts P) (t : Told) (old new : O) (before behind : P) (told : Result ℕ Fault) : Type 0 where
-  pub written : IfOk told (λ n. Appends (o.contents old) (o.contents new) t.line × (n ≡ t.status))
+  pub written : IfOk told (λ n. Appends (o.contents old) (o.contents new) t.line)
+  pub status : IfOk told (λ n. n ≡ t.status)
   pub marked : IfOk told (λ n. IsMarked (p.contents before) (p.contents behind) (p.failed behind) (p.ran_out behind) t.marks)
   pub stopped : IfErr told (λ f. WritesPart f (o.contents old) (o.contents new) t.line)
   pub unmarked : IfErr told (λ f. behind ≡ before)

@@ -53,7 +53,7 @@ impl System for HostRuntime {
     }
 
     fn input(&self) -> io::Result<String> {
-        io::read_to_string(self.alloc(), self.reader())
+        io::read_to_string(self.alloc(), io::Input::reader(self))
     }
 
     fn folder(&self, path: &str) -> io::Result<Option<Vec<String>>> {

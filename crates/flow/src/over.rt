@@ -1,9 +1,8 @@
 //! What is done over the store of a call: in a file, or in memory.
-ghost use Rattle.std.specs.Prelude.{◌≡◌, true, false, Ok, Err};
+ghost use Rattle.std.specs.Prelude.{◌≡◌, Ok, Err};
 ghost use Rattle.sqlite.specs.Steps.{over_memory};
 ghost use Rattle.flow_base.specs.declared.fault.Fault.TheVariants as faults;
 ghost use Rattle.flow_cli.specs.Reasons.{early_of};
-ghost use Rattle.flow_cli.specs.Working.{OfWork};
 ghost use Rattle.flow.specs.Over.{Asks, IsOnFile, OverFile, OverMemory, OverNamed, Verifies};
 ghost use Rattle.flow.specs.Working.{Lists, Performed};
 
@@ -39,6 +38,24 @@ fn work_in_file<H: System, O: Output>(
     early(outcome)
 }
 
+/// Tells a history of the store in a file; where there is none there is no run, and none is made.
+fn ask_file<H: System, O: Output>(
+    alloc: Global,
+    system: &H,
+    output: &mut O,
+    file: &str,
+    work: &Work,
+) -> Result<u8, Early>
+    ensures { IsOnFile (H.misses system.now file.now) (λ r. (r ≡ Err (early_of faults.NoRun)) × (output.new ≡ output.old))
+        (OverFile H.Base.Store (H.opens system.now) (H.finds system.now) (H.closes system.now) file.now (output.new ≡ output.old)
+            (λ first last. Performed ⟦<Engine<H::Base> as Answering>⟧ H.Lines.Input O.Output (H.gives system.now) work.now first last output.old output.new)) result }
+{
+    if system.is_not_there(file) {
+        return Err(Early::from(Fault::NoRun));
+    }
+    work_in_file(alloc, system, output, file, work)
+}
+
 /// A question for a history makes no file.
 fn work_over_file<H: System, O: Output>(
     alloc: Global,
@@ -51,12 +68,10 @@ fn work_over_file<H: System, O: Output>(
         (OverFile H.Base.Store (H.opens system.now) (H.finds system.now) (H.closes system.now) file.now (output.new ≡ output.old)
             (λ first last. Performed ⟦<Engine<H::Base> as Answering>⟧ H.Lines.Input O.Output (H.gives system.now) work.now first last output.old output.new)) result }
 {
-    if let Work::History(_) = work {
-        if system.is_not_there(file) {
-            return Err(Early::from(Fault::NoRun));
-        }
+    match work {
+        Work::Drive(_) => work_in_file(alloc, system, output, file, work),
+        Work::History(_) => ask_file(alloc, system, output, file, work),
     }
-    work_in_file(alloc, system, output, file, work)
 }
 
 fn work_over_memory<H: System, O: Output>(

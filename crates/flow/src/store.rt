@@ -1,12 +1,7 @@
 //! The store of a call, and the engine over it.
-ghost use Rattle.std.specs.Prelude.{◌≡◌, [], false, Ok, Err, IfOk, IfErr};
-ghost use Rattle.sqlite.specs.Held.{state, IsNew};
+ghost use Rattle.std.specs.Prelude.{Ok, IfOk, IfErr};
+ghost use Rattle.sqlite.specs.Held.{state};
 ghost use Rattle.sqlite.specs.Steps.{over_memory, IsEmpty};
-ghost use Rattle.flow_base.specs.declared.fault.Fault.{Fault as AFault};
-ghost use Rattle.flow_tables.specs.Owned.{IsFound};
-ghost use Rattle.flow_commit.specs.Keeping.{IsFit, kept_book};
-ghost use Rattle.flow_engine.specs.Answering.{IsSure};
-ghost use Rattle.flow_engine.specs.Opening.{IsOpened, Opens};
 ghost use Rattle.flow.specs.Openings.{IsHandedOn, IsNotOpened, IsOfFile, IsOfOpening, IsOver, IsUnmade};
 
 use crate::system::System;
@@ -64,8 +59,7 @@ pub fn open_file<H: System>(
     file: &str,
     settings: Settings,
 ) -> Result<Engine<H::Base>, Early>
-    ensures opened { IfOk result (λ e. H.opens system.now file.now (Ok e.stored.opened)) }
-    ensures over { IfOk result (λ e. IsOver H.Base.Store e.stored.opened e) }
+    ensures opened { IfOk result (λ e. (conn : _) × (H.opens system.now file.now (Ok conn) × IsOver H.Base.Store conn e)) }
     ensures refused { IfErr result (IsNotOpened H.Base.Store (H.opens system.now) (H.finds system.now) file.now) }
 {
     match system.open(file) {
@@ -79,9 +73,12 @@ pub fn open_file<H: System>(
 
 /// A new store in memory.
 pub fn open_memory(alloc: Global, settings: Settings) -> Result<Engine<MemStore>, Fault>
-    ensures empty { IfOk result (λ e. IsEmpty (state over_memory e.stored.opened)) }
-    ensures over { IfOk result (λ e. IsOver over_memory e.stored.opened e) }
+    ensures opened { IfOk result (λ e. (conn : _) × (IsEmpty (state over_memory conn) × IsOver over_memory conn e)) }
     ensures refused { IfErr result (IsUnmade over_memory) }
 {
-    open(alloc, Connection::open_in_memory(alloc)?, settings)
+    let conn = Connection::open_in_memory(alloc)?;
+    match open(alloc, conn, settings) {
+        Ok(engine) => Ok(engine),
+        Err(fault) => Err(fault),
+    }
 }
