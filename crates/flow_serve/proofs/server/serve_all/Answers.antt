@@ -187,8 +187,8 @@ commit_taken-requires g c =
       };
     }
 
-pub post_board-in-loop-requires : goal.post_board-in-loop-requires
-post_board-in-loop-requires g c = record { together = c.commit_taken.ensures.together }
+pub post_board-requires-in-loop : goal.post_board-requires-in-loop
+post_board-requires-in-loop g c = record { together = c.commit_taken.ensures.together }
 
 pub returns-then-not-take-clause-together : goal.returns-then-not-take-clause-together
 returns-then-not-take-clause-together g c =

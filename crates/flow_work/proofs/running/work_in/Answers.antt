@@ -1,5 +1,3 @@
-use Rattle.std.proofs.Common.{refl}
-use Rattle.flow_serve.proofs.Serving.{follows_self}
 use Rattle.flow_work.proofs.running.work_in.Goals as goal
 
 -- it has served
@@ -17,13 +15,3 @@ returns-in-Ok-clause-found g c = c.serve_new-served.ensures.found
 
 pub returns-in-Ok-clause-follows : goal.returns-in-Ok-clause-follows
 returns-in-Ok-clause-follows g c = c.serve_new-served.ensures.follows
-
--- nothing was begun
-pub returns-in-Err-clause-unserved : goal.returns-in-Err-clause-unserved
-returns-in-Err-clause-unserved g c = (c.in-Err.ensures, refl)
-
-pub returns-in-Err-clause-found : goal.returns-in-Err-clause-found
-returns-in-Err-clause-found g c = refl
-
-pub returns-in-Err-clause-follows : goal.returns-in-Err-clause-follows
-returns-in-Err-clause-follows g c = follows_self g.S.Store c.args.engine.now
