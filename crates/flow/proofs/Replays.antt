@@ -48,3 +48,10 @@ pub decides_early : {A O : Type 0} (reads : List ℕ → Result (String A) Error
     → Decides reads o m all (drop i all) old now status → ReplaysFile reads o m (string_bytes x) now new (Err e) → ReplaysFiles reads o m all old new (Err e)
 decides_early reads o m all i x old now new status e lt here before file =
     before new (Err e) (subst (λ l. ReplaysFiles reads o m l now new (Err e)) (sym (left_from all i x lt here)) (inr (e, (file, refl))))
+
+-- where none is left, the status is what it has come to
+pub decides_last : {A O : Type 0} (reads : List ℕ → Result (String A) Error → Type 0) (o : Ghosts O) (m : Result Program TextFault) (all : List (String A)) (i : ℕ) (old now : O) (status : ℕ) → drop i all ≡ []
+    → Decides reads o m all (drop i all) old now status → ReplaysFiles reads o m all old now (Ok status)
+decides_last reads o m all i old now status none before =
+    let at_end : max status 0 ≡ status = omega arith in
+    subst (λ n. ReplaysFiles reads o m all old now (Ok n)) at_end (before now (Ok 0) (subst (λ l. ReplaysFiles reads o m l now now (Ok 0)) (sym none) (refl, refl)))

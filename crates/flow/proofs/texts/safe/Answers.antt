@@ -1,4 +1,4 @@
-use Rattle.std.proofs.Common.{inl, inr, rules, subst}
+use Rattle.std.proofs.Common.{inl, inr, rules, subst, string_bytes}
 use Rattle.flow.specs.Telling.{tells_safety, Tells}
 use Rattle.flow.proofs.texts.safe.Goals as goal
 
@@ -23,7 +23,7 @@ returns g c =
         read = c.in_ok-new.ensures.read;
         did = record {
           told = c.tell_safety.result;
-          did = subst (λ t. Tells g.O.Output g.P.Output (tells_safety _ t) c.args.output.now c.tell_safety.new.output c.args.errors.now c.tell_safety.new.errors c.tell_safety.result) c.as_str-2.ensures.value told;
+          did = subst (λ t. Tells g.O.Output g.P.Output (tells_safety (string_bytes c.in_ok-old.old) t) c.args.output.now c.tell_safety.new.output c.args.errors.now c.tell_safety.new.errors c.tell_safety.result) c.as_str-2.ensures.value told;
           is = c.early.ensures
         }
       })

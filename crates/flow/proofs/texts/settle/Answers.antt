@@ -1,4 +1,4 @@
-use Rattle.std.proofs.Common.{inl, inr, rules, subst}
+use Rattle.std.proofs.Common.{inl, inr, rules, subst, string_bytes}
 use Rattle.flow.specs.Telling.{tells_settlement, Tells}
 use Rattle.flow.proofs.texts.settle.Goals as goal
 
@@ -23,7 +23,7 @@ returns g c =
         read = c.in_ok-new.ensures.read;
         did = record {
           told = c.tell_settlement.result;
-          did = subst (λ t. Tells g.O.Output g.P.Output (tells_settlement _ t) c.args.output.now c.tell_settlement.new.output c.args.errors.now c.tell_settlement.new.errors c.tell_settlement.result) c.as_str-2.ensures.value told;
+          did = subst (λ t. Tells g.O.Output g.P.Output (tells_settlement (string_bytes c.in_ok-old.old) t) c.args.output.now c.tell_settlement.new.output c.args.errors.now c.tell_settlement.new.errors c.tell_settlement.result) c.as_str-2.ensures.value told;
           is = c.early.ensures
         }
       })
