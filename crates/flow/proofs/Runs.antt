@@ -1,7 +1,14 @@
 -- What comes of an engine that ran, by what served it and the status that was made.
-use Rattle.std.proofs.Common.{◌≡◌, ◌≤◌, ℕ, Ok, Err, IfOk, IfErr, sym, subst}
+use Rattle.std.proofs.Common.{◌≡◌, ◌≤◌, ℕ, Ok, Err, IfOk, IfErr, inr, refl, sym, subst}
 use Rattle.std.specs.Prelude.{Result, OnOk}
+use Rattle.std.specs.declared.io.Error.{Error}
+use Rattle.std.specs.declared.io.Write.{Ghosts as Writers}
+use Rattle.sqlite_trees.specs.declared.store.Store.{Ghosts}
 use Rattle.flow_base.specs.declared.fault.Fault.{Fault}
+use Rattle.flow_commit.specs.Keeping.{Keeping}
+use Rattle.flow.specs.Running.{IsUnserved, RunsWith}
+use Rattle.flow.specs.declared.running.Activities.{Activities}
+use Rattle.flow.specs.declared.running.Activities.TheVariants as activities
 
 -- in order, with the status
 pub ended_well : {U : Type 0} (served : Result U Fault) (n : ℕ) (r : Result ℕ Fault) (P : Type 0) → OnOk served P → IfErr served (λ f. r ≡ Err f) → IfOk r (λ m. (m ≡ n) × (m ≤ 3)) → IfOk r (λ m. P × (m ≤ 3))
@@ -21,3 +28,8 @@ status_made n (Err f) done = tt
 pub either : (r : Result ℕ Fault) (P Q : Fault → Type 0) → ((f : Fault) → P f → Q f) → IfErr r P → IfErr r Q
 either (Ok n) P Q on h = tt
 either (Err f) P Q on h = on f h
+
+-- nothing was served, and nothing has changed
+pub unrun : {S W I : Type 0} (a : Activities) (g : Ghosts S) (w : Writers W) (prints : W → Type 0) (lends : Result I Error → Type 0) (now : Keeping S) (f : Fault) → IsUnserved lends f → RunsWith a g w prints lends now now (Err f)
+unrun (activities.Inside leave) g w prints lends now f why = record { served = tt; ends = inr (why, refl); found = refl; follows = (refl, λ fit. fit) }
+unrun activities.Outside g w prints lends now f why = (record { served = tt; ends = inr (why, refl); found = refl; follows = (refl, λ fit. fit) }, inr (f, (refl, (why, refl))))

@@ -53,68 +53,89 @@ fn unknown_to<H: System>(system: &H, leave_unknown: bool) -> Unknown<H::Notes> {
     }
 }
 
-/// Runs an engine from standard input to standard output, with the activities of the program.
+/// Runs an engine from this input to standard output, with the activities of the program.
 fn run_inside<H: System, S: Alter, T: Threads + Wait + Clock + Copy + Send + Drop + 'static>(
     alloc: Global,
     system: &H,
     threads: &T,
     engine: &mut Engine<S>,
+    reader: H::Reader,
     settings: Settings,
     leave_unknown: bool,
 ) -> Result<u8, Fault>
     requires { engine.old.log ≡ [] }
     ensures { Runs S.Store (H.lends system.now) engine.old engine.new result }
 {
-    let reader = match reader_of(system) {
-        Ok(reader) => reader,
-        Err(fault) => return Err(fault),
-    };
-    let ended = work_shown(
+    let unknown = unknown_to(system, leave_unknown);
+    match work_shown(
         threads,
         alloc,
         engine,
         reader,
         system.replies(),
         system.terminal(),
-        unknown_to(system, leave_unknown),
+        unknown,
         settings,
         &BuiltIn,
         SystemClock::new(*threads),
-    );
-    match ended {
+    ) {
         Ok(ended) => ended.outcome(),
         Err(fault) => Err(fault),
     }
 }
 
-/// Runs an engine from standard input to standard output, with activities outside.
+/// Runs an engine from this input to standard output, with activities outside.
 fn run_outside<H: System, S: Alter, T: Threads + Wait + Clock + Copy + Send + Drop + 'static>(
     alloc: Global,
     system: &H,
     threads: &T,
     engine: &mut Engine<S>,
+    reader: H::Reader,
     settings: Settings,
 ) -> Result<u8, Fault>
     requires { engine.old.log ≡ [] }
     ensures runs { Runs S.Store (H.lends system.now) engine.old engine.new result }
     ensures prints { Prints S.Store H.Replies.Write (H.prints system.now) (H.lends system.now) engine.old engine.new result }
 {
-    let reader = match reader_of(system) {
-        Ok(reader) => reader,
-        Err(fault) => return Err(fault),
-    };
-    let ended = serve(
+    let replies = system.replies();
+    match serve(
         threads,
         alloc,
         engine,
         reader,
-        system.replies(),
+        replies,
         settings,
         SystemClock::new(*threads),
-    );
-    match ended {
+    ) {
         Ok(ended) => ended.outcome(),
         Err(fault) => Err(fault),
+    }
+}
+
+/// Runs an engine from this input to standard output.
+fn run_from<H: System, S: Alter, T: Threads + Wait + Clock + Copy + Send + Drop + 'static>(
+    alloc: Global,
+    system: &H,
+    threads: &T,
+    engine: &mut Engine<S>,
+    reader: H::Reader,
+    settings: Settings,
+    activities: Activities,
+) -> Result<u8, Fault>
+    requires { engine.old.log ≡ [] }
+    ensures { RunsWith activities S.Store H.Replies.Write (H.prints system.now) (H.lends system.now) engine.old engine.new result }
+{
+    match activities {
+        Activities::Inside { leave_unknown } => run_inside(
+            alloc,
+            system,
+            threads,
+            engine,
+            reader,
+            settings,
+            leave_unknown,
+        ),
+        Activities::Outside => run_outside(alloc, system, threads, engine, reader, settings),
     }
 }
 
@@ -130,11 +151,9 @@ fn run<H: System, S: Alter, T: Threads + Wait + Clock + Copy + Send + Drop + 'st
     requires { engine.old.log ≡ [] }
     ensures { RunsWith activities S.Store H.Replies.Write (H.prints system.now) (H.lends system.now) engine.old engine.new result }
 {
-    match activities {
-        Activities::Inside { leave_unknown } => {
-            run_inside(alloc, system, threads, engine, settings, leave_unknown)
-        }
-        Activities::Outside => run_outside(alloc, system, threads, engine, settings),
+    match reader_of(system) {
+        Ok(reader) => run_from(alloc, system, threads, engine, reader, settings, activities),
+        Err(fault) => Err(fault),
     }
 }
 
