@@ -1,4 +1,3 @@
-use Rattle.std.proofs.Common.{absurd}
 use Rattle.flow.proofs.over.verify.Goals as goal
 
 pub returns-in-text : goal.returns-in-text

@@ -1,4 +1,3 @@
-use Rattle.std.proofs.Common.{absurd}
 use Rattle.flow.proofs.over.work_over.Goals as goal
 
 pub returns-in-text : goal.returns-in-text

@@ -1,4 +1,4 @@
-use Rattle.std.proofs.Common.{inl, absurd, subst}
+use Rattle.std.proofs.Common.{inl, subst}
 use Rattle.flow_check.specs.Language.{meaning_of}
 use Rattle.flow.specs.Replays.{ReplaysAt, ReplaysInput}
 use Rattle.flow.proofs.replaying.replay.Goals as goal

@@ -1,4 +1,5 @@
 use Rattle.std.proofs.Common.{◌≡◌, ◌+◌, Ok, Err, max, rules, subst, drop}
+use Rattle.std.proofs.lemmas.List.{drop_all}
 use Rattle.flow_check.specs.Language.{meaning_of}
 use Rattle.flow.specs.Replays.{ReplaysFile}
 use Rattle.flow.proofs.Replays.{Decides, decides_early, decides_last, decides_more}
@@ -22,4 +23,4 @@ returns-in-Err g c =
 
 pub returns : goal.returns
 returns g c =
-    decides_last (g.H.System.reads c.args.system.now) g.O.Output (meaning_of c.args.text.now) c.args.files.now c.loop-file.file-index c.args.output.now c.loop-file.output c.loop-file.status (search rules) c.loop-file.invariant
+    decides_last (g.H.System.reads c.args.system.now) g.O.Output (meaning_of c.args.text.now) c.args.files.now c.loop-file.file-index c.args.output.now c.loop-file.output c.loop-file.status (drop_all c.loop-file.file-index c.args.files.now c.loop-file-test.false) c.loop-file.invariant
