@@ -1,8 +1,7 @@
 -- What comes of an engine that ran, by what served it and the status that was made.
-use Rattle.std.proofs.Common.{◌≡◌, ◌≤◌, ℕ, Ok, Err, IfOk, IfErr, inr, refl, sym, subst}
+use Rattle.std.proofs.Common.{◌≡◌, ◌≤◌, ℕ, List, Option, Ok, Err, IfOk, IfErr, inr, refl, sym, subst}
 use Rattle.std.specs.Prelude.{Result, OnOk}
 use Rattle.std.specs.declared.io.Error.{Error}
-use Rattle.std.specs.declared.io.Write.{Ghosts as Writers}
 use Rattle.sqlite_trees.specs.declared.store.Store.{Ghosts}
 use Rattle.flow_base.specs.declared.fault.Fault.{Fault}
 use Rattle.flow_commit.specs.Keeping.{Keeping}
@@ -30,6 +29,6 @@ either (Ok n) P Q on h = tt
 either (Err f) P Q on h = on f h
 
 -- nothing was served, and nothing has changed
-pub unrun : {S W I : Type 0} (a : Activities) (g : Ghosts S) (w : Writers W) (prints : W → Type 0) (lends : Result I Error → Type 0) (now : Keeping S) (f : Fault) → IsUnserved lends f → RunsWith a g w prints lends now now (Err f)
+pub unrun : {S W I : Type 0} (a : Activities) (g : Ghosts S) (w : W → Option (List ℕ)) (prints : W → Type 0) (lends : Result I Error → Type 0) (now : Keeping S) (f : Fault) → IsUnserved lends f → RunsWith a g w prints lends now now (Err f)
 unrun (activities.Inside leave) g w prints lends now f why = record { served = tt; ends = inr (why, refl); found = refl; follows = (refl, λ fit. fit) }
 unrun activities.Outside g w prints lends now f why = (record { served = tt; ends = inr (why, refl); found = refl; follows = (refl, λ fit. fit) }, inr (f, (refl, (why, refl))))

@@ -3,7 +3,6 @@ use Rattle.std.specs.Prelude.{◌≡◌, ◌⊎◌, ℕ, Bool, List, map, Option
 use Rattle.std.specs.IoError.{error_kind}
 use Rattle.std.specs.declared.io.Error.{Error}
 use Rattle.std.specs.declared.io.ErrorKind.TheVariants.{OutOfMemory}
-use Rattle.std.specs.declared.io.Write.{Ghosts as Writers}
 use Rattle.sqlite_trees.specs.declared.store.Store.{Ghosts}
 use Rattle.sqlite_trees.specs.declared.memory.MemStore.{MemStore}
 use Rattle.sqlite.specs.Held.{Held}
@@ -40,18 +39,18 @@ use Rattle.flow.specs.declared.running.Activities.TheVariants as activities
 abbrev pub Answered : {A S I R W O P : Type 0}
     → (List ℕ → Result (String A) Error → Type 0) → (Result (String A) Error → Type 0) → (List ℕ → Result (Option (Vec (String A) A)) Error → Type 0) → (List ℕ → Bool → Type 0)
     → Ghosts S → (List ℕ → Result (Held S) BaseError → Type 0) → (List ℕ → ErrorCode → Unopened → Type 0) → (Held S → Type 0)
-    → (Result I Error → Type 0) → (Result R Error → Type 0) → Writers W → (W → Type 0)
+    → (Result I Error → Type 0) → (Result R Error → Type 0) → (W → Option (List ℕ)) → (W → Type 0)
     → Answerings (Keeping S) → Answerings (Keeping MemStore) → Inputs I → Outputs O → Outputs P
     → O → O → P → P → Call → Result ℕ Early → Type 0
-Answered {A} {S} {I} {R} {W} {O} {P} reads takes lists misses g opens finds closes gives lends w prints a am i o p old new before behind c r =
+Answered {A} {S} {I} {R} {W} {O} {P} reads takes lists misses g opens finds closes gives lends contents prints a am i o p old new before behind c r =
     let same = (new ≡ old) × (behind ≡ before) in
     let works = λ base job. OverNamed base
         (OverMemory (new ≡ old) (λ first last. Performed am i o gives job first last old new))
         (Asks (misses base) job (λ s. (s ≡ Err (early_of fault.NoRun)) × (new ≡ old))
             (OverFile g opens finds closes base (new ≡ old) (λ first last. Performed a i o gives job first last old new))) in
     let runs = λ base file kind. HasSettings reads file (OverNamed base
-        (OverMemory (Unit {0}) (RunsWith kind over_memory w prints lends))
-        (OverFile g opens finds closes base (Unit {0}) (RunsWith kind g w prints lends))) in
+        (OverMemory (Unit {0}) (RunsWith kind over_memory contents prints lends))
+        (OverFile g opens finds closes base (Unit {0}) (RunsWith kind g contents prints lends))) in
     elim c [
     | call.Check file ↦ Reads reads file same (λ text. Ends (Tells o p (tells_verdict text) old new before behind)) r
     | call.Safe first then ↦ Reads reads first same (λ x. Reads reads then same (λ y. Ends (Tells o p (tells_safety x y) old new before behind))) r

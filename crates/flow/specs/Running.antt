@@ -3,7 +3,6 @@ use Rattle.std.specs.Prelude.{◌≡◌, ◌⊎◌, ◌≤◌, ℕ, List, Option
 use Rattle.std.specs.IoError.{error_kind}
 use Rattle.std.specs.declared.io.Error.{Error}
 use Rattle.std.specs.declared.io.ErrorKind.TheVariants.{OutOfMemory}
-use Rattle.std.specs.declared.io.Write.{Ghosts as Writers}
 use Rattle.sqlite_trees.specs.declared.store.Store.{Ghosts}
 use Rattle.flow_base.specs.declared.fault.Fault.{Fault}
 use Rattle.flow_base.specs.declared.fault.Fault.TheVariants as fault
@@ -37,20 +36,20 @@ pub record Runs {S I : Type 0} (g : Ghosts S) (lends : Result I Error → Type 0
   pub follows : Follows g before behind
 
 -- It printed what `serve` tells to the output, and ended with the status of that or with the fault that ended serving.
-pub record HasPrinted {S W : Type 0} (g : Ghosts S) (w : Writers W) (prints : W → Type 0) (before behind : Keeping S) (r : Result ℕ Fault) : Type 0 where
+pub record HasPrinted {S W : Type 0} (g : Ghosts S) (contents : W → Option (List ℕ)) (prints : W → Type 0) (before behind : Keeping S) (r : Result ℕ Fault) : Type 0 where
   pub writer : W
   pub printed : prints writer
   pub ended : Served W
-  pub shows : Shows g (λ _. Unit {0}) before behind (w.contents writer) (w.contents ended.ended.writer) ended.is_mute ended.lines ended.shown
+  pub shows : Shows g (λ _. Unit {0}) before behind (contents writer) (contents ended.ended.writer) ended.is_mute ended.lines ended.shown
   pub status : IfOk r (λ n. n ≡ ended.ended.status)
 
-abbrev pub Prints : {S W I : Type 0} → Ghosts S → Writers W → (W → Type 0) → (Result I Error → Type 0) → Keeping S → Keeping S → Result ℕ Fault → Type 0
-Prints g w prints lends before behind r = HasPrinted g w prints before behind r ⊎ ((f : Fault) × ((r ≡ Err f) × (IsUnserved lends f × (behind ≡ before))))
+abbrev pub Prints : {S W I : Type 0} → Ghosts S → (W → Option (List ℕ)) → (W → Type 0) → (Result I Error → Type 0) → Keeping S → Keeping S → Result ℕ Fault → Type 0
+Prints g contents prints lends before behind r = HasPrinted g contents prints before behind r ⊎ ((f : Fault) × ((r ≡ Err f) × (IsUnserved lends f × (behind ≡ before))))
 
 -- With activities outside it is also said what is printed.
-abbrev pub RunsWith : {S W I : Type 0} → Activities → Ghosts S → Writers W → (W → Type 0) → (Result I Error → Type 0) → Keeping S → Keeping S → Result ℕ Fault → Type 0
-RunsWith (activities.Inside leave) g w prints lends before behind r = Runs g lends before behind r
-RunsWith activities.Outside g w prints lends before behind r = Runs g lends before behind r × Prints g w prints lends before behind r
+abbrev pub RunsWith : {S W I : Type 0} → Activities → Ghosts S → (W → Option (List ℕ)) → (W → Type 0) → (Result I Error → Type 0) → Keeping S → Keeping S → Result ℕ Fault → Type 0
+RunsWith (activities.Inside leave) g contents prints lends before behind r = Runs g lends before behind r
+RunsWith activities.Outside g contents prints lends before behind r = Runs g lends before behind r × Prints g contents prints lends before behind r
 
 -- The file gives settings, or none is named, and that was done; or it gives none, and nothing was.
 abbrev pub HasSettings : {A : Type 0} → (List ℕ → Result (String A) Error → Type 0) → Option (List ℕ) → (Result ℕ Early → Type 0) → Result ℕ Early → Type 0

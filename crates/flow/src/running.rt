@@ -95,7 +95,7 @@ fn run_outside<H: System, S: Alter, T: Threads + Wait + Clock + Copy + Send + Dr
 ) -> Result<u8, Fault>
     requires { engine.old.log ≡ [] }
     ensures runs { Runs S.Store (H.lends system.now) engine.old engine.new result }
-    ensures prints { Prints S.Store H.Replies.Write (H.prints system.now) (H.lends system.now) engine.old engine.new result }
+    ensures prints { Prints S.Store H.Replies.contents (H.prints system.now) (H.lends system.now) engine.old engine.new result }
 {
     let replies = system.replies();
     match serve(
@@ -123,7 +123,7 @@ fn run_from<H: System, S: Alter, T: Threads + Wait + Clock + Copy + Send + Drop 
     activities: Activities,
 ) -> Result<u8, Fault>
     requires { engine.old.log ≡ [] }
-    ensures { RunsWith activities S.Store H.Replies.Write (H.prints system.now) (H.lends system.now) engine.old engine.new result }
+    ensures { RunsWith activities S.Store H.Replies.contents (H.prints system.now) (H.lends system.now) engine.old engine.new result }
 {
     match activities {
         Activities::Inside { leave_unknown } => run_inside(
@@ -149,7 +149,7 @@ fn run<H: System, S: Alter, T: Threads + Wait + Clock + Copy + Send + Drop + 'st
     activities: Activities,
 ) -> Result<u8, Fault>
     requires { engine.old.log ≡ [] }
-    ensures { RunsWith activities S.Store H.Replies.Write (H.prints system.now) (H.lends system.now) engine.old engine.new result }
+    ensures { RunsWith activities S.Store H.Replies.contents (H.prints system.now) (H.lends system.now) engine.old engine.new result }
 {
     match reader_of(system) {
         Ok(reader) => run_from(alloc, system, threads, engine, reader, settings, activities),
@@ -166,7 +166,7 @@ fn run_in_file<H: System, T: Threads + Wait + Clock + Copy + Send + Drop + 'stat
     activities: Activities,
 ) -> Result<u8, Early>
     ensures { OverFile H.Base.Store (H.opens system.now) (H.finds system.now) (H.closes system.now) file.now (Unit {0})
-        (RunsWith activities H.Base.Store H.Replies.Write (H.prints system.now) (H.lends system.now)) result }
+        (RunsWith activities H.Base.Store H.Replies.contents (H.prints system.now) (H.lends system.now)) result }
 {
     let mut engine = open_file(alloc, system, file, settings)?;
     let outcome = run(alloc, system, threads, &mut engine, settings, activities);
@@ -181,7 +181,7 @@ fn run_in_memory<H: System, T: Threads + Wait + Clock + Copy + Send + Drop + 'st
     settings: Settings,
     activities: Activities,
 ) -> Result<u8, Early>
-    ensures { OverMemory (Unit {0}) (RunsWith activities over_memory H.Replies.Write (H.prints system.now) (H.lends system.now)) result }
+    ensures { OverMemory (Unit {0}) (RunsWith activities over_memory H.Replies.contents (H.prints system.now) (H.lends system.now)) result }
 {
     let mut engine = open_memory(alloc, settings)?;
     early(run(alloc, system, threads, &mut engine, settings, activities))
@@ -197,9 +197,9 @@ fn run_over<H: System, T: Threads + Wait + Clock + Copy + Send + Drop + 'static>
     activities: Activities,
 ) -> Result<u8, Early>
     ensures { OverNamed base.now
-        (OverMemory (Unit {0}) (RunsWith activities over_memory H.Replies.Write (H.prints system.now) (H.lends system.now)))
+        (OverMemory (Unit {0}) (RunsWith activities over_memory H.Replies.contents (H.prints system.now) (H.lends system.now)))
         (OverFile H.Base.Store (H.opens system.now) (H.finds system.now) (H.closes system.now) base.now (Unit {0})
-            (RunsWith activities H.Base.Store H.Replies.Write (H.prints system.now) (H.lends system.now))) result }
+            (RunsWith activities H.Base.Store H.Replies.contents (H.prints system.now) (H.lends system.now))) result }
 {
     match base {
         "-" => run_in_memory(alloc, system, threads, settings, activities),
@@ -218,9 +218,9 @@ pub fn keep_running<H: System, T: Threads + Wait + Clock + Copy + Send + Drop + 
 ) -> Result<u8, Early>
     ensures { HasSettings (H.reads system.now) (option_map (λ name. name.now) file)
         (OverNamed base.now
-            (OverMemory (Unit {0}) (RunsWith activities over_memory H.Replies.Write (H.prints system.now) (H.lends system.now)))
+            (OverMemory (Unit {0}) (RunsWith activities over_memory H.Replies.contents (H.prints system.now) (H.lends system.now)))
             (OverFile H.Base.Store (H.opens system.now) (H.finds system.now) (H.closes system.now) base.now (Unit {0})
-                (RunsWith activities H.Base.Store H.Replies.Write (H.prints system.now) (H.lends system.now)))) result }
+                (RunsWith activities H.Base.Store H.Replies.contents (H.prints system.now) (H.lends system.now)))) result }
 {
     match settings_in(alloc, system, file) {
         Ok(settings) => run_over(alloc, system, threads, base, settings, activities),
