@@ -216,7 +216,7 @@ pub fn keep_running<H: System, T: Threads + Wait + Clock + Copy + Send + Drop + 
     file: Option<&str>,
     activities: Activities,
 ) -> Result<u8, Early>
-    ensures { HasSettings (H.reads system.now) (option_map (λ name. name.now) file)
+    ensures { HasSettings (H.reads system.now) (option_map (λ name. name.now) file.entry)
         (OverNamed base.now
             (OverMemory (Unit {0}) (RunsWith activities over_memory H.Replies.contents (H.prints system.now) (H.lends system.now)))
             (OverFile H.Base.Store (H.opens system.now) (H.finds system.now) (H.closes system.now) base.now (Unit {0})

@@ -88,8 +88,8 @@ pub fn settings_in<H: System>(
     system: &H,
     file: Option<&str>,
 ) -> Result<Settings, Early>
-    ensures set { IfOk result (IsSet (H.reads system.now) (option_map (λ name. name.now) file)) }
-    ensures unset { IfErr result (IsUnset (H.reads system.now) (option_map (λ name. name.now) file)) }
+    ensures set { IfOk result (IsSet (H.reads system.now) (option_map (λ name. name.now) file.entry)) }
+    ensures unset { IfErr result (IsUnset (H.reads system.now) (option_map (λ name. name.now) file.entry)) }
 {
     match file {
         Some(file) => settings_from(alloc, system, file),
