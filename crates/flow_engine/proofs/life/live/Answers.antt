@@ -17,11 +17,18 @@ returns-in-Err-driven-clause-early g c clean =
     let first = c.in-Ok.engine in
     let early = c.in-Err-driven.ensures.early in
     let was : HasCleanDisk (state g.S.Store first.stored.held) = subst (λ (h : Held g.row.S.Denot). HasCleanDisk (state g.S.Store h)) early.1 clean in
-    inr (early.0, (first, sym early.1, record {
-      first = first;
-      positions = c.found-found.result.now;
-      is = (was, c.in-Ok.ensures.opens, c.found-found.ensures.found, runs_none g.S.Store first);
-    }))
+    inr (
+      early.0,
+      (
+        first,
+        sym early.1,
+        record {
+          first = first;
+          positions = c.found-found.result.now;
+          is = (was, c.in-Ok.ensures.opens, c.found-found.ensures.found, runs_none g.S.Store first);
+        },
+      ),
+    )
 
 pub returns-in-Err-clause-early : goal.returns-in-Err-clause-early
 returns-in-Err-clause-early g c clean = inl (clean, c.in-Err.ensures.refused)
