@@ -5,6 +5,7 @@ mod calls;
 mod ends;
 mod host;
 mod looking;
+mod moving;
 mod over;
 mod replaying;
 mod running;

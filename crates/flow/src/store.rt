@@ -4,6 +4,7 @@ ghost use Rattle.sqlite.specs.Held.{state};
 ghost use Rattle.sqlite.specs.Steps.{over_memory, IsEmpty};
 ghost use Rattle.flow.specs.Openings.{IsHandedOn, IsNotOpened, IsOfFile, IsOfOpening, IsOver, IsUnmade};
 
+use crate::moving::Moving;
 use crate::system::System;
 use flow_base::fault::Fault;
 use flow_base::memory::NoMemory;
@@ -12,18 +13,23 @@ use flow_engine::engine::Engine;
 use flow_settings::settings::Settings;
 use sqlite::{Alter, Connection, Error, ErrorCode, MemStore};
 use std::alloc::Global;
+use std::io::Write;
 
-/// The engine over a store.
-fn open<S: Alter + Drop>(
+/// The engine over a store. A terminal, where there is one, shows how far its move is, if it is moved.
+fn open<S: Alter + Drop, P: Write + Drop>(
     alloc: Global,
     conn: Connection<S>,
     settings: Settings,
+    terminal: Option<P>,
 ) -> Result<Engine<S>, Fault>
     ensures over { IfOk result (IsOver S.Store conn) }
     // The fault is that of the engine, with all that the engine tells of it.
     ensures refused { IfErr result (IsHandedOn S.Store (state S.Store conn)) }
 {
-    match Engine::open(alloc, conn, settings) {
+    let mut moving = Moving::on(alloc, terminal);
+    let opened = Engine::open_watched(alloc, conn, settings, &mut moving);
+    moving.clear();
+    match opened {
         Ok(engine) => Ok(engine),
         Err((fault, _held)) => Err(fault),
     }
@@ -63,7 +69,7 @@ pub fn open_file<H: System>(
     ensures refused { IfErr result (IsNotOpened H.Base.Store (H.opens system.now) (H.finds system.now) file.now) }
 {
     match system.open(file) {
-        Ok(conn) => match open(alloc, conn, settings) {
+        Ok(conn) => match open(alloc, conn, settings, system.terminal()) {
             Ok(engine) => Ok(engine),
             Err(fault) => Err(unkept(alloc, file, fault)),
         },
@@ -77,7 +83,7 @@ pub fn open_memory(alloc: Global, settings: Settings) -> Result<Engine<MemStore>
     ensures refused { IfErr result (IsUnmade over_memory) }
 {
     let conn = Connection::open_in_memory(alloc)?;
-    match open(alloc, conn, settings) {
+    match open(alloc, conn, settings, None::<Vec<u8>>) {
         Ok(engine) => Ok(engine),
         Err(fault) => Err(fault),
     }

@@ -3,7 +3,7 @@ use Rattle.std.specs.Prelude.{◌≡◌, ◌⊎◌, ◌+◌, ℕ, List, [], ◌�
 use Rattle.sqlite_trees.specs.declared.store.Store.{Ghosts}
 use Rattle.sqlite.specs.Tree.{Trees}
 use Rattle.sqlite.specs.Held.{Held, state}
-use Rattle.sqlite.specs.State.{HasCleanDisk}
+use Rattle.sqlite.specs.State.{HasCleanDisk, State}
 use Rattle.flow_base.specs.declared.command.Command.{Command}
 use Rattle.flow_base.specs.declared.fault.Fault.{Fault}
 use Rattle.flow_base.specs.declared.fault.Fault.TheVariants as fault
@@ -13,7 +13,8 @@ use Rattle.flow_machine.specs.declared.submission.Receipt.{Receipt}
 use Rattle.flow_model.specs.Book.{Book, nth}
 use Rattle.flow_model.specs.Apply.{after, replies}
 use Rattle.flow_tables.specs.Opening.{IsOfStore, StopsOpening}
-use Rattle.flow_tables.specs.Owned.{IsFound, Keeps, state_of}
+use Rattle.flow_move.specs.Moves.{HasFirstFormat}
+use Rattle.flow_tables.specs.Owned.{IsCurrent, IsFound, Keeps, state_of}
 use Rattle.flow_commit.specs.Keeping.{Keeping, IsFit, IsWell, KeepsBook, rules}
 use Rattle.flow_recover.specs.declared.positions.Position.{Position}
 use Rattle.flow_recover.specs.Positions.{ArePositions}
@@ -57,7 +58,8 @@ module _ {S : Type 0} (g : Ghosts S) where
   abbrev pub HasEndedEarly : Held S → Fault → Held S → Type 0
   HasEndedEarly conn f back = IsLife (Refused conn f back) ⊎ ((f ≡ fault.NoMemory _) × ((last : Keeping S) × (last.stored.held ≡ back) × HasLived conn last [] []))
 
-  -- It begins over a connection that holds this book in our tables, or the empty one in none; one that is refused is open.
+  -- It begins over a connection that holds this book in our tables, or in those of the first format, or the empty one in none; one that
+  -- is refused is open.
   abbrev pub Begins : Book → Life S → Type 0
   Begins b (Lived conn first positions last bs ds) = HasCleanDisk (state g conn) → IsFound (state g conn) b
   Begins b (Refused conn f back) = HasCleanDisk (state g conn) → IsTrue (state g conn).is_open × IsFound (state g conn) b
@@ -72,11 +74,15 @@ module _ {S : Type 0} (g : Ghosts S) where
   Lives Begin [] = Unit {0}
   Lives Begin (l ∷ ls) = Begin l × IsLife l × Lives (λ m. Continues (seen l) (seen m)) ls
 
-  -- What an opening over this book gave: the book, with exactly one position, which stands, for each of its open runs; or E01, E80 or
-  -- E81: the book is held on, in no tables only where there were none, and why E80 or E81 is told.
+  -- What is told of a store that wasn't opened, though it held a book: E01, E80 or E81, or E84 where the first format was read.
+  abbrev pub IsToldSo : State → Fault → Type 0
+  IsToldSo from f = IsOfStore f ⊎ ((f ≡ fault.Unknown) × HasFirstFormat g from)
+
+  -- What an opening over this book gave: the book, with exactly one position, which stands, for each of its open runs; or such a
+  -- refusal: the book is held on, in no tables only where there were none, and why E80 or E81 is told over our tables, or none.
   abbrev pub Finds : Book → Life S → Type 0
   Finds b (Lived conn first positions last bs ds) = KeepsBook g first b × ArePositions meaning_of b positions
-  Finds b (Refused conn f back) = StillHolds (state g conn) (state g back) b × IsOfStore f × StopsOpening g (state g conn) (state g back) f
+  Finds b (Refused conn f back) = StillHolds (state g conn) (state g back) b × IsToldSo (state g conn) f × (IsCurrent (state g conn) → StopsOpening g (state g conn) (state g back) f)
 
   -- What each batch has done, and why: behind E80 of one that isn't applied stands the store, or numbers that have run out.
   abbrev pub Works : Book → Life S → Type 0
