@@ -6,7 +6,6 @@ use Rattle.sqlite.specs.Held.{Held, state}
 use Rattle.sqlite.specs.State.{HasCleanDisk}
 use Rattle.flow_base.specs.declared.command.Command.{Command}
 use Rattle.flow_base.specs.declared.fault.Fault.{Fault}
-use Rattle.flow_base.specs.declared.fault.Fault.TheVariants as fault
 use Rattle.flow_check.specs.Language.{meaning_of}
 use Rattle.flow_machine.specs.declared.submission.Taken.{Taken}
 use Rattle.flow_machine.specs.declared.submission.Receipt.{Receipt}
@@ -46,16 +45,6 @@ module _ {S : Type 0} (g : Ghosts S) where
   IsLife (Lived conn first positions last bs ds) =
       HasCleanDisk (state_of g last.stored) × Opens g conn first × (IsFit g first → HasFound g first positions) × Runs g first last bs ds
   IsLife (Refused conn f back) = HasCleanDisk (state g back) × IsUnopened g (state g conn) (state g back) f
-
-  -- An engine that was opened over this connection, handed out positions and has driven these batches since is a life.
-  pub record HasLived (conn : Held S) (last : Keeping S) (batches : List (List Taken)) (dones : List Done) : Type 0 where
-    pub first : Keeping S
-    pub positions : List Position
-    pub is : IsLife (Lived conn first positions last batches dones)
-
-  -- So is a call that gave a connection back with a fault: its opening was refused, or memory was wanting before its first batch.
-  abbrev pub HasEndedEarly : Held S → Fault → Held S → Type 0
-  HasEndedEarly conn f back = IsLife (Refused conn f back) ⊎ ((f ≡ fault.NoMemory _) × ((last : Keeping S) × (last.stored.held ≡ back) × HasLived conn last [] []))
 
   -- It begins over a connection that holds this book in our tables, or the empty one in none; one that is refused is open.
   abbrev pub Begins : Book → Life S → Type 0

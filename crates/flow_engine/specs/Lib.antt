@@ -8,3 +8,4 @@ pub mod Worlds
 pub mod Following
 pub mod GivingUp
 pub mod Counting
+pub mod Living

@@ -5,7 +5,7 @@ ghost use Rattle.sqlite.specs.State.{HasCleanDisk};
 ghost use Rattle.flow_base.specs.declared.fault.Fault.TheVariants.{NoMemory};
 ghost use Rattle.flow_tables.specs.Owned.{state_of};
 ghost use Rattle.flow_engine.specs.Driving.{Runs};
-ghost use Rattle.flow_engine.specs.Headline.{HasEndedEarly, HasLived};
+ghost use Rattle.flow_engine.specs.Living.{HasEndedEarly, HasLived};
 
 use crate::done::Done;
 use crate::drive::drive;
