@@ -120,9 +120,21 @@ def is_verified(copy, program):
     raise Refused(fault[0].strip() if fault else f"flow verify ended with {ended.returncode}: {ended.stderr.strip()}")
 
 
-def fill(runs, rows):
+def with_moment(at, body):
+    """The body of an event as histories show it: with its moment among its members."""
+    return json.dumps({**json.loads(body), "at": at}, ensure_ascii=False, separators=(",", ":"), sort_keys=True)
+
+
+def events_in(rows, form):
+    """The run, the number, the kind and the body of each event. In the second format its moment has a column."""
+    if form == 1:
+        return rows("SELECT run, id, kind, body FROM event ORDER BY run, id")
+    return [(*its, with_moment(at, body)) for *its, at, body in rows("SELECT run, id, kind, at, body FROM event2 ORDER BY run, id")]
+
+
+def fill(runs, rows, form):
     """Puts events, timers and tasks to their runs."""
-    for number, event, kind, body in rows("SELECT run, id, kind, body FROM event ORDER BY run, id"):
+    for number, event, kind, body in events_in(rows, form):
         runs[number].events.append(Event(event, Kind(kind), json.loads(body), body))
     for number, event, due in rows("SELECT run, id, due FROM timer ORDER BY run, id"):
         runs[number].timers[event] = due
@@ -144,11 +156,12 @@ def store_in(rows):
     """The texts and the runs of a store by what its tables answer to a statement."""
     if not rows("SELECT 1 FROM sqlite_schema WHERE name = 'meta'"):
         return Store({}, [])
-    if rows("SELECT value FROM meta WHERE name = 'format'") != [(1,)]:
-        raise Refused("its format isn't 1")
+    form = rows("SELECT value FROM meta WHERE name = 'format'")
+    if form not in ([(1,)], [(2,)]):
+        raise Refused("its format isn't 1 or 2")
     texts = {number: text_of(number, source) for number, source in rows("SELECT num, body FROM text ORDER BY num")}
     runs = {it[0]: Run(*it) for it in rows("SELECT num, flow, req, textnum, isopen FROM run ORDER BY num")}
-    fill(runs, rows)
+    fill(runs, rows, form[0][0])
     if not all(run.events and run.text in texts and (run.is_open or run.events[-1].kind in ENDS) for run in runs.values()):
         raise Refused("its rows don't fit together")
     join(runs.values())

@@ -3,8 +3,9 @@
 A `.damage` file has blocks as a `.case` file. One with lines and replies makes a sound store; each later one is about a copy of it:
 
     file EXPRESSION                  the bytes of a file, as Python makes them, in place of the copy
+    old                              the copy is a store of the first format, which its opening moves
     sql STATEMENT                    changes the copy
-    ! STATUS TEXT                    what its opening says, if it is refused. It changes nothing then
+    ! STATUS TEXT                    what its opening says, if it is refused. It changes nothing then, nor is it moved
     verify STATUS TEXT               what `flow verify` says, if it is opened and a run doesn't replay. Else it says how much the copy holds,
                                      and of one that isn't opened the same as the opening
     RUN: a line of its history, if it is opened
@@ -12,14 +13,16 @@ A `.damage` file has blocks as a `.case` file. One with lines and replies makes 
     > a line of input and < the line that answers it, over the changed copy, each in a life of its own. Tables of other names keep
                                      their rows
 
-A `.bodies` file has a JSON object a line: the `kind` and the `body` of an event (or `make`, an expression of Python), which takes the place of
-one of a run that is closed, and what its reading `says`: ok, and the history has that body, or the code of its refusal.
+A `.bodies` file has a JSON object a line: the `kind`, the moment `at` and the `body` of an event (or `make`, an expression of Python), which
+takes the place of one of a run that is closed, and what its reading `says`: ok, and the history has that body with the moment in it, or the code
+of its refusal. Without `at` it is one of the first format, whose bodies have their moments, and one that is read is moved.
 """
 import json
 import os
 import shutil
 import sqlite3
 
+import formats
 from lines import blocks, check_verified, joined, outcome, read_case
 from program import flow
 
@@ -34,7 +37,7 @@ CLOSED = [
 ]
 
 
-OURS = {"meta", "text", "run", "event", "timer", "outbox"}
+OURS = {"meta", "text", "run", "event", "event2", "timer", "outbox"}
 
 
 def contents(base):
@@ -79,7 +82,7 @@ def made(tally, what, pairs, base):
 def placed(case, sound, base):
     """The file that a case is about, before it is changed."""
     if case.content is None:
-        copied(sound, base)
+        (formats.first if case.old else copied)(sound, base)
     else:
         with open(base, "wb") as it:
             it.write(case.content)
@@ -91,8 +94,8 @@ def copied(base, to):
             shutil.copy(base + end, to + end)
 
 
-def opened(tally, what, base, statements, status, says, histories=None):
-    """What is said of a store that is changed so, and that its rows stay as they are."""
+def opened(tally, what, base, statements, status, says, histories=None, is_old=False):
+    """What is said of a store that is changed so, and that its rows stay as they are, or one of the first format is moved."""
     if statements:
         changed(base, statements)
     before = held(base)
@@ -101,7 +104,7 @@ def opened(tally, what, base, statements, status, says, histories=None):
         tally.check(f"{what}, {words[0]}", (ended[0], ended[2]), (status, says))
     for run, history in (histories or {}).items():
         tally.check(f"{what}, history of {run}", flow(["history", base, str(run)]), (0, joined(history), b""))
-    tally.check(f"{what}, its rows", held(base), before)
+    tally.check(f"{what}, its rows", held(base), formats.moved(before) if is_old and status == 0 else before)
 
 
 def verified(tally, case, base):
@@ -126,7 +129,7 @@ def damage(tally, case, sound, base):
         return
     statements = [(text, {}) for text in case.statements]
     if not case.pairs:
-        opened(tally, case.what, base, statements, case.status, case.says, case.histories)
+        opened(tally, case.what, base, statements, case.status, case.says, case.histories, case.old)
         verified(tally, case, base)
         return
     changed(base, statements)
@@ -139,16 +142,20 @@ def damage(tally, case, sound, base):
 
 def body(tally, what, row, sound, base):
     """Of a row that is read, its line of the history is the body again."""
-    copied(sound, base)
+    is_old = "at" not in row
+    (formats.first if is_old else copied)(sound, base)
     text = eval(row["make"]) if "make" in row else row["body"]
     event = 1 if row["kind"] == 1 else 3
     statements = [("UPDATE event SET kind = ?, body = ? WHERE id = ?", (row["kind"], text, event))]
+    if not is_old:
+        statements = [("UPDATE event2 SET kind = ?, at = ?, body = ? WHERE id = ?", (row["kind"], row["at"], text, event))]
     if row["says"] != "ok":
         opened(tally, what, base, statements, 3, f"flow: E83 event 1 {event} {row['says']}\n".encode())
         return
-    opened(tally, what, base, statements, 0, b"")
+    opened(tally, what, base, statements, 0, b"", is_old=is_old)
+    shown = text if is_old else formats.with_moment(row["at"], text)
     lines = flow(["history", base, "1"])[1].decode().splitlines()
-    tally.check(f"{what}, its line", [line.split(" ", 2)[2] for line in lines if line.startswith(f"{event} ")], [text])
+    tally.check(f"{what}, its line", [line.split(" ", 2)[2] for line in lines if line.startswith(f"{event} ")], [shown])
 
 
 def jobs(tally, paths, folder):

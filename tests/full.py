@@ -1,4 +1,4 @@
-"""Histories that are filled to their limit: 2,046 events, over which nothing is recorded but the end."""
+"""Histories that are filled to their limit: 8,190 events, over which nothing is recorded but the end."""
 import json
 import os
 import shutil
@@ -14,7 +14,7 @@ BUSY = (
 )
 REGISTERED = '{"reply":"registered","text":1}'
 STARTED = '{"reply":"started","run":1}'
-HISTORY_FULL = '{"code":"E69","event":2047,"reply":"refused","run":1}'
+HISTORY_FULL = '{"code":"E69","event":8191,"reply":"refused","run":1}'
 NO_RUN_OPEN = '{"code":"E63","reply":"refused"}'
 START = {"args": [], "at": 0, "do": "start", "flow": "f", "req": "q1", "text": 1}
 DESCRIBE = {"do": "describe", "run": 1}
@@ -43,13 +43,13 @@ def described(state, events, activities="", timers=""):
 LAST = signal(0, 9999, "last")
 FULL = (
     [(register(FOREVER), REGISTERED), (START, STARTED)]
-    + [(signal(n, n, f"s{n}"), recorded(n + 1)) for n in range(1, 2046)]
-    + [(DESCRIBE, described("open", 2046)), (LAST, HISTORY_FULL), (DESCRIBE, described("terminated", 2047)), (LAST, NO_RUN_OPEN)]
+    + [(signal(n, n, f"s{n}"), recorded(n + 1)) for n in range(1, 8190)]
+    + [(DESCRIBE, described("open", 8190)), (LAST, HISTORY_FULL), (DESCRIBE, described("terminated", 8191)), (LAST, NO_RUN_OPEN)]
 )
 FILLED = (
     [(register(BUSY), REGISTERED), (START, STARTED)]
-    + [(signal(n, n, f"s{n}"), recorded(n)) for n in range(4, 2047)]
-    + [(DESCRIBE, described("open", 2046, "2", "3"))]
+    + [(signal(n, n, f"s{n}"), recorded(n)) for n in range(4, 8191)]
+    + [(DESCRIBE, described("open", 8190, "2", "3"))]
 )
 # what each command then does with the run that is filled up, and the reason of its end
 AT_THE_LIMIT = [
@@ -64,7 +64,7 @@ AT_THE_LIMIT = [
         ],
         "history limit",
     ),
-    ([({"at": 9999, "do": "terminate", "reason": "why", "run": 1}, recorded(2047))], "why"),
+    ([({"at": 9999, "do": "terminate", "reason": "why", "run": 1}, recorded(8191))], "why"),
     ([({"do": "upgrade", "run": 1, "text": 1}, '{"reply":"upgraded","run":1,"text":1}'), (LAST, HISTORY_FULL)], "history limit"),
 ]
 
@@ -78,14 +78,14 @@ def answered(tally, what, base, commands):
 def check_end(tally, what, base, reason):
     """A run whose last event stands behind the last place closes there, for this reason."""
     lines = flow(["history", base, "1"])[1].decode().splitlines()
-    end = '2047 WorkflowExecutionTerminated {"at":9999,"text":"%s"}' % reason
-    tally.check(f"{what}, its end", (len(lines), lines[-1]), (2047, end))
+    end = '8191 WorkflowExecutionTerminated {"at":9999,"text":"%s"}' % reason
+    tally.check(f"{what}, its end", (len(lines), lines[-1]), (8191, end))
 
 
 def by_signals(tally, folder):
     answered(tally, "a full history, over memory", "-", FULL)
     base = os.path.join(folder, "full.db")
-    for part in [FULL[:1000], FULL[1000:-4]] + [[it] for it in FULL[-4:]]:
+    for part in [FULL[:4000], FULL[4000:-4]] + [[it] for it in FULL[-4:]]:
         answered(tally, "a full history, over a file", base, part)
     check_end(tally, "a full history", base, "history limit")
 
@@ -96,7 +96,7 @@ def by_each_command(tally, folder):
     for number, (commands, reason) in enumerate(AT_THE_LIMIT):
         base = os.path.join(folder, f"limit{number}.db")
         shutil.copy(filled, base)
-        for part in [[it] for it in commands] + [[(DESCRIBE, described("terminated", 2047))]]:
+        for part in [[it] for it in commands] + [[(DESCRIBE, described("terminated", 8191))]]:
             answered(tally, f"at the limit, {commands}", base, part)
         check_end(tally, f"at the limit, {commands}", base, reason)
 

@@ -49,7 +49,8 @@ class Call:
 class Case:
     """Lines with their replies, the status of them all, and the histories of runs by their numbers; or calls with the files that they read.
 
-    Of a damaged store also the statements that change it, the rows that are found in it, and the bytes of a file in its place.
+    Of a damaged store also the statements that change it, the rows that are found in it, the bytes of a file in its place, and whether it is
+    one of the first format.
     """
 
     what: str
@@ -63,6 +64,7 @@ class Case:
     says: bytes = b""
     verified: tuple = None
     content: bytes | None = None
+    old: bool = False
 
 
 def blocks(path):
@@ -97,6 +99,8 @@ def read_case(place, block):
         history = HISTORY_LINE.fullmatch(line)
         if mark == "#":
             case.what += " " + rest
+        elif line == "old":
+            case.old = True
         elif mark in ("text", "make"):
             name, _, value = rest.partition(" = ")
             names[name] = value if mark == "text" else eval(value, dict(names))
@@ -209,7 +213,7 @@ def totals(base):
     """What `flow verify` says of a store whose runs all replay, counted by SQLite."""
     conn = sqlite3.connect(base)
     try:
-        counts = [conn.execute(f"SELECT count(*) FROM {table}").fetchone()[0] for table in ("text", "run", "event")]
+        counts = [conn.execute(f"SELECT count(*) FROM {table}").fetchone()[0] for table in ("text", "run", "event2")]
     finally:
         conn.close()
     return (0, b"ok texts=%d runs=%d events=%d\n" % tuple(counts), b"")

@@ -180,9 +180,9 @@ def branches(events):
 def histories(base):
     """The flow and the events of each run that is closed, and how many are open, by the C library's SQLite."""
     conn, found = sqlite3.connect(base), {}
-    rows = conn.execute("SELECT flow, kind, body FROM event JOIN run ON run.num = event.run WHERE isopen = 0 ORDER BY run, id")
-    for name, kind, body in rows:
-        found.setdefault(int(name.removeprefix("order-")), []).append((kind, json.loads(body)))
+    rows = conn.execute("SELECT flow, kind, at, body FROM event2 JOIN run ON run.num = event2.run WHERE isopen = 0 ORDER BY run, id")
+    for name, kind, at, body in rows:
+        found.setdefault(int(name.removeprefix("order-")), []).append((kind, {**json.loads(body), "at": at}))
     counts = ("run WHERE isopen = 1", "timer", "outbox")
     left = tuple(conn.execute(f"SELECT count(*) FROM {it}").fetchone()[0] for it in counts)
     conn.close()

@@ -2,6 +2,7 @@
 #![tactic(auto)]
 
 mod looking;
+mod moving;
 mod replaying;
 mod running;
 mod settings;

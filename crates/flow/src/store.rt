@@ -8,14 +8,16 @@ ghost use Rattle.flow_engine.specs.Opening.{IsOpened};
 ghost use Rattle.flow.specs.Openings.{IsHandedOn};
 
 use crate::looking::unopened;
+use crate::moving::Moving;
 use flow_base::fault::Fault;
 use flow_base::memory::NoMemory;
 use flow_cli::reason::{Early, Unopened};
 use flow_engine::engine::Engine;
 use flow_settings::settings::Settings;
 use sqlite::{Alter, Connection, Error, ErrorCode, File, FileStore, MemStore};
+use std::io::IsTerminal;
 
-/// The engine over a store.
+/// The engine over a store. A terminal on standard error shows how far its move is, if it is moved.
 fn open<S: Alter + Drop>(
     rt: &HostRuntime,
     conn: Connection<S>,
@@ -29,7 +31,16 @@ fn open<S: Alter + Drop>(
     // The fault is that of the engine, with all that the engine tells of it.
     ensures refused { IfErr result (IsHandedOn S.Store (state S.Store conn)) }
 {
-    match Engine::open(rt.alloc(), conn, settings) {
+    let stderr = rt.stderr();
+    let terminal = if stderr.is_terminal() {
+        Some(stderr)
+    } else {
+        None
+    };
+    let mut moving = Moving::on(rt.alloc(), terminal);
+    let opened = Engine::open_watched(rt.alloc(), conn, settings, &mut moving);
+    moving.clear();
+    match opened {
         Ok(engine) => Ok(engine),
         Err((fault, _held)) => Err(fault),
     }

@@ -17,21 +17,36 @@ use std::test::Fail;
 
 type RunCells = (i64, &'static str, &'static str, i64, i64);
 
-type EventCells = (i64, i64, i64, &'static str);
+type EventCells = (i64, i64, i64, Option<i64>, &'static str);
 
 type TaskCells = (i64, i64, i64, i64);
 
-const STARTED: &str = "{\"args\":[],\"at\":1000}";
+const STARTED: &str = "{\"args\":[]}";
+
+const STARTED_BEFORE: &str = "{\"args\":[],\"at\":1000}";
 
 /// A run that waits for an activity.
 const RUN: RunCells = (2, "f", "", 2, 1);
 
 const HISTORY: &[EventCells] = &[
-    (2, 1, 1, STARTED),
+    (2, 1, 1, Some(1000), STARTED),
     (
         2,
         2,
         7,
+        Some(1000),
+        "{\"activity\":\"c\",\"args\":[7],\"every\":500,\"gives\":\"int\",\"tries\":3}",
+    ),
+];
+
+/// The same in the first format.
+const HISTORY_BEFORE: &[EventCells] = &[
+    (2, 1, 1, None, STARTED_BEFORE),
+    (
+        2,
+        2,
+        7,
+        None,
         "{\"activity\":\"c\",\"args\":[7],\"at\":1000,\"every\":500,\"gives\":\"int\",\"tries\":3}",
     ),
 ];
@@ -58,11 +73,12 @@ fn runs(alloc: Global, cells: &[RunCells]) -> Result<Sequence<RunRow>, Fail> {
 }
 
 fn event_row(alloc: Global, cells: &EventCells) -> Result<EventRow, Fail> {
-    let (run, id, kind, body) = cells;
+    let (run, id, kind, at, body) = cells;
     Ok(EventRow {
         run: *run,
         id: *id,
         kind: *kind,
+        at: *at,
         body: RawText::new(alloc, body)?,
     })
 }
@@ -119,7 +135,7 @@ fn at(table: Table, run: i64, place: i64) -> Option<Damage> {
 fn rows_name_what_is_there(rt: HostRuntime) -> Result<(), Fail> {
     let textless = (1, "f", "", 1, 1);
     assert!(rt; found(rt.alloc(), &[textless], &[])? == at(Table::Run, 1, 0));
-    assert!(rt; found(rt.alloc(), &[], &[(4, 7, 1, STARTED)])? == at(Table::Event, 4, 7));
+    assert!(rt; found(rt.alloc(), &[], &[(4, 7, 1, Some(1000), STARTED)])? == at(Table::Event, 4, 7));
     Ok(())
 }
 
@@ -149,8 +165,8 @@ fn is_run_2(run: &Run) -> bool {
 }
 
 /// Whether it is read as run 2. Who calls it holds no run.
-fn is_recalled(alloc: Global) -> Result<bool, Fail> {
-    match recalled(alloc, &RUN, HISTORY, OUTBOX)? {
+fn is_recalled(alloc: Global, history: &[EventCells]) -> Result<bool, Fail> {
+    match recalled(alloc, &RUN, history, OUTBOX)? {
         Some(run) => Ok(is_run_2(&run)),
         None => Ok(false),
     }
@@ -168,7 +184,8 @@ fn is_none(
 
 #[test]
 fn a_run_is_read_from_its_rows(rt: HostRuntime) -> Result<(), Fail> {
-    assert!(rt; is_recalled(rt.alloc())?);
+    assert!(rt; is_recalled(rt.alloc(), HISTORY)?);
+    assert!(rt; is_recalled(rt.alloc(), HISTORY_BEFORE)?);
     Ok(())
 }
 
@@ -177,7 +194,11 @@ fn no_run_has_such_rows(rt: HostRuntime) -> Result<(), Fail> {
     let alloc = rt.alloc();
     assert!(rt; is_none(alloc, &(2, "", "", 2, 1), HISTORY, OUTBOX)?);
     assert!(rt; is_none(alloc, &(2, "f", "", 0, 1), HISTORY, OUTBOX)?);
-    assert!(rt; is_none(alloc, &RUN, &[(2, 1, 14, STARTED)], OUTBOX)?);
+    assert!(rt; is_none(alloc, &RUN, &[(2, 1, 14, Some(1000), STARTED)], OUTBOX)?);
+    // A body with its moment beside a column, and one without it beside none.
+    assert!(rt; is_none(alloc, &RUN, &[(2, 1, 1, Some(1000), STARTED_BEFORE)], OUTBOX)?);
+    assert!(rt; is_none(alloc, &RUN, &[(2, 1, 1, None, STARTED)], OUTBOX)?);
+    assert!(rt; is_none(alloc, &RUN, &[(2, 1, 1, Some(-1), STARTED)], OUTBOX)?);
     assert!(rt; is_none(alloc, &RUN, HISTORY, &[(2, 2, 1, -1)])?);
     Ok(())
 }

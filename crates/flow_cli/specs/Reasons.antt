@@ -112,7 +112,7 @@ reason_text (reason.File path why) = said_of (string_bytes path) (unreadable_wor
 reason_text (reason.Settings path why) = said_of (string_bytes path) (setting_text why)
 reason_text (reason.Store path why) = said_of (string_bytes path) (unopened_words why)
 reason_text reason.NotOurs = codes "  it has tables of flow's names that aren't flow's, or rows that can't be read" ++ (10 ∷ [])
-reason_text reason.BadVersion = codes "  another version of flow made it: its format isn't 1" ++ (10 ∷ [])
+reason_text reason.BadVersion = codes "  another version of flow made it: its format isn't 1 or 2" ++ (10 ∷ [])
 reason_text (reason.Row d) = said_of (row_text d) (damage_words d)
 reason_text (reason.Run run place name) =
     codes "  run " ++ (decimal run ++ (codes ", event " ++ (decimal place ++ (codes ": " ++ (mismatch_words name ++ (10 ∷ []))))))

@@ -284,7 +284,7 @@ impl Reason {
             ),
             Reason::BadVersion => String::from_str(
                 alloc,
-                "  another version of flow made it: its format isn't 1\n",
+                "  another version of flow made it: its format isn't 1 or 2\n",
             ),
             Reason::Row(damage) => {
                 let row = row(alloc, damage)?;

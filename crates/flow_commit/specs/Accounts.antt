@@ -6,6 +6,7 @@ use Rattle.flow_base.specs.declared.book.Run.{Run}
 use Rattle.flow_machine.specs.declared.submission.Receipt.{Receipt}
 use Rattle.flow_machine.specs.contracts.submission.Receipt as receipt_row
 use Rattle.flow_model.specs.Book.{Book, no_book}
+use Rattle.flow_sql.specs.Past.{HasPast}
 use Rattle.flow_tables.specs.Names.{State, HasTables, no_schema}
 use Rattle.sqlite_schema.specs.declared.schema.Schema.{Schema}
 use Rattle.sqlite_schema.specs.contracts.schema.Schema as schema_row
@@ -41,9 +42,9 @@ handed_in s = record { clean = s.is_clean; schema = s.committed.schema; catalog 
 abbrev pub trees_of : HandedIn → ℕ → List Row
 trees_of h t = if nat_eq t catalog_tree then h.catalog else slice_index_or h.rows t []
 
--- our tables with any rows, or none
+-- our tables with any rows, or none, or those of the first format
 abbrev pub WereOurs : HandedIn → Type 0
-WereOurs h = doubt h.clean ≡ 0 → HasTables (record { schema = h.schema; trees = trees_of h }) ⊎ (h.schema ≡ no_schema)
+WereOurs h = doubt h.clean ≡ 0 → (HasTables (record { schema = h.schema; trees = trees_of h }) ⊎ (h.schema ≡ no_schema)) ⊎ HasPast (record { schema = h.schema; trees = trees_of h })
 
 abbrev pub log_code : Coded (List Receipt)
 log_code = coded_list receipt_row.the_row.coded

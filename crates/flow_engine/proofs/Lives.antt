@@ -7,7 +7,7 @@ use Rattle.std.proofs.lemmas.Option.{none-some, same_Some}
 use Rattle.sqlite_trees.specs.declared.store.Store.{Ghosts}
 use Rattle.sqlite.specs.Tree.{Trees}
 use Rattle.sqlite.specs.Held.{Held, state}
-use Rattle.sqlite.specs.State.{HasCleanDisk}
+use Rattle.sqlite.specs.State.{HasCleanDisk, State}
 use Rattle.flow_base.specs.declared.command.Command.{Command}
 use Rattle.flow_base.specs.declared.fault.Fault.{Fault}
 use Rattle.flow_machine.specs.declared.submission.Taken.{Taken}
@@ -17,18 +17,20 @@ use Rattle.flow_model.specs.Apply.{after, after_one, replies}
 use Rattle.flow_model.proofs.Logs.{after_cut, replies_cut, length-replies, nth_at}
 use Rattle.flow_tables.specs.Owned.{IsOurs, IsFound}
 use Rattle.flow_view.specs.declared.fault.ViewFault.TheVariants as fault
+use Rattle.flow_base.specs.declared.fault.Fault.TheVariants as refusal
+use Rattle.flow_move.specs.Moves.{IsOfMove}
 use Rattle.flow_commit.specs.Keeping.{Keeping, IsFit, IsWell, KeepsBook, rules, command_of, commands_of, receipt_of, receipts_of}
 use Rattle.flow_commit.proofs.RunningOut.{only_numbers}
 use Rattle.flow_recover.specs.declared.positions.Position.{Position}
 use Rattle.flow_recover.specs.Recovering.{HoldBook, IsOpenedOver, StillHolds}
-use Rattle.flow_recover.proofs.Recovering.{one_found, found_ours, kept_found, held_found, well_sound}
+use Rattle.flow_recover.proofs.Recovering.{one_found, found_ours, kept_found, held_found, well_before, well_sound}
 use Rattle.flow_engine.specs.declared.done.Done.{Done}
 use Rattle.flow_engine.specs.declared.done.Done.TheVariants as done
 use Rattle.flow_engine.specs.Driving.{AreAnswers, Drives, IsDoneFor, IsDoneOnlyFor, Passes, PassesOnly, all_halted, if_kept, gathered, kept_of, receipts_in}
-use Rattle.flow_engine.specs.Opening.{Opens}
+use Rattle.flow_engine.specs.Opening.{IsUnopened, Opens}
 use Rattle.flow_engine.proofs.Found.{found_of}
 use Rattle.flow_engine.proofs.OneMore.{after_well, left_well}
-use Rattle.flow_engine.specs.Headline.{Life, Lived, Refused, seen, IsLife, Begins, Continues, Lives, Finds, Works, IsIn, AreIn, Headline, OpenedBegin}
+use Rattle.flow_engine.specs.Headline.{Life, Lived, Refused, seen, IsLife, Begins, Continues, Lives, Finds, Works, IsIn, AreIn, Headline, OpenedBegin, IsToldSo}
 
 ---- Places in a list
 
@@ -190,6 +192,19 @@ module _ {S : Type 0} (g : Ghosts S) where
   next_refused k conn back f well holds m (inl stopped) = ∥∥₁_map stopped (λ s. ([], inl refl, well, opened_again k s.0 (seen m).conn (holds.stops s.0 s.1) s.2))
   next_refused k conn back f well holds m (inr closed) = ∣ ([], inl refl, well, handed_back k back (seen m).conn closed.0 closed.1 (holds.found closed.1)) ∣₁
 
+  -- a move alone is refused with E84
+  of_move : (from to : State) (f : Fault) → IsUnopened g from to f → HasCleanDisk to → IsOfMove f → IsToldSo g from f
+  of_move from to refusal.Unknown told clean of = inr (refl, told.moving clean refl)
+  of_move from to (refusal.NoMemory m) told clean of = inl tt
+  of_move from to refusal.StoreRefused told clean of = inl tt
+  of_move from to refusal.NotOurs told clean of = inl tt
+  of_move from to _ told clean of = absurd of
+
+  -- what is told of a store that holds a book such as commands make
+  told_so : (k : Book) (conn back : Held S) (f : Fault) → IsWell k → IsUnopened g (state g conn) (state g back) f → HasCleanDisk (state g back) → IsFound (state g conn) k → IsToldSo g (state g conn) f
+  told_so k conn back f well told clean (inl held) = inl (told.own clean (λ _. well_sound (state g conn) k held well))
+  told_so k conn back f well told clean (inr before) = of_move (state g conn) (state g back) f told clean (told.own_before clean (λ _. well_before (state g conn) k before well))
+
   pub stepped : (k : Book) (l : Life S) → IsWell k → Begins g k l → IsLife g l → Step k l
   stepped k (Lived conn first qs last bs ds) well begin (clean, opens, has, runs) =
       let ours : IsOurs (state g conn) = found_ours (state g conn) k begin in
@@ -209,9 +224,9 @@ module _ {S : Type 0} (g : Ghosts S) where
       }
   stepped k (Refused conn f back) well begin (clean, told) =
       let its = told.holds clean k begin in
-      let held = λ (was : HasCleanDisk (state g conn)). (begin was).1 in
+      let was = (told.stops clean k (λ old. (begin old).1)).0 in
       record {
-        found = (its, told.own clean (λ was. well_sound (state g conn) k (held was) well), told.why clean (found_ours (state g conn) k held));
+        found = (its, told_so k conn back f well told clean (begin was).1, told.why clean);
         works = tt;
         answered = tt;
         left = λ db may. ([], inl refl, its.stops db may);

@@ -9,14 +9,16 @@ use Rattle.flow_base.specs.declared.fault.Fault.TheVariants as fault
 use Rattle.flow_check.specs.Language.{is_program, meaning_of}
 use Rattle.flow_model.specs.Book.{Book}
 use Rattle.flow_tables.specs.Faults.{Since}
-use Rattle.flow_tables.specs.Opening.{HasCause, HasOtherFormat, IsFirstDamage, IsOfRows, IsOfStore, StopsOpening}
-use Rattle.flow_tables.specs.Owned.{IsFound, IsOurs, LeavesMade, state_of}
+use Rattle.flow_move.specs.Moves.{HasFirstFormat, IsOfMove}
+use Rattle.flow_sql.specs.Past.{HasPast, past_tables}
+use Rattle.flow_tables.specs.Opening.{HasCause, IsFirstDamage, IsOfRows, IsOfStore, StopsOpening}
+use Rattle.flow_tables.specs.Owned.{IsCurrent, IsFound, LeavesMade, state_of}
 use Rattle.flow_tables.specs.States.{HasTables}
 use Rattle.flow_tables.specs.Stored.{tables_in}
 use Rattle.flow_commit.specs.Keeping.{Keeping, IsFit, KeepsBook}
 use Rattle.flow_recover.specs.declared.positions.Position.{Position}
 use Rattle.flow_recover.specs.Positions.{ArePositions, IsOpenRun, IsStanding}
-use Rattle.flow_recover.specs.Recovering.{HoldsSound, IsLeft, IsOfRecovery, StillHolds}
+use Rattle.flow_recover.specs.Recovering.{HasNeitherFormat, HoldsSound, HoldsSoundBefore, IsLeft, IsOfRecovery, StillHolds}
 
 -- each open run of the book stands under its text
 abbrev pub AllStand : Book → Type 0
@@ -46,13 +48,15 @@ pub record KeepsAgain {S : Type 0} (g : Ghosts S) (k : Keeping S) (b : Book) : T
 
 -- What is told of a store that wasn't opened, which was and is in these states.
 pub record IsUnopened {S : Type 0} (g : Ghosts S) (from to : State) (f : Fault) : Type 0 where
-  -- E01, E68 and E80 to E83 alone are told: E82 and E83 only where the tables say so.
+  -- E01, E68 and E80 to E84 alone are told: E82 and E83 only where the tables say so, and E84 only where the first format was read.
   pub among : IsOfRecovery f
-  pub version : HasCleanDisk to → f ≡ fault.BadVersion → HasOtherFormat g to
+  pub version : HasCleanDisk to → f ≡ fault.BadVersion → HasNeitherFormat g to
+  pub moving : HasCleanDisk to → f ≡ fault.Unknown → HasFirstFormat g from
   pub damaged : HasCleanDisk to → (HasCleanDisk from → HasTables from.committed) → IsFirstDamage is_program (tables_in from.committed) f
+  pub damaged_before : HasCleanDisk to → (HasCleanDisk from → HasPast from.committed) → IsFirstDamage is_program (past_tables from.committed.trees) f
   pub cause : HasCleanDisk to → HasCause g f
   -- Over our tables, or none, E80 comes of the disk or of a limit on steps, E81 of such a limit or of a text that isn't UTF-8.
-  pub why : HasCleanDisk to → IsOurs from → StopsOpening g from to f
+  pub why : HasCleanDisk to → IsCurrent from → StopsOpening g from to f
   -- no failure of the disk is forgotten, and the limit on the steps of a query stays
   pub since : Since from to
   -- The store is as it was, or the book that was found is kept, and E68 names its least run that doesn't replay.
@@ -61,7 +65,10 @@ pub record IsUnopened {S : Type 0} (g : Ghosts S) (from to : State) (f : Fault) 
   pub ended : HasCleanDisk to → to.in_transaction ≡ false
   -- Tables that stand for a sound book, or none, are refused only where the store fails, or isn't ours.
   pub own : HasCleanDisk to → (HasCleanDisk from → HoldsSound from) → IsOfStore f
-  -- A stop leaves what it could leave before, or the tables made for the book that was found.
+  -- Those of the first format too, and where their move isn't committed.
+  pub own_before : HasCleanDisk to → (HasCleanDisk from → HoldsSoundBefore from) → IsOfMove f
+  -- A stop leaves what it could leave before, or the tables made for the book that was found: new ones, or those to which a store of the
+  -- first format is moved.
   pub stops : HasCleanDisk to → (b : Book) → (HasCleanDisk from → IsFound from b) → HasCleanDisk from × LeavesMade from to b
   -- Over an open connection that held a book it is held on: over what a stop left of one, over a connection that was closed while
   -- it kept one, and over a store without tables.

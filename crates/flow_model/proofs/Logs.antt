@@ -7,7 +7,7 @@ use Rattle.flow_base.specs.declared.command.Command.{Command}
 use Rattle.flow_base.specs.declared.command.Reply.{Reply}
 use Rattle.flow_model.specs.Book.{Book, nth}
 use Rattle.flow_model.specs.Apply.{Rules, outcome, after_one, after, replies}
-use Rattle.flow_model.specs.Logs.{AfterCut, RepliesCut, AfterOneMore, RepliesInOrder}
+use Rattle.flow_model.specs.Logs.{AfterCut, RepliesCut, AfterOneMore, RepliesInOrder, Entry, limited, entered, after_entry, entry_reply, after_log, log_replies, AfterOneLimit, RepliesOneLimit, AfterLogCut, LogRepliesCut}
 use Rattle.flow_model.specs.World.{Receipt, receipts_from}
 
 pub after_cut : AfterCut
@@ -28,6 +28,28 @@ replies_one_more u b l c = replies_cut u b l (c ∷ [])
 pub length-replies : (u : Rules) (b : Book) (l : List Command) → length (replies u b l) ≡ length l
 length-replies u b [] = refl
 length-replies u b (c ∷ cs) = ap suc (length-replies u (after_one u b c) cs)
+
+-- Logs with limits.
+
+pub after_log_cut : AfterLogCut
+after_log_cut u b [] m = refl
+after_log_cut u b (e ∷ es) m = after_log_cut u (after_entry u b e) es m
+
+pub log_replies_cut : LogRepliesCut
+log_replies_cut u b [] m = refl
+log_replies_cut u b (e ∷ es) m = ap (λ rs. entry_reply u b e ∷ rs) (log_replies_cut u (after_entry u b e) es m)
+
+pub length-log_replies : (u : Rules) (b : Book) (l : List Entry) → length (log_replies u b l) ≡ length l
+length-log_replies u b [] = refl
+length-log_replies u b (e ∷ es) = ap suc (length-log_replies u (after_entry u b e) es)
+
+pub after_one_limit : AfterOneLimit
+after_one_limit u n b [] = refl
+after_one_limit u n b (c ∷ cs) = after_one_limit u n (after_one (limited u n) b c) cs
+
+pub replies_one_limit : RepliesOneLimit
+replies_one_limit u n b [] = refl
+replies_one_limit u n b (c ∷ cs) = ap (λ rs. (outcome (limited u n) b c).reply ∷ rs) (replies_one_limit u n (after_one (limited u n) b c) cs)
 
 -- Places.
 

@@ -43,7 +43,7 @@ pub record Rules : Type 0 where
 
 -- the most events of a history, but for the one that closes a full one
 abbrev pub event_limit : ℕ
-event_limit = 2046
+event_limit = 8190
 
 -- the rules of the engine, by what texts mean
 abbrev pub rules_of : (Bytes → Result Program TextFault) → Rules

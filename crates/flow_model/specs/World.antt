@@ -9,7 +9,8 @@ use Rattle.flow_base.specs.declared.command.Command.{Command}
 use Rattle.flow_base.specs.declared.command.Command.TheVariants as command
 use Rattle.flow_base.specs.declared.command.Reply.{Reply}
 use Rattle.flow_model.specs.Book.{Book, nth}
-use Rattle.flow_model.specs.Apply.{Rules, task_at, after, replies}
+use Rattle.flow_model.specs.Apply.{Rules, task_at}
+use Rattle.flow_model.specs.Logs.{Entry, entered, commands_in, after_log, log_replies}
 use Rattle.flow_model.specs.Sound.{IsSound}
 
 -- An attempt of an activity, as it is handed out.
@@ -47,8 +48,9 @@ pub data Stage : Type 0 where
 pub record World : Type 0 where
   pub base : Book
   pub inbox : List Command
-  pub batch : List Command  -- what is taken; empty where nothing is
-  pub log : List Command  -- what was committed, over all lives
+  pub limit : ℕ  -- the most events of a history, in this life
+  pub batch : List Entry  -- what is taken; empty where nothing is
+  pub log : List Entry  -- what was committed, over all lives
   pub may : List Book  -- the books that a stop may leave
   pub opening : ℕ  -- the length of the log when this life began
   pub published : ℕ  -- how many of the log's commands are published
@@ -57,14 +59,16 @@ pub record World : Type 0 where
   pub stage : Stage
 
 -- the commands that can be in the book that is found
-abbrev pub accepted : World → List Command
+abbrev pub accepted : World → List Entry
 accepted w = w.log ++ w.batch
 
-abbrev pub first : Book → World
-first base =
+-- a world in whose first life a history has at most so many events
+abbrev pub first : ℕ → Book → World
+first limit base =
     record {
       base = base;
       inbox = [];
+      limit = limit;
       batch = [];
       log = [];
       may = base ∷ [];
@@ -90,6 +94,7 @@ pub data Step : Type 0 where
   Dispatch : Attempt → Step
   Crash : (found : Book) → Step
   Reopen : Step
+  Migrate : Step  -- a life moves the store, so that its histories have the limit of the rules
 
 -- What a step makes of a world. Out of place it makes nothing of it.
 
@@ -115,7 +120,7 @@ failure reason at a = command.Fail a.run a.event a.attempt reason at
 abbrev pub taken : World → Stage → ℕ → World
 taken w Idle k =
     if nat_le 1 k && nat_le k batch_limit && nat_le k (length w.inbox)
-    then record w { batch = take k w.inbox; inbox = drop k w.inbox; stage = Writing }
+    then record w { batch = entered w.limit (take k w.inbox); inbox = drop k w.inbox; stage = Writing }
     else w
 taken w st k = w
 
@@ -128,12 +133,12 @@ not_rolled_back w Writing = record w { stage = Halted }
 not_rolled_back w st = w
 
 abbrev pub commit_begun : Rules → World → Stage → World
-commit_begun u w Writing = record w { stage = Committing; may = w.may ++ after u w.base (w.log ++ w.batch) ∷ [] }
+commit_begun u w Writing = record w { stage = Committing; may = w.may ++ after_log u w.base (w.log ++ w.batch) ∷ [] }
 commit_begun u w st = w
 
 abbrev pub commit_done : Rules → World → Stage → World
 commit_done u w Committing =
-    record w { stage = Idle; log = w.log ++ w.batch; batch = []; may = after u w.base (w.log ++ w.batch) ∷ [] }
+    record w { stage = Idle; log = w.log ++ w.batch; batch = []; may = after_log u w.base (w.log ++ w.batch) ∷ [] }
 commit_done u w st = w
 
 abbrev pub commit_failed : World → Stage → World
@@ -152,28 +157,33 @@ published_in u w Stopped = w
 published_in u w st =
     record w {
       receipts = w.receipts
-          ++ receipts_from w.opening (suc (w.published - w.opening)) (drop w.published w.log) (drop w.published (replies u w.base w.log));
+          ++ receipts_from w.opening (suc (w.published - w.opening)) (drop w.published (commands_in w.log)) (drop w.published (log_replies u w.base w.log));
       published = length w.log;
     }
 
 abbrev pub dispatched_in : Rules → World → Stage → Attempt → World
 dispatched_in u w Stopped a = w
-dispatched_in u w st a = if is_open_task (after u w.base w.log) a then record w { dispatched = a ∷ w.dispatched } else w
+dispatched_in u w st a = if is_open_task (after_log u w.base w.log) a then record w { dispatched = a ∷ w.dispatched } else w
 
 abbrev pub stopped : World → Book → World
 stopped w found = record w { inbox = []; may = found ∷ []; stage = Stopped }
 
-abbrev pub opened : World → List Command → World
+abbrev pub opened : World → List Entry → World
 opened w log = record w { log = log; batch = []; stage = Idle; opening = length log; published = length log }
+
+-- The store is moved, before this life commits anything. Book, log and what a stop may leave stay.
+abbrev pub migrated : Rules → World → Stage → World
+migrated u w Idle = if nat_eq (length w.log) w.opening then record w { limit = u.limit } else w
+migrated u w st = w
 
 -- An opening: the log stays where it gives the book found, else the whole batch is part of it.
 abbrev pub Opens : Rules → World → Stage → World → Type 0
 Opens u w Stopped v =
-    (Contains w.may (after u w.base w.log) × (v ≡ opened w w.log))
-    ⊎ ((Contains w.may (after u w.base w.log) → ⊥) × (v ≡ opened w (w.log ++ w.batch)))
+    (Contains w.may (after_log u w.base w.log) × (v ≡ opened w w.log))
+    ⊎ ((Contains w.may (after_log u w.base w.log) → ⊥) × (v ≡ opened w (w.log ++ w.batch)))
 Opens u w st v = v ≡ w
 
--- One step leads from the world w to v.
+-- One step leads from the world w to v. The rules are those of the programs of now: lives before may have had another limit.
 abbrev pub Goes : Rules → World → Step → World → Type 0
 Goes u w (Submit c) v = v ≡ submitted w w.stage c
 Goes u w (Report n value at) v = v ≡ reported w w.stage (slice_get w.dispatched n) (completion value at)
@@ -189,6 +199,7 @@ Goes u w Publish v = v ≡ published_in u w w.stage
 Goes u w (Dispatch a) v = v ≡ dispatched_in u w w.stage a
 Goes u w (Crash found) v = Contains w.may found × (v ≡ stopped w found)
 Goes u w Reopen v = Opens u w w.stage v
+Goes u w Migrate v = v ≡ migrated u w w.stage
 
 -- These steps lead from the world w to v.
 abbrev pub Comes : Rules → World → List Step → World → Type 0
@@ -198,19 +209,19 @@ Comes u w (s ∷ ss) v = (x : World) × (Goes u w s x × Comes u x ss v)
 abbrev pub IsBeginning : {A : Type 0} → List A → List A → Type 0
 IsBeginning {A} b all = (rest : List A) × (all ≡ b ++ rest)
 
--- The command stands in these commands at its place, counted from the opening of its life, with the reply that it has there.
-pub record IsIn (u : Rules) (base : Book) (b : List Command) (r : Receipt) : Type 0 where
-  pub command : nth b (r.opening + r.place) ≡ Some r.command
-  pub reply : nth (replies u base b) (r.opening + r.place) ≡ Some r.reply
+-- The command stands in this log at its place, counted from the opening of its life, with the reply that it has there.
+pub record IsIn (u : Rules) (base : Book) (b : List Entry) (r : Receipt) : Type 0 where
+  pub command : nth (commands_in b) (r.opening + r.place) ≡ Some r.command
+  pub reply : nth (log_replies u base b) (r.opening + r.place) ≡ Some r.reply
 
-abbrev pub HoldsAcknowledged : Rules → World → List Command → Type 0
+abbrev pub HoldsAcknowledged : Rules → World → List Entry → Type 0
 HoldsAcknowledged u w b = AllByRecursion (IsIn u w.base b) w.receipts
 
 -- what is known of a book that a stop may leave: it is sound, and comes from the log, or from the log and the whole batch
 pub record Left (u : Rules) (w : World) (book : Book) : Type 0 where
   pub sound : IsSound u book
-  pub kept : List Command
-  pub book_is : book ≡ after u w.base kept
+  pub kept : List Entry
+  pub book_is : book ≡ after_log u w.base kept
   pub whole : (kept ≡ w.log) ⊎ (kept ≡ w.log ++ w.batch)
   pub beginning : IsBeginning kept (accepted w)
   pub acknowledged : HoldsAcknowledged u w kept
@@ -222,14 +233,14 @@ pub record IsSafe (u : Rules) (w : World) : Type 0 where
 
 -- what an opening of the world w takes over into v
 pub record TakesOver (u : Rules) (w v : World) : Type 0 where
-  pub is_found : (book : Book) → Contains w.may book → book ≡ after u v.base v.log
+  pub is_found : (book : Book) → Contains w.may book → book ≡ after_log u v.base v.log
   pub whole : (v.log ≡ w.log) ⊎ (v.log ≡ w.log ++ w.batch)
   pub acknowledged : HoldsAcknowledged u w v.log
 
--- From a sound book all steps lead to safe worlds alone.
+-- From a sound book all steps lead to safe worlds alone, whatever the limit of the first life.
 abbrev pub WorldIsSafe : Rules → Type 0
-WorldIsSafe u = (base : Book) (steps : List Step) (w : World) → IsSound u base → Comes u (first base) steps w → (w.base ≡ base) × IsSafe u w
+WorldIsSafe u = (limit : ℕ) (base : Book) (steps : List Step) (w : World) → IsSound u base → Comes u (first limit base) steps w → (w.base ≡ base) × IsSafe u w
 
 -- Each opening after a stop keeps what was promised.
 abbrev pub WorldOpensWell : Rules → Type 0
-WorldOpensWell u = (base : Book) (steps : List Step) (w v : World) → Comes u (first base) steps w → w.stage ≡ Stopped → Goes u w Reopen v → TakesOver u w v
+WorldOpensWell u = (limit : ℕ) (base : Book) (steps : List Step) (w v : World) → Comes u (first limit base) steps w → w.stage ≡ Stopped → Goes u w Reopen v → TakesOver u w v

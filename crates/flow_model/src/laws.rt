@@ -1,4 +1,4 @@
-ghost use Rattle.flow_model.specs.Logs.{AfterCut, AfterOneMore, RepliesCut, RepliesInOrder};
+ghost use Rattle.flow_model.specs.Logs.{AfterCut, AfterLogCut, AfterOneLimit, AfterOneMore, LogRepliesCut, RepliesCut, RepliesInOrder, RepliesOneLimit};
 ghost use Rattle.flow_model.specs.Stands.{AtMostOne, NotBoth};
 ghost use Rattle.flow_model.specs.Turned.{TurnIsComputed, ComputedIsTurn, PositionIsComputed, OneMoreTurnStands, FirstTurnStands};
 ghost use Rattle.flow_model.specs.Verdict.{OneMismatch, StandsOrFails, VerdictOfMismatch, VerdictOfStanding};
@@ -37,4 +37,12 @@ pub fn logs_are_cut_anywhere()
     ensures replies { RepliesCut }
     ensures one_more { AfterOneMore }
     ensures in_order { RepliesInOrder }
+{}
+
+/// The same of a log in which each command has the limit of its life; and where all have one, it is a list of commands under it.
+pub fn logs_have_limits()
+    ensures after { AfterLogCut }
+    ensures replies { LogRepliesCut }
+    ensures one_after { AfterOneLimit }
+    ensures one_replies { RepliesOneLimit }
 {}

@@ -1,5 +1,6 @@
 -- What the opening of a store gives.
-use Rattle.std.specs.Prelude.{◌≡◌, ◌⊎◌, List, Err, IsTrue}
+use Rattle.std.specs.Prelude.{◌≡◌, ◌⊎◌, Bool, List, [], Err, IsTrue, length, true}
+use Rattle.std.specs.List.{AllByRecursion}
 use Rattle.sqlite_trees.specs.declared.store.Store.{Ghosts}
 use Rattle.sqlite_trees.specs.declared.error.StoreError.{StoreError}
 use Rattle.sqlite_rules.specs.Calls.{Excuses}
@@ -16,8 +17,13 @@ use Rattle.flow_model.specs.Sound.{IsSound}
 use Rattle.flow_tables.specs.Layout.{no_schema}
 use Rattle.flow_tables.specs.Stored.{tables_in}
 use Rattle.flow_tables.specs.States.{HasEnded, HasTables}
-use Rattle.flow_tables.specs.Opening.{IsOfRows, StandFor}
-use Rattle.flow_tables.specs.Owned.{IsFileOf, IsFound, IsOurs, Keeps}
+use Rattle.flow_rows.specs.Rows.{One, Tables, rows_in}
+use Rattle.flow_rows.specs.Standing.{AreKept}
+use Rattle.flow_sql.specs.Past.{HasPast, past_tables}
+use Rattle.sqlite.specs.Held.{Held, state}
+use Rattle.flow_tables.specs.Opening.{HasFormat, HasOtherFormat, IsOfRows, StandFor}
+use Rattle.flow_move.specs.Moves.{HasFirstFormat, HasNotFirst, IsFileOfEither}
+use Rattle.flow_tables.specs.Owned.{IsFileOf, IsFound, IsHeld, IsHeldBefore, IsOurs, IsPastFileOf, Keeps}
 use Rattle.flow_commit.specs.Keeping.{Keeping, IsFit, KeepsBook, rules}
 use Rattle.flow_recover.specs.declared.positions.Position.{Position}
 use Rattle.flow_recover.specs.Positions.{ArePositions, IsLeastMismatch, Names}
@@ -29,6 +35,16 @@ pub record IsRecovered {S : Type 0} (g : Ghosts S) (from : State) (k : Keeping S
   -- its texts are programs, and its runs keep the rules
   pub stands : IsOfRows is_program k.found
   pub positions : ArePositions meaning_of k.found qs
+
+-- Tables of the first format stand for a book: they are its rows, its texts are programs, and its runs keep the rules.
+pub record StandBefore (t : Tables) (b : Book) : Type 0 where
+  pub texts : AllByRecursion (λ text. is_program text ≡ true) b.texts
+  pub runs : AreKept One (length b.texts) [] b.runs
+  pub same : t ≡ rows_in One b
+
+-- They stand for a sound one, so only the store can refuse their opening, or their move.
+abbrev pub HoldsSoundBefore : State → Type 0
+HoldsSoundBefore s = (b : Book) × HasPast s.committed × StandBefore (past_tables s.committed.trees) b × IsSound rules b
 
 -- A store holds nothing that could be refused: its tables stand for a sound book, or it has none.
 abbrev pub HoldsSound : State → Type 0
@@ -57,9 +73,9 @@ IsBack g k qs b = IsFit g k × KeepsBook g k b × ArePositions meaning_of b qs
 abbrev pub AreBlank : Trees → Type 0
 AreBlank db = catalog.IsSound no_schema db
 
--- The trees of a store hold this book: our tables tell it, or there are none and it is the empty one.
+-- The trees of a store hold this book: our tables tell it, or those of the first format do, or there are none and it is the empty one.
 abbrev pub HoldBook : Trees → Book → Type 0
-HoldBook db b = IsFileOf db b ⊎ (AreBlank db × (b ≡ no_book))
+HoldBook db b = IsFileOf db b ⊎ ((AreBlank db × (b ≡ no_book)) ⊎ IsPastFileOf db b)
 
 -- A store that held this book still does: what an open connection has committed, and what a stop leaves. Where our tables were
 -- there they are kept.
@@ -70,7 +86,15 @@ pub record StillHolds (from to : State) (b : Book) : Type 0 where
 
 ---- Refusals
 
--- What is told at all: E01, E68, E80 to E83.
+-- The number of the format was read, and was neither ours nor, at once behind that, the first.
+abbrev pub HasNeitherFormat : {S : Type 0} → Ghosts S → State → Type 0
+HasNeitherFormat {S} g new = (mid : Held S) × HasOtherFormat g (state g mid) × HasNotFirst g (state g mid) new
+
+-- Our format was read, or there was no such table and it was made, or the first format was read.
+abbrev pub WasRead : {S : Type 0} → Ghosts S → State → Type 0
+WasRead g start = ((is_there : Bool) × HasFormat g start is_there) ⊎ HasFirstFormat g start
+
+-- What is told at all: E01, E68, E80 to E84.
 abbrev pub IsOfRecovery : Fault → Type 0
 IsOfRecovery (fault.NoMemory _) = Unit {0}
 IsOfRecovery (fault.Mismatch run place name) = Unit {0}
@@ -78,6 +102,7 @@ IsOfRecovery fault.StoreRefused = Unit {0}
 IsOfRecovery fault.NotOurs = Unit {0}
 IsOfRecovery fault.BadVersion = Unit {0}
 IsOfRecovery (fault.Damaged d) = Unit {0}
+IsOfRecovery fault.Unknown = Unit {0}
 IsOfRecovery f = ⊥
 
 -- What is told once the tables were opened: E01 and E68.
@@ -86,17 +111,23 @@ IsPastTables (fault.NoMemory _) = Unit {0}
 IsPastTables (fault.Mismatch run place name) = Unit {0}
 IsPastTables f = ⊥
 
+-- The last commit left this book, in either format, as far as the connection is open, and each stop at this moment leaves it so.
+pub record KeepsEither (s : State) (b : Book) : Type 0 where
+  pub kept : IsTrue s.is_open → IsHeld s b ⊎ IsHeldBefore s b
+  pub stops : (db : Trees) → s.may_leave db → IsFileOfEither db b
+
 -- The book that was found is kept, and its rows stand for it: they have no damage. Where it is E68, this is the least of its
 -- open runs whose history doesn't stand, with its first mismatch.
 pub record IsKeptOn (from to : State) (f : Fault) : Type 0 where
   pub book : Book
   pub found : IsFound from book
-  pub kept : Keeps to book
+  pub kept : KeepsEither to book
   pub stands : IsOfRows is_program book
   pub mismatch : Names {A = Unit {0}} (Err f) (IsLeastMismatch meaning_of book)
 
 -- What a refusal leaves. E80 to E83 are of the tables, and the store is as it was; E68 is of the positions, and the book that
--- was found is kept. Memory may be wanting for either.
+-- was found is kept. Memory may be wanting for either. Behind E84, which a move alone is refused for, a connection that is still open
+-- shows the store as it was.
 abbrev pub IsLeft : State → State → Fault → Type 0
 IsLeft from to (fault.NoMemory _) = HasEnded from to ⊎ (IsOurs from → IsKeptOn from to (fault.NoMemory _))
 IsLeft from to (fault.Mismatch run place name) = IsOurs from → IsKeptOn from to (fault.Mismatch run place name)

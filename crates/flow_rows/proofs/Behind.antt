@@ -19,7 +19,7 @@ use Rattle.flow_rows.specs.declared.rows.RunRow.{RunRow}
 use Rattle.flow_rows.specs.declared.rows.EventRow.{EventRow}
 use Rattle.flow_rows.specs.declared.rows.TimerRow.{TimerRow}
 use Rattle.flow_rows.specs.declared.rows.OutboxRow.{OutboxRow}
-use Rattle.flow_rows.specs.Rows.{Tables, text_rows, run_rows, event_row, timer_row, task_row, of_run}
+use Rattle.flow_rows.specs.Rows.{Two, Tables, text_rows, run_rows, event_row, timer_row, task_row, of_run}
 use Rattle.flow_rows.specs.Told.{AreRead, AreTasksWithin, IsTold, Tells}
 use Rattle.flow_rows.proofs.BookTables.{nth_is}
 use Rattle.flow_rows.proofs.Undamaged.{event_rows_of, timer_rows_of, task_rows_of}
@@ -79,7 +79,7 @@ pub timers_below : (t : Tables) (b : Book) (n : ℕ) (r : Run) → Tells t b →
     → AllByRecursion (λ (x : TimerRow). int_lt x.id (pos (length r.history + 1)) ≡ true) (t.timers (pos n))
 timers_below t b n r h there =
     let told = run_is_told b n r h.runs there in
-    let all = timers_within (length r.history) 1 [] r.history told.events (omega arith) tt in
+    let all = timers_within Two (length r.history) 1 [] r.history told.events (omega arith) tt in
     subst (TimersBelow (length r.history + 1)) (sym (timer_rows_read t b n r h there))
     (timer_rows_below (pos n) (length r.history) _ (left_within (is_open (state_of r.history)) (length r.history) (open_timers r.history) all))
 

@@ -15,12 +15,12 @@ use Rattle.flow_rows.specs.declared.rows.EventRow.{EventRow}
 use Rattle.flow_rows.specs.declared.rows.RunRow.{RunRow}
 use Rattle.flow_rows.specs.declared.rows.OutboxRow.{OutboxRow}
 use Rattle.flow_base.specs.declared.fault.Table.TheVariants as table
-use Rattle.flow_rows.specs.Rows.{events_of, tasks_of, request_text, open_number, run_row, run_rows, activities_left}
+use Rattle.flow_rows.specs.Rows.{Format, AreRowsIn, events_of, tasks_of, request_text, open_number, run_row, run_rows, activities_left}
 use Rattle.flow_rows.specs.Damages.{unless, closes, flow_fits, has_request, request_is_new, request_fits, is_open_of, flow_is_free, mark_fits, cells_fit, run_fits, damages_of_runs, is_begun, damages_from, damages_of_history, damages_of_events, read_event, history_from, history_of, histories, differs, task_difference, damages_of_outbox}
 use Rattle.flow_rows.specs.Standing.{IsRequest, IsKept, AreApart, AreKept}
 use Rattle.flow_rows.specs.Told.{whole, request_of, run_told}
 use Rattle.flow_rows.proofs.BookTexts.{front_none, rest_none, holds, both_left, both_right}
-use Rattle.flow_rows.proofs.Histories.{is_event, events_are}
+use Rattle.flow_rows.proofs.Histories.{is_event, events_are, in_format}
 use Rattle.flow_rows.proofs.Openness.{is_open_where}
 use Rattle.flow_rows.proofs.LeftOpen.{in_range, tasks_named, tasks_are}
 
@@ -99,15 +99,15 @@ no_difference : (run : ℤ) (o : Option ℤ) → differs table.Outbox run o ≡ 
 no_difference run None h = refl
 no_difference run (Some id) h = absurd (let same = h in cc)
 
-run_kept : (count : ℕ) (events : List EventRow) (outbox : List OutboxRow) (before : List RunRow) (n : ℕ) (r : RunRow) → HasCells count before n r → IsHistory events n
-    → task_difference (history_of events (pos n)) (tasks_of outbox (pos n)) (activities_left (history_of events (pos n))) ≡ None → IsKept count (book_run events outbox n r)
-run_kept count events outbox before n r cells h tasks =
+run_kept : (f : Format) (count : ℕ) (events : List EventRow) (outbox : List OutboxRow) (before : List RunRow) (n : ℕ) (r : RunRow) → HasCells count before n r → IsHistory events n → AreRowsIn f events
+    → task_difference (history_of events (pos n)) (tasks_of outbox (pos n)) (activities_left (history_of events (pos n))) ≡ None → IsKept f count (book_run events outbox n r)
+run_kept f count events outbox before n r cells h formed tasks =
     record {
       flow = (leb-true 1 (length r.flow) (both_left (nat_le 1 (length r.flow)) (nat_le (length r.flow) 64) cells.flow), leb-true (length r.flow) 64 (both_right (nat_le 1 (length r.flow)) (nat_le (length r.flow) 64) cells.flow));
       request = request_kept before r.req cells.request;
       text = (in_range 1 count r.textnum cells.least cells.most).1;
       begun = history_begins (pos n) (events_of events (pos n)) h.begun h.undamaged;
-      events = events_are (pos n) 1 (events_of events (pos n)) h.undamaged;
+      events = events_are f (pos n) 1 (events_of events (pos n)) (in_format f (pos n) events formed) h.undamaged;
       tasks = (tasks_are (history_of events (pos n)) (pos n) (tasks_of outbox (pos n)) (activities_left (history_of events (pos n))) (tasks_named (pos n) outbox) tasks).1;
     }
 
@@ -175,11 +175,11 @@ pub more_rows : (k : ℕ) (bs : List Run) (b : Run) → run_rows k (bs ++ b ∷ 
 more_rows k [] b = ap (λ n. run_row n b ∷ []) (omega arith)
 more_rows k (c ∷ cs) b = ap (λ rs. run_row k c ∷ rs) (more_rows (k + 1) cs b ∙ ap (λ n. run_rows (k + 1) cs ++ run_row n b ∷ []) (omega arith))
 
-pub runs_are : (count : ℕ) (events : List EventRow) (outbox : List OutboxRow) (bs : List Run) (n : ℕ) (rs : List RunRow) → n ≡ 1 + length bs
+pub runs_are : (f : Format) (count : ℕ) (events : List EventRow) (outbox : List OutboxRow) (bs : List Run) (n : ℕ) (rs : List RunRow) → n ≡ 1 + length bs → AreRowsIn f events
     → damages_of_runs count events (run_rows 1 bs) n rs ≡ [] → damages_of_events events n rs ≡ [] → damages_of_outbox outbox n (histories events n rs) ≡ []
-    → (run_rows n (book_runs events outbox n rs) ≡ rs) × AreKept count bs (book_runs events outbox n rs)
-runs_are count events outbox bs n [] next runs es os = (refl, tt)
-runs_are count events outbox bs n (r ∷ rs) next runs es os =
+    → (run_rows n (book_runs events outbox n rs) ≡ rs) × AreKept f count bs (book_runs events outbox n rs)
+runs_are f count events outbox bs n [] next formed runs es os = (refl, tt)
+runs_are f count events outbox bs n (r ∷ rs) next formed runs es os =
     let fits = holds (run_fits count events (run_rows 1 bs) n r) table.Run (pos n) (pos 0) (front_none _ (damages_of_runs count events (run_rows 1 bs ++ r ∷ []) (n + 1) rs) runs) in
     let two = both_left (cells_fit count (run_rows 1 bs) n r && mark_fits events (pos n) r.isopen) (flow_is_free (run_rows 1 bs) r) fits in
     let free = both_right (cells_fit count (run_rows 1 bs) n r && mark_fits events (pos n) r.isopen) (flow_is_free (run_rows 1 bs) r) fits in
@@ -192,12 +192,12 @@ runs_are count events outbox bs n (r ∷ rs) next runs es os =
     let rows : run_rows 1 bs ++ r ∷ [] ≡ run_rows 1 (bs ++ run ∷ []) =
     ap (λ x. run_rows 1 bs ++ x ∷ []) (sym same) ∙ ap (λ m. run_rows 1 bs ++ run_row m run ∷ []) next ∙ sym (more_rows 1 bs run) in
     let later = rest_none (unless (run_fits count events (run_rows 1 bs) n r) table.Run (pos n) (pos 0)) _ runs in
-    let more = runs_are count events outbox (bs ++ run ∷ []) (n + 1) rs (omega (arith, next, one_longer bs run))
+    let more = runs_are f count events outbox (bs ++ run ∷ []) (n + 1) rs (omega (arith, next, one_longer bs run)) formed
     (subst (λ before. damages_of_runs count events before (n + 1) rs ≡ []) rows later)
     (rest_none (damages_of_history (pos n) (events_of events (pos n))) _ es) (rest_none (differs table.Outbox (pos n) _) _ os) in (
       ap (λ x. x ∷ run_rows (n + 1) (book_runs events outbox (n + 1) rs)) same ∙ ap (λ xs. r ∷ xs) more.0,
       (
-        run_kept count events outbox (run_rows 1 bs) n r cells h tasks,
+        run_kept f count events outbox (run_rows 1 bs) n r cells h formed tasks,
         apart_all run 1 bs (λ q is. new_request (run_rows 1 bs) r.req q cells.request is) (λ is. free_flow (run_rows 1 bs) r free (sym (ap (λ (x : RunRow). x.isopen) same) ∙ ap open_number is)),
         more.1,
       ),

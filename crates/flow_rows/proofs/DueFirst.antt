@@ -14,7 +14,7 @@ use Rattle.flow_model.proofs.DueFirst.{IsLeast, And, Has, due_at, InRuns, the_le
 use Rattle.flow_model.specs.Configuration.{is_open}
 use Rattle.flow_model.specs.Open.{open_timers, timers_left, state_of}
 use Rattle.flow_rows.specs.declared.rows.TimerRow.{TimerRow}
-use Rattle.flow_rows.specs.Rows.{Tables, rows_of, timers_of, is_timer_of, timer_row, of_run}
+use Rattle.flow_rows.specs.Rows.{Two, Tables, rows_of, timers_of, is_timer_of, timer_row, of_run}
 use Rattle.flow_rows.specs.Told.{IsTold, Tells}
 use Rattle.flow_rows.specs.Dues.{is_timer, due_of, due_in, with_due, least_of_rows}
 use Rattle.flow_rows.proofs.BookTables.{nth_is}
@@ -93,7 +93,7 @@ left_open h false t has = absurd has
 -- a timer of a run is of one of its events
 numbered : (r : Run) (t : Timer) → IsTold r → Has (timers_left r.history) t → 1 ≤ t.id
 numbered r t told has =
-    has_all (λ (x : Timer). 1 ≤ x.id) (open_timers r.history) t (timers_numbered 1 [] r.history told.events (omega arith) tt) (left_open r.history (is_open (state_of r.history)) t has)
+    has_all (λ (x : Timer). 1 ≤ x.id) (open_timers r.history) t (timers_numbered Two 1 [] r.history told.events (omega arith) tt) (left_open r.history (is_open (state_of r.history)) t has)
 
 -- a row of the run of this number tells a timer of it
 told_by_row : (b : Book) (z : ℤ) (row : TimerRow) → Has ((rows_of b).timers z) row → InRuns 1 b.runs (due_of row)

@@ -37,7 +37,7 @@ not_less a b most = by_case (int_lt (pos a) (pos b)) refl
     by_case true is = absurd (let less = ltb-true a b is in omega (arith, less, most))
     by_case false is = is
 
-put_last : {A B : Type 0} (key : A → ℤ) (row : B → A) (x : B) (xs : List B) → AllByRecursion (λ y. int_lt (key (row x)) (key (row y)) ≡ false) xs
+pub put_last : {A B : Type 0} (key : A → ℤ) (row : B → A) (x : B) (xs : List B) → AllByRecursion (λ y. int_lt (key (row x)) (key (row y)) ≡ false) xs
     → put_by key (row x) (map row xs) ≡ map row (xs ++ x ∷ [])
 put_last key row x [] behind = refl
 put_last key row x (y ∷ ys) behind = rw behind.0 (ap (λ l. row y ∷ l) (put_last key row x ys behind.1))

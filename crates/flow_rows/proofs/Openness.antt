@@ -13,12 +13,10 @@ use Rattle.flow_base.specs.declared.event.State.TheVariants as state
 use Rattle.flow_events.specs.Kinds.{kind_number, kind_of}
 use Rattle.flow_model.specs.Configuration.{is_open}
 use Rattle.flow_model.specs.Open.{state_after_one, state_after, state_of}
-use Rattle.flow_events.specs.declared.spelling.Spelling.TheVariants.{Inside}
-use Rattle.flow_events.proofs.Laws.{row_found}
 use Rattle.flow_rows.specs.declared.rows.EventRow.{EventRow}
 use Rattle.flow_rows.specs.Damages.{is_closing, closes, kind_fits, is_begun, damages_of_event, damages_from, read_event, history_from}
 use Rattle.flow_rows.proofs.BookTexts.{front_none, rest_none}
-use Rattle.flow_rows.proofs.Histories.{is_event}
+use Rattle.flow_rows.proofs.Histories.{is_event, kind_read}
 
 and_true : (b : Bool) → (b && true) ≡ b
 and_true true = refl
@@ -89,10 +87,10 @@ on_later : (run : ℤ) (i : ℕ) (s : State) (rs : List EventRow) → 1 < i → 
 on_later run i s [] later none = sym (and_true (is_open s))
 on_later run i s (r ∷ rs) later none =
     let v = is_event run i r (front_none _ (damages_from run (i + 1) rs) none) in
-    let row = (row_found Inside i r.kind r.body v.event v.reads).row in
-    let kind = subst (λ z. int_eq z (pos 1) ≡ false) row.of_kind (later_kind i r.kind later v.kind) in
+    let of_kind = kind_read i r v.event v.reads in
+    let kind = subst (λ z. int_eq z (pos 1) ≡ false) of_kind (later_kind i r.kind later v.kind) in
     let step : is_open (state_after_one s v.event) ≡ (is_open s && not (is_closing r.kind)) =
-    one_on s v.event.id v.event.at v.event.what kind ∙ ap (λ z. is_open s && not (is_closing z)) (sym row.of_kind) in
+    one_on s v.event.id v.event.at v.event.what kind ∙ ap (λ z. is_open s && not (is_closing z)) (sym of_kind) in
     ap (λ o. is_open (state_after s (read_event o ++ history_from (i + 1) rs))) v.reads
     ∙ on_later run (i + 1) (state_after_one s v.event) rs (omega (arith, later)) (rest_none (damages_of_event run i r) _ none)
     ∙ ap (λ b. b && not (list_any closes rs)) step
@@ -107,10 +105,10 @@ pub is_open_where : (run : ℤ) (rs : List EventRow) → is_begun rs ≡ true �
 is_open_where run [] begun none = absurd (let same = begun in cc)
 is_open_where run (r ∷ rs) begun none =
     let v = is_event run 1 r (front_none _ (damages_from run 2 rs) none) in
-    let row = (row_found Inside 1 r.kind r.body v.event v.reads).row in
-    let kind = subst (λ z. int_eq z (pos 1) ≡ true) row.of_kind v.kind in
+    let of_kind = kind_read 1 r v.event v.reads in
+    let kind = subst (λ z. int_eq z (pos 1) ≡ true) of_kind v.kind in
     let step : is_open (state_after_one state.Unbegun v.event) ≡ not (is_closing r.kind) =
-    first_on state.Unbegun v.event.id v.event.at v.event.what kind ∙ ap (λ z. not (is_closing z)) (sym row.of_kind) in
+    first_on state.Unbegun v.event.id v.event.at v.event.what kind ∙ ap (λ z. not (is_closing z)) (sym of_kind) in
     ap (λ o. is_open (state_after state.Unbegun (read_event o ++ history_from 2 rs))) v.reads
     ∙ on_later run 2 (state_after_one state.Unbegun v.event) rs (omega arith) (rest_none (damages_of_event run 1 r) _ none)
     ∙ ap (λ b. b && not (list_any closes rs)) step

@@ -29,10 +29,10 @@ use Rattle.flow_model.specs.Sound.{IsSoundTask, IsSoundRun, IsSound, IsProgram, 
 use Rattle.flow_model.proofs.Tries.{well_formed_tried}
 use Rattle.flow_model.proofs.Starts.{is_start, StartNone, StartsOnce, starts_once, none_left}
 use Rattle.flow_model.specs.Checked.{is_program_by}
-use Rattle.flow_rows.specs.Rows.{activities_left}
+use Rattle.flow_rows.specs.Rows.{Format, Two, activities_left}
 use Rattle.flow_rows.specs.Damages.{tries_of, tries_at}
 use Rattle.flow_rows.specs.Standing.{AreEvents, AreTasks, IsKept, AreApart, AreKept}
-use Rattle.flow_rows.specs.Told.{AreRead, IsTold}
+use Rattle.flow_rows.specs.Told.{AreReadIn, IsTold, IsToldIn}
 use Rattle.flow_rows.specs.Typed.{IsTaskOfTypes}
 use Rattle.flow_rows.proofs.Agreed.{get_middle}
 use Rattle.flow_rows.proofs.BookTables.{nth_is}
@@ -84,18 +84,18 @@ start_is_first (Asked (Complete v)) = refl
 start_is_first (Asked (Fail c t)) = refl
 start_is_first (Asked (ContinueAsNew vs)) = refl
 
-later_events : (i : ℕ) (es : List Event) → 1 < i → AreRead i es → StartNone es → AreEvents i es
-later_events i [] behind read none = tt
-later_events i (e ∷ es) behind read none = (
+later_events : (f : Format) (i : ℕ) (es : List Event) → 1 < i → AreReadIn f i es → StartNone es → AreEvents f i es
+later_events f i [] behind read none = tt
+later_events f i (e ∷ es) behind read none = (
   read.0,
   rw (later i behind) (ap not (start_is_first e.what ∙ none.0)),
   read.1,
-  later_events (i + 1) es (omega (arith, behind)) read.2 none.1,
+  later_events f (i + 1) es (omega (arith, behind)) read.2 none.1,
 )
 
-all_events : (es : List Event) → AreRead 1 es → StartsOnce es → AreEvents 1 es
-all_events [] read once = tt
-all_events (e ∷ es) read once = (read.0, start_is_first e.what ∙ once.0, read.1, later_events 2 es (omega arith) read.2 once.1)
+all_events : (f : Format) (es : List Event) → AreReadIn f 1 es → StartsOnce es → AreEvents f 1 es
+all_events f [] read once = tt
+all_events f (e ∷ es) read once = (read.0, start_is_first e.what ∙ once.0, read.1, later_events f 2 es (omega arith) read.2 once.1)
 
 ---- Its tasks
 
@@ -135,8 +135,8 @@ left_is false ts none = none refl
 
 ---- Each run
 
-kept_run : (meaning : Bytes → Result Program TextFault) → ((text : Bytes) → Means text (meaning text)) → (b : Book) (r : Run) → IsSoundRun (rules_of meaning) b r → IsTold r → IsKept (length b.texts) r
-kept_run meaning means b r sound told =
+kept_run : (meaning : Bytes → Result Program TextFault) → ((text : Bytes) → Means text (meaning text)) → (f : Format) (b : Book) (r : Run) → IsSoundRun (rules_of meaning) b r → IsToldIn f r → IsKept f (length b.texts) r
+kept_run meaning means f b r sound told =
     let there = text_there meaning b r.text sound.program sound.its_text in
     let tried = well_formed_tried sound.program (text_well_formed meaning means b r.text sound.program there) in
     let left : open_activities r.history ≡ activities_left r.history =
@@ -147,14 +147,14 @@ kept_run meaning means b r sound told =
       request = told.types.request;
       text = there.place;
       begun = sound.stands.0;
-      events = all_events r.history told.events (starts_once sound.program r.history sound.place tried sound.stands);
+      events = all_events f r.history told.events (starts_once sound.program r.history sound.place tried sound.stands);
       tasks = are_tasks r r.tasks (activities_left r.history) (sound.activities ∙ ap (map (λ (t : Task). t.event)) left) sound.attempts told.types.tasks;
     }
 
-kept_runs : (meaning : Bytes → Result Program TextFault) → ((text : Bytes) → Means text (meaning text)) → (b : Book) (rs : List Run) → AllByRecursion (IsSoundRun (rules_of meaning) b) rs → AllByRecursion IsTold rs
-    → AllByRecursion (IsKept (length b.texts)) rs
-kept_runs meaning means b [] sound told = tt
-kept_runs meaning means b (r ∷ rs) sound told = (kept_run meaning means b r sound.0 told.0, kept_runs meaning means b rs sound.1 told.1)
+kept_runs : (meaning : Bytes → Result Program TextFault) → ((text : Bytes) → Means text (meaning text)) → (f : Format) (b : Book) (rs : List Run) → AllByRecursion (IsSoundRun (rules_of meaning) b) rs → AllByRecursion (IsToldIn f) rs
+    → AllByRecursion (IsKept f (length b.texts)) rs
+kept_runs meaning means f b [] sound told = tt
+kept_runs meaning means f b (r ∷ rs) sound told = (kept_run meaning means f b r sound.0 told.0, kept_runs meaning means f b rs sound.1 told.1)
 
 ---- One run beside another
 
@@ -181,10 +181,10 @@ module _ (u : Rules) (b : Book) (sound : IsSound u b) (orderly : IsOrderly u b) 
       (λ i x there. apart i (length before) x r (slice_get_within before i x there) (ap (λ rs. slice_get rs i) cut ∙ get_front before (r ∷ rest) i x there)
       (ap (λ rs. slice_get rs (length before)) cut ∙ get_middle before r rest))
 
-  runs_kept : (count : ℕ) (before rs : List Run) → b.runs ≡ before ++ rs → AllByRecursion (IsKept count) rs → AreKept count before rs
-  runs_kept count before [] cut kept = tt
-  runs_kept count before (r ∷ rs) cut kept =
-      (kept.0, all_apart before rs r cut, runs_kept count (before ++ r ∷ []) rs (cut ∙ again before r rs) kept.1)
+  runs_kept : (f : Format) (count : ℕ) (before rs : List Run) → b.runs ≡ before ++ rs → AllByRecursion (IsKept f count) rs → AreKept f count before rs
+  runs_kept f count before [] cut kept = tt
+  runs_kept f count before (r ∷ rs) cut kept =
+      (kept.0, all_apart before rs r cut, runs_kept f count (before ++ r ∷ []) rs (cut ∙ again before r rs) kept.1)
     where
       again : (xs : List Run) (x : Run) (ys : List Run) → xs ++ x ∷ ys ≡ (xs ++ x ∷ []) ++ ys
       again [] x ys = refl
@@ -196,11 +196,16 @@ texts_are : (meaning : Bytes → Result Program TextFault) (ts : List Bytes) →
 texts_are meaning [] all = tt
 texts_are meaning (t ∷ ts) all = (ap is_ok all.0.1, texts_are meaning ts all.1)
 
+pub stood_in : (meaning : Bytes → Result Program TextFault) → ((text : Bytes) → Means text (meaning text)) → (f : Format) (b : Book)
+    → AllByRecursion (IsToldIn f) b.runs → IsSound (rules_of meaning) b → IsOrderly (rules_of meaning) b
+    → AllByRecursion (λ text. is_program_by meaning text ≡ true) b.texts × AreKept f (length b.texts) [] b.runs
+stood_in meaning means f b told sound orderly = (
+  texts_are meaning b.texts (recursion_from_All (IsProgram (rules_of meaning)) b.texts orderly.texts),
+  runs_kept (rules_of meaning) b sound orderly f (length b.texts) [] b.runs refl
+      (kept_runs meaning means f b b.runs (recursion_from_All (IsSoundRun (rules_of meaning) b) b.runs sound.runs) told),
+)
+
 pub stood : (meaning : Bytes → Result Program TextFault) → ((text : Bytes) → Means text (meaning text)) → (b : Book)
     → AllByRecursion IsTold b.runs → IsSound (rules_of meaning) b → IsOrderly (rules_of meaning) b
-    → AllByRecursion (λ text. is_program_by meaning text ≡ true) b.texts × AreKept (length b.texts) [] b.runs
-stood meaning means b told sound orderly = (
-  texts_are meaning b.texts (recursion_from_All (IsProgram (rules_of meaning)) b.texts orderly.texts),
-  runs_kept (rules_of meaning) b sound orderly (length b.texts) [] b.runs refl
-      (kept_runs meaning means b b.runs (recursion_from_All (IsSoundRun (rules_of meaning) b) b.runs sound.runs) told),
-)
+    → AllByRecursion (λ text. is_program_by meaning text ≡ true) b.texts × AreKept Two (length b.texts) [] b.runs
+stood meaning means b told sound orderly = stood_in meaning means Two b told sound orderly

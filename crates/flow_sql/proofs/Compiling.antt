@@ -8,12 +8,15 @@ use Rattle.flow_sql.proofs.Names.{◌≡◌, ◌⊎◌, if◌then◌else◌, ◌
 use Rattle.sqlite_ast.specs.declared.CreateTable.{CreateTable}
 use Rattle.sqlite_ast.specs.declared.Rows.{Rows}
 use Rattle.sqlite_schema.specs.declared.command.Command.{Command}
-use Rattle.sqlite_schema.specs.declared.command.Command.TheVariants.{Insert, CreateTable as MakeTable, Nothing}
+use Rattle.sqlite_schema.specs.declared.command.Command.TheVariants.{Insert, Update, Delete, CreateTable as MakeTable, Nothing}
 use Rattle.sqlite_resolve.specs.declared.error.CompileError.TheVariants.{Unsupported}
 use Rattle.sqlite_resolve.specs.Lowering.{and_then}
 use Rattle.sqlite_resolve.specs.Scope.{Name}
-use Rattle.sqlite_resolve.specs.Compile.{command, returning, shows, planned, meaning, compiled, create_table, creates, is_attached, insert, insert_or_abort, new_rows, target, small, with_command, timed as timed_at}
+use Rattle.sqlite_resolve.specs.Compile.{command, returning, shows, planned, meaning, compiled, create_table, creates, delete, is_attached, insert, insert_or_abort, new_rows, target, update, small, with_command, timed as timed_at}
+use Rattle.sqlite_ast.specs.declared.Expr.{Expr}
 use Rattle.sqlite_resolve.specs.Body.{table_at}
+use Rattle.sqlite_resolve.specs.Program.{program}
+use Rattle.sqlite_resolve.specs.Write.{updated, deleted}
 use Rattle.sqlite_schema.specs.declared.command.Source.{Source}
 use Rattle.std.specs.Option.{option_or}
 use Rattle.sqlite.specs.Listing.{understood, if_select, is_select, listing_schema}
@@ -41,6 +44,8 @@ it_gives x P holds b h = subst P (same_value h) holds
 abbrev pub IsInside : Command → Type 0
 IsInside Nothing = ⊤
 IsInside (Insert at from) = ⊤
+IsInside (Update at q) = ⊤
+IsInside (Delete at q) = ⊤
 IsInside MakeTable = ⊤
 IsInside _ = ⊥
 
@@ -64,16 +69,36 @@ insert_inside schema base name columns rows =
     then_gives (target schema name) (λ at. and_then (table_at schema at) (next at)) IsInside (λ at _. then_gives (table_at schema at) (next at) IsInside
     (λ table _. then_gives (new_rows schema table base columns rows) (last at) IsInside (λ s _. it_gives (Insert at s) IsInside tt)))
 
+update_inside : (schema : Schema) (name : Name) (sets : List (Name × Expr)) (test : Option Expr) (c : Command) → update schema name sets test ≡ Ok c → IsInside c
+unfolding update
+update_inside schema name sets test =
+    let lowered = λ (at : ℕ) (table : Table). and_then (updated schema at table sets test) (λ d. and_then (program schema [] d) (λ p. Ok (Update at p))) in
+    then_gives (target schema name) (λ at. and_then (table_at schema at) (lowered at)) IsInside (λ at _. then_gives (table_at schema at) (lowered at) IsInside
+    (λ table _. then_gives (updated schema at table sets test) (λ d. and_then (program schema [] d) (λ p. Ok (Update at p))) IsInside
+    (λ d _. then_gives (program schema [] d) (λ p. Ok (Update at p)) IsInside (λ p _. it_gives (Update at p) IsInside tt))))
+
+delete_inside : (schema : Schema) (name : Name) (test : Option Expr) (c : Command) → delete schema name test ≡ Ok c → IsInside c
+unfolding delete
+delete_inside schema name test =
+    let lowered = λ (at : ℕ) (table : Table). and_then (deleted schema at table test) (λ d. and_then (program schema [] d) (λ p. Ok (Delete at p))) in
+    then_gives (target schema name) (λ at. and_then (table_at schema at) (lowered at)) IsInside (λ at _. then_gives (table_at schema at) (lowered at) IsInside
+    (λ table _. then_gives (deleted schema at table test) (λ d. and_then (program schema [] d) (λ p. Ok (Delete at p))) IsInside
+    (λ d _. then_gives (program schema [] d) (λ p. Ok (Delete at p)) IsInside (λ p _. it_gives (Delete at p) IsInside tt))))
+
 command_inside : (schema : Schema) (formats : List Name) (base : ℕ) (st : Statement) → IsMaking st → (c : Command) → command schema formats base st ≡ Ok c → IsInside c
 unfolding command insert_or_abort
 command_inside schema formats base (written.CreateTable def) making c h = create_inside schema formats def c h
 command_inside schema formats base (written.Insert conflict.Abort name columns rows clauses shown) making c h = insert_inside schema base name columns rows c (rw making.0 at h)
+command_inside schema formats base (written.Update name sets test shown) making c h = update_inside schema name sets test c h
+command_inside schema formats base (written.Delete name test shown) making c h = delete_inside schema name test c h
 command_inside schema formats base _ making c h = absurd making
 
 shows_none : (schema : Schema) (base : ℕ) (st : Statement) → IsMaking st → (r : Option Returning) → returning schema base st ≡ Ok r → r ≡ None
 unfolding returning shows
 shows_none schema base (written.CreateTable def) making r h = sym (same_value h)
 shows_none schema base (written.Insert conflict.Abort name columns rows clauses shown) making r h = sym (same_value (rw making.1 at h))
+shows_none schema base (written.Update name sets test shown) making r h = sym (same_value (rw making at h))
+shows_none schema base (written.Delete name test shown) making r h = sym (same_value (rw making at h))
 shows_none schema base _ making r h = absurd making
 
 reads_none : (schema : Schema) (base : ℕ) (st : Statement) → IsReading st → (r : Option Returning) → returning schema base st ≡ Ok r → r ≡ None
@@ -129,6 +154,8 @@ module _ (old new : State) (inside : IsTrue old.in_transaction) where
   ran : (returns : Option Returning) (command : Command) → IsInside command → (text : List ℕ) (params : Row) (count : ℕ) → Runs old new returns command text params count → GoesOn old new
   ran returns Nothing is text params count h = record { was_open = h.0.0.was_open; is_open = h.0.0.is_open; mode = h.0.0.mode ∙ inside; committed = h.0.0.committed_is }
   ran returns (Insert at from) is text params count h = shown_on h.shown
+  ran returns (Update at q) is text params count h = shown_on h.shown
+  ran returns (Delete at q) is text params count h = shown_on h.shown
   ran returns MakeTable is text params count h = shown_on h.shown
   ran returns _ is text params count h = absurd is
 
@@ -139,12 +166,16 @@ module _ (old new : State) (inside : IsTrue old.in_transaction) where
     | inr runs ↦ ran h.0.returning h.0.command (understood_inside old.now.schema sql making h.0 h.1.is).0 (text_of sql h.0) (timed params h.0.formats h.1.now) count (rw runs at h.2)
   ]
 
-  pub making_becomes : (sql : List ℕ) → FirstIs IsMaking (first sql) → (r : Result (Unit {0}) Error) → RunsTo sql old new r → MatchResult r (λ _. GoesOn old new) (λ _. CommitsNothing old new)
-  making_becomes sql making (Ok x) h = making_goes_on sql [] h.0 making h.1
-  making_becomes sql making (Err e) h = elim (error_leaves old new sql [] e h) [
+  pub changing_becomes : (sql : List ℕ) (params : Row) → FirstIs IsMaking (first sql) → (r : Result ℕ Error) → Executes sql params old new r → MatchResult r (λ _. GoesOn old new) (λ _. CommitsNothing old new)
+  changing_becomes sql params making (Ok count) h = making_goes_on sql params count making h
+  changing_becomes sql params making (Err e) h = elim (error_leaves old new sql params e h) [
     | inl same ↦ inl (record { was_open = same.0.was_open; is_open = same.0.is_open; mode = same.0.mode ∙ inside; committed = same.0.committed_is })
     | inr undone ↦ inr (rolled_back_ended old new undone)
   ]
+
+  pub making_becomes : (sql : List ℕ) → FirstIs IsMaking (first sql) → (r : Result (Unit {0}) Error) → RunsTo sql old new r → MatchResult r (λ _. GoesOn old new) (λ _. CommitsNothing old new)
+  making_becomes sql making (Ok x) h = making_goes_on sql [] h.0 making h.1
+  making_becomes sql making (Err e) h = changing_becomes sql [] making (Err e) h
 
   making_commits_nothing : (sql : List ℕ) (params : Row) → FirstIs IsMaking (first sql) → (db : Trees) → ¬ CommitsBy sql params old db
   unfolding CommitsBy

@@ -1,6 +1,6 @@
 -- What reading the format leaves, and what it tells.
 use Rattle.flow_sql.proofs.Names.{Fresh, schema_of, format_sql, no_schema, format_query, one_permutation, Database, Row, overlay, IsAnswer, Output, end, inner, output, IsUnchanged, State, Survives, Trees, Error, Int, Null, Compiled, CompileError, IsPermutation, IsTrue, List, false, map, pos, [], refl, Ok, Err, Result, Fails, IsOver, HasTables, HasEnded, IsAtRest, IsBlank, format_row, sym, ap, ◌∙◌, subst, inl, inr, true≢false, IsStoreError, TellsFailure, OutOfMemory}
-use Rattle.flow_sql.proofs.Names.{Layout, Moved, accepts_program, true, SqlInputError, SqliteFailure, first_as, IsSome, ◌≡◌, ◌∷◌, ◌⊎◌, ◌≢◌}
+use Rattle.flow_sql.proofs.Names.{IsReadOver, Layout, Moved, Schema, Words, arith, codes, accepts_program, true, ℕ, ℤ, SqlInputError, SqliteFailure, first_as, IsSome, ◌≡◌, ◌∷◌, ◌⊎◌, ◌≢◌}
 use Rattle.sqlite.specs.Order.{value_cmp}
 use Rattle.sqlite.specs.Ops.{binary}
 use Rattle.sqlite.specs.Query.{page, matches_as}
@@ -11,7 +11,8 @@ use Rattle.flow_sql.proofs.Leaves.{over_both}
 use Rattle.flow_sql.proofs.Compiling.{bare, commits_none}
 use Rattle.flow_sql.proofs.Reading.{answer}
 use Rattle.flow_sql.proofs.Refusing.{only_failed, question_refused, never_sums}
-use Rattle.flow_sql.proofs.Texts.{format_read}
+use Rattle.flow_sql.proofs.Texts.{IsWhole, format_read}
+use Rattle.flow_sql.specs.Past.{HasPast, past_schema}
 
 ---- Under any schema
 
@@ -86,36 +87,61 @@ blank_refused old new e other up none (inl (inl (inr fails))) = inl (only_failed
 blank_refused old new e other up none (inl (inr h)) = absurd (never_understood old h.0 none h.1.is)
 blank_refused old new e other up none (inr h) = absurd (never_understood old h.1.0 none h.1.1.is)
 
----- Over our tables
+---- Over our tables, and those of before
 
-met : (db : Trees) → db 0 ≡ format_row ∷ [] → matches_as Null db format_query.filter (inner 0 end) ([] ∷ []) ≡ ([] ∷ format_row ∷ []) ∷ []
+-- the one row of `meta`, with this number
+abbrev numbered : ℤ → Row
+numbered n = Int (pos 1) ∷ Words (codes "format") ∷ Int n ∷ []
+
+met : (n : ℤ) (db : Trees) → db 0 ≡ numbered n ∷ [] → matches_as Null db format_query.filter (inner 0 end) ([] ∷ []) ≡ ([] ∷ numbered n ∷ []) ∷ []
 unfolding binary value_cmp lib.Ieee.is_nan lib.Ieee.lt
-met db one = rw one refl
+met n db one = rw one refl
 
-format_rows : (db : Trees) → db 0 ≡ format_row ∷ [] → (rows : List Row) → IsAnswer format_query (overlay db []) [] rows → rows ≡ (Int (pos 1) ∷ []) ∷ []
-format_rows db format rows a =
-    let o : Output = ([], Int (pos 1) ∷ []) in
-    let kept : a.kept ≡ o ∷ [] = a.distinct ∙ ap (map (output format_query)) (a.grouped ∙ met (overlay db []) format) in
+format_rows : (n : ℤ) (db : Trees) → db 0 ≡ numbered n ∷ [] → (rows : List Row) → IsAnswer format_query (overlay db []) [] rows → rows ≡ (Int n ∷ []) ∷ []
+format_rows n db format rows a =
+    let o : Output = ([], Int n ∷ []) in
+    let kept : a.kept ≡ o ∷ [] = a.distinct ∙ ap (map (output format_query)) (a.grouped ∙ met n (overlay db []) format) in
     let ordered = one_permutation o a.ordered (subst (λ k. IsPermutation k a.ordered) kept a.same) in
     a.shown ∙ ap (λ os. page format_query [] (map (λ (p : Output). p.1) os)) ordered
 
-pub format_answer : (old new : State) (row : Row) → HasTables old.now → QueriesRow format_sql [] old new (Ok row) → row ≡ Int (pos 1) ∷ []
-format_answer old new row has h =
-    let l = has.layout in
-    let got = (first_as format_sql [] old new (schema_of l) has.lie.laid_out _ (format_read l).0.is (format_read l).0.plain (format_read l).0.unlisted row h).1 in
-    let rows = format_rows old.now.trees has.lie.ours.format (row ∷ got.0) (got.1 Null) in
-    cc
+abbrev value_name : List (List ℕ)
+value_name = codes "value" ∷ []
+
+-- over tables of a schema in which the text is this query
+module _ (s : Schema) (n : ℤ) (is : IsReadOver s format_sql format_query value_name) (old new : State) (has : old.now.schema ≡ s) (format : old.now.trees 0 ≡ numbered n ∷ []) where
+  number_read : (row : Row) → QueriesRow format_sql [] old new (Ok row) → row ≡ Int n ∷ []
+  number_read row h =
+      let got = (first_as format_sql [] old new s has _ is.is is.plain is.unlisted row h).1 in
+      let rows = format_rows n old.now.trees format (row ∷ got.0) (got.1 Null) in
+      cc
+
+  -- it is refused by the disk or a limit alone
+  number_refused : (e : Error) → e ≢ SqliteFailure OutOfMemory → IsTrue old.is_open → IsWhole format_sql 0 (understood s format_sql) → accepts_program s [] format_query [] ≡ true → QueriesRow format_sql [] old new (Err e)
+      → TellsFailure e old new ⊎ IsSome old.step_limit
+  unfolding QueriesRow
+  number_refused e other up whole typed (inl fails) = question_refused old new e other up s has format_sql format_query value_name is [] whole typed (λ db. never_sums (db 0)) fails
+  number_refused e other up whole typed (inr none) =
+      absurd (let rows = format_rows n old.now.trees format [] (answer s format_sql format_query value_name is [] old new has [] none.1) in cc)
+
+pub format_answer : (old new : State) (row : Row) → HasTables old.now → QueriesRow format_sql [] old new (Ok row) → row ≡ Int (pos 2) ∷ []
+format_answer old new row has h = number_read (schema_of has.layout) (pos 2) (format_read has.layout).0 old new has.lie.laid_out has.lie.ours.format row h
 
 format_typed : (l : Layout) → accepts_program (schema_of l) [] format_query [] ≡ true
 format_typed Fresh = refl
 format_typed Moved = refl
 
--- it is refused by the disk or a limit alone
 pub format_refused : (old new : State) (e : Error) → e ≢ SqliteFailure OutOfMemory → IsTrue old.is_open → HasTables old.now → QueriesRow format_sql [] old new (Err e) → TellsFailure e old new ⊎ IsSome old.step_limit
-unfolding QueriesRow
-format_refused old new e other up has (inl fails) =
+format_refused old new e other up has h =
     let l = has.layout in
-    question_refused old new e other up l has.lie.laid_out format_sql format_query _ (format_read l).0 [] (format_read l).1 (format_typed l) (λ db. never_sums (db 0)) fails
-format_refused old new e other up has (inr none) =
-    let l = has.layout in
-    absurd (let rows = format_rows old.now.trees has.lie.ours.format [] (answer l format_sql format_query _ (format_read l).0 [] old new has.lie.laid_out [] none.1) in cc)
+    number_refused (schema_of l) (pos 2) (format_read l).0 old new has.lie.laid_out has.lie.ours.format e other up (format_read l).1 (format_typed l) h
+
+past_format_read : IsReadOver past_schema format_sql format_query value_name × IsWhole format_sql 0 (understood past_schema format_sql)
+unfolding understood everything
+past_format_read = (record { is = refl; plain = (refl, refl); unlisted = refl; reading = tt }, (omega arith, refl))
+
+-- over those of before their number is read
+pub past_format_answer : (old new : State) (row : Row) → HasPast old.now → QueriesRow format_sql [] old new (Ok row) → row ≡ Int (pos 1) ∷ []
+past_format_answer old new row has h = number_read past_schema (pos 1) past_format_read.0 old new has.laid_out has.past.format row h
+
+pub past_format_refused : (old new : State) (e : Error) → e ≢ SqliteFailure OutOfMemory → IsTrue old.is_open → HasPast old.now → QueriesRow format_sql [] old new (Err e) → TellsFailure e old new ⊎ IsSome old.step_limit
+past_format_refused old new e other up has h = number_refused past_schema (pos 1) past_format_read.0 old new has.laid_out has.past.format e other up past_format_read.1 refl h

@@ -1,4 +1,6 @@
 -- A row that goes and comes again under its run and number stands in its place.
+use Rattle.flow_sql.proofs.Places.{laid}
+use Rattle.flow_sql.proofs.Names.{schema_of}
 use Rattle.flow_sql.proofs.Names.{in_its_place, with_task, with_task_in_place, without_task, ◌≡◌, ◌∷◌, if◌then◌else◌, all_from, all_has, some_has, put_by, task_id, Tables, OutboxRow, IsAscending, all_weaker, cases_Bool, Decides-int_eq, ints, AllByRecursion, list_any, int_eq, Bool, List, false, filter}
 use Rattle.flow_sql.proofs.Names.{int_lt, map, true, [], refl, ℤ, not, sym, ap, ◌∙◌, subst, inl, inr, arith, true≢false, Database, HasTables, tables_in, task_in}
 use Rattle.flow_sql.proofs.Columns.{of_tasks, keys_differ}
@@ -44,7 +46,7 @@ HasTask row t = is_there task_id row (t.outbox row.run)
 pub task_in_place : (d : Database) → HasTables d → (row : OutboxRow) → HasTask row (tables_in d) ≡ true → with_task row (without_task row.run row.id (tables_in d)) ≡ with_task_in_place row (tables_in d)
 task_in_place d has row there =
     let here : put_by task_id row (filter (other task_id row) ((tables_in d).outbox row.run)) ≡ map (in_its_place row) ((tables_in d).outbox row.run) =
-    put_in_place task_id row ((tables_in d).outbox row.run) (rising_rises task_id _ (apart_of_run (λ (x : OutboxRow). x.run) task_id row.run (map task_in (d.trees 9)) (keys_differ 5 9 task_in (λ (x : OutboxRow). x.run) task_id has.layout (of_tasks has.layout) d.trees has.lie.ours))) there in
+    put_in_place task_id row ((tables_in d).outbox row.run) (rising_rises task_id _ (apart_of_run (λ (x : OutboxRow). x.run) task_id row.run (map task_in (d.trees 9)) (keys_differ 5 9 task_in (λ (x : OutboxRow). x.run) task_id (schema_of has.layout) (of_tasks has.layout) d.trees (laid has.layout d.trees has.lie.ours)))) there in
     let of_run : (z : ℤ) → (with_task row (without_task row.run row.id (tables_in d))).outbox z ≡ (with_task_in_place row (tables_in d)).outbox z =
     λ z. elim (cases_Bool (int_eq z row.run)) [
       | inl same ↦ rw same (subst (λ w. put_by task_id row (filter (other task_id row) ((tables_in d).outbox w)) ≡ map (in_its_place row) ((tables_in d).outbox w)) (sym ((Decides-int_eq z row.run).0 same)) here)

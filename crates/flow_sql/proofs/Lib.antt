@@ -24,3 +24,6 @@ pub mod Coming
 pub mod Welcome
 pub mod InPlace
 pub mod OpenRuns
+pub mod Past
+pub mod Aside
+pub mod Moving

@@ -1,4 +1,5 @@
 -- The numbers of the runs that are marked as open, as one read tells them.
+use Rattle.flow_sql.proofs.Names.{schema_of}
 use Rattle.flow_sql.proofs.Names.{Row, overlay, IsAnswer, Output, Query, Term, col, lit, Trees, rowid, is_int, Int, all_both, value_cmp-Int, column, AllByRecursion, int_cmp, int_eq, int_lt, Bool, IsTrue, List, false, filter, map, pos, true, ℕ, Equal, Greater, Less, [], refl, ℤ, take, sym, ap, ◌∙◌, not, Layout, tables_by, run_table, run_in, AreOurs, number_of, number_said, Read, equal_to, query_of, Compare, Binary, is_true, Value}
 use Rattle.std.specs.Prelude.{◌≡◌, ◌∷◌, ◌&&◌, cond}
 use Rattle.std.specs.Ordering.{is_ge}
@@ -8,7 +9,7 @@ use Rattle.sqlite.specs.Term.{op2}
 use Rattle.sqlite_sql.specs.declared.ops.CompareOp.TheVariants.{Ge}
 use Rattle.flow_rows.specs.Finding.{is_open_from, number_of_run}
 use Rattle.flow_sql.proofs.Numbered.{number_is}
-use Rattle.flow_sql.proofs.Places.{numbered_runs, run_there}
+use Rattle.flow_sql.proofs.Places.{laid, numbered_runs, run_there}
 use Rattle.flow_sql.proofs.Columns.{told, test_int, AreTyped, columns}
 use Rattle.flow_sql.proofs.Reading.{meets, seen, ordered_by_number}
 use Rattle.flow_sql.proofs.Found.{read_of}
@@ -33,7 +34,7 @@ module _ (l : Layout) (db : Trees) (ours : AreOurs l db) (rows : List Row) where
   IsRow r = IsTrue (is_int (rowid r)) × AreTyped run_table r
 
   are_rows : AllByRecursion IsRow (db 4)
-  are_rows = all_both (λ r. IsTrue (is_int (rowid r))) (AreTyped run_table) IsRow (λ r int typed. (int, typed)) (db 4) (numbered_runs l db ours).1 (columns l db ours 2 run_table (run_there l))
+  are_rows = all_both (λ r. IsTrue (is_int (rowid r))) (AreTyped run_table) IsRow (λ r int typed. (int, typed)) (db 4) (numbered_runs l db ours).1 (columns (schema_of l) db (laid l db ours) 2 run_table (run_there l))
 
   pub open_numbers_are : (from : ℤ) (most : ℕ) → IsAnswer (query_of l Read.open_numbers) (overlay db []) (Int from ∷ Int (pos most) ∷ []) rows
       → map number_said rows ≡ take most (map number_of_run (filter (is_open_from from) (tables_by l db).runs))

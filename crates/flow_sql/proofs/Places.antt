@@ -1,5 +1,5 @@
 -- Where our tables stand in each layout, as it is read off its schema.
-use Rattle.flow_sql.proofs.Names.{AllByRecursion, Database, Layout, Fresh, Moved, LieAs, Schema, Some, Table, Trees, AreNumbered, AreOurs, all-slice_get, ap, arith, place_of_events, event_table, tree_of_events, layout_of, meta, no_schema, overlay, refl, [], run_table, schema_of, slice_get, sym, tables_by, tables_in, task_table, text_table, timer_table, ◌∙◌, ◌≡◌, ◌≢◌, ℕ}
+use Rattle.flow_sql.proofs.Names.{AllByRecursion, Database, Layout, Fresh, Moved, LieAs, Schema, Some, Table, Trees, AreNumbered, AreLaid, AreOurs, all-slice_get, ap, arith, place_of_events, event_table, tree_of_events, layout_of, meta, no_schema, overlay, refl, [], run_table, schema_of, slice_get, sym, tables_by, tables_in, task_table, text_table, timer_table, ◌∙◌, ◌≡◌, ◌≢◌, ℕ}
 
 -- what is so in both layouts is so in each
 pub in_both : (P : Layout → Type 0) → P Fresh → P Moved → (l : Layout) → P l
@@ -65,6 +65,9 @@ module _ (l : Layout) (P : Table → Type 0) (all : AllByRecursion P (schema_of 
   at_task = all-slice_get P (schema_of l).tables 5 task_table (task_there l) all
 
 module _ (l : Layout) (db : Trees) (ours : AreOurs l db) where
+  pub laid : AreLaid (schema_of l) db
+  laid = record { sound = ours.sound; numbered = ours.numbered }
+
   pub numbered_texts : AreNumbered (db 2)
   numbered_texts = at_text l (λ t. AreNumbered (db t.tree)) ours.numbered
 

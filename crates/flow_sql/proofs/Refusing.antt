@@ -1,7 +1,7 @@
 -- Why a statement of ours is refused: the store failed, or its database declines what is asked.
 use Rattle.sqlite_trees.specs.declared.error.StoreError.TheVariants as store
 use Rattle.sqlite.specs.Command.TheVariants as command
-use Rattle.flow_sql.proofs.Names.{Layout, schema_of, IsRead, write_takes, IsPlain, command_of, timed, Command, Does, Database, Row, overlay, Query, Executes, RunsCommand, State, mode_of, shows_rows, text_of, Trees, Error, Compiled, IsTrue, List, false, true, ℕ, [], refl, None}
+use Rattle.flow_sql.proofs.Names.{Layout, schema_of, IsReadOver, write_takes, IsPlain, command_of, timed, Command, Does, Database, Row, overlay, Query, Executes, RunsCommand, State, mode_of, shows_rows, text_of, Trees, Error, Compiled, IsTrue, List, false, true, ℕ, [], refl, None}
 use Rattle.flow_sql.proofs.Names.{Err, length, Some, reads_listing, Fails, IsMisplaced, sym, ap, ◌∙◌, subst, inl, inr, arith, true≢false, append-nil, Schema, IsDeclined, Read, read_sql, query_of, Write, write_sql, IsWrite, TellsFailure, OutOfMemory, QueryOverflows, RefusesToRead, SqliteFailure}
 use Rattle.flow_sql.proofs.Names.{accepts_program, read_takes, IsSome, Any, ◌≡◌, ◌⊎◌, ◌≢◌, ◌≤◌, Begin, Commit, Rollback, Release, RollbackTo}
 use Rattle.sqlite.specs.Listing.{understood, IsSourceOf}
@@ -58,22 +58,22 @@ pub told_since : (e : Error) (a b c d : State) → a.faults ≤ b.faults → c.f
 told_since e a b c d before after (is, more) = (is, omega (arith, before, more, after))
 
 -- A question: the store failed, or a limit is set on the steps of a query.
-module _ (old new : State) (e : Error) (other : e ≢ SqliteFailure OutOfMemory) (up : IsTrue old.is_open) (l : Layout) (laid : old.now.schema ≡ schema_of l) (sql : List ℕ) (q : Query) (names : List (List ℕ)) (it : IsRead l sql q names) (params : Row)
-    (whole : IsWhole sql (length params) (understood (schema_of l) sql)) (typed : accepts_program (schema_of l) [] q params ≡ true) (summed : (db : Trees) → ¬ QueryOverflows q db params) where
+module _ (old new : State) (e : Error) (other : e ≢ SqliteFailure OutOfMemory) (up : IsTrue old.is_open) (s : Schema) (laid : old.now.schema ≡ s) (sql : List ℕ) (q : Query) (names : List (List ℕ)) (it : IsReadOver s sql q names) (params : Row)
+    (whole : IsWhole sql (length params) (understood s sql)) (typed : accepts_program s [] q params ≡ true) (summed : (db : Trees) → ¬ QueryOverflows q db params) where
   refuses : (db : Database) → db ≡ old.now → RefusesToRead old.step_limit (command.Select (record { lets = []; body = q }) names) db params e → IsSome old.step_limit
-  refuses db is (inl mistyped) = absurd (let same = ap (λ (d : Database). accepts_program d.schema [] q params) is in let has = ap (λ s. accepts_program s [] q params) laid in true≢false (sym typed ∙ sym has ∙ sym same ∙ mistyped.1))
+  refuses db is (inl mistyped) = absurd (let same = ap (λ (d : Database). accepts_program d.schema [] q params) is in let has = ap (λ t. accepts_program t [] q params) laid in true≢false (sym typed ∙ sym has ∙ sym same ∙ mistyped.1))
   refuses db is (inr (inl summed')) = absurd (summed (overlay db.trees []) summed'.1)
   refuses db is (inr (inr limit)) = limit.1
 
   pub question_refused : FailsToQuery sql params old new e → TellsFailure e old new ⊎ IsSome old.step_limit
   unfolding FailsToQuery IsNotRun
-  question_refused (inl (inl none)) = absurd (never_no_statement old e (schema_of l) laid sql params whole it.plain none.0)
+  question_refused (inl (inl none)) = absurd (never_no_statement old e s laid sql params whole it.plain none.0)
   question_refused (inl (inr fails)) = inl (only_failed old new e other up fails)
   question_refused (inr h) =
-      let known = sym h.1.is ∙ ap (λ s. understood s sql) laid in
+      let known = sym h.1.is ∙ ap (λ t. understood t sql) laid in
       let bare = subst IsPlain (sym known) it.plain in
       let found = rw (bare.0, bare.1, append-nil params) at h.2 in
-      let db : found.0 ≡ old.now = subst (λ b. IsSourceOf b old.now found.0) (ap (λ s. reads_listing s sql) laid ∙ it.unlisted) found.1 in
+      let db : found.0 ≡ old.now = subst (λ b. IsSourceOf b old.now found.0) (ap (λ t. reads_listing t sql) laid ∙ it.unlisted) found.1 in
       inr (refuses found.0 db (subst (λ k. RefusesToRead old.step_limit k found.0 params e) (ap command_of known ∙ it.is) found.2))
 
 -- A statement of one command that shows no rows has failed with the store, or has run as that.

@@ -4,3 +4,4 @@ pub mod Stored
 pub mod States
 pub mod Coming
 pub mod Meaning
+pub mod Past

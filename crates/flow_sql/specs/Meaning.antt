@@ -1,5 +1,5 @@
 -- What a text of SQL means over our tables: a query and what its answer tells, a change and what it does.
-use Rattle.flow_sql.specs.Names.{Tables, IsPlain, command_of, timed, Command, Select, Does, understood, reads_listing, Row, overlay, IsAnswer, Query, Executes, State, mode_of, text_of, Trees, Error, first, Compiled, List, Option, false, map, true, ℕ, [], Ok, Err, length, Kind}
+use Rattle.flow_sql.specs.Names.{Schema, Tables, IsPlain, command_of, timed, Command, Select, Does, understood, reads_listing, Row, overlay, IsAnswer, Query, Executes, State, mode_of, text_of, Trees, Error, first, Compiled, List, Option, false, map, true, ℕ, [], Ok, Err, length, Kind}
 use Rattle.std.specs.Prelude.{IsSome, ◌≡◌, ◌⊎◌}
 use Rattle.sqlite.specs.State.{IsStatement}
 use Rattle.sqlite_typing.specs.Types.{accepts_program}
@@ -8,17 +8,24 @@ use Rattle.flow_sql.specs.Stored.{tables_in, tables_by, kinds_of, AreUtf8}
 use Rattle.flow_sql.specs.Coming.{IsFull}
 use Rattle.flow_sql.specs.States.{AreOurs, IsOver, Changes, FirstIs, IsReading}
 
--- over our tables in this layout the text is this command, and nothing else
-pub record IsText (l : Layout) (sql : List ℕ) (command : Command) : Type 0 where
-  pub is : command_of (understood (schema_of l) sql) ≡ command
-  pub plain : IsPlain (understood (schema_of l) sql)
+-- over the tables of a schema the text is this command, and nothing else
+pub record IsTextOver (s : Schema) (sql : List ℕ) (command : Command) : Type 0 where
+  pub is : command_of (understood s sql) ≡ command
+  pub plain : IsPlain (understood s sql)
 
 -- and this query, and nothing else
-pub record IsRead (l : Layout) (sql : List ℕ) (q : Query) (names : List (List ℕ)) : Type 0 where
-  pub is : command_of (understood (schema_of l) sql) ≡ Select (record { lets = []; body = q }) names
-  pub plain : IsPlain (understood (schema_of l) sql)
-  pub unlisted : reads_listing (schema_of l) sql ≡ false
+pub record IsReadOver (s : Schema) (sql : List ℕ) (q : Query) (names : List (List ℕ)) : Type 0 where
+  pub is : command_of (understood s sql) ≡ Select (record { lets = []; body = q }) names
+  pub plain : IsPlain (understood s sql)
+  pub unlisted : reads_listing s sql ≡ false
   pub reading : FirstIs IsReading (first sql)
+
+-- over ours, in this layout
+abbrev pub IsText : Layout → List ℕ → Command → Type 0
+IsText l sql command = IsTextOver (schema_of l) sql command
+
+abbrev pub IsRead : Layout → List ℕ → Query → List (List ℕ) → Type 0
+IsRead l sql q names = IsReadOver (schema_of l) sql q names
 
 ---- Our texts, with what is given to them
 
@@ -46,8 +53,8 @@ read_takes Read.run_tasks = 1
 abbrev pub write_takes : Write → ℕ
 write_takes Write.insert_text = 2
 write_takes Write.insert_run = 5
-write_takes Write.insert_event = 4
-write_takes Write.insert_events = 8
+write_takes Write.insert_event = 5
+write_takes Write.insert_events = 10
 write_takes Write.insert_timer = 3
 write_takes Write.insert_task = 4
 write_takes Write.delete_timer = 2

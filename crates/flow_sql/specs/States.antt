@@ -13,6 +13,11 @@ use Rattle.sqlite_trees.specs.declared.error.StoreError.{StoreError}
 abbrev pub AreNumbered : List Row → Type 0
 AreNumbered rows = IsTable rows × AllByRecursion (λ r. IsTrue (is_int (rowid r))) rows
 
+-- The trees of a file hold these tables: what is sound in SQL says nothing of the order of rows.
+pub record AreLaid (s : Schema) (db : Trees) : Type 0 where
+  pub sound : IsSound s db
+  pub numbered : AllByRecursion (λ t. AreNumbered (db t.tree)) s.tables
+
 -- The trees of a file with our tables in this layout, in their format.
 pub record AreOurs (l : Layout) (db : Trees) : Type 0 where
   pub sound : IsSound (schema_of l) db
@@ -159,10 +164,12 @@ pub record HasMade (s : State) : Type 0 where
   pub tables : tables_in s.now ≡ no_tables
   pub fresh : AreNew s.now.trees
 
--- a CREATE TABLE, or an INSERT that has no clause and shows nothing
+-- a CREATE TABLE, an INSERT that has no clause, an UPDATE or a DELETE, of which none shows anything
 abbrev pub IsMaking : Statement → Type 0
 IsMaking (written.CreateTable def) = ⊤
 IsMaking (written.Insert conflict.Abort name columns rows clauses shown) = (clauses ≡ []) × (shown ≡ [])
+IsMaking (written.Update name sets test shown) = shown ≡ []
+IsMaking (written.Delete name test shown) = shown ≡ []
 IsMaking _ = ⊥
 
 abbrev pub IsReading : Statement → Type 0

@@ -9,7 +9,7 @@ use std::alloc::Global;
 const TABLES: [&str; 5] = [
     "SELECT num, body FROM text ORDER BY num",
     "SELECT num, flow, req, textnum, isopen FROM run ORDER BY num",
-    "SELECT run, id, kind, body FROM event ORDER BY run, id",
+    "SELECT run, id, kind, at, body FROM event2 ORDER BY run, id",
     "SELECT run, id, due FROM timer ORDER BY run, id",
     "SELECT run, id, attempt, ready FROM outbox ORDER BY run, id",
 ];

@@ -2,8 +2,10 @@
 //! opened then is a book that the answers allow.
 use crate::books::{Books, books_of};
 use crate::course::{Course, Ended, Plan};
-use crate::files::{Asked, Disturbed, calls_over, empty, failed, found_in};
+use crate::files::{Asked, Disturbed, calls_over, copies, empty, failed, found_in};
 use crate::stride::{is_met, stride};
+use sqlite::Files;
+use sqlite_disk::Memory;
 use std::alloc::Global;
 use std::test::Fail;
 
@@ -103,18 +105,28 @@ impl Failures {
         }
     }
 
-    fn fail(&mut self, alloc: Global, plan: Plan, at: u64, books: &Books) {
-        match failed(alloc, empty(alloc), at, plan) {
+    fn fail(&mut self, alloc: Global, base: &Files<Memory>, plan: Plan, at: u64, books: &Books) {
+        match failed_at(alloc, base, plan, at) {
             Some(disturbed) => self.look(alloc, plan, disturbed, books),
             None => self.count(Outcome::Wrong),
         }
     }
 }
 
+fn failed_at(alloc: Global, base: &Files<Memory>, plan: Plan, at: u64) -> Option<Disturbed> {
+    failed(alloc, copies(alloc, base)?, at, plan)
+}
+
 /// The calls that are needed without a failure, and how many failures weren't opened, kept, given up, unknown, unknown and opened
 /// again, and wrong.
-fn swept(alloc: Global, plan: Plan, books: &Books, step: u64) -> [u64; 7] {
-    let calls = calls_over(alloc, &empty(alloc), plan).unwrap_or(0);
+pub fn swept(
+    alloc: Global,
+    base: &Files<Memory>,
+    plan: Plan,
+    books: &Books,
+    step: u64,
+) -> [u64; 7] {
+    let calls = calls_over(alloc, base, plan).unwrap_or(0);
     let mut it = Failures {
         unopened: 0,
         kept: 0,
@@ -126,7 +138,7 @@ fn swept(alloc: Global, plan: Plan, books: &Books, step: u64) -> [u64; 7] {
     for call in 0..calls {
         let at = call.saturating_add(1);
         if is_met(at, 1, step) {
-            it.fail(alloc, plan, at, books);
+            it.fail(alloc, base, plan, at, books);
         }
     }
     [
@@ -142,7 +154,7 @@ fn swept(alloc: Global, plan: Plan, books: &Books, step: u64) -> [u64; 7] {
 
 fn batches(alloc: Global, plan: Plan, step: u64) -> [u64; 7] {
     match &books_of(alloc, plan) {
-        Some(books) => swept(alloc, plan, books, step),
+        Some(books) => swept(alloc, &empty(alloc), plan, books, step),
         None => [0, 0, 0, 0, 0, 0, 1],
     }
 }

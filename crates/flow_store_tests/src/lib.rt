@@ -39,6 +39,8 @@ mod keeping;
 #[cfg(test)]
 mod lists;
 #[cfg(test)]
+mod moves;
+#[cfg(test)]
 mod opening;
 #[cfg(test)]
 mod positions;

@@ -14,6 +14,7 @@ use flow_commit::keeper::Keeper;
 use flow_machine::decide::decide_all;
 use flow_machine::seats::Seats;
 use flow_programs::kept::Kept;
+use flow_move::watch::Unwatched;
 use flow_recover::positions::Position;
 use flow_recover::recover::recover;
 use flow_tables::tables::Tables;
@@ -162,7 +163,7 @@ pub fn recovers<S: Alter>(
     conn: Connection<S>,
     recovering: Recovering,
 ) -> (bool, Connection<S>) {
-    match recover(alloc, conn, most_of(recovering)) {
+    match recover(alloc, conn, most_of(recovering), &mut Unwatched) {
         Ok((keeper, positions)) => {
             let found = found_at(positions.as_slice(), keeper.is_halted());
             drop(positions);
@@ -250,7 +251,7 @@ fn what_was_committed_is_there_after_a_stop(rt: HostRuntime) -> Result<(), Fail>
 const OTHER_ARGUMENT: &[Act] = &[
     REGISTER,
     START,
-    Act::Changes("UPDATE event SET body = replace(body, 'eur', 'usd') WHERE id = 2"),
+    Act::Changes("UPDATE event2 SET body = replace(body, 'eur', 'usd') WHERE id = 2"),
     Act::Recovers(Recovering::Finds(Found::Mismatch)),
 ];
 

@@ -128,7 +128,7 @@ fn stop_along(
 
 /// The calls that are needed without a stop, the stops that left the book of what was kept, those that left one batch more, and the
 /// wrong ones.
-fn swept(alloc: Global, base: &Files<Memory>, plan: Plan, books: &Books, step: u64) -> [u64; 4] {
+pub fn swept(alloc: Global, base: &Files<Memory>, plan: Plan, books: &Books, step: u64) -> [u64; 4] {
     let calls = calls_over(alloc, base, plan).unwrap_or(0);
     let mut stops = Stops {
         kept: 0,
@@ -169,7 +169,7 @@ fn are_right(figures: [u64; 4]) -> bool {
 }
 
 /// The book is left by all.
-fn is_right(figures: Option<[u64; 4]>) -> bool {
+pub fn is_right(figures: Option<[u64; 4]>) -> bool {
     match figures {
         Some(figures) => figures[1] > 0 && figures[2] == 0 && figures[3] == 0,
         None => false,

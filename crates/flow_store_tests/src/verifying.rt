@@ -86,11 +86,11 @@ fn a_store_in_a_file_is_counted(rt: HostRuntime) -> Result<(), Fail> {
 /// The first run has ended with 42, to which the 40 of its activity doesn't lead.
 const CHANGED: &[Act] = &[
     Act::Asks(Asking::Answers(BEGUN, Want::Kept)),
-    Act::Changes("UPDATE event SET body = replace(body, '41', '40') WHERE run = 1 AND id = 3"),
+    Act::Changes("UPDATE event2 SET body = replace(body, '41', '40') WHERE run = 1 AND id = 3"),
     Act::Asks(Asking::Verifies(&[], Want::Kept, Verdict::Differs(1, 4, 51))),
     // The engine goes on, and the other run is no worse.
     Act::Asks(Asking::Verifies(&[Call::Complete(2)], Want::Kept, Verdict::Differs(1, 4, 51))),
-    Act::Counts(&[("SELECT * FROM event", 8)]),
+    Act::Counts(&[("SELECT * FROM event2", 8)]),
 ];
 
 #[test]

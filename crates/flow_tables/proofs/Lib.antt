@@ -1,4 +1,5 @@
 pub mod Names
+pub mod Moments
 pub mod Stops
 pub mod Reopened
 pub mod Parts

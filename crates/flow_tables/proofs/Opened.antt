@@ -5,10 +5,16 @@ use Rattle.flow_tables.specs.Names.{QueryReturnedNoRows}
 use Rattle.sqlite.specs.declared.error.ErrorCode.TheVariants as code
 use Rattle.flow_rows.specs.Rows.{run_at}
 use Rattle.flow_sql.proofs.Transactions.{ends_again}
-use Rattle.flow_sql.proofs.Finding.{answered, blank_never_reads, format_answer, read_over, read_blank, refused, shut_fails, at_rest}
+use Rattle.flow_sql.proofs.Finding.{answered, blank_never_reads, format_answer, past_format_answer, read_over, read_blank, refused, shut_fails, at_rest}
 use Rattle.flow_sql.proofs.Places.{never_none}
+use Rattle.flow_rows.specs.Rows.{Two}
 use Rattle.flow_rows.proofs.Laws.{book_undamaged}
 use Rattle.flow_tables.proofs.Stopping.{error_after, format_cut, never_told, ours_limited, survived, was_shut}
+use Rattle.sqlite.specs.declared.types.Value.{Value}
+use Rattle.std.proofs.Common.{true≢false}
+use Rattle.std.specs.Ordering.{int_eq}
+use Rattle.flow_sql.specs.Past.{HasPast}
+use Rattle.flow_sql.specs.Stored.{number_of}
 use Rattle.std.proofs.lemmas.Bool.{cases_Bool}
 use Rattle.flow_tables.specs.Opening.{opening_fault, IsOfStore, IsOfRows, IsFirstDamage, IsToldOf, StandFor, IsMet, HasCause, HasFormat, StopsOpening, IsFoundSo}
 
@@ -50,12 +56,15 @@ module _ (is_program : Bytes → Bool) (db : Database) (f : Fault) where
   pub told_whole : (b : Book) → StandFor is_program (tables_in db) b → IsToldOf is_program db f → IsOfStore f
   told_whole b stand (inl of) = of
   told_whole b stand (inr damage) =
-      absurd (let some = damage.2.2 in let none = book_undamaged is_program damage.1 b stand.texts stand.runs (damage.3.0 ∙ stand.same) in cc)
+      absurd (let some = damage.2.2 in let none = book_undamaged is_program Two damage.1 b stand.texts stand.runs (damage.3.0 ∙ stand.same) in cc)
 
 ---- One call after another
 
 pub rests_on : (a b c : State) → HasEnded a b → (IsAtRest b → HasEnded b c) → HasEnded a c
 rests_on a b c one two = ends_again a b c one (two (at_rest a b one))
+
+other_number : ◌≡◌ {A = Value} (Int (pos 1)) (Int (pos 2)) → ⊥
+other_number e = true≢false (ap (λ v. int_eq (number_of v) (pos 1)) e)
 
 -- what is found by the question for the format
 module _ {S : Type 0} (g : Ghosts S) (old : State) (mid new : Held S) (ended : HasEnded old (state g mid)) where
@@ -67,13 +76,17 @@ module _ {S : Type 0} (g : Ghosts S) (old : State) (mid new : Held S) (ended : H
     same : IsUnchanged (state g mid) (state g new)
     same = answered (state g mid) (state g new) row asked
 
-    pub found_there : Survives old (state g mid) (λ _. ⊥) → column row 0 ≡ Int (pos 1) → HasFormat g old true × IsFoundSo g old (state g new) true
+    pub found_there : Survives old (state g mid) (λ _. ⊥) → column row 0 ≡ Int (pos 2) → HasFormat g old true × IsFoundSo g old (state g new) true
     found_there quiet is = (
       (mid, new, ended, survived old (state g mid) _ quiet, (row, asked, is)),
-      (read_over old (state g mid) (state g new) ended same, λ none. blank_never_reads (state g mid) (state g new) row (ap (λ (d : Database). d.schema) (ended.back same.0.was_open).0 ∙ none) asked),
+      (
+        read_over old (state g mid) (state g new) ended same,
+        λ none. blank_never_reads (state g mid) (state g new) row (ap (λ (d : Database). d.schema) (ended.back same.0.was_open).0 ∙ none) asked,
+        λ past. other_number (sym (ap (λ r. column r 0) (past_format_answer (state g mid) (state g new) row (subst HasPast (sym (ended.back same.0.was_open).0) past) asked)) ∙ is),
+      ),
     )
 
-    pub row_ours : HasTables old.committed ⊎ (old.committed.schema ≡ no_schema) → row ≡ Int (pos 1) ∷ []
+    pub row_ours : HasTables old.committed ⊎ (old.committed.schema ≡ no_schema) → row ≡ Int (pos 2) ∷ []
     row_ours ours = elim (had ours same.0.was_open) [
       | inl has ↦ format_answer (state g mid) (state g new) row has asked
       | inr none ↦ absurd (blank_never_reads (state g mid) (state g new) row none asked)
@@ -90,6 +103,7 @@ module _ {S : Type 0} (g : Ghosts S) (old : State) (mid new : Held S) (ended : H
               subst (λ (o : Option ℕ). IsSome o) quiet.limit (ours_limited (state g mid) (state g new) e asked same.0.was_open (subst HasTables (sym (ended.back same.0.was_open).0) has) told),
             ),
             read_blank old (state g mid) (state g new) ended same,
+            λ past. ap (λ (d : Database). d.schema) (same.0.now_is ∙ (ended.back same.0.was_open).0) ∙ past.laid_out,
           ),
         )
 

@@ -47,7 +47,7 @@ module _ (l : Layout) (sql : List ℕ) (q : Query) (names : List (List ℕ)) (it
   pub reads_what : {V A : Type 0} (said : Row → A) (items : V → List A) (P : List A → Type 0) → ((rows : List Row) → IsAnswer q (overlay old.now.trees []) params rows → P (map said rows))
       → (r : Result V StoreFault) → IfOk r (λ v. Tells said sql params old new (items v)) → IfErr r (IsReadFault kinds sql params old new)
       → MatchResult r (λ v. IsStill inside old new × P (items v)) (λ _. IsRefused inside old new)
-  reads_what said items P found (Ok v) ok err = (still l sql q names it params old new inside over ok.0 ok.1, subst P (sym ok.2) (found ok.0 (answer l sql q names it params old new laid ok.0 ok.1)))
+  reads_what said items P found (Ok v) ok err = (still (schema_of l) sql q names it params old new inside over ok.0 ok.1, subst P (sym ok.2) (found ok.0 (answer (schema_of l) sql q names it params old new laid ok.0 ok.1)))
   reads_what said items P found (Err f) ok err = left_refused old new inside over (fault_leaves kinds sql it.reading params old new f err)
 
 module _ {A : Type 0} (asks : Asks A) (said : Row → A) (kinds : List Kind) (so : IsReadSo asks said kinds) (old new : State) where
@@ -83,13 +83,13 @@ module _ {A : Type 0} (asks : Asks A) (said : Row → A) (kinds : List Kind) (so
       stops_so inside over (Err (NoMemory _)) h = tt
       stops_so inside over (Err (Refused e)) (inl fails) =
           let l = over.now.layout in
-          inl (question_refused old new e fails.0 over.is_open l over.now.lie.laid_out sql (query_of l asks.read) (is_read l asks.read).0 (is l) asks.params (whole_read l asks.read asks.params asks.takes) (asks.typed l) (λ db. unsummed l asks.read db asks.params) fails.1)
+          inl (question_refused old new e fails.0 over.is_open (schema_of l) over.now.lie.laid_out sql (query_of l asks.read) (is_read l asks.read).0 (is l) asks.params (whole_read l asks.read asks.params asks.takes) (asks.typed l) (λ db. unsummed l asks.read db asks.params) fails.1)
       stops_so inside over (Err (Refused e)) (inr rows) =
           let l = over.now.layout in
           let lie = over.now.lie in
-          let shown = answer l sql (query_of l asks.read) (is_read l asks.read).0 (is l) asks.params old new lie.laid_out rows.0 rows.1 in
+          let shown = answer (schema_of l) sql (query_of l asks.read) (is_read l asks.read).0 (is l) asks.params old new lie.laid_out rows.0 rows.1 in
           inr (
-            still l sql (query_of l asks.read) (is_read l asks.read).0 (is l) asks.params old new inside over rows.0 rows.1,
+            still (schema_of l) sql (query_of l asks.read) (is_read l asks.read).0 (is l) asks.params old new inside over rows.0 rows.1,
             λ utf8. never_misread kinds rows.0 e (subst (λ ks. AllByRecursion (AreReadAs ks) rows.0) so.1 (are_readable l old.now.trees lie.ours (subst AreUtf8 (tables_are l old.now lie) utf8) asks.params rows.0 asks.read shown)) rows.2,
             misread_error kinds rows.0 e rows.2,
           )

@@ -1,24 +1,26 @@
 -- What opening reads and finds, and why it is refused.
-use Rattle.std.specs.Prelude.{◌≡◌, ◌⊎◌, ◌≢◌}
+use Rattle.std.specs.Prelude.{◌≡◌, ◌∷◌, ◌⊎◌, ◌≢◌}
 use Rattle.sqlite_disk.specs.Disk.{MoreFaults}
-use Rattle.flow_tables.specs.Names.{no_schema, Fault, BadVersion, Damaged, NoMemory, NotOurs, StoreRefused, Book, first_damage, by_run, StoreRows, format_sql, Read, read_sql, Tables, Database, Held, state, Row, Executes, State, Error, Int, Ghosts, column, AllByRecursion, Bool, List, false, pos, true, ℕ, HasEnded, HasTables, IsLaidOut, tables_in, IsReadError, QueriesRow, QueryReturnedNoRows, SqliteFailure, Err, Ok, Some, length, ℤ, [], IsSome, ⊤, IsOver, IsBlank, Tells, AreUtf8, AreNew, Trees}
+use Rattle.flow_tables.specs.Names.{EventRow, no_schema, Fault, BadVersion, Damaged, NoMemory, NotOurs, StoreRefused, Book, first_damage, by_run, StoreRows, format_sql, Read, read_sql, Tables, Database, Held, state, Row, Executes, State, Error, Int, Ghosts, column, AllByRecursion, Bool, List, false, pos, true, ℕ, HasEnded, HasTables, IsLaidOut, tables_in, IsReadError, QueriesRow, QueryReturnedNoRows, SqliteFailure, Err, Ok, Some, length, ℤ, [], IsSome, ⊤, IsOver, IsBlank, Tells, AreUtf8, AreNew, Trees}
 use Rattle.flow_base.specs.Syntax.{Bytes}
 use Rattle.flow_base.specs.declared.fault.Damage.{Damage}
-use Rattle.flow_tables.specs.Owned.{IsFound}
+use Rattle.flow_tables.specs.Owned.{IsHeld}
+use Rattle.flow_sql.specs.Past.{HasPast, PastRead, drop_events_sql, past_kinds, past_schema, past_sql}
 use Rattle.sqlite.specs.declared.error.ErrorCode.TheVariants as code
 use Rattle.flow_rows.specs.Damages.{event_place, task_place, timer_place}
-use Rattle.flow_rows.specs.Rows.{rows_of}
+use Rattle.flow_rows.specs.Rows.{Two, rows_of}
 use Rattle.flow_rows.specs.Standing.{AreKept}
 use Rattle.flow_tables.specs.declared.fault.StoreFault.TheVariants as read
 use Rattle.flow_sql.specs.States.{Since, TellsFailure}
-use Rattle.flow_sql.specs.Stored.{HasOddText, kinds_of, LieByRun}
+use Rattle.flow_sql.specs.Layout.{Write, write_sql}
+use Rattle.flow_sql.specs.Stored.{HasOddText, event_params, kinds_of, LieByRun}
 use Rattle.flow_tables.specs.Reads.{IsReadFault}
 
 ---- The format
 
 -- The number of the format was read, and is another.
 abbrev pub HasOtherFormat : {S : Type 0} → Ghosts S → State → Type 0
-HasOtherFormat {S} g new = (old : Held S) × (row : Row) × (n : ℤ) × QueriesRow format_sql [] (state g old) new (Ok row) × (column row 0 ≡ Int n) × (n ≢ pos 1)
+HasOtherFormat {S} g new = (old : Held S) × (row : Row) × (n : ℤ) × QueriesRow format_sql [] (state g old) new (Ok row) × (column row 0 ≡ Int n) × (n ≢ pos 2)
 
 ---- How an error of the store is told
 
@@ -34,7 +36,7 @@ opening_fault _ = NotOurs
 
 -- What reading the format answers where it is our number, or else where there is no such table.
 abbrev pub IsAnswered : Bool → State → State → Type 0
-IsAnswered true old new = (row : Row) × QueriesRow format_sql [] old new (Ok row) × (column row 0 ≡ Int (pos 1))
+IsAnswered true old new = (row : Row) × QueriesRow format_sql [] old new (Ok row) × (column row 0 ≡ Int (pos 2))
 IsAnswered false old new = (e : Error) × QueriesRow format_sql [] old new (Err e) × (e ≢ QueryReturnedNoRows) × (opening_fault e ≡ NotOurs)
 
 -- The format was read so, of what the last commit left at the start, under the limit on steps that was set there.
@@ -46,7 +48,7 @@ HasFormat {S} g start is_there = (old new : Held S) × HasEnded start (state g o
 -- Tables stand for a book: they are its rows, its texts are programs, and its runs keep the rules.
 pub record StandFor (is_program : Bytes → Bool) (t : Tables) (b : Book) : Type 0 where
   pub texts : AllByRecursion (λ text. is_program text ≡ true) b.texts
-  pub runs : AreKept (length b.texts) [] b.runs
+  pub runs : AreKept Two (length b.texts) [] b.runs
   pub same : t ≡ rows_of b
 
 -- Its own rows stand for a book: its texts are programs, and its runs keep the rules.
@@ -95,7 +97,10 @@ IsMet {S} g e =
     × (Executes sql [] (state g old) (state g new) (Err e)
     ⊎ (QueriesRow sql [] (state g old) (state g new) (Err e)
     ⊎ (((r : Read) × (read_sql r ≡ sql) × IsReadFault (kinds_of r) sql [] (state g old) (state g new) (read.Refused e))
-    ⊎ ((row : Row) × QueriesRow sql [] (state g old) (state g new) (Ok row) × IsReadError 0 (column row 0) e))))
+    ⊎ (((row : Row) × QueriesRow sql [] (state g old) (state g new) (Ok row) × IsReadError 0 (column row 0) e)
+    ⊎ (((r : PastRead) × (past_sql r ≡ sql) × IsReadFault (past_kinds r) sql [] (state g old) (state g new) (read.Refused e))
+    ⊎ (((r : EventRow) × (sql ≡ write_sql Write.insert_event) × Executes sql (event_params r) (state g old) (state g new) (Err e))
+    ⊎ ((run : ℤ) × (sql ≡ drop_events_sql) × Executes sql (Int run ∷ []) (state g old) (state g new) (Err e))))))))
 
 -- The other faults have clauses of their own, and want of memory none.
 abbrev pub HasCause : {S : Type 0} → Ghosts S → Fault → Type 0
@@ -121,16 +126,18 @@ StopsOpening g first new _ = ⊤
 ---- What is opened
 
 -- What is found of our tables, or of none: they are shown, or there are none. Ours aren't found only where a limit is
--- set on the steps of a query.
+-- set on the steps of a query. Those of the first format aren't ours, and are there.
 abbrev pub IsFoundSo : {S : Type 0} → Ghosts S → State → State → Bool → Type 0
-IsFoundSo g old new true = (HasTables old.committed → IsOver false new × (new.now ≡ old.committed) × (new.committed ≡ old.committed)) × (old.committed.schema ≡ no_schema → ⊥)
-IsFoundSo g old new false = (HasTables old.committed → IsLaidOut new.now × IsSome old.step_limit) × (old.committed.schema ≡ no_schema → IsBlank false new)
+IsFoundSo g old new true =
+    (HasTables old.committed → IsOver false new × (new.now ≡ old.committed) × (new.committed ≡ old.committed)) × (old.committed.schema ≡ no_schema → ⊥) × (HasPast old.committed → ⊥)
+IsFoundSo g old new false =
+    (HasTables old.committed → IsLaidOut new.now × IsSome old.step_limit) × (old.committed.schema ≡ no_schema → IsBlank false new) × (HasPast old.committed → new.now.schema ≡ past_schema)
 
 -- The connection shows the book that the file held, in our tables, and it is committed. Tables that were there are as they were.
 pub record IsOpened (old new : State) (b : Book) : Type 0 where
   pub over : IsOver false new
   pub same : new.now ≡ new.committed
-  pub found : IsFound old b
+  pub found : IsHeld old b
   pub tells : Tells (tables_in new.committed) b
   pub utf8 : AreUtf8 (tables_in new.committed)
   pub kept : (new.committed ≡ old.committed) ⊎ (old.committed.schema ≡ no_schema)

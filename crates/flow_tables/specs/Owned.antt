@@ -10,6 +10,9 @@ use Rattle.flow_maps.specs.declared.maps.Maps.{Maps}
 use Rattle.flow_maps.specs.Serving.{Serves, Sees, named, key_if}
 use Rattle.flow_tables.specs.Known.{IsKnown}
 use Rattle.flow_tables.specs.Puts.{mark_of}
+use Rattle.flow_rows.specs.Rows.{One}
+use Rattle.flow_rows.specs.Told.{TellsIn}
+use Rattle.flow_sql.specs.Past.{ArePast, HasPast, past_tables}
 use Rattle.flow_sql.specs.Stored.{AreUtf8}
 use Rattle.flow_tables.specs.Faults.{IsHindering, Since, told_fault}
 
@@ -65,9 +68,14 @@ kept_book g t = book_of (state_of g t).committed
 abbrev pub IsUp : {S : Type 0} → Ghosts S → Stored S → Type 0
 IsUp g t = IsTrue (state_of g t).is_open
 
--- What is said of the book is said of our tables with any rows, or of none, as the file that was opened has them.
+-- our tables with any rows, or none, as a file of our format has them
+abbrev pub IsCurrent : State → Type 0
+IsCurrent s = HasCleanDisk s → HasTables s.committed ⊎ (s.committed.schema ≡ no_schema)
+
+-- What is said of the book is said of those, and of tables of the first format with any rows, which are moved when they are opened, as
+-- the file that was opened has them.
 abbrev pub IsOurs : State → Type 0
-IsOurs s = HasCleanDisk s → HasTables s.committed ⊎ (s.committed.schema ≡ no_schema)
+IsOurs s = HasCleanDisk s → (HasTables s.committed ⊎ (s.committed.schema ≡ no_schema)) ⊎ HasPast s.committed
 
 -- and of a disk that has told no lie so far
 abbrev pub IsFit : {S : Type 0} → Ghosts S → Stored S → Type 0
@@ -177,9 +185,30 @@ IsNoted note (Err f) old new = new ≡ Some (note f)
 
 ---- Opening
 
--- The book that a file holds when it is opened: our tables tell it, or there are none and it is the empty one.
+-- The connection shows our tables at rest, which tell the book.
+pub record IsShowing (s : State) (b : Book) : Type 0 where
+  pub over : IsOver false s
+  pub same : s.now ≡ s.committed
+  pub tells : Tells (tables_in s.committed) b
+  pub utf8 : AreUtf8 (tables_in s.committed)
+
+-- The book that a file of our format holds when it is opened: our tables tell it, or there are none and it is the empty one.
+abbrev pub IsHeld : State → Book → Type 0
+IsHeld s b = (HasTables s.committed × Tells (tables_in s.committed) b) ⊎ ((s.committed.schema ≡ no_schema) × (b ≡ no_book))
+
+-- the trees of a file of the first format hold this book
+pub record IsPastFileOf (db : Trees) (b : Book) : Type 0 where
+  pub past : ArePast db
+  pub tells : TellsIn One (past_tables db) b
+
+-- a store of the first format holds it
+pub record IsHeldBefore (s : State) (b : Book) : Type 0 where
+  pub past : HasPast s.committed
+  pub tells : TellsIn One (past_tables s.committed.trees) b
+
+-- The book that a file holds when it is opened, in either format.
 abbrev pub IsFound : State → Book → Type 0
-IsFound s b = (HasTables s.committed × Tells (tables_in s.committed) b) ⊎ ((s.committed.schema ≡ no_schema) × (b ≡ no_book))
+IsFound s b = IsHeld s b ⊎ IsHeldBefore s b
 
 -- A stop leaves what a stop before could leave, or the tables made for this book.
 abbrev pub LeavesMade : State → State → Book → Type 0

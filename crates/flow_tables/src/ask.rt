@@ -1,6 +1,7 @@
 //! Questions to the tables and changes of their rows, each one statement. One that is refused has changed nothing, or the
 //! transaction has ended.
-ghost use Rattle.flow_tables.specs.Names.{Book, Tells as TellsBook, Tables, read_sql, write_sql, state, Executes, HasCleanDisk, Survives, IfErr, CommitsBy, Shown, FailsToQuery, IfOk};
+ghost use Rattle.std.specs.Prelude.{◌≡◌};
+ghost use Rattle.flow_tables.specs.Names.{Row as SqlRow, List, map, Book, Tells as TellsBook, Tables, read_sql, write_sql, state, Executes, HasCleanDisk, Survives, IfErr, CommitsBy, Shown, FailsToQuery, IfOk};
 ghost use Rattle.sqlite.specs.State.{CommitsShowing};
 ghost use Rattle.flow_tables.specs.Reads.{Tells, IsReadFault};
 ghost use Rattle.flow_tables.specs.Asking.{IsAsked, IsFirst, IsValue, IsRecalled, IsChanged};
@@ -51,7 +52,8 @@ pub(crate) trait BookRead {
         ensures { IsRecalled S.Store conn.old conn.new result (value self.now) };
 }
 
-fn ask_rows<Q: Question, S: Alter>(
+/// What the rows of the answer say, whatever tables there are.
+pub fn ask_rows<Q: Question, S: Alter>(
     alloc: Global,
     conn: &mut Connection<S>,
     question: &Q,
@@ -60,6 +62,8 @@ fn ask_rows<Q: Question, S: Alter>(
     ensures cause { HasCleanDisk (state S.Store conn.new) → IfErr result (IsReadFault Q.Item.kinds (read_sql (Q.asks question.now).read) (Q.asks question.now).params (state S.Store conn.old) (state S.Store conn.new)) }
     ensures survives { Survives (state S.Store conn.old) (state S.Store conn.new) (CommitsShowing (read_sql (Q.asks question.now).read) (Q.asks question.now).params (state S.Store conn.old)) }
     ensures so { IsReadSo (Q.asks question.now) Q.Item.said Q.Item.kinds }
+    // Whatever the tables are, each item is what a row said.
+    ensures shown { IfOk result (λ v. (rows : List SqlRow) × (v.items ≡ map Q.Item.said rows)) }
 {
     match question.send(conn) {
         Ok(rows) => read_all(alloc, rows.as_slice()),
@@ -74,6 +78,18 @@ pub fn ask<Q: Question, S: Alter>(
     question: &Q,
 ) -> Result<Vec<Q::Item>, StoreFault>
     ensures { IsAsked (read_sql (Q.asks question.now).read) (Q.asks question.now).params Q.Item.kinds (state S.Store conn.old) (state S.Store conn.new) result (λ t v. (Q.asks question.now).tells t v.items) }
+{
+    ask_rows(alloc, conn, question)
+}
+
+/// What the rows of the answer say; and each item is what a row said, whatever the tables are.
+pub(crate) fn ask_said<Q: Question, S: Alter>(
+    alloc: Global,
+    conn: &mut Connection<S>,
+    question: &Q,
+) -> Result<Vec<Q::Item>, StoreFault>
+    ensures asked { IsAsked (read_sql (Q.asks question.now).read) (Q.asks question.now).params Q.Item.kinds (state S.Store conn.old) (state S.Store conn.new) result (λ t v. (Q.asks question.now).tells t v.items) }
+    ensures shown { IfOk result (λ v. (rows : List SqlRow) × (v.items ≡ map Q.Item.said rows)) }
 {
     ask_rows(alloc, conn, question)
 }

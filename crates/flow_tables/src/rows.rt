@@ -14,7 +14,8 @@ use flow_rows::rows::{EventRow, OutboxRow, RunRow, TextRow, TimerRow};
 use sqlite::Row;
 use std::alloc::Global;
 
-fn number_at(row: &Row, at: usize) -> Result<i64, StoreFault>
+/// A column that is a number.
+pub fn number_at(row: &Row, at: usize) -> Result<i64, StoreFault>
     ensures value { IfOk result (λ n. n ≡ number_at row.now at) }
     ensures cause { (kinds : List Kind) → slice_get kinds at ≡ Some Integer → IfErr result (IsMisread kinds row.now) }
 {
@@ -24,7 +25,8 @@ fn number_at(row: &Row, at: usize) -> Result<i64, StoreFault>
     }
 }
 
-fn text_at(alloc: Global, row: &Row, at: usize) -> Result<RawText, StoreFault>
+/// A column that is a text.
+pub fn text_at(alloc: Global, row: &Row, at: usize) -> Result<RawText, StoreFault>
     ensures value { IfOk result (λ t. t ≡ bytes (column row.now at)) }
     ensures cause { (kinds : List Kind) → slice_get kinds at ≡ Some Text → IfErr result (IsMisread kinds row.now) }
 {
@@ -39,7 +41,7 @@ fn text_at(alloc: Global, row: &Row, at: usize) -> Result<RawText, StoreFault>
 }
 
 /// What a row of an answer says.
-pub(crate) trait Said: Sized {
+pub trait Said: Sized {
     ghost said: { SqlRow → Self };
 
     // What its columns hold.
@@ -60,7 +62,8 @@ impl Said for EventRow {
             run: number_at(row, 0)?,
             id: number_at(row, 1)?,
             kind: number_at(row, 2)?,
-            body: text_at(alloc, row, 3)?,
+            at: Some(number_at(row, 3)?),
+            body: text_at(alloc, row, 4)?,
         })
     }
 }
@@ -144,7 +147,7 @@ impl Said for OutboxRow {
 }
 
 /// What the rows of an answer say.
-pub(crate) fn read_all<T: Said + Drop>(alloc: Global, rows: &[Row]) -> Result<Vec<T>, StoreFault>
+pub fn read_all<T: Said + Drop>(alloc: Global, rows: &[Row]) -> Result<Vec<T>, StoreFault>
     ensures value { IfOk result (λ v. v.items ≡ map T.Said.said rows.now) }
     ensures cause { IfErr result (AreMisread T.Said.kinds rows.now) }
 {

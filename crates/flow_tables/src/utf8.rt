@@ -54,7 +54,7 @@ fn all_are_utf8<R: HasTexts>(rows: &[R])
 }
 
 /// Each text that was read is UTF-8.
-pub(crate) fn rows_are_utf8(rows: &StoreRows)
+pub fn rows_are_utf8(rows: &StoreRows)
     ensures { AreUtf8 (by_run rows.now) }
 {
     all_are_utf8(rows.texts.as_slice());

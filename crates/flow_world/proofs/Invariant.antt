@@ -1,18 +1,19 @@
 -- Whatever happens, a stop leaves the log, or the log and the whole batch.
 use Rattle.std.proofs.Common.{◌≡◌, ℕ, zero, suc, ◌+◌, ◌-◌, ◌≤◌, List, [], ◌∷◌, ◌++◌, length, take, drop, refl, sym, ◌∙◌, subst, arith, append_assoc, Option, Some, None, Bool, true, false, ⊎_elim, inl, inr}
-use Rattle.std.specs.Prelude.{◌⊎◌, slice_get, nat_le, ◌&&◌, Contains, if◌then◌else◌}
+use Rattle.std.specs.Prelude.{◌⊎◌, slice_get, nat_eq, nat_le, ◌&&◌, Contains, if◌then◌else◌}
 use Rattle.std.specs.List.{AllByRecursion}
-use Rattle.std.proofs.lemmas.List.{take-append-drop, length-take, append-nil, length-append}
+use Rattle.std.proofs.lemmas.List.{take-append-drop, length-take, append-nil, length-append, length-map, map-append}
 use Rattle.std.proofs.lemmas.List.Elements.{Contains-append_cases, Contains-append_left}
 use Rattle.flow_base.specs.declared.command.Command.{Command}
 use Rattle.flow_base.specs.declared.command.Reply.{Reply}
 use Rattle.flow_model.specs.Book.{Book, nth}
-use Rattle.flow_model.specs.Apply.{Rules, after, replies}
+use Rattle.flow_model.specs.Apply.{Rules}
+use Rattle.flow_model.specs.Logs.{Entry, limited, entered, its_command, commands_in, after_entry, after_log, log_replies}
 use Rattle.flow_model.specs.Sound.{IsSound}
-use Rattle.flow_model.specs.World.{Attempt, is_open_task, Receipt, Stage, Idle, Writing, Committing, Halted, Stopped, World, first, Step, Submit, Report, Failure, Take, Write, WriteFails, CommitBegins, CommitDone, CommitFails, RefusedRollback, Publish, Dispatch, Crash, Reopen, submitted, reported, completion, failure, batch_limit, taken, rolled_back, not_rolled_back, commit_begun, commit_done, commit_failed, receipts_from, published_in, dispatched_in, stopped, opened, Opens, Goes, Comes, IsIn, HoldsAcknowledged, IsSafe, TakesOver, WorldIsSafe, WorldOpensWell}
-use Rattle.flow_model.proofs.Logs.{replies_cut, length-replies, nth_next}
+use Rattle.flow_model.specs.World.{Attempt, is_open_task, Receipt, Stage, Idle, Writing, Committing, Halted, Stopped, World, first, Step, Submit, Report, Failure, Take, Write, WriteFails, CommitBegins, CommitDone, CommitFails, RefusedRollback, Publish, Dispatch, Crash, Reopen, Migrate, submitted, reported, completion, failure, batch_limit, taken, rolled_back, not_rolled_back, commit_begun, commit_done, commit_failed, receipts_from, published_in, dispatched_in, stopped, opened, migrated, Opens, Goes, Comes, IsIn, HoldsAcknowledged, IsSafe, TakesOver, WorldIsSafe, WorldOpensWell}
+use Rattle.flow_model.proofs.Logs.{log_replies_cut, length-log_replies, nth_next}
 use Rattle.flow_machine.specs.Soundness.{ReadsWellFormed}
-use Rattle.flow_machine.proofs.Keeps.{after_keeps}
+use Rattle.flow_machine.proofs.Keeps.{step_keeps}
 use Rattle.flow_machine.proofs.Places.{nth_kept}
 
 -- Lists.
@@ -32,17 +33,35 @@ of_one x y (suc n, k, e) = absurd (omega (arith, k))
 in_one : {A : Type 0} (x : A) → Contains (x ∷ []) x
 in_one x = (0, omega arith, refl)
 
+-- Soundness doesn't ask for the limit, so a log keeps it under any.
+
+sound_limited : (u : Rules) (n : ℕ) (b : Book) → IsSound u b → IsSound (limited u n) b
+sound_limited u n b s =
+    record {
+      runs = λ i r k. (
+          let h = s.runs i r k in
+          record { program = h.program; its_text = h.its_text; place = h.place; stands = h.stands; activities = h.activities; attempts = h.attempts });
+      one_open = s.one_open;
+    }
+
+log_keeps : (u : Rules) (b : Book) (es : List Entry) → ReadsWellFormed u → IsSound u b → IsSound u (after_log u b es)
+log_keeps u b [] f s = s
+log_keeps u b (e ∷ es) f s =
+    let under = limited u e.limit in
+    let next : IsSound under (after_entry u b e) = step_keeps under b e.command f (sound_limited u e.limit b s) in
+    log_keeps u (after_entry u b e) es f (sound_limited under u.limit (after_entry u b e) next)
+
 -- Receipts.
 
 -- a longer log has what a shorter one had
-in_more : (u : Rules) (base : Book) (b more : List Command) (r : Receipt) → IsIn u base b r → IsIn u base (b ++ more) r
+in_more : (u : Rules) (base : Book) (b more : List Entry) (r : Receipt) → IsIn u base b r → IsIn u base (b ++ more) r
 in_more u base b more r i =
     record {
-      command = nth_kept b more (r.opening + r.place) r.command i.command;
-      reply = subst (λ rs. nth rs (r.opening + r.place) ≡ Some r.reply) (sym (replies_cut u base b more)) (nth_kept (replies u base b) (replies u (after u base b) more) (r.opening + r.place) r.reply i.reply);
+      command = subst (λ cs. nth cs (r.opening + r.place) ≡ Some r.command) (sym (map-append its_command b more)) (nth_kept (commands_in b) (commands_in more) (r.opening + r.place) r.command i.command);
+      reply = subst (λ rs. nth rs (r.opening + r.place) ≡ Some r.reply) (sym (log_replies_cut u base b more)) (nth_kept (log_replies u base b) (log_replies u (after_log u base b) more) (r.opening + r.place) r.reply i.reply);
     }
 
-held_in_more : (u : Rules) (base : Book) (b more : List Command) (rs : List Receipt) → AllByRecursion (IsIn u base b) rs → AllByRecursion (IsIn u base (b ++ more)) rs
+held_in_more : (u : Rules) (base : Book) (b more : List Entry) (rs : List Receipt) → AllByRecursion (IsIn u base b) rs → AllByRecursion (IsIn u base (b ++ more)) rs
 held_in_more u base b more rs a = all_into (IsIn u base b) (IsIn u base (b ++ more)) (in_more u base b more) rs a
 
 -- receipts that are made of lists stand in them, where these lists begin behind as many others as the place says
@@ -62,12 +81,12 @@ receipts_at opening place pre (c ∷ cs) done (r ∷ rs) p q =
 
 -- the log, or the log and the whole batch
 abbrev IsEither : Rules → World → Book → Type 0
-IsEither u w x = (x ≡ after u w.base w.log) ⊎ (x ≡ after u w.base (w.log ++ w.batch))
+IsEither u w x = (x ≡ after_log u w.base w.log) ⊎ (x ≡ after_log u w.base (w.log ++ w.batch))
 
 -- the batch is there only once its commit has begun
 abbrev LeftAt : Rules → World → Stage → Book → Type 0
-LeftAt u w Idle x = x ≡ after u w.base w.log
-LeftAt u w Writing x = x ≡ after u w.base w.log
+LeftAt u w Idle x = x ≡ after_log u w.base w.log
+LeftAt u w Writing x = x ≡ after_log u w.base w.log
 LeftAt u w st x = IsEither u w x
 
 -- after a crash one book is on the disk
@@ -90,8 +109,8 @@ left_is u w Committing x l = l
 left_is u w Halted x l = l
 left_is u w Stopped x l = l
 
-at_first : (u : Rules) (base : Book) → Invariant u base (first base)
-at_first u base =
+at_first : (u : Rules) (limit : ℕ) (base : Book) → Invariant u base (first limit base)
+at_first u limit base =
     record { based = refl; there = (base, in_one base); left = λ x h. of_one base x h; order = (omega arith, omega arith); told = tt; alone = tt }
 
 is_safe : (u : Rules) (base : Book) → ReadsWellFormed u → (w : World) → IsSound u base → Invariant u base w → (w.base ≡ base) × IsSafe u w
@@ -101,18 +120,18 @@ is_safe u base f w s i =
       record {
         some = i.there;
         each = λ x h.
-            ⊎_elim (λ (e : x ≡ after u w.base w.log).
+            ⊎_elim (λ (e : x ≡ after_log u w.base w.log).
             record {
-              sound = subst (IsSound u) (sym e) (after_keeps u w.base w.log f sound);
+              sound = subst (IsSound u) (sym e) (log_keeps u w.base w.log f sound);
               kept = w.log;
               book_is = e;
               whole = inl refl;
               beginning = (w.batch, refl);
               acknowledged = i.told;
             })
-            (λ (e : x ≡ after u w.base (w.log ++ w.batch)).
+            (λ (e : x ≡ after_log u w.base (w.log ++ w.batch)).
             record {
-              sound = subst (IsSound u) (sym e) (after_keeps u w.base (w.log ++ w.batch) f sound);
+              sound = subst (IsSound u) (sym e) (log_keeps u w.base (w.log ++ w.batch) f sound);
               kept = w.log ++ w.batch;
               book_is = e;
               whole = inr refl;
@@ -144,7 +163,7 @@ either u base false new old i j = j
 takes : (u : Rules) (base : Book) (w : World) (st : Stage) (k : ℕ) → w.stage ≡ st → Invariant u base w → Invariant u base (taken w st k)
 takes u base w Idle k e i =
     either u base (nat_le 1 k && nat_le k batch_limit && nat_le k (length w.inbox))
-    (record w { batch = take k w.inbox; inbox = drop k w.inbox; stage = Writing }) w
+    (record w { batch = entered w.limit (take k w.inbox); inbox = drop k w.inbox; stage = Writing }) w
     (record { based = i.based; there = i.there; left = λ x h. subst (λ s. LeftAt u w s x) e (i.left x h); order = i.order; told = i.told; alone = tt }) i
 takes u base w Writing k e i = i
 takes u base w Committing k e i = i
@@ -169,7 +188,7 @@ fails_to_roll_back u base w Stopped e i = i
 
 begins_commit : (u : Rules) (base : Book) (w : World) (st : Stage) → w.stage ≡ st → Invariant u base w → Invariant u base (commit_begun u w st)
 begins_commit u base w Writing e i =
-    let more = after u w.base (w.log ++ w.batch) in
+    let more = after_log u w.base (w.log ++ w.batch) in
     record {
       based = i.based;
       there = (i.there.0, Contains-append_left w.may (more ∷ []) i.there.0 i.there.1);
@@ -195,7 +214,7 @@ fails_commit u base w Stopped e i = i
 
 commits : (u : Rules) (base : Book) (w : World) (st : Stage) → Invariant u base w → Invariant u base (commit_done u w st)
 commits u base w Committing i =
-    let kept = after u w.base (w.log ++ w.batch) in
+    let kept = after_log u w.base (w.log ++ w.batch) in
     record {
       based = i.based;
       there = (kept, in_one kept);
@@ -210,16 +229,18 @@ commits u base w Halted i = i
 commits u base w Stopped i = i
 
 -- all of the log has its receipts
-receipts_held : (u : Rules) (base : Book) (w : World) → Invariant u base w → AllByRecursion (IsIn u w.base w.log) (w.receipts ++ receipts_from w.opening (suc (w.published - w.opening)) (drop w.published w.log) (drop w.published (replies u w.base w.log)))
+receipts_held : (u : Rules) (base : Book) (w : World) → Invariant u base w
+    → AllByRecursion (IsIn u w.base w.log) (w.receipts ++ receipts_from w.opening (suc (w.published - w.opening)) (drop w.published (commands_in w.log)) (drop w.published (log_replies u w.base w.log)))
 receipts_held u base w i =
-    let told = replies u w.base w.log in
-    let here : length (take w.published w.log) ≡ w.published = omega (arith, length-take w.published w.log, i.order.1) in
-    let there : length (take w.published told) ≡ w.published = omega (arith, length-take w.published told, length-replies u w.base w.log, i.order.1) in
-    let new = receipts_at w.opening (suc (w.published - w.opening)) (take w.published w.log) (drop w.published w.log) (take w.published told) (drop w.published told) (omega (arith, here, i.order.0)) (there ∙ sym here) in
-    let new1 = subst (λ l. AllByRecursion (IsAt l (take w.published told ++ drop w.published told)) (receipts_from w.opening (suc (w.published - w.opening)) (drop w.published w.log) (drop w.published told))) (take-append-drop w.published w.log) new in
-    let new2 = subst (λ l. AllByRecursion (IsAt w.log l) (receipts_from w.opening (suc (w.published - w.opening)) (drop w.published w.log) (drop w.published told))) (take-append-drop w.published told) new1 in
-    all_joined (IsIn u w.base w.log) w.receipts (receipts_from w.opening (suc (w.published - w.opening)) (drop w.published w.log) (drop w.published told)) i.told
-    (all_into (IsAt w.log told) (IsIn u w.base w.log) (λ r h. record { command = h.0; reply = h.1 }) (receipts_from w.opening (suc (w.published - w.opening)) (drop w.published w.log) (drop w.published told)) new2)
+    let asked = commands_in w.log in
+    let told = log_replies u w.base w.log in
+    let more = receipts_from w.opening (suc (w.published - w.opening)) (drop w.published asked) (drop w.published told) in
+    let here : length (take w.published asked) ≡ w.published = omega (arith, length-take w.published asked, length-map w.log its_command, i.order.1) in
+    let there : length (take w.published told) ≡ w.published = omega (arith, length-take w.published told, length-log_replies u w.base w.log, i.order.1) in
+    let new = receipts_at w.opening (suc (w.published - w.opening)) (take w.published asked) (drop w.published asked) (take w.published told) (drop w.published told) (omega (arith, here, i.order.0)) (there ∙ sym here) in
+    let new1 = subst (λ l. AllByRecursion (IsAt l (take w.published told ++ drop w.published told)) more) (take-append-drop w.published asked) new in
+    let new2 = subst (λ l. AllByRecursion (IsAt asked l) more) (take-append-drop w.published told) new1 in
+    all_joined (IsIn u w.base w.log) w.receipts more i.told (all_into (IsAt asked told) (IsIn u w.base w.log) (λ r h. record { command = h.0; reply = h.1 }) more new2)
 
 publishes : (u : Rules) (base : Book) (w : World) (st : Stage) → Invariant u base w → Invariant u base (published_in u w st)
 publishes u base w Stopped i = i
@@ -228,9 +249,9 @@ publishes u base w Writing i = record { based = i.based; there = i.there; left =
 publishes u base w Committing i = record { based = i.based; there = i.there; left = i.left; order = (omega (arith, i.order), omega arith); told = receipts_held u base w i; alone = i.alone }
 publishes u base w Halted i = record { based = i.based; there = i.there; left = i.left; order = (omega (arith, i.order), omega arith); told = receipts_held u base w i; alone = i.alone }
 
-handed_out : (u : Rules) (base : Book) (w : World) (a : Attempt) → Invariant u base w → Invariant u base (if is_open_task (after u w.base w.log) a then record w { dispatched = a ∷ w.dispatched } else w)
+handed_out : (u : Rules) (base : Book) (w : World) (a : Attempt) → Invariant u base w → Invariant u base (if is_open_task (after_log u w.base w.log) a then record w { dispatched = a ∷ w.dispatched } else w)
 handed_out u base w a i =
-    either u base (is_open_task (after u w.base w.log) a) (record w { dispatched = a ∷ w.dispatched }) w (record { based = i.based; there = i.there; left = i.left; order = i.order; told = i.told; alone = i.alone }) i
+    either u base (is_open_task (after_log u w.base w.log) a) (record w { dispatched = a ∷ w.dispatched }) w (record { based = i.based; there = i.there; left = i.left; order = i.order; told = i.told; alone = i.alone }) i
 
 dispatches : (u : Rules) (base : Book) (w : World) (st : Stage) (a : Attempt) → Invariant u base w → Invariant u base (dispatched_in u w st a)
 dispatches u base w Stopped a i = i
@@ -238,6 +259,15 @@ dispatches u base w Idle a i = handed_out u base w a i
 dispatches u base w Writing a i = handed_out u base w a i
 dispatches u base w Committing a i = handed_out u base w a i
 dispatches u base w Halted a i = handed_out u base w a i
+
+migrates : (u : Rules) (base : Book) (w : World) (st : Stage) → Invariant u base w → Invariant u base (migrated u w st)
+migrates u base w Idle i =
+    either u base (nat_eq (length w.log) w.opening) (record w { limit = u.limit }) w
+    (record { based = i.based; there = i.there; left = i.left; order = i.order; told = i.told; alone = i.alone }) i
+migrates u base w Writing i = i
+migrates u base w Committing i = i
+migrates u base w Halted i = i
+migrates u base w Stopped i = i
 
 stops : (u : Rules) (base : Book) (w : World) (found : Book) → Contains w.may found → Invariant u base w → Invariant u base (stopped w found)
 stops u base w found h i =
@@ -259,18 +289,18 @@ took_over u base w v Committing e n i o = absurd (cc n)
 took_over u base w v Halted e n i o = absurd (cc n)
 took_over u base w v Stopped e n i o =
     let alone = subst (λ s. AloneAt w.may s) e i.alone in
-    ⊎_elim (λ (h : Contains w.may (after u w.base w.log) × (v ≡ opened w w.log)).
-    subst (TakesOver u w) (sym h.1) (record { is_found = λ x a. alone x (after u w.base w.log) a h.0; whole = inl refl; acknowledged = i.told }))
-    (λ (h : (Contains w.may (after u w.base w.log) → ⊥) × (v ≡ opened w (w.log ++ w.batch))).
+    ⊎_elim (λ (h : Contains w.may (after_log u w.base w.log) × (v ≡ opened w w.log)).
+    subst (TakesOver u w) (sym h.1) (record { is_found = λ x a. alone x (after_log u w.base w.log) a h.0; whole = inl refl; acknowledged = i.told }))
+    (λ (h : (Contains w.may (after_log u w.base w.log) → ⊥) × (v ≡ opened w (w.log ++ w.batch))).
     subst (TakesOver u w) (sym h.1) (record {
       is_found = λ x a.
-          ⊎_elim (λ (b : x ≡ after u w.base w.log). absurd (h.0 (subst (Contains w.may) b a))) (λ (b : x ≡ after u w.base (w.log ++ w.batch)). b)
+          ⊎_elim (λ (b : x ≡ after_log u w.base w.log). absurd (h.0 (subst (Contains w.may) b a))) (λ (b : x ≡ after_log u w.base (w.log ++ w.batch)). b)
           (left_is u w w.stage x (i.left x a));
       whole = inr refl;
       acknowledged = held_in_more u w.base w.log w.batch w.receipts i.told;
     })) o
 
-opens : (u : Rules) (base : Book) (w : World) (log : List Command) → TakesOver u w (opened w log) → Invariant u base w → Invariant u base (opened w log)
+opens : (u : Rules) (base : Book) (w : World) (log : List Entry) → TakesOver u w (opened w log) → Invariant u base w → Invariant u base (opened w log)
 opens u base w log t i =
     record { based = i.based; there = i.there; left = t.is_found; order = (omega arith, omega arith); told = t.acknowledged; alone = tt }
 
@@ -281,9 +311,9 @@ reopens u base w v Committing e i o = subst (Invariant u base) (sym o) i
 reopens u base w v Halted e i o = subst (Invariant u base) (sym o) i
 reopens u base w v Stopped e i o =
     let t = took_over u base w v Stopped e refl i o in
-    ⊎_elim (λ (h : Contains w.may (after u w.base w.log) × (v ≡ opened w w.log)).
+    ⊎_elim (λ (h : Contains w.may (after_log u w.base w.log) × (v ≡ opened w w.log)).
     subst (Invariant u base) (sym h.1) (opens u base w w.log (subst (TakesOver u w) h.1 t) i))
-    (λ (h : (Contains w.may (after u w.base w.log) → ⊥) × (v ≡ opened w (w.log ++ w.batch))).
+    (λ (h : (Contains w.may (after_log u w.base w.log) → ⊥) × (v ≡ opened w (w.log ++ w.batch))).
     subst (Invariant u base) (sym h.1) (opens u base w (w.log ++ w.batch) (subst (TakesOver u w) h.1 t) i)) o
 
 -- wherever a step leads
@@ -302,6 +332,7 @@ step_on u base w Publish v i g = subst (Invariant u base) (sym g) (publishes u b
 step_on u base w (Dispatch a) v i g = subst (Invariant u base) (sym g) (dispatches u base w w.stage a i)
 step_on u base w (Crash found) v i g = subst (Invariant u base) (sym g.1) (stops u base w found g.0 i)
 step_on u base w Reopen v i g = reopens u base w v w.stage refl i g
+step_on u base w Migrate v i g = subst (Invariant u base) (sym g) (migrates u base w w.stage i)
 
 -- wherever steps lead
 steps_on : (u : Rules) (base : Book) (ss : List Step) (w v : World) → Invariant u base w → Comes u w ss v → Invariant u base v
@@ -309,7 +340,7 @@ steps_on u base [] w v i c = subst (Invariant u base) (sym c) i
 steps_on u base (s ∷ ss) w v i (x, (g, c)) = steps_on u base ss x v (step_on u base w s x i g) c
 
 pub safe : (u : Rules) → ReadsWellFormed u → WorldIsSafe u
-safe u f base ss w s c = is_safe u base f w s (steps_on u base ss (first base) w (at_first u base) c)
+safe u f limit base ss w s c = is_safe u base f w s (steps_on u base ss (first limit base) w (at_first u limit base) c)
 
 pub opens_well : (u : Rules) → WorldOpensWell u
-opens_well u base ss w v c n g = took_over u base w v w.stage refl n (steps_on u base ss (first base) w (at_first u base) c) g
+opens_well u limit base ss w v c n g = took_over u base w v w.stage refl n (steps_on u base ss (first limit base) w (at_first u limit base) c) g

@@ -11,44 +11,45 @@ use Rattle.flow_model.specs.World.{Attempt, World, is_open_task, first, Report, 
 use Rattle.flow_model.specs.World.{submitted, taken, commit_begun, not_rolled_back, published_in, stopped}
 
 -- the world in which an attempt was handed out
-abbrev handed_out : Book → Attempt → World
-handed_out base a = record (first base) { dispatched = a ∷ [] }
+abbrev handed_out : ℕ → Book → Attempt → World
+handed_out n base a = record (first n base) { dispatched = a ∷ [] }
 
 -- an activity that is open in the book is handed out
-dispatches : (u : Rules) (base : Book) (a : Attempt) → is_open_task base a ≡ true → Comes u (first base) (Dispatch a ∷ []) (handed_out base a)
-dispatches u base a is = (handed_out base a, (rw is refl, refl))
+dispatches : (u : Rules) (n : ℕ) (base : Book) (a : Attempt) → is_open_task base a ≡ true → Comes u (first n base) (Dispatch a ∷ []) (handed_out n base a)
+dispatches u n base a is = (handed_out n base a, (rw is refl, refl))
 
 -- one that isn't open is not
-not_handed_out : (u : Rules) (base : Book) (a : Attempt) → is_open_task base a ≡ false → Comes u (first base) (Dispatch a ∷ []) (first base)
-not_handed_out u base a other = (first base, (rw other refl, refl))
+not_handed_out : (u : Rules) (n : ℕ) (base : Book) (a : Attempt) → is_open_task base a ≡ false → Comes u (first n base) (Dispatch a ∷ []) (first n base)
+not_handed_out u n base a other = (first n base, (rw other refl, refl))
 
 -- a report on an attempt that was handed out is submitted as a command
-reports : (u : Rules) (base : Book) (a : Attempt) (v : Value) (at : ℕ)
-    → Comes u (handed_out base a) (Report 0 v at ∷ []) (record (handed_out base a) { inbox = command.Complete a.run a.event a.attempt v at ∷ [] })
-reports u base a v at = (record (handed_out base a) { inbox = command.Complete a.run a.event a.attempt v at ∷ [] }, (refl, refl))
+reports : (u : Rules) (n : ℕ) (base : Book) (a : Attempt) (v : Value) (at : ℕ)
+    → Comes u (handed_out n base a) (Report 0 v at ∷ []) (record (handed_out n base a) { inbox = command.Complete a.run a.event a.attempt v at ∷ [] })
+reports u n base a v at = (record (handed_out n base a) { inbox = command.Complete a.run a.event a.attempt v at ∷ [] }, (refl, refl))
 
 -- and nothing on one that wasn't
-reports_nothing : (u : Rules) (base : Book) (a : Attempt) (v : Value) (at : ℕ) → Comes u (handed_out base a) (Report 1 v at ∷ []) (handed_out base a)
-reports_nothing u base a v at = (handed_out base a, (refl, refl))
+reports_nothing : (u : Rules) (n : ℕ) (base : Book) (a : Attempt) (v : Value) (at : ℕ) → Comes u (handed_out n base a) (Report 1 v at ∷ []) (handed_out n base a)
+reports_nothing u n base a v at = (handed_out n base a, (refl, refl))
 
 -- an attempt that failed is told in the same way
-tells_failure : (u : Rules) (base : Book) (a : Attempt) (reason : Bytes) (at : ℕ)
-    → Comes u (handed_out base a) (Failure 0 reason at ∷ []) (record (handed_out base a) { inbox = command.Fail a.run a.event a.attempt reason at ∷ [] })
-tells_failure u base a reason at = (record (handed_out base a) { inbox = command.Fail a.run a.event a.attempt reason at ∷ [] }, (refl, refl))
+tells_failure : (u : Rules) (n : ℕ) (base : Book) (a : Attempt) (reason : Bytes) (at : ℕ)
+    → Comes u (handed_out n base a) (Failure 0 reason at ∷ []) (record (handed_out n base a) { inbox = command.Fail a.run a.event a.attempt reason at ∷ [] })
+tells_failure u n base a reason at = (record (handed_out n base a) { inbox = command.Fail a.run a.event a.attempt reason at ∷ [] }, (refl, refl))
 
-tells_nothing : (u : Rules) (base : Book) (a : Attempt) (reason : Bytes) (at : ℕ) → Comes u (handed_out base a) (Failure 1 reason at ∷ []) (handed_out base a)
-tells_nothing u base a reason at = (handed_out base a, (refl, refl))
+tells_nothing : (u : Rules) (n : ℕ) (base : Book) (a : Attempt) (reason : Bytes) (at : ℕ) → Comes u (handed_out n base a) (Failure 1 reason at ∷ []) (handed_out n base a)
+tells_nothing u n base a reason at = (handed_out n base a, (refl, refl))
 
 ---- Worlds written out: what stands in them is told by no step of the definition
 
 -- A stop while commands wait and a commit is under way: nothing waits any more, nobody has a receipt, and what was found is all that a
 -- further stop may leave. The batch is still in hand, until the store is opened again.
-crashed : Book → Command → World
-crashed base c =
+crashed : ℕ → Book → Command → World
+crashed n base c =
     record {
       base = base;
       inbox = [];
-      batch = c ∷ [];
+      limit = n;
+      batch = record { limit = n; command = c } ∷ [];
       log = [];
       may = base ∷ [];
       opening = 0;
@@ -58,10 +59,10 @@ crashed base c =
       stage = Stopped;
     }
 
-crash_empties_inbox : (u : Rules) (base : Book) (c d e : Command) → Comes u (first base) (Submit c ∷ Submit d ∷ Submit e ∷ Take 1 ∷ CommitBegins ∷ Crash base ∷ []) (crashed base c)
+crash_empties_inbox : (u : Rules) (n : ℕ) (base : Book) (c d e : Command) → Comes u (first n base) (Submit c ∷ Submit d ∷ Submit e ∷ Take 1 ∷ CommitBegins ∷ Crash base ∷ []) (crashed n base c)
 unfolding crashed
-crash_empties_inbox u base c d e =
-    let w1 = submitted (first base) Idle c in
+crash_empties_inbox u n base c d e =
+    let w1 = submitted (first n base) Idle c in
     let w2 = submitted w1 Idle d in
     let w3 = submitted w2 Idle e in
     let w4 = taken w3 Idle 1 in
@@ -69,26 +70,27 @@ crash_empties_inbox u base c d e =
     (w1, (refl, (w2, (refl, (w3, (refl, (w4, (refl, (w5, (refl, (stopped w5 base, (((0, omega arith, refl), refl), refl))))))))))))
 
 -- and what waited is in no life behind it
-none_waits : (u : Rules) (base : Book) (c d e : Command)
-    → Comes u (first base) (Submit c ∷ Submit d ∷ Submit e ∷ Take 1 ∷ CommitBegins ∷ Crash base ∷ Reopen ∷ Take 1 ∷ Publish ∷ []) (first base)
-none_waits u base c d e =
-    let w1 = submitted (first base) Idle c in
+none_waits : (u : Rules) (n : ℕ) (base : Book) (c d e : Command)
+    → Comes u (first n base) (Submit c ∷ Submit d ∷ Submit e ∷ Take 1 ∷ CommitBegins ∷ Crash base ∷ Reopen ∷ Take 1 ∷ Publish ∷ []) (first n base)
+none_waits u n base c d e =
+    let w1 = submitted (first n base) Idle c in
     let w2 = submitted w1 Idle d in
     let w3 = submitted w2 Idle e in
     let w4 = taken w3 Idle 1 in
     let w5 = commit_begun u w4 Writing in
     let w6 = stopped w5 base in
-    let w7 = first base in
+    let w7 = first n base in
     (w1, (refl, (w2, (refl, (w3, (refl, (w4, (refl, (w5, (refl, (w6, (((0, omega arith, refl), refl), (w7, (inl ((0, omega arith, refl), refl), (w7, (refl, (w7, (refl, refl))))))))))))))))))
 
 -- A batch was taken and couldn't be rolled back: nothing was committed, so a stop leaves the book before it alone; the batch is in hand,
 -- and what waits goes on waiting.
-refused : Book → Command → Command → World
-refused base c d =
+refused : ℕ → Book → Command → Command → World
+refused n base c d =
     record {
       base = base;
       inbox = d ∷ [];
-      batch = c ∷ [];
+      limit = n;
+      batch = record { limit = n; command = c } ∷ [];
       log = [];
       may = base ∷ [];
       opening = 0;
@@ -98,10 +100,10 @@ refused base c d =
       stage = Halted;
     }
 
-rollback_refused : (u : Rules) (base : Book) (c d : Command) → Comes u (first base) (Submit c ∷ Submit d ∷ Take 1 ∷ RefusedRollback ∷ Publish ∷ []) (refused base c d)
+rollback_refused : (u : Rules) (n : ℕ) (base : Book) (c d : Command) → Comes u (first n base) (Submit c ∷ Submit d ∷ Take 1 ∷ RefusedRollback ∷ Publish ∷ []) (refused n base c d)
 unfolding refused
-rollback_refused u base c d =
-    let w1 = submitted (first base) Idle c in
+rollback_refused u n base c d =
+    let w1 = submitted (first n base) Idle c in
     let w2 = submitted w1 Idle d in
     let w3 = taken w2 Idle 1 in
     let w4 = not_rolled_back w3 Writing in

@@ -36,7 +36,7 @@ const EVENT: Statement = Statement::Changes(Row::Event(2, 5, "b"));
 const AN_EVENT: &[Statement] = &[
     EVENT,
     Statement::Counts(
-        "SELECT count(*) FROM event WHERE run = 2 AND id = 5 AND kind = 7 AND body = 'b'",
+        "SELECT count(*) FROM event2 WHERE run = 2 AND id = 5 AND kind = 7 AND at = 8 AND body = 'b'",
         1,
     ),
 ];
@@ -51,11 +51,11 @@ fn an_event_comes(rt: HostRuntime) -> Result<(), Fail> {
 const TWO_EVENTS: &[Statement] = &[
     Statement::Changes(Row::Events(2, 5, 6, "b")),
     Statement::Counts(
-        "SELECT sum(10 * rowid + id) FROM event WHERE run = 2 AND kind = 7 AND body = 'b'",
+        "SELECT sum(10 * rowid + id) FROM event2 WHERE run = 2 AND kind = 7 AND at = 8 AND body = 'b'",
         41,
     ),
     Statement::Refuses(Row::Events(2, 7, 6, "b")),
-    Statement::Counts("SELECT count(*) FROM event", 2),
+    Statement::Counts("SELECT count(*) FROM event2", 2),
 ];
 
 #[test]
@@ -89,7 +89,7 @@ const BROKEN: &[Statement] = &[
     Statement::Refuses(Row::Event(2, 5, "b")),
     Statement::Refuses(Row::Event(3, 5, "b")),
     Statement::Refuses(Row::Text(2, "a")),
-    Statement::Counts("SELECT count(*) FROM event", 1),
+    Statement::Counts("SELECT count(*) FROM event2", 1),
 ];
 
 #[test]
@@ -154,7 +154,7 @@ fn a_run_is_marked(rt: HostRuntime) -> Result<(), Fail> {
 /// Run 2 starts and completes.
 const TURN: &[Statement] = &[
     Statement::WholeTurn(2),
-    Statement::Counts("SELECT count(*) FROM event WHERE run = 2", 2),
+    Statement::Counts("SELECT count(*) FROM event2 WHERE run = 2", 2),
     Statement::Counts("SELECT isopen FROM run WHERE num = 2", 0),
 ];
 

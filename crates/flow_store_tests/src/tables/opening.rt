@@ -5,9 +5,9 @@ use std::test::Fail;
 /// A run that waits for an activity and a timer.
 const ROWS: &str = "INSERT INTO text (num, body) VALUES (1, 'workflow a() {}'); \
 INSERT INTO run (num, flow, req, textnum, isopen) VALUES (1, 'f', 'q', 1, 1); \
-INSERT INTO event (run, id, kind, body) VALUES (1, 1, 1, '{\"args\":[],\"at\":1000}'); \
-INSERT INTO event (run, id, kind, body) VALUES (1, 2, 7, '{\"activity\":\"c\",\"args\":[7],\"at\":1000,\"every\":500,\"gives\":\"int\",\"tries\":3}'); \
-INSERT INTO event (run, id, kind, body) VALUES (1, 3, 8, '{\"at\":1000,\"due\":1100}'); \
+INSERT INTO event2 (run, id, kind, at, body) VALUES (1, 1, 1, 1000, '{\"args\":[]}'); \
+INSERT INTO event2 (run, id, kind, at, body) VALUES (1, 2, 7, 1000, '{\"activity\":\"c\",\"args\":[7],\"every\":500,\"gives\":\"int\",\"tries\":3}'); \
+INSERT INTO event2 (run, id, kind, at, body) VALUES (1, 3, 8, 1000, '{\"due\":1100}'); \
 INSERT INTO timer (run, id, due) VALUES (1, 3, 1100); \
 INSERT INTO outbox (run, id, attempt, ready) VALUES (1, 2, 1, 1000)";
 

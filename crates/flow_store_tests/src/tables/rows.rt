@@ -76,6 +76,7 @@ fn event_row(alloc: Global, run: i64, id: i64, body: &str) -> Option<EventRow> {
         run,
         id,
         kind: 7,
+        at: Some(8),
         body,
     })
 }

@@ -1,0 +1,4 @@
+pub mod Copied
+pub mod Moved
+pub mod PastReads
+pub mod Steps
