@@ -17,8 +17,8 @@ use Rattle.flow_model.specs.Apply.{after, after_one, replies}
 use Rattle.flow_model.proofs.Logs.{after_cut, replies_cut, length-replies, nth_at}
 use Rattle.flow_tables.specs.Owned.{IsOurs, IsFound}
 use Rattle.flow_view.specs.declared.fault.ViewFault.TheVariants as fault
-use Rattle.flow_base.specs.declared.fault.Fault.TheVariants as refusal
-use Rattle.flow_move.specs.Moves.{IsOfMove}
+use Rattle.flow_tables.specs.Opening.{IsOfStore}
+use Rattle.flow_tables.proofs.Opened.{of_tables}
 use Rattle.flow_commit.specs.Keeping.{Keeping, IsFit, IsWell, KeepsBook, rules, command_of, commands_of, receipt_of, receipts_of}
 use Rattle.flow_commit.proofs.RunningOut.{only_numbers}
 use Rattle.flow_recover.specs.declared.positions.Position.{Position}
@@ -30,7 +30,7 @@ use Rattle.flow_engine.specs.Driving.{AreAnswers, Drives, IsDoneFor, IsDoneOnlyF
 use Rattle.flow_engine.specs.Opening.{IsUnopened, Opens}
 use Rattle.flow_engine.proofs.Found.{found_of}
 use Rattle.flow_engine.proofs.OneMore.{after_well, left_well}
-use Rattle.flow_engine.specs.Headline.{Life, Lived, Refused, seen, IsLife, Begins, Continues, Lives, Finds, Works, IsIn, AreIn, Headline, OpenedBegin, IsToldSo}
+use Rattle.flow_engine.specs.Headline.{Life, Lived, Refused, seen, IsLife, Begins, Continues, Lives, Finds, Works, IsIn, AreIn, Headline, OpenedBegin}
 
 ---- Places in a list
 
@@ -192,18 +192,10 @@ module _ {S : Type 0} (g : Ghosts S) where
   next_refused k conn back f well holds m (inl stopped) = ∥∥₁_map stopped (λ s. ([], inl refl, well, opened_again k s.0 (seen m).conn (holds.stops s.0 s.1) s.2))
   next_refused k conn back f well holds m (inr closed) = ∣ ([], inl refl, well, handed_back k back (seen m).conn closed.0 closed.1 (holds.found closed.1)) ∣₁
 
-  -- a move alone is refused with E84
-  of_move : (from to : State) (f : Fault) → IsUnopened g from to f → HasCleanDisk to → IsOfMove f → IsToldSo g from f
-  of_move from to refusal.Unknown told clean of = inr (refl, told.moving clean refl)
-  of_move from to (refusal.NoMemory m) told clean of = inl tt
-  of_move from to refusal.StoreRefused told clean of = inl tt
-  of_move from to refusal.NotOurs told clean of = inl tt
-  of_move from to _ told clean of = absurd of
-
   -- what is told of a store that holds a book such as commands make
-  told_so : (k : Book) (conn back : Held S) (f : Fault) → IsWell k → IsUnopened g (state g conn) (state g back) f → HasCleanDisk (state g back) → IsFound (state g conn) k → IsToldSo g (state g conn) f
-  told_so k conn back f well told clean (inl held) = inl (told.own clean (λ _. well_sound (state g conn) k held well))
-  told_so k conn back f well told clean (inr before) = of_move (state g conn) (state g back) f told clean (told.own_before clean (λ _. well_before (state g conn) k before well))
+  told_so : (k : Book) (conn back : Held S) (f : Fault) → IsWell k → IsUnopened g (state g conn) (state g back) f → HasCleanDisk (state g back) → IsFound (state g conn) k → IsOfStore f
+  told_so k conn back f well told clean (inl held) = of_tables f (told.own clean (λ _. well_sound (state g conn) k held well))
+  told_so k conn back f well told clean (inr before) = told.own_before clean (λ _. well_before (state g conn) k before well)
 
   pub stepped : (k : Book) (l : Life S) → IsWell k → Begins g k l → IsLife g l → Step k l
   stepped k (Lived conn first qs last bs ds) well begin (clean, opens, has, runs) =
@@ -226,7 +218,7 @@ module _ {S : Type 0} (g : Ghosts S) where
       let its = told.holds clean k begin in
       let was = (told.stops clean k (λ old. (begin old).1)).0 in
       record {
-        found = (its, told_so k conn back f well told clean (begin was).1, told.why clean);
+        found = (its, told_so k conn back f well told clean (begin was).1, (told.why clean, told.moving clean));
         works = tt;
         answered = tt;
         left = λ db may. ([], inl refl, its.stops db may);

@@ -9,9 +9,8 @@ use Rattle.flow_base.specs.declared.fault.Fault.TheVariants as fault
 use Rattle.flow_check.specs.Language.{is_program, meaning_of}
 use Rattle.flow_model.specs.Book.{Book}
 use Rattle.flow_tables.specs.Faults.{Since}
-use Rattle.flow_move.specs.Moves.{HasFirstFormat, IsOfMove}
 use Rattle.flow_sql.specs.Past.{HasPast, past_tables}
-use Rattle.flow_tables.specs.Opening.{HasCause, IsFirstDamage, IsOfRows, IsOfStore, StopsOpening}
+use Rattle.flow_tables.specs.Opening.{HasCause, HasFirstFormat, IsFirstDamage, IsOfRows, IsOfStore, IsOfTables, StopsTables}
 use Rattle.flow_tables.specs.Owned.{IsCurrent, IsFound, LeavesMade, state_of}
 use Rattle.flow_tables.specs.States.{HasTables}
 use Rattle.flow_tables.specs.Stored.{tables_in}
@@ -56,7 +55,7 @@ pub record IsUnopened {S : Type 0} (g : Ghosts S) (from to : State) (f : Fault) 
   pub damaged_before : HasCleanDisk to → (HasCleanDisk from → HasPast from.committed) → IsFirstDamage is_program (past_tables from.committed.trees) f
   pub cause : HasCleanDisk to → HasCause g f
   -- Over our tables, or none, E80 comes of the disk or of a limit on steps, E81 of such a limit or of a text that isn't UTF-8.
-  pub why : HasCleanDisk to → IsCurrent from → StopsOpening g from to f
+  pub why : HasCleanDisk to → IsCurrent from → StopsTables g from to f
   -- no failure of the disk is forgotten, and the limit on the steps of a query stays
   pub since : Since from to
   -- The store is as it was, or the book that was found is kept, and E68 names its least run that doesn't replay.
@@ -64,9 +63,9 @@ pub record IsUnopened {S : Type 0} (g : Ghosts S) (from to : State) (f : Fault) 
   -- no transaction is left running, over any file
   pub ended : HasCleanDisk to → to.in_transaction ≡ false
   -- Tables that stand for a sound book, or none, are refused only where the store fails, or isn't ours.
-  pub own : HasCleanDisk to → (HasCleanDisk from → HoldsSound from) → IsOfStore f
+  pub own : HasCleanDisk to → (HasCleanDisk from → HoldsSound from) → IsOfTables f
   -- Those of the first format too, and where their move isn't committed.
-  pub own_before : HasCleanDisk to → (HasCleanDisk from → HoldsSoundBefore from) → IsOfMove f
+  pub own_before : HasCleanDisk to → (HasCleanDisk from → HoldsSoundBefore from) → IsOfStore f
   -- A stop leaves what it could leave before, or the tables made for the book that was found: new ones, or those to which a store of the
   -- first format is moved.
   pub stops : HasCleanDisk to → (b : Book) → (HasCleanDisk from → IsFound from b) → HasCleanDisk from × LeavesMade from to b

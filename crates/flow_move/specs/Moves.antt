@@ -7,8 +7,6 @@ use Rattle.sqlite.specs.Held.{Held, state}
 use Rattle.sqlite.specs.Effect.{Database}
 use Rattle.sqlite.specs.State.{HasCleanDisk, IsUnchanged, State, Survives, QueriesRow}
 use Rattle.sqlite.specs.declared.types.Value.TheVariants.{Int}
-use Rattle.flow_base.specs.declared.fault.Fault.{Fault}
-use Rattle.flow_base.specs.declared.fault.Fault.TheVariants as fault
 use Rattle.flow_model.specs.Book.{Book}
 use Rattle.flow_rows.specs.Rows.{One, Tables}
 use Rattle.flow_rows.specs.Told.{TellsIn}
@@ -16,7 +14,6 @@ use Rattle.flow_sql.specs.Layout.{format_sql}
 use Rattle.flow_sql.specs.Past.{IsMoved, IsOverPast, PastRead, past_kinds, past_sql, past_tables}
 use Rattle.flow_sql.specs.States.{CommitsNothing, GoesOn, HasEnded, IsAtRest, Since}
 use Rattle.flow_sql.specs.Stored.{AreUtf8}
-use Rattle.flow_tables.specs.Opening.{IsOfStore}
 use Rattle.flow_tables.specs.Owned.{IsFileOf, IsPastFileOf}
 use Rattle.flow_tables.specs.Reads.{IsReadFault}
 use Rattle.flow_tables.specs.declared.fault.StoreFault.{StoreFault}
@@ -55,11 +52,6 @@ pub record IsStep {S E : Type 0} (g : Ghosts S) (old new : Held S) (result : Res
 abbrev pub MovesOn : {S E : Type 0} → Ghosts S → Held S → Held S → Result (Unit {0}) E → (Tables → Tables) → Type 0
 MovesOn g old new result after = HasCleanDisk (state g new) → (d : Database) (t : Tables) → IsMoved d (state g old) t → OnOk result (IsMoved d (state g new) (after t))
 
--- Why a move is refused at all: E01, E80, E81, or E84.
-abbrev pub IsOfMove : Fault → Type 0
-IsOfMove fault.Unknown = Unit {0}
-IsOfMove f = IsOfStore f
-
 -- one of the reads of tables of the first format failed so
 abbrev pub IsPastFault : {S : Type 0} → Ghosts S → StoreFault → Type 0
 IsPastFault {S} g f = (old new : Held S) × (r : PastRead) × IsReadFault (past_kinds r) (past_sql r) [] (state g old) (state g new) f
@@ -72,10 +64,6 @@ pub record IsPastRead {S A : Type 0} (g : Ghosts S) (old new : Held S) (result :
   pub cause : HasCleanDisk (state g new) → IfErr result (IsPastFault g)
   pub ended : HasCleanDisk (state g new) → IsAtRest (state g old) → HasEnded (state g old) (state g new)
   pub survives : Survives (state g old) (state g new) (λ _. ⊥)
-
--- The format was read, of what the last commit left at the start, under the limit on steps that was set there; it is the first.
-abbrev pub HasFirstFormat : {S : Type 0} → Ghosts S → State → Type 0
-HasFirstFormat {S} g start = (old new : Held S) × (row : Row) × HasEnded start (state g old) × Since start (state g old) × QueriesRow format_sql [] (state g old) (state g new) (Ok row) × (column row 0 ≡ Int (pos 1))
 
 -- The format was read, and isn't the first.
 abbrev pub HasNotFirst : {S : Type 0} → Ghosts S → State → State → Type 0

@@ -32,7 +32,7 @@ use Rattle.flow_rows.proofs.Stood.{stood, stood_in}
 use Rattle.flow_rows.proofs.Telling.{told, told_in, all_told}
 use Rattle.flow_tables.specs.Layout.{schema_of, no_schema}
 use Rattle.flow_tables.specs.Stored.{tables_in}
-use Rattle.flow_tables.specs.Opening.{StandFor, IsFirstDamage, IsOfRows, IsOfStore, IsOfOpening, HasCause, StopsOpening}
+use Rattle.flow_tables.specs.Opening.{StandFor, IsFirstDamage, IsOfRows, IsOfTables, IsOfOpening, HasCause, StopsTables}
 use Rattle.flow_tables.specs.States.{HasTables, HasEnded}
 use Rattle.flow_tables.specs.Owned.{IsOurs, IsFound, IsFileOf, IsHeld, IsHeldBefore, IsPastFileOf, Keeps, LeavesMade}
 use Rattle.flow_tables.proofs.Opened.{never_both}
@@ -266,7 +266,7 @@ past_cause g (fault.NoMemory _) of = tt
 past_cause g (fault.Mismatch run place name) of = tt
 past_cause g _ of = absurd of
 
-pub past_why : {S : Type 0} (g : Ghosts S) (from to : State) (f : Fault) → IsPastTables f → StopsOpening g from to f
+pub past_why : {S : Type 0} (g : Ghosts S) (from to : State) (f : Fault) → IsPastTables f → StopsTables g from to f
 past_why g from to (fault.NoMemory _) of = tt
 past_why g from to (fault.Mismatch run place name) of = tt
 past_why g from to _ of = absurd of
@@ -279,7 +279,7 @@ past_left from to b (fault.NoMemory _) of named stands its = inr (λ ours. recor
 past_left from to b (fault.Mismatch run place name) of named stands its = λ ours. record { book = b; found = (its ours).0; kept = keeps_either to b (its ours).1; stands = stands; mismatch = named }
 past_left from to b _ of named stands its = absurd of
 
-pub memory_own : (f : Fault) → OnlyMemory {A = Unit {0}} (Err f) → IsOfStore f
+pub memory_own : (f : Fault) → OnlyMemory {A = Unit {0}} (Err f) → IsOfTables f
 memory_own (fault.NoMemory _) of = tt
 memory_own _ of = absurd of
 

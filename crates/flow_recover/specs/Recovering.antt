@@ -22,7 +22,7 @@ use Rattle.flow_rows.specs.Standing.{AreKept}
 use Rattle.flow_sql.specs.Past.{HasPast, past_tables}
 use Rattle.sqlite.specs.Held.{Held, state}
 use Rattle.flow_tables.specs.Opening.{HasFormat, HasOtherFormat, IsOfRows, StandFor}
-use Rattle.flow_move.specs.Moves.{HasFirstFormat, HasNotFirst, IsFileOfEither}
+use Rattle.flow_move.specs.Moves.{HasNotFirst, IsFileOfEither}
 use Rattle.flow_tables.specs.Owned.{IsFileOf, IsFound, IsHeld, IsHeldBefore, IsOurs, IsPastFileOf, Keeps}
 use Rattle.flow_commit.specs.Keeping.{Keeping, IsFit, KeepsBook, rules}
 use Rattle.flow_recover.specs.declared.positions.Position.{Position}

@@ -16,13 +16,20 @@ use Rattle.std.specs.Ordering.{int_eq}
 use Rattle.flow_sql.specs.Past.{HasPast}
 use Rattle.flow_sql.specs.Stored.{number_of}
 use Rattle.std.proofs.lemmas.Bool.{cases_Bool}
-use Rattle.flow_tables.specs.Opening.{opening_fault, IsOfStore, IsOfRows, IsFirstDamage, IsToldOf, StandFor, IsMet, HasCause, HasFormat, StopsOpening, IsFoundSo}
+use Rattle.flow_tables.specs.Opening.{opening_fault, IsOfStore, IsOfTables, IsOfRows, IsFirstDamage, IsToldOf, StandFor, IsMet, HasCause, HasFormat, StopsTables, IsFoundSo}
 
 ---- The faults of the store
 
-pub of_store : (e : Error) → IsOfStore (opening_fault e)
+pub of_store : (e : Error) → IsOfTables (opening_fault e)
 of_store (SqliteFailure code.OutOfMemory) = tt
 of_store _ = tt
+
+-- a store is refused so too
+pub of_tables : (f : Fault) → IsOfTables f → IsOfStore f
+of_tables (NoMemory _) of = tt
+of_tables StoreRefused of = tt
+of_tables NotOurs of = tt
+of_tables _ of = absurd of
 
 pub caused : {S : Type 0} (g : Ghosts S) (e : Error) → IsMet g e → HasCause g (opening_fault e)
 caused g e met = by_fault (opening_fault e) refl
@@ -40,20 +47,20 @@ pub never_both : {A : Type 0} (db : Database) → HasTables db → db.schema ≡
 never_both db has none = absurd (never_none has.layout (sym has.lie.laid_out ∙ none))
 
 module _ (is_program : Bytes → Bool) (db : Database) (f : Fault) where
-  pub told_blank : db.schema ≡ no_schema → IsToldOf is_program db f → IsOfStore f
+  pub told_blank : db.schema ≡ no_schema → IsToldOf is_program db f → IsOfTables f
   told_blank none (inl of) = of
   told_blank none (inr damage) = never_both db damage.0 none
 
   pub told_first : IsToldOf is_program db f → IsFirstDamage is_program (tables_in db) f
   told_first (inl of) = harmless f of
     where
-      harmless : (f : Fault) → IsOfStore f → IsFirstDamage is_program (tables_in db) f
+      harmless : (f : Fault) → IsOfTables f → IsFirstDamage is_program (tables_in db) f
       harmless (Damaged d) of = absurd of
       harmless _ of = tt
   told_first (inr damage) = subst (IsFirstDamage is_program (tables_in db)) (sym damage.2.1) (damage.1, damage.3, damage.2.2)
 
   -- tables that stand for a book have none
-  pub told_whole : (b : Book) → StandFor is_program (tables_in db) b → IsToldOf is_program db f → IsOfStore f
+  pub told_whole : (b : Book) → StandFor is_program (tables_in db) b → IsToldOf is_program db f → IsOfTables f
   told_whole b stand (inl of) = of
   told_whole b stand (inr damage) =
       absurd (let some = damage.2.2 in let none = book_undamaged is_program Two damage.1 b stand.texts stand.runs (damage.3.0 ∙ stand.same) in cc)
@@ -107,9 +114,9 @@ module _ {S : Type 0} (g : Ghosts S) (old : State) (mid new : Held S) (ended : H
           ),
         )
 
-    pub format_stopped : HasTables old.committed ⊎ (old.committed.schema ≡ no_schema) → (f : Fault) → (f ≡ opening_fault e) × ((e ≡ QueryReturnedNoRows) ⊎ (opening_fault e ≢ NotOurs)) → IsOfStore f × StopsOpening g old (state g new) f
+    pub format_stopped : HasTables old.committed ⊎ (old.committed.schema ≡ no_schema) → (f : Fault) → (f ≡ opening_fault e) × ((e ≡ QueryReturnedNoRows) ⊎ (opening_fault e ≢ NotOurs)) → IsOfTables f × StopsTables g old (state g new) f
     format_stopped ours f is = (
-      subst IsOfStore (sym is.0) (of_store e),
+      subst IsOfTables (sym is.0) (of_store e),
       error_after g old (state g mid) (state g new) (survived old (state g mid) _ quiet) (was_shut g old (state g mid) (state g new) _ quiet clean le) f e is.0
           (λ down. shut_fails (state g mid) (state g new) e down asked) (format_cut (state g mid) (state g new) e asked (had ours) is.1),
     )

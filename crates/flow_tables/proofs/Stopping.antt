@@ -11,7 +11,7 @@ use Rattle.flow_view.specs.declared.fault.ViewFault.TheVariants as view
 use Rattle.flow_sql.specs.Coming.{IsFull}
 use Rattle.flow_sql.proofs.Finding.{format_refused, blank_refused}
 use Rattle.flow_base.specs.declared.fault.Fault.TheVariants as fault
-use Rattle.flow_tables.specs.Opening.{opening_fault, StopsMaking, StopsOpening}
+use Rattle.flow_tables.specs.Opening.{opening_fault, StopsMaking, StopsTables}
 use Rattle.flow_sql.proofs.Transactions.{begin_refused, commit_refused, rollback_refused, rollback_fails}
 use Rattle.flow_sql.proofs.Refusing.{told_since}
 use Rattle.flow_sql.specs.States.{IsStoreError, TellsFailure}
@@ -163,13 +163,13 @@ module _ {S : Type 0} (g : Ghosts S) where
   ---- A fault of an opening
 
   -- a limit on steps may be told as either
-  pub limit_told : (first new : State) (f : Fault) → IsSome first.step_limit → StopsOpening g first new f
+  pub limit_told : (first new : State) (f : Fault) → IsSome first.step_limit → StopsTables g first new f
   limit_told first new fault.StoreRefused limit = inr (inr limit)
   limit_told first new fault.NotOurs limit = inl limit
   limit_told first new _ limit = tt
 
   -- the disk as E80 alone
-  pub stop_told : (first new : State) (f : Fault) (e : Error) → f ≡ opening_fault e → (e ≢ SqliteFailure OutOfMemory → TellsFailure e first new ⊎ IsSome first.step_limit) → StopsOpening g first new f
+  pub stop_told : (first new : State) (f : Fault) (e : Error) → f ≡ opening_fault e → (e ≢ SqliteFailure OutOfMemory → TellsFailure e first new ⊎ IsSome first.step_limit) → StopsTables g first new f
   stop_told first new fault.StoreRefused e is why = elim (why (λ same. let clash = is ∙ ap opening_fault same in cc)) [
     | inl fails ↦ inr (inl fails.1)
     | inr limit ↦ inr (inr limit)
@@ -181,25 +181,25 @@ module _ {S : Type 0} (g : Ghosts S) where
   stop_told first new _ e is why = tt
 
   -- and so is an error of the store
-  fails_told : (first new : State) (f : Fault) (e : Error) → f ≡ opening_fault e → IsStoreError e → StopsOpening g first new fault.StoreRefused → StopsOpening g first new f
+  fails_told : (first new : State) (f : Fault) (e : Error) → f ≡ opening_fault e → IsStoreError e → StopsTables g first new fault.StoreRefused → StopsTables g first new f
   fails_told first new fault.StoreRefused e is of why = why
   fails_told first new fault.NotOurs e is of why = absurd (never_told e of (sym is))
   fails_told first new _ e is of why = tt
 
   -- a question to the tables that were found
   pub rows_told : (old new : Held S) (f : Fault) (e : Error) → f ≡ opening_fault e → IsOver false (state g old) → (state g old).now ≡ (state g old).committed → StopsAsk false (state g old) (state g new) (Refused e)
-      → StopsOpening g (state g old) (state g new) f
+      → StopsTables g (state g old) (state g new) f
   rows_told old new f e is over rest (inl stop) = stop_told (state g old) (state g new) f e is (λ _. stop)
   rows_told old new f e is over rest (inr odd) = by_fault f is
     where
-      by_fault : (f : Fault) → f ≡ opening_fault e → StopsOpening g (state g old) (state g new) f
+      by_fault : (f : Fault) → f ≡ opening_fault e → StopsTables g (state g old) (state g new) f
       by_fault fault.StoreRefused is = absurd (misread_told e odd.2 (sym is))
       by_fault fault.NotOurs is = inr (over.committed, subst (λ (d : Database). HasOddText (tables_in d)) rest odd.1)
       by_fault _ is = tt
 
   -- behind a call that left the connection open, and committed nothing
   module _ (a b c : State) (since : Since a b) (up : IsTrue b.is_open) (same : b.committed ≡ a.committed) where
-    pub told_after : {V : Type 0} (r : Result V Fault) → IfErr r (StopsOpening g b c) → IfErr r (StopsOpening g a c)
+    pub told_after : {V : Type 0} (r : Result V Fault) → IfErr r (StopsTables g b c) → IfErr r (StopsTables g a c)
     told_after (Ok v) h = tt
     told_after (Err fault.StoreRefused) (inl shut) = absurd (true≢false (sym up ∙ shut))
     told_after (Err fault.StoreRefused) (inr (inl more)) = inr (inl (more_after a.faults b.faults c.faults since.0 more))
@@ -209,8 +209,8 @@ module _ {S : Type 0} (g : Ghosts S) where
     told_after (Err _) h = tt
 
   -- an error of a statement behind such a call, which may have shut the connection
-  pub error_after : (a b c : State) → Since a b → (b.is_open ≡ false → StopsOpening g a c fault.StoreRefused) → (f : Fault) (e : Error) → f ≡ opening_fault e → (b.is_open ≡ false → IsStoreError e)
-      → (e ≢ SqliteFailure OutOfMemory → IsTrue b.is_open → TellsFailure e b c ⊎ IsSome b.step_limit) → StopsOpening g a c f
+  pub error_after : (a b c : State) → Since a b → (b.is_open ≡ false → StopsTables g a c fault.StoreRefused) → (f : Fault) (e : Error) → f ≡ opening_fault e → (b.is_open ≡ false → IsStoreError e)
+      → (e ≢ SqliteFailure OutOfMemory → IsTrue b.is_open → TellsFailure e b c ⊎ IsSome b.step_limit) → StopsTables g a c f
   error_after a b c since shut f e is fails why = elim (cases_Bool b.is_open) [
     | inl up ↦ stop_told a c f e is (λ other. elim (why other up) [
       | inl more ↦ inl (told_since e a b c c since.0 (omega arith) more)
@@ -219,12 +219,12 @@ module _ {S : Type 0} (g : Ghosts S) where
     | inr down ↦ fails_told a c f e is (fails down) (shut down)
   ]
 
-  pub rollback_told : (old new : State) (f : Fault) (e : Error) → f ≡ opening_fault e → old.in_transaction ≡ true → Executes (codes "ROLLBACK") [] old new (Err e) → StopsOpening g old new f
+  pub rollback_told : (old new : State) (f : Fault) (e : Error) → f ≡ opening_fault e → old.in_transaction ≡ true → Executes (codes "ROLLBACK") [] old new (Err e) → StopsTables g old new f
   rollback_told old new f e is inside h =
       error_after old old new (since_self old) (λ shut. inl shut) f e is (λ _. rollback_fails old new e inside h) (λ other up. inl (rollback_refused old new e other up inside h))
 
   -- what was shut since, was so by a failure
-  pub was_shut : (a b c : State) (P : Trees → Type 0) → Survives a b P → HasCleanDisk b → b.faults ≤ c.faults → b.is_open ≡ false → StopsOpening g a c fault.StoreRefused
+  pub was_shut : (a b c : State) (P : Trees → Type 0) → Survives a b P → HasCleanDisk b → b.faults ≤ c.faults → b.is_open ≡ false → StopsTables g a c fault.StoreRefused
   was_shut a b c P survives clean le shut = elim (cases_Bool a.is_open) [
     | inl up ↦ inr (inl (elim (survives.closes clean up) [
       | inl still_up ↦ absurd (true≢false (sym still_up ∙ shut))

@@ -4,7 +4,8 @@ use Rattle.sqlite_disk.specs.Disk.{MoreFaults}
 use Rattle.flow_tables.specs.Names.{EventRow, no_schema, Fault, BadVersion, Damaged, NoMemory, NotOurs, StoreRefused, Book, first_damage, by_run, StoreRows, format_sql, Read, read_sql, Tables, Database, Held, state, Row, Executes, State, Error, Int, Ghosts, column, AllByRecursion, Bool, List, false, pos, true, ℕ, HasEnded, HasTables, IsLaidOut, tables_in, IsReadError, QueriesRow, QueryReturnedNoRows, SqliteFailure, Err, Ok, Some, length, ℤ, [], IsSome, ⊤, IsOver, IsBlank, Tells, AreUtf8, AreNew, Trees}
 use Rattle.flow_base.specs.Syntax.{Bytes}
 use Rattle.flow_base.specs.declared.fault.Damage.{Damage}
-use Rattle.flow_tables.specs.Owned.{IsHeld}
+use Rattle.flow_base.specs.declared.fault.Fault.TheVariants.{Unknown}
+use Rattle.flow_tables.specs.Owned.{IsCurrent, IsHeld}
 use Rattle.flow_sql.specs.Past.{HasPast, PastRead, drop_events_sql, past_kinds, past_schema, past_sql}
 use Rattle.sqlite.specs.declared.error.ErrorCode.TheVariants as code
 use Rattle.flow_rows.specs.Damages.{event_place, task_place, timer_place}
@@ -43,6 +44,10 @@ IsAnswered false old new = (e : Error) × QueriesRow format_sql [] old new (Err 
 abbrev pub HasFormat : {S : Type 0} → Ghosts S → State → Bool → Type 0
 HasFormat {S} g start is_there = (old new : Held S) × HasEnded start (state g old) × Since start (state g old) × IsAnswered is_there (state g old) (state g new)
 
+-- The same, and the number is that of the first format.
+abbrev pub HasFirstFormat : {S : Type 0} → Ghosts S → State → Type 0
+HasFirstFormat {S} g start = (old new : Held S) × (row : Row) × HasEnded start (state g old) × Since start (state g old) × QueriesRow format_sql [] (state g old) (state g new) (Ok row) × (column row 0 ≡ Int (pos 1))
+
 ---- What the rows say
 
 -- Tables stand for a book: they are its rows, its texts are programs, and its runs keep the rules.
@@ -65,11 +70,16 @@ IsFirstDamage is_program t (Damaged d) = (rows : StoreRows) × AreReadOff rows t
 IsFirstDamage is_program t _ = ⊤
 
 -- The rows and the format are as they should be.
+abbrev pub IsOfTables : Fault → Type 0
+IsOfTables (NoMemory _) = ⊤
+IsOfTables StoreRefused = ⊤
+IsOfTables NotOurs = ⊤
+IsOfTables _ = ⊥
+
+-- Of a store of the first format too, which is moved when it is opened: E01, E80, E81, or E84.
 abbrev pub IsOfStore : Fault → Type 0
-IsOfStore (NoMemory _) = ⊤
-IsOfStore StoreRefused = ⊤
-IsOfStore NotOurs = ⊤
-IsOfStore _ = ⊥
+IsOfStore Unknown = ⊤
+IsOfStore f = IsOfTables f
 
 -- It is the first damage of these rows.
 abbrev pub IsDamageOf : (Bytes → Bool) → StoreRows → Fault → Type 0
@@ -77,7 +87,7 @@ IsDamageOf is_program rows f = (d : Damage) × (f ≡ Damaged d) × (first_damag
 
 -- What is told where the last commit left our tables, or none: a fault of the store, or the first damage of our tables.
 abbrev pub IsToldOf : (Bytes → Bool) → Database → Fault → Type 0
-IsToldOf is_program db f = IsOfStore f ⊎ (HasTables db × (rows : StoreRows) × IsDamageOf is_program rows f × AreReadOff rows (tables_in db))
+IsToldOf is_program db f = IsOfTables f ⊎ (HasTables db × (rows : StoreRows) × IsDamageOf is_program rows f × AreReadOff rows (tables_in db))
 
 -- What opening tells at all: E01, E80 to E83.
 abbrev pub IsOfOpening : Fault → Type 0
@@ -118,10 +128,14 @@ StopsMaking g first new e = e ≢ SqliteFailure code.OutOfMemory → TellsFailur
 -- Behind E80 stands that the connection was shut, that the disk has failed since the first state, or a limit on the steps of a query.
 -- Behind E81 it is such a limit, or that our tables hold a text that isn't UTF-8, and no failure of the disk. The other faults have
 -- clauses of their own, and want of memory none.
+abbrev pub StopsTables : {S : Type 0} → Ghosts S → State → State → Fault → Type 0
+StopsTables g first new StoreRefused = (first.is_open ≡ false) ⊎ (MoreFaults first.faults new.faults ⊎ IsSome first.step_limit)
+StopsTables g first new NotOurs = IsSome first.step_limit ⊎ (HasTables first.committed × HasOddText (tables_in first.committed))
+StopsTables g first new _ = ⊤
+
+-- The same of any file of ours: behind E84 stands that the first format was read.
 abbrev pub StopsOpening : {S : Type 0} → Ghosts S → State → State → Fault → Type 0
-StopsOpening g first new StoreRefused = (first.is_open ≡ false) ⊎ (MoreFaults first.faults new.faults ⊎ IsSome first.step_limit)
-StopsOpening g first new NotOurs = IsSome first.step_limit ⊎ (HasTables first.committed × HasOddText (tables_in first.committed))
-StopsOpening g first new _ = ⊤
+StopsOpening g first new f = (IsCurrent first → StopsTables g first new f) × (f ≡ Unknown → HasFirstFormat g first)
 
 ---- What is opened
 

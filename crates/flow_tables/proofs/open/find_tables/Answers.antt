@@ -1,6 +1,6 @@
 use Rattle.std.specs.Prelude.{◌≡◌, ◌⊎◌}
 use Rattle.flow_tables.proofs.Names.{was_clean, BadVersion, Bool, state, subst, sym, inl, inr}
-use Rattle.flow_tables.specs.Opening.{IsOfStore, HasCause, HasFormat, StopsOpening, IsFoundSo}
+use Rattle.flow_tables.specs.Opening.{IsOfTables, HasCause, HasFormat, StopsTables, IsFoundSo}
 use Rattle.std.proofs.lemmas.Result.{IfErr-weaker, IfOk-weaker}
 use Rattle.flow_tables.proofs.Opened.{caused, of_store, found_there, found_missing, format_stopped, row_ours}
 use Rattle.flow_tables.proofs.open.find_tables.Goals as goal
@@ -20,7 +20,7 @@ returns-in-Ok-clause-stops g c current clean =
     let late = c.format_row.ensures.clean clean in
     let was = current (was_clean old _ _ c.end_running.ensures.survives late) in
     let here = row_ours g.S.Store old c.end_running.new.conn c.format_row.new.conn (c.end_running.ensures.ended late) c.in-Ok.row (c.in-Ok.ensures.queries clean) was in
-    subst (λ f. IsOfStore f × StopsOpening g.S.Store old (state g.S.Store c.format_row.new.conn) f) (sym (c.in-Err-check_format.ensures.taken here)) (tt, tt)
+    subst (λ f. IsOfTables f × StopsTables g.S.Store old (state g.S.Store c.format_row.new.conn) f) (sym (c.in-Err-check_format.ensures.taken here)) (tt, tt)
 
 pub returns-in-Ok-clause-cause : goal.returns-in-Ok-clause-cause
 returns-in-Ok-clause-cause g c clean = elim c.in-Err-check_format.ensures.cause [
@@ -56,11 +56,11 @@ returns-clause-stops g c current clean =
 pub returns-in-Ok-clause-told : goal.returns-in-Ok-clause-told
 returns-in-Ok-clause-told g c = elim c.in-Err-check_format.ensures.cause [
   | inl other ↦ inr other
-  | inr misread ↦ inl (subst IsOfStore (sym misread.2) (of_store misread.0))
+  | inr misread ↦ inl (subst IsOfTables (sym misread.2) (of_store misread.0))
 ]
 
 pub returns-clause-told : goal.returns-clause-told
-returns-clause-told g c = IfErr-weaker c.no_format.result _ (λ f. IsOfStore f ⊎ (f ≡ BadVersion)) (λ f is. inl (subst IsOfStore (sym is.0) (of_store c.in-Err-format_row.error))) c.no_format.ensures.fault
+returns-clause-told g c = IfErr-weaker c.no_format.result _ (λ f. IsOfTables f ⊎ (f ≡ BadVersion)) (λ f is. inl (subst IsOfTables (sym is.0) (of_store c.in-Err-format_row.error))) c.no_format.ensures.fault
 
 pub returns-in-Err-clause-told : goal.returns-in-Err-clause-told
-returns-in-Err-clause-told g c = let it = c.in-Err.ensures.fault in inl (subst IsOfStore (sym it.1) (of_store it.0))
+returns-in-Err-clause-told g c = let it = c.in-Err.ensures.fault in inl (subst IsOfTables (sym it.1) (of_store it.0))
