@@ -45,7 +45,7 @@ use Rattle.flow_recover.specs.Recovering.{HoldsSound, HoldsSoundBefore, AreBlank
 
 ---- The book that is found
 
-number_in : List Row → ℤ
+abbrev number_in : List Row → ℤ
 number_in [] = pos 0
 number_in (r ∷ rs) = number_at r 2
 

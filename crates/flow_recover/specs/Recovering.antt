@@ -159,15 +159,15 @@ pub record IsMovedOver {S : Type 0} (g : Ghosts S) (from conn : Held S) (k : Kee
   pub positions : ArePositions meaning_of k.found qs
 
 -- What is told of one that wasn't.
-pub record IsNotMoved {S : Type 0} (g : Ghosts S) (from conn left : Held S) (f : Fault) : Type 0 where
-  pub clean : HasCleanDisk (state g left) → HasCleanDisk (state g conn)
-  pub since : Since (state g from) (state g left)
+pub record IsNotMoved {S : Type 0} (g : Ghosts S) (from conn back : Held S) (f : Fault) : Type 0 where
+  pub clean : HasCleanDisk (state g back) → HasCleanDisk (state g conn)
+  pub since : Since (state g from) (state g back)
   pub among : IsOfRecovery f
-  pub moving : HasCleanDisk (state g left) → f ≡ fault.Unknown → HasFirstFormat g (state g from)
-  pub damaged : HasCleanDisk (state g left) → HasPast (state g from).committed → IsFirstDamage is_program (past_tables (state g from).committed.trees) f
-  pub cause : HasCleanDisk (state g left) → HasCause g f
-  pub own : HasCleanDisk (state g left) → HoldsSoundBefore (state g from) → IsOfStore f
+  pub moving : HasCleanDisk (state g back) → f ≡ fault.Unknown → HasFirstFormat g (state g from)
+  pub damaged : HasCleanDisk (state g back) → HasPast (state g from).committed → IsFirstDamage is_program (past_tables (state g from).committed.trees) f
+  pub cause : HasCleanDisk (state g back) → HasCause g f
+  pub own : HasCleanDisk (state g back) → HoldsSoundBefore (state g from) → IsOfStore f
   -- A connection that is still open shows the store as it was; a stop leaves it so or, behind E84, moved.
-  pub ended : HasCleanDisk (state g left) → HasEnded (state g from) (state g left)
-  pub left : HasCleanDisk (state g left) → IsLeft (state g from) (state g left) f
-  pub stops : HasCleanDisk (state g left) → (b : Book) → IsHeldBefore (state g from) b → LeavesMade (state g conn) (state g left) b
+  pub ended : HasCleanDisk (state g back) → HasEnded (state g from) (state g back)
+  pub left : HasCleanDisk (state g back) → IsLeft (state g from) (state g back) f
+  pub stops : HasCleanDisk (state g back) → (b : Book) → IsHeldBefore (state g from) b → LeavesMade (state g conn) (state g back) b
