@@ -135,7 +135,9 @@ fn at(table: Table, run: i64, place: i64) -> Option<Damage> {
 fn rows_name_what_is_there(rt: HostRuntime) -> Result<(), Fail> {
     let textless = (1, "f", "", 1, 1);
     assert!(rt; found(rt.alloc(), &[textless], &[])? == at(Table::Run, 1, 0));
-    assert!(rt; found(rt.alloc(), &[], &[(4, 7, 1, Some(1000), STARTED)])? == at(Table::Event, 4, 7));
+    assert!(rt;
+        found(rt.alloc(), &[], &[(4, 7, 1, Some(1000), STARTED)])? == at(Table::Event, 4, 7)
+    );
     Ok(())
 }
 
@@ -196,7 +198,14 @@ fn no_run_has_such_rows(rt: HostRuntime) -> Result<(), Fail> {
     assert!(rt; is_none(alloc, &(2, "f", "", 0, 1), HISTORY, OUTBOX)?);
     assert!(rt; is_none(alloc, &RUN, &[(2, 1, 14, Some(1000), STARTED)], OUTBOX)?);
     // A body with its moment beside a column, and one without it beside none.
-    assert!(rt; is_none(alloc, &RUN, &[(2, 1, 1, Some(1000), STARTED_BEFORE)], OUTBOX)?);
+    assert!(rt;
+        is_none(
+            alloc,
+            &RUN,
+            &[(2, 1, 1, Some(1000), STARTED_BEFORE)],
+            OUTBOX
+        )?
+    );
     assert!(rt; is_none(alloc, &RUN, &[(2, 1, 1, None, STARTED)], OUTBOX)?);
     assert!(rt; is_none(alloc, &RUN, &[(2, 1, 1, Some(-1), STARTED)], OUTBOX)?);
     assert!(rt; is_none(alloc, &RUN, HISTORY, &[(2, 2, 1, -1)])?);

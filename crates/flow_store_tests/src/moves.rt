@@ -2,10 +2,9 @@
 //! rows, also behind an opening that stops at one of its calls, or of which one call fails.
 use crate::books::Books;
 use crate::course::NOTHING;
-use crate::failures;
 use crate::files::{counting, empty, found_in, left_of, opened, stopping};
-use crate::stops;
 use crate::stride::stride;
+use crate::{failures, stops};
 use flow_crash::calls::{Calls, Part, Stop};
 use sqlite::{Alter, Connection, Files};
 use sqlite_disk::{Disk, Memory};
@@ -21,7 +20,8 @@ CREATE TABLE timer (run INTEGER NOT NULL REFERENCES run(num), id INTEGER NOT NUL
 CREATE TABLE outbox (run INTEGER NOT NULL REFERENCES run(num), id INTEGER NOT NULL, attempt INTEGER NOT NULL, ready INTEGER NOT NULL, PRIMARY KEY (run, id)) STRICT";
 
 /// Texts, and runs of which some wait, for an activity, a timer and a signal, and some are closed.
-const ROWS: &str = "INSERT INTO text (num, body) VALUES (1, 'workflow a(n: int) { activity c(int) -> int; let r = 0; if n == 0 { sleep 100; return 0; } r = call c(n) retry 3 every 500; continue as new(n); }'); \
+const ROWS: &str =
+    "INSERT INTO text (num, body) VALUES (1, 'workflow a(n: int) { activity c(int) -> int; let r = 0; if n == 0 { sleep 100; return 0; } r = call c(n) retry 3 every 500; continue as new(n); }'); \
 INSERT INTO text (num, body) VALUES (2, 'workflow w() { signal s: int; let v = 0; while 1 == 1 { v = wait signal s; } }'); \
 INSERT INTO text (num, body) VALUES (3, 'workflow f(n: int) { patch \"v2\" { fail \"no\"; } }'); \
 INSERT INTO run (num, flow, req, textnum, isopen) VALUES (1, 'f', 'q1', 1, 0); \
@@ -49,7 +49,8 @@ INSERT INTO event (run, id, kind, body) VALUES (5, 2, 10, '{\"at\":3000,\"patch\
 INSERT INTO event (run, id, kind, body) VALUES (5, 3, 12, '{\"at\":3000,\"cause\":\"UserFail\",\"text\":\"no\"}')";
 
 /// The same in ours.
-const SECOND: &str = "CREATE TABLE event2 (run INTEGER NOT NULL REFERENCES run(num), id INTEGER NOT NULL, kind INTEGER NOT NULL, at INTEGER NOT NULL, body TEXT NOT NULL, PRIMARY KEY (run, id)) STRICT; \
+const SECOND: &str =
+    "CREATE TABLE event2 (run INTEGER NOT NULL REFERENCES run(num), id INTEGER NOT NULL, kind INTEGER NOT NULL, at INTEGER NOT NULL, body TEXT NOT NULL, PRIMARY KEY (run, id)) STRICT; \
 INSERT INTO meta (name, value) VALUES ('format', 2); \
 INSERT INTO event2 (run, id, kind, at, body) VALUES (1, 1, 1, 1000, '{\"args\":[7]}'); \
 INSERT INTO event2 (run, id, kind, at, body) VALUES (1, 2, 7, 1000, '{\"activity\":\"c\",\"args\":[7],\"every\":500,\"gives\":\"int\",\"tries\":3}'); \

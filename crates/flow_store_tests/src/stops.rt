@@ -128,7 +128,13 @@ fn stop_along(
 
 /// The calls that are needed without a stop, the stops that left the book of what was kept, those that left one batch more, and the
 /// wrong ones.
-pub fn swept(alloc: Global, base: &Files<Memory>, plan: Plan, books: &Books, step: u64) -> [u64; 4] {
+pub fn swept(
+    alloc: Global,
+    base: &Files<Memory>,
+    plan: Plan,
+    books: &Books,
+    step: u64,
+) -> [u64; 4] {
     let calls = calls_over(alloc, base, plan).unwrap_or(0);
     let mut stops = Stops {
         kept: 0,
