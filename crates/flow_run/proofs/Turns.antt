@@ -4,6 +4,7 @@ use Rattle.flow_base.specs.Syntax.{Program, ActivityType, activities_of}
 use Rattle.flow_base.specs.declared.event.Cmd.{Cmd}
 use Rattle.flow_base.specs.declared.event.Input.{Input}
 use Rattle.flow_model.specs.Configuration.{Configuration}
+use Rattle.flow_run.specs.Position.{Leads}
 use Rattle.flow_model.specs.Deliver.{Progress, deliver}
 use Rattle.flow_model.specs.Turn.{Frame, Answers, Turn, frame, steps, left_by, is_started, answer_of}
 
@@ -21,3 +22,7 @@ turn_is p answers old at i start last f cmds new e d r h k =
 
 pub frame_is : (p : Program) (answers : Answers) (old : Configuration) (at : ℕ) (i : Input) (acts : List ActivityType) (b : Bool) → acts ≡ activities_of p.declarations → b ≡ is_started i → ◌≡◌ {A = Frame} (record { activities = acts; at = at; is_first = b; events = old.events + 1; answer = answer_of answers }) (frame p old at i answers)
 frame_is p answers old at i acts b e h = λ x. record { activities = e x; at = at; is_first = h x; events = old.events + 1; answer = answer_of answers }
+
+-- a turn from where its steps lead
+pub turn_leads : (p : Program) (answers : Answers) (old : Configuration) (at : ℕ) (i : Input) (start : Progress) (f : Frame) (cmds : List Cmd) (new : Configuration) → f ≡ frame p old at i answers → deliver p old i ≡ Some start → Leads f start cmds new → Turn p answers old at i cmds new
+turn_leads p answers old at i start f cmds new e d l = turn_is p answers old at i start l.last f cmds new e d l.runs l.asks l.leaves
