@@ -21,10 +21,10 @@ abbrev later_contents : List Content → List Content
 later_contents [] = []
 later_contents (x ∷ xs) = xs
 
-head_same : (x y : Content) (xs ys : List Content) → ◌≡◌ {A = List Content} (x ∷ xs) (y ∷ ys) → x ≡ y
+pub head_same : (x y : Content) (xs ys : List Content) → ◌≡◌ {A = List Content} (x ∷ xs) (y ∷ ys) → x ≡ y
 head_same x y xs ys e = ap (first_content x) e
 
-tail_same : (x y : Content) (xs ys : List Content) → ◌≡◌ {A = List Content} (x ∷ xs) (y ∷ ys) → xs ≡ ys
+pub tail_same : (x y : Content) (xs ys : List Content) → ◌≡◌ {A = List Content} (x ∷ xs) (y ∷ ys) → xs ≡ ys
 tail_same x y xs ys e = ap later_contents e
 
 abbrev mark_from : List Listing → Content → Mark

@@ -10,7 +10,7 @@ use Rattle.flow_model.specs.Deliver.{map_rest, replaced, target_of, when_complet
 use Rattle.flow_nodes.specs.declared.table.Listing.{Listing}
 use Rattle.flow_run.specs.Marks.{within, Mark, One, Many, besides, put, onto, first_rest, or_rests, with_tail, map_rests}
 use Rattle.flow_run.specs.Flat.{blocks_of, is_task, late_at, task_rest, mark_by, mark_of, marks_of, shown_doing}
-use Rattle.flow_run.specs.Waiting.{IsFirst, NoneOf, on_activity, on_timer, late_in, list_of, target_in, waits_itself}
+use Rattle.flow_run.specs.Waiting.{IsFirst, NoneOf, on_activity, on_timer, going_on, late_in, list_of, target_in, waits_itself}
 use Rattle.flow_run.specs.declared.cell.Cell.{Cell}
 use Rattle.flow_run.specs.declared.cell.Doing.{Doing}
 use Rattle.flow_run.specs.declared.cell.Doing.TheVariants as doing
@@ -266,11 +266,7 @@ completed_becomes n ls (doing.OnSignalFor x s m b) h = cc
 completed_becomes n ls (doing.Raised w t) h = cc
 completed_becomes n ls (doing.Join m k) h = cc
 
-abbrev pub failed_rest : List Listing → Bytes → Option ℕ → Rest
-failed_rest ls text None = Raised ActivityFailed text
-failed_rest ls text (Some l) = rest_of (block_at ls l)
-
-pub failed_becomes : (n : ℕ) (text : Bytes) (ls : List Listing) (d : Doing) → on_activity n d ≡ true → replaced (when_failed n text) (shown_doing ls d) ≡ Some (failed_rest ls text (late_in d))
+pub failed_becomes : (n : ℕ) (text : Bytes) (ls : List Listing) (d : Doing) → on_activity n d ≡ true → replaced (when_failed n text) (shown_doing ls d) ≡ Some (going_on ls (late_in d) (doing.Raised ActivityFailed text))
 failed_becomes n text ls doing.Over h = cc
 failed_becomes n text ls doing.Empty h = cc
 failed_becomes n text ls (doing.OnActivity m x k None) h = rw h
@@ -281,11 +277,7 @@ failed_becomes n text ls (doing.OnSignalFor x s m b) h = cc
 failed_becomes n text ls (doing.Raised w t) h = cc
 failed_becomes n text ls (doing.Join m k) h = cc
 
-abbrev pub fired_rest : List Listing → Option ℕ → Rest
-fired_rest ls None = Done
-fired_rest ls (Some l) = rest_of (block_at ls l)
-
-pub fired_becomes : (n : ℕ) (ls : List Listing) (d : Doing) → on_timer n d ≡ true → replaced (when_fired n) (shown_doing ls d) ≡ Some (fired_rest ls (late_in d))
+pub fired_becomes : (n : ℕ) (ls : List Listing) (d : Doing) → on_timer n d ≡ true → replaced (when_fired n) (shown_doing ls d) ≡ Some (going_on ls (late_in d) doing.Over)
 fired_becomes n ls doing.Over h = cc
 fired_becomes n ls doing.Empty h = cc
 fired_becomes n ls (doing.OnActivity m x k o) h = cc

@@ -5,6 +5,7 @@ pub mod Delivering
 pub mod Ending
 pub mod First
 pub mod Forest
+pub mod Going
 pub mod OpenWaits
 pub mod Overs
 pub mod Parts

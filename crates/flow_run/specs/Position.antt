@@ -1,5 +1,5 @@
 -- The position of a run, as the code holds it, and a run within a turn.
-use Rattle.std.specs.Prelude.{◌≡◌, ℕ, List, [], map, Bool, Option, Some, None}
+use Rattle.std.specs.Prelude.{◌≡◌, ℕ, ◌+◌, List, [], map, Bool, Option, Some, None}
 use Rattle.flow_base.specs.Syntax.{Bytes, Program, activities_of}
 use Rattle.flow_base.specs.Shown.{shown_declaration}
 use Rattle.flow_base.specs.declared.value.Value.{Value}
@@ -12,6 +12,7 @@ use Rattle.flow_model.specs.Values.{Variables}
 use Rattle.flow_model.specs.Rest.{Rest}
 use Rattle.flow_model.specs.Configuration.{Configuration, first_configuration}
 use Rattle.flow_model.specs.Deliver.{Progress}
+use Rattle.flow_model.specs.Step.{Setting}
 use Rattle.flow_model.specs.Turn as turn
 use Rattle.flow_run.specs.Shown.{shown_answers, shown_store}
 use Rattle.flow_run.specs.declared.cell.Cell.{Cell}
@@ -53,6 +54,11 @@ shown_frame f =
       events = f.events;
       answer = turn.answer_of (shown_answers f.answers);
     }
+
+-- what a step reads where so many waits are open and so many commands were asked
+abbrev pub setting_with : turn.Frame → ℕ → ℕ → Setting
+setting_with f waits asked =
+    record { activities = f.activities; at = f.at; is_first = f.is_first; waits = waits; event = f.events + asked + 1; answer = f.answer asked }
 
 -- From a run within a turn, steps lead to these commands and this configuration.
 pub record Leads (f : turn.Frame) (start : Progress) (commands : List Cmd) (new : Configuration) : Type 0 where

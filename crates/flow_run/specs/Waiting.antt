@@ -2,6 +2,10 @@
 use Rattle.std.specs.Prelude.{◌≡◌, ℕ, ◌+◌, ◌<◌, Bool, true, false, List, [], ◌∷◌, ◌++◌, length, take, drop, slice_index_or, nat_eq, Option, Some, None}
 use Rattle.flow_base.specs.Syntax.{Bytes}
 use Rattle.flow_base.specs.declared.value.Kind.{Kind}
+use Rattle.flow_model.specs.Rest.{Rest, rest_of}
+use Rattle.flow_nodes.specs.Links.{block_at}
+use Rattle.flow_nodes.specs.declared.table.Listing.{Listing}
+use Rattle.flow_run.specs.Flat.{shown_doing}
 use Rattle.flow_run.specs.declared.cell.Late.{Late}
 use Rattle.flow_run.specs.declared.cell.Doing.{Doing}
 use Rattle.flow_run.specs.declared.cell.Doing.TheVariants as doing
@@ -41,6 +45,11 @@ abbrev pub late_in : Doing → Option ℕ
 late_in (doing.OnActivity m x k o) = list_of o
 late_in (doing.OnSignalFor x s m late) = Some late
 late_in d = None
+
+-- what a task goes on with: a list, or this where there is none
+abbrev pub going_on : List Listing → Option ℕ → Doing → Rest
+going_on ls None d = shown_doing ls d
+going_on ls (Some l) d = rest_of (block_at ls l)
 
 -- no cell does such a thing
 abbrev pub NoneOf : (Doing → Bool) → List Cell → Type 0

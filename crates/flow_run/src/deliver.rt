@@ -9,7 +9,7 @@ ghost use Rattle.flow_model.specs.Values.{none_set};
 ghost use Rattle.flow_model.specs.Deliver as model;
 ghost use Rattle.flow_run.specs.Marks.{within, onto};
 ghost use Rattle.flow_run.specs.Flat.{AreSound, blocks_of, contents_of, marks_of, shown_doing, is_task};
-ghost use Rattle.flow_run.specs.Waiting.{IsFirstOf, on_activity, on_timer, late_in, target_in, waits_itself};
+ghost use Rattle.flow_run.specs.Waiting.{IsFirst, IsFirstOf, going_on, on_activity, on_timer, late_in, target_in, waits_itself};
 ghost use Rattle.flow_run.specs.Position.{IsWholeTurning, shown_started, started_with, shown_progress};
 ghost use Rattle.flow_run.specs.Whole.{IsWhole, shown_standing, rest_at};
 ghost use Rattle.flow_run.specs.declared.cell.Cell.{Cell as ACell};
@@ -162,18 +162,37 @@ fn complete(
     ensures err { OnErr result (is_some (model.completed (shown_standing run.now) n v.now (model.target_of n (shown_standing run.now).rest)) ≡ true) }
 {
     match activity_at(&run.cells, n) {
-        Some(i) => match target(&run.cells[i].doing) {
-            Some((into, kind)) => {
-                if !has_kind(kind, v) {
-                    return Ok(None);
-                }
-                let mut p = resumed(alloc, run)?;
-                becomes(table, &mut p.cells, i, Doing::Over);
-                p.store.variables.set(alloc, into, v.copy(alloc)?)?;
-                Ok(Some(p))
+        Some(i) => complete_at(alloc, table, run, n, v, i),
+        None => Ok(None),
+    }
+}
+
+// The same of the first task that waits on the activity.
+fn complete_at(
+    alloc: Global,
+    table: &Table,
+    run: &Standing,
+    n: EventId,
+    v: &Value,
+    i: usize,
+) -> Result<Option<Turning>, Fault>
+    requires table { table.now ≡ run.now.table }
+    requires whole { IsWhole run.now }
+    requires is_open { run.now.state ≡ State.Open }
+    requires first { IsFirst (on_activity n) run.now.cells.items i }
+    ensures started { IfOk result (λ o. shown_started table.now.lists.items o ≡ model.completed (shown_standing run.now) n v.now (model.target_of n (shown_standing run.now).rest)) }
+    ensures whole { IfOk result (λ o. IfSome o (λ p. IsWholeTurning table.now.lists.items p)) }
+    ensures err { OnErr result (is_some (model.completed (shown_standing run.now) n v.now (model.target_of n (shown_standing run.now).rest)) ≡ true) }
+{
+    match target(&run.cells[i].doing) {
+        Some((into, kind)) => {
+            if !has_kind(kind, v) {
+                return Ok(None);
             }
-            None => Ok(None),
-        },
+            let mut p = gone_on(alloc, table, run, i, None, Doing::Over)?;
+            p.store.variables.set(alloc, into, v.copy(alloc)?)?;
+            Ok(Some(p))
+        }
         None => Ok(None),
     }
 }
@@ -195,14 +214,9 @@ fn fail(
 {
     match activity_at(&run.cells, n) {
         Some(i) => {
-            let mut p = resumed(alloc, run)?;
-            match late(&run.cells[i].doing) {
-                Some(list) => begins(alloc, table, &mut p.cells, i, list)?,
-                None => {
-                    let raised = Doing::Raised(Cause::ActivityFailed, text.copy(alloc)?);
-                    becomes(table, &mut p.cells, i, raised);
-                }
-            }
+            let list = late(&run.cells[i].doing);
+            let raised = Doing::Raised(Cause::ActivityFailed, text.copy(alloc)?);
+            let p = gone_on(alloc, table, run, i, list, raised)?;
             Ok(Some(p))
         }
         None => Ok(None),
@@ -220,11 +234,8 @@ fn fire(alloc: Global, table: &Table, run: &Standing, n: EventId) -> Result<Opti
 {
     match timer_at(&run.cells, n) {
         Some(i) => {
-            let mut p = resumed(alloc, run)?;
-            match late(&run.cells[i].doing) {
-                Some(list) => begins(alloc, table, &mut p.cells, i, list)?,
-                None => becomes(table, &mut p.cells, i, Doing::Over),
-            }
+            let list = late(&run.cells[i].doing);
+            let p = gone_on(alloc, table, run, i, list, Doing::Over)?;
             Ok(Some(p))
         }
         None => Ok(None),
@@ -299,6 +310,58 @@ fn start_from(
         },
         asked: Vec::new(alloc),
         state,
+    }
+}
+
+// A copy of an open run in which the task at a place does a list, or else this.
+fn gone_on(
+    alloc: Global,
+    table: &Table,
+    run: &Standing,
+    i: usize,
+    list: Option<usize>,
+    other: Doing,
+) -> Result<Turning, Fault>
+    requires table { table.now ≡ run.now.table }
+    requires whole { IsWhole run.now }
+    requires there { i < length run.now.cells.items }
+    requires waits { (c : ACell) → c ≡ slice_index_or run.now.cells.items i c → waits_itself c.doing ≡ true }
+    requires task { is_task other ≡ true }
+    ensures shows { IfOk result (λ p. (c : ACell) → c ≡ slice_index_or run.now.cells.items i c → onto (marks_of table.now.lists.items p.cells.items) [] ≡ onto (take i (marks_of table.now.lists.items run.now.cells.items)) (within (blocks_of table.now.lists.items c.places.items) (going_on table.now.lists.items list other) ∷ onto (drop (i + 1) (marks_of table.now.lists.items run.now.cells.items)) [])) }
+    ensures store { IfOk result (λ p. shown_progress table.now.lists.items p ≡ started_with (rest_at table.now.lists.items p.cells.items) (slot_of run.now.variables) run.now.buffer (look_up run.now.decided) State.Open) }
+    ensures whole { IfOk result (λ p. IsWholeTurning table.now.lists.items p) }
+{
+    let mut p = resumed(alloc, run)?;
+    go_on_as(alloc, table, &mut p.cells, i, list, other)?;
+    Ok(p)
+}
+
+// The task at a place does a list, or else this.
+fn go_on_as(
+    alloc: Global,
+    table: &Table,
+    cells: &mut Vec<Cell>,
+    i: usize,
+    list: Option<usize>,
+    other: Doing,
+) -> Result<(), Fault>
+    requires there { i < length cells.old.items }
+    requires sound { AreSound table.now.lists.items cells.old.items }
+    requires waits { (c : ACell) → c ≡ slice_index_or cells.old.items i c → waits_itself c.doing ≡ true }
+    requires task { is_task other ≡ true }
+    ensures shows { OnOk result ((c : ACell) → c ≡ slice_index_or cells.old.items i c → onto (marks_of table.now.lists.items cells.new.items) [] ≡ onto (take i (marks_of table.now.lists.items cells.old.items)) (within (blocks_of table.now.lists.items c.places.items) (going_on table.now.lists.items list other) ∷ onto (drop (i + 1) (marks_of table.now.lists.items cells.old.items)) [])) }
+    ensures sound { OnOk result (AreSound table.now.lists.items cells.new.items) }
+{
+    match list {
+        Some(late) => {
+            drop(other);
+            begins(alloc, table, cells, i, late)?;
+            Ok(())
+        }
+        None => {
+            becomes(table, cells, i, other);
+            Ok(())
+        }
     }
 }
 

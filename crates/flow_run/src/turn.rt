@@ -8,10 +8,10 @@ ghost use Rattle.flow_model.specs.Configuration as configuration;
 ghost use Rattle.flow_model.specs.Configuration.{Configuration, first_configuration};
 ghost use Rattle.flow_model.specs.Deliver.{deliver as delivered, all_fit as fit};
 ghost use Rattle.flow_model.specs.Turn as model;
-ghost use Rattle.flow_run.specs.Shown.{shown_answers};
+ghost use Rattle.flow_run.specs.Shown.{shown_answers, shown_setting};
 ghost use Rattle.flow_run.specs.Flat.{AreSound};
 ghost use Rattle.flow_run.specs.Waiting.{waits_in_all, wait_in, opens_in_all, one_if, is_waiting as is_waiting_in};
-ghost use Rattle.flow_run.specs.Position.{IsWholeTurning, Leads, shown_frame, shown_progress};
+ghost use Rattle.flow_run.specs.Position.{IsWholeTurning, Leads, setting_with, shown_frame, shown_progress};
 ghost use Rattle.flow_run.specs.Whole.{rest_at, shown_standing};
 
 use crate::cell::{Cell, Doing};
@@ -162,15 +162,22 @@ fn next(alloc: Global, f: &Frame, table: &Table, p: &mut Turning) -> Result<bool
         ends(alloc, p, Cmd::Complete(Value::Text(Text::empty(alloc))))?;
         return Ok(true);
     }
-    let s = Setting {
-        declarations: f.declarations,
-        at: f.at,
-        is_first: f.is_first,
-        waits: open_waits(&p.cells),
-        event: EventId::new(f.events + count(&p.asked) + 1).unwrap(),
-        answers: f.answers,
-        taken: p.asked.len(),
-    };
+    let steps = step_on(alloc, f, table, p)?;
+    Ok(steps)
+}
+
+// The same of an open run of which something is left.
+fn step_on(alloc: Global, f: &Frame, table: &Table, p: &mut Turning) -> Result<bool, Fault>
+    requires events { f.now.events < 2 ^ 62 }
+    requires linked { AreLinked table.now.lists.items }
+    requires whole { IsWholeTurning table.now.lists.items p.old }
+    requires is_open { configuration.is_open p.old.state ≡ true }
+    requires going { is_done (rest_at table.now.lists.items p.old.cells.items) ≡ false }
+    ensures step { IfOk result (λ steps. (if steps then Some (shown_progress table.now.lists.items p.new) else None) ≡ model.next (shown_frame f.now) (shown_progress table.now.lists.items p.old)) }
+    ensures kept { IfOk result (λ steps. steps ≡ false → shown_progress table.now.lists.items p.new ≡ shown_progress table.now.lists.items p.old) }
+    ensures whole { IfOk result (λ _. IsWholeTurning table.now.lists.items p.new) }
+{
+    let s = setting_of(f, &p.cells, &p.asked);
     match step(alloc, table, &s, &mut p.store, &mut p.cells)? {
         Stepped::Stays => Ok(false),
         Stepped::Goes => Ok(true),
@@ -182,6 +189,22 @@ fn next(alloc: Global, f: &Frame, table: &Table, p: &mut Turning) -> Result<bool
             ends(alloc, p, Box::into_inner(c))?;
             Ok(true)
         }
+    }
+}
+
+// What the next step reads.
+fn setting_of<'a>(f: &Frame<'a>, cells: &[Cell], asked: &[Cmd]) -> Setting<'a>
+    requires { f.now.events < 2 ^ 62 }
+    ensures { shown_setting result ≡ setting_with (shown_frame f.now) (min (opens_in_all cells.now) 32) (length asked.now) }
+{
+    Setting {
+        declarations: f.declarations,
+        at: f.at,
+        is_first: f.is_first,
+        waits: open_waits(cells),
+        event: EventId::new(f.events + count(asked) + 1).unwrap(),
+        answers: f.answers,
+        taken: asked.len(),
     }
 }
 

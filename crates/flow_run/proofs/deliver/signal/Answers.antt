@@ -3,7 +3,9 @@ use Rattle.flow_base.specs.declared.event.State.TheVariants.{Open}
 use Rattle.flow_base.specs.declared.value.Value.{Value}
 use Rattle.flow_values.specs.Named.{look_up}
 use Rattle.flow_values.specs.Slots.{slot_of}
-use Rattle.flow_model.specs.Deliver.{Progress}
+use Rattle.flow_base.specs.Syntax.{signals_of}
+use Rattle.flow_base.specs.Shown.{shown_program}
+use Rattle.flow_model.specs.Deliver.{Progress, signal_fits}
 use Rattle.flow_nodes.specs.declared.table.Table.{Table}
 use Rattle.flow_run.specs.Position.{shown_progress, started_with}
 use Rattle.flow_run.specs.Whole.{IsWholeAt, rest_at}
@@ -19,7 +21,7 @@ returns-clause-started c =
     ap Some
     (with_signal ls run.cells.items p (slot_of run.variables) run.buffer c.push.new.self (look_up run.decided) (c.args.name.now, c.args.v.now) c.in_ok-p.ensures.cells (c.in_ok-p.ensures.shows ls) put
      ∙ ap (λ (t : Table). started_with (rest_at t.lists.items run.cells.items) (slot_of run.variables) (run.buffer ++ (c.args.name.now, c.args.v.now) ∷ []) (look_up run.decided) Open) c.requires.table)
-    ∙ if_fits _ _ _ (search rules)
+    ∙ if_fits (signal_fits (signals_of (shown_program c.args.program.now).declarations) c.args.name.now c.args.v.now) _ _ (search rules)
 
 pub returns-clause-whole : goal.returns-clause-whole
 returns-clause-whole c =
