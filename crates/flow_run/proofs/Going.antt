@@ -1,17 +1,18 @@
 -- An input takes effect on a copy of an open run: the first task that it is for goes on.
-use Rattle.std.proofs.Common.{◌≡◌, ℕ, zero, suc, ◌+◌, ◌<◌, ◌≤◌, List, [], ◌∷◌, length, get_or, take, drop, refl, sym, ap, ◌∙◌, subst, arith, Option, Some, None, Bool, true, false}
-use Rattle.std.specs.Prelude.{is_some, if◌then◌else◌}
-use Rattle.flow_base.specs.Syntax.{Bytes, Block}
+use Rattle.std.proofs.Common.{◌≡◌, ℕ, zero, suc, ◌+◌, ◌<◌, ◌≤◌, List, [], ◌∷◌, length, get_or, take, drop, refl, sym, ap, ◌∙◌, subst, arith, Option, Some, None, Result, Ok, Err, Bool, true, false}
+use Rattle.std.specs.Prelude.{◌&&◌, OnErr, is_some, if◌then◌else◌}
+use Rattle.flow_base.specs.Syntax.{Block, Bytes, Program}
 use Rattle.flow_base.specs.declared.value.Kind.{Kind}
 use Rattle.flow_base.specs.declared.value.Value.{Value}
 use Rattle.flow_base.specs.declared.event.State.{State}
-use Rattle.flow_base.specs.declared.event.State.TheVariants.{Open}
+use Rattle.flow_base.specs.declared.event.State.TheVariants.{Unbegun, Open, Completed, Failed, Continued, Terminated}
+use Rattle.flow_base.specs.declared.event.Input.TheVariants as input
 use Rattle.flow_values.specs.Named.{look_up}
 use Rattle.flow_values.specs.Slots.{slot_of}
 use Rattle.flow_model.specs.Rest.{Rest, Done}
 use Rattle.flow_model.specs.Values.{Variables, with_variable}
-use Rattle.flow_model.specs.Configuration.{Configuration}
-use Rattle.flow_model.specs.Deliver.{Progress, completed, has_kind, replaced, start_from, target_of, when_completed, with_rest}
+use Rattle.flow_model.specs.Configuration.{Configuration, is_open}
+use Rattle.flow_model.specs.Deliver.{Progress, begun, completed, deliver, has_kind, replaced, start_from, target_of, when_completed, with_rest}
 use Rattle.flow_nodes.specs.declared.table.Listing.{Listing}
 use Rattle.flow_nodes.specs.declared.table.Table.{Table}
 use Rattle.flow_run.specs.Marks.{Mark, One, Many, Counted, first_rest, onto, put, within}
@@ -27,7 +28,7 @@ use Rattle.flow_run.specs.declared.standing.Standing.{Standing}
 use Rattle.flow_run.specs.declared.deliver.Turning.{Turning}
 use Rattle.flow_run.proofs.Contents.{head_same, same_full, same_marks, tail_same}
 use Rattle.flow_run.proofs.Forest.{onto_append}
-use Rattle.flow_run.proofs.Steps.{cell_in, cut_cell}
+use Rattle.flow_run.proofs.Steps.{cut_cell}
 use Rattle.flow_run.proofs.Walking.{task_put}
 use Rattle.flow_run.proofs.Delivering.{activity_waits, completed_becomes, first_replaced, firsts, no_activity, no_target, none_at_all, replaced_at, target_at, waits_task, whole_replaced}
 
@@ -59,10 +60,10 @@ onto_alike (One r ∷ ms) rs qs e = ap suc (onto_alike ms rs qs e)
 onto_alike (Many bs n k ∷ ms) rs qs e = ap suc (drops_alike n (onto ms rs) (onto ms qs) (onto_alike ms rs qs e))
 
 -- a task that is there
-there_is : (cs : List Cell) (i : ℕ) (h : i < length cs) → cell_in cs i h ≡ get_or cs i (cell_in cs i h)
-there_is [] i h = absurd (omega (arith, h))
-there_is (c ∷ cs) zero h = refl
-there_is (c ∷ cs) (suc i) h = there_is cs i (omega (arith, h))
+pub one_there : (cs : List Cell) (i : ℕ) → i < length cs → (c : Cell) × (c ≡ get_or cs i c)
+one_there [] i h = absurd (omega (arith, h))
+one_there (c ∷ cs) zero h = (c, refl)
+one_there (c ∷ cs) (suc i) h = one_there cs i (omega (arith, h))
 
 -- what holds of a run holds of a copy
 pub whole_at : (run : Standing) (t : Table) → t ≡ run.table → IsWhole run → IsWholeAt t.lists.items run.cells.items run.state
@@ -90,8 +91,9 @@ pub whole_on : (ls : List Listing) (cs es : List Cell) (i : ℕ) (r : Rest) (s t
     → ((c : Cell) → c ≡ get_or cs i c → onto (marks_of ls es) [] ≡ onto (take i (marks_of ls cs)) (within (blocks_of ls c.places.items) r ∷ onto (drop (i + 1) (marks_of ls cs)) []))
     → AreSound ls es → s ≡ Open → IsWholeAt ls es s
 whole_on ls cs es i r s t w h waits shows sound opened =
-    let c = cell_in cs i h in
-    let is = there_is cs i h in
+    let there = one_there cs i h in
+    let c : Cell = there.0 in
+    let is : c ≡ get_or cs i c = there.1 in
     let ms = marks_of ls cs in
     let rs = onto (drop (i + 1) ms) [] in
     let was : onto ms [] ≡ onto (take i ms) (task_rest ls c ∷ rs) =
@@ -196,3 +198,26 @@ can_complete run n v x target fits can =
     by : (o : Option Rest) → replaced (when_completed n) (shown_standing run).rest ≡ o → is_some o ≡ true → is_some (completed (shown_standing run) n v (Some x)) ≡ true
     by None e h = cc
     by (Some r) e h = ap is_some (fitting (shown_standing run) n v x r fits e)
+
+-- what holds anyway holds where there is an error
+pub on_err : {A E : Type 0} (r : Result A E) (P : Type 0) → P → OnErr r P
+on_err (Ok a) P h = tt
+on_err (Err e) P h = h
+
+-- an open run takes no start, and all else as it takes it
+pub no_start : (p : Program) (k : Configuration) (vs : List Value) → k.state ≡ Open → ◌≡◌ {A = Option Progress} None (deliver p k (input.Started vs))
+no_start p k vs opened = by k.state opened
+  where
+    by : (s : State) → s ≡ Open → ◌≡◌ {A = Option Progress} None (elim s [ Unbegun ↦ begun p vs | _ ↦ None ])
+    by Unbegun e = cc
+    by Open e = refl
+    by Completed e = cc
+    by Failed e = cc
+    by Continued e = cc
+    by Terminated e = cc
+
+pub when_open : (s : State) (o : Option Progress) → s ≡ Open → o ≡ (if is_open s then o else None)
+when_open s o opened = subst (λ (t : State). o ≡ (if is_open t then o else None)) (sym opened) refl
+
+pub fits_open : (s : State) (b : Bool) (x : Progress) → s ≡ Open → (if b then Some x else None) ≡ (if is_open s && b then Some x else None)
+fits_open s b x opened = subst (λ (t : State). (if b then Some x else None) ≡ (if is_open t && b then Some x else None)) (sym opened) refl

@@ -1,6 +1,7 @@
 use Rattle.std.proofs.Common.{◌≡◌, ◌<◌, length, ap, sym, subst, arith}
 use Rattle.flow_model.specs.Deliver.{Progress}
 use Rattle.flow_run.specs.Waiting.{going_on}
+use Rattle.flow_run.specs.Whole.{rest_at}
 use Rattle.flow_run.proofs.Going.{as_many, shows_again, sound_again, waits_again, whole_at, whole_on}
 use Rattle.flow_run.proofs.deliver.gone_on.Goals as goal
 
@@ -29,3 +30,8 @@ returns-clause-whole c =
     whole_on ls cs c.go_on_as.new.cells.items c.args.i r c.in_ok-p.p.state c.args.run.now.state (whole_at c.args.run.now c.args.table.now c.requires.table c.requires.whole) c.requires.there c.requires.waits
     (λ d is. shows_again ls cs c.in_ok-p.p.cells.items c.go_on_as.new.cells.items c.args.i r c.in_ok-p.ensures.cells c.requires.there c.in_ok-go_on_as.ensures.shows d is)
     c.in_ok-go_on_as.ensures.sound (ap (λ (q : Progress). q.state) (c.in_ok-p.ensures.shows ls))
+
+pub returns-clause-store : goal.returns-clause-store
+returns-clause-store c =
+    let ls = c.args.table.now.lists.items in
+    ap (λ (q : Progress). record q { rest = rest_at ls c.go_on_as.new.cells.items }) (c.in_ok-p.ensures.shows ls)
