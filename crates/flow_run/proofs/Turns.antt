@@ -1,5 +1,6 @@
 -- A turn from its parts.
-use Rattle.std.proofs.Common.{◌≡◌, ℕ, ◌+◌, List, refl, sym, ap, ◌∙◌, Option, Some, None, Bool, true, false}
+use Rattle.std.proofs.Common.{◌≡◌, ℕ, ◌+◌, List, [], refl, sym, ap, ◌∙◌, Option, Some, None, Bool, true, false}
+use Rattle.std.specs.Prelude.{if◌then◌else◌}
 use Rattle.flow_base.specs.Syntax.{Program, ActivityType, activities_of}
 use Rattle.flow_base.specs.declared.event.Cmd.{Cmd}
 use Rattle.flow_base.specs.declared.event.Input.{Input}
@@ -7,10 +8,11 @@ use Rattle.flow_base.specs.declared.event.Input.TheVariants as input
 use Rattle.flow_base.specs.declared.event.State.{State}
 use Rattle.flow_base.specs.declared.event.State.TheVariants.{Unbegun, Open, Completed, Failed, Continued, Terminated}
 use Rattle.flow_base.specs.declared.value.Value.{Value}
-use Rattle.flow_model.specs.Configuration.{Configuration, first_configuration}
+use Rattle.flow_model.specs.Configuration.{Configuration, first_configuration, none_decided}
 use Rattle.flow_run.specs.Whole.{is_unbegun}
 use Rattle.flow_run.specs.Position.{Leads}
-use Rattle.flow_model.specs.Deliver.{Progress, begun, deliver}
+use Rattle.flow_model.specs.Rest.{rest_of}
+use Rattle.flow_model.specs.Deliver.{Progress, all_fit, begun, bound, deliver}
 use Rattle.flow_model.specs.Turn.{Frame, Answers, Turn, frame, steps, left_by, is_started, answer_of}
 
 pub turn_is : (p : Program) (answers : Answers) (old : Configuration) (at : ℕ) (i : Input) (start last : Progress) (f : Frame) (cmds : List Cmd) (new : Configuration) → f ≡ frame p old at i answers → deliver p old i ≡ Some start → (n : ℕ) × (steps n f start ≡ Some last) → cmds ≡ last.asked → new ≡ left_by f last → Turn p answers old at i cmds new
@@ -63,3 +65,20 @@ turn_first p answers at vs acts start cmds new e d l =
     let f : ◌≡◌ {A = Frame} (record { activities = acts; at = at; is_first = true; events = 1; answer = answer_of answers }) (frame p first_configuration at (input.Started vs) answers) =
     λ x. record { activities = e x; at = at; is_first = true; events = 1; answer = answer_of answers } in
     turn_leads p answers first_configuration at (input.Started vs) start (record { activities = acts; at = at; is_first = true; events = 1; answer = answer_of answers }) cmds new f (sym d) l
+
+-- a run begins where its arguments fit, and nowhere else
+fits_if : (b : Bool) (x q : Progress) → Some x ≡ (if b then Some q else None) → b ≡ true
+fits_if true x q e = refl
+fits_if false x q e = cc
+
+unfit_if : (b : Bool) (q : Progress) → ◌≡◌ {A = Option Progress} None (if b then Some q else None) → b ≡ false
+unfit_if true q e = cc
+unfit_if false q e = refl
+
+pub begun_fits : (p : Program) (vs : List Value) (x : Progress) → Some x ≡ begun p vs → all_fit p.parameters vs ≡ true
+begun_fits p vs x e =
+    fits_if (all_fit p.parameters vs) x (record { rest = rest_of p.body; store = record { variables = bound p.parameters vs; buffer = []; decided = none_decided; tests = 0 }; asked = []; state = Open }) e
+
+pub begun_unfit : (p : Program) (vs : List Value) → None ≡ begun p vs → all_fit p.parameters vs ≡ false
+begun_unfit p vs e =
+    unfit_if (all_fit p.parameters vs) (record { rest = rest_of p.body; store = record { variables = bound p.parameters vs; buffer = []; decided = none_decided; tests = 0 }; asked = []; state = Open }) e

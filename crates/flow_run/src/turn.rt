@@ -177,7 +177,7 @@ fn step_on(alloc: Global, f: &Frame, table: &Table, p: &mut Turning) -> Result<b
     ensures kept { IfOk result (λ steps. steps ≡ false → shown_progress table.now.lists.items p.new ≡ shown_progress table.now.lists.items p.old) }
     ensures whole { IfOk result (λ _. IsWholeTurning table.now.lists.items p.new) }
 {
-    let s = setting_of(f, &p.cells, &p.asked);
+    let s = setting_of(f, p);
     match step(alloc, table, &s, &mut p.store, &mut p.cells)? {
         Stepped::Stays => Ok(false),
         Stepped::Goes => Ok(true),
@@ -193,18 +193,18 @@ fn step_on(alloc: Global, f: &Frame, table: &Table, p: &mut Turning) -> Result<b
 }
 
 // What the next step reads.
-fn setting_of<'a>(f: &Frame<'a>, cells: &[Cell], asked: &[Cmd]) -> Setting<'a>
+fn setting_of<'a>(f: &Frame<'a>, p: &Turning) -> Setting<'a>
     requires { f.now.events < 2 ^ 62 }
-    ensures { shown_setting result ≡ setting_with (shown_frame f.now) (min (opens_in_all cells.now) 32) (length asked.now) }
+    ensures { shown_setting result ≡ setting_with (shown_frame f.now) (min (opens_in_all p.now.cells.items) 32) (length p.now.asked.items) }
 {
     Setting {
         declarations: f.declarations,
         at: f.at,
         is_first: f.is_first,
-        waits: open_waits(cells),
-        event: EventId::new(f.events + count(asked) + 1).unwrap(),
+        waits: open_waits(&p.cells),
+        event: EventId::new(f.events + count(&p.asked) + 1).unwrap(),
         answers: f.answers,
-        taken: asked.len(),
+        taken: p.asked.len(),
     }
 }
 

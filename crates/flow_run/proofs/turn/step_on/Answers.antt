@@ -29,18 +29,18 @@ returns-in-Goes-clause-whole c =
     let p = c.args.p.now in
     whole_goes c.args.table.now.lists.items (shown_frame c.args.f.now) (shown_setting c.setting_of-s.result) p.cells.items c.step.new.cells.items p.store c.step.new.t p.asked.items p.state c.requires.whole c.requires.is_open c.requires.going c.setting_of-s.ensures (rw c.in-Goes.is at c.in_ok-step.ensures.step) (rw c.in-Goes.is at c.in_ok-step.ensures.sound)
 
-pub returns-in-Asks-clause-step : goal.returns-in-Asks-clause-step
-returns-in-Asks-clause-step c =
+pub returns-in_ok-push-in-Asks-clause-step : goal.returns-in_ok-push-in-Asks-clause-step
+returns-in_ok-push-in-Asks-clause-step c =
     let p = c.args.p.now in
     step_asks c.args.table.now.lists.items (shown_frame c.args.f.now) (shown_setting c.setting_of-s.result) p.cells.items c.step.new.cells.items p.store c.step.new.t p.asked.items p.state c.requires.whole c.requires.is_open c.requires.going c.setting_of-s.ensures c.in-Asks.c.value c.push.new.self.items (search rules) (rw c.in-Asks.is at c.in_ok-step.ensures.step)
 
-pub returns-in-Asks-clause-whole : goal.returns-in-Asks-clause-whole
-returns-in-Asks-clause-whole c =
+pub returns-in_ok-push-in-Asks-clause-whole : goal.returns-in_ok-push-in-Asks-clause-whole
+returns-in_ok-push-in-Asks-clause-whole c =
     let p = c.args.p.now in
     whole_asks c.args.table.now.lists.items (shown_frame c.args.f.now) (shown_setting c.setting_of-s.result) p.cells.items c.step.new.cells.items p.store c.step.new.t p.asked.items p.state c.requires.whole c.requires.is_open c.requires.going c.setting_of-s.ensures c.in-Asks.c.value (rw c.in-Asks.is at c.in_ok-step.ensures.step) (rw c.in-Asks.is at c.in_ok-step.ensures.sound)
 
-pub returns-in-Ends-clause-step : goal.returns-in-Ends-clause-step
-returns-in-Ends-clause-step c =
+pub returns-in_ok-ends-in-Ends-clause-step : goal.returns-in_ok-ends-in-Ends-clause-step
+returns-in_ok-ends-in-Ends-clause-step c =
     let p = c.args.p.now in
     let ls = c.args.table.now.lists.items in
-    step_ends ls (shown_frame c.args.f.now) (shown_setting c.setting_of-s.result) p.cells.items c.step.new.cells.items p.store c.step.new.t p.asked.items p.state c.requires.whole c.requires.is_open c.requires.going c.setting_of-s.ensures c.in-Ends.c.value (shown_progress ls c.ends.new.p) (c.in_ok-ends.ensures.ends ls) (rw c.in-Ends.is at c.in_ok-step.ensures.step)
+    step_ends ls (shown_frame c.args.f.now) (shown_setting c.setting_of-s.result) p.cells.items c.step.new.cells.items p.store c.step.new.t p.asked.items p.state c.requires.whole c.requires.is_open c.requires.going c.setting_of-s.ensures c.in-Ends.c.value (shown_progress ls c.ends.new.p) (c.in_ok-ends-in-Ends.ensures.ends ls) (rw c.in-Ends.is at c.in_ok-step.ensures.step)
