@@ -1,18 +1,17 @@
 -- An input takes effect on a copy of an open run: the first task that it is for goes on.
 use Rattle.std.proofs.Common.{◌≡◌, ℕ, zero, suc, ◌+◌, ◌<◌, ◌≤◌, List, [], ◌∷◌, length, get_or, take, drop, refl, sym, ap, ◌∙◌, subst, arith, Option, Some, None, Result, Ok, Err, Bool, true, false}
-use Rattle.std.specs.Prelude.{◌&&◌, OnErr, is_some, if◌then◌else◌}
-use Rattle.flow_base.specs.Syntax.{Block, Bytes, Program}
+use Rattle.std.specs.Prelude.{OnErr, is_some, if◌then◌else◌}
+use Rattle.flow_base.specs.Syntax.{Block, Bytes}
 use Rattle.flow_base.specs.declared.value.Kind.{Kind}
 use Rattle.flow_base.specs.declared.value.Value.{Value}
 use Rattle.flow_base.specs.declared.event.State.{State}
-use Rattle.flow_base.specs.declared.event.State.TheVariants.{Unbegun, Open, Completed, Failed, Continued, Terminated}
-use Rattle.flow_base.specs.declared.event.Input.TheVariants as input
+use Rattle.flow_base.specs.declared.event.State.TheVariants.{Open}
 use Rattle.flow_values.specs.Named.{look_up}
 use Rattle.flow_values.specs.Slots.{slot_of}
 use Rattle.flow_model.specs.Rest.{Rest, Done}
 use Rattle.flow_model.specs.Values.{Variables, with_variable}
-use Rattle.flow_model.specs.Configuration.{Configuration, is_open}
-use Rattle.flow_model.specs.Deliver.{Progress, begun, completed, deliver, has_kind, replaced, start_from, target_of, when_completed, with_rest}
+use Rattle.flow_model.specs.Configuration.{Configuration}
+use Rattle.flow_model.specs.Deliver.{Progress, completed, has_kind, replaced, start_from, target_of, when_completed, with_rest}
 use Rattle.flow_nodes.specs.declared.table.Listing.{Listing}
 use Rattle.flow_nodes.specs.declared.table.Table.{Table}
 use Rattle.flow_run.specs.Marks.{Mark, One, Many, Counted, first_rest, onto, put, within}
@@ -179,17 +178,6 @@ completes_not k n v x o target h = sym (unfitting k n v x h) ∙ ap (completed k
 pub no_completion : (k : Configuration) (n : ℕ) (v : Value) (o : Option (Bytes × Kind)) → o ≡ None → ◌≡◌ {A = Option Progress} None (completed k n v o)
 no_completion k n v o is = ap (completed k n v) (sym is)
 
--- an activity's task has a target
-pub has_target : (n : ℕ) (d : Doing) → on_activity n d ≡ true → target_in d ≡ None → ⊥
-has_target n doing.Over h e = cc
-has_target n doing.Empty h e = cc
-has_target n (doing.OnActivity m x k o) h e = cc
-has_target n (doing.OnTimer m) h e = cc
-has_target n (doing.OnSignal x s) h e = cc
-has_target n (doing.OnSignalFor x s m b) h e = cc
-has_target n (doing.Raised w t) h e = cc
-has_target n (doing.Join m k) h e = cc
-
 pub can_complete : (run : Standing) (n : ℕ) (v : Value) (x : Bytes × Kind) → target_of n (shown_standing run).rest ≡ Some x → has_kind x.1 v ≡ true → is_some (replaced (when_completed n) (shown_standing run).rest) ≡ true
     → is_some (completed (shown_standing run) n v (target_of n (shown_standing run).rest)) ≡ true
 can_complete run n v x target fits can =
@@ -203,21 +191,3 @@ can_complete run n v x target fits can =
 pub on_err : {A E : Type 0} (r : Result A E) (P : Type 0) → P → OnErr r P
 on_err (Ok a) P h = tt
 on_err (Err e) P h = h
-
--- an open run takes no start, and all else as it takes it
-pub no_start : (p : Program) (k : Configuration) (vs : List Value) → k.state ≡ Open → ◌≡◌ {A = Option Progress} None (deliver p k (input.Started vs))
-no_start p k vs opened = by k.state opened
-  where
-    by : (s : State) → s ≡ Open → ◌≡◌ {A = Option Progress} None (elim s [ Unbegun ↦ begun p vs | _ ↦ None ])
-    by Unbegun e = cc
-    by Open e = refl
-    by Completed e = cc
-    by Failed e = cc
-    by Continued e = cc
-    by Terminated e = cc
-
-pub when_open : (s : State) (o : Option Progress) → s ≡ Open → o ≡ (if is_open s then o else None)
-when_open s o opened = subst (λ (t : State). o ≡ (if is_open t then o else None)) (sym opened) refl
-
-pub fits_open : (s : State) (b : Bool) (x : Progress) → s ≡ Open → (if b then Some x else None) ≡ (if is_open s && b then Some x else None)
-fits_open s b x opened = subst (λ (t : State). (if b then Some x else None) ≡ (if is_open t && b then Some x else None)) (sym opened) refl

@@ -115,34 +115,35 @@ pub fn deliver(
     ensures whole { IfOk result (λ o. IfSome o (λ p. IsWholeTurning table.now.lists.items p)) }
     ensures err { OnErr result (is_some (model.deliver (shown_program program.now) (shown_standing run.now) input.now) ≡ true) }
 {
-    match run.state {
-        State::Open => delivered(alloc, table, program, run, input),
-        _ => Ok(None),
-    }
-}
-
-// The same of an open run.
-fn delivered(
-    alloc: Global,
-    table: &Table,
-    program: &Program,
-    run: &Standing,
-    input: &Input,
-) -> Result<Option<Turning>, Fault>
-    requires table { table.now ≡ run.now.table }
-    requires whole { IsWhole run.now }
-    requires is_open { run.now.state ≡ State.Open }
-    ensures started { IfOk result (λ o. shown_started table.now.lists.items o ≡ model.deliver (shown_program program.now) (shown_standing run.now) input.now) }
-    ensures whole { IfOk result (λ o. IfSome o (λ p. IsWholeTurning table.now.lists.items p)) }
-    ensures err { OnErr result (is_some (model.deliver (shown_program program.now) (shown_standing run.now) input.now) ≡ true) }
-{
     match input {
-        Input::Started(_) => Ok(None),
-        Input::ActivityCompleted(n, v) => complete(alloc, table, run, *n, v),
-        Input::ActivityFailed(n, text) => fail(alloc, table, run, *n, text),
-        Input::TimerFired(n) => fire(alloc, table, run, *n),
-        Input::Signaled(name, _, v) => signal(alloc, table, program, run, name, v),
-        Input::Terminated(_) => terminate(alloc, table, run),
+        Input::Started(_) => match run.state {
+            // Not of a run that has begun.
+            State::Unbegun => Ok(None),
+            _ => Ok(None),
+        },
+        Input::ActivityCompleted(n, v) => match run.state {
+            State::Open => complete(alloc, table, run, *n, v),
+            _ => Ok(None),
+        },
+        Input::ActivityFailed(n, text) => match run.state {
+            State::Open => fail(alloc, table, run, *n, text),
+            _ => Ok(None),
+        },
+        Input::TimerFired(n) => match run.state {
+            State::Open => fire(alloc, table, run, *n),
+            _ => Ok(None),
+        },
+        Input::Signaled(name, _, v) => match run.state {
+            State::Open => signal(alloc, table, program, run, name, v),
+            _ => Ok(None),
+        },
+        Input::Terminated(_) => match run.state {
+            State::Open => {
+                let p = terminate(alloc, table, run)?;
+                Ok(p)
+            }
+            _ => Ok(None),
+        },
     }
 }
 
