@@ -1,6 +1,7 @@
-use Rattle.std.proofs.Common.{◌≡◌, ◌∙◌, Some, ap, subst, sym, true}
+use Rattle.std.proofs.Common.{◌≡◌, ◌∙◌, List, Some, ap, map, subst, sym, true}
 use Rattle.flow_base.specs.Syntax.{Program, activities_of}
-use Rattle.flow_base.specs.Shown.{shown_program}
+use Rattle.flow_base.specs.Shown.{shown_declaration}
+use Rattle.flow_base.specs.declared.syntax.Declaration.{Declaration}
 use Rattle.flow_nodes.specs.Links.{AreLinked, block_at}
 use Rattle.flow_nodes.specs.declared.table.Table.{Table}
 use Rattle.flow_model.specs.Checked.{shown_checked}
@@ -29,8 +30,8 @@ returns-in_ok-left-in-Some-clause-turn c =
     let tree = c.program-tree.ensures.same in
     let first = rw c.in-Some.is at c.in_ok-begin.ensures.started in
     let started : Some (shown_progress ls c.in-Some.p) ≡ begun p c.args.values.now = first ∙ ap (λ (t : Program). begun t c.args.values.now) tree in
-    turn_first p (shown_answers c.args.answers) c.args.at c.args.values.now (activities_of (shown_program c.program-tree.result.now).declarations) (shown_progress ls c.in-Some.p) c.in_ok-left-in-Some.left.1.items (shown_standing c.in_ok-left-in-Some.left.0)
-    (ap (λ (t : Program). activities_of t.declarations) tree) started c.in_ok-left-in-Some.ensures.led
+    turn_first p (shown_answers c.args.answers) c.args.at c.args.values.now (activities_of (map shown_declaration c.deref.result.now)) (shown_progress ls c.in-Some.p) c.in_ok-left-in-Some.left.1.items (shown_standing c.in_ok-left-in-Some.left.0)
+    (ap (λ (ds : List Declaration). activities_of (map shown_declaration ds)) c.deref.ensures.value ∙ ap (λ (t : Program). activities_of t.declarations) tree) started c.in_ok-left-in-Some.ensures.led
 
 pub returns-in-None-clause-turn : goal.returns-in-None-clause-turn
 returns-in-None-clause-turn c =

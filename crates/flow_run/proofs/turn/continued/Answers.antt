@@ -1,7 +1,8 @@
-use Rattle.std.proofs.Common.{◌≡◌, ◌+◌, ◌∙◌, None, Some, ap, arith, subst, sym, true}
+use Rattle.std.proofs.Common.{◌≡◌, ◌+◌, ◌∙◌, List, None, Some, ap, map, arith, subst, sym, true}
 use Rattle.std.specs.Prelude.{is_some}
 use Rattle.flow_base.specs.Syntax.{Program, activities_of}
-use Rattle.flow_base.specs.Shown.{shown_program}
+use Rattle.flow_base.specs.Shown.{shown_declaration, shown_program}
+use Rattle.flow_base.specs.declared.syntax.Declaration.{Declaration}
 use Rattle.flow_nodes.specs.Links.{AreLinked}
 use Rattle.flow_nodes.specs.declared.table.Table.{Table}
 use Rattle.flow_model.specs.Checked.{shown_checked}
@@ -41,8 +42,8 @@ returns-in_ok-left-in-Some-clause-turn c =
     first
     ∙ ap (λ (t : Program). deliver t (shown_standing run) c.args.input.now) tree
     ∙ ap (λ (r : Standing). deliver p (shown_standing r) c.args.input.now) same in
-    turn_again p (shown_answers c.args.answers) (shown_standing c.args.position.now) c.args.at c.args.input.now (activities_of (shown_program c.program-tree.result.now).declarations) (run.events + 1) (shown_progress ls c.in-Some.p) c.in_ok-left-in-Some.left.1.items (shown_standing c.in_ok-left-in-Some.left.0)
-    (ap (λ (t : Program). activities_of t.declarations) tree) c.get-run.ensures.whole.begun (ap (λ (r : Standing). r.events + 1) same) started c.in_ok-left-in-Some.ensures.led
+    turn_again p (shown_answers c.args.answers) (shown_standing c.args.position.now) c.args.at c.args.input.now (activities_of (map shown_declaration c.deref.result.now)) (run.events + 1) (shown_progress ls c.in-Some.p) c.in_ok-left-in-Some.left.1.items (shown_standing c.in_ok-left-in-Some.left.0)
+    (ap (λ (ds : List Declaration). activities_of (map shown_declaration ds)) c.deref.ensures.value ∙ ap (λ (t : Program). activities_of t.declarations) tree) c.get-run.ensures.whole.begun (ap (λ (r : Standing). r.events + 1) same) started c.in_ok-left-in-Some.ensures.led
 
 pub returns-in-None-clause-turn : goal.returns-in-None-clause-turn
 returns-in-None-clause-turn c =

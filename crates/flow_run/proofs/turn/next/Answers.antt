@@ -1,5 +1,9 @@
 use Rattle.std.proofs.Common.{◌≡◌, ◌∙◌, List, ap, subst, sym}
+use Rattle.flow_base.specs.Syntax.{Bytes}
+use Rattle.flow_base.specs.declared.event.Cmd.TheVariants.{Complete}
+use Rattle.flow_base.specs.declared.value.Value.TheVariants as value
 use Rattle.flow_model.specs.Rest.{is_done}
+use Rattle.flow_model.specs.Turn.{ended}
 use Rattle.flow_run.specs.Flat.{AreSound}
 use Rattle.flow_run.specs.Position.{shown_frame, shown_progress}
 use Rattle.flow_run.specs.Whole.{rest_at}
@@ -18,7 +22,8 @@ pub returns-in_ok-ends-clause-step : goal.returns-in_ok-ends-clause-step
 returns-in_ok-ends-clause-step c =
     let ls = c.args.table.now.lists.items in
     let finished = c.is_finished.ensures ∙ ap (λ (cs : List Cell). is_done (rest_at ls cs)) c.deref.ensures.value in
-    next_ends (shown_frame c.args.f.now) (shown_progress ls c.args.p.now) (shown_progress ls c.ends.new.p) (sym c.is_open.ensures ∙ c.if-not-is_open.false) (sym finished ∙ c.if-is_finished.true) (c.in_ok-ends.ensures.ends ls)
+    next_ends (shown_frame c.args.f.now) (shown_progress ls c.args.p.now) (shown_progress ls c.ends.new.p) (sym c.is_open.ensures ∙ c.if-not-is_open.false) (sym finished ∙ c.if-is_finished.true)
+    (c.in_ok-ends.ensures.ends ls ∙ ap (λ (t : Bytes). ended (shown_progress ls c.args.p.now) (Complete (value.Text t))) c.empty.ensures)
 
 pub step_on-requires-clause-is_open : goal.step_on-requires-clause-is_open
 step_on-requires-clause-is_open c = sym c.is_open.ensures ∙ c.if-not-is_open.false
