@@ -1,5 +1,6 @@
 use Rattle.flow_base.specs.Shown.{shown_braced}
-use Rattle.flow_plain.specs.Shown.{shown_setting, shown_store}
+use Rattle.flow_run.specs.Shown.{shown_setting}
+use Rattle.flow_plain.specs.Shown.{shown_store}
 use Rattle.flow_plain.proofs.Deprecated.{deprecate_begins}
 use Rattle.flow_plain.proofs.blocks.deprecate.Goals as goal
 

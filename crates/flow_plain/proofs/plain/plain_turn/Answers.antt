@@ -1,5 +1,6 @@
 use Rattle.flow_base.specs.Shown.{shown_program}
-use Rattle.flow_plain.specs.Shown.{plain_configuration, shown_answers}
+use Rattle.flow_run.specs.Shown.{shown_answers}
+use Rattle.flow_plain.specs.Shown.{plain_configuration}
 use Rattle.flow_model.proofs.Positions.{turn_computed}
 use Rattle.flow_plain.proofs.plain.plain_turn.Goals as goal
 

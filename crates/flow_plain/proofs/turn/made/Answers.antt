@@ -2,7 +2,8 @@ use Rattle.std.proofs.Common.{sym, ap, map, List}
 use Rattle.flow_base.specs.Syntax.{activities_of}
 use Rattle.flow_base.specs.Shown.{shown_program, shown_declaration}
 use Rattle.flow_base.specs.declared.syntax.Declaration.{Declaration}
-use Rattle.flow_plain.specs.Shown.{plain_configuration, shown_answers, shown_progress}
+use Rattle.flow_run.specs.Shown.{shown_answers}
+use Rattle.flow_plain.specs.Shown.{plain_configuration, shown_progress}
 use Rattle.flow_plain.proofs.Turns.{turn_is, frame_is}
 use Rattle.flow_plain.proofs.turn.made.Goals as goal
 
