@@ -57,11 +57,7 @@ fn push_list(lists: &mut Vec<Listing>, list: Listing) -> Result<usize, AllocErro
 
 // The lists within a statement.
 #[cycle(lists)]
-fn add_within(
-    alloc: Global,
-    stmt: &Stmt,
-    lists: &mut Vec<Listing>,
-) -> Result<Links, AllocError>
+fn add_within(alloc: Global, stmt: &Stmt, lists: &mut Vec<Listing>) -> Result<Links, AllocError>
     requires { AreLinked lists.old.items }
     ensures links { IfOk result (λ k. IsLinked lists.new.items (shown_stmt stmt.now) k) }
     ensures grows { OnOk result (Grows lists.old.items lists.new.items) }

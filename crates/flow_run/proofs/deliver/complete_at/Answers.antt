@@ -38,7 +38,7 @@ returns-in_err-p-in-Some-clause-err c =
     let target = its_target run n c.args.i q (c.in-Some.into.now, c.in-Some.kind) c.requires.whole c.requires.first c.index.ensures c.in-Some.ensures in
     on_err c.from_residual.result (is_some (completed (shown_standing run) n c.args.v.now (target_of n (shown_standing run).rest)) ≡ true)
     (can_complete run n c.args.v.now (c.in-Some.into.now, c.in-Some.kind) target (sym c.has_kind.ensures ∙ c.if-not-has_kind.false)
-     (can_go (when_completed n) refl (on_activity n) (no_activity n) (activity_waits n) run c.args.i q Done c.requires.whole c.requires.first c.index.ensures (λ h. completed_becomes n run.table.lists.items q.doing h)))
+    (can_go (when_completed n) refl (on_activity n) (no_activity n) (activity_waits n) run c.args.i q Done c.requires.whole c.requires.first c.index.ensures (λ h. completed_becomes n run.table.lists.items q.doing h)))
 
 pub returns-in_err-copy-in-Some-clause-err : goal.returns-in_err-copy-in-Some-clause-err
 returns-in_err-copy-in-Some-clause-err c =
@@ -48,7 +48,7 @@ returns-in_err-copy-in-Some-clause-err c =
     let target = its_target run n c.args.i q (c.in-Some.into.now, c.in-Some.kind) c.requires.whole c.requires.first c.index.ensures c.in-Some.ensures in
     on_err c.from_residual-in_err-copy-in-Some.result (is_some (completed (shown_standing run) n c.args.v.now (target_of n (shown_standing run).rest)) ≡ true)
     (can_complete run n c.args.v.now (c.in-Some.into.now, c.in-Some.kind) target (sym c.has_kind.ensures ∙ c.if-not-has_kind.false)
-     (can_go (when_completed n) refl (on_activity n) (no_activity n) (activity_waits n) run c.args.i q Done c.requires.whole c.requires.first c.index.ensures (λ h. completed_becomes n run.table.lists.items q.doing h)))
+    (can_go (when_completed n) refl (on_activity n) (no_activity n) (activity_waits n) run c.args.i q Done c.requires.whole c.requires.first c.index.ensures (λ h. completed_becomes n run.table.lists.items q.doing h)))
 
 pub returns-in_err-set-in-Some-clause-err : goal.returns-in_err-set-in-Some-clause-err
 returns-in_err-set-in-Some-clause-err c =
@@ -58,7 +58,7 @@ returns-in_err-set-in-Some-clause-err c =
     let target = its_target run n c.args.i q (c.in-Some.into.now, c.in-Some.kind) c.requires.whole c.requires.first c.index.ensures c.in-Some.ensures in
     on_err c.from_residual-in_err-set-in-Some.result (is_some (completed (shown_standing run) n c.args.v.now (target_of n (shown_standing run).rest)) ≡ true)
     (can_complete run n c.args.v.now (c.in-Some.into.now, c.in-Some.kind) target (sym c.has_kind.ensures ∙ c.if-not-has_kind.false)
-     (can_go (when_completed n) refl (on_activity n) (no_activity n) (activity_waits n) run c.args.i q Done c.requires.whole c.requires.first c.index.ensures (λ h. completed_becomes n run.table.lists.items q.doing h)))
+    (can_go (when_completed n) refl (on_activity n) (no_activity n) (activity_waits n) run c.args.i q Done c.requires.whole c.requires.first c.index.ensures (λ h. completed_becomes n run.table.lists.items q.doing h)))
 
 pub returns-in_ok-set-in-Some-clause-started : goal.returns-in_ok-set-in-Some-clause-started
 returns-in_ok-set-in-Some-clause-started c =

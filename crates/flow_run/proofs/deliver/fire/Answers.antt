@@ -29,7 +29,7 @@ returns-in_ok-p-in-Some-clause-started c =
     let first = subst (λ (cs : List Cell). IsFirst (on_timer n) cs c.in-Some.i) c.deref.ensures.value c.in-Some.ensures in
     started_on run ls c.in_ok-p-in-Some.p (replaced (when_fired n) (shown_standing run).rest) c.requires.is_open c.in_ok-p-in-Some.ensures.store
     (goes_on (when_fired n) refl (on_timer n) (no_timer n) (timer_waits n) run c.args.table.now c.in-Some.i q c.late-list.result doing.Over c.in_ok-p-in-Some.p c.requires.table c.requires.whole c.requires.is_open first c.index.ensures
-     (λ h. fired_becomes n ls q.doing h ∙ ap (λ (o : Option ℕ). Some (going_on ls o doing.Over)) (sym c.late-list.ensures)) (c.in_ok-p-in-Some.ensures.shows q c.index.ensures))
+    (λ h. fired_becomes n ls q.doing h ∙ ap (λ (o : Option ℕ). Some (going_on ls o doing.Over)) (sym c.late-list.ensures)) (c.in_ok-p-in-Some.ensures.shows q c.index.ensures))
 
 pub returns-in_err-p-in-Some-clause-err : goal.returns-in_err-p-in-Some-clause-err
 returns-in_err-p-in-Some-clause-err c =

@@ -20,7 +20,7 @@ returns-clause-started c =
     let put : c.push.new.self ≡ p.store.buffer ++ (c.args.name.now, c.args.v.now) ∷ [] = search rules in
     ap Some
     (with_signal ls run.cells.items p (slot_of run.variables) run.buffer c.push.new.self (look_up run.decided) (c.args.name.now, c.args.v.now) c.in_ok-p.ensures.cells (c.in_ok-p.ensures.shows ls) put
-     ∙ ap (λ (t : Table). started_with (rest_at t.lists.items run.cells.items) (slot_of run.variables) (run.buffer ++ (c.args.name.now, c.args.v.now) ∷ []) (look_up run.decided) Open) c.requires.table)
+    ∙ ap (λ (t : Table). started_with (rest_at t.lists.items run.cells.items) (slot_of run.variables) (run.buffer ++ (c.args.name.now, c.args.v.now) ∷ []) (look_up run.decided) Open) c.requires.table)
     ∙ if_fits (signal_fits (signals_of (shown_program c.args.program.now).declarations) c.args.name.now c.args.v.now) _ _ (search rules)
 
 pub returns-clause-whole : goal.returns-clause-whole
