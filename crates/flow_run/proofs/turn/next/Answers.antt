@@ -32,3 +32,6 @@ pub step_on-requires-clause-going : goal.step_on-requires-clause-going
 step_on-requires-clause-going c =
     let finished = c.is_finished.ensures ∙ ap (λ (cs : List Cell). is_done (rest_at c.args.table.now.lists.items cs)) c.deref.ensures.value in
     sym finished ∙ c.if-is_finished.false
+
+pub returns-in_ok-ends-clause-whole : goal.returns-in_ok-ends-clause-whole
+returns-in_ok-ends-clause-whole c = c.in_ok-ends.ensures.whole c.args.table.now.lists.items

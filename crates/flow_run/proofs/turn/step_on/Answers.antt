@@ -44,3 +44,6 @@ returns-in_ok-ends-in-Ends-clause-step c =
     let p = c.args.p.now in
     let ls = c.args.table.now.lists.items in
     step_ends ls (shown_frame c.args.f.now) (shown_setting c.setting_of-s.result) p.cells.items c.step.new.cells.items p.store c.step.new.t p.asked.items p.state c.requires.whole c.requires.is_open c.requires.going c.setting_of-s.ensures c.in-Ends.c.value (shown_progress ls c.ends.new.p) (c.in_ok-ends-in-Ends.ensures.ends ls) (rw c.in-Ends.is at c.in_ok-step.ensures.step)
+
+pub returns-in_ok-ends-in-Ends-clause-whole : goal.returns-in_ok-ends-in-Ends-clause-whole
+returns-in_ok-ends-in-Ends-clause-whole c = c.in_ok-ends-in-Ends.ensures.whole c.args.table.now.lists.items
