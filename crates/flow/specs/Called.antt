@@ -1,0 +1,105 @@
+-- What the program does for the words that it was called with.
+use Rattle.std.specs.Prelude.{◌≡◌, ◌⊎◌, ℕ, Bool, List, map, Option, Result, Ok, Err, String, Vec, string_bytes}
+use Rattle.std.specs.IoError.{error_kind}
+use Rattle.std.specs.declared.io.Error.{Error}
+use Rattle.std.specs.declared.io.ErrorKind.TheVariants.{OutOfMemory}
+use Rattle.sqlite_trees.specs.declared.store.Store.{Ghosts}
+use Rattle.sqlite_trees.specs.declared.memory.MemStore.{MemStore}
+use Rattle.sqlite.specs.Held.{Held}
+use Rattle.sqlite.specs.Steps.{over_memory}
+use Rattle.sqlite.specs.declared.error.Error.{Error as BaseError}
+use Rattle.sqlite.specs.declared.error.ErrorCode.{ErrorCode}
+use Rattle.flow_base.specs.declared.fault.Fault.{Fault}
+use Rattle.flow_base.specs.declared.fault.Fault.TheVariants as fault
+use Rattle.flow_check.specs.Language.{meaning_of}
+use Rattle.flow_machine.specs.declared.answer.Answering.{Ghosts as Answerings}
+use Rattle.flow_commit.specs.Keeping.{Keeping}
+use Rattle.flow_lines.specs.declared.input.Input.{Ghosts as Inputs}
+use Rattle.flow_lines.specs.declared.output.Output.{Ghosts as Outputs}
+use Rattle.flow_cli.specs.Calls.{Call, IsCall}
+use Rattle.flow_cli.specs.Calls.Call as call
+use Rattle.flow_cli.specs.Reasons.{early_of}
+use Rattle.flow_cli.specs.Usages.{meant_by}
+use Rattle.flow_cli.specs.declared.reason.Early.{Early}
+use Rattle.flow_cli.specs.declared.reason.Reason.TheVariants as reason
+use Rattle.flow_cli.specs.declared.reason.Unopened.{Unopened}
+use Rattle.flow_cli.specs.declared.work.Work.{Work}
+use Rattle.flow_cli.specs.declared.work.Work.TheVariants as work
+use Rattle.flow.specs.Ends.{Ends}
+use Rattle.flow.specs.Over.{Asks, IsOnFile, OverFile, OverMemory, OverNamed, Verifies}
+use Rattle.flow.specs.Reading.{Reads}
+use Rattle.flow.specs.Replays.{ReplaysNamed}
+use Rattle.flow.specs.Running.{HasSettings, RunsWith}
+use Rattle.flow.specs.Telling.{Tells, tells_safety, tells_settlement, tells_verdict}
+use Rattle.flow.specs.Working.{Lists, Performed}
+use Rattle.flow.specs.declared.running.Activities.{Activities}
+use Rattle.flow.specs.declared.running.Activities.TheVariants as activities
+
+-- What was done for a call, by what the system gave.
+abbrev pub Answered : {A S I R W O P : Type 0}
+    → (List ℕ → Result (String A) Error → Type 0) → (Result (String A) Error → Type 0) → (List ℕ → Result (Option (Vec (String A) A)) Error → Type 0) → (List ℕ → Bool → Type 0)
+    → Ghosts S → (List ℕ → Result (Held S) BaseError → Type 0) → (List ℕ → ErrorCode → Unopened → Type 0) → (Held S → Type 0)
+    → (Result I Error → Type 0) → (Result R Error → Type 0) → (W → Option (List ℕ)) → (W → Type 0)
+    → Answerings (Keeping S) → Answerings (Keeping MemStore) → Inputs I → Outputs O → Outputs P
+    → O → O → P → P → Call → Result ℕ Early → Type 0
+Answered {A} {S} {I} {R} {W} {O} {P} reads takes lists misses g opens finds closes gives lends contents prints a am i o p old new before behind c r =
+    let same = (new ≡ old) × (behind ≡ before) in
+    let works = λ base job. OverNamed base
+        (OverMemory (new ≡ old) (λ first last. Performed am i o gives job first last old new))
+        (Asks (misses base) job (λ s. (s ≡ Err (early_of fault.NoRun)) × (new ≡ old))
+            (OverFile g opens finds closes base (new ≡ old) (λ first last. Performed a i o gives job first last old new))) in
+    let runs = λ base file kind. HasSettings reads file (OverNamed base
+        (OverMemory (Unit {0}) (RunsWith kind over_memory contents prints lends))
+        (OverFile g opens finds closes base (Unit {0}) (RunsWith kind g contents prints lends))) in
+    elim c [
+    | call.Check file ↦ Reads reads file same (λ text. Ends (Tells o p (tells_verdict text) old new before behind)) r
+    | call.Safe first then ↦ Reads reads first same (λ x. Reads reads then same (λ y. Ends (Tells o p (tells_safety x y) old new before behind))) r
+    | call.Settle first then ↦ Reads reads first same (λ x. Reads reads then same (λ y. Ends (Tells o p (tells_settlement x y) old new before behind))) r
+    | call.Replay file history ↦ Reads reads file (new ≡ old) (λ text. ReplaysNamed reads lists takes o (meaning_of text) history old new) r
+    | call.Drive base most ↦ works base (work.Drive most) r
+    | call.History base run ↦ works base (work.History run) r
+    | call.Open base ↦ OverNamed base
+        (OverMemory (new ≡ old) (λ first last. Lists am o first last old new))
+        (IsOnFile (misses base) (λ s. (s ≡ Ok 0) × (new ≡ old)) (OverFile g opens finds closes base (new ≡ old) (λ first last. Lists a o first last old new))) r
+    | call.Verify base ↦ OverNamed base
+        (OverMemory (new ≡ old) (λ first last. Verifies over_memory o first last old new))
+        (OverFile g opens finds closes base (new ≡ old) (λ first last. Verifies g o first last old new)) r
+    | call.Work base file leave ↦ runs base file (activities.Inside leave) r
+    | call.Serve base file ↦ runs base file activities.Outside r
+    ]
+
+-- The words can't be read: E01 where memory ran out, and else E97.
+pub record IsWordless {A : Type 0} (calls : Result (Vec (String A) A) Error → Type 0) (e : Early) : Type 0 where
+  pub error : Error
+  pub called : calls (Err error)
+  pub fault : Fault
+  pub is : e ≡ early_of fault
+  pub memory : error_kind error ≡ OutOfMemory → fault ≡ fault.NoMemory _
+  pub other : (fault ≡ fault.BadUsage) ⊎ (error_kind error ≡ OutOfMemory)
+
+-- E97 says how the call that was meant is made.
+abbrev pub IsMisused : List (List ℕ) → Fault → Early → Type 0
+IsMisused words fault.BadUsage e = (e.fault ≡ fault.BadUsage) × (e.reason ≡ reason.Usage (meant_by words))
+IsMisused words f e = e ≡ early_of f
+
+-- The words are that call, and what it asks for was done.
+pub record HasAnswered (words : List (List ℕ)) (answers : Call → Result ℕ Early → Type 0) (r : Result ℕ Early) : Type 0 where
+  pub call : Call
+  pub is : IsCall words call
+  pub answered : answers call r
+
+-- They are no call, which is E97, or memory ran out; and nothing was written.
+pub record HasMisused (words : List (List ℕ)) (same : Type 0) (r : Result ℕ Early) : Type 0 where
+  pub fault : Fault
+  pub early : Early
+  pub why : IsMisused words fault early
+  pub among : (fault ≡ fault.NoMemory _) ⊎ (fault ≡ fault.BadUsage)
+  pub no_call : (c : Call) → IsCall words c → fault ≡ fault.NoMemory _
+  pub is : r ≡ Err early
+  pub unwritten : same
+
+-- The program was called with words, and answered them; or nobody knows the words, and nothing was written.
+abbrev pub IsCalled : {A : Type 0} → (Result (Vec (String A) A) Error → Type 0) → Type 0 → (Call → Result ℕ Early → Type 0) → Result ℕ Early → Type 0
+IsCalled {A} calls same answers r =
+    ((words : Vec (String A) A) × (calls (Ok words) × (HasAnswered (map string_bytes words.items) answers r ⊎ HasMisused (map string_bytes words.items) same r)))
+    ⊎ ((e : Early) × (IsWordless calls e × ((r ≡ Err e) × same)))
