@@ -1,5 +1,5 @@
 -- What the program does for the words that it was called with.
-use Rattle.std.specs.Prelude.{◌≡◌, ◌⊎◌, ℕ, Bool, List, map, Option, Result, Ok, Err, String, Vec, string_bytes}
+use Rattle.std.specs.Prelude.{◌≡◌, ◌≢◌, ◌⊎◌, ℕ, Bool, List, map, option_map, Option, Result, Ok, Err, String, Vec, string_bytes}
 use Rattle.std.specs.IoError.{error_kind}
 use Rattle.std.specs.declared.io.Error.{Error}
 use Rattle.std.specs.declared.io.ErrorKind.TheVariants.{OutOfMemory}
@@ -16,15 +16,17 @@ use Rattle.flow_machine.specs.declared.answer.Answering.{Ghosts as Answerings}
 use Rattle.flow_commit.specs.Keeping.{Keeping}
 use Rattle.flow_lines.specs.declared.input.Input.{Ghosts as Inputs}
 use Rattle.flow_lines.specs.declared.output.Output.{Ghosts as Outputs}
-use Rattle.flow_cli.specs.Calls.{Call, IsCall}
-use Rattle.flow_cli.specs.Calls.Call as call
+use Rattle.flow_cli.specs.Calls.{IsCall}
+use Rattle.flow_cli.specs.Calls.{Call as Pure}
 use Rattle.flow_cli.specs.Reasons.{early_of}
+use Rattle.flow_cli.specs.Shown.{shown}
 use Rattle.flow_cli.specs.Usages.{meant_by}
+use Rattle.flow_cli.specs.declared.call.Call.{Call}
+use Rattle.flow_cli.specs.declared.call.Call.TheVariants as call
 use Rattle.flow_cli.specs.declared.reason.Early.{Early}
 use Rattle.flow_cli.specs.declared.reason.Reason.TheVariants as reason
 use Rattle.flow_cli.specs.declared.reason.Unopened.{Unopened}
 use Rattle.flow_cli.specs.declared.work.Work.{Work}
-use Rattle.flow_cli.specs.declared.work.Work.TheVariants as work
 use Rattle.flow.specs.Ends.{Ends}
 use Rattle.flow.specs.Over.{Asks, IsOnFile, OverFile, OverMemory, OverNamed, Verifies}
 use Rattle.flow.specs.Reading.{Reads}
@@ -35,6 +37,15 @@ use Rattle.flow.specs.Working.{Lists, Performed}
 use Rattle.flow.specs.declared.running.Activities.{Activities}
 use Rattle.flow.specs.declared.running.Activities.TheVariants as activities
 
+-- The work was done over the store of this name: in memory or in a file; and a question for a history makes no file.
+abbrev pub WorksOver : {S I O : Type 0} → (List ℕ → Bool → Type 0) → Ghosts S → (List ℕ → Result (Held S) BaseError → Type 0) → (List ℕ → ErrorCode → Unopened → Type 0) → (Held S → Type 0)
+    → (Result I Error → Type 0) → Answerings (Keeping S) → Answerings (Keeping MemStore) → Inputs I → Outputs O → O → O → List ℕ → Work → Result ℕ Early → Type 0
+WorksOver misses g opens finds closes gives a am i o old new base job r =
+    OverNamed base
+        (OverMemory (new ≡ old) (λ first last. Performed am i o gives job first last old new))
+        (Asks (misses base) job (λ s. (s ≡ Err (early_of fault.NoRun)) × (new ≡ old))
+            (OverFile g opens finds closes base (new ≡ old) (λ first last. Performed a i o gives job first last old new))) r
+
 -- What was done for a call, by what the system gave.
 abbrev pub Answered : {A S I R W O P : Type 0}
     → (List ℕ → Result (String A) Error → Type 0) → (Result (String A) Error → Type 0) → (List ℕ → Result (Option (Vec (String A) A)) Error → Type 0) → (List ℕ → Bool → Type 0)
@@ -44,28 +55,23 @@ abbrev pub Answered : {A S I R W O P : Type 0}
     → O → O → P → P → Call → Result ℕ Early → Type 0
 Answered {A} {S} {I} {R} {W} {O} {P} reads takes lists misses g opens finds closes gives lends contents prints a am i o p old new before behind c r =
     let same = (new ≡ old) × (behind ≡ before) in
-    let works = λ base job. OverNamed base
-        (OverMemory (new ≡ old) (λ first last. Performed am i o gives job first last old new))
-        (Asks (misses base) job (λ s. (s ≡ Err (early_of fault.NoRun)) × (new ≡ old))
-            (OverFile g opens finds closes base (new ≡ old) (λ first last. Performed a i o gives job first last old new))) in
     let runs = λ base file kind. HasSettings reads file (OverNamed base
         (OverMemory (Unit {0}) (RunsWith kind over_memory contents prints lends))
         (OverFile g opens finds closes base (Unit {0}) (RunsWith kind g contents prints lends))) in
     elim c [
-    | call.Check file ↦ Reads reads file same (λ text. Ends (Tells o p (tells_verdict text) old new before behind)) r
-    | call.Safe first then ↦ Reads reads first same (λ x. Reads reads then same (λ y. Ends (Tells o p (tells_safety x y) old new before behind))) r
-    | call.Settle first then ↦ Reads reads first same (λ x. Reads reads then same (λ y. Ends (Tells o p (tells_settlement x y) old new before behind))) r
-    | call.Replay file history ↦ Reads reads file (new ≡ old) (λ text. ReplaysNamed reads lists takes o (meaning_of text) history old new) r
-    | call.Drive base most ↦ works base (work.Drive most) r
-    | call.History base run ↦ works base (work.History run) r
-    | call.Open base ↦ OverNamed base
+    | call.Check file ↦ Reads reads file.now same (λ text. Ends (Tells o p (tells_verdict text) old new before behind)) r
+    | call.Safe first then ↦ Reads reads first.now same (λ x. Reads reads then.now same (λ y. Ends (Tells o p (tells_safety x y) old new before behind))) r
+    | call.Settle first then ↦ Reads reads first.now same (λ x. Reads reads then.now same (λ y. Ends (Tells o p (tells_settlement x y) old new before behind))) r
+    | call.Replay file history ↦ Reads reads file.now (new ≡ old) (λ text. ReplaysNamed reads lists takes o (meaning_of text) history.now old new) r
+    | call.Over base job ↦ WorksOver misses g opens finds closes gives a am i o old new base.now job r
+    | call.Open base ↦ OverNamed base.now
         (OverMemory (new ≡ old) (λ first last. Lists am o first last old new))
-        (IsOnFile (misses base) (λ s. (s ≡ Ok 0) × (new ≡ old)) (OverFile g opens finds closes base (new ≡ old) (λ first last. Lists a o first last old new))) r
-    | call.Verify base ↦ OverNamed base
+        (IsOnFile (misses base.now) (λ s. (s ≡ Ok 0) × (new ≡ old)) (OverFile g opens finds closes base.now (new ≡ old) (λ first last. Lists a o first last old new))) r
+    | call.Verify base ↦ OverNamed base.now
         (OverMemory (new ≡ old) (λ first last. Verifies over_memory o first last old new))
-        (OverFile g opens finds closes base (new ≡ old) (λ first last. Verifies g o first last old new)) r
-    | call.Work base file leave ↦ runs base file (activities.Inside leave) r
-    | call.Serve base file ↦ runs base file activities.Outside r
+        (OverFile g opens finds closes base.now (new ≡ old) (λ first last. Verifies g o first last old new)) r
+    | call.Work base file leave ↦ runs base.now (option_map (λ t. t.now) file) (activities.Inside leave) r
+    | call.Serve base file ↦ runs base.now (option_map (λ t. t.now) file) activities.Outside r
     ]
 
 -- The words can't be read: E01 where memory ran out, and else E97.
@@ -78,14 +84,14 @@ pub record IsWordless {A : Type 0} (calls : Result (Vec (String A) A) Error → 
   pub other : (fault ≡ fault.BadUsage) ⊎ (error_kind error ≡ OutOfMemory)
 
 -- E97 says how the call that was meant is made.
-abbrev pub IsMisused : List (List ℕ) → Fault → Early → Type 0
-IsMisused words fault.BadUsage e = (e.fault ≡ fault.BadUsage) × (e.reason ≡ reason.Usage (meant_by words))
-IsMisused words f e = e ≡ early_of f
+pub record IsMisused (words : List (List ℕ)) (f : Fault) (e : Early) : Type 0 where
+  pub usage : f ≡ fault.BadUsage → (e.fault ≡ fault.BadUsage) × (e.reason ≡ reason.Usage (meant_by words))
+  pub other : f ≢ fault.BadUsage → e ≡ early_of f
 
 -- The words are that call, and what it asks for was done.
 pub record HasAnswered (words : List (List ℕ)) (answers : Call → Result ℕ Early → Type 0) (r : Result ℕ Early) : Type 0 where
   pub call : Call
-  pub is : IsCall words call
+  pub is : IsCall words (shown call)
   pub answered : answers call r
 
 -- They are no call, which is E97, or memory ran out; and nothing was written.
@@ -94,7 +100,7 @@ pub record HasMisused (words : List (List ℕ)) (same : Type 0) (r : Result ℕ 
   pub early : Early
   pub why : IsMisused words fault early
   pub among : (fault ≡ fault.NoMemory _) ⊎ (fault ≡ fault.BadUsage)
-  pub no_call : (c : Call) → IsCall words c → fault ≡ fault.NoMemory _
+  pub no_call : (c : Pure) → IsCall words c → fault ≡ fault.NoMemory _
   pub is : r ≡ Err early
   pub unwritten : same
 

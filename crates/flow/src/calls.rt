@@ -1,6 +1,5 @@
 //! What the words of the program ask for.
 ghost use Rattle.std.specs.Prelude.{◌≡◌, Ok, IfOk, IfErr, map, string_bytes};
-ghost use Rattle.flow_cli.specs.Shown.{shown};
 ghost use Rattle.flow.specs.Called.{Answered, IsCalled, IsMisused, IsWordless};
 
 use crate::over::{list, verify, work_over};
@@ -37,7 +36,7 @@ where
     P: Output,
     ensures { Answered (H.reads system.now) (H.takes system.now) (H.lists system.now) (H.misses system.now)
         H.Base.Store (H.opens system.now) (H.finds system.now) (H.closes system.now) (H.gives system.now) (H.lends system.now) H.Replies.contents (H.prints system.now)
-        ⟦<Engine<H::Base> as Answering>⟧ ⟦<Engine<MemStore> as Answering>⟧ H.Lines.Input O.Output P.Output output.old output.new errors.old errors.new (shown call.now) result }
+        ⟦<Engine<H::Base> as Answering>⟧ ⟦<Engine<MemStore> as Answering>⟧ H.Lines.Input O.Output P.Output output.old output.new errors.old errors.new call.now result }
 {
     match call {
         Call::Check(file) => check(alloc, system, output, errors, file),

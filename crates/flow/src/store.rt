@@ -2,7 +2,7 @@
 ghost use Rattle.std.specs.Prelude.{Ok, IfOk, IfErr};
 ghost use Rattle.sqlite.specs.Held.{state};
 ghost use Rattle.sqlite.specs.Steps.{over_memory, IsEmpty};
-ghost use Rattle.flow.specs.Openings.{IsHandedOn, IsNotOpened, IsOfFile, IsOfOpening, IsOver, IsUnmade};
+ghost use Rattle.flow.specs.Openings.{IsHandedOn, IsNotOpened, IsOfCode, IsOfFile, IsOfOpening, IsOver, IsUnmade};
 
 use crate::moving::Moving;
 use crate::system::System;
@@ -45,15 +45,22 @@ fn unkept(alloc: Global, file: &str, fault: Fault) -> Early
     }
 }
 
+/// Why a file isn't opened, by what was said of it.
+fn unopened_by<H: System>(alloc: Global, system: &H, file: &str, said: ErrorCode) -> Early
+    ensures { IsOfCode (H.finds system.now file.now) file.now said result }
+{
+    match said {
+        ErrorCode::OutOfMemory => Early::from(Fault::NoMemory(NoMemory::told())),
+        _ => Early::unopened(alloc, file, system.unopened(file, said)),
+    }
+}
+
 /// Why a file isn't opened.
 fn unopened<H: System>(alloc: Global, system: &H, file: &str, error: Error) -> Early
     ensures { IsOfFile (H.finds system.now) file.now error result }
 {
     match error {
-        Error::SqliteFailure(ErrorCode::OutOfMemory) => {
-            Early::from(Fault::NoMemory(NoMemory::told()))
-        }
-        Error::SqliteFailure(code) => Early::unopened(alloc, file, system.unopened(file, code)),
+        Error::SqliteFailure(said) => unopened_by(alloc, system, file, said),
         _ => Early::unopened(alloc, file, Unopened::Failed),
     }
 }
