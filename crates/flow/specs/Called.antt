@@ -46,6 +46,14 @@ WorksOver misses g opens finds closes gives a am i o old new base job r =
         (Asks (misses base) job (λ s. (s ≡ Err (early_of fault.NoRun)) × (new ≡ old))
             (OverFile g opens finds closes base (new ≡ old) (λ first last. Performed a i o gives job first last old new))) r
 
+-- An engine was kept running by the settings of this file, over the store of this name.
+abbrev pub RunsOver : {A S R W : Type 0} → (List ℕ → Result (String A) Error → Type 0) → Ghosts S → (List ℕ → Result (Held S) BaseError → Type 0) → (List ℕ → ErrorCode → Unopened → Type 0) → (Held S → Type 0)
+    → (Result R Error → Type 0) → (W → Option (List ℕ)) → (W → Type 0) → List ℕ → Option (List ℕ) → Activities → Result ℕ Early → Type 0
+RunsOver reads g opens finds closes lends contents prints base file kind r =
+    HasSettings reads file (OverNamed base
+        (OverMemory (Unit {0}) (RunsWith kind over_memory contents prints lends))
+        (OverFile g opens finds closes base (Unit {0}) (RunsWith kind g contents prints lends))) r
+
 -- What was done for a call, by what the system gave.
 abbrev pub Answered : {A S I R W O P : Type 0}
     → (List ℕ → Result (String A) Error → Type 0) → (Result (String A) Error → Type 0) → (List ℕ → Result (Option (Vec (String A) A)) Error → Type 0) → (List ℕ → Bool → Type 0)
@@ -54,14 +62,10 @@ abbrev pub Answered : {A S I R W O P : Type 0}
     → Answerings (Keeping S) → Answerings (Keeping MemStore) → Inputs I → Outputs O → Outputs P
     → O → O → P → P → Call → Result ℕ Early → Type 0
 Answered {A} {S} {I} {R} {W} {O} {P} reads takes lists misses g opens finds closes gives lends contents prints a am i o p old new before behind c r =
-    let same = (new ≡ old) × (behind ≡ before) in
-    let runs = λ base file kind. HasSettings reads file (OverNamed base
-        (OverMemory (Unit {0}) (RunsWith kind over_memory contents prints lends))
-        (OverFile g opens finds closes base (Unit {0}) (RunsWith kind g contents prints lends))) in
     elim c [
-    | call.Check file ↦ Reads reads file.now same (λ text. Ends (Tells o p (tells_verdict text) old new before behind)) r
-    | call.Safe first then ↦ Reads reads first.now same (λ x. Reads reads then.now same (λ y. Ends (Tells o p (tells_safety x y) old new before behind))) r
-    | call.Settle first then ↦ Reads reads first.now same (λ x. Reads reads then.now same (λ y. Ends (Tells o p (tells_settlement x y) old new before behind))) r
+    | call.Check file ↦ Reads reads file.now ((new ≡ old) × (behind ≡ before)) (λ text. Ends (Tells o p (tells_verdict text) old new before behind)) r
+    | call.Safe first then ↦ Reads reads first.now ((new ≡ old) × (behind ≡ before)) (λ x. Reads reads then.now ((new ≡ old) × (behind ≡ before)) (λ y. Ends (Tells o p (tells_safety x y) old new before behind))) r
+    | call.Settle first then ↦ Reads reads first.now ((new ≡ old) × (behind ≡ before)) (λ x. Reads reads then.now ((new ≡ old) × (behind ≡ before)) (λ y. Ends (Tells o p (tells_settlement x y) old new before behind))) r
     | call.Replay file history ↦ Reads reads file.now (new ≡ old) (λ text. ReplaysNamed reads lists takes o (meaning_of text) history.now old new) r
     | call.Over base job ↦ WorksOver misses g opens finds closes gives a am i o old new base.now job r
     | call.Open base ↦ OverNamed base.now
@@ -70,8 +74,8 @@ Answered {A} {S} {I} {R} {W} {O} {P} reads takes lists misses g opens finds clos
     | call.Verify base ↦ OverNamed base.now
         (OverMemory (new ≡ old) (λ first last. Verifies over_memory o first last old new))
         (OverFile g opens finds closes base.now (new ≡ old) (λ first last. Verifies g o first last old new)) r
-    | call.Work base file leave ↦ runs base.now (option_map (λ t. t.now) file) (activities.Inside leave) r
-    | call.Serve base file ↦ runs base.now (option_map (λ t. t.now) file) activities.Outside r
+    | call.Work base file leave ↦ RunsOver reads g opens finds closes lends contents prints base.now (option_map (λ t. t.now) file) (activities.Inside leave) r
+    | call.Serve base file ↦ RunsOver reads g opens finds closes lends contents prints base.now (option_map (λ t. t.now) file) activities.Outside r
     ]
 
 -- The words can't be read: E01 where memory ran out, and else E97.

@@ -57,15 +57,22 @@ fn bad_setting(alloc: Global, text: &str) -> Result<Option<BadSetting>, AllocErr
     }
 }
 
+/// The end of a call whose text gives no settings, and why.
+fn bad_settings(alloc: Global, file: &str, text: &str) -> Early
+    ensures { EndsBy faults.BadSettings (IsOfSettings file.now) result }
+{
+    match bad_setting(alloc, text) {
+        Ok(Some(why)) => Early::no_settings(alloc, file, why),
+        _ => Early::from(Fault::BadSettings),
+    }
+}
+
 /// The end of a call whose file gives no settings, and why.
 fn no_settings<H: System>(alloc: Global, system: &H, file: &str) -> Early
     ensures { EndsBy faults.BadSettings (IsOfSettings file.now) result }
 {
     match system.text(file) {
-        Ok(text) => match bad_setting(alloc, text.as_str()) {
-            Ok(Some(why)) => Early::no_settings(alloc, file, why),
-            _ => Early::from(Fault::BadSettings),
-        },
+        Ok(text) => bad_settings(alloc, file, text.as_str()),
         Err(error) => Early::unread(alloc, Fault::BadSettings, file, error.kind()),
     }
 }
