@@ -15,4 +15,4 @@ module _ {S : Type 0} (g : Ghosts S) where
   pub refused_first : (conn back : Held S) (f : Fault) (db left : Trees) (m : Life S) → AreBlank db → (HasCleanDisk (state g conn) → IsOpenedOver (state g conn) db) → IsLife g (Refused conn f back)
       → (state g back).may_leave left → (HasCleanDisk (state g (seen m).conn) → IsOpenedOver (state g (seen m).conn) left) → IsLife g m → Lives g (Begins g no_book) (Refused conn f back ∷ m ∷ [])
   refused_first conn back f db left m none opened life leaves again next =
-      (opened_begin g no_book (Refused conn f back) (inl (db, inr (none, refl), opened)), life, (inl ∣ (left, leaves, again) ∣₁, next, tt))
+      (opened_begin g no_book (Refused conn f back) (inl (db, inr (inl (none, refl)), opened)), life, (inl ∣ (left, leaves, again) ∣₁, next, tt))

@@ -3,3 +3,4 @@ pub mod Refusing
 pub mod Programs
 pub mod Recovering
 pub mod Filled
+pub mod Moving

@@ -41,11 +41,11 @@ use Rattle.flow_tables.proofs.Reopened.{one_file, opened_file}
 use Rattle.flow_tables.proofs.Stops.{IsSettled}
 use Rattle.flow_commit.specs.Keeping.{rules, IsWell}
 use Rattle.flow_recover.specs.Positions.{IsLeastMismatch, Names, OnlyMemory}
-use Rattle.flow_recover.specs.Recovering.{HoldsSound, HoldsSoundBefore, AreBlank, HoldBook, StillHolds, IsOpenedOver, IsOfDisk, IsOfRecovery, IsPastTables, IsLeft, KeepsEither}
+use Rattle.flow_recover.specs.Recovering.{HoldsSound, HoldsSoundBefore, AreBlank, HoldBook, StillHolds, IsOpenedOver, IsOfDisk, IsOfRecovery, IsPastTables, IsLeft}
 
 ---- The book that is found
 
-number_in : List Row → ℤ
+abbrev number_in : List Row → ℤ
 number_in [] = pos 0
 number_in (r ∷ rs) = number_at r 2
 
@@ -112,7 +112,7 @@ opened_trees : (s : State) (db : Trees) → IsOpenedOver s db → s.committed.tr
 opened_trees s db over = sym (ap (λ (d : Database). d.trees) over.opens.clean) ∙ over.trees
 
 -- The book of a file is found where a connection was just opened over it.
-opened_tells : (s : State) (db : Trees) (b : Book) → IsFileOf db b → IsOpenedOver s db → HasTables s.committed × Tells (tables_in s.committed) b
+pub opened_tells : (s : State) (db : Trees) (b : Book) → IsFileOf db b → IsOpenedOver s db → HasTables s.committed × Tells (tables_in s.committed) b
 opened_tells s db b file over = opened_file s db b over.opens over.live over.trees file
 
 pub opened_found : (s : State) (db : Trees) (b : Book) → IsFileOf db b → IsOpenedOver s db → IsFound s b
@@ -132,6 +132,11 @@ opened_keeps s db b law file over =
 -- what an open connection keeps is found
 pub kept_found : (s : State) (b : Book) → IsTrue s.is_open × Keeps s b → IsFound s b
 kept_found s b h = inl (inl (h.1.kept h.0))
+
+-- and what a file of our format holds is ours, or none
+pub held_current : (s : State) (b : Book) → IsHeld s b → HasTables s.committed ⊎ (s.committed.schema ≡ no_schema)
+held_current s b (inl h) = inl h.0
+held_current s b (inr h) = inr h.0
 
 pub kept_held : (s : State) (b : Book) → IsTrue s.is_open × Keeps s b → IsHeld s b
 kept_held s b h = inl (h.1.kept h.0)
@@ -271,12 +276,9 @@ past_why g from to (fault.NoMemory _) of = tt
 past_why g from to (fault.Mismatch run place name) of = tt
 past_why g from to _ of = absurd of
 
-keeps_either : (s : State) (b : Book) → Keeps s b → KeepsEither s b
-keeps_either s b keeps = record { kept = λ up. inl (inl (keeps.kept up)); stops = λ db may. inl (keeps.stops db may) }
-
-pub past_left : (from to : State) (b : Book) (f : Fault) → IsPastTables f → NamesIn b f → IsOfRows is_program b → (IsOurs from → IsFound from b × Keeps to b) → IsLeft from to f
-past_left from to b (fault.NoMemory _) of named stands its = inr (λ ours. record { book = b; found = (its ours).0; kept = keeps_either to b (its ours).1; stands = stands; mismatch = tt })
-past_left from to b (fault.Mismatch run place name) of named stands its = λ ours. record { book = b; found = (its ours).0; kept = keeps_either to b (its ours).1; stands = stands; mismatch = named }
+pub past_left : (from to : State) (b : Book) (f : Fault) → IsPastTables f → NamesIn b f → IsOfRows is_program b → (IsOurs from → IsHeld from b × Keeps to b) → IsLeft from to f
+past_left from to b (fault.NoMemory _) of named stands its = inr (λ ours. record { book = b; kept = inl ((its ours).0, stands, (its ours).1); mismatch = tt })
+past_left from to b (fault.Mismatch run place name) of named stands its = λ ours. record { book = b; kept = inl ((its ours).0, stands, (its ours).1); mismatch = named }
 past_left from to b _ of named stands its = absurd of
 
 pub memory_own : (f : Fault) → OnlyMemory {A = Unit {0}} (Err f) → IsOfTables f

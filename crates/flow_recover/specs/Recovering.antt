@@ -1,5 +1,5 @@
 -- What the opening of a store gives.
-use Rattle.std.specs.Prelude.{◌≡◌, ◌⊎◌, Bool, List, [], Err, IsTrue, length, true}
+use Rattle.std.specs.Prelude.{◌≡◌, ◌⊎◌, Bool, List, [], Err, IsTrue, false, length, true}
 use Rattle.std.specs.List.{AllByRecursion}
 use Rattle.sqlite_trees.specs.declared.store.Store.{Ghosts}
 use Rattle.sqlite_trees.specs.declared.error.StoreError.{StoreError}
@@ -8,7 +8,7 @@ use Rattle.sqlite_catalog.specs.Listing as catalog
 use Rattle.sqlite.specs.Disk.{MoreFaults}
 use Rattle.sqlite.specs.Tree.{Trees}
 use Rattle.sqlite.specs.declared.error.Error.{Error}
-use Rattle.sqlite.specs.State.{State, Opens, IsLive, store_error}
+use Rattle.sqlite.specs.State.{HasCleanDisk, State, Opens, IsLive, store_error}
 use Rattle.flow_base.specs.declared.fault.Fault.{Fault}
 use Rattle.flow_base.specs.declared.fault.Fault.TheVariants as fault
 use Rattle.flow_check.specs.Language.{is_program, meaning_of}
@@ -21,9 +21,10 @@ use Rattle.flow_rows.specs.Rows.{One, Tables, rows_in}
 use Rattle.flow_rows.specs.Standing.{AreKept}
 use Rattle.flow_sql.specs.Past.{HasPast, past_tables}
 use Rattle.sqlite.specs.Held.{Held, state}
-use Rattle.flow_tables.specs.Opening.{HasFormat, HasOtherFormat, IsOfRows, StandFor}
+use Rattle.flow_tables.specs.Faults.{Since}
+use Rattle.flow_tables.specs.Opening.{HasCause, HasFirstFormat, HasFormat, HasOtherFormat, IsFirstDamage, IsOfRows, IsOfStore, StandFor}
 use Rattle.flow_move.specs.Moves.{HasNotFirst, IsFileOfEither}
-use Rattle.flow_tables.specs.Owned.{IsFileOf, IsFound, IsHeld, IsHeldBefore, IsOurs, IsPastFileOf, Keeps}
+use Rattle.flow_tables.specs.Owned.{IsFileOf, IsFound, IsHeld, IsHeldBefore, IsOurs, IsPastFileOf, Keeps, LeavesMade, state_of}
 use Rattle.flow_commit.specs.Keeping.{Keeping, IsFit, KeepsBook, rules}
 use Rattle.flow_recover.specs.declared.positions.Position.{Position}
 use Rattle.flow_recover.specs.Positions.{ArePositions, IsLeastMismatch, Names}
@@ -116,13 +117,19 @@ pub record KeepsEither (s : State) (b : Book) : Type 0 where
   pub kept : IsTrue s.is_open → IsHeld s b ⊎ IsHeldBefore s b
   pub stops : (db : Trees) → s.may_leave db → IsFileOfEither db b
 
--- The book that was found is kept, and its rows stand for it: they have no damage. Where it is E68, this is the least of its
--- open runs whose history doesn't stand, with its first mismatch.
+-- The same, and in the first format.
+pub record KeepsBefore (s : State) (b : Book) : Type 0 where
+  pub kept : IsTrue s.is_open → IsHeldBefore s b
+  pub stops : (db : Trees) → s.may_leave db → IsPastFileOf db b
+
+-- The book that was found is kept in the format in which it was found, and there its rows stand for it: they have no damage.
+abbrev pub IsKeptAs : State → State → Book → Type 0
+IsKeptAs from to b = (IsHeld from b × IsOfRows is_program b × Keeps to b) ⊎ (IsHeldBefore from b × StandBefore (rows_in One b) b × KeepsBefore to b)
+
+-- Where it is E68, this is the least of its open runs whose history doesn't stand, with its first mismatch.
 pub record IsKeptOn (from to : State) (f : Fault) : Type 0 where
   pub book : Book
-  pub found : IsFound from book
-  pub kept : KeepsEither to book
-  pub stands : IsOfRows is_program book
+  pub kept : IsKeptAs from to book
   pub mismatch : Names {A = Unit {0}} (Err f) (IsLeastMismatch meaning_of book)
 
 -- What a refusal leaves. E80 to E83 are of the tables, and the store is as it was; E68 is of the positions, and the book that
@@ -132,3 +139,35 @@ abbrev pub IsLeft : State → State → Fault → Type 0
 IsLeft from to (fault.NoMemory _) = HasEnded from to ⊎ (IsOurs from → IsKeptOn from to (fault.NoMemory _))
 IsLeft from to (fault.Mismatch run place name) = IsOurs from → IsKeptOn from to (fault.Mismatch run place name)
 IsLeft from to f = HasEnded from to
+
+---- A store of the first format
+
+-- What is given of one that was moved. It was handed in as the first connection, and this was the second when it was asked for its
+-- format.
+pub record IsMovedOver {S : Type 0} (g : Ghosts S) (from conn : Held S) (k : Keeping S) (qs : List Position) : Type 0 where
+  pub opened : k.stored.opened ≡ from
+  pub anew : (k.kept ≡ 0) × (k.halted ≡ false)
+  -- its history begins here
+  pub begins : (IsFit g k → KeepsBook g k k.found) × (k.log ≡ [])
+  pub clean : HasCleanDisk (state_of g k.stored) → HasCleanDisk (state g conn)
+  pub since : Since (state g from) (state_of g k.stored)
+  pub rest : HasCleanDisk (state_of g k.stored) → (state_of g k.stored).in_transaction ≡ false
+  pub format : HasCleanDisk (state_of g k.stored) → HasFirstFormat g (state g from)
+  -- It keeps the book that the store held, whose rows stand for it in our format, and these are the positions of its open runs.
+  pub found : IsFit g k → IsHeldBefore (state g from) k.found
+  pub stands : IsOfRows is_program k.found
+  pub positions : ArePositions meaning_of k.found qs
+
+-- What is told of one that wasn't.
+pub record IsNotMoved {S : Type 0} (g : Ghosts S) (from conn back : Held S) (f : Fault) : Type 0 where
+  pub clean : HasCleanDisk (state g back) → HasCleanDisk (state g conn)
+  pub since : Since (state g from) (state g back)
+  pub among : IsOfRecovery f
+  pub moving : HasCleanDisk (state g back) → f ≡ fault.Unknown → HasFirstFormat g (state g from)
+  pub damaged : HasCleanDisk (state g back) → HasPast (state g from).committed → IsFirstDamage is_program (past_tables (state g from).committed.trees) f
+  pub cause : HasCleanDisk (state g back) → HasCause g f
+  pub own : HasCleanDisk (state g back) → HoldsSoundBefore (state g from) → IsOfStore f
+  -- A connection that is still open shows the store as it was; a stop leaves it so or, behind E84, moved.
+  pub ended : HasCleanDisk (state g back) → HasEnded (state g from) (state g back)
+  pub left : HasCleanDisk (state g back) → IsLeft (state g from) (state g back) f
+  pub stops : HasCleanDisk (state g back) → (b : Book) → IsHeldBefore (state g from) b → LeavesMade (state g conn) (state g back) b
