@@ -10,7 +10,7 @@ use Rattle.sqlite.specs.Steps.{over_memory}
 use Rattle.sqlite.specs.declared.error.Error.{Error as BaseError}
 use Rattle.sqlite.specs.declared.error.ErrorCode.{ErrorCode}
 use Rattle.flow_base.specs.declared.fault.Fault.{Fault}
-use Rattle.flow_base.specs.declared.fault.Fault.TheVariants as fault
+use Rattle.flow_base.specs.declared.fault.Fault.TheVariants as faults
 use Rattle.flow_check.specs.Language.{meaning_of}
 use Rattle.flow_machine.specs.declared.answer.Answering.{Ghosts as Answerings}
 use Rattle.flow_commit.specs.Keeping.{Keeping}
@@ -43,7 +43,7 @@ abbrev pub WorksOver : {S I O : Type 0} → (List ℕ → Bool → Type 0) → G
 WorksOver misses g opens finds closes gives a am i o old new base job r =
     OverNamed base
         (OverMemory (new ≡ old) (λ first last. Performed am i o gives job first last old new))
-        (Asks (misses base) job (λ s. (s ≡ Err (early_of fault.NoRun)) × (new ≡ old))
+        (Asks (misses base) job (λ s. (s ≡ Err (early_of faults.NoRun)) × (new ≡ old))
             (OverFile g opens finds closes base (new ≡ old) (λ first last. Performed a i o gives job first last old new))) r
 
 -- An engine was kept running by the settings of this file, over the store of this name.
@@ -84,13 +84,13 @@ pub record IsWordless {A : Type 0} (calls : Result (Vec (String A) A) Error → 
   pub called : calls (Err error)
   pub fault : Fault
   pub is : e ≡ early_of fault
-  pub memory : error_kind error ≡ OutOfMemory → fault ≡ fault.NoMemory _
-  pub other : (fault ≡ fault.BadUsage) ⊎ (error_kind error ≡ OutOfMemory)
+  pub memory : error_kind error ≡ OutOfMemory → fault ≡ faults.NoMemory _
+  pub other : (fault ≡ faults.BadUsage) ⊎ (error_kind error ≡ OutOfMemory)
 
 -- E97 says how the call that was meant is made.
 pub record IsMisused (words : List (List ℕ)) (f : Fault) (e : Early) : Type 0 where
-  pub usage : f ≡ fault.BadUsage → (e.fault ≡ fault.BadUsage) × (e.reason ≡ reason.Usage (meant_by words))
-  pub other : f ≢ fault.BadUsage → e ≡ early_of f
+  pub usage : f ≡ faults.BadUsage → (e.fault ≡ faults.BadUsage) × (e.reason ≡ reason.Usage (meant_by words))
+  pub other : f ≢ faults.BadUsage → e ≡ early_of f
 
 -- The words are that call, and what it asks for was done.
 pub record HasAnswered (words : List (List ℕ)) (answers : Call → Result ℕ Early → Type 0) (r : Result ℕ Early) : Type 0 where
@@ -103,8 +103,8 @@ pub record HasMisused (words : List (List ℕ)) (same : Type 0) (r : Result ℕ 
   pub fault : Fault
   pub early : Early
   pub why : IsMisused words fault early
-  pub among : (fault ≡ fault.NoMemory _) ⊎ (fault ≡ fault.BadUsage)
-  pub no_call : (c : Pure) → IsCall words c → fault ≡ fault.NoMemory _
+  pub among : (fault ≡ faults.NoMemory _) ⊎ (fault ≡ faults.BadUsage)
+  pub no_call : (c : Pure) → IsCall words c → fault ≡ faults.NoMemory _
   pub is : r ≡ Err early
   pub unwritten : same
 
