@@ -98,8 +98,8 @@ where
     P: Output,
     ensures { IsCalled (H.calls system.now) ((output.new ≡ output.old) × (errors.new ≡ errors.old))
         (Answered (H.reads system.now) (H.takes system.now) (H.lists system.now) (H.misses system.now)
-            H.Base.Store (H.opens system.now) (H.finds system.now) (H.closes system.now) (H.gives system.now) (H.lends system.now) H.Replies.contents (H.prints system.now)
-            ⟦<Engine<H::Base> as Answering>⟧ ⟦<Engine<MemStore> as Answering>⟧ H.Lines.Input O.Output P.Output output.old output.new errors.old errors.new) result }
+        H.Base.Store (H.opens system.now) (H.finds system.now) (H.closes system.now) (H.gives system.now) (H.lends system.now) H.Replies.contents (H.prints system.now)
+        ⟦<Engine<H::Base> as Answering>⟧ ⟦<Engine<MemStore> as Answering>⟧ H.Lines.Input O.Output P.Output output.old output.new errors.old errors.new) result }
 {
     let words = words_of(system)?;
     match call_of(alloc, words.as_slice()) {

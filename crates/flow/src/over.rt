@@ -48,7 +48,7 @@ fn ask_file<H: System, O: Output>(
 ) -> Result<u8, Early>
     ensures { IsOnFile (H.misses system.now file.now) (λ r. (r ≡ Err (early_of faults.NoRun)) × (output.new ≡ output.old))
         (OverFile H.Base.Store (H.opens system.now) (H.finds system.now) (H.closes system.now) file.now (output.new ≡ output.old)
-            (λ first last. Performed ⟦<Engine<H::Base> as Answering>⟧ H.Lines.Input O.Output (H.gives system.now) work.now first last output.old output.new)) result }
+        (λ first last. Performed ⟦<Engine<H::Base> as Answering>⟧ H.Lines.Input O.Output (H.gives system.now) work.now first last output.old output.new)) result }
 {
     if system.is_not_there(file) {
         return Err(Early::from(Fault::NoRun));
@@ -66,7 +66,7 @@ fn work_over_file<H: System, O: Output>(
 ) -> Result<u8, Early>
     ensures { Asks (H.misses system.now file.now) work.now (λ r. (r ≡ Err (early_of faults.NoRun)) × (output.new ≡ output.old))
         (OverFile H.Base.Store (H.opens system.now) (H.finds system.now) (H.closes system.now) file.now (output.new ≡ output.old)
-            (λ first last. Performed ⟦<Engine<H::Base> as Answering>⟧ H.Lines.Input O.Output (H.gives system.now) work.now first last output.old output.new)) result }
+        (λ first last. Performed ⟦<Engine<H::Base> as Answering>⟧ H.Lines.Input O.Output (H.gives system.now) work.now first last output.old output.new)) result }
 {
     match work {
         Work::Drive(_) => work_in_file(alloc, system, output, file, work),
@@ -97,10 +97,10 @@ pub fn work_over<H: System, O: Output>(
 ) -> Result<u8, Early>
     ensures { OverNamed base.now
         (OverMemory (output.new ≡ output.old)
-            (λ first last. Performed ⟦<Engine<MemStore> as Answering>⟧ H.Lines.Input O.Output (H.gives system.now) work.now first last output.old output.new))
+        (λ first last. Performed ⟦<Engine<MemStore> as Answering>⟧ H.Lines.Input O.Output (H.gives system.now) work.now first last output.old output.new))
         (Asks (H.misses system.now base.now) work.now (λ r. (r ≡ Err (early_of faults.NoRun)) × (output.new ≡ output.old))
-            (OverFile H.Base.Store (H.opens system.now) (H.finds system.now) (H.closes system.now) base.now (output.new ≡ output.old)
-                (λ first last. Performed ⟦<Engine<H::Base> as Answering>⟧ H.Lines.Input O.Output (H.gives system.now) work.now first last output.old output.new))) result }
+        (OverFile H.Base.Store (H.opens system.now) (H.finds system.now) (H.closes system.now) base.now (output.new ≡ output.old)
+        (λ first last. Performed ⟦<Engine<H::Base> as Answering>⟧ H.Lines.Input O.Output (H.gives system.now) work.now first last output.old output.new))) result }
 {
     match base {
         "-" => work_over_memory(alloc, system, output, work),
@@ -132,7 +132,7 @@ fn list_file<H: System, O: Output>(
 ) -> Result<u8, Early>
     ensures { IsOnFile (H.misses system.now file.now) (λ r. (r ≡ Ok 0) × (output.new ≡ output.old))
         (OverFile H.Base.Store (H.opens system.now) (H.finds system.now) (H.closes system.now) file.now (output.new ≡ output.old)
-            (λ first last. Lists ⟦<Engine<H::Base> as Answering>⟧ O.Output first last output.old output.new)) result }
+        (λ first last. Lists ⟦<Engine<H::Base> as Answering>⟧ O.Output first last output.old output.new)) result }
 {
     if system.is_not_there(file) {
         return Ok(0);
@@ -157,8 +157,8 @@ pub fn list<H: System, O: Output>(
     ensures { OverNamed base.now
         (OverMemory (output.new ≡ output.old) (λ first last. Lists ⟦<Engine<MemStore> as Answering>⟧ O.Output first last output.old output.new))
         (IsOnFile (H.misses system.now base.now) (λ r. (r ≡ Ok 0) × (output.new ≡ output.old))
-            (OverFile H.Base.Store (H.opens system.now) (H.finds system.now) (H.closes system.now) base.now (output.new ≡ output.old)
-                (λ first last. Lists ⟦<Engine<H::Base> as Answering>⟧ O.Output first last output.old output.new))) result }
+        (OverFile H.Base.Store (H.opens system.now) (H.finds system.now) (H.closes system.now) base.now (output.new ≡ output.old)
+        (λ first last. Lists ⟦<Engine<H::Base> as Answering>⟧ O.Output first last output.old output.new))) result }
 {
     match base {
         "-" => list_memory(alloc, output),
@@ -212,7 +212,7 @@ pub fn verify<H: System, O: Output>(
     ensures { OverNamed base.now
         (OverMemory (output.new ≡ output.old) (λ first last. Verifies over_memory O.Output first last output.old output.new))
         (OverFile H.Base.Store (H.opens system.now) (H.finds system.now) (H.closes system.now) base.now (output.new ≡ output.old)
-            (λ first last. Verifies H.Base.Store O.Output first last output.old output.new)) result }
+        (λ first last. Verifies H.Base.Store O.Output first last output.old output.new)) result }
 {
     match base {
         "-" => verify_memory(alloc, output),

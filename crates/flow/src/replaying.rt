@@ -115,7 +115,14 @@ fn replay_file<H: System, O: Output, P: Output>(
 {
     let history = text_in(alloc, system, file)?;
     let begins = format!(in alloc; "{file}: ")?;
-    early(replay_one(alloc, output, errors, begins.as_str(), text, history.as_str()))
+    early(replay_one(
+        alloc,
+        output,
+        errors,
+        begins.as_str(),
+        text,
+        history.as_str(),
+    ))
 }
 
 /// Replays each history of these files, with a line that begins with the file's path.

@@ -199,7 +199,7 @@ fn run_over<H: System, T: Threads + Wait + Clock + Copy + Send + Drop + 'static>
     ensures { OverNamed base.now
         (OverMemory (Unit {0}) (RunsWith activities over_memory H.Replies.contents (H.prints system.now) (H.lends system.now)))
         (OverFile H.Base.Store (H.opens system.now) (H.finds system.now) (H.closes system.now) base.now (Unit {0})
-            (RunsWith activities H.Base.Store H.Replies.contents (H.prints system.now) (H.lends system.now))) result }
+        (RunsWith activities H.Base.Store H.Replies.contents (H.prints system.now) (H.lends system.now))) result }
 {
     match base {
         "-" => run_in_memory(alloc, system, threads, settings, activities),
@@ -218,9 +218,9 @@ pub fn keep_running<H: System, T: Threads + Wait + Clock + Copy + Send + Drop + 
 ) -> Result<u8, Early>
     ensures { HasSettings (H.reads system.now) (option_map (λ name. name.now) file.entry)
         (OverNamed base.now
-            (OverMemory (Unit {0}) (RunsWith activities over_memory H.Replies.contents (H.prints system.now) (H.lends system.now)))
-            (OverFile H.Base.Store (H.opens system.now) (H.finds system.now) (H.closes system.now) base.now (Unit {0})
-                (RunsWith activities H.Base.Store H.Replies.contents (H.prints system.now) (H.lends system.now)))) result }
+        (OverMemory (Unit {0}) (RunsWith activities over_memory H.Replies.contents (H.prints system.now) (H.lends system.now)))
+        (OverFile H.Base.Store (H.opens system.now) (H.finds system.now) (H.closes system.now) base.now (Unit {0})
+        (RunsWith activities H.Base.Store H.Replies.contents (H.prints system.now) (H.lends system.now)))) result }
 {
     match settings_in(alloc, system, file) {
         Ok(settings) => run_over(alloc, system, threads, base, settings, activities),
