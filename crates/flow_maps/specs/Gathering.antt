@@ -18,7 +18,7 @@ listed_with l n rs =
     record {
       waiting = l.waiting.items ++ waiting_from n rs;
       first = least_from 1000000000000000 n l.first rs;
-      open_runs = length l.open.items + length (filter is_open_run rs);
+      open_runs = length l.opened.items + length (filter is_open_run rs);
     }
 
 abbrev pub found_with : SignalAsked → ℕ → List Run → Option (ℕ × ℕ)

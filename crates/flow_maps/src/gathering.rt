@@ -1,6 +1,6 @@
 //! What all runs of a book come to, gathered from one after another as they are read. It serves where the maps don't tell it, as for
 //! want of memory.
-ghost use Rattle.std.specs.Prelude.{◌≡◌, ◌+◌, ◌∷◌, [], ℕ, List, OnOk, Option, None, length, filter, if◌then◌else◌};
+ghost use Rattle.std.specs.Prelude.{◌≡◌, ◌+◌, ◌∷◌, [], ℕ, List, OnOk, None, length, filter, if◌then◌else◌};
 ghost use Rattle.flow_base.specs.declared.book.Run.{Run as ARun};
 ghost use Rattle.flow_model.specs.Book.{signalled_from, signal_in, is_run_of, found_in};
 ghost use Rattle.flow_maps.specs.Agenda.{is_open_run};
@@ -39,16 +39,18 @@ pub struct Listing {
     waiting: Vec<(RunId, Task)>,
     first: Option<Due>,
     /// Those that are open.
-    open: Vec<RunId>,
+    opened: Vec<RunId>,
 }
 
 /// Lists a run if it is open.
-fn list_open(open: &mut Vec<RunId>, number: RunId, run: &Run) -> Result<(), AllocError>
-    ensures { OnOk result ((rs : List ARun) → length open.new.items + length (filter is_open_run rs) ≡ length open.old.items + length (filter is_open_run (run.now ∷ rs))) }
+#[tactic(auto, using(crate::proofs::Gathered::open_more, crate::proofs::Gathered::closed_more))]
+fn list_open(list: &mut Vec<RunId>, number: RunId, run: &Run) -> Result<(), AllocError>
+    ensures { OnOk result ((rs : List ARun) → length list.new.items + length (filter is_open_run rs) ≡ length list.old.items + length (filter is_open_run (run.now ∷ rs))) }
 {
-    if is_open(run.history.as_slice()) {
-        open.push(number)?;
+    if !is_open(run.history.as_slice()) {
+        return Ok(());
     }
+    list.push(number)?;
     Ok(())
 }
 
@@ -61,7 +63,7 @@ impl Listing {
             alloc,
             waiting: Vec::new(alloc),
             first: None,
-            open: Vec::new(alloc),
+            opened: Vec::new(alloc),
         }
     }
 }
@@ -69,27 +71,29 @@ impl Listing {
 impl Gathers for Listing {
     type Value = Outlook;
 
-    ghost comes_to = { listed_with };
+    ghost comes_to = { λ l n rs. listed_with l n rs };
 
+    #[tactic(auto, using(crate::proofs::Gathered::listing_goes_on))]
     fn add(&mut self, number: RunId, run: &Run) -> Result<(), AllocError> {
         let timers = timers_left(self.alloc, run.history.as_slice())?;
         add_tasks(&mut self.waiting, number, run.tasks.as_slice())?;
-        list_open(&mut self.open, number, run)?;
+        list_open(&mut self.opened, number, run)?;
         self.first = least_of(Moment::last(), number, self.first, timers.as_slice());
         Ok(())
     }
 
+    #[tactic(auto, using(crate::proofs::Gathered::listing_ends))]
     fn end(self) -> Outlook {
         let Listing {
             alloc: _,
             waiting,
             first,
-            open,
+            opened,
         } = self;
         Outlook {
             waiting: Sequence::from_vec(waiting),
             first,
-            open_runs: open.len() as u64,
+            open_runs: opened.len() as u64,
         }
     }
 }
@@ -149,8 +153,9 @@ impl<'a> SignalAsked<'a> {
 impl Gathers for SignalAsked<'_> {
     type Value = Option<(RunId, EventId)>;
 
-    ghost comes_to = { found_with };
+    ghost comes_to = { λ s n rs. found_with s n rs };
 
+    #[tactic(auto, using(crate::proofs::Gathered::found_more))]
     fn add(&mut self, number: RunId, run: &Run) -> Result<(), AllocError> {
         let later = signal_of_run(number, run, self.flow, self.request);
         self.found = or_later(self.found, later);
