@@ -107,12 +107,7 @@ pub struct SignalAsked<'a> {
 }
 
 /// Where a run has recorded the signal of a request, if it is of this flow.
-fn signal_of_run(
-    number: RunId,
-    run: &Run,
-    flow: &Key,
-    request: &Key,
-) -> Option<(RunId, EventId)>
+fn signal_of_run(number: RunId, run: &Run, flow: &Key, request: &Key) -> Option<(RunId, EventId)>
     ensures { result ≡ (if is_run_of flow.now run.now then found_in number (signal_in request.now run.now.history) None else None) }
 {
     if !run.flow.is(flow) {
