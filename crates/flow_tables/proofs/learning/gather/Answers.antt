@@ -7,7 +7,7 @@ use Rattle.flow_tables.proofs.learning.gather.Goals as goal
 pub loop-count-init : goal.loop-count-init
 loop-count-init g c = record {
   still = λ _. refl;
-  numbered = refl;
+  numbered = search rules;
   gathers = λ _. refl;
   goes_on = λ _ sure. sure;
   sure = λ sure. sure;
