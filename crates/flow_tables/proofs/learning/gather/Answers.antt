@@ -46,7 +46,6 @@ pub returns-clause-reads : goal.returns-clause-reads
 returns-clause-reads g c =
     let is = c.few.ensures.length in
     let few = c.few.ensures.few in
-    let items = c.as_slice.ensures.value in
     let numbered = c.loop-count.invariant.numbered in
     let last = c.loop-count-test.false in
-    absurd (omega (arith, is, few, items, numbered, last))
+    absurd (omega (arith, is, few, numbered, last))
