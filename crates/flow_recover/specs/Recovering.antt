@@ -102,7 +102,7 @@ IsOfRecovery fault.StoreRefused = Unit {0}
 IsOfRecovery fault.NotOurs = Unit {0}
 IsOfRecovery fault.BadVersion = Unit {0}
 IsOfRecovery (fault.Damaged d) = Unit {0}
-IsOfRecovery fault.Unknown = Unit {0}
+IsOfRecovery (fault.Unknown _) = Unit {0}
 IsOfRecovery f = ⊥
 
 -- What is told once the tables were opened: E01 and E68.
