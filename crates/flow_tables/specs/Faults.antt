@@ -4,6 +4,7 @@ use Rattle.std.specs.Prelude.{◌≡◌, ◌⊎◌, ◌≢◌}
 use Rattle.flow_tables.specs.Names.{Held, state, Executes, State, Error, Ghosts, List, false, true, ℕ, IsOver, tables_in, Refusal, StoreFault, ViewFault, SqliteFailure, OutOfMemory, Err, Ok, [], Result, IsSome}
 use Rattle.flow_tables.specs.Names.{MoreFaults, HasOddText}
 use Rattle.flow_view.specs.declared.fault.ViewFault.TheVariants as view
+use Rattle.flow_view.specs.Reading.{Caused}
 use Rattle.flow_tables.specs.declared.fault.StoreFault.TheVariants.{NoMemory, Refused}
 use Rattle.flow_tables.specs.declared.fault.Refusal.TheVariants as refusal
 use Rattle.flow_tables.specs.declared.fault.Uncommitted.{Uncommitted}
@@ -105,4 +106,4 @@ WasFor cut barred (uncommitted.Barred f) = barred f
 -- where it is E80 it was asked for, and this stands behind it
 abbrev pub CausedEnd : {A : Type 0} → Result A Uncommitted → Type 0 → Type 0
 CausedEnd (Ok v) cause = Unit {0}
-CausedEnd (Err u) cause = WasFor (λ f. f ≡ view.StoreRefused → cause) (λ f. f ≡ view.StoreRefused → ⊥) u
+CausedEnd (Err u) cause = WasFor (λ f. Caused {A = Unit {0}} (Err f) cause) (λ f. Caused {A = Unit {0}} (Err f) ⊥) u
