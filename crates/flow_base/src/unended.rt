@@ -3,19 +3,23 @@ ghost use Rattle.std.specs.Prelude.{◌≡◌};
 
 use crate::code::Code;
 
+/// What was refused.
+#[derive(Clone, Copy, Debug, PartialEq, Eq)]
+struct End;
+
 /// A COMMIT or a ROLLBACK was refused, so nobody knows what is kept until the store is opened again: E84.
 ///
 /// The two statements that end a transaction make it (`conclude` and `retract` of `flow_sql`), in the arm of their refusal, and nothing
 /// else does. So who reads these two and looks up who calls [`Unended::told`] has seen every place at which an E84 begins.
 #[derive(Clone, Copy, Debug, PartialEq, Eq)]
 pub struct Unended {
-    refused: (),
+    refused: End,
 }
 
 impl Unended {
     /// The statement was refused: it is called in that arm.
     pub fn told() -> Unended {
-        Unended { refused: () }
+        Unended { refused: End }
     }
 
     /// Its number.
