@@ -126,11 +126,11 @@ published_are b opening k log ts long =
     let place : length log - opening ≡ k = omega (arith, long) in
     let count : length log ≡ length (log_replies rules b log) = sym (length-log_replies rules b log) in
     let asked : drop (length log) (commands_in all) ≡ cs =
-        ap (λ n. drop n (commands_in all)) (sym (length-map log its_command)) ∙ ap (drop (length (commands_in log))) (map-append its_command log (logged cs))
-        ∙ drop_front (commands_in log) (commands_in (logged cs)) ∙ asked_are cs in
+    ap (λ n. drop n (commands_in all)) (sym (length-map log its_command)) ∙ ap (drop (length (commands_in log))) (map-append its_command log (logged cs))
+    ∙ drop_front (commands_in log) (commands_in (logged cs)) ∙ asked_are cs in
     let told : drop (length log) (log_replies rules b all) ≡ replies rules next cs =
-        ap (λ n. drop n (log_replies rules b all)) count ∙ ap (drop (length (log_replies rules b log))) (log_replies_cut rules b log (logged cs))
-        ∙ drop_front (log_replies rules b log) (log_replies rules next (logged cs)) ∙ replies_one_limit rules rules.limit next cs in
+    ap (λ n. drop n (log_replies rules b all)) count ∙ ap (drop (length (log_replies rules b log))) (log_replies_cut rules b log (logged cs))
+    ∙ drop_front (log_replies rules b log) (log_replies rules next (logged cs)) ∙ replies_one_limit rules rules.limit next cs in
     ap (λ n. receipts_from opening (suc n) (drop (length log) (commands_in all)) (drop (length log) (log_replies rules b all))) place
     ∙ ap (λ l. receipts_from opening (suc k) l (drop (length log) (log_replies rules b all))) asked
     ∙ ap (receipts_from opening (suc k) cs) told
