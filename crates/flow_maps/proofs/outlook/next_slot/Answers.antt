@@ -1,0 +1,9 @@
+use Rattle.std.proofs.Common.{◌≡◌, sym, subst}
+use Rattle.flow_maps.proofs.Sooner.{next_none, next_some}
+use Rattle.flow_maps.proofs.outlook.next_slot.Goals as goal
+
+pub returns-in_default : goal.returns-in_default
+returns-in_default c = next_none c.args.tasks.now.slots c.range-later.result c.args.at (c.range-later.ensures.in_range tt) ?
+
+pub returns-in-Some : goal.returns-in-Some
+returns-in-Some c = next_some c.args.tasks.now.slots c.range-later.result c.args.at (c.range-later.ensures.in_range tt) c.in-Some.slot.now ? ?
