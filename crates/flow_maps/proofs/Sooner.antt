@@ -5,7 +5,7 @@ use Rattle.std.specs.Prelude.{IfSome}
 use Rattle.std.specs.Ordering.{nat_cmp, is_gt, ordering_then}
 use Rattle.std.specs.BTreeSet.{BTreeSet, contains, IsKeyRangeOf, IsKeyInRange}
 use Rattle.std.specs.BTreeMap.Range.{IsLeBy}
-use Rattle.std.specs.declared.ops.bounds.Bound.TheVariants.{Included, Unbounded}
+use Rattle.std.specs.declared.ops.Bound.TheVariants.{Included, Unbounded}
 use Rattle.std.proofs.Common.{Ordering, Less, Equal, Greater}
 use Rattle.std.proofs.lemmas.Cmp.{ranked}
 use Rattle.std.proofs.lemmas.Bool.{cases_Bool, ltb-true, ltb-false, lt-ltb, le-ltb}
@@ -17,7 +17,7 @@ use Rattle.flow_model.proofs.Logs.{nth_at}
 use Rattle.flow_maps.specs.declared.calendar.Calendar.{Calendar}
 use Rattle.flow_maps.specs.Agenda.{tasks_of, tasks_at}
 use Rattle.flow_maps.specs.Calendars.{Slot, slot_cmp, slot, date_of_task, has_slot, IsCalendar, IsNext}
-use Rattle.flow_maps.specs.Outlooks.{Waiting, waiting, waiting_in, waiting_from, sooner, with_ready, soonest}
+use Rattle.flow_maps.specs.Outlooks.{Waiting, waiting, waiting_in, waiting_from, sooner, with_next, with_ready, soonest}
 use Rattle.flow_maps.specs.Timers.{of_run}
 use Rattle.flow_maps.proofs.Slots.{has_one, not_true, one_has}
 
@@ -130,14 +130,18 @@ module _ (c : Calendar Task) (b : Book) (at : ℕ) (h : IsCalendar date_of_task 
   has_place : (w : Waiting) → Has (waiting b) w → contains slot_cmp c.slots (slot date_of_task w.0 w.1) ≡ true
   has_place w has = h.slots (slot date_of_task w.0 w.1) ∙ one_has date_of_task w.0 (tasks_at b w.0) w.1 (waits_at b w has)
 
-  pub none_next : (best : Option ℕ) → IsNext at c.slots None → best ≡ soonest at best (waiting b)
+  none_next : (best : Option ℕ) → IsNext at c.slots None → best ≡ soonest at best (waiting b)
   none_next best none = sym (no_later at best (waiting b) (λ w has. not_true (nat_lt at w.1.ready) (λ later. none (slot date_of_task w.0 w.1) (has_place w has) (ltb-true at w.1.ready later))))
 
-  pub some_next : (best : Option ℕ) (m : ℕ) → IsNext at c.slots (Some m) → sooner best m ≡ soonest at best (waiting b)
+  some_next : (best : Option ℕ) (m : ℕ) → IsNext at c.slots (Some m) → sooner best m ≡ soonest at best (waiting b)
   some_next best m next =
       let q = next.1.0 in
       let it = has_one date_of_task q.1 (tasks_at b q.1) q (sym (h.slots q) ∙ next.1.1) in
       sym (found at m best (waiting b) next.0 (λ w has later. next.2 (slot date_of_task w.0 w.1) (has_place w has) (ltb-true at w.1.ready later)) (q.1, it.0) (at_waits b q.1 it.0 it.1) (ap (λ (s : Slot). s.0) it.2 ∙ next.1.2))
+
+  pub next_is : (best o : Option ℕ) → IsNext at c.slots o → with_next best o ≡ soonest at best (waiting b)
+  next_is best None next = none_next best next
+  next_is best (Some m) next = some_next best m next
 
 ---- The first slot after a moment
 

@@ -5,7 +5,7 @@ use Rattle.std.specs.declared.cmp.Ordering.{Ordering}
 use Rattle.std.specs.Ordering.{nat_cmp, is_eq, ordering_then}
 use Rattle.std.specs.BTreeSet.{BTreeSet, contains}
 use Rattle.std.specs.BTreeMap.Range.{range_contains}
-use Rattle.std.specs.declared.ops.bounds.Bound.TheVariants.{Excluded, Unbounded}
+use Rattle.std.specs.declared.ops.Bound.TheVariants.{Excluded, Unbounded}
 use Rattle.flow_base.specs.declared.book.Due.{Due}
 use Rattle.flow_base.specs.declared.book.Task.{Task}
 use Rattle.flow_base.specs.declared.book.Timer.{Timer}

@@ -42,6 +42,11 @@ abbrev pub sooner : Option ℕ → ℕ → Option ℕ
 sooner None m = Some m
 sooner (Some n) m = if nat_lt m n then Some m else Some n
 
+-- and of two of which neither need be there
+abbrev pub with_next : Option ℕ → Option ℕ → Option ℕ
+with_next best None = best
+with_next best (Some m) = sooner best m
+
 -- an attempt counts that is ready after `at`
 abbrev pub with_ready : ℕ → Option ℕ → Waiting → Option ℕ
 with_ready at best w = if nat_lt at w.1.ready then sooner best w.1.ready else best

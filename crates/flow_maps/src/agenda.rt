@@ -255,7 +255,9 @@ impl Plans {
     fn outlook(&self, alloc: Global, at: Moment) -> Option<Outlook>
         ensures { IfSome result (λ v. (b : Book) → IsPlan self.now b → v ≡ outlook_of at b) }
     {
-        let first = first_due(&self.timers, Moment::last())?;
+        let Some(first) = first_due(&self.timers, Moment::last()) else {
+            return None;
+        };
         outlook_over(alloc, first, &self.tasks, self.opened, at)
     }
 }

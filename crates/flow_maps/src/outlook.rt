@@ -97,7 +97,9 @@ fn runs_by(alloc: Global, tasks: &Calendar<Task>, at: Moment) -> Option<BTreeSet
 fn listed(alloc: Global, tasks: &Calendar<Task>, at: Moment) -> Option<Sequence<(RunId, Task)>>
     ensures { IfSome result (λ v. (b : Book) → IsCalendar date_of_task tasks.now (tasks_at b) → v ≡ ready_by at b) }
 {
-    let runs = runs_by(alloc, tasks, at)?;
+    let Some(runs) = runs_by(alloc, tasks, at) else {
+        return None;
+    };
     let mut list = Vec::new(alloc);
     for number in &runs {
         if !add_run(&mut list, at, *number, &tasks.lists) {
@@ -137,15 +139,24 @@ fn next_slot(tasks: &Calendar<Task>, at: Moment) -> Option<Option<Moment>>
     }
 }
 
+/// The sooner of two moments, neither of which need be there.
+fn with_next(best: Option<Moment>, next: Option<Moment>) -> Option<Moment>
+    ensures { result ≡ rule.with_next best next }
+{
+    match next {
+        Some(moment) => sooner(best, moment),
+        None => best,
+    }
+}
+
 /// The sooner of a moment and of the first one after another at which an activity may be attempted; none where it isn't known.
 fn next_due(best: Option<Moment>, tasks: &Calendar<Task>, at: Moment) -> Option<Option<Moment>>
     ensures { IfSome result (λ o. (b : Book) → IsCalendar date_of_task tasks.now (tasks_at b) → o ≡ soonest at best (waiting b)) }
 {
-    let next = next_slot(tasks, at)?;
-    match next {
-        Some(moment) => Some(sooner(best, moment)),
-        None => Some(best),
-    }
+    let Some(next) = next_slot(tasks, at) else {
+        return None;
+    };
+    Some(with_next(best, next))
 }
 
 fn moment_of(first: Option<Due>) -> Option<Moment>
@@ -167,8 +178,12 @@ pub(crate) fn outlook_over(
 ) -> Option<Outlook>
     ensures { IfSome result (λ v. (b : Book) → first ≡ rule.first_timer b → open_runs ≡ count_open b → IsCalendar date_of_task tasks.now (tasks_at b) → v ≡ rule.outlook_of at b) }
 {
-    let due = next_due(moment_of(first), tasks, at)?;
-    let ready = listed(alloc, tasks, at)?;
+    let Some(due) = next_due(moment_of(first), tasks, at) else {
+        return None;
+    };
+    let Some(ready) = listed(alloc, tasks, at) else {
+        return None;
+    };
     Some(Outlook {
         ready,
         due,

@@ -1,9 +1,6 @@
 use Rattle.std.proofs.Common.{◌≡◌, ◌∙◌}
-use Rattle.flow_maps.proofs.Sooner.{none_next, some_next}
+use Rattle.flow_maps.proofs.Sooner.{next_is}
 use Rattle.flow_maps.proofs.outlook.next_due.Goals as goal
 
-pub returns-in-Some : goal.returns-in-Some
-returns-in-Some c b h = ?
-
-pub returns-in-None : goal.returns-in-None
-returns-in-None c b h = ?
+pub returns : goal.returns
+returns c b h = c.with_next.ensures ∙ next_is c.args.tasks.now b c.args.at h c.args.best c.in-Some.next c.in-Some.ensures
