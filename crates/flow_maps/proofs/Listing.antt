@@ -151,7 +151,7 @@ in_part : (ks : List Slot) (p : Slot → Bool) (q : Slot) → list_any (is_slot 
 in_part [] p q h is = absurd (true≢false (sym h))
 in_part (k ∷ ks) p q h is = by (is_slot q k) refl (in_part ks p q) h
   where
-    abbrev found : List Slot → Bool
+    found : List Slot → Bool
     found ss = list_any (λ (s : Slot). is_run s.1 q.1) ss
 
     more : (v : Bool) → found (filter p ks) ≡ true → found (cond v (k ∷ filter p ks) (filter p ks)) ≡ true

@@ -24,13 +24,13 @@ use Rattle.flow_maps.proofs.Slots.{has_one, not_true, one_has}
 ---- The lesser of moments
 
 no_later : (at : ℕ) (best : Option ℕ) (ws : List Waiting) → ((w : Waiting) → Has ws w → nat_lt at w.1.ready ≡ false) → soonest at best ws ≡ best
-no_later at best [] no = refl
-no_later at best (w ∷ ws) no = ap (λ b. soonest at b ws) (ap (λ v. if v then sooner best w.1.ready else best) (no w (inl refl))) ∙ no_later at best ws (λ x has. no x (inr has))
+no_later at best [] never = refl
+no_later at best (w ∷ ws) never = ap (λ b. soonest at b ws) (ap (λ v. if v then sooner best w.1.ready else best) (never w (inl refl))) ∙ no_later at best ws (λ x has. never x (inr has))
 
 lesser : (r m : ℕ) → m ≤ r → sooner (Some r) m ≡ Some m
 lesser r m less = elim (cases_Bool (nat_lt m r)) [
   | inl is ↦ ap (λ v. if v then Some m else Some r) is
-  | inr no ↦ ap (λ v. if v then Some m else Some r) no ∙ ap Some (let e : r ≡ m = (let above = ltb-false m r no in omega (arith, less, above)) in e)
+  | inr isnt ↦ ap (λ v. if v then Some m else Some r) isnt ∙ ap Some (let e : r ≡ m = (let above = ltb-false m r isnt in omega (arith, less, above)) in e)
 ]
 
 -- a moment that is no sooner makes no difference to a sooner one
@@ -40,7 +40,7 @@ passed (Some n) r m less = elim (cases_Bool (nat_lt r n)) [
   | inl is ↦
       let below = ltb-true r n is in
       ap (λ o. sooner o m) (ap (λ v. if v then Some r else Some n) is) ∙ lesser r m less ∙ sym (lesser n m (omega (arith, below, less)))
-  | inr no ↦ ap (λ o. sooner o m) (ap (λ v. if v then Some r else Some n) no)
+  | inr isnt ↦ ap (λ o. sooner o m) (ap (λ v. if v then Some r else Some n) isnt)
 ]
 
 -- nor one that comes again
@@ -48,9 +48,9 @@ again : (best : Option ℕ) (m r : ℕ) → m ≤ r → sooner (sooner best m) r
 again None m r less = ap (λ v. if v then Some r else Some m) (le-ltb r m less)
 again (Some n) m r less = elim (cases_Bool (nat_lt m n)) [
   | inl is ↦ ap (λ o. sooner o r) (ap (λ v. if v then Some m else Some n) is) ∙ ap (λ v. if v then Some r else Some m) (le-ltb r m less) ∙ sym (ap (λ v. if v then Some m else Some n) is)
-  | inr no ↦
-      let above = ltb-false m n no in
-      ap (λ o. sooner o r) (ap (λ v. if v then Some m else Some n) no) ∙ ap (λ v. if v then Some r else Some n) (le-ltb r n (omega (arith, above, less))) ∙ sym (ap (λ v. if v then Some m else Some n) no)
+  | inr isnt ↦
+      let above = ltb-false m n isnt in
+      ap (λ o. sooner o r) (ap (λ v. if v then Some m else Some n) isnt) ∙ ap (λ v. if v then Some r else Some n) (le-ltb r n (omega (arith, above, less))) ∙ sym (ap (λ v. if v then Some m else Some n) isnt)
 ]
 
 module _ (at m : ℕ) where

@@ -17,6 +17,7 @@ use flow_base::number::{Moment, RunId};
 use flow_base::sequence::Sequence;
 use std::alloc::Global;
 use std::collections::BTreeSet;
+use std::collections::btree_set::Range;
 
 /// What a book waits for at a moment.
 #[derive(Drop)]
@@ -80,17 +81,43 @@ fn add_slot(runs: &mut BTreeSet<u64>, slot: &(u64, u64, u64)) -> bool
     runs.insert(slot.1).is_ok()
 }
 
-/// The runs of the slots by a moment, in order; none where there is no memory.
-fn runs_by(alloc: Global, tasks: &Calendar<Task>, at: Moment) -> Option<BTreeSet<u64>>
-    ensures { IfSome result (λ s. (n : ℕ) → contains nat_cmp s n ≡ list_any (λ (q : Slot). is_run q.1 n) (part_by at tasks.now.slots.keys)) }
+/// The runs of slots, in order; none where there is no memory.
+fn runs_of(alloc: Global, slots: Range<'_, (u64, u64, u64)>) -> Option<BTreeSet<u64>>
+    ensures { IfSome result (λ s. (n : ℕ) → contains nat_cmp s n ≡ list_any (λ (q : Slot). is_run q.1 n) slots) }
 {
     let mut runs = BTreeSet::new(alloc);
-    for slot in tasks.slots.range(..(at.get() + 1, 0, 0)) {
+    for slot in slots {
         if !add_slot(&mut runs, slot) {
             return None;
         }
     }
     Some(runs)
+}
+
+/// The runs of the slots up to a moment, in order; none where there is no memory.
+fn runs_by(alloc: Global, tasks: &Calendar<Task>, at: Moment) -> Option<BTreeSet<u64>>
+    ensures { IfSome result (λ s. (n : ℕ) → contains nat_cmp s n ≡ list_any (λ (q : Slot). is_run q.1 n) (part_by at tasks.now.slots.keys)) }
+{
+    runs_of(alloc, tasks.slots.range(..(at.get() + 1, 0, 0)))
+}
+
+/// What these runs have that may be attempted by a moment; none where there is no memory.
+fn listed_of(
+    alloc: Global,
+    tasks: &Calendar<Task>,
+    runs: &BTreeSet<u64>,
+    at: Moment,
+) -> Option<Sequence<(RunId, Task)>>
+    ensures { IfSome result (λ v. (b : Book) → IsCalendar date_of_task tasks.now (tasks_at b)
+        → ((n : ℕ) → contains nat_cmp runs.now n ≡ list_any (λ (q : Slot). is_run q.1 n) (part_by at tasks.now.slots.keys)) → v ≡ ready_by at b) }
+{
+    let mut list = Vec::new(alloc);
+    for number in runs {
+        if !add_run(&mut list, at, *number, &tasks.lists) {
+            return None;
+        }
+    }
+    Some(Sequence::from_vec(list))
 }
 
 /// The open activities that may be attempted by a moment; none where there is no memory.
@@ -100,13 +127,10 @@ fn listed(alloc: Global, tasks: &Calendar<Task>, at: Moment) -> Option<Sequence<
     let Some(runs) = runs_by(alloc, tasks, at) else {
         return None;
     };
-    let mut list = Vec::new(alloc);
-    for number in &runs {
-        if !add_run(&mut list, at, *number, &tasks.lists) {
-            return None;
-        }
-    }
-    Some(Sequence::from_vec(list))
+    let Some(list) = listed_of(alloc, tasks, &runs, at) else {
+        return None;
+    };
+    Some(list)
 }
 
 /// The lesser of two moments, of which one needn't be there.

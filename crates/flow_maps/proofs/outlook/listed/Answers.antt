@@ -1,9 +1,4 @@
-use Rattle.std.proofs.Common.{◌≡◌, ◌∙◌}
-use Rattle.flow_maps.specs.OfRuns.{list_of}
-use Rattle.flow_maps.proofs.Listing.{listed_by, end_of}
 use Rattle.flow_maps.proofs.outlook.listed.Goals as goal
 
 pub returns : goal.returns
-returns c b h = let tasks = c.args.tasks.now in let g = list_of tasks.lists in
-    c.from_vec.ensures ∙ end_of c.args.at g c.loop-number.list.items c.loop-number.number-iterator _ c.in-None.ensures.steps.0 c.loop-number.invariant
-    ∙ listed_by tasks b c.args.at g c.in-Some.runs.keys h h.lists (c.into_iter-number-iterator.ensures.into_iter_gives.5) c.in-Some.ensures
+returns c b h = c.in-Some-listed_of.ensures b h c.in-Some.ensures

@@ -20,7 +20,7 @@ returns-clause-serves c b opened times tasks h =
       requests = keys.requests;
       flows = keys.flows;
       agenda = subst (λ a. IsOf a after) (sym c.add.ensures.same.0) (c.add_whole.ensures b r times tasks opened (subst (λ a. IsOf a b) (sym (records.2 ∙ signals.2)) h.agenda));
-      signals = subst (λ s. KnowsSignals s after) (sym (c.add.ensures.same.3 ∙ records.5)) (c.add_signals.ensures.signals b r refl refl h);
+      signals = subst (λ s. KnowsSignals s after) (sym (c.add.ensures.same.3 ∙ records.5)) (c.add_signals.ensures.signals b r refl (sym c.as_slice.ensures) h);
       records = subst (λ m. KnowsRecords m after) (sym c.add.ensures.same.4)
           (c.add_record.ensures.records b (subst (λ a. IsOf a b) (sym signals.2) h.agenda) (subst (λ m. KnowsRecords m b) (sym signals.5) h.records));
     }
