@@ -168,9 +168,9 @@ in_time : (at : ℕ) (q : Slot) → q.0 ≤ at → range_contains slot_cmp Unbou
 in_time at q less = rw (sym (nat_cmp_is (at + 1) q.0 Greater (omega (arith, less)))) refl
 
 none_own : (at n : ℕ) (ts : List Task) → ((t : Task) → Has ts t → nat_le t.ready at ≡ false) → filter (is_by at) (waiting_in n ts) ≡ []
-none_own at n [] no = refl
-none_own at n (t ∷ ts) no =
-    ap (λ v. cond v ((n, t) ∷ filter (is_by at) (waiting_in n ts)) (filter (is_by at) (waiting_in n ts))) (no t (inl refl)) ∙ none_own at n ts (λ x has. no x (inr has))
+none_own at n [] never = refl
+none_own at n (t ∷ ts) never =
+    ap (λ v. cond v ((n, t) ∷ filter (is_by at) (waiting_in n ts)) (filter (is_by at) (waiting_in n ts))) (never t (inl refl)) ∙ none_own at n ts (λ x has. never x (inr has))
 
 -- A run that no slot up to the moment is of has nothing by then.
 none_by_slots : (c : Calendar Task) (g : ℕ → List Task) (at n : ℕ) → IsCalendar date_of_task c g → list_any (λ (s : Slot). is_run s.1 n) (part_by at c.slots.keys) ≡ false → filter (is_by at) (waiting_in n (g n)) ≡ []

@@ -17,7 +17,6 @@ use flow_base::number::{Moment, RunId};
 use flow_base::sequence::Sequence;
 use std::alloc::Global;
 use std::collections::BTreeSet;
-use std::collections::btree_set::Range;
 
 /// What a book waits for at a moment.
 #[derive(Drop)]
@@ -81,24 +80,17 @@ fn add_slot(runs: &mut BTreeSet<u64>, slot: &(u64, u64, u64)) -> bool
     runs.insert(slot.1).is_ok()
 }
 
-/// The runs of slots, in order; none where there is no memory.
-fn runs_of(alloc: Global, slots: Range<'_, (u64, u64, u64)>) -> Option<BTreeSet<u64>>
-    ensures { IfSome result (λ s. (n : ℕ) → contains nat_cmp s n ≡ list_any (λ (q : Slot). is_run q.1 n) slots) }
+/// The runs of the slots up to a moment, in order; none where there is no memory.
+fn runs_by(alloc: Global, tasks: &Calendar<Task>, at: Moment) -> Option<BTreeSet<u64>>
+    ensures { IfSome result (λ s. (n : ℕ) → contains nat_cmp s n ≡ list_any (λ (q : Slot). is_run q.1 n) (part_by at tasks.now.slots.keys)) }
 {
     let mut runs = BTreeSet::new(alloc);
-    for slot in slots {
+    for slot in tasks.slots.range(..(at.get() + 1, 0, 0)) {
         if !add_slot(&mut runs, slot) {
             return None;
         }
     }
     Some(runs)
-}
-
-/// The runs of the slots up to a moment, in order; none where there is no memory.
-fn runs_by(alloc: Global, tasks: &Calendar<Task>, at: Moment) -> Option<BTreeSet<u64>>
-    ensures { IfSome result (λ s. (n : ℕ) → contains nat_cmp s n ≡ list_any (λ (q : Slot). is_run q.1 n) (part_by at tasks.now.slots.keys)) }
-{
-    runs_of(alloc, tasks.slots.range(..(at.get() + 1, 0, 0)))
 }
 
 /// What these runs have that may be attempted by a moment; none where there is no memory.
