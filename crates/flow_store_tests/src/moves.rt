@@ -2,12 +2,11 @@
 //! rows, also behind an opening that stops at one of its calls, or of which one call fails.
 use crate::books::Books;
 use crate::course::NOTHING;
-use crate::files::{counting, empty, found_in, left_of, opened, stopping};
+use crate::files::{crashed, empty, found_in, opened};
 use crate::stride::stride;
 use crate::{failures, stops};
-use flow_crash::calls::{Calls, Part, Stop};
-use sqlite::{Alter, Connection, Files};
-use sqlite_disk::{Disk, Memory};
+use sqlite::{Alter, Connection, FileStore, Files};
+use sqlite_disk::Memory;
 use std::alloc::Global;
 use std::test::Fail;
 
@@ -71,7 +70,7 @@ INSERT INTO event2 (run, id, kind, at, body) VALUES (5, 3, 12, 3000, '{\"cause\"
 enum Place {
     /// In the file of the pages: the store was closed.
     Pages,
-    /// In the log: the process stopped before it closed the store.
+    /// In the log: the machine stopped before the store was closed.
     Log,
 }
 
@@ -81,47 +80,30 @@ fn fill<S: Alter>(conn: &mut Connection<S>, events: &str) -> bool {
     are && conn.execute_batch("COMMIT").is_ok()
 }
 
-/// Whether the files were filled, and the files.
-fn filled<D: Disk + Drop>(alloc: Global, files: Files<D>, events: &str) -> (bool, Files<D>) {
-    match opened(alloc, files) {
-        Ok(conn) => {
-            let mut conn = conn;
-            let is = fill(&mut conn, events);
-            (is, conn.into_store().close())
-        }
-        Err(files) => (false, files),
+/// The files behind a connection, whose log goes into the pages or stays.
+fn files_of(conn: Connection<FileStore<Memory>>, place: Place) -> Option<Files<Memory>> {
+    match place {
+        Place::Pages => match conn.close_files() {
+            Ok(files) => Some(files),
+            Err((_error, store)) => {
+                let _files = store.close();
+                None
+            }
+        },
+        Place::Log => Some(crashed(conn.into_store().close())),
     }
 }
 
-/// A closed store with these events.
-fn closed(alloc: Global, events: &str) -> Option<Files<Memory>> {
-    let (is, files) = filled(alloc, empty(alloc), events);
-    if is { Some(files) } else { None }
-}
-
-/// How many calls it takes to fill a store and to close it.
-fn calls_of(alloc: Global, events: &str) -> Option<u64> {
-    let calls = Calls::new(alloc).ok()?;
-    let files = counting(empty(alloc), &calls)?;
-    let (is, files) = filled(alloc, files, events);
-    let (_is_reached, _files) = left_of(files);
-    if is { Some(calls.count()) } else { None }
-}
-
-/// A store with these events that stopped at its last call.
-fn killed(alloc: Global, events: &str) -> Option<Files<Memory>> {
-    let at = calls_of(alloc, events)?;
-    let part = Part::Before;
-    let files = stopping(alloc, empty(alloc), Stop { at, part })?;
-    let (is, files) = filled(alloc, files, events);
-    let (is_reached, files) = left_of(files);
-    if is && is_reached { Some(files) } else { None }
-}
-
+/// The files of a store with these events.
 fn left(alloc: Global, events: &str, place: Place) -> Option<Files<Memory>> {
-    match place {
-        Place::Pages => closed(alloc, events),
-        Place::Log => killed(alloc, events),
+    match opened(alloc, empty(alloc)) {
+        Ok(conn) => {
+            let mut conn = conn;
+            let is = fill(&mut conn, events);
+            let files = files_of(conn, place);
+            if is { files } else { None }
+        }
+        Err(_files) => None,
     }
 }
 
