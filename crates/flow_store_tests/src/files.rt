@@ -158,21 +158,12 @@ fn asked_through<R: Rule + Drop>(
     }
 }
 
-/// Files that count their calls together, and stop.
-pub fn stopping(
-    alloc: Global,
-    files: Files<Memory>,
-    stop: Stop,
-) -> Option<Files<Numbered<Memory, StopAt>>> {
+/// Over files that stop.
+pub fn stopped(alloc: Global, files: Files<Memory>, stop: Stop, plan: Plan) -> Option<Disturbed> {
     let calls = Calls::new(alloc).ok()?;
     let log_rule = StopAt::new(calls.share().ok()?, stop);
     let db_rule = StopAt::new(calls.share().ok()?, stop);
-    Some(with_rules(files, log_rule, db_rule))
-}
-
-/// Over files that stop.
-pub fn stopped(alloc: Global, files: Files<Memory>, stop: Stop, plan: Plan) -> Option<Disturbed> {
-    let files = stopping(alloc, files, stop)?;
+    let files = with_rules(files, log_rule, db_rule);
     Some(asked_through(alloc, files, plan))
 }
 
