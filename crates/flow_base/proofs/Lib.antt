@@ -1,3 +1,0 @@
-pub mod Decimals
-pub mod Lists
-pub mod Exact

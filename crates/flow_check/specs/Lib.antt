@@ -1,4 +1,0 @@
-pub mod Faults
-pub mod Language
-pub mod Tables
-pub mod Typed

@@ -1,3 +1,0 @@
-//! The programs that `check` gives.
-
-pub use flow_model::checked::Checked;

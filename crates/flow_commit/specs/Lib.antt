@@ -1,7 +1,0 @@
-pub mod Accounts
-pub mod Keeping
-pub mod Committing
-pub mod Stamps
-pub mod Boards
-pub mod Seating
-pub mod Verifying

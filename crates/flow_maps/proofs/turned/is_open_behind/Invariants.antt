@@ -1,7 +1,0 @@
-use Rattle.std.proofs.Common.{◌≡◌, drop}
-use Rattle.flow_base.specs.Effects.{effect_of_input}
-use Rattle.flow_maps.specs.Turned.{is_open_by, is_open_after}
-use Rattle.flow_maps.proofs.turned.is_open_behind.Given as goal
-
-abbrev pub invariant-loop-command : goal.invariant-loop-command
-invariant-loop-command l = is_open_after l.is_open (drop l.command-index l.turn.commands) ≡ is_open_after (is_open_by l.fn.was (effect_of_input l.turn.input)) l.turn.commands

@@ -1,7 +1,0 @@
-//! What is right: the definitions of texts, runs and books, and their laws.
-#![tactic(auto)]
-
-pub mod checked;
-pub mod kinds;
-pub mod laws;
-pub mod texts;

@@ -1,4 +1,0 @@
-pub mod Copied
-pub mod Moved
-pub mod PastReads
-pub mod Steps

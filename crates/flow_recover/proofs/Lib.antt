@@ -1,6 +1,0 @@
-pub mod Reaching
-pub mod Refusing
-pub mod Programs
-pub mod Recovering
-pub mod Filled
-pub mod Moving

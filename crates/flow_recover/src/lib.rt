@@ -1,8 +1,0 @@
-//! Opens a store: its book gets a keeper, and each open run the position where it stands.
-#![tactic(auto)]
-
-pub mod damage;
-mod filling;
-pub mod positions;
-pub mod recover;
-pub mod reopen;

@@ -1,4 +1,0 @@
-pub mod Posted
-pub mod Served
-pub mod Serving
-pub mod Turning

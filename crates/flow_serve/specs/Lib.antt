@@ -1,3 +1,0 @@
-pub mod Boarding
-pub mod Posting
-pub mod Serving

@@ -1,4 +1,0 @@
-//! What the texts of SQL mean over the six tables, as definitions and lemmas, and the statements of a transaction.
-#![tactic(auto)]
-
-pub mod transaction;

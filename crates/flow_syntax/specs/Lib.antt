@@ -1,5 +1,0 @@
-pub mod Machine
-pub mod Parsing
-pub mod Faults
-pub mod Print
-pub mod Deprecated

@@ -1,4 +1,0 @@
-pub mod Reading
-pub mod Codes
-pub mod Heads
-pub mod Listed
