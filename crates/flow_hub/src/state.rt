@@ -215,17 +215,20 @@ impl<B: Room> State<B> {
     ) -> (Pass<B>, Result<u64, (Command, Denied)>)
         requires share { 0 < mine.old.parts }
         requires seat { IsSubmitters me }
-        ensures ok { IfOk result.1 (λ t. (t ≡ self.old.given) × (self.new ≡ submitted self.old command) × (mine.new.amount ≡ mine.old.amount + 1)) }
+        ensures ok { IfOk result.1 (λ t. (t ≡ self.old.given) × (self.new ≡ submitted self.old command)
+            × (mine.new.amount ≡ mine.old.amount + 1)) }
         ensures room { OnOk result.1 (IsOpen self.old.known × (unfetched self.old < 1024)) }
         ensures taken_in { OnOk result.1 (HasTakenIn result.0.was) }
-        ensures err { IfErr result.1 (λ e. (e.0 ≡ command) × (self.new ≡ self.old) × (mine.new.amount ≡ mine.old.amount) × IsDenied self.old.known e.1) }
+        ensures err { IfErr result.1 (λ e. (e.0 ≡ command) × (self.new ≡ self.old) × (mine.new.amount ≡ mine.old.amount)
+            × IsDenied self.old.known e.1) }
         ensures parts { mine.new.parts ≡ mine.old.parts }
         ensures seat { result.0 ≡ seeing false false result.0.owed self.new.known }
         ensures owed { OnOk result.1 ((result.0.owed ≡ me.owed + 1) × (me.owed < 1024)) }
         ensures owed_still { OnErr result.1 (result.0.owed ≡ me.owed) }
         ensures before { IsBefore me.was self.old.known }
         ensures grows { IsBefore me.was result.0.was }
-        ensures ticket { IfOk result.1 (λ t. (length me.was.asked ≤ t) × (length result.0.was.asked ≡ t + 1) × (slice_get result.0.was.asked t ≡ Some (new_ask self.old command))) }
+        ensures ticket { IfOk result.1 (λ t. (length me.was.asked ≤ t) × (length result.0.was.asked ≡ t + 1)
+            × (slice_get result.0.was.asked t ≡ Some (new_ask self.old command))) }
     {
         if let Some(denied) = self.denied() {
             return (self.see(seats, me), Err((command, denied)));
@@ -251,7 +254,8 @@ impl<B: Room> State<B> {
         requires seat { IsPublishers me }
         requires most { 1 ≤ most }
         requires room { (into.old.items ≡ []) × (most ≤ vec_capacity into.old) }
-        ensures taken { (self.old.waiting ≡ into.new.items ++ self.new.waiting) × (self.new ≡ took self.old into.new.items self.new.waiting) }
+        ensures taken { (self.old.waiting ≡ into.new.items ++ self.new.waiting)
+            × (self.new ≡ took self.old into.new.items self.new.waiting) }
         ensures count { (length into.new.items ≤ most) × (vec_capacity into.new ≡ vec_capacity into.old) }
         ensures seat { result ≡ seeing true false 0 self.new.known }
         ensures seen { HasTaken me.was result.was into.new.items }
@@ -327,7 +331,8 @@ impl<B: Room> State<B> {
         requires owed { 1 ≤ me.owed }
         ensures own { IfSome result.1 (λ r. (r.ticket ≡ ticket) × IsOwn result.0.was.asked r × Stands result.0.was.history r) }
         ensures legal { IfSome result.1 (λ r. IsHistory result.0.was) }
-        ensures fetched { MatchOption result.1 (self.new ≡ self.old) (λ r. (k : ℕ) × (slice_get self.old.answered k ≡ Some r) × (self.new ≡ fetched_receipt self.old (remove self.old.answered k))) }
+        ensures fetched { MatchOption result.1 (self.new ≡ self.old)
+            (λ r. (k : ℕ) × (slice_get self.old.answered k ≡ Some r) × (self.new ≡ fetched_receipt self.old (remove self.old.answered k))) }
         ensures none { IfNone result.1 (All (λ r. r.ticket ≢ ticket) self.old.answered) }
         ensures one_more { IfSome result.1 (λ r. me.was.fetched < result.0.was.fetched) }
         ensures owed { MatchOption result.1 (result.0.owed ≡ me.owed) (λ r. result.0.owed + 1 ≡ me.owed) }
@@ -353,7 +358,8 @@ impl<B: Room> State<B> {
         requires seat { IsSubmitters me }
         requires owed { 1 ≤ me.owed }
         ensures own { IfSome result.1 (λ r. (r.asked.ticket ≡ ticket) × IsGone result.0.was.asked r × IsTold result.0.was.refused r) }
-        ensures fetched { MatchOption result.1 (self.new ≡ self.old) (λ r. (k : ℕ) × (slice_get self.old.refused k ≡ Some r) × (self.new ≡ fetched_refusal self.old (remove self.old.refused k))) }
+        ensures fetched { MatchOption result.1 (self.new ≡ self.old)
+            (λ r. (k : ℕ) × (slice_get self.old.refused k ≡ Some r) × (self.new ≡ fetched_refusal self.old (remove self.old.refused k))) }
         ensures none { IfNone result.1 (All (λ r. r.asked.ticket ≢ ticket) self.old.refused) }
         ensures one_more { IfSome result.1 (λ r. me.was.fetched < result.0.was.fetched) }
         ensures owed { MatchOption result.1 (result.0.owed ≡ me.owed) (λ r. result.0.owed + 1 ≡ me.owed) }
@@ -380,9 +386,11 @@ impl<B: Room> State<B> {
     ) -> (Pass<B>, Option<Result<Receipt, Refused>>)
         requires seat { IsSubmitters me }
         requires mine { length mine.old.items ≡ me.owed }
-        ensures receipt { IfSome result.1 (λ a. IfOk a (λ r. (r.ticket ≡ ticket) × IsOwn result.0.was.asked r × Stands result.0.was.history r)) }
+        ensures receipt { IfSome result.1 (λ a. IfOk a
+            (λ r. (r.ticket ≡ ticket) × IsOwn result.0.was.asked r × Stands result.0.was.history r)) }
         ensures legal { IfSome result.1 (λ a. IfOk a (λ r. IsHistory result.0.was)) }
-        ensures refused { IfSome result.1 (λ a. IfErr a (λ r. (r.asked.ticket ≡ ticket) × IsGone result.0.was.asked r × IsTold result.0.was.refused r)) }
+        ensures refused { IfSome result.1 (λ a. IfErr a
+            (λ r. (r.asked.ticket ≡ ticket) × IsGone result.0.was.asked r × IsTold result.0.was.refused r)) }
         ensures one_more { IfSome result.1 (λ a. me.was.fetched < result.0.was.fetched) }
         ensures none { IfNone result.1 (All (λ n. n ≢ ticket) mine.old.items
             ⊎ (All (λ r. r.ticket ≢ ticket) self.old.answered × All (λ r. r.asked.ticket ≢ ticket) self.old.refused)) }

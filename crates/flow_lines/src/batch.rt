@@ -131,7 +131,8 @@ pub(crate) fn gather<I: Input>(
     first: Command,
     most: BatchSize,
 ) -> Result<Begun, Fault>
-    ensures gathered { IfOk result (λ b. Gathered (first ∷ []) b.commands.items (true ∷ []) b.marks.items (I.left input.old) (I.left input.new)) }
+    ensures gathered { IfOk result (λ b. Gathered (first ∷ []) b.commands.items (true ∷ []) b.marks.items (I.left input.old)
+        (I.left input.new)) }
     ensures some { IfOk result (λ b. 1 ≤ length b.commands.items) }
     ensures few { IfOk result (λ b. length b.commands.items ≤ most) }
     ensures full { IfOk result (λ b. IsFilled most b.commands.items b.marks.items (I.left input.old) (I.left input.new)) }

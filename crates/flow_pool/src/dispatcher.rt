@@ -28,7 +28,9 @@ pub trait Posted: Drop {
 /// each that was given is put; where no worker is left the last one that was given came back from the channel, and is lost. Both ends
 /// come back: the workers end when the sender is let go.
 pub fn dispatcher<R: Wait, P: Posted>(rt: &R, posted: P, sender: TaskSender) -> (TaskSender, P)
-    ensures puts { (ts : List Task) × (lost : List Task) × (put_by result.0 ≡ put_by sender ++ ts) × (P.given result.1 ≡ (P.given posted ++ ts) ++ lost) × (came_back result.0 ≡ came_back sender ++ lost) × (((lost ≡ []) × P.ended result.1) ⊎ (length lost ≡ 1)) }
+    ensures puts { (ts : List Task) × (lost : List Task) × (put_by result.0 ≡ put_by sender ++ ts)
+        × (P.given result.1 ≡ (P.given posted ++ ts) ++ lost) × (came_back result.0 ≡ came_back sender ++ lost)
+        × (((lost ≡ []) × P.ended result.1) ⊎ (length lost ≡ 1)) }
     ensures same { IsSameFeed sender result.0 × (made_by result.0 ≡ made_by sender) × (back_at result.0 ≡ back_at sender) }
 {
     let mut posted = posted;

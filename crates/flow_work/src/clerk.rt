@@ -70,7 +70,8 @@ impl<B: Room, W: Write + Drop> Clerk<B, W> {
         progress: Option<Progress<P>>,
     )
         ensures rested { HasRested self.new.desk.submitter.was }
-        ensures counted { (first : Option (List ℕ)) → Counted line_command (C.tells clock.now) first nothing self.old.desk.submitter self.old.lines self.old.desk.page
+        ensures counted { (first : Option (List ℕ))
+            → Counted line_command (C.tells clock.now) first nothing self.old.desk.submitter self.old.lines self.old.desk.page
             → Counted line_command (C.tells clock.now) first nothing self.new.desk.submitter self.new.lines self.new.desk.page }
     {
         self.desk.rest(rt, clock, progress);
@@ -79,7 +80,8 @@ impl<B: Room, W: Write + Drop> Clerk<B, W> {
     /// Takes in a line. No where nothing is answered any more.
     fn take<R: Wait, C: Clock>(&mut self, rt: &R, clock: &C, line: Vec<u8>) -> bool
         requires { length self.old.desk.pending.lines.items < 64 }
-        ensures { (first : Option (List ℕ)) → Counts line_command (C.tells clock.now) first nothing self.old.desk.submitter self.old.desk.pending.lines.items self.old.lines self.old.desk.page
+        ensures { (first : Option (List ℕ)) → Counts line_command
+            (C.tells clock.now) first nothing self.old.desk.submitter self.old.desk.pending.lines.items self.old.lines self.old.desk.page
             → Goes line_command (C.tells clock.now) first result nothing self.new.desk.submitter self.new.desk.pending.lines.items self.new.lines self.new.desk.page }
     {
         let read = Snapshot::of(&line);
@@ -91,7 +93,8 @@ impl<B: Room, W: Write + Drop> Clerk<B, W> {
 
     /// Prints all replies that are to come.
     fn end<R: Wait, C: Clock>(&mut self, rt: &R, clock: &C)
-        ensures { (first : Option (List ℕ)) → Counts line_command (C.tells clock.now) first nothing self.old.desk.submitter self.old.desk.pending.lines.items self.old.lines self.old.desk.page
+        ensures { (first : Option (List ℕ)) → Counts line_command
+            (C.tells clock.now) first nothing self.old.desk.submitter self.old.desk.pending.lines.items self.old.lines self.old.desk.page
             → Counted line_command (C.tells clock.now) first nothing self.new.desk.submitter self.new.lines self.new.desk.page }
     {
         self.desk.tell_all(rt);
@@ -99,7 +102,8 @@ impl<B: Room, W: Write + Drop> Clerk<B, W> {
 
     /// As `end`, where the input can't be read any more.
     fn fail<R: Wait, C: Clock>(&mut self, rt: &R, clock: &C)
-        ensures { (first : Option (List ℕ)) → Counts line_command (C.tells clock.now) first nothing self.old.desk.submitter self.old.desk.pending.lines.items self.old.lines self.old.desk.page
+        ensures { (first : Option (List ℕ)) → Counts line_command
+            (C.tells clock.now) first nothing self.old.desk.submitter self.old.desk.pending.lines.items self.old.lines self.old.desk.page
             → Counted line_command (C.tells clock.now) first nothing self.new.desk.submitter self.new.lines self.new.desk.page }
     {
         self.desk.fail();
@@ -108,7 +112,8 @@ impl<B: Room, W: Write + Drop> Clerk<B, W> {
 
     /// Prints the oldest reply. No where nothing is answered any more.
     fn tell<R: Wait, C: Clock>(&mut self, rt: &R, clock: &C) -> bool
-        ensures { (first : Option (List ℕ)) → Counts line_command (C.tells clock.now) first nothing self.old.desk.submitter self.old.desk.pending.lines.items self.old.lines self.old.desk.page
+        ensures { (first : Option (List ℕ)) → Counts line_command
+            (C.tells clock.now) first nothing self.old.desk.submitter self.old.desk.pending.lines.items self.old.lines self.old.desk.page
             → Goes line_command (C.tells clock.now) first result nothing self.new.desk.submitter self.new.desk.pending.lines.items self.new.lines self.new.desk.page }
     {
         self.desk.tell_oldest(rt)
@@ -118,7 +123,8 @@ impl<B: Room, W: Write + Drop> Clerk<B, W> {
     /// any more.
     #[tactic(auto, using(crate::proofs::Counting::goes_over, crate::proofs::Counting::counted))]
     fn step<R: Wait, C: Clock>(&mut self, rt: &R, clock: &C, inputs: &Receiver<Input>) -> bool
-        ensures { (first : Option (List ℕ)) → Counts line_command (C.tells clock.now) first nothing self.old.desk.submitter self.old.desk.pending.lines.items self.old.lines self.old.desk.page
+        ensures { (first : Option (List ℕ)) → Counts line_command
+            (C.tells clock.now) first nothing self.old.desk.submitter self.old.desk.pending.lines.items self.old.lines self.old.desk.page
             → Goes line_command (C.tells clock.now) first result nothing self.new.desk.submitter self.new.desk.pending.lines.items self.new.lines self.new.desk.page }
     {
         match self.desk.next_input(rt, inputs) {
@@ -140,7 +146,8 @@ impl<B: Room, W: Write + Drop> Clerk<B, W> {
     /// ended and all is printed, or nothing is answered any more. A line is submitted again after E90; a command that was answered E80
     /// or E01 is told as not applied.
     fn answer_lines<R: Wait, C: Clock>(&mut self, rt: &R, clock: &C, inputs: &Receiver<Input>)
-        ensures { (first : Option (List ℕ)) → Counts line_command (C.tells clock.now) first nothing self.old.desk.submitter self.old.desk.pending.lines.items self.old.lines self.old.desk.page
+        ensures { (first : Option (List ℕ)) → Counts line_command
+            (C.tells clock.now) first nothing self.old.desk.submitter self.old.desk.pending.lines.items self.old.lines self.old.desk.page
             → Counted line_command (C.tells clock.now) first nothing self.new.desk.submitter self.new.lines self.new.desk.page }
     {
         'steps: for _ in rt.forever() {

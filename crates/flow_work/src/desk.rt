@@ -181,7 +181,8 @@ impl<B: Room, W: Write + Drop> Desk<B, W> {
     fn submit<R: Wait>(&mut self, rt: &R, command: Command) -> Option<Ticket>
         ensures ticket { IfSome result (λ t. IsOf self.new.submitter command t) }
         ensures silent { IfNone result (IsSilent self.new.submitter self.old.pending.lines.items) }
-        ensures told { HasTold self.new.submitter (is_some result) self.old.pending.lines.items self.new.pending.lines.items self.old.page self.new.page }
+        ensures told { HasTold self.new.submitter
+            (is_some result) self.old.pending.lines.items self.new.pending.lines.items self.old.page self.new.page }
         ensures grows { IsBefore self.old.submitter.was self.new.submitter.was }
         ensures same { self.new.submitter.id ≡ self.old.submitter.id }
         ensures fewer { length self.new.pending.lines.items ≤ length self.old.pending.lines.items }
@@ -211,7 +212,8 @@ impl<B: Room, W: Write + Drop> Desk<B, W> {
     ) -> Option<Pending>
         ensures pending { IfSome result (λ p. IsPendingOf (read_as accepted) (C.tells clock.now) self.new.submitter line.items p) }
         ensures silent { IfNone result (IsSilent self.new.submitter self.old.pending.lines.items) }
-        ensures told { HasTold self.new.submitter (is_some result) self.old.pending.lines.items self.new.pending.lines.items self.old.page self.new.page }
+        ensures told { HasTold self.new.submitter
+            (is_some result) self.old.pending.lines.items self.new.pending.lines.items self.old.page self.new.page }
         ensures grows { IsBefore self.old.submitter.was self.new.submitter.was }
         ensures same { self.new.submitter.id ≡ self.old.submitter.id }
         ensures fewer { length self.new.pending.lines.items ≤ length self.old.pending.lines.items }
@@ -237,7 +239,9 @@ impl<B: Room, W: Write + Drop> Desk<B, W> {
         line: Vec<u8>,
     ) -> bool
         requires { length self.old.pending.lines.items < 64 }
-        ensures taken { result ≡ true → (p : APending) × (rest : List APending) × IsPendingOf (read_as accepted) (C.tells clock.now) self.new.submitter line.items p × (self.new.pending.lines.items ≡ rest ++ p ∷ [])
+        ensures taken { result ≡ true → (p : APending) × (rest : List APending)
+            × IsPendingOf (read_as accepted) (C.tells clock.now) self.new.submitter line.items p
+            × (self.new.pending.lines.items ≡ rest ++ p ∷ [])
             × HasTold self.new.submitter true self.old.pending.lines.items rest self.old.page self.new.page }
         ensures silent { result ≡ false → IsSilent self.new.submitter self.old.pending.lines.items }
         ensures not_taken { result ≡ false → HasTold self.new.submitter false self.old.pending.lines.items self.new.pending.lines.items self.old.page self.new.page }

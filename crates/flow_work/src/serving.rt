@@ -102,7 +102,8 @@ where
     W: Write + Drop + Send + 'static,
     C: Clock + Copy + Send + Drop + 'static,
     requires none { (supplies.opening.pending.lines.items ≡ []) × (supplies.feed ≡ nothing) }
-    ensures page { IfOk result (λ r. (r.0.promise.desk.value.page ≡ blank (W.contents writer)) × (r.0.promise.desk.value.pending.lines.items ≡ [])) }
+    ensures page { IfOk result (λ r. (r.0.promise.desk.value.page ≡ blank (W.contents writer))
+        × (r.0.promise.desk.value.pending.lines.items ≡ [])) }
     ensures owed { IfOk result (λ r. (r.0.promise.feed.value ≡ nothing) × (r.0.promise.clock.value ≡ clock)) }
     ensures refused { IfErr result (λ f. f ≡ Fault.NoMemory _) }
 {
@@ -147,7 +148,8 @@ where
     I: BufRead + Drop + Send + 'static,
     W: Write + Drop + Send + 'static,
     C: Clock + Copy + Send + Drop + 'static,
-    ensures page { IfOk result (λ r. (r.0.promise.desk.value.page ≡ blank (W.contents writer)) × (r.0.promise.desk.value.pending.lines.items ≡ [])) }
+    ensures page { IfOk result (λ r. (r.0.promise.desk.value.page ≡ blank (W.contents writer))
+        × (r.0.promise.desk.value.pending.lines.items ≡ [])) }
     ensures owed { IfOk result (λ r. (r.0.promise.feed.value ≡ nothing) × (r.0.promise.clock.value ≡ clock)) }
     ensures refused { IfErr result (λ f. f ≡ Fault.NoMemory _) }
 {
@@ -163,7 +165,8 @@ fn taken_back<B: Room, R: Wait, W: Write + Drop>(
     served: Result<(), Fault>,
 ) -> Served<W>
     ensures served { result.ended.served ≡ served }
-    ensures printed { (W.contents result.ended.writer ≡ told.page.bytes) × (result.is_mute ≡ told.page.is_mute) × (result.shown ≡ told.page.shown) }
+    ensures printed { (W.contents result.ended.writer ≡ told.page.bytes) × (result.is_mute ≡ told.page.is_mute)
+        × (result.shown ≡ told.page.shown) }
     ensures lines { result.lines ≡ told.lines }
     ensures submitter { IsBefore told.submitter.was publisher.new }
     ensures feed { IsBefore told.feed publisher.new }
@@ -220,7 +223,8 @@ where
     ensures follows { Follows S.Store engine.old engine.new }
     // What was printed: to the lines that were taken in, in their order, what is said of them by what was kept and what wasn't; and in
     // between the tasks that were posted.
-    ensures shown { IfOk result (λ e. Shows S.Store (C.tells clock) engine.old engine.new (W.contents writer) (W.contents e.ended.writer) e.is_mute e.lines e.shown) }
+    ensures shown { IfOk result (λ e. Shows S.Store (C.tells clock) engine.old engine.new (W.contents writer)
+        (W.contents e.ended.writer) e.is_mute e.lines e.shown) }
 {
     let (group, opened) = begin(alloc)?;
     serve_in::<S, Brand, R, I, W, C>(
@@ -254,7 +258,8 @@ where
     ensures unserved { IfErr result (λ f. (f ≡ Fault.NoMemory _) × (engine.new ≡ engine.old)) }
     ensures found { engine.new.found ≡ engine.old.found }
     ensures follows { Follows S.Store engine.old engine.new }
-    ensures shown { IfOk result (λ e. Shows S.Store (C.tells clock) engine.old engine.new (W.contents writer) (W.contents e.ended.writer) e.is_mute e.lines e.shown) }
+    ensures shown { IfOk result (λ e. Shows S.Store (C.tells clock) engine.old engine.new (W.contents writer)
+        (W.contents e.ended.writer) e.is_mute e.lines e.shown) }
 {
     let (mut publisher, hub) = open_hub::<B>(alloc, opened)?;
     match start_all(rt, alloc, &hub, reader, writer, clock, &group) {

@@ -75,7 +75,8 @@ where
     R: Threads + Wait + Copy + Send + Drop + 'static,
     W: Write + Drop + Send + 'static,
     C: Clock + Copy + Send + Drop + 'static,
-    ensures owed { IfOk result (λ h. (h.promise.desk.value ≡ teller.desk) × (h.promise.feed.value ≡ teller.feed) × (h.promise.clock.value ≡ clock)) }
+    ensures owed { IfOk result (λ h. (h.promise.desk.value ≡ teller.desk) × (h.promise.feed.value ≡ teller.feed)
+        × (h.promise.clock.value ≡ clock)) }
     ensures refused { IfErr result (λ f. f ≡ Fault.NoMemory _) }
 {
     let its = *rt;

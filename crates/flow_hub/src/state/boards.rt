@@ -33,7 +33,8 @@ impl<B: Room> State<B> {
     ) -> (Pass<B>, Result<(), (Board, AllocError)>)
         requires seat { IsPublishers me }
         requires keys { HasKeys keys.old me.was.posted }
-        ensures posted { OnOk result.1 (self.new ≡ posted_on self.old board.tasks (record { due = board.due; open_runs = board.open_runs })) }
+        ensures posted { OnOk result.1 (self.new ≡ posted_on self.old board.tasks
+            (record { due = board.due; open_runs = board.open_runs })) }
         ensures refused { IfErr result.1 (λ e. (e.0 ≡ board) × (self.new ≡ self.old)) }
         ensures keys { HasKeys keys.new result.0.was.posted }
         ensures seat { result.0 ≡ seeing true false 0 self.new.known }
@@ -80,7 +81,8 @@ impl<B: Room> State<B> {
     /// The next task that waits, if one does and the hub isn't closed.
     pub(crate) fn give(&mut self, seats: &Seats<B>, me: Pass<B>) -> (Pass<B>, Option<Task>)
         requires seat { IsGivers me }
-        ensures given { MatchOption result.1 (self.new ≡ self.old) (λ t. (self.old.tasks ≡ t ∷ self.new.tasks) × (self.new ≡ gave self.old t self.new.tasks)) }
+        ensures given { MatchOption result.1 (self.new ≡ self.old)
+            (λ t. (self.old.tasks ≡ t ∷ self.new.tasks) × (self.new ≡ gave self.old t self.new.tasks)) }
         ensures seat { result.0 ≡ seeing false true 0 self.new.known }
         ensures seen { HasGiven me.was result.0.was result.1 }
         ensures none { IfNone result.1 ((result.0.was.closed ≡ true) ⊎ (result.0.was.given ≡ result.0.was.posted)) }
