@@ -176,6 +176,9 @@ module _ (s : BTreeSet Slot) (r : List Slot) (at : ℕ) (h : IsKeyRangeOf slot_c
   pub next_some : (k : Slot) (t : List Slot) → r ≡ k ∷ t → (m : ℕ) → m ≡ k.0 → IsNext at s (Some m)
   next_some k t is m same =
       let first = subst (λ xs. IfSome (slice_get xs 0) (IsKeyInRange slot_cmp (Included (at + 1, 0, 0)) Unbounded s)) is h.1 in
-      let from : at + 1 ≤ k.0 = not_before (at + 1, 0, 0) k first.0.0 in
-      ((omega (arith, from, same)), (k, first.1, sym same), λ q has less.
-          let below : k.0 ≤ q.0 = not_before k q (subst (λ xs. IfSome (slice_get xs 0) (λ (x : Slot). IsLeBy slot_cmp x q)) is (h.2 q (after at q less, tt) has)) in omega (arith, below, same))
+      let from : at + 1 ≤ k.0 = not_before (at + 1, 0, 0) k first.0.0 in (
+        (omega (arith, from, same)),
+        (k, first.1, sym same),
+        λ q has less.
+            let below : k.0 ≤ q.0 = not_before k q (subst (λ xs. IfSome (slice_get xs 0) (λ (x : Slot). IsLeBy slot_cmp x q)) is (h.2 q (after at q less, tt) has)) in omega (arith, below, same),
+      )
