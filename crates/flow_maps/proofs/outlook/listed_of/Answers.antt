@@ -1,4 +1,4 @@
-use Rattle.std.proofs.Common.{◌≡◌, ◌∙◌}
+use Rattle.std.proofs.Common.{◌∙◌}
 use Rattle.flow_maps.specs.OfRuns.{list_of}
 use Rattle.flow_maps.proofs.Listing.{listed_by, end_of}
 use Rattle.flow_maps.proofs.outlook.listed_of.Goals as goal
