@@ -24,8 +24,8 @@ use Rattle.flow_model.specs.Apply.{Rules, Outcome, program_at, with_named, named
 use Rattle.flow_model.proofs.Positions.{position_computed}
 use Rattle.flow_run.specs.Position.{config_of}
 use Rattle.flow_run.specs.Shown.{waits_of}
-use Rattle.flow_run.specs.declared.rest.OpenWait.{OpenWait}
-use Rattle.flow_run.specs.declared.rest.OpenWait.TheVariants as wait
+use Rattle.flow_run.specs.declared.waits.OpenWait.{OpenWait}
+use Rattle.flow_run.specs.declared.waits.OpenWait.TheVariants as wait
 use Rattle.flow_run.specs.declared.stance.Stance.{Stance}
 use Rattle.flow_view.specs.Heads.{head_of, head_if}
 use Rattle.flow_view.specs.Reading.{Caused}

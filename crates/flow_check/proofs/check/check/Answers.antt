@@ -13,5 +13,5 @@ returns-in-Some-clause-fault c =
 pub returns-in-None-clause-well_formed : goal.returns-in-None-clause-well_formed
 returns-in-None-clause-well_formed c = well_formed (shown_program c.args.program) (sym c.in_ok-fault.ensures ∙ c.in-None.is)
 
-pub of-requires : goal.of-requires
-of-requires c = well_formed (shown_program c.args.program) (sym c.in_ok-fault.ensures ∙ c.in-None.is)
+pub of-requires-clause-well_formed : goal.of-requires-clause-well_formed
+of-requires-clause-well_formed c = well_formed (shown_program c.args.program) (sym c.in_ok-fault.ensures ∙ c.in-None.is)
