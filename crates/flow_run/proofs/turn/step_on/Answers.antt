@@ -4,6 +4,9 @@ use Rattle.flow_run.specs.Shown.{shown_setting}
 use Rattle.flow_run.proofs.Turning.{step_asks, step_ends, step_goes, step_keeps, step_stays, whole_asks, whole_goes, whole_stays}
 use Rattle.flow_run.proofs.turn.step_on.Goals as goal
 
+pub step-requires-clause-sound : goal.step-requires-clause-sound
+step-requires-clause-sound c = c.requires.whole.sound
+
 pub returns-in-Stays-clause-step : goal.returns-in-Stays-clause-step
 returns-in-Stays-clause-step c =
     let p = c.args.p.now in
