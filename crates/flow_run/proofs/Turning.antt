@@ -18,6 +18,7 @@ use Rattle.flow_run.specs.Shown.{shown_store}
 use Rattle.flow_run.specs.Flat.{AreFull, AreFullCells, AreSound, StepsFirst, mark_of, marks_of}
 use Rattle.flow_run.specs.Position.{setting_with}
 use Rattle.flow_run.specs.declared.store.Store.{Store as CStore}
+use Rattle.flow_run.specs.declared.walk.Stepped.{Stepped}
 use Rattle.flow_run.specs.declared.walk.Stepped.TheVariants as stepped
 use Rattle.flow_run.specs.Waiting.{opens_in_all}
 use Rattle.flow_run.specs.Whole.{IsWholeAt, is_unbegun, rest_at}
@@ -85,7 +86,7 @@ begun_after (cmd.ContinueAsNew vs) = refl
 
 -- One step of a run within a turn is one step of the definition.
 pub next_closed : (f : Frame) (p : Progress) (b : Bool) → b ≡ is_open p.state → b ≡ false → None ≡ next f p
-next_closed f p b is no = by (is_open p.state) (sym is ∙ no)
+next_closed f p b is shut = by (is_open p.state) (sym is ∙ shut)
   where
     by : (o : Bool) → o ≡ false → ◌≡◌ {A = Option Progress} None (if o then (if is_done p.rest then Some (ended p (Complete (value.Text []))) else after_move p (move (setting f p) p.store p.rest)) else None)
     by false e = refl
@@ -189,3 +190,7 @@ ended_is ls cs t asked st old c none store more state = λ x. record { rest = re
 pub left_is : (f : Frame) (p : Progress) (n : ℕ) → n ≡ length p.asked
     → ◌≡◌ {A = Configuration} (record { rest = p.rest; variables = p.store.variables; buffer = p.store.buffer; decided = p.store.decided; events = f.events + n; moment = f.at; state = p.state }) (left_by f p)
 left_is f p n e = λ x. record { rest = p.rest; variables = p.store.variables; buffer = p.store.buffer; decided = p.store.decided; events = f.events + e x; moment = f.at; state = p.state }
+
+-- a step by an equal setting
+pub steps_same : (ls : List Listing) (s r : Setting) (t u : CStore) (cs ds : List Cell) (m : Stepped) → StepsFirst ls s t cs u ds m → s ≡ r → StepsFirst ls r t cs u ds m
+steps_same ls s r t u cs ds m h e = subst (λ (x : Setting). StepsFirst ls x t cs u ds m) e h

@@ -13,9 +13,9 @@ use Rattle.flow_run.specs.declared.standing.Standing.{Standing}
 use Rattle.flow_run.proofs.Turns.{begins_err, begins_ok}
 use Rattle.flow_run.proofs.stance.made.Goals as goal
 
-pub continued-requires-clause-events : goal.continued-requires-clause-events
+pub continued-requires : goal.continued-requires
 unfolding config_of
-continued-requires-clause-events c = subst (λ (o : Option Standing). (shown_begun o).events < 2 ^ 61) c.in-Some.is c.requires.events
+continued-requires c = record { events = subst (λ (o : Option Standing). (shown_begun o).events < 2 ^ 61) c.in-Some.is c.requires.events }
 
 pub returns-in-Some-clause-counted : goal.returns-in-Some-clause-counted
 unfolding config_of

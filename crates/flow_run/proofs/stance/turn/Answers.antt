@@ -61,11 +61,11 @@ returns-in-Ok-None-clause-not_awaited c =
     let none = rw c.in-Ok-None.field-0-is at c.in-Ok-None.ensures.turn in
     (λ h. (goes, none), λ h. refl)
 
-pub returns-in-Err-clause-closed : goal.returns-in-Err-clause-closed
-returns-in-Err-clause-closed c =
+pub returns-in-Err-NoMemory-clause-closed : goal.returns-in-Err-NoMemory-clause-closed
+returns-in-Err-NoMemory-clause-closed c =
     let p = shown_checked c.args.program.now in
     let goes : is_closed (config_of p c.args.stance.now).state ≡ false = ap is_closed (c.state.ensures p) ∙ sym c.is_closed.ensures ∙ c.if-is_closed.false in
     (λ h. cc (h), λ h. absurd (true≢false (sym h ∙ goes)))
 
-pub returns-in-Err-clause-not_awaited : goal.returns-in-Err-clause-not_awaited
-returns-in-Err-clause-not_awaited c = (λ h. cc (h), λ h. absurd (true≢false (sym c.in-Err.ensures.err ∙ ap is_some h.1)))
+pub returns-in-Err-NoMemory-clause-not_awaited : goal.returns-in-Err-NoMemory-clause-not_awaited
+returns-in-Err-NoMemory-clause-not_awaited c = (λ h. cc (h), λ h. absurd (true≢false (sym c.in-Err-NoMemory.ensures.err ∙ ap is_some h.1)))
