@@ -4,6 +4,7 @@
 
 pub mod agenda;
 pub mod calls;
+pub mod gathering;
 pub mod heads;
 pub mod index;
 mod left;

@@ -1,5 +1,5 @@
 //! All that the runs of a book wait for, listed.
-ghost use Rattle.std.specs.Prelude.{◌≡◌, ◌++◌, ℕ, IfSome, true};
+ghost use Rattle.std.specs.Prelude.{◌≡◌, ◌++◌, ℕ, IfSome, OnOk, true};
 ghost use Rattle.flow_model.specs.Book.{Book};
 ghost use Rattle.flow_maps.specs.Agenda.{tasks_at};
 ghost use Rattle.flow_maps.specs.OfRuns.{list_of};
@@ -9,7 +9,7 @@ use crate::of_runs::OfRuns;
 use flow_base::book::{Due, Task};
 use flow_base::number::RunId;
 use flow_base::sequence::Sequence;
-use std::alloc::Global;
+use std::alloc::{AllocError, Global};
 
 /// What a book waits for.
 #[derive(Drop)]
@@ -22,26 +22,28 @@ pub struct Outlook {
     pub open_runs: u64,
 }
 
-/// Lists what a run has behind the others. Whether it did: there may be no memory.
-fn add_tasks(list: &mut Vec<(RunId, Task)>, run: RunId, tasks: &[Task]) -> bool
-    ensures { result ≡ true → list.new.items ≡ list.old.items ++ waiting_in run tasks.now }
+/// Lists what a run has behind the others.
+pub(crate) fn add_tasks(
+    list: &mut Vec<(RunId, Task)>,
+    run: RunId,
+    tasks: &[Task],
+) -> Result<(), AllocError>
+    ensures { OnOk result (list.new.items ≡ list.old.items ++ waiting_in run tasks.now) }
 {
     for task in tasks {
-        if list.push((run, *task)).is_err() {
-            return false;
-        }
+        list.push((run, *task))?;
     }
-    true
+    Ok(())
 }
 
-/// The same of a run by its number.
+/// The same of a run by its number. Whether it did: there may be no memory.
 fn add_run(list: &mut Vec<(RunId, Task)>, number: u64, tasks: &Sequence<Task>) -> bool
     ensures { result ≡ true → list.new.items ≡ list.old.items ++ waiting_in number tasks.now }
 {
     let Some(run) = RunId::new(number) else {
         return false;
     };
-    add_tasks(list, run, tasks.as_slice())
+    add_tasks(list, run, tasks.as_slice()).is_ok()
 }
 
 /// The open activities of all runs; none where there is no memory.
