@@ -33,71 +33,30 @@ fn is_posted(posted: &BTreeSet<Posted>, key: &Posted) -> bool
     posted.contains(key)
 }
 
-/// Whether an attempt may be made by a moment and wasn't posted.
-fn is_ready(posted: &BTreeSet<Posted>, at: Moment, entry: &Waiting) -> bool
-    ensures { result ≡ rule.is_ready posted.now.keys at entry.now }
+/// Whether an attempt wasn't posted.
+fn is_new(posted: &BTreeSet<Posted>, entry: &Waiting) -> bool
+    ensures { result ≡ rule.is_new posted.now.keys entry.now }
 {
     let task = &entry.1;
-    if at.get() < task.ready.get() {
-        return false;
-    }
     let key = (entry.0.get(), task.event.get(), task.attempt);
     !is_posted(posted, &key)
 }
 
-/// The open activities whose attempt is to be posted.
+/// The activities that may be attempted, but for those that were posted.
 pub(crate) fn wanted(
     alloc: Global,
     posted: &BTreeSet<Posted>,
-    at: Moment,
-    waiting: &[Waiting],
+    ready: &[Waiting],
 ) -> Result<Vec<Waiting>, AllocError>
-    ensures { IfOk result (λ v. v.items ≡ filter (rule.is_ready posted.now.keys at) waiting.now) }
+    ensures { IfOk result (λ v. v.items ≡ filter (rule.is_new posted.now.keys) ready.now) }
 {
     let mut list = Vec::new(alloc);
-    for entry in waiting {
-        if is_ready(posted, at, entry) {
+    for entry in ready {
+        if is_new(posted, entry) {
             list.push(*entry)?;
         }
     }
     Ok(list)
-}
-
-fn sooner(best: Option<Moment>, next: Moment) -> Option<Moment>
-    ensures { result ≡ rule.sooner best next }
-{
-    match best {
-        Some(moment) => {
-            if next.get() < moment.get() {
-                Some(next)
-            } else {
-                Some(moment)
-            }
-        }
-        None => Some(next),
-    }
-}
-
-fn with_ready(at: Moment, best: Option<Moment>, entry: &Waiting) -> Option<Moment>
-    ensures { result ≡ rule.with_ready at best entry.now }
-{
-    let ready = entry.1.ready;
-    if at.get() < ready.get() {
-        sooner(best, ready)
-    } else {
-        best
-    }
-}
-
-/// The least of a moment and of those after `at` at which attempts are ready.
-pub(crate) fn soonest(at: Moment, first: Option<Moment>, waiting: &[Waiting]) -> Option<Moment>
-    ensures { result ≡ rule.soonest at first waiting.now }
-{
-    let mut best = first;
-    for entry in waiting {
-        best = with_ready(at, best, entry);
-    }
-    best
 }
 
 fn called_of(alloc: Global, command: &Cmd) -> Result<Option<(Key, Sequence<Value>)>, AllocError>

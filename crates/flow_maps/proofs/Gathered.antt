@@ -1,16 +1,20 @@
 -- What is gathered from one run more.
-use Rattle.std.proofs.Common.{◌≡◌, ◌+◌, ◌++◌, ◌∷◌, ℕ, Bool, true, false, List, [], Option, Some, None, length, refl, sym, ap, ◌∙◌, append_assoc, append-nil, arith}
-use Rattle.std.specs.Prelude.{filter, if◌then◌else◌}
-use Rattle.flow_base.specs.declared.book.Due.{Due}
+use Rattle.std.proofs.Common.{◌≡◌, ◌+◌, ◌++◌, ◌∷◌, ℕ, Bool, true, false, List, [], Option, Some, None, filter, length, option_map, refl, sym, ap, ◌∙◌, append_assoc, append-nil, inl, inr, arith}
+use Rattle.std.specs.Prelude.{nat_lt, if◌then◌else◌}
+use Rattle.std.proofs.lemmas.Bool.{cases_Bool, ltb-true, ltb-false}
 use Rattle.flow_base.specs.declared.book.Run.{Run}
 use Rattle.flow_model.specs.Book.{is_run_of, signal_in, found_in, signalled_from, least_of, least_from}
 use Rattle.flow_model.specs.Open.{timers_left}
 use Rattle.flow_maps.specs.Agenda.{is_open_run}
 use Rattle.flow_maps.specs.Gathering.{listed_with}
-use Rattle.flow_maps.specs.Outlooks.{Waiting, waiting_in, waiting_from}
+use Rattle.flow_maps.specs.Outlooks.{Waiting, is_by, moment_of, sooner, soonest, waiting_in, waiting_from, with_next, with_ready}
 use Rattle.flow_maps.specs.declared.gathering.Listing.{Listing}
 use Rattle.flow_maps.specs.Signals.{or_later}
 use Rattle.flow_maps.specs.declared.outlook.Outlook.{Outlook}
+use Rattle.flow_maps.proofs.Listing.{filter_on}
+use Rattle.flow_maps.proofs.Sooner.{again, passed}
+
+---- Runs that are open
 
 one_open : (n : ℕ) (opened : List ℕ) (fs : List Run) (r : Run) (t : Bool) → t ≡ true → length (opened ++ n ∷ []) + length fs ≡ length opened + length (if t then r ∷ fs else fs)
 one_open n [] fs r true is = omega arith
@@ -25,29 +29,61 @@ not_open k fs r false is = refl
 pub closed_more : (k : ℕ) (r : Run) (rs : List Run) → is_open_run r ≡ false → k + length (filter is_open_run rs) ≡ k + length (filter is_open_run (r ∷ rs))
 closed_more k r rs is = not_open k (filter is_open_run rs) r (is_open_run r) is
 
--- What runs wait for, with one more that is listed.
-pub listing_goes_on : (l l' : Listing) (n : ℕ) (r : Run) → l'.waiting.items ≡ l.waiting.items ++ waiting_in n r.tasks → l'.first ≡ least_of 1000000000000000 n l.first (timers_left r.history)
-    → ((rs : List Run) → length l'.opened.items + length (filter is_open_run rs) ≡ length l.opened.items + length (filter is_open_run (r ∷ rs))) → (rs : List Run) → listed_with l' (n + 1) rs ≡ listed_with l n (r ∷ rs)
-listing_goes_on l l' n r tasks first opened rs =
-    let all : List Waiting = l.waiting.items ++ (waiting_in n r.tasks ++ waiting_from (n + 1) rs) in
-    let least : Option Due = least_from 1000000000000000 n l.first (r ∷ rs) in
-    ap (λ ws. told ws (least_from 1000000000000000 (n + 1) l'.first rs) (length l'.opened.items + length (filter is_open_run rs)))
-    (ap (λ ws. ws ++ waiting_from (n + 1) rs) tasks ∙ append_assoc l.waiting.items (waiting_in n r.tasks) (waiting_from (n + 1) rs))
-    ∙ ap (λ d. told all (least_from 1000000000000000 (n + 1) d rs) (length l'.opened.items + length (filter is_open_run rs))) first
-    ∙ ap (λ k. told all least k) (opened rs)
+---- When more is to be done
+
+of_three : (best : Option ℕ) (m r : ℕ) → with_next best (sooner (Some m) r) ≡ sooner (sooner best m) r
+of_three best m r = elim (cases_Bool (nat_lt r m)) [
+  | inl is ↦ ap (λ v. with_next best (if v then Some r else Some m)) is ∙ sym (passed best m r (let less = ltb-true r m is in omega (arith, less)))
+  | inr isnt ↦ ap (λ v. with_next best (if v then Some r else Some m)) isnt ∙ sym (again best m r (ltb-false r m isnt))
+]
+
+of_both : (best o : Option ℕ) (r : ℕ) → with_next best (sooner o r) ≡ sooner (with_next best o) r
+of_both best None r = refl
+of_both best (Some m) r = of_three best m r
+
+ready_both : (at : ℕ) (best o : Option ℕ) (w : Waiting) → with_next best (with_ready at o w) ≡ with_ready at (with_next best o) w
+ready_both at best o w = by (nat_lt at w.1.ready)
   where
-    told : List Waiting → Option Due → ℕ → Outlook
-    told ws d k = record { waiting = ws; first = d; open_runs = k }
+    by : (v : Bool) → with_next best (if v then sooner o w.1.ready else o) ≡ (if v then sooner (with_next best o) w.1.ready else with_next best o)
+    by true = of_both best o w.1.ready
+    by false = refl
+
+soonest_both : (at : ℕ) (best o : Option ℕ) (ws : List Waiting) → with_next best (soonest at o ws) ≡ soonest at (with_next best o) ws
+soonest_both at best o [] = refl
+soonest_both at best o (w ∷ ws) = soonest_both at best (with_ready at o w) ws ∙ ap (λ b. soonest at b ws) (ready_both at best o w)
+
+soonest_on : (at : ℕ) (best : Option ℕ) (xs ys : List Waiting) → soonest at best (xs ++ ys) ≡ soonest at (soonest at best xs) ys
+soonest_on at best [] ys = refl
+soonest_on at best (x ∷ xs) ys = soonest_on at (with_ready at best x) xs ys
+
+---- What runs wait for, with one more that is listed
+
+told : List Waiting → Option ℕ → ℕ → Outlook
+told ws d k = record { ready = ws; due = d; open_runs = k }
+
+pub listing_goes_on : (l l' : Listing) (n : ℕ) (r : Run) → l'.at ≡ l.at → l'.ready.items ≡ l.ready.items ++ filter (is_by l.at) (waiting_in n r.tasks) → l'.next ≡ soonest l.at l.next (waiting_in n r.tasks)
+    → l'.first ≡ least_of 1000000000000000 n l.first (timers_left r.history)
+    → ((rs : List Run) → length l'.opened.items + length (filter is_open_run rs) ≡ length l.opened.items + length (filter is_open_run (r ∷ rs))) → (rs : List Run) → listed_with l' (n + 1) rs ≡ listed_with l n (r ∷ rs)
+listing_goes_on l l' n r same ready next first opened rs =
+    let own : List Waiting = waiting_in n r.tasks in
+    let rest : List Waiting = waiting_from (n + 1) rs in
+    let timer : Option ℕ = option_map moment_of (least_from 1000000000000000 n l.first (r ∷ rs)) in
+    let left : ℕ = length l'.opened.items + length (filter is_open_run rs) in
+    ap (λ a. told (l'.ready.items ++ filter (is_by a) rest) (soonest a (with_next (option_map moment_of (least_from 1000000000000000 (n + 1) l'.first rs)) l'.next) rest) left) same
+    ∙ ap (λ ws. told ws (soonest l.at (with_next (option_map moment_of (least_from 1000000000000000 (n + 1) l'.first rs)) l'.next) rest) left)
+        (ap (λ ws. ws ++ filter (is_by l.at) rest) ready ∙ append_assoc l.ready.items (filter (is_by l.at) own) (filter (is_by l.at) rest) ∙ ap (λ ws. l.ready.items ++ ws) (sym (filter_on (is_by l.at) own rest)))
+    ∙ ap (λ d. told (l.ready.items ++ filter (is_by l.at) (own ++ rest)) d left)
+        (ap (λ d. soonest l.at (with_next (option_map moment_of (least_from 1000000000000000 (n + 1) d rs)) l'.next) rest) first ∙ ap (λ o. soonest l.at (with_next timer o) rest) next
+        ∙ ap (λ b. soonest l.at b rest) (soonest_both l.at timer l.next own) ∙ sym (soonest_on l.at (with_next timer l.next) own rest))
+    ∙ ap (λ k. told (l.ready.items ++ filter (is_by l.at) (own ++ rest)) (soonest l.at (with_next timer l.next) (own ++ rest)) k) (opened rs)
 
 -- And with none more that is all.
-pub listing_ends : (l : Listing) (o : Outlook) (n : ℕ) → o.waiting ≡ l.waiting.items → o.first ≡ l.first → o.open_runs ≡ length l.opened.items → o ≡ listed_with l n []
-listing_ends l o n waiting first opened =
-    ap (λ ws. told ws o.first o.open_runs) (waiting ∙ sym (append-nil l.waiting.items))
-    ∙ ap (λ d. told (l.waiting.items ++ []) d o.open_runs) first
-    ∙ ap (λ k. told (l.waiting.items ++ []) l.first k) (let same : o.open_runs ≡ length l.opened.items + 0 = omega (arith, opened) in same)
-  where
-    told : List Waiting → Option Due → ℕ → Outlook
-    told ws d k = record { waiting = ws; first = d; open_runs = k }
+pub listing_ends : (l : Listing) (o : Outlook) (n : ℕ) → o.ready ≡ l.ready.items → o.due ≡ with_next (option_map moment_of l.first) l.next → o.open_runs ≡ length l.opened.items → o ≡ listed_with l n []
+listing_ends l o n ready due opened =
+    ap (λ ws. told ws o.due o.open_runs) (ready ∙ sym (append-nil l.ready.items)) ∙ ap (λ d. told (l.ready.items ++ []) d o.open_runs) due
+    ∙ ap (λ k. told (l.ready.items ++ []) (with_next (option_map moment_of l.first) l.next) k) (let same : o.open_runs ≡ length l.opened.items + 0 = omega (arith, opened) in same)
+
+---- Where a signal stands
 
 by_flow : (t : Bool) (n : ℕ) (own : Option ℕ) (later : Option (ℕ × ℕ)) → or_later (if t then found_in n own None else None) later ≡ (if t then found_in n own later else later)
 by_flow true n None later = refl

@@ -1,5 +1,5 @@
 -- What the runs of a book wait for: their open timers and activities, and how many runs are open.
-use Rattle.std.specs.Prelude.{◌≡◌, ℕ, ◌+◌, Bool, List, [], ◌∷◌, length, filter, cond, Option, Some, None, MatchOption, if◌then◌else◌}
+use Rattle.std.specs.Prelude.{◌≡◌, ℕ, ◌+◌, Bool, List, [], length, filter, cond, MatchOption, if◌then◌else◌}
 use Rattle.flow_base.specs.declared.event.Event.{Event}
 use Rattle.flow_base.specs.declared.book.Run.{Run}
 use Rattle.flow_base.specs.declared.book.Task.{Task}
@@ -11,8 +11,9 @@ use Rattle.flow_model.specs.Open.{timers_after, tasks_after, state_of}
 use Rattle.flow_model.specs.Turned.{turn_events}
 use Rattle.flow_maps.specs.declared.agenda.Agenda.{Agenda}
 use Rattle.flow_maps.specs.declared.agenda.Plans.{Plans}
-use Rattle.flow_maps.specs.OfRuns.{is_run, list_of}
-use Rattle.flow_maps.specs.Timers.{Times, of_run, timers_at}
+use Rattle.flow_maps.specs.Calendars.{IsCalendar, date_of_task, date_of_timer}
+use Rattle.flow_maps.specs.OfRuns.{is_run}
+use Rattle.flow_maps.specs.Timers.{of_run, timers_at}
 
 -- the events of a turn behind so many
 abbrev pub events_behind : ℕ → Turn → List Event
@@ -54,8 +55,8 @@ replaced run xs f n = cond (is_run run n) xs (f n)
 pub record ArePlans (p : Plans) (n o : ℕ) (f : ℕ → List Timer) (g : ℕ → List Task) : Type 0 where
   pub counted : p.count ≡ n
   pub opened : p.opened ≡ o
-  pub timers : Times p.timers f
-  pub tasks : (n : ℕ) → list_of p.tasks n ≡ g n
+  pub timers : IsCalendar date_of_timer p.timers f
+  pub tasks : IsCalendar date_of_task p.tasks g
 
 -- what the runs of a book wait for
 abbrev pub IsPlan : Plans → Book → Type 0

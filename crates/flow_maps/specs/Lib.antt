@@ -1,4 +1,5 @@
 pub mod Agenda
+pub mod Calendars
 pub mod Gathering
 pub mod Keys
 pub mod KnownCalls

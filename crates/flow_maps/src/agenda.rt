@@ -10,14 +10,14 @@ ghost use Rattle.flow_model.specs.Book as words;
 ghost use Rattle.flow_model.specs.Book.{Book, nth, changed, at_attempt};
 ghost use Rattle.flow_maps.specs.Agenda as rule;
 ghost use Rattle.flow_maps.specs.Agenda.{ArePlans, IsPlan, Knows, IsOf, replaced, one_if, is_open_run, open_runs};
-ghost use Rattle.flow_maps.specs.OfRuns.{list_of};
 ghost use Rattle.flow_maps.specs.Outlooks.{outlook_of};
-ghost use Rattle.flow_maps.specs.Timers.{Times, timers_at, timers_of};
+ghost use Rattle.flow_maps.specs.Calendars.{IsCalendar, date_of_task, date_of_timer};
+ghost use Rattle.flow_maps.specs.Timers.{timers_at, timers_of};
 
+use crate::calendar::Calendar;
 use crate::left::{tasks_behind, timers_behind, with_attempt};
-use crate::of_runs::OfRuns;
-use crate::outlook::{Outlook, listed};
-use crate::timers::Timers;
+use crate::outlook::{Outlook, outlook_over};
+use crate::timers::first_due;
 use crate::turned::is_open_behind;
 use flow_base::book::{Due, Task, Timer, Turn};
 use flow_base::number::{EventId, LAST_NUMBER, Moment, RunId};
@@ -30,8 +30,8 @@ pub struct Plans {
     count: u64,
     /// How many of them are open.
     opened: u64,
-    timers: Timers,
-    tasks: OfRuns<Task>,
+    timers: Calendar<Timer>,
+    tasks: Calendar<Task>,
 }
 
 /// What is known of it: all, or nothing.
@@ -59,13 +59,13 @@ fn timers_now(
 
 fn put_timers(
     alloc: Global,
-    timers: &mut Timers,
+    timers: &mut Calendar<Timer>,
     run: RunId,
     is_open: bool,
     count: u64,
     turn: &Turn,
 ) -> bool
-    ensures { result ≡ true → (f : ℕ → List ATimer) → Times timers.old f → Times timers.new (replaced run (rule.timers_now is_open count turn.now (f run)) f) }
+    ensures { result ≡ true → (f : ℕ → List ATimer) → IsCalendar date_of_timer timers.old f → IsCalendar date_of_timer timers.new (replaced run (rule.timers_now is_open count turn.now (f run)) f) }
 {
     let before = timers.take(run);
     match timers_now(alloc, is_open, before, count, turn) {
@@ -74,8 +74,8 @@ fn put_timers(
     }
 }
 
-fn put_tasks(alloc: Global, tasks: &mut OfRuns<Task>, run: RunId, count: u64, turn: &Turn) -> bool
-    ensures { result ≡ true → (n : ℕ) → list_of tasks.new n ≡ replaced run (rule.tasks_behind count turn.now (list_of tasks.old run)) (list_of tasks.old) n }
+fn put_tasks(alloc: Global, tasks: &mut Calendar<Task>, run: RunId, count: u64, turn: &Turn) -> bool
+    ensures { result ≡ true → (g : ℕ → List ATask) → IsCalendar date_of_task tasks.old g → IsCalendar date_of_task tasks.new (replaced run (rule.tasks_behind count turn.now (g run)) g) }
 {
     let before = tasks.take(run);
     match tasks_behind(alloc, before, count, turn) {
@@ -117,8 +117,8 @@ impl Plans {
         Plans {
             count: 0,
             opened: 0,
-            timers: Timers::new(alloc),
-            tasks: OfRuns::new(alloc),
+            timers: Calendar::new(alloc),
+            tasks: Calendar::new(alloc),
         }
     }
 
@@ -218,6 +218,7 @@ impl Plans {
         if !self.timers.put(run, timers) {
             return false;
         }
+        self.tasks.take(run);
         self.tasks.put(run, tasks)
     }
 
@@ -250,21 +251,14 @@ impl Plans {
         }
     }
 
-    /// All of it, listed; none where there is no memory.
-    fn outlook(&self, alloc: Global) -> Option<Outlook>
-        ensures { IfSome result (λ v. (b : Book) → IsPlan self.now b → v ≡ outlook_of b) }
+    /// What there is to do at a moment; none where there is no memory.
+    fn outlook(&self, alloc: Global, at: Moment) -> Option<Outlook>
+        ensures { IfSome result (λ v. (b : Book) → IsPlan self.now b → v ≡ outlook_of at b) }
     {
-        let Some(first) = self.timers.first_due(Moment::last()) else {
+        let Some(first) = first_due(&self.timers, Moment::last()) else {
             return None;
         };
-        let Some(waiting) = listed(alloc, &self.tasks) else {
-            return None;
-        };
-        Some(Outlook {
-            waiting,
-            first,
-            open_runs: self.opened,
-        })
+        outlook_over(alloc, first, &self.tasks, self.opened, at)
     }
 }
 
@@ -412,17 +406,17 @@ impl Agenda {
         ensures { IfSome result (λ o. (b : Book) → IsOf self.now b → o ≡ words.least_due b at) }
     {
         match &self.plans {
-            Some(plans) => plans.timers.first_due(at),
+            Some(plans) => first_due(&plans.timers, at),
             None => None,
         }
     }
 
-    /// All that the book waits for, if that is known and there is memory for the list.
-    pub fn outlook(&self) -> Option<Outlook>
-        ensures { IfSome result (λ v. (b : Book) → IsOf self.now b → v ≡ outlook_of b) }
+    /// What the book waits for at a moment, if that is known and there is memory for the list.
+    pub fn outlook(&self, at: Moment) -> Option<Outlook>
+        ensures { IfSome result (λ v. (b : Book) → IsOf self.now b → v ≡ outlook_of at b) }
     {
         match &self.plans {
-            Some(plans) => plans.outlook(self.alloc),
+            Some(plans) => plans.outlook(self.alloc, at),
             None => None,
         }
     }

@@ -7,7 +7,7 @@ ghost use Rattle.flow_maps.specs.Agenda.{is_open_run};
 ghost use Rattle.flow_maps.specs.Gathering.{listed_with, outlook_from, found_with};
 ghost use Rattle.flow_maps.specs.Signals as rule;
 
-use crate::outlook::{Outlook, add_tasks};
+use crate::outlook::{Outlook, add_tasks, moment_of, soonest, with_next};
 use flow_base::book::{Due, Run, Task};
 use flow_base::number::{EventId, Moment, RunId};
 use flow_base::sequence::Sequence;
@@ -32,11 +32,16 @@ pub trait Gathers {
         ensures { (n : ℕ) → result ≡ comes_to self n [] };
 }
 
-/// What runs wait for, as far as they are listed.
+/// What runs wait for at a moment, as far as they are listed.
 #[derive(Drop)]
 pub struct Listing {
     alloc: Global,
-    waiting: Vec<(RunId, Task)>,
+    at: Moment,
+    /// The open activities that may be attempted by then.
+    ready: Vec<(RunId, Task)>,
+    /// The first moment behind it at which another may be attempted.
+    next: Option<Moment>,
+    /// The open timer that is due first.
     first: Option<Due>,
     /// Those that are open.
     opened: Vec<RunId>,
@@ -56,12 +61,14 @@ fn list_open(list: &mut Vec<RunId>, number: RunId, run: &Run) -> Result<(), Allo
 
 impl Listing {
     /// No run yet.
-    pub fn new(alloc: Global) -> Listing
-        ensures { (n : ℕ) → (rs : List ARun) → listed_with result n rs ≡ outlook_from n rs }
+    pub fn new(alloc: Global, at: Moment) -> Listing
+        ensures { (n : ℕ) → (rs : List ARun) → listed_with result n rs ≡ outlook_from at n rs }
     {
         Listing {
             alloc,
-            waiting: Vec::new(alloc),
+            at,
+            ready: Vec::new(alloc),
+            next: None,
             first: None,
             opened: Vec::new(alloc),
         }
@@ -76,8 +83,9 @@ impl Gathers for Listing {
     #[tactic(auto, using(crate::proofs::Gathered::listing_goes_on))]
     fn add(&mut self, number: RunId, run: &Run) -> Result<(), AllocError> {
         let timers = timers_left(self.alloc, run.history.as_slice())?;
-        add_tasks(&mut self.waiting, number, run.tasks.as_slice())?;
+        add_tasks(&mut self.ready, self.at, number, run.tasks.as_slice())?;
         list_open(&mut self.opened, number, run)?;
+        self.next = soonest(self.at, self.next, number, run.tasks.as_slice());
         self.first = least_of(Moment::last(), number, self.first, timers.as_slice());
         Ok(())
     }
@@ -86,13 +94,15 @@ impl Gathers for Listing {
     fn end(self) -> Outlook {
         let Listing {
             alloc: _,
-            waiting,
+            at: _,
+            ready,
+            next,
             first,
             opened,
         } = self;
         Outlook {
-            waiting: Sequence::from_vec(waiting),
-            first,
+            ready: Sequence::from_vec(ready),
+            due: with_next(moment_of(first), next),
             open_runs: opened.len() as u64,
         }
     }

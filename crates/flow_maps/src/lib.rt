@@ -3,6 +3,7 @@
 #![tactic(auto)]
 
 pub mod agenda;
+pub mod calendar;
 pub mod calls;
 pub mod gathering;
 pub mod heads;

@@ -370,22 +370,35 @@ impl Maps {
         }
     }
 
-    /// One more run, open or not, with its history and its open timers and activities.
+    /// One more run, whose head and activities are known from now on, if it is open.
+    fn add_record(&mut self, whole: &Run, is_open: bool)
+        ensures records { (b : Book) → IsOf self.old.agenda b → HasRecords self.old b → HasRecords self.new (record b { runs = b.runs ++ whole.now ∷ [] }) }
+        ensures same { (self.new.requests ≡ self.old.requests) × (self.new.flows ≡ self.old.flows) × (self.new.agenda ≡ self.old.agenda) × (self.new.seen ≡ self.old.seen) × (self.new.read ≡ self.old.read) × (self.new.signals ≡ self.old.signals) }
+    {
+        if !is_open {
+            return;
+        }
+        match self.agenda.next_run() {
+            Some(run) => self.records.add_run(run, whole),
+            None => {}
+        }
+    }
+
+    /// One more run, open or not, which was read whole, with its open timers and activities.
     pub fn add_whole(
         &mut self,
-        flow: &Key,
-        request: &Option<Key>,
-        history: &[Event],
+        whole: &Run,
         is_open: bool,
         timers: Sequence<Timer>,
         tasks: Sequence<Task>,
     )
-        ensures serves { (b : Book) → (r : ARun) → r.flow ≡ flow.now → r.request ≡ request.now → r.history ≡ history.now → is_open ≡ plans.is_open_run r → timers ≡ timers_of r → tasks ≡ r.tasks → Serves self.old b → Serves self.new (record b { runs = b.runs ++ r ∷ [] }) }
+        ensures serves { (b : Book) → is_open ≡ plans.is_open_run whole.now → timers ≡ timers_of whole.now → tasks ≡ whole.now.tasks → Serves self.old b → Serves self.new (record b { runs = b.runs ++ whole.now ∷ [] }) }
         ensures sees { (b : Book) → Sees self.old b → Sees self.new b }
     {
-        self.add_signals(flow, history);
+        self.add_signals(&whole.flow, whole.history.as_slice());
+        self.add_record(whole, is_open);
         self.agenda.add_whole(is_open, timers, tasks);
-        self.add(flow, request, is_open);
+        self.add(&whole.flow, &whole.request, is_open);
     }
 
     /// One more run, with its first turn.
@@ -480,11 +493,11 @@ impl Maps {
         self.agenda.least_due(at)
     }
 
-    /// All that the book waits for, if that is known and there is memory for the list.
-    pub fn outlook(&self) -> Option<Outlook>
-        ensures { IfSome result (λ v. (b : Book) → Serves self.now b → v ≡ outlook_of b) }
+    /// What the book waits for at a moment, if that is known and there is memory for the list.
+    pub fn outlook(&self, at: Moment) -> Option<Outlook>
+        ensures { IfSome result (λ v. (b : Book) → Serves self.now b → v ≡ outlook_of at b) }
     {
-        self.agenda.outlook()
+        self.agenda.outlook(at)
     }
 
     /// Where the signal of a request is recorded in the runs of a flow, if that is known.

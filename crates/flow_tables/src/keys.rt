@@ -58,14 +58,7 @@ pub(crate) fn add_whole(alloc: Global, maps: &mut Maps, run: &Run)
         maps.forget();
         return;
     };
-    maps.add_whole(
-        &run.flow,
-        &run.request,
-        events,
-        is_open,
-        Sequence::from_vec(timers),
-        tasks,
-    );
+    maps.add_whole(run, is_open, Sequence::from_vec(timers), tasks);
 }
 
 /// What is known of these runs, which were read whole.
