@@ -6,7 +6,7 @@ use Rattle.flow_base.specs.declared.book.Run.{Run}
 use Rattle.flow_model.specs.Book.{is_run_of, signal_in, found_in, signalled_from, least_of, least_from}
 use Rattle.flow_model.specs.Open.{timers_left}
 use Rattle.flow_maps.specs.Agenda.{is_open_run}
-use Rattle.flow_maps.specs.Gathering.{listed_with}
+use Rattle.flow_maps.specs.Gathering.{listed_with, outlook_from}
 use Rattle.flow_maps.specs.Outlooks.{Waiting, is_by, moment_of, sooner, soonest, waiting_in, waiting_from, with_next, with_ready}
 use Rattle.flow_maps.specs.declared.gathering.Listing.{Listing}
 use Rattle.flow_maps.specs.Signals.{or_later}
@@ -58,8 +58,16 @@ soonest_on at best (x ∷ xs) ys = soonest_on at (with_ready at best x) xs ys
 
 ---- What runs wait for, with one more that is listed
 
-told : List Waiting → Option ℕ → ℕ → Outlook
+abbrev told : List Waiting → Option ℕ → ℕ → Outlook
 told ws d k = record { ready = ws; due = d; open_runs = k }
+
+pub listing_begins : (at : ℕ) (ready : List Waiting) (opened : List ℕ) → ready ≡ [] → opened ≡ [] → (n : ℕ) (rs : List Run)
+    → told (ready ++ filter (is_by at) (waiting_from n rs)) (soonest at (option_map moment_of (least_from 1000000000000000 n None rs)) (waiting_from n rs)) (length opened + length (filter is_open_run rs)) ≡ outlook_from at n rs
+listing_begins at ready opened none nobody n rs =
+    let rest : List Waiting = filter (is_by at) (waiting_from n rs) in
+    let due : Option ℕ = soonest at (option_map moment_of (least_from 1000000000000000 n None rs)) (waiting_from n rs) in
+    let count : ℕ = length (filter is_open_run rs) in
+    ap (λ ws. told (ws ++ rest) due (length opened + count)) none ∙ ap (λ ns. told rest due (length ns + count)) nobody ∙ ap (λ k. told rest due k) (let same : 0 + count ≡ count = omega arith in same)
 
 pub listing_goes_on : (l l' : Listing) (n : ℕ) (r : Run) → l'.at ≡ l.at → l'.ready.items ≡ l.ready.items ++ filter (is_by l.at) (waiting_in n r.tasks) → l'.next ≡ soonest l.at l.next (waiting_in n r.tasks)
     → l'.first ≡ least_of 1000000000000000 n l.first (timers_left r.history)

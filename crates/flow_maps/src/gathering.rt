@@ -48,7 +48,6 @@ pub struct Listing {
 }
 
 /// Lists a run if it is open.
-#[tactic(auto, using(crate::proofs::Gathered::open_more, crate::proofs::Gathered::closed_more))]
 fn list_open(list: &mut Vec<RunId>, number: RunId, run: &Run) -> Result<(), AllocError>
     ensures { OnOk result ((rs : List ARun) → length list.new.items + length (filter is_open_run rs) ≡ length list.old.items + length (filter is_open_run (run.now ∷ rs))) }
 {
@@ -80,17 +79,17 @@ impl Gathers for Listing {
 
     ghost comes_to = { λ l n rs. listed_with l n rs };
 
-    #[tactic(auto, using(crate::proofs::Gathered::listing_goes_on))]
     fn add(&mut self, number: RunId, run: &Run) -> Result<(), AllocError> {
         let timers = timers_left(self.alloc, run.history.as_slice())?;
+        let first = least_of(Moment::last(), number, self.first, timers.as_slice());
+        let next = soonest(self.at, self.next, number, run.tasks.as_slice());
         add_tasks(&mut self.ready, self.at, number, run.tasks.as_slice())?;
         list_open(&mut self.opened, number, run)?;
-        self.next = soonest(self.at, self.next, number, run.tasks.as_slice());
-        self.first = least_of(Moment::last(), number, self.first, timers.as_slice());
+        self.next = next;
+        self.first = first;
         Ok(())
     }
 
-    #[tactic(auto, using(crate::proofs::Gathered::listing_ends))]
     fn end(self) -> Outlook {
         let Listing {
             alloc: _,
@@ -160,10 +159,10 @@ impl Gathers for SignalAsked<'_> {
 
     ghost comes_to = { λ s n rs. found_with s n rs };
 
-    #[tactic(auto, using(crate::proofs::Gathered::found_more))]
     fn add(&mut self, number: RunId, run: &Run) -> Result<(), AllocError> {
         let later = signal_of_run(number, run, self.flow, self.request);
-        self.found = or_later(self.found, later);
+        let found = or_later(self.found, later);
+        self.found = found;
         Ok(())
     }
 

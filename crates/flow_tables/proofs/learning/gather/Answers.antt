@@ -1,4 +1,4 @@
-use Rattle.std.proofs.Common.{rules, refl, ◌≡◌, ◌+◌, ◌∷◌, ◌∙◌, List, None, Some, arith}
+use Rattle.std.proofs.Common.{rules, refl, ap, length, ◌≡◌, ◌+◌, ◌∷◌, ◌∙◌, List, None, Some, arith}
 use Rattle.flow_base.specs.declared.book.Run.{Run}
 use Rattle.flow_model.specs.Book.{nth}
 use Rattle.flow_tables.proofs.RunsRead.{gathers_all, gathers_more}
@@ -44,8 +44,9 @@ returns-in-Ok-None-clause-reads g c = λ sure.
 
 pub returns-clause-reads : goal.returns-clause-reads
 returns-clause-reads g c =
+    let same : length c.as_slice.result.now ≡ length c.loop-count.numbers.items = ap (λ xs. length xs) c.as_slice.ensures.value in
     let is = c.few.ensures.length in
     let few = c.few.ensures.few in
     let numbered = c.loop-count.invariant.numbered in
     let last = c.loop-count-test.false in
-    absurd (omega (arith, is, few, numbered, last))
+    absurd (omega (arith, same, is, few, numbered, last))
