@@ -1,5 +1,5 @@
 -- What is gathered from one run more.
-use Rattle.std.proofs.Common.{◌≡◌, ◌+◌, ◌++◌, ◌∷◌, ℕ, Bool, true, false, List, [], Option, Some, None, filter, length, option_map, refl, sym, ap, ◌∙◌, append_assoc, append-nil, inl, inr, arith}
+use Rattle.std.proofs.Common.{◌≡◌, ◌+◌, ◌++◌, ◌∷◌, ℕ, suc, Bool, true, false, List, [], Option, Some, None, filter, length, option_map, refl, sym, ap, ◌∙◌, append_assoc, append-nil, length-append, inl, inr, arith}
 use Rattle.std.specs.Prelude.{nat_lt, if◌then◌else◌}
 use Rattle.std.proofs.lemmas.Bool.{cases_Bool, ltb-true, ltb-false}
 use Rattle.flow_base.specs.declared.book.Run.{Run}
@@ -16,18 +16,15 @@ use Rattle.flow_maps.proofs.Sooner.{again, passed}
 
 ---- Runs that are open
 
-one_open : (n : ℕ) (opened : List ℕ) (fs : List Run) (r : Run) (t : Bool) → t ≡ true → length (opened ++ n ∷ []) + length fs ≡ length opened + length (if t then r ∷ fs else fs)
-one_open n [] fs r true is = omega arith
-one_open n (o ∷ opened) fs r true is = ap (λ (k : ℕ). k + 1) (one_open n opened fs r true is)
-
 pub open_more : (n : ℕ) (opened : List ℕ) (r : Run) (rs : List Run) → is_open_run r ≡ true → length (opened ++ n ∷ []) + length (filter is_open_run rs) ≡ length opened + length (filter is_open_run (r ∷ rs))
-open_more n opened r rs is = one_open n opened (filter is_open_run rs) r (is_open_run r) is
-
-not_open : (k : ℕ) (fs : List Run) (r : Run) (t : Bool) → t ≡ false → k + length fs ≡ k + length (if t then r ∷ fs else fs)
-not_open k fs r false is = refl
+open_more n opened r rs is =
+    let others : List Run = filter is_open_run rs in
+    let longer : length (opened ++ n ∷ []) ≡ length opened + 1 = length-append opened (n ∷ []) in
+    let more : length (opened ++ n ∷ []) + length others ≡ length opened + suc (length others) = omega (arith, longer) in
+    more ∙ ap (λ v. length opened + length (if v then r ∷ others else others)) (sym is)
 
 pub closed_more : (k : ℕ) (r : Run) (rs : List Run) → is_open_run r ≡ false → k + length (filter is_open_run rs) ≡ k + length (filter is_open_run (r ∷ rs))
-closed_more k r rs is = not_open k (filter is_open_run rs) r (is_open_run r) is
+closed_more k r rs is = let others : List Run = filter is_open_run rs in ap (λ v. k + length (if v then r ∷ others else others)) (sym is)
 
 ---- When more is to be done
 
