@@ -2,7 +2,7 @@
 ghost use Rattle.std.specs.Prelude.{◌≡◌, ◌≤◌, Some, option_map, IfOk};
 ghost use Rattle.serde_json.specs.Find.{as_object};
 ghost use Rattle.serde_json.specs.View.{view};
-ghost use Rattle.flow_base.specs.Codec.{front, field, none_left};
+ghost use Rattle.flow_base.specs.Codec.{behind, front, field, none_left};
 ghost use Rattle.flow_base.specs.Leaves.{whole, value, values, any_values, moment, position, key as a_key, long_text, any_text, kind, cause, fixed};
 ghost use Rattle.flow_base.specs.Gives.{Gives};
 ghost use Rattle.flow_base.specs.Fields.{left};
@@ -64,7 +64,7 @@ impl From<ValueFault> for Refused {
 }
 
 /// The members of an object that aren't read yet. Each reader takes the member of the least key, which must be the one
-/// that it is asked for.
+/// that it is asked for; where it gives nothing that member is gone too, and no other.
 #[derive(Drop)]
 pub struct Fields {
     map: Map<String, Json>,
@@ -83,7 +83,8 @@ impl Fields {
 
     /// The value at the key, if that is the least key that is left.
     fn next(&mut self, key: &str) -> Option<Json>
-        ensures { option_map (λ v. (view v, left self.new)) result ≡ front key.now (left self.old) }
+        ensures front { option_map (λ v. (view v, left self.new)) result ≡ front key.now (left self.old) }
+        ensures rest { left self.new ≡ behind (left self.old) }
     {
         let (name, value) = self.map.pop_first()?;
         if name.as_str() == key {
@@ -96,6 +97,7 @@ impl Fields {
     /// A whole number from `low` to `high`.
     pub fn whole(&mut self, key: &str, low: u64, high: u64) -> Result<u64, Refused>
         ensures gives { Gives (λ n. (n, left self.new)) result (field key.now (whole low high) (left self.old)) }
+        ensures rest { left self.new ≡ behind (left self.old) }
         ensures within { IfOk result (λ n. (low ≤ n) × (n ≤ high)) }
     {
         let json = self.next(key).ok_or(Refused::Unfit)?;
@@ -107,7 +109,8 @@ impl Fields {
 
     /// The number of a run.
     pub fn run(&mut self, key: &str) -> Result<RunId, Refused>
-        ensures { Gives (λ n. (n, left self.new)) result (field key.now position (left self.old)) }
+        ensures gives { Gives (λ n. (n, left self.new)) result (field key.now position (left self.old)) }
+        ensures rest { left self.new ≡ behind (left self.old) }
     {
         let number = self.whole(key, 1, LAST_NUMBER)?;
         RunId::new(number).ok_or(Refused::Unfit)
@@ -115,7 +118,8 @@ impl Fields {
 
     /// The number of an event.
     pub fn event(&mut self, key: &str) -> Result<EventId, Refused>
-        ensures { Gives (λ n. (n, left self.new)) result (field key.now position (left self.old)) }
+        ensures gives { Gives (λ n. (n, left self.new)) result (field key.now position (left self.old)) }
+        ensures rest { left self.new ≡ behind (left self.old) }
     {
         let number = self.whole(key, 1, LAST_NUMBER)?;
         EventId::new(number).ok_or(Refused::Unfit)
@@ -123,7 +127,8 @@ impl Fields {
 
     /// The number of a text.
     pub fn text_number(&mut self, key: &str) -> Result<TextNo, Refused>
-        ensures { Gives (λ n. (n, left self.new)) result (field key.now position (left self.old)) }
+        ensures gives { Gives (λ n. (n, left self.new)) result (field key.now position (left self.old)) }
+        ensures rest { left self.new ≡ behind (left self.old) }
     {
         let number = self.whole(key, 1, LAST_NUMBER)?;
         TextNo::new(number).ok_or(Refused::Unfit)
@@ -131,7 +136,8 @@ impl Fields {
 
     /// A moment.
     pub fn moment(&mut self, key: &str) -> Result<Moment, Refused>
-        ensures { Gives (λ n. (n, left self.new)) result (field key.now moment (left self.old)) }
+        ensures gives { Gives (λ n. (n, left self.new)) result (field key.now moment (left self.old)) }
+        ensures rest { left self.new ≡ behind (left self.old) }
     {
         let milliseconds = self.whole(key, 0, LAST_MOMENT)?;
         Moment::new(milliseconds).ok_or(Refused::Unfit)
@@ -139,7 +145,8 @@ impl Fields {
 
     /// A name of 1 to 64 bytes.
     pub fn key(&mut self, alloc: Global, key: &str) -> Result<Key, Refused>
-        ensures { Gives (λ n. (n, left self.new)) result (field key.now a_key (left self.old)) }
+        ensures gives { Gives (λ n. (n, left self.new)) result (field key.now a_key (left self.old)) }
+        ensures rest { left self.new ≡ behind (left self.old) }
     {
         let json = self.next(key).ok_or(Refused::Unfit)?;
         let text = json.as_str().ok_or(Refused::Unfit)?;
@@ -148,7 +155,8 @@ impl Fields {
 
     /// A text of at most 4,096 bytes.
     pub fn text(&mut self, alloc: Global, key: &str) -> Result<Text, Refused>
-        ensures { Gives (λ n. (n, left self.new)) result (field key.now long_text (left self.old)) }
+        ensures gives { Gives (λ n. (n, left self.new)) result (field key.now long_text (left self.old)) }
+        ensures rest { left self.new ≡ behind (left self.old) }
     {
         let json = self.next(key).ok_or(Refused::Unfit)?;
         let text = json.as_str().ok_or(Refused::Unfit)?;
@@ -157,7 +165,8 @@ impl Fields {
 
     /// Any string.
     pub fn any_text(&mut self, alloc: Global, key: &str) -> Result<RawText, Refused>
-        ensures { Gives (λ n. (n, left self.new)) result (field key.now any_text (left self.old)) }
+        ensures gives { Gives (λ n. (n, left self.new)) result (field key.now any_text (left self.old)) }
+        ensures rest { left self.new ≡ behind (left self.old) }
     {
         let json = self.next(key).ok_or(Refused::Unfit)?;
         let text = json.as_str().ok_or(Refused::Unfit)?;
@@ -166,7 +175,8 @@ impl Fields {
 
     /// A value.
     pub fn value(&mut self, alloc: Global, key: &str) -> Result<Value, Refused>
-        ensures { Gives (λ n. (n, left self.new)) result (field key.now value (left self.old)) }
+        ensures gives { Gives (λ n. (n, left self.new)) result (field key.now value (left self.old)) }
+        ensures rest { left self.new ≡ behind (left self.old) }
     {
         let json = self.next(key).ok_or(Refused::Unfit)?;
         Ok(Value::of_json(alloc, &json)?)
@@ -174,7 +184,8 @@ impl Fields {
 
     /// A list of at most 256 values.
     pub fn values(&mut self, alloc: Global, key: &str) -> Result<Sequence<Value>, Refused>
-        ensures { Gives (λ n. (n, left self.new)) result (field key.now values (left self.old)) }
+        ensures gives { Gives (λ n. (n, left self.new)) result (field key.now values (left self.old)) }
+        ensures rest { left self.new ≡ behind (left self.old) }
     {
         let json = self.next(key).ok_or(Refused::Unfit)?;
         values_of_json(alloc, &json)
@@ -182,7 +193,8 @@ impl Fields {
 
     /// A list of values, however many.
     pub fn any_values(&mut self, alloc: Global, key: &str) -> Result<Sequence<Value>, Refused>
-        ensures { Gives (λ n. (n, left self.new)) result (field key.now any_values (left self.old)) }
+        ensures gives { Gives (λ n. (n, left self.new)) result (field key.now any_values (left self.old)) }
+        ensures rest { left self.new ≡ behind (left self.old) }
     {
         let json = self.next(key).ok_or(Refused::Unfit)?;
         any_values_of_json(alloc, &json)
@@ -190,7 +202,8 @@ impl Fields {
 
     /// The name of a type.
     pub fn kind(&mut self, key: &str) -> Result<Kind, Refused>
-        ensures { Gives (λ n. (n, left self.new)) result (field key.now kind (left self.old)) }
+        ensures gives { Gives (λ n. (n, left self.new)) result (field key.now kind (left self.old)) }
+        ensures rest { left self.new ≡ behind (left self.old) }
     {
         let json = self.next(key).ok_or(Refused::Unfit)?;
         let text = json.as_str().ok_or(Refused::Unfit)?;
@@ -199,7 +212,8 @@ impl Fields {
 
     /// The name of a cause.
     pub fn cause(&mut self, key: &str) -> Result<Cause, Refused>
-        ensures { Gives (λ n. (n, left self.new)) result (field key.now cause (left self.old)) }
+        ensures gives { Gives (λ n. (n, left self.new)) result (field key.now cause (left self.old)) }
+        ensures rest { left self.new ≡ behind (left self.old) }
     {
         let json = self.next(key).ok_or(Refused::Unfit)?;
         let text = json.as_str().ok_or(Refused::Unfit)?;
@@ -208,7 +222,8 @@ impl Fields {
 
     /// This very word.
     pub fn fixed(&mut self, key: &str, word: &str) -> Result<(), Refused>
-        ensures { Gives (λ n. (n, left self.new)) result (field key.now (fixed word.now) (left self.old)) }
+        ensures gives { Gives (λ n. (n, left self.new)) result (field key.now (fixed word.now) (left self.old)) }
+        ensures rest { left self.new ≡ behind (left self.old) }
     {
         let json = self.next(key).ok_or(Refused::Unfit)?;
         match json.as_str() {

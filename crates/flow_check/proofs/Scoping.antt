@@ -97,6 +97,10 @@ pub types_in-append : (t : rule.Types) (vs : List Variable) (v : Variable) → t
 types_in-append t [] v = refl
 types_in-append t (w ∷ vs) v = types_in-append (with_type t w.name.now w.kind) vs v
 
+-- what a table knows that has these variables
+abbrev pub known_with : Scope → List Variable → rule.Scope
+known_with s vs = record { types = types_in no_types vs; activities = activities_of s; signals = signals_of s; parameters = parameters_of s; in_parallel = false }
+
 -- what the last one of some says of a name
 pub last_type : (vs : List Variable) (i : ℕ) (v : Variable) (x : Bytes) → i < length vs → v ≡ get_or vs i v
     → types_in no_types (take (i + 1) vs) x ≡ cond (bytes_eq v.name.now x) (Some v.kind) (types_in no_types (take i vs) x)

@@ -1,7 +1,7 @@
-ghost use Rattle.std.specs.Prelude.{◌≡◌, [], ◌∷◌, map, take, length, option_map, OnOk};
+ghost use Rattle.std.specs.Prelude.{◌≡◌, [], ◌∷◌, map, take, length, option_map, OnOk, OnErr};
 ghost use Rattle.flow_base.specs.Shown.{shown_declaration};
 ghost use Rattle.flow_model.specs.WellFormed.{with_type, no_types, types_of_parameters, activity_of, signal_of};
-ghost use Rattle.flow_check.specs.Tables.{variables_of, types_of, activities_of, signals_of, parameters_of, kinds_of_parameters, shown_signature, nothing_known, first_then, only};
+ghost use Rattle.flow_check.specs.Tables.{variables_of, types_of, activities_of, signals_of, parameters_of, kinds_of_parameters, shown_signature, nothing_known, first_then, only, IsSame};
 
 use flow_base::syntax::{Declaration, Parameter, TypeAt};
 use flow_base::text::Key;
@@ -123,10 +123,11 @@ impl<'a> Scope<'a> {
         Ok(())
     }
 
-    /// The variable is visible from here on.
+    /// The variable is visible from here on. After an error all is known that was, and no more.
     pub fn add_variable(&mut self, name: &'a Key, kind: Option<Kind>) -> Result<(), AllocError>
         ensures variables { OnOk result (take (length (variables_of self.old)) (variables_of self.new) ≡ variables_of self.old) }
         ensures types { OnOk result (types_of self.new ≡ with_type (types_of self.old) name.now kind) }
+        ensures same { OnErr result (IsSame self.old self.new) }
         ensures activities { OnOk result (activities_of self.new ≡ activities_of self.old) }
         ensures signals { OnOk result (signals_of self.new ≡ signals_of self.old) }
         ensures parameters { OnOk result (parameters_of self.new ≡ parameters_of self.old) }

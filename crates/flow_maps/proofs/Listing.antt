@@ -45,7 +45,7 @@ rises_from n m (k ∷ ms) less rises = (omega (arith, less, rises), rises.1)
 others : (n m : ℕ) (ms : List ℕ) → m < n → among ms n ≡ false → among (m ∷ ms) n ≡ false
 others n m ms less none = ap (λ v. v || among ms n) (not_true (is_run n m) (λ same. let is = run_is n m same in absurd (omega (arith, less, is)))) ∙ none
 
-filter_on : (p : Waiting → Bool) (xs ys : List Waiting) → filter p (xs ++ ys) ≡ filter p xs ++ filter p ys
+pub filter_on : (p : Waiting → Bool) (xs ys : List Waiting) → filter p (xs ++ ys) ≡ filter p xs ++ filter p ys
 filter_on p [] ys = refl
 filter_on p (x ∷ xs) ys = by (p x) (filter_on p xs ys)
   where

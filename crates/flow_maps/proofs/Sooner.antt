@@ -34,7 +34,7 @@ lesser r m less = elim (cases_Bool (nat_lt m r)) [
 ]
 
 -- a moment that is no sooner makes no difference to a sooner one
-passed : (best : Option ℕ) (r m : ℕ) → m ≤ r → sooner (sooner best r) m ≡ sooner best m
+pub passed : (best : Option ℕ) (r m : ℕ) → m ≤ r → sooner (sooner best r) m ≡ sooner best m
 passed None r m less = lesser r m less
 passed (Some n) r m less = elim (cases_Bool (nat_lt r n)) [
   | inl is ↦
@@ -44,7 +44,7 @@ passed (Some n) r m less = elim (cases_Bool (nat_lt r n)) [
 ]
 
 -- nor one that comes again
-again : (best : Option ℕ) (m r : ℕ) → m ≤ r → sooner (sooner best m) r ≡ sooner best m
+pub again : (best : Option ℕ) (m r : ℕ) → m ≤ r → sooner (sooner best m) r ≡ sooner best m
 again None m r less = ap (λ v. if v then Some r else Some m) (le-ltb r m less)
 again (Some n) m r less = elim (cases_Bool (nat_lt m n)) [
   | inl is ↦ ap (λ o. sooner o r) (ap (λ v. if v then Some m else Some n) is) ∙ ap (λ v. if v then Some r else Some m) (le-ltb r m less) ∙ sym (ap (λ v. if v then Some m else Some n) is)

@@ -5,6 +5,7 @@
 pub mod agenda;
 pub mod calendar;
 pub mod calls;
+pub mod gathering;
 pub mod heads;
 pub mod index;
 mod left;

@@ -1,5 +1,5 @@
 //! What the runs of a book wait for at a moment: what may be attempted by then, and when there is more to be done.
-ghost use Rattle.std.specs.Prelude.{◌≡◌, ◌++◌, ◌∷◌, [], ℕ, IfSome, cond, filter, nat_le, option_map, true};
+ghost use Rattle.std.specs.Prelude.{◌≡◌, ◌++◌, ◌∷◌, [], ℕ, IfSome, OnOk, cond, filter, nat_le, option_map, true};
 ghost use Rattle.std.specs.BTreeSet.{contains};
 ghost use Rattle.std.specs.List.{list_any};
 ghost use Rattle.std.specs.Ordering.{nat_cmp};
@@ -8,14 +8,14 @@ ghost use Rattle.flow_maps.specs.Agenda.{open_runs as count_open, tasks_at};
 ghost use Rattle.flow_maps.specs.Calendars.{IsCalendar, IsNext, Slot, date_of_task, part_by};
 ghost use Rattle.flow_maps.specs.OfRuns.{list_of, is_run};
 ghost use Rattle.flow_maps.specs.Outlooks as rule;
-ghost use Rattle.flow_maps.specs.Outlooks.{is_by, ready_by, soonest, waiting, waiting_in};
+ghost use Rattle.flow_maps.specs.Outlooks.{is_by, ready_by, waiting, waiting_in};
 
 use crate::calendar::Calendar;
 use crate::of_runs::OfRuns;
 use flow_base::book::{Due, Task};
 use flow_base::number::{Moment, RunId};
 use flow_base::sequence::Sequence;
-use std::alloc::Global;
+use std::alloc::{AllocError, Global};
 use std::collections::BTreeSet;
 
 /// What a book waits for at a moment.
@@ -36,29 +36,38 @@ fn is_ready(at: Moment, task: &Task) -> bool
     task.ready.get() <= at.get()
 }
 
-/// Lists an activity behind the others, if it may be attempted by a moment. Whether there was memory for it.
-fn add_task(list: &mut Vec<(RunId, Task)>, at: Moment, run: RunId, task: &Task) -> bool
-    ensures { result ≡ true → list.new.items ≡ cond (is_by at (run, task.now)) (list.old.items ++ (run, task.now) ∷ []) list.old.items }
+/// Lists an activity behind the others, if it may be attempted by a moment.
+fn add_task(
+    list: &mut Vec<(RunId, Task)>,
+    at: Moment,
+    run: RunId,
+    task: &Task,
+) -> Result<(), AllocError>
+    ensures { OnOk result (list.new.items ≡ cond (is_by at (run, task.now)) (list.old.items ++ (run, task.now) ∷ []) list.old.items) }
 {
     if !is_ready(at, task) {
-        return true;
+        return Ok(());
     }
-    list.push((run, *task)).is_ok()
+    list.push((run, *task))?;
+    Ok(())
 }
 
-/// Lists what a run has that may be attempted by a moment behind the others. Whether there was memory for it.
-fn add_tasks(list: &mut Vec<(RunId, Task)>, at: Moment, run: RunId, tasks: &[Task]) -> bool
-    ensures { result ≡ true → list.new.items ≡ list.old.items ++ filter (is_by at) (waiting_in run tasks.now) }
+/// Lists what a run has that may be attempted by a moment behind the others.
+pub(crate) fn add_tasks(
+    list: &mut Vec<(RunId, Task)>,
+    at: Moment,
+    run: RunId,
+    tasks: &[Task],
+) -> Result<(), AllocError>
+    ensures { OnOk result (list.new.items ≡ list.old.items ++ filter (is_by at) (waiting_in run tasks.now)) }
 {
     for task in tasks {
-        if !add_task(list, at, run, task) {
-            return false;
-        }
+        add_task(list, at, run, task)?;
     }
-    true
+    Ok(())
 }
 
-/// The same of a run by its number.
+/// The same of a run by its number. Whether there was memory for it.
 fn add_run(list: &mut Vec<(RunId, Task)>, at: Moment, number: u64, tasks: &OfRuns<Task>) -> bool
     ensures { result ≡ true → list.new.items ≡ list.old.items ++ filter (is_by at) (waiting_in number (list_of tasks.now number)) }
 {
@@ -67,7 +76,7 @@ fn add_run(list: &mut Vec<(RunId, Task)>, at: Moment, number: u64, tasks: &OfRun
             let Some(run) = RunId::new(number) else {
                 return false;
             };
-            add_tasks(list, at, run, tasks.as_slice())
+            add_tasks(list, at, run, tasks.as_slice()).is_ok()
         }
         None => true,
     }
@@ -141,6 +150,28 @@ fn sooner(best: Option<Moment>, next: Moment) -> Option<Moment>
     }
 }
 
+/// The same with a moment from which on an attempt may be made, which counts behind another moment.
+fn with_ready(at: Moment, best: Option<Moment>, run: RunId, task: &Task) -> Option<Moment>
+    ensures { result ≡ rule.with_ready at best (run, task.now) }
+{
+    if at.get() < task.ready.get() {
+        sooner(best, task.ready)
+    } else {
+        best
+    }
+}
+
+/// The same with what a run has.
+pub(crate) fn soonest(at: Moment, best: Option<Moment>, run: RunId, tasks: &[Task]) -> Option<Moment>
+    ensures { result ≡ rule.soonest at best (waiting_in run tasks.now) }
+{
+    let mut least = best;
+    for task in tasks {
+        least = with_ready(at, least, run, task);
+    }
+    least
+}
+
 /// The first moment of a slot after one, if there is such a slot; none where it is no moment.
 fn next_slot(tasks: &Calendar<Task>, at: Moment) -> Option<Option<Moment>>
     ensures { IfSome result (λ o. IsNext at tasks.now.slots o) }
@@ -156,7 +187,7 @@ fn next_slot(tasks: &Calendar<Task>, at: Moment) -> Option<Option<Moment>>
 }
 
 /// The sooner of two moments, neither of which need be there.
-fn with_next(best: Option<Moment>, next: Option<Moment>) -> Option<Moment>
+pub(crate) fn with_next(best: Option<Moment>, next: Option<Moment>) -> Option<Moment>
     ensures { result ≡ rule.with_next best next }
 {
     match next {
@@ -167,7 +198,7 @@ fn with_next(best: Option<Moment>, next: Option<Moment>) -> Option<Moment>
 
 /// The sooner of a moment and of the first one after another at which an activity may be attempted; none where it isn't known.
 fn next_due(best: Option<Moment>, tasks: &Calendar<Task>, at: Moment) -> Option<Option<Moment>>
-    ensures { IfSome result (λ o. (b : Book) → IsCalendar date_of_task tasks.now (tasks_at b) → o ≡ soonest at best (waiting b)) }
+    ensures { IfSome result (λ o. (b : Book) → IsCalendar date_of_task tasks.now (tasks_at b) → o ≡ rule.soonest at best (waiting b)) }
 {
     let Some(next) = next_slot(tasks, at) else {
         return None;
@@ -175,7 +206,7 @@ fn next_due(best: Option<Moment>, tasks: &Calendar<Task>, at: Moment) -> Option<
     Some(with_next(best, next))
 }
 
-fn moment_of(first: Option<Due>) -> Option<Moment>
+pub(crate) fn moment_of(first: Option<Due>) -> Option<Moment>
     ensures { result ≡ option_map rule.moment_of first }
 {
     match first {

@@ -68,7 +68,7 @@ impl Rest {
         }
     }
 
-    /// Puts its open waits behind those of a list, from the left.
+    /// Puts its open waits behind those of a list, from the left. After a refusal a part of them may be there, so the caller lets the list go.
     pub fn add_waits(&self, alloc: Global, list: &mut Vec<OpenWait>) -> Result<(), AllocError>
         ensures { OnOk result (list.new.items ≡ list.old.items ++ waits_of (shown_rest self.now)) }
     {
