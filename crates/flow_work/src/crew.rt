@@ -1,5 +1,6 @@
 //! The threads that a running engine starts. Each owns all that it has.
-ghost use Rattle.std.specs.Prelude.{◌≡◌, IfErr};
+ghost use Rattle.std.specs.Prelude.{◌≡◌, IfErr, IfOk};
+ghost use Rattle.flow_work.specs.Counting.{OwesPage};
 
 use crate::clerk::{Answered, run_clerk};
 use crate::desk::Desk;
@@ -23,8 +24,9 @@ use flow_pool::worker::worker;
 use flow_timers::Clock;
 use std::alloc::{AllocError, Global};
 use std::io::{BufRead, Write};
+use std::snapshot::Snapshot;
 use std::sync::{Arc, Wait};
-use std::thread::{JoinHandle, Threads};
+use std::thread::{Promise, PromisedHandle, Threads};
 use std::{thread, time};
 
 /// Makes attempts until no task comes any more, or nothing is answered.
@@ -72,12 +74,26 @@ pub(crate) struct Answerer<B: Room, W: Write, P: Write> {
     pub(crate) progress: Option<Progress<P>>,
 }
 
-/// Answers lines until the input has ended and no run is open, and then closes the hub. The greatest status of what was printed.
+/// What the thread began with that answers lines. Behind its end whole lines stand on the page, and its status is theirs.
+#[derive(Drop)]
+pub(crate) struct OwedPage<B: Room, W: Write> {
+    pub(crate) desk: Snapshot<Desk<B, W>>,
+}
+
+impl<B: Room, W: Write> Promise<Page<W>> for OwedPage<B, W> {
+    ghost use Rattle.flow_work.specs.Counting.{OwesPage};
+
+    ghost kept_by = { λ p r. OwesPage p.desk.value.page p.desk.value.pending.lines.items r };
+}
+
+/// Answers lines until the input has ended and no run is open, and then closes the hub.
 fn run_desk<B: Room, W: Write + Drop, R: Wait + time::Clock, C: Clock, P: Write + Drop>(
     rt: &R,
     answerer: Answerer<B, W, P>,
     clock: &C,
-) -> Page<W> {
+) -> Page<W>
+    ensures { OwesPage answerer.desk.page answerer.desk.pending.lines.items result }
+{
     let Answerer {
         desk,
         inputs,
@@ -210,17 +226,21 @@ pub(crate) fn start_desk<B, R, W, C, P>(
     rt: &R,
     answerer: Answerer<B, W, P>,
     clock: C,
-) -> Result<JoinHandle<Page<W>>, Fault>
+) -> Result<PromisedHandle<Page<W>, OwedPage<B, W>>, Fault>
 where
     B: Room + Send + Sync + 'static,
     R: Threads + Wait + time::Clock + Copy + Send + Drop + 'static,
     W: Write + Drop + Send + 'static,
     C: Clock + Copy + Send + Drop + 'static,
     P: Write + Drop + Send + 'static,
-    ensures { IfErr result (λ f. f ≡ Fault.NoMemory _) }
+    ensures owed { IfOk result (λ h. h.promise.desk.value ≡ answerer.desk) }
+    ensures refused { IfErr result (λ f. f ≡ Fault.NoMemory _) }
 {
     let its = *rt;
-    match thread::spawn(rt, move || run_desk(&its, answerer, &clock)) {
+    let owed = OwedPage {
+        desk: Snapshot::of(&answerer.desk),
+    };
+    match thread::spawn_with(rt, owed, move || run_desk(&its, answerer, &clock)) {
         Ok(thread) => Ok(thread),
         Err(refused) => Err(Fault::from(AllocError::from(refused))),
     }

@@ -4,11 +4,13 @@ ghost use Rattle.flow_hub.specs.Knowing.{nothing};
 ghost use Rattle.flow_hub.specs.Seating.{IsRoomOf};
 ghost use Rattle.flow_hub.specs.Publishing.{Together};
 ghost use Rattle.flow_engine.specs.Answering.{Follows};
+ghost use Rattle.flow_work.specs.Counting.{PrintsLines};
 ghost use Rattle.flow_work.specs.Endings.{EndsServing, HasServedAll};
+ghost use Rattle.flow_work.specs.Printing.{blank};
 ghost use Rattle.flow_work.specs.Serving.{ServedBy};
 
 use crate::crew::{
-    Answerer, start_desk, start_dispatcher, start_reader, start_timer, start_worker,
+    Answerer, OwedPage, start_desk, start_dispatcher, start_reader, start_timer, start_worker,
 };
 use crate::desk::Desk;
 use crate::ended::Ended;
@@ -43,7 +45,7 @@ use std::alloc::{AllocError, Global};
 use std::io::{BufRead, Write};
 use std::marker::Brand;
 use std::sync::{Arc, Wait};
-use std::thread::{JoinHandle, Threads};
+use std::thread::{PromisedHandle, Threads};
 use std::time;
 
 /// How many tasks may wait for a worker.
@@ -232,7 +234,10 @@ pub(crate) fn open_lines<B: Room, R: Wait>(
     }
 }
 
-/// Starts who reads lines and who answers them. Who answers gives back where the replies went.
+/// Who answers lines and gives back where the replies went, and the end by which it is told that no line is answered any more.
+type Telling<B, W> = (PromisedHandle<Page<W>, OwedPage<B, W>>, Sender<Input>);
+
+/// Starts who reads lines and who answers them.
 fn start_lines<B, R, I, W, C, P>(
     rt: &R,
     alloc: Global,
@@ -241,7 +246,7 @@ fn start_lines<B, R, I, W, C, P>(
     writer: W,
     clock: C,
     progress: Option<Progress<P>>,
-) -> Result<(JoinHandle<Page<W>>, Sender<Input>), Fault>
+) -> Result<Telling<B, W>, Fault>
 where
     B: Room + Send + Sync + 'static,
     R: Threads + Wait + time::Clock + Copy + Send + Drop + 'static,
@@ -249,7 +254,9 @@ where
     W: Write + Drop + Send + 'static,
     C: Clock + Copy + Send + Drop + 'static,
     P: Write + Drop + Send + 'static,
-    ensures { IfErr result (λ f. f ≡ Fault.NoMemory _) }
+    requires none { opening.pending.lines.items ≡ [] }
+    ensures page { IfOk result (λ r. (r.0.promise.desk.value.page ≡ blank (W.contents writer)) × (r.0.promise.desk.value.pending.lines.items ≡ [])) }
+    ensures refused { IfErr result (λ f. f ≡ Fault.NoMemory _) }
 {
     let Opening {
         lines,
@@ -330,7 +337,8 @@ where
     K: Skills<A>,
     C: Clock + Copy + Send + Drop + 'static,
     P: Write + Drop + Send + 'static,
-    ensures { IfErr result (λ f. f ≡ Fault.NoMemory _) }
+    ensures none { IfOk result (λ r. r.0.pending.lines.items ≡ []) }
+    ensures refused { IfErr result (λ f. f ≡ Fault.NoMemory _) }
 {
     let tally = start_others(rt, alloc, hub, workers, skills, clock, strangers, group)?;
     let opening = open_lines(rt, alloc, hub, MOST_LINES)?;
@@ -350,7 +358,7 @@ fn start_all<B, R, I, W, A, K, C, P>(
     skills: &K,
     clock: C,
     group: &WaitGroup,
-) -> Result<(JoinHandle<Page<W>>, Sender<Input>), Fault>
+) -> Result<Telling<B, W>, Fault>
 where
     B: Room + Send + Sync + 'static,
     R: Threads + Wait + time::Clock + Copy + Send + Drop + 'static,
@@ -360,7 +368,8 @@ where
     K: Skills<A>,
     C: Clock + Copy + Send + Drop + 'static,
     P: Write + Drop + Send + 'static,
-    ensures { IfErr result (λ f. f ≡ Fault.NoMemory _) }
+    ensures page { IfOk result (λ r. (r.0.promise.desk.value.page ≡ blank (W.contents writer)) × (r.0.promise.desk.value.pending.lines.items ≡ [])) }
+    ensures refused { IfErr result (λ f. f ≡ Fault.NoMemory _) }
 {
     let strangers = Strangers::new(alloc, unknown, terminal.is_some())?;
     let (opening, tally) = start_first(rt, alloc, hub, workers, skills, clock, &strangers, group)?;
@@ -400,6 +409,8 @@ where
     ensures unserved { IfErr result (λ f. (f ≡ Fault.NoMemory _) × (engine.new ≡ engine.old)) }
     ensures found { engine.new.found ≡ engine.old.found }
     ensures follows { Follows S.Store engine.old engine.new }
+    // What was printed: whole lines, with their status.
+    ensures printed { IfOk result (λ e. PrintsLines (W.contents writer) (W.contents e.writer) e.status) }
 {
     work_shown(
         rt,
@@ -445,6 +456,7 @@ where
     ensures unserved { IfErr result (λ f. (f ≡ Fault.NoMemory _) × (engine.new ≡ engine.old)) }
     ensures found { engine.new.found ≡ engine.old.found }
     ensures follows { Follows S.Store engine.old engine.new }
+    ensures printed { IfOk result (λ e. PrintsLines (W.contents writer) (W.contents e.writer) e.status) }
 {
     let (group, opened) = begin(alloc)?;
     work_in::<S, Brand, R, I, W, A, K, C, P>(
@@ -528,6 +540,7 @@ where
     ensures unserved { IfErr result (λ f. (f ≡ Fault.NoMemory _) × (engine.new ≡ engine.old)) }
     ensures found { engine.new.found ≡ engine.old.found }
     ensures follows { Follows S.Store engine.old engine.new }
+    ensures printed { IfOk result (λ e. PrintsLines (W.contents writer) (W.contents e.writer) e.status) }
 {
     let (mut publisher, hub) = open_hub::<B>(alloc, opened)?;
     let started = start_all(

@@ -3,6 +3,7 @@ ghost use Rattle.std.specs.Prelude.{◌≡◌, ◌≤◌, [], IfOk, IfErr, OnOk}
 ghost use Rattle.flow_hub.specs.Knowing.{IsBefore, IsSamePart, nothing};
 ghost use Rattle.flow_hub.specs.Seating.{IsRoomOf};
 ghost use Rattle.flow_engine.specs.Answering.{Follows};
+ghost use Rattle.flow_work.specs.Counting.{IsStatusOf};
 ghost use Rattle.flow_work.specs.Endings.{EndsServing, HasServedAll};
 ghost use Rattle.flow_work.specs.Printing.{blank};
 ghost use Rattle.flow_work.specs.Serving.{Shows};
@@ -168,6 +169,7 @@ fn taken_back<B: Room, R: Wait, W: Write + Drop>(
     ensures printed { (W.contents result.ended.writer ≡ told.page.bytes) × (result.is_mute ≡ told.page.is_mute)
         × (result.shown ≡ told.page.shown) }
     ensures lines { result.lines ≡ told.lines }
+    ensures status { result.ended.status ≡ told.page.status }
     ensures submitter { IsBefore told.submitter.was publisher.new }
     ensures feed { IsBefore told.feed publisher.new }
     ensures part { IsSamePart publisher.old publisher.new }
@@ -225,6 +227,8 @@ where
     // between the tasks that were posted.
     ensures shown { IfOk result (λ e. Shows S.Store (C.tells clock) engine.old engine.new (W.contents writer)
         (W.contents e.ended.writer) e.is_mute e.lines e.shown) }
+    // The status is the greatest of the replies that were printed, or 3.
+    ensures status { IfOk result (λ e. IsStatusOf e.is_mute e.shown e.ended.status) }
 {
     let (group, opened) = begin(alloc)?;
     serve_in::<S, Brand, R, I, W, C>(
@@ -260,6 +264,7 @@ where
     ensures follows { Follows S.Store engine.old engine.new }
     ensures shown { IfOk result (λ e. Shows S.Store (C.tells clock) engine.old engine.new (W.contents writer)
         (W.contents e.ended.writer) e.is_mute e.lines e.shown) }
+    ensures status { IfOk result (λ e. IsStatusOf e.is_mute e.shown e.ended.status) }
 {
     let (mut publisher, hub) = open_hub::<B>(alloc, opened)?;
     match start_all(rt, alloc, &hub, reader, writer, clock, &group) {
