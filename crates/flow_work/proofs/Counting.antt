@@ -24,7 +24,7 @@ use Rattle.flow_work.specs.Moments.{command_at}
 use Rattle.flow_work.specs.Printing.{Printed, PrintsBy, PrintsNow, PrintsLine, PrintsTask, blank, shown_line, status_by, status_with}
 use Rattle.flow_work.specs.Reading.{IsOf, IsPendingOf}
 use Rattle.flow_work.specs.Telling.{TellsAll, HasTold}
-use Rattle.flow_work.specs.Counting.{shown_bytes, tasks_in, replies_in, Holds, AreShown, Answered, AreAnswered, AreWaiting, IsStatusOf, Says, IsFed, Counts, Counted, PrintsFed, Goes, IsPage}
+use Rattle.flow_work.specs.Counting.{shown_bytes, tasks_in, replies_in, Holds, AreShown, Answered, AreAnswered, AreWaiting, IsStatusOf, Says, IsFed, Counts, Counted, PrintsFed, Goes}
 use Rattle.flow_work.specs.declared.queue.Pending.{Pending}
 use Rattle.flow_work.specs.declared.queue.Pending.TheVariants as pending
 use Rattle.flow_work.specs.declared.shown.Shown.{Shown}
@@ -469,7 +469,3 @@ pub counted_later : (reads : List ℕ → Option Command) (tells : ℕ → Type 
     → Counted reads tells first feed k lines page → Counted reads tells first feed m lines page
 counted_later reads tells first feed k m lines page same later c =
     record { done = c.done; rest = c.rest; are = c.are; says = says_later reads tells first feed.given k m c.done page (sym same) later c.says; fed = c.fed }
-
--- the page alone
-pub page_of : (reads : List ℕ → Option Command) (tells : ℕ → Type 0) (first : Option (List ℕ)) (feed : Known) (m : Member) (lines : List (List ℕ)) (page : Printed) → Counted reads tells first feed m lines page → IsPage first page
-page_of reads tells first feed m lines page c = record { bytes = c.says.bytes; status = c.says.status }

@@ -136,22 +136,3 @@ Goes reads tells first on feed m pending lines page = (on ≡ true → Counts re
 -- What one who began with a blank page, no line and no task has done at its end.
 pub record Owes (reads : List ℕ → Option Command) (tells : ℕ → Type 0) (page : Printed) (pending : List Pending) (given : Known) (feed : Known) (m : Member) (lines : List (List ℕ)) (now : Printed) : Type 0 where
   pub counted : (first : Option (List ℕ)) → page ≡ blank first → pending ≡ [] → given ≡ nothing → Counted reads tells first feed m lines now
-
----- The page alone
-
--- What stands on a page: whole lines behind what its writer held first, and once a write has failed perhaps a beginning of one more; and
--- its status is theirs.
-pub record IsPage (first : Option (List ℕ)) (page : Printed) : Type 0 where
-  pub bytes : Holds first page.is_mute page.bytes page.shown
-  pub status : IsStatusOf page.is_mute page.shown page.status
-
--- What one who began with a blank page and no line owes of it.
-pub record OwesPage (page : Printed) (pending : List Pending) (now : Printed) : Type 0 where
-  pub is : (first : Option (List ℕ)) → page ≡ blank first → pending ≡ [] → IsPage first now
-
--- Such lines were written, and this is their status.
-pub record PrintsLines (first last : Option (List ℕ)) (status : ℕ) : Type 0 where
-  pub is_mute : Bool
-  pub shown : List Shown
-  pub bytes : Holds first is_mute last shown
-  pub are : IsStatusOf is_mute shown status

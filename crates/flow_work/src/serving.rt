@@ -9,11 +9,11 @@ ghost use Rattle.flow_work.specs.Printing.{blank};
 ghost use Rattle.flow_work.specs.Serving.{Shows};
 
 use crate::counter::Told;
-use crate::crew::{start_ringing, start_timer};
+use crate::crew::start_ringing;
 use crate::desk::Desk;
 use crate::ended::{Ended, Served};
 use crate::input::Input;
-use crate::running::{Opening, begin, feed_of, open_hub, open_lines, reporter, serve_new};
+use crate::running::{Opening, begin, feed_of, open_hub, open_lines, serve_new, start_timing};
 use crate::teller::{Owed, Teller, start_teller};
 use crossbeam_channel::Sender;
 use crossbeam_utils::sync::WaitGroup;
@@ -36,19 +36,6 @@ use std::time;
 /// How many lines may be read ahead: more than a worker has tasks in its hands that it has read and not looked at, so that it may write
 /// their reports though its next lines can't be printed.
 const MOST_LINES: usize = 4_096;
-
-/// Starts who fires what is due.
-fn start_timing<B, R, C>(rt: &R, hub: &Hub<B>, clock: C, group: &WaitGroup) -> Result<(), Fault>
-where
-    B: Room + Send + Sync + 'static,
-    R: Threads + Wait + time::Clock + Copy + Send + Drop + 'static,
-    C: Clock + Copy + Send + Drop + 'static,
-    ensures { IfErr result (λ f. f ≡ Fault.NoMemory _) }
-{
-    let group = group.clone()?;
-    let reports = reporter(rt, hub, None)?;
-    start_timer(rt, reports, clock, group)
-}
 
 /// What the threads that read and print have beside where the lines come from and where they go.
 struct Supplies<B: Room> {
