@@ -22,9 +22,13 @@ use Rattle.flow_hub.proofs.Growing.{before_trans}
 use Rattle.flow_hub.proofs.Lists.{get_front}
 use Rattle.flow_work.specs.Moments.{command_at}
 use Rattle.flow_work.specs.Printing.{Printed, PrintsBy, PrintsNow, PrintsLine, PrintsTask, blank, shown_line, status_by, status_with}
+use Rattle.flow_work.specs.Inputs.{Takes, is_line, lines_in}
 use Rattle.flow_work.specs.Reading.{IsOf, IsPendingOf}
+use Rattle.flow_work.specs.Silence.{EndsTaking, IsSilent, Quits}
 use Rattle.flow_work.specs.Telling.{TellsAll, HasTold}
 use Rattle.flow_work.specs.Counting.{shown_bytes, tasks_in, replies_in, Holds, AreShown, Answered, AreAnswered, AreWaiting, IsStatusOf, Says, IsFed, Counts, Counted, PrintsFed, Goes}
+use Rattle.flow_work.specs.declared.input.Input.{Input}
+use Rattle.flow_work.specs.declared.input.Input.TheVariants as input
 use Rattle.flow_work.specs.declared.queue.Pending.{Pending}
 use Rattle.flow_work.specs.declared.queue.Pending.TheVariants as pending
 use Rattle.flow_work.specs.declared.shown.Shown.{Shown}
@@ -469,3 +473,46 @@ pub counted_later : (reads : List ℕ → Option Command) (tells : ℕ → Type 
     → Counted reads tells first feed k lines page → Counted reads tells first feed m lines page
 counted_later reads tells first feed k m lines page same later c =
     record { done = c.done; rest = c.rest; are = c.are; says = says_later reads tells first feed.given k m c.done page (sym same) later c.says; fed = c.fed }
+
+-- ---- why no line is taken in any more
+
+-- the first of these that wait was read
+first_waits : (reads : List ℕ → Option Command) (tells : ℕ → Type 0) (m : Member) (ls : List (List ℕ)) (p : Pending) (ps : List Pending) → AreWaiting reads tells m ls (p ∷ ps) → (bytes : List ℕ) × IsPendingOf reads tells m bytes p
+first_waits reads tells m [] p ps a = absurd a
+first_waits reads tells m (l ∷ ls) p ps a = (l, a.0)
+
+silent_waits : (reads : List ℕ → Option Command) (tells : ℕ → Type 0) (m : Member) (ls : List (List ℕ)) (ps : List Pending) → AreWaiting reads tells m ls ps → IsSilent m ps → Quits reads tells m
+silent_waits reads tells m ls ps a (inl closed) = inl closed
+silent_waits reads tells m ls ps a (inr u) =
+    let r = waiting_split reads tells m ls u.front (u.line ∷ u.back) (subst (AreWaiting reads tells m ls) u.are a) in
+    let one = first_waits reads tells m r.1 u.line u.back r.4 in
+    inr (record { bytes = one.0; line = u.line; waits = one.1; seen = u.seen; same = u.same; before = u.before; without = u.without })
+
+-- one of the lines that waited has no answer
+pub quits : (reads : List ℕ → Option Command) (tells : ℕ → Type 0) (first : Option (List ℕ)) (feed : Known) (k m : Member) (ps : List Pending) (lines : List (List ℕ)) (page : Printed) → m.id ≡ k.id → IsBefore k.was m.was → IsSilent m ps → Counts reads tells first feed k ps lines page
+    → Quits reads tells m
+quits reads tells first feed k m ps lines page same later silent c =
+    silent_waits reads tells m c.waiting ps (waiting_later reads tells k m (sym same) later c.waiting ps c.waits) silent
+
+pub ends_given : (reads : List ℕ → Option Command) (tells : ℕ → Type 0) (m : Member) (given was : List Input) (x : Input) → given ≡ was ++ x ∷ [] → (is_line x ≡ false) ⊎ Quits reads tells m → EndsTaking reads tells m given
+ends_given reads tells m given was x e (inl off) = inl (was, x, e, off)
+ends_given reads tells m given was x e (inr q) = inr q
+
+-- ---- the lines of what was given, and one more
+
+lines_more : (xs : List Input) (x : Input) → lines_in (xs ++ x ∷ []) ≡ lines_in xs ++ lines_in (x ∷ [])
+lines_more [] x = refl
+lines_more (input.Line l ∷ xs) x = ap (λ r. l.items ∷ r) (lines_more xs x)
+lines_more (input.Ended ∷ xs) x = lines_more xs x
+lines_more (input.Failed ∷ xs) x = lines_more xs x
+lines_more (input.Stopped ∷ xs) x = lines_more xs x
+
+one_taken : (x : Input) (was now : List (List ℕ)) → Takes x was now → now ≡ was ++ lines_in (x ∷ [])
+one_taken (input.Line l) was now t = t
+one_taken input.Ended was now t = t ∙ sym (append-nil was)
+one_taken input.Failed was now t = t ∙ sym (append-nil was)
+one_taken input.Stopped was now t = t ∙ sym (append-nil was)
+
+pub lines_given : (given was : List Input) (x : Input) (old now : List (List ℕ)) → given ≡ was ++ x ∷ [] → Takes x old now → old ≡ lines_in was → now ≡ lines_in given
+lines_given given was x old now e t is =
+    one_taken x old now t ∙ (ap (λ l. l ++ lines_in (x ∷ [])) is ∙ (sym (lines_more was x) ∙ ap lines_in (sym e)))

@@ -112,7 +112,7 @@ fn run_desk<B: Room, W: Write + Drop, R: Wait + time::Clock, C: Clock, P: Write 
         hub,
         progress,
     } = answerer;
-    let answered = run_clerk(rt, desk, clock, &inputs, progress);
+    let answered = run_clerk(rt, desk, clock, inputs, progress);
     hub.close(rt);
     answered
 }

@@ -3,8 +3,8 @@ use Rattle.flow_hub.specs.Knowing.{nothing}
 use Rattle.flow_work.proofs.Counting.{all_told}
 use Rattle.flow_work.proofs.clerk.Clerk.end.Goals as goal
 
-pub returns : goal.returns
-returns g c =
+pub returns-clause-counted : goal.returns-clause-counted
+returns-clause-counted g c =
     let old = c.args.self.now in
     let tells = g.C.Clock.tells c.args.clock.now in
     let told = c.tell_all in
