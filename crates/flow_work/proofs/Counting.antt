@@ -22,9 +22,9 @@ use Rattle.flow_hub.proofs.Growing.{before_trans}
 use Rattle.flow_hub.proofs.Lists.{get_front}
 use Rattle.flow_work.specs.Moments.{command_at}
 use Rattle.flow_work.specs.Printing.{Printed, PrintsBy, PrintsNow, PrintsLine, PrintsTask, blank, shown_line, status_by, status_with}
-use Rattle.flow_work.specs.Inputs.{Takes, is_line, lines_in}
+use Rattle.flow_work.specs.Inputs.{Takes, lines_in}
 use Rattle.flow_work.specs.Reading.{IsOf, IsPendingOf}
-use Rattle.flow_work.specs.Silence.{EndsTaking, IsSilent, Quits}
+use Rattle.flow_work.specs.Silence.{EndsTaking, IsOver, IsSilent, Quits}
 use Rattle.flow_work.specs.Telling.{TellsAll, HasTold}
 use Rattle.flow_work.specs.Counting.{shown_bytes, tasks_in, replies_in, Holds, AreShown, Answered, AreAnswered, AreWaiting, IsStatusOf, Says, IsFed, Counts, Counted, PrintsFed, Goes}
 use Rattle.flow_work.specs.declared.input.Input.{Input}
@@ -494,9 +494,15 @@ pub quits : (reads : List ℕ → Option Command) (tells : ℕ → Type 0) (firs
 quits reads tells first feed k m ps lines page same later silent c =
     silent_waits reads tells m c.waiting ps (waiting_later reads tells k m (sym same) later c.waiting ps c.waits) silent
 
-pub ends_given : (reads : List ℕ → Option Command) (tells : ℕ → Type 0) (m : Member) (given was : List Input) (x : Input) → given ≡ was ++ x ∷ [] → (is_line x ≡ false) ⊎ Quits reads tells m → EndsTaking reads tells m given
-ends_given reads tells m given was x e (inl off) = inl (was, x, e, off)
-ends_given reads tells m given was x e (inr q) = inr q
+-- none waits, or one of them has no answer
+pub over : (reads : List ℕ → Option Command) (tells : ℕ → Type 0) (first : Option (List ℕ)) (feed : Known) (k m : Member) (ps rest : List Pending) (lines : List (List ℕ)) (page : Printed) → m.id ≡ k.id → IsBefore k.was m.was → (rest ≡ []) ⊎ IsSilent m ps
+    → Counts reads tells first feed k ps lines page → (rest ≡ []) ⊎ Quits reads tells m
+over reads tells first feed k m ps rest lines page same later (inl e) c = inl e
+over reads tells first feed k m ps rest lines page same later (inr s) c = inr (quits reads tells first feed k m ps lines page same later s c)
+
+pub ends_given : (reads : List ℕ → Option Command) (tells : ℕ → Type 0) (m : Member) (ps : List Pending) (given was : List Input) (x : Input) → given ≡ was ++ x ∷ [] → IsOver x ps ⊎ Quits reads tells m → EndsTaking reads tells m ps given
+ends_given reads tells m ps given was x e (inl off) = inl (was, x, e, off)
+ends_given reads tells m ps given was x e (inr q) = inr q
 
 -- ---- the lines of what was given, and one more
 

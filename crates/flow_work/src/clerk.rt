@@ -3,9 +3,9 @@ ghost use Rattle.std.specs.Prelude.{◌≡◌, ◌⊎◌, ◌<◌, [], ◌∷◌
 ghost use Rattle.flow_lines.specs.Commands.{line_command};
 ghost use Rattle.flow_hub.specs.Knowing.{nothing};
 ghost use Rattle.flow_work.specs.Counting.{Counted, Counts, Goes, Owes};
-ghost use Rattle.flow_work.specs.Inputs.{Takes, is_line, lines_in};
+ghost use Rattle.flow_work.specs.Inputs.{Takes, lines_in};
 ghost use Rattle.flow_work.specs.Resting.{HasRested};
-ghost use Rattle.flow_work.specs.Silence.{EndsTaking, Quits};
+ghost use Rattle.flow_work.specs.Silence.{EndsTaking, IsOver, Quits};
 
 use crate::desk::Desk;
 use crate::giving::{Given, Giving};
@@ -103,6 +103,9 @@ impl<B: Room, W: Write + Drop> Clerk<B, W> {
         ensures counted { (first : Option (List ℕ)) → Counts line_command
             (C.tells clock.now) first nothing self.old.desk.submitter self.old.desk.pending.lines.items self.old.lines self.old.desk.page
             → Counted line_command (C.tells clock.now) first nothing self.new.desk.submitter self.new.lines self.new.desk.page }
+        ensures ends { (first : Option (List ℕ)) → Counts line_command
+            (C.tells clock.now) first nothing self.old.desk.submitter self.old.desk.pending.lines.items self.old.lines self.old.desk.page
+            → (self.new.desk.pending.lines.items ≡ []) ⊎ Quits line_command (C.tells clock.now) self.new.desk.submitter }
         ensures lines { self.new.lines ≡ self.old.lines }
     {
         self.desk.tell_all(rt);
@@ -113,6 +116,9 @@ impl<B: Room, W: Write + Drop> Clerk<B, W> {
         ensures counted { (first : Option (List ℕ)) → Counts line_command
             (C.tells clock.now) first nothing self.old.desk.submitter self.old.desk.pending.lines.items self.old.lines self.old.desk.page
             → Counted line_command (C.tells clock.now) first nothing self.new.desk.submitter self.new.lines self.new.desk.page }
+        ensures ends { (first : Option (List ℕ)) → Counts line_command
+            (C.tells clock.now) first nothing self.old.desk.submitter self.old.desk.pending.lines.items self.old.lines self.old.desk.page
+            → (self.new.desk.pending.lines.items ≡ []) ⊎ Quits line_command (C.tells clock.now) self.new.desk.submitter }
         ensures lines { self.new.lines ≡ self.old.lines }
     {
         self.desk.fail();
@@ -141,7 +147,7 @@ impl<B: Room, W: Write + Drop> Clerk<B, W> {
             → Goes line_command (C.tells clock.now) first result nothing self.new.desk.submitter self.new.desk.pending.lines.items self.new.lines self.new.desk.page }
         ensures quits { (first : Option (List ℕ)) → Counts line_command
             (C.tells clock.now) first nothing self.old.desk.submitter self.old.desk.pending.lines.items self.old.lines self.old.desk.page
-            → result ≡ false → (is_line input ≡ false) ⊎ Quits line_command (C.tells clock.now) self.new.desk.submitter }
+            → result ≡ false → IsOver input self.new.desk.pending.lines.items ⊎ Quits line_command (C.tells clock.now) self.new.desk.submitter }
         ensures lines { Takes input self.old.lines self.new.lines }
     {
         match input {
@@ -166,7 +172,7 @@ impl<B: Room, W: Write + Drop> Clerk<B, W> {
             → Goes line_command (C.tells clock.now) first result nothing self.new.desk.submitter self.new.desk.pending.lines.items self.new.lines self.new.desk.page }
         ensures ends { (first : Option (List ℕ)) → Counts line_command
             (C.tells clock.now) first nothing self.old.desk.submitter self.old.desk.pending.lines.items self.old.lines self.old.desk.page
-            → result ≡ false → EndsTaking line_command (C.tells clock.now) self.new.desk.submitter (G.given inputs.new) }
+            → result ≡ false → EndsTaking line_command (C.tells clock.now) self.new.desk.submitter self.new.desk.pending.lines.items (G.given inputs.new) }
         ensures lines { self.old.lines ≡ lines_in (G.given inputs.old) → self.new.lines ≡ lines_in (G.given inputs.new) }
     {
         match self.desk.next_input(rt, inputs) {
@@ -184,7 +190,7 @@ impl<B: Room, W: Write + Drop> Clerk<B, W> {
             → Counted line_command (C.tells clock.now) first nothing self.new.desk.submitter self.new.lines self.new.desk.page }
         ensures ends { (first : Option (List ℕ)) → Counts line_command
             (C.tells clock.now) first nothing self.old.desk.submitter self.old.desk.pending.lines.items self.old.lines self.old.desk.page
-            → EndsTaking line_command (C.tells clock.now) self.new.desk.submitter (G.given inputs.new) }
+            → EndsTaking line_command (C.tells clock.now) self.new.desk.submitter self.new.desk.pending.lines.items (G.given inputs.new) }
         ensures lines { self.old.lines ≡ lines_in (G.given inputs.old) → self.new.lines ≡ lines_in (G.given inputs.new) }
     {
         'steps: for _ in rt.forever() {
