@@ -8,7 +8,7 @@ ghost use Rattle.flow_work.specs.Resting.{HasRested};
 ghost use Rattle.flow_work.specs.Silence.{EndsTaking, IsOver, Quits};
 
 use crate::desk::Desk;
-use crate::giving::{Given, Giving};
+use crate::giving::{Giving, Incoming};
 use crate::input::Input;
 use crate::lines::{no_lines, with_line};
 use crate::page::Page;
@@ -214,7 +214,7 @@ pub(crate) fn run_clerk<B: Room, W: Write + Drop, R: Wait + time::Clock, C: Cloc
     ensures rested { HasRested result.submitter.was }
 {
     let mut clerk = Clerk::new(desk);
-    let mut inputs = Given::new(inputs);
+    let mut inputs = Incoming::new(inputs);
     clerk.answer_lines(rt, clock, &mut inputs);
     clerk.rest(rt, clock, progress);
     clerk.into_answered()

@@ -27,23 +27,23 @@ pub trait Giving {
 
 /// The end of the channel of what is read, and what it gave.
 #[derive(Drop)]
-pub(crate) struct Given {
+pub(crate) struct Incoming {
     receiver: Receiver<Input>,
     given: Listed<Input>,
 }
 
-impl Given {
-    pub(crate) fn new(receiver: Receiver<Input>) -> Given
+impl Incoming {
+    pub(crate) fn new(receiver: Receiver<Input>) -> Incoming
         ensures { result.given ≡ [] }
     {
-        Given {
+        Incoming {
             receiver,
             given: no_inputs(),
         }
     }
 }
 
-impl Giving for Given {
+impl Giving for Incoming {
     ghost given = { λ g. g.given };
 
     fn next<R: Wait>(&mut self, rt: &R) -> Input {
