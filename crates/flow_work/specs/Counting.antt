@@ -1,8 +1,9 @@
 -- What is printed of lines and tasks, by what their submitter and who gave the tasks out have seen.
-use Rattle.std.specs.Prelude.{◌≡◌, ℕ, List, [], ◌∷◌, ◌++◌, Bool, true, false, Option, Some}
+use Rattle.std.specs.Prelude.{◌≡◌, ◌⊎◌, ℕ, List, [], ◌∷◌, ◌++◌, Bool, true, false, Option, Some}
 use Rattle.std.specs.Io.KnownBytes.{Appends}
 use mathlib.Core.List.{IsPrefix}
 use Rattle.flow_base.specs.declared.command.Command.{Command}
+use Rattle.flow_lines.specs.Driving.{final_status}
 use Rattle.flow_lines.specs.declared.reply.Line.{Line}
 use Rattle.flow_machine.specs.declared.task.Task.{Task}
 use Rattle.flow_hub.specs.declared.fed.Fed.{Fed}
@@ -72,6 +73,11 @@ AreWaiting reads tells m (l ∷ ls) (p ∷ ps) = IsPendingOf reads tells m l p �
 
 -- ---- what was printed
 
+-- The status is the greatest of these lines' replies; or 3, as where something couldn't be read. Once a write has failed it is 3.
+abbrev pub IsStatusOf : Bool → List Shown → ℕ → Type 0
+IsStatusOf false xs n = (n ≡ 3) ⊎ (n ≡ final_status (replies_in xs))
+IsStatusOf true xs n = n ≡ 3
+
 -- These lines are told of and these tasks were given out: what was printed since the writer held `first` is a reply for each line, in
 -- their order, and the tasks, in theirs. Once a write has failed it is a beginning of that.
 pub record Says (reads : List ℕ → Option Command) (tells : ℕ → Type 0) (first : Option (List ℕ)) (given : List Task) (m : Member) (lines : List (List ℕ)) (page : Printed) : Type 0 where
@@ -82,6 +88,7 @@ pub record Says (reads : List ℕ → Option Command) (tells : ℕ → Type 0) (
   pub are : lines ≡ said ++ silent
   pub replies : AreAnswered reads tells m said (replies_in page.shown)
   pub all : page.is_mute ≡ false → silent ≡ []
+  pub status : IsStatusOf page.is_mute page.shown page.status
 
 -- The tasks that were given out are the first of those that were posted, and none of these was posted twice.
 pub record IsFed (feed : Known) : Type 0 where

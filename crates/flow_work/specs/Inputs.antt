@@ -32,3 +32,18 @@ abbrev pub HasRead : Type 0 → Option (List ℕ) → Option (List ℕ) → (was
 HasRead gone bytes left was now =
     (lines : List Input) × (last : Input) × AllByRecursion IsALine lines × Reads bytes (lines ++ last ∷ []) left
     × (((now ≡ was ++ lines ++ last ∷ []) × (is_line last ≡ false)) ⊎ ((now ≡ was ++ lines) × gone))
+
+-- the lines of what was given
+abbrev pub lines_in : List Input → List (List ℕ)
+lines_in [] = []
+lines_in (input.Line line ∷ xs) = line.items ∷ lines_in xs
+lines_in (input.Ended ∷ xs) = lines_in xs
+lines_in (input.Failed ∷ xs) = lines_in xs
+lines_in (input.Stopped ∷ xs) = lines_in xs
+
+-- What was given is taken in, if it is a line.
+abbrev pub Takes : Input → (was now : List (List ℕ)) → Type 0
+Takes (input.Line line) was now = now ≡ was ++ line.items ∷ []
+Takes input.Ended was now = now ≡ was
+Takes input.Failed was now = now ≡ was
+Takes input.Stopped was now = now ≡ was

@@ -1,5 +1,5 @@
 //! The thread that submits lines and prints their replies, in the order of the lines.
-ghost use Rattle.std.specs.Prelude.{◌≡◌, ◌≤◌, ◌<◌, ◌⊎◌, ◌++◌, ◌∷◌, [], Option, List, true, false, length, is_some, IfNone, IfSome};
+ghost use Rattle.std.specs.Prelude.{◌≡◌, ◌≤◌, ◌<◌, ◌⊎◌, ◌++◌, ◌∷◌, [], Option, List, true, false, length, is_some, IfNone, IfSome, MatchOption};
 ghost use Rattle.flow_lines.specs.declared.reply.Line.{Line as ALine};
 ghost use Rattle.flow_hub.specs.Knowing.{IsBefore};
 ghost use Rattle.flow_work.specs.Counting.{PrintsFed};
@@ -12,6 +12,7 @@ ghost use Rattle.flow_work.specs.Silence.{IsSilent};
 ghost use Rattle.flow_work.specs.Telling.{AnswersFirst, HasTold, IsAnswer, PrintsAnswer};
 ghost use Rattle.flow_work.specs.declared.queue.Pending.{Pending as APending};
 
+use crate::giving::Giving;
 use crate::input::Input;
 use crate::moments::command_at;
 use crate::page::Page;
@@ -258,17 +259,19 @@ impl<B: Room, W: Write + Drop> Desk<B, W> {
     }
 
     /// What is read next. None where there is nothing yet and a reply can be waited for meanwhile.
-    pub(crate) fn next_input<R: Wait>(&self, rt: &R, inputs: &Receiver<Input>) -> Option<Input>
-        ensures { IfSome result (λ _. length self.now.pending.lines.items < 64) }
+    pub(crate) fn next_input<R: Wait, G: Giving>(&self, rt: &R, inputs: &mut G) -> Option<Input>
+        ensures room { IfSome result (λ _. length self.now.pending.lines.items < 64) }
+        ensures given { MatchOption result (G.given inputs.new ≡ G.given inputs.old)
+            (λ i. G.given inputs.new ≡ G.given inputs.old ++ i ∷ []) }
     {
         let count = self.pending.len();
         if count == 0 {
-            return Some(inputs.recv(rt).unwrap_or(Input::Stopped));
+            return Some(inputs.next(rt));
         }
         if count >= MOST_PENDING {
             return None;
         }
-        inputs.try_recv(rt).ok()
+        inputs.ready(rt)
     }
 
     /// What is read next, if it is there and room is left for what waits for a reply.

@@ -26,8 +26,15 @@ impl Makes<(Listed<Input>, Snapshot<Input>), Input> for OneMore {
     ghost list = { λ p. p.0 ++ p.1.value ∷ [] };
 }
 
+/// Nothing yet.
+pub(crate) fn no_inputs() -> Listed<Input>
+    ensures { result ≡ [] }
+{
+    Listed::of::<(), Nothing>(&())
+}
+
 /// What was taken, and one more.
-fn with_input(taken: &Listed<Input>, input: Snapshot<Input>) -> Listed<Input>
+pub(crate) fn with_input(taken: &Listed<Input>, input: Snapshot<Input>) -> Listed<Input>
     ensures { result ≡ taken.now ++ input.value ∷ [] }
 {
     let more = (taken.again(), input);
@@ -48,7 +55,7 @@ impl Handing {
     {
         Handing {
             sender,
-            taken: Listed::of::<(), Nothing>(&()),
+            taken: no_inputs(),
         }
     }
 }

@@ -3,16 +3,17 @@ ghost use Rattle.std.specs.Prelude.{◌≡◌, ◌≤◌, [], IfOk, IfErr, OnOk}
 ghost use Rattle.flow_hub.specs.Knowing.{IsBefore, IsSamePart, nothing};
 ghost use Rattle.flow_hub.specs.Seating.{IsRoomOf};
 ghost use Rattle.flow_engine.specs.Answering.{Follows};
+ghost use Rattle.flow_work.specs.Counting.{IsStatusOf};
 ghost use Rattle.flow_work.specs.Endings.{EndsServing, HasServedAll};
 ghost use Rattle.flow_work.specs.Printing.{blank};
 ghost use Rattle.flow_work.specs.Serving.{Shows};
 
 use crate::counter::Told;
-use crate::crew::{start_ringing, start_timer};
+use crate::crew::start_ringing;
 use crate::desk::Desk;
 use crate::ended::{Ended, Served};
 use crate::input::Input;
-use crate::running::{Opening, begin, feed_of, open_hub, open_lines, reporter, serve_new};
+use crate::running::{Opening, begin, feed_of, open_hub, open_lines, serve_new, start_timing};
 use crate::teller::{Owed, Teller, start_teller};
 use crossbeam_channel::Sender;
 use crossbeam_utils::sync::WaitGroup;
@@ -35,19 +36,6 @@ use std::time;
 /// How many lines may be read ahead: more than a worker has tasks in its hands that it has read and not looked at, so that it may write
 /// their reports though its next lines can't be printed.
 const MOST_LINES: usize = 4_096;
-
-/// Starts who fires what is due.
-fn start_timing<B, R, C>(rt: &R, hub: &Hub<B>, clock: C, group: &WaitGroup) -> Result<(), Fault>
-where
-    B: Room + Send + Sync + 'static,
-    R: Threads + Wait + time::Clock + Copy + Send + Drop + 'static,
-    C: Clock + Copy + Send + Drop + 'static,
-    ensures { IfErr result (λ f. f ≡ Fault.NoMemory _) }
-{
-    let group = group.clone()?;
-    let reports = reporter(rt, hub, None)?;
-    start_timer(rt, reports, clock, group)
-}
 
 /// What the threads that read and print have beside where the lines come from and where they go.
 struct Supplies<B: Room> {
@@ -168,6 +156,7 @@ fn taken_back<B: Room, R: Wait, W: Write + Drop>(
     ensures printed { (W.contents result.ended.writer ≡ told.page.bytes) × (result.is_mute ≡ told.page.is_mute)
         × (result.shown ≡ told.page.shown) }
     ensures lines { result.lines ≡ told.lines }
+    ensures status { result.ended.status ≡ told.page.status }
     ensures submitter { IsBefore told.submitter.was publisher.new }
     ensures feed { IsBefore told.feed publisher.new }
     ensures part { IsSamePart publisher.old publisher.new }
@@ -225,6 +214,8 @@ where
     // between the tasks that were posted.
     ensures shown { IfOk result (λ e. Shows S.Store (C.tells clock) engine.old engine.new (W.contents writer)
         (W.contents e.ended.writer) e.is_mute e.lines e.shown) }
+    // The status is the greatest of the replies that were printed, or 3.
+    ensures status { IfOk result (λ e. IsStatusOf e.is_mute e.shown e.ended.status) }
 {
     let (group, opened) = begin(alloc)?;
     serve_in::<S, Brand, R, I, W, C>(
@@ -260,6 +251,7 @@ where
     ensures follows { Follows S.Store engine.old engine.new }
     ensures shown { IfOk result (λ e. Shows S.Store (C.tells clock) engine.old engine.new (W.contents writer)
         (W.contents e.ended.writer) e.is_mute e.lines e.shown) }
+    ensures status { IfOk result (λ e. IsStatusOf e.is_mute e.shown e.ended.status) }
 {
     let (mut publisher, hub) = open_hub::<B>(alloc, opened)?;
     match start_all(rt, alloc, &hub, reader, writer, clock, &group) {

@@ -22,6 +22,17 @@ impl<B: Room> Tasks<B> {
     {
         Tasks { feed, tally }
     }
+
+    /// Who gave them out.
+    pub(crate) fn into_feed(self) -> Feed<B>
+        ensures { result ≡ self.feed }
+    {
+        let Tasks {
+            feed,
+            tally: _tally,
+        } = self;
+        feed
+    }
 }
 
 impl<B: Room> Posted for Tasks<B> {
