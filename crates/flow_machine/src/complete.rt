@@ -2,14 +2,14 @@
 //!
 //! The rule is `complete` of `flow_model/specs/Apply.antt`. The first of these refuses: E70 (no such run), E64 (the activity isn't open),
 //! E65 (another attempt is the current one), E66 (a value of another type), E69 (the history is full).
-ghost use Rattle.std.specs.Prelude.{◌≡◌, ◌⊎◌, IfOk, OnOk, Some};
+ghost use Rattle.std.specs.Prelude.{◌≡◌, IfOk, Some};
 ghost use Rattle.flow_machine.specs.ByHead.{StuckCompleteAt, StuckGivenAt, complete_at, given_at};
 ghost use Rattle.flow_machine.specs.Going.{Comes, Sticks};
 ghost use Rattle.flow_machine.specs.Stuck.{StuckComplete};
 ghost use Rattle.flow_model.specs.Apply as apply;
 ghost use Rattle.flow_model.specs.Apply.{rules_of};
+ghost use Rattle.flow_view.specs.Called.{Called};
 ghost use Rattle.flow_view.specs.Heads.{head_at};
-ghost use Rattle.flow_view.specs.Reading.{Caused};
 
 use crate::going::{Step, set_out};
 use crate::report::attempt_refusal;
@@ -36,13 +36,12 @@ pub(crate) fn complete<V: View, P: Programs>(
     value: &Value,
     at: Moment,
 ) -> Result<Step, ViewFault>
-    ensures comes { IfOk result (λ s. V.is_sure view.new → Comes (rules_of P.meaning) (V.book view.old) (V.book view.new) s (apply.complete (rules_of P.meaning) (V.book view.old) number event attempt value.now at)) }
-    ensures sticks { IfOk result (λ s. V.is_sure view.new → Sticks (V.book view.old) s (StuckComplete P.meaning (V.book view.old) number event attempt value.now)) }
-    ensures cause { (a : V) → V.follows a view.old → V.is_true view.new → V.is_sure view.old → Caused result (V.refuses a view.new ⊎ StuckComplete P.meaning (V.book view.old) number event attempt value.now) }
-    ensures goes_on { OnOk result (V.is_true view.new → V.is_sure view.old → V.is_sure view.new) }
-    ensures sure { V.is_sure view.new → V.is_sure view.old }
-    ensures was_true { V.is_true view.new → V.is_true view.old }
-    ensures follows { (a : V) → V.follows a view.old → V.follows a view.new }
+    ensures comes { IfOk result (λ s. V.is_sure view.new
+        → Comes (rules_of P.meaning) (V.book view.old) (V.book view.new) s
+        (apply.complete (rules_of P.meaning) (V.book view.old) number event attempt value.now at)) }
+    ensures sticks { IfOk result (λ s. V.is_sure view.new
+        → Sticks (V.book view.old) s (StuckComplete P.meaning (V.book view.old) number event attempt value.now)) }
+    ensures called { Called V.View view.old view.new result (StuckComplete P.meaning (V.book view.old) number event attempt value.now) }
 {
     complete_at(alloc, programs, view, number, event, attempt, value, at)
 }
@@ -59,13 +58,12 @@ fn complete_at<V: View, P: Programs>(
     value: &Value,
     at: Moment,
 ) -> Result<Step, ViewFault>
-    ensures comes { IfOk result (λ s. V.is_sure view.new → Comes (rules_of P.meaning) (V.book view.old) (V.book view.new) s (complete_at (rules_of P.meaning) (V.book view.old) number event attempt value.now at)) }
-    ensures sticks { IfOk result (λ s. V.is_sure view.new → Sticks (V.book view.old) s (StuckCompleteAt P.meaning (V.book view.old) number event attempt value.now)) }
-    ensures cause { (a : V) → V.follows a view.old → V.is_true view.new → V.is_sure view.old → Caused result (V.refuses a view.new ⊎ StuckCompleteAt P.meaning (V.book view.old) number event attempt value.now) }
-    ensures goes_on { OnOk result (V.is_true view.new → V.is_sure view.old → V.is_sure view.new) }
-    ensures sure { V.is_sure view.new → V.is_sure view.old }
-    ensures was_true { V.is_true view.new → V.is_true view.old }
-    ensures follows { (a : V) → V.follows a view.old → V.follows a view.new }
+    ensures comes { IfOk result (λ s. V.is_sure view.new
+        → Comes (rules_of P.meaning) (V.book view.old) (V.book view.new) s
+        (complete_at (rules_of P.meaning) (V.book view.old) number event attempt value.now at)) }
+    ensures sticks { IfOk result (λ s. V.is_sure view.new
+        → Sticks (V.book view.old) s (StuckCompleteAt P.meaning (V.book view.old) number event attempt value.now)) }
+    ensures called { Called V.View view.old view.new result (StuckCompleteAt P.meaning (V.book view.old) number event attempt value.now) }
 {
     let Some(head) = view.head(number)? else {
         return Ok(Step::Answered(Reply::Refused(Code::NoRun), Vec::new(alloc)));
@@ -89,13 +87,12 @@ fn given<V: View, P: Programs>(
     value: &Value,
     at: Moment,
 ) -> Result<Step, ViewFault>
-    ensures comes { IfOk result (λ s. V.is_sure view.new → head_at (V.book view.old).runs number ≡ Some head → Comes (rules_of P.meaning) (V.book view.old) (V.book view.new) s (given_at (rules_of P.meaning) (V.book view.old) head number event value.now at)) }
-    ensures sticks { IfOk result (λ s. V.is_sure view.new → Sticks (V.book view.old) s (StuckGivenAt P.meaning (V.book view.old) head number event value.now)) }
-    ensures cause { (a : V) → V.follows a view.old → V.is_true view.new → V.is_sure view.old → Caused result (V.refuses a view.new ⊎ StuckGivenAt P.meaning (V.book view.old) head number event value.now) }
-    ensures goes_on { OnOk result (V.is_true view.new → V.is_sure view.old → V.is_sure view.new) }
-    ensures sure { V.is_sure view.new → V.is_sure view.old }
-    ensures was_true { V.is_true view.new → V.is_true view.old }
-    ensures follows { (a : V) → V.follows a view.old → V.follows a view.new }
+    ensures comes { IfOk result (λ s. V.is_sure view.new → head_at (V.book view.old).runs number ≡ Some head
+        → Comes (rules_of P.meaning) (V.book view.old) (V.book view.new) s
+        (given_at (rules_of P.meaning) (V.book view.old) head number event value.now at)) }
+    ensures sticks { IfOk result (λ s. V.is_sure view.new
+        → Sticks (V.book view.old) s (StuckGivenAt P.meaning (V.book view.old) head number event value.now)) }
+    ensures called { Called V.View view.old view.new result (StuckGivenAt P.meaning (V.book view.old) head number event value.now) }
 {
     let scheduled = view.event(number, event)?;
     if !gives(&scheduled, value) {

@@ -2,13 +2,14 @@
 //!
 //! The rule is `fail` of `flow_model/specs/Apply.antt`. The first of these refuses: E70 (no such run), E64 (the activity isn't open), E65
 //! (another attempt is the current one), and, where no attempt is left, E69 (the history is full).
-ghost use Rattle.std.specs.Prelude.{◌<◌, ◌≡◌, ◌⊎◌, IfOk, OnOk, Some};
+ghost use Rattle.std.specs.Prelude.{◌<◌, ◌≡◌, IfOk, Some};
 ghost use Rattle.flow_machine.specs.ByHead.{StuckFailAt, StuckFailedAt, StuckFailureAt, attempt_failed_at, fail_at, run_failed_at};
 ghost use Rattle.flow_machine.specs.Deciding.{Gives};
 ghost use Rattle.flow_machine.specs.Going.{Comes, Sticks};
 ghost use Rattle.flow_machine.specs.Stuck.{StuckFail};
 ghost use Rattle.flow_model.specs.Apply as apply;
 ghost use Rattle.flow_model.specs.Apply.{rules_of};
+ghost use Rattle.flow_view.specs.Called.{Called};
 ghost use Rattle.flow_view.specs.Heads.{head_at};
 ghost use Rattle.flow_view.specs.Reading.{Caused};
 
@@ -38,13 +39,12 @@ pub(crate) fn fail<V: View, P: Programs>(
     reason: &Text,
     at: Moment,
 ) -> Result<Step, ViewFault>
-    ensures comes { IfOk result (λ s. V.is_sure view.new → Comes (rules_of P.meaning) (V.book view.old) (V.book view.new) s (apply.fail (rules_of P.meaning) (V.book view.old) number event attempt reason.now at)) }
-    ensures sticks { IfOk result (λ s. V.is_sure view.new → Sticks (V.book view.old) s (StuckFail P.meaning (V.book view.old) number event attempt reason.now)) }
-    ensures cause { (a : V) → V.follows a view.old → V.is_true view.new → V.is_sure view.old → Caused result (V.refuses a view.new ⊎ StuckFail P.meaning (V.book view.old) number event attempt reason.now) }
-    ensures goes_on { OnOk result (V.is_true view.new → V.is_sure view.old → V.is_sure view.new) }
-    ensures sure { V.is_sure view.new → V.is_sure view.old }
-    ensures was_true { V.is_true view.new → V.is_true view.old }
-    ensures follows { (a : V) → V.follows a view.old → V.follows a view.new }
+    ensures comes { IfOk result (λ s. V.is_sure view.new
+        → Comes (rules_of P.meaning) (V.book view.old) (V.book view.new) s
+        (apply.fail (rules_of P.meaning) (V.book view.old) number event attempt reason.now at)) }
+    ensures sticks { IfOk result (λ s. V.is_sure view.new
+        → Sticks (V.book view.old) s (StuckFail P.meaning (V.book view.old) number event attempt reason.now)) }
+    ensures called { Called V.View view.old view.new result (StuckFail P.meaning (V.book view.old) number event attempt reason.now) }
 {
     fail_at(alloc, programs, view, number, event, attempt, reason, at)
 }
@@ -61,13 +61,12 @@ fn fail_at<V: View, P: Programs>(
     reason: &Text,
     at: Moment,
 ) -> Result<Step, ViewFault>
-    ensures comes { IfOk result (λ s. V.is_sure view.new → Comes (rules_of P.meaning) (V.book view.old) (V.book view.new) s (fail_at (rules_of P.meaning) (V.book view.old) number event attempt reason.now at)) }
-    ensures sticks { IfOk result (λ s. V.is_sure view.new → Sticks (V.book view.old) s (StuckFailAt P.meaning (V.book view.old) number event attempt reason.now)) }
-    ensures cause { (a : V) → V.follows a view.old → V.is_true view.new → V.is_sure view.old → Caused result (V.refuses a view.new ⊎ StuckFailAt P.meaning (V.book view.old) number event attempt reason.now) }
-    ensures goes_on { OnOk result (V.is_true view.new → V.is_sure view.old → V.is_sure view.new) }
-    ensures sure { V.is_sure view.new → V.is_sure view.old }
-    ensures was_true { V.is_true view.new → V.is_true view.old }
-    ensures follows { (a : V) → V.follows a view.old → V.follows a view.new }
+    ensures comes { IfOk result (λ s. V.is_sure view.new
+        → Comes (rules_of P.meaning) (V.book view.old) (V.book view.new) s
+        (fail_at (rules_of P.meaning) (V.book view.old) number event attempt reason.now at)) }
+    ensures sticks { IfOk result (λ s. V.is_sure view.new
+        → Sticks (V.book view.old) s (StuckFailAt P.meaning (V.book view.old) number event attempt reason.now)) }
+    ensures called { Called V.View view.old view.new result (StuckFailAt P.meaning (V.book view.old) number event attempt reason.now) }
 {
     let Some(head) = view.head(number)? else {
         return Ok(Step::Answered(Reply::Refused(Code::NoRun), Vec::new(alloc)));
@@ -94,13 +93,13 @@ fn fail_run<V: View, P: Programs>(
     reason: &Text,
     at: Moment,
 ) -> Result<Step, ViewFault>
-    ensures comes { IfOk result (λ s. V.is_sure view.new → head_at (V.book view.old).runs number ≡ Some head → Comes (rules_of P.meaning) (V.book view.old) (V.book view.new) s (run_failed_at (rules_of P.meaning) (V.book view.old) head number event attempt reason.now at)) }
-    ensures sticks { IfOk result (λ s. V.is_sure view.new → Sticks (V.book view.old) s (StuckFailureAt P.meaning (V.book view.old) head number event attempt reason.now)) }
-    ensures cause { (a : V) → V.follows a view.old → V.is_true view.new → V.is_sure view.old → Caused result (V.refuses a view.new ⊎ StuckFailureAt P.meaning (V.book view.old) head number event attempt reason.now) }
-    ensures goes_on { OnOk result (V.is_true view.new → V.is_sure view.old → V.is_sure view.new) }
-    ensures sure { V.is_sure view.new → V.is_sure view.old }
-    ensures was_true { V.is_true view.new → V.is_true view.old }
-    ensures follows { (a : V) → V.follows a view.old → V.follows a view.new }
+    ensures comes { IfOk result (λ s. V.is_sure view.new → head_at (V.book view.old).runs number ≡ Some head
+        → Comes (rules_of P.meaning) (V.book view.old) (V.book view.new) s
+        (run_failed_at (rules_of P.meaning) (V.book view.old) head number event attempt reason.now at)) }
+    ensures sticks { IfOk result (λ s. V.is_sure view.new
+        → Sticks (V.book view.old) s (StuckFailureAt P.meaning (V.book view.old) head number event attempt reason.now)) }
+    ensures called { Called V.View view.old view.new result
+        (StuckFailureAt P.meaning (V.book view.old) head number event attempt reason.now) }
 {
     let scheduled = view.event(number, event)?;
     let Some((tries, every)) = tries_of(&scheduled) else {
@@ -126,13 +125,13 @@ fn attempt_failed<V: View, P: Programs>(
     tries: u64,
     every: u64,
 ) -> Result<Step, ViewFault>
-    ensures comes { IfOk result (λ s. V.is_sure view.new → head_at (V.book view.old).runs number ≡ Some head → Comes (rules_of P.meaning) (V.book view.old) (V.book view.new) s (attempt_failed_at (rules_of P.meaning) (V.book view.old) head number event attempt reason.now at (tries, every))) }
-    ensures sticks { IfOk result (λ s. V.is_sure view.new → Sticks (V.book view.old) s (StuckFailedAt P.meaning (V.book view.old) head number event attempt reason.now (tries, every))) }
-    ensures cause { (a : V) → V.follows a view.old → V.is_true view.new → V.is_sure view.old → Caused result (V.refuses a view.new ⊎ StuckFailedAt P.meaning (V.book view.old) head number event attempt reason.now (tries, every)) }
-    ensures goes_on { OnOk result (V.is_true view.new → V.is_sure view.old → V.is_sure view.new) }
-    ensures sure { V.is_sure view.new → V.is_sure view.old }
-    ensures was_true { V.is_true view.new → V.is_true view.old }
-    ensures follows { (a : V) → V.follows a view.old → V.follows a view.new }
+    ensures comes { IfOk result (λ s. V.is_sure view.new → head_at (V.book view.old).runs number ≡ Some head
+        → Comes (rules_of P.meaning) (V.book view.old) (V.book view.new) s
+        (attempt_failed_at (rules_of P.meaning) (V.book view.old) head number event attempt reason.now at (tries, every))) }
+    ensures sticks { IfOk result (λ s. V.is_sure view.new
+        → Sticks (V.book view.old) s (StuckFailedAt P.meaning (V.book view.old) head number event attempt reason.now (tries, every))) }
+    ensures called { Called V.View view.old view.new result
+        (StuckFailedAt P.meaning (V.book view.old) head number event attempt reason.now (tries, every)) }
 {
     if attempt < tries {
         let ready = ready_after(at.max(head.moment), every);

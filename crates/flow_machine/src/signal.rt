@@ -2,7 +2,7 @@
 //!
 //! The rule is `signal` of `flow_model/specs/Apply.antt`. A known request is answered with the event that took it; else the first of these
 //! refuses: E63 (no open run), E67 (the run's program declares no such signal), E66 (a value of another type), E69 (the history is full).
-ghost use Rattle.std.specs.Prelude.{◌≡◌, ◌⊎◌, IfErr, IfOk, IfSome, MatchOption, None, OnOk, Some, bytes_eq, map, true};
+ghost use Rattle.std.specs.Prelude.{◌≡◌, IfErr, IfOk, IfSome, MatchOption, None, Some, bytes_eq, map, true};
 ghost use Rattle.flow_base.specs.Shown.{shown_declaration};
 ghost use Rattle.flow_machine.specs.ByHead as by_head;
 ghost use Rattle.flow_machine.specs.ByHead.{StuckSendAt, StuckSentAt, run_sent_at, sent_at};
@@ -12,7 +12,7 @@ ghost use Rattle.flow_model.specs.Apply as apply;
 ghost use Rattle.flow_model.specs.Apply.{rules_of};
 ghost use Rattle.flow_model.specs.Checked.{shown_checked};
 ghost use Rattle.flow_model.specs.WellFormed as declared;
-ghost use Rattle.flow_view.specs.Reading.{Caused};
+ghost use Rattle.flow_view.specs.Called.{Called};
 
 use crate::going::{Going, Step};
 use crate::programs::program_of;
@@ -41,13 +41,13 @@ pub(crate) fn signal<V: View, P: Programs>(
     value: &Value,
     at: Moment,
 ) -> Result<Step, ViewFault>
-    ensures comes { IfOk result (λ s. V.is_sure view.new → Comes (rules_of P.meaning) (V.book view.old) (V.book view.new) s (apply.signal (rules_of P.meaning) (V.book view.old) request.now flow.now name.now value.now at)) }
-    ensures sticks { IfOk result (λ s. V.is_sure view.new → Sticks (V.book view.old) s (StuckSignal P.meaning (V.book view.old) request.now flow.now name.now value.now)) }
-    ensures cause { (a : V) → V.follows a view.old → V.is_true view.new → V.is_sure view.old → Caused result (V.refuses a view.new ⊎ StuckSignal P.meaning (V.book view.old) request.now flow.now name.now value.now) }
-    ensures goes_on { OnOk result (V.is_true view.new → V.is_sure view.old → V.is_sure view.new) }
-    ensures sure { V.is_sure view.new → V.is_sure view.old }
-    ensures was_true { V.is_true view.new → V.is_true view.old }
-    ensures follows { (a : V) → V.follows a view.old → V.follows a view.new }
+    ensures comes { IfOk result (λ s. V.is_sure view.new
+        → Comes (rules_of P.meaning) (V.book view.old) (V.book view.new) s
+        (apply.signal (rules_of P.meaning) (V.book view.old) request.now flow.now name.now value.now at)) }
+    ensures sticks { IfOk result (λ s. V.is_sure view.new
+        → Sticks (V.book view.old) s (StuckSignal P.meaning (V.book view.old) request.now flow.now name.now value.now)) }
+    ensures called { Called V.View view.old view.new result
+        (StuckSignal P.meaning (V.book view.old) request.now flow.now name.now value.now) }
 {
     signal_at(alloc, programs, view, request, flow, name, value, at)
 }
@@ -64,13 +64,13 @@ fn signal_at<V: View, P: Programs>(
     value: &Value,
     at: Moment,
 ) -> Result<Step, ViewFault>
-    ensures comes { IfOk result (λ s. V.is_sure view.new → Comes (rules_of P.meaning) (V.book view.old) (V.book view.new) s (sent_at (rules_of P.meaning) (V.book view.old) request.now flow.now name.now value.now at)) }
-    ensures sticks { IfOk result (λ s. V.is_sure view.new → Sticks (V.book view.old) s (StuckSendAt P.meaning (V.book view.old) request.now flow.now name.now value.now)) }
-    ensures cause { (a : V) → V.follows a view.old → V.is_true view.new → V.is_sure view.old → Caused result (V.refuses a view.new ⊎ StuckSendAt P.meaning (V.book view.old) request.now flow.now name.now value.now) }
-    ensures goes_on { OnOk result (V.is_true view.new → V.is_sure view.old → V.is_sure view.new) }
-    ensures sure { V.is_sure view.new → V.is_sure view.old }
-    ensures was_true { V.is_true view.new → V.is_true view.old }
-    ensures follows { (a : V) → V.follows a view.old → V.follows a view.new }
+    ensures comes { IfOk result (λ s. V.is_sure view.new
+        → Comes (rules_of P.meaning) (V.book view.old) (V.book view.new) s
+        (sent_at (rules_of P.meaning) (V.book view.old) request.now flow.now name.now value.now at)) }
+    ensures sticks { IfOk result (λ s. V.is_sure view.new
+        → Sticks (V.book view.old) s (StuckSendAt P.meaning (V.book view.old) request.now flow.now name.now value.now)) }
+    ensures called { Called V.View view.old view.new result
+        (StuckSendAt P.meaning (V.book view.old) request.now flow.now name.now value.now) }
 {
     if let Some((run, event)) = view.signalled(flow, request)? {
         return Ok(Step::Answered(Reply::DuplicateSignal(run, event), Vec::new(alloc)));
@@ -94,13 +94,13 @@ fn signal_run<V: View, P: Programs>(
     value: &Value,
     at: Moment,
 ) -> Result<Step, ViewFault>
-    ensures comes { IfOk result (λ s. V.is_sure view.new → Comes (rules_of P.meaning) (V.book view.old) (V.book view.new) s (run_sent_at (rules_of P.meaning) (V.book view.old) number request.now name.now value.now at)) }
-    ensures sticks { IfOk result (λ s. V.is_sure view.new → Sticks (V.book view.old) s (StuckSentAt P.meaning (V.book view.old) number request.now name.now value.now)) }
-    ensures cause { (a : V) → V.follows a view.old → V.is_true view.new → V.is_sure view.old → Caused result (V.refuses a view.new ⊎ StuckSentAt P.meaning (V.book view.old) number request.now name.now value.now) }
-    ensures goes_on { OnOk result (V.is_true view.new → V.is_sure view.old → V.is_sure view.new) }
-    ensures sure { V.is_sure view.new → V.is_sure view.old }
-    ensures was_true { V.is_true view.new → V.is_true view.old }
-    ensures follows { (a : V) → V.follows a view.old → V.follows a view.new }
+    ensures comes { IfOk result (λ s. V.is_sure view.new
+        → Comes (rules_of P.meaning) (V.book view.old) (V.book view.new) s
+        (run_sent_at (rules_of P.meaning) (V.book view.old) number request.now name.now value.now at)) }
+    ensures sticks { IfOk result (λ s. V.is_sure view.new
+        → Sticks (V.book view.old) s (StuckSentAt P.meaning (V.book view.old) number request.now name.now value.now)) }
+    ensures called { Called V.View view.old view.new result
+        (StuckSentAt P.meaning (V.book view.old) number request.now name.now value.now) }
 {
     let Some(head) = view.head(number)? else {
         return Err(ViewFault::StoreRefused);
@@ -127,7 +127,8 @@ fn input_of(
     name: &RawText,
     value: &Value,
 ) -> Result<Result<Input, Code>, AllocError>
-    ensures taken { IfOk result (λ r. IfOk r (λ i. (by_head.signal_refused (shown_checked program.now) name.now value.now ≡ None) × (i ≡ Input.Signaled name.now request.now value.now))) }
+    ensures taken { IfOk result (λ r. IfOk r (λ i. (by_head.signal_refused (shown_checked program.now) name.now value.now ≡ None)
+        × (i ≡ Input.Signaled name.now request.now value.now))) }
     ensures refused { IfOk result (λ r. IfErr r (λ c. by_head.signal_refused (shown_checked program.now) name.now value.now ≡ Some c)) }
 {
     match declared_as(program, name) {
@@ -146,7 +147,8 @@ fn input_of(
 }
 
 fn declared_as<'a>(program: &'a Checked, name: &RawText) -> Option<(&'a Key, Kind)>
-    ensures kind { MatchOption result (declared.signal_of (shown_checked program.now).declarations name.now ≡ None) (λ s. declared.signal_of (shown_checked program.now).declarations name.now ≡ Some s.1) }
+    ensures kind { MatchOption result (declared.signal_of (shown_checked program.now).declarations name.now ≡ None)
+        (λ s. declared.signal_of (shown_checked program.now).declarations name.now ≡ Some s.1) }
     ensures name { IfSome result (λ s. s.0.now ≡ name.now) }
 {
     signal_of(&program.program().declarations, name)
@@ -154,7 +156,8 @@ fn declared_as<'a>(program: &'a Checked, name: &RawText) -> Option<(&'a Key, Kin
 
 /// The signal of a name as it is declared, and what it carries; none where no such signal is declared.
 fn signal_of<'a>(declarations: &'a [Declaration], name: &RawText) -> Option<(&'a Key, Kind)>
-    ensures kind { MatchOption result (declared.signal_of (map shown_declaration declarations.now) name.now ≡ None) (λ s. declared.signal_of (map shown_declaration declarations.now) name.now ≡ Some s.1) }
+    ensures kind { MatchOption result (declared.signal_of (map shown_declaration declarations.now) name.now ≡ None)
+        (λ s. declared.signal_of (map shown_declaration declarations.now) name.now ≡ Some s.1) }
     ensures name { IfSome result (λ s. s.0.now ≡ name.now) }
 {
     for declaration in declarations {

@@ -3,7 +3,7 @@ use Rattle.flow_model.specs.Apply.{rules_of, complete}
 use Rattle.flow_machine.specs.ByHead.{complete_at, StuckCompleteAt}
 use Rattle.flow_machine.specs.Stuck.{StuckComplete}
 use Rattle.flow_machine.proofs.ByHeads.{complete_is, complete_stuck}
-use Rattle.flow_machine.proofs.Stepping.{comes_as, sticks_as, caused_as}
+use Rattle.flow_machine.proofs.Stepping.{comes_as, sticks_as, called_as}
 use Rattle.flow_machine.proofs.complete.complete.Goals as goal
 
 pub returns-clause-comes : goal.returns-clause-comes
@@ -18,8 +18,8 @@ returns-clause-sticks g c =
     let old = g.V.View.book c.args.view.now in
     sticks_as c.complete_at.result (g.V.View.is_sure c.complete_at.new.view) old (StuckCompleteAt m old c.args.number c.args.event c.args.attempt c.args.value.now) (StuckComplete m old c.args.number c.args.event c.args.attempt c.args.value.now) (complete_stuck m old c.args.number c.args.event c.args.attempt c.args.value.now) c.complete_at.ensures.sticks
 
-pub returns-clause-cause : goal.returns-clause-cause
-returns-clause-cause g c = λ a follows now sure.
+pub returns-clause-called : goal.returns-clause-called
+returns-clause-called g c =
     let m = g.P.Programs.meaning in
     let old = g.V.View.book c.args.view.now in
-    caused_as c.complete_at.result (g.V.View.refuses a c.complete_at.new.view) (StuckCompleteAt m old c.args.number c.args.event c.args.attempt c.args.value.now) (StuckComplete m old c.args.number c.args.event c.args.attempt c.args.value.now) (complete_stuck m old c.args.number c.args.event c.args.attempt c.args.value.now) (c.complete_at.ensures.cause a follows now sure)
+    called_as g.V.View c.args.view.now c.complete_at.new.view c.complete_at.result (StuckCompleteAt m old c.args.number c.args.event c.args.attempt c.args.value.now) (StuckComplete m old c.args.number c.args.event c.args.attempt c.args.value.now) (complete_stuck m old c.args.number c.args.event c.args.attempt c.args.value.now) c.complete_at.ensures.called

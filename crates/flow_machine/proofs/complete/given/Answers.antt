@@ -8,7 +8,7 @@ pub returns-clause-sticks : goal.returns-clause-sticks
 returns-clause-sticks g c = λ sure.
     let book = g.V.View.book in
     let old = book c.args.view.now in
-    let seen = c.in_ok-scheduled.ensures.reads (c.set_out.ensures.sure sure) in
+    let seen = c.in_ok-scheduled.ensures.reads (c.set_out.ensures.called.sure sure) in
     let going = c.in_ok-going.going in
     let scheduled = c.in_ok-scheduled.scheduled in
     let given : gives_kind scheduled c.args.value.now ≡ true = search rules in

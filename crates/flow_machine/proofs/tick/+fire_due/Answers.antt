@@ -25,8 +25,8 @@ pub returns-clause-fires : goal.returns-clause-fires
 returns-clause-fires g t c = λ sure fit.
     let book = g.V.View.book in
     let some : c.args.left ≡ suc (c.args.left - 1) = omega (arith, c.if-left-eq0.false) in
-    let after_one = c.fire_due.ensures.sure sure in
-    let seen = c.in_ok-due.ensures.reads (c.fire.ensures.sure after_one) in
+    let after_one = c.fire_due.ensures.kept.sure sure in
+    let seen = c.in_ok-due.ensures.reads (c.fire.ensures.kept.sure after_one) in
     let here = fit_over g.P.Programs.meaning (book c.args.view.now) (book c.least_due.new.self) c.args.seats.now seen.0 fit in
     one_fires (rules_of g.P.Programs.meaning) c.args.at c.args.left (c.args.left - 1) (book c.args.view.now) some (book c.least_due.new.self) c.in_ok-due.field-0 c.in-Some.due
     seen c.in-Some.is (book c.fire.new.view) (book c.fire_due.new.view) c.args.changes.now.items c.fire.new.changes.items
@@ -40,8 +40,8 @@ returns-in_default-clause-fit g t c = λ sure fit.
 pub returns-clause-fit : goal.returns-clause-fit
 returns-clause-fit g t c = λ sure fit.
     let book = g.V.View.book in
-    let after_one = c.fire_due.ensures.sure sure in
-    let seen = c.in_ok-due.ensures.reads (c.fire.ensures.sure after_one) in
+    let after_one = c.fire_due.ensures.kept.sure sure in
+    let seen = c.in_ok-due.ensures.reads (c.fire.ensures.kept.sure after_one) in
     let here = fit_over g.P.Programs.meaning (book c.args.view.now) (book c.least_due.new.self) c.args.seats.now seen.0 fit in
     c.in_ok-more.ensures.fit sure (c.in_ok-fire.ensures.fit after_one here)
 
@@ -54,7 +54,7 @@ returns-in_err-fire-clause-cause g t c = λ a follows now first fit.
     let at = c.args.at in
     let left = c.args.left in
     let some : left ≡ suc (left - 1) = omega (arith, c.if-left-eq0.false) in
-    let sure = c.in_ok-due.ensures.goes_on (c.fire.ensures.was_true now) first in
+    let sure = c.in_ok-due.ensures.goes_on (c.fire.ensures.kept.was_true now) first in
     let seen = c.in_ok-due.ensures.reads sure in
     let over = fit_over g.P.Programs.meaning old here c.args.seats.now seen.0 fit in
     let Refuses : Type 0 = g.V.View.refuses a c.fire.new.view in
@@ -78,10 +78,10 @@ returns-in_err-more-clause-cause g t c = λ a follows now first fit.
     let at = c.args.at in
     let left = c.args.left in
     let some : left ≡ suc (left - 1) = omega (arith, c.if-left-eq0.false) in
-    let was_true = c.fire_due.ensures.was_true now in
-    let sure = c.in_ok-due.ensures.goes_on (c.fire.ensures.was_true was_true) first in
+    let was_true = c.fire_due.ensures.kept.was_true now in
+    let sure = c.in_ok-due.ensures.goes_on (c.fire.ensures.kept.was_true was_true) first in
     let seen = c.in_ok-due.ensures.reads sure in
-    let later = c.in_ok-fire.ensures.goes_on was_true sure in
+    let later = c.in_ok-fire.ensures.kept.goes_on was_true sure in
     let over = fit_over g.P.Programs.meaning old here c.args.seats.now seen.0 fit in
     let led = (c.in_ok-fire.ensures.adds later over).book_is in
     let Refuses : Type 0 = g.V.View.refuses a c.fire_due.new.view in
@@ -93,4 +93,4 @@ returns-in_err-more-clause-cause g t c = λ a follows now first fit.
     let unfit : Unfit → UnfitWithin = unfit_later u at left (left - 1) old some here c.in_ok-due.field-0 c.in-Some.due seen c.in-Some.is g.V.View.unfit next led in
     let p = err_from_is_err_and c.from_residual-in_err-more.result c.from_residual-in_err-more.ensures.1 in
     rw (p.1, p.2) (caused_by c.in_err-more.field-0.0 (Refuses ⊎ (Stuck ⊎ Unfit)) (Refuses ⊎ (StuckWithin ⊎ UnfitWithin)) (other_sides Refuses Stuck StuckWithin Unfit UnfitWithin stuck unfit)
-    (c.in_err-more.ensures.cause a (c.fire.ensures.follows a (c.least_due.ensures.follows a follows)) now later (c.in_ok-fire.ensures.fit later over)))
+    (c.in_err-more.ensures.cause a (c.fire.ensures.kept.follows a (c.least_due.ensures.follows a follows)) now later (c.in_ok-fire.ensures.fit later over)))
