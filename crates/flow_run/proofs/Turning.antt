@@ -3,26 +3,28 @@ use Rattle.std.proofs.Common.{◌≡◌, ℕ, zero, suc, ◌+◌, ◌≤◌, Lis
 use Rattle.flow_base.specs.declared.event.Cmd.{Cmd}
 use Rattle.flow_base.specs.declared.event.Cmd.TheVariants as cmd
 use Rattle.flow_base.specs.declared.event.State.{State}
-use Rattle.std.specs.Prelude.{if◌then◌else◌, min}
+use Rattle.std.specs.Prelude.{if◌then◌else◌, min, slice_get}
 use Rattle.flow_base.specs.declared.value.Value.TheVariants as value
 use Rattle.flow_base.specs.declared.event.Cmd.TheVariants.{Complete}
 use Rattle.flow_nodes.specs.declared.table.Listing.{Listing}
-use Rattle.flow_model.specs.Configuration.{is_open}
+use Rattle.flow_model.specs.Configuration.{Configuration, is_open}
 use Rattle.flow_model.specs.Deliver.{Progress}
 use Rattle.flow_model.specs.Rest.{Rest, Done, is_done, open_waits}
 use Rattle.flow_model.specs.Step.{Store, Setting, Move, Stays, Goes, Asks, Ends, move, wait_limit}
-use Rattle.flow_model.specs.Turn.{Frame, after_move, ended, next, setting, state_after_command}
-use Rattle.flow_run.specs.Marks.{Moves, Stay, Go, Ask, Finish, at_head, along, or_moves, moves, first_rest, onto}
+use Rattle.flow_model.specs.Turn.{Frame, after_move, ended, left_by, next, setting, state_after_command}
+use Rattle.flow_run.specs.Marks.{Moves, Stay, Go, Ask, Finish, at_head, along, or_moves, moves, first_rest, onto, put}
 use Rattle.flow_run.specs.Marks.{Mark, Counted}
 use Rattle.flow_run.specs.Shown.{shown_store}
-use Rattle.flow_run.specs.Flat.{AreFullCells, AreSound, StepsFirst, marks_of}
+use Rattle.flow_run.specs.Flat.{AreFull, AreFullCells, AreSound, StepsFirst, mark_of, marks_of}
 use Rattle.flow_run.specs.Position.{setting_with}
 use Rattle.flow_run.specs.declared.store.Store.{Store as CStore}
+use Rattle.flow_run.specs.declared.walk.Stepped.{Stepped}
 use Rattle.flow_run.specs.declared.walk.Stepped.TheVariants as stepped
 use Rattle.flow_run.specs.Waiting.{opens_in_all}
 use Rattle.flow_run.specs.Whole.{IsWholeAt, is_unbegun, rest_at}
 use Rattle.flow_run.specs.declared.cell.Cell.{Cell}
 use Rattle.flow_run.proofs.OpenWaits.{opens_are}
+use Rattle.flow_run.proofs.Overs.{counted_first}
 
 -- what a list of at most one rest does
 abbrev first_move : Moves → Move
@@ -84,7 +86,7 @@ begun_after (cmd.ContinueAsNew vs) = refl
 
 -- One step of a run within a turn is one step of the definition.
 pub next_closed : (f : Frame) (p : Progress) (b : Bool) → b ≡ is_open p.state → b ≡ false → None ≡ next f p
-next_closed f p b is no = by (is_open p.state) (sym is ∙ no)
+next_closed f p b is shut = by (is_open p.state) (sym is ∙ shut)
   where
     by : (o : Bool) → o ≡ false → ◌≡◌ {A = Option Progress} None (if o then (if is_done p.rest then Some (ended p (Complete (value.Text []))) else after_move p (move (setting f p) p.store p.rest)) else None)
     by false e = refl
@@ -157,3 +159,38 @@ module _ (ls : List Listing) (f : Frame) (s : Setting) (cs ds : List Cell) (t u 
   step_ends c q is m =
       ap Some is ∙ ap (λ (x : CStore). Some (ended (progress_at ls ds x asked st) c)) m.1
       ∙ next_moves f (progress_at ls cs t asked st) s (Ends c) opened going same (ends_one s (shown_store t) (onto (marks_of ls cs) []) c whole.one m.0)
+
+-- The first task or join of all: where it is over, nothing is left.
+abbrev cell_or : Cell → Option Cell → Cell
+cell_or d None = d
+cell_or d (Some c) = c
+
+pub first_full : (ls : List Listing) (cs : List Cell) (c : Cell) → Some c ≡ slice_get cs 0 → AreSound ls cs → AreFull ls c
+first_full ls [] c e s = cc
+first_full ls (x ∷ cs) c e s = subst (AreFull ls) (sym (ap (cell_or c) e)) (s.0 0 x (omega arith))
+
+pub finished_first : (ls : List Listing) (cs : List Cell) (c : Cell) (b : Bool) → Some c ≡ slice_get cs 0 → AreSound ls cs
+    → ((rs : List Rest) → Counted (mark_of ls c ∷ []) rs → is_done (first_rest (put (mark_of ls c) rs)) ≡ b) → b ≡ is_done (rest_at ls cs)
+finished_first ls [] c b e s f = cc
+finished_first ls (x ∷ cs) c b e s f =
+    let same : c ≡ x = ap (cell_or c) e in
+    let rs = onto (marks_of ls cs) [] in
+    let counted : Counted (mark_of ls c ∷ []) rs = subst (λ (y : Cell). Counted (mark_of ls y ∷ []) rs) (sym same) (counted_first (mark_of ls x) (marks_of ls cs) s.1) in
+    sym (f rs counted) ∙ ap (λ (y : Cell). is_done (first_rest (put (mark_of ls y) rs))) same
+
+pub finished_none : (ls : List Listing) (cs : List Cell) → ◌≡◌ {A = Option Cell} None (slice_get cs 0) → true ≡ is_done (rest_at ls cs)
+finished_none ls [] e = refl
+finished_none ls (c ∷ cs) e = cc
+
+-- what a command leaves that closes a run
+pub ended_is : (ls : List Listing) (cs : List Cell) (t : CStore) (asked : List Cmd) (st : State) (old : Progress) (c : Cmd) → cs ≡ [] → shown_store t ≡ old.store → asked ≡ old.asked ++ c ∷ [] → st ≡ state_after_command c → progress_at ls cs t asked st ≡ ended old c
+ended_is ls cs t asked st old c none store more state = λ x. record { rest = rest_at ls (none x); store = store x; asked = more x; state = state x }
+
+-- where a turn leaves a run, by the number of its commands
+pub left_is : (f : Frame) (p : Progress) (n : ℕ) → n ≡ length p.asked
+    → ◌≡◌ {A = Configuration} (record { rest = p.rest; variables = p.store.variables; buffer = p.store.buffer; decided = p.store.decided; events = f.events + n; moment = f.at; state = p.state }) (left_by f p)
+left_is f p n e = λ x. record { rest = p.rest; variables = p.store.variables; buffer = p.store.buffer; decided = p.store.decided; events = f.events + e x; moment = f.at; state = p.state }
+
+-- a step by an equal setting
+pub steps_same : (ls : List Listing) (s r : Setting) (t u : CStore) (cs ds : List Cell) (m : Stepped) → StepsFirst ls s t cs u ds m → s ≡ r → StepsFirst ls r t cs u ds m
+steps_same ls s r t u cs ds m h e = subst (λ (x : Setting). StepsFirst ls x t cs u ds m) e h

@@ -1,6 +1,6 @@
 -- A turn from its parts.
-use Rattle.std.proofs.Common.{◌≡◌, ℕ, ◌+◌, List, [], refl, sym, ap, ◌∙◌, Option, Some, None, Bool, true, false}
-use Rattle.std.specs.Prelude.{if◌then◌else◌}
+use Rattle.std.proofs.Common.{◌≡◌, ℕ, ◌+◌, List, [], refl, sym, ap, ◌∙◌, Option, Some, None, Result, Ok, Err, Bool, true, false}
+use Rattle.std.specs.Prelude.{if◌then◌else◌, is_some, IfOk, MatchOption, OnErr}
 use Rattle.flow_base.specs.Syntax.{Program, ActivityType, activities_of}
 use Rattle.flow_base.specs.declared.event.Cmd.{Cmd}
 use Rattle.flow_base.specs.declared.event.Input.{Input}
@@ -82,3 +82,27 @@ begun_fits p vs x e =
 pub begun_unfit : (p : Program) (vs : List Value) → None ≡ begun p vs → all_fit p.parameters vs ≡ false
 begun_unfit p vs e =
     unfit_if (all_fit p.parameters vs) (record { rest = rest_of p.body; store = record { variables = bound p.parameters vs; buffer = []; decided = none_decided; tests = 0 }; asked = []; state = Open }) e
+
+-- the input of a turn is delivered
+pub is_delivered : (p : Program) (answers : Answers) (old : Configuration) (at : ℕ) (i : Input) (cmds : List Cmd) (new : Configuration) → Turn p answers old at i cmds new → is_some (deliver p old i) ≡ true
+is_delivered p answers old at i cmds new t = ap is_some t.delivered
+
+-- where a run begins, its start is delivered
+begun_not : (p : Program) (vs : List Value) → all_fit p.parameters vs ≡ false → deliver p first_configuration (input.Started vs) ≡ None
+begun_not p vs h = rw h
+
+begun_some : (p : Program) (vs : List Value) → all_fit p.parameters vs ≡ true → is_some (deliver p first_configuration (input.Started vs)) ≡ true
+begun_some p vs h = rw h
+
+begins_or : {A : Type 0} (o : Option A) (p : Program) (vs : List Value) (P : A → Type 0) → MatchOption o (all_fit p.parameters vs ≡ false) P → MatchOption o (deliver p first_configuration (input.Started vs) ≡ None) P
+begins_or None p vs P h = begun_not p vs h
+begins_or (Some a) p vs P h = h
+
+pub begins_ok : {A E : Type 0} (r : Result (Option A) E) (p : Program) (vs : List Value) (P : A → Type 0)
+    → IfOk r (λ o. MatchOption o (all_fit p.parameters vs ≡ false) P) → IfOk r (λ o. MatchOption o (deliver p first_configuration (input.Started vs) ≡ None) P)
+begins_ok (Ok o) p vs P h = begins_or o p vs P h
+begins_ok (Err e) p vs P h = h
+
+pub begins_err : {A E : Type 0} (r : Result A E) (p : Program) (vs : List Value) → OnErr r (all_fit p.parameters vs ≡ true) → OnErr r (is_some (deliver p first_configuration (input.Started vs)) ≡ true)
+begins_err (Ok a) p vs h = h
+begins_err (Err e) p vs h = begun_some p vs h

@@ -8,8 +8,8 @@ ghost use Rattle.flow_model.specs.Configuration as configuration;
 ghost use Rattle.flow_model.specs.Configuration.{Configuration, first_configuration};
 ghost use Rattle.flow_model.specs.Deliver.{deliver as delivered, all_fit as fit};
 ghost use Rattle.flow_model.specs.Turn as model;
-ghost use Rattle.flow_run.specs.Shown.{shown_answers, shown_setting};
-ghost use Rattle.flow_run.specs.Flat.{AreSound};
+ghost use Rattle.flow_run.specs.Shown.{shown_answers};
+ghost use Rattle.flow_run.specs.Flat.{AreSound, KeepsSound, StepsFirst};
 ghost use Rattle.flow_run.specs.Waiting.{waits_in_all, wait_in, opens_in_all, one_if, is_waiting as is_waiting_in};
 ghost use Rattle.flow_run.specs.Position.{IsWholeTurning, Leads, setting_with, shown_frame, shown_progress};
 ghost use Rattle.flow_run.specs.Whole.{rest_at, shown_standing};
@@ -177,8 +177,7 @@ fn step_on(alloc: Global, f: &Frame, table: &Table, p: &mut Turning) -> Result<b
     ensures kept { IfOk result (λ steps. steps ≡ false → shown_progress table.now.lists.items p.new ≡ shown_progress table.now.lists.items p.old) }
     ensures whole { IfOk result (λ _. IsWholeTurning table.now.lists.items p.new) }
 {
-    let s = setting_of(f, p);
-    match step(alloc, table, &s, &mut p.store, &mut p.cells)? {
+    match stepped(alloc, f, table, &p.asked, &mut p.store, &mut p.cells)? {
         Stepped::Stays => Ok(false),
         Stepped::Goes => Ok(true),
         Stepped::Asks(c) => {
@@ -192,20 +191,32 @@ fn step_on(alloc: Global, f: &Frame, table: &Table, p: &mut Turning) -> Result<b
     }
 }
 
-// What the next step reads.
-fn setting_of<'a>(f: &Frame<'a>, p: &Turning) -> Setting<'a>
-    requires { f.now.events < 2 ^ 62 }
-    ensures { shown_setting result ≡ setting_with (shown_frame f.now) (min (opens_in_all p.now.cells.items) 32) (length p.now.asked.items) }
+// The step of the leftmost task or join that can.
+fn stepped(
+    alloc: Global,
+    f: &Frame,
+    table: &Table,
+    asked: &[Cmd],
+    t: &mut Store,
+    cells: &mut Vec<Cell>,
+) -> Result<Stepped, Fault>
+    requires events { f.now.events < 2 ^ 62 }
+    requires linked { AreLinked table.now.lists.items }
+    requires sound { AreSound table.now.lists.items cells.old.items }
+    ensures step { IfOk result (λ m. StepsFirst table.now.lists.items (setting_with (shown_frame f.now) (min (opens_in_all cells.old.items) 32) (length asked.now)) t.old cells.old.items t.new cells.new.items m) }
+    ensures sound { IfOk result (λ m. KeepsSound table.now.lists.items cells.new.items m) }
 {
-    Setting {
+    let s = Setting {
         declarations: f.declarations,
         at: f.at,
         is_first: f.is_first,
-        waits: open_waits(&p.cells),
-        event: EventId::new(f.events + count(&p.asked) + 1).unwrap(),
+        waits: open_waits(cells),
+        event: EventId::new(f.events + count(asked) + 1).unwrap(),
         answers: f.answers,
-        taken: p.asked.len(),
-    }
+        taken: asked.len(),
+    };
+    let m = step(alloc, table, &s, t, cells)?;
+    Ok(m)
 }
 
 // Whether nothing is left of a run.

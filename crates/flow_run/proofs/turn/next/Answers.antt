@@ -18,8 +18,8 @@ returns-then-not-is_open-clause-step c =
 pub is_finished-requires : goal.is_finished-requires
 is_finished-requires c = subst (AreSound c.args.table.now.lists.items) (sym c.deref.ensures.value) c.requires.whole.sound
 
-pub returns-in_ok-ends-clause-step : goal.returns-in_ok-ends-clause-step
-returns-in_ok-ends-clause-step c =
+pub returns-then-is_finished-clause-step : goal.returns-then-is_finished-clause-step
+returns-then-is_finished-clause-step c =
     let ls = c.args.table.now.lists.items in
     let finished = c.is_finished.ensures ∙ ap (λ (cs : List Cell). is_done (rest_at ls cs)) c.deref.ensures.value in
     next_ends (shown_frame c.args.f.now) (shown_progress ls c.args.p.now) (shown_progress ls c.ends.new.p) (sym c.is_open.ensures ∙ c.if-not-is_open.false) (sym finished ∙ c.if-is_finished.true)
@@ -33,5 +33,5 @@ step_on-requires-clause-going c =
     let finished = c.is_finished.ensures ∙ ap (λ (cs : List Cell). is_done (rest_at c.args.table.now.lists.items cs)) c.deref.ensures.value in
     sym finished ∙ c.if-is_finished.false
 
-pub returns-in_ok-ends-clause-whole : goal.returns-in_ok-ends-clause-whole
-returns-in_ok-ends-clause-whole c = c.in_ok-ends.ensures.whole c.args.table.now.lists.items
+pub returns-then-is_finished-clause-whole : goal.returns-then-is_finished-clause-whole
+returns-then-is_finished-clause-whole c = c.in_ok-ends.ensures.whole c.args.table.now.lists.items
