@@ -1,5 +1,6 @@
-use Rattle.std.proofs.Common.{◌≡◌, ◌∙◌, List, Some, refl, subst, sym, true}
+use Rattle.std.proofs.Common.{◌≡◌, ◌∙◌, ℕ, List, Option, Some, ap, refl, subst, sym, true}
 use Rattle.std.specs.Prelude.{is_some}
+use Rattle.flow_base.specs.Syntax.{Bytes}
 use Rattle.flow_run.specs.Waiting.{IsFirst, NoneOf, going_on, late_in, on_activity}
 use Rattle.flow_base.specs.declared.event.Cause.TheVariants.{ActivityFailed}
 use Rattle.flow_run.specs.Whole.{shown_standing}
@@ -35,7 +36,7 @@ returns-in_ok-p-in-Some-clause-started c =
     let first = subst (λ (cs : List Cell). IsFirst (on_activity n) cs c.in-Some.i) c.deref.ensures.value c.in-Some.ensures in
     started_on run ls c.in_ok-p-in-Some.p (replaced (when_failed n text) (shown_standing run).rest) c.requires.is_open c.in_ok-p-in-Some.ensures.store
     (goes_on (when_failed n text) refl (on_activity n) (no_failure n text) (activity_waits n) run c.args.table.now c.in-Some.i q c.late-list.result (doing.Raised ActivityFailed other) c.in_ok-p-in-Some.p c.requires.table c.requires.whole c.requires.is_open first c.index.ensures
-    (λ h. failed_becomes n text ls q.doing h ∙ (λ x. Some (going_on ls (late x) (doing.Raised ActivityFailed (copy x))))) (c.in_ok-p-in-Some.ensures.shows q c.index.ensures))
+    (λ h. failed_becomes n text ls q.doing h ∙ ap (λ (o : Option ℕ). Some (going_on ls o (doing.Raised ActivityFailed text))) late ∙ ap (λ (said : Bytes). Some (going_on ls c.late-list.result (doing.Raised ActivityFailed said))) copy) (c.in_ok-p-in-Some.ensures.shows q c.index.ensures))
 
 pub returns-in_err-copy-in-Some-clause-err : goal.returns-in_err-copy-in-Some-clause-err
 returns-in_err-copy-in-Some-clause-err c =
