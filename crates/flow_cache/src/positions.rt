@@ -88,8 +88,8 @@ impl Positions {
         ensures replaced { IsSome (entry_of run self.old.entries) → self.new ≡ with_entry run (record { text = text; stance = stance }) self.old }
     {
         match self.cache.put(run.get(), Entry { text, stance }) {
-            Ok(_old) => {}
-            Err(_refused) => {}
+            Ok(old) => drop(old),
+            Err(refused) => drop(refused),
         }
     }
 

@@ -13,5 +13,5 @@ returns-in-Some-clause-fault c =
 pub returns-in_ok-table-in-None-clause-well_formed : goal.returns-in_ok-table-in-None-clause-well_formed
 returns-in_ok-table-in-None-clause-well_formed c = well_formed (shown_program c.args.program) (sym c.in_ok-fault.ensures ∙ c.in-None.is)
 
-pub of-requires-clause-well_formed : goal.of-requires-clause-well_formed
-of-requires-clause-well_formed c = well_formed (shown_program c.args.program) (sym c.in_ok-fault.ensures ∙ c.in-None.is)
+pub of-requires-in-None-clause-well_formed : goal.of-requires-in-None-clause-well_formed
+of-requires-in-None-clause-well_formed c = well_formed (shown_program c.args.program) (sym c.in_ok-fault.ensures ∙ c.in-None.is)
