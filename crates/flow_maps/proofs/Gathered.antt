@@ -76,10 +76,10 @@ listing_goes_on l l' n r same ready next first opened rs =
     let left : ℕ = length l'.opened.items + length (filter is_open_run rs) in
     ap (λ a. told (l'.ready.items ++ filter (is_by a) rest) (soonest a (with_next (option_map moment_of (least_from 1000000000000000 (n + 1) l'.first rs)) l'.next) rest) left) same
     ∙ ap (λ ws. told ws (soonest l.at (with_next (option_map moment_of (least_from 1000000000000000 (n + 1) l'.first rs)) l'.next) rest) left)
-        (ap (λ ws. ws ++ filter (is_by l.at) rest) ready ∙ append_assoc l.ready.items (filter (is_by l.at) own) (filter (is_by l.at) rest) ∙ ap (λ ws. l.ready.items ++ ws) (sym (filter_on (is_by l.at) own rest)))
+    (ap (λ ws. ws ++ filter (is_by l.at) rest) ready ∙ append_assoc l.ready.items (filter (is_by l.at) own) (filter (is_by l.at) rest) ∙ ap (λ ws. l.ready.items ++ ws) (sym (filter_on (is_by l.at) own rest)))
     ∙ ap (λ d. told (l.ready.items ++ filter (is_by l.at) (own ++ rest)) d left)
-        (ap (λ d. soonest l.at (with_next (option_map moment_of (least_from 1000000000000000 (n + 1) d rs)) l'.next) rest) first ∙ ap (λ o. soonest l.at (with_next timer o) rest) next
-        ∙ ap (λ b. soonest l.at b rest) (soonest_both l.at timer l.next own) ∙ sym (soonest_on l.at (with_next timer l.next) own rest))
+    (ap (λ d. soonest l.at (with_next (option_map moment_of (least_from 1000000000000000 (n + 1) d rs)) l'.next) rest) first ∙ ap (λ o. soonest l.at (with_next timer o) rest) next
+    ∙ ap (λ b. soonest l.at b rest) (soonest_both l.at timer l.next own) ∙ sym (soonest_on l.at (with_next timer l.next) own rest))
     ∙ ap (λ k. told (l.ready.items ++ filter (is_by l.at) (own ++ rest)) (soonest l.at (with_next timer l.next) (own ++ rest)) k) (opened rs)
 
 -- And with none more that is all.

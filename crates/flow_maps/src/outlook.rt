@@ -162,7 +162,12 @@ fn with_ready(at: Moment, best: Option<Moment>, run: RunId, task: &Task) -> Opti
 }
 
 /// The same with what a run has.
-pub(crate) fn soonest(at: Moment, best: Option<Moment>, run: RunId, tasks: &[Task]) -> Option<Moment>
+pub(crate) fn soonest(
+    at: Moment,
+    best: Option<Moment>,
+    run: RunId,
+    tasks: &[Task],
+) -> Option<Moment>
     ensures { result ≡ rule.soonest at best (waiting_in run tasks.now) }
 {
     let mut least = best;
