@@ -42,17 +42,17 @@ abbrev pub WorksOver : {S I O : Type 0} → (List ℕ → Bool → Type 0) → G
     → (Result I Error → Type 0) → Answerings (Keeping S) → Answerings (Keeping MemStore) → Inputs I → Outputs O → O → O → List ℕ → Work → Result ℕ Early → Type 0
 WorksOver misses g opens finds closes gives a am i o old new base job r =
     OverNamed base
-        (OverMemory (new ≡ old) (λ first last. Performed am i o gives job first last old new))
-        (Asks (misses base) job (λ s. (s ≡ Err (early_of faults.NoRun)) × (new ≡ old))
-            (OverFile g opens finds closes base (new ≡ old) (λ first last. Performed a i o gives job first last old new))) r
+    (OverMemory (new ≡ old) (λ first last. Performed am i o gives job first last old new))
+    (Asks (misses base) job (λ s. (s ≡ Err (early_of faults.NoRun)) × (new ≡ old))
+    (OverFile g opens finds closes base (new ≡ old) (λ first last. Performed a i o gives job first last old new))) r
 
 -- An engine was kept running by the settings of this file, over the store of this name.
 abbrev pub RunsOver : {A S R W : Type 0} → (List ℕ → Result (String A) Error → Type 0) → Ghosts S → (List ℕ → Result (Held S) BaseError → Type 0) → (List ℕ → ErrorCode → Unopened → Type 0) → (Held S → Type 0)
     → (Result R Error → Type 0) → (W → Option (List ℕ)) → (W → Type 0) → List ℕ → Option (List ℕ) → Activities → Result ℕ Early → Type 0
 RunsOver reads g opens finds closes lends contents prints base file kind r =
     HasSettings reads file (OverNamed base
-        (OverMemory (Unit {0}) (RunsWith kind over_memory contents prints lends))
-        (OverFile g opens finds closes base (Unit {0}) (RunsWith kind g contents prints lends))) r
+    (OverMemory (Unit {0}) (RunsWith kind over_memory contents prints lends))
+    (OverFile g opens finds closes base (Unit {0}) (RunsWith kind g contents prints lends))) r
 
 -- What was done for a call, by what the system gave.
 abbrev pub Answered : {A S I R W O P : Type 0}
@@ -63,19 +63,19 @@ abbrev pub Answered : {A S I R W O P : Type 0}
     → O → O → P → P → Call → Result ℕ Early → Type 0
 Answered {A} {S} {I} {R} {W} {O} {P} reads takes lists misses g opens finds closes gives lends contents prints a am i o p old new before behind c r =
     elim c [
-    | call.Check file ↦ Reads reads file.now ((new ≡ old) × (behind ≡ before)) (λ text. Ends (Tells o p (tells_verdict text) old new before behind)) r
-    | call.Safe first then ↦ Reads reads first.now ((new ≡ old) × (behind ≡ before)) (λ x. Reads reads then.now ((new ≡ old) × (behind ≡ before)) (λ y. Ends (Tells o p (tells_safety x y) old new before behind))) r
-    | call.Settle first then ↦ Reads reads first.now ((new ≡ old) × (behind ≡ before)) (λ x. Reads reads then.now ((new ≡ old) × (behind ≡ before)) (λ y. Ends (Tells o p (tells_settlement x y) old new before behind))) r
-    | call.Replay file history ↦ Reads reads file.now (new ≡ old) (λ text. ReplaysNamed reads lists takes o (meaning_of text) history.now old new) r
-    | call.Over base job ↦ WorksOver misses g opens finds closes gives a am i o old new base.now job r
-    | call.Open base ↦ OverNamed base.now
-        (OverMemory (new ≡ old) (λ first last. Lists am o first last old new))
-        (IsOnFile (misses base.now) (λ s. (s ≡ Ok 0) × (new ≡ old)) (OverFile g opens finds closes base.now (new ≡ old) (λ first last. Lists a o first last old new))) r
-    | call.Verify base ↦ OverNamed base.now
-        (OverMemory (new ≡ old) (λ first last. Verifies over_memory o first last old new))
-        (OverFile g opens finds closes base.now (new ≡ old) (λ first last. Verifies g o first last old new)) r
-    | call.Work base file leave ↦ RunsOver reads g opens finds closes lends contents prints base.now (option_map (λ t. t.now) file) (activities.Inside leave) r
-    | call.Serve base file ↦ RunsOver reads g opens finds closes lends contents prints base.now (option_map (λ t. t.now) file) activities.Outside r
+      | call.Check file ↦ Reads reads file.now ((new ≡ old) × (behind ≡ before)) (λ text. Ends (Tells o p (tells_verdict text) old new before behind)) r
+      | call.Safe first then ↦ Reads reads first.now ((new ≡ old) × (behind ≡ before)) (λ x. Reads reads then.now ((new ≡ old) × (behind ≡ before)) (λ y. Ends (Tells o p (tells_safety x y) old new before behind))) r
+      | call.Settle first then ↦ Reads reads first.now ((new ≡ old) × (behind ≡ before)) (λ x. Reads reads then.now ((new ≡ old) × (behind ≡ before)) (λ y. Ends (Tells o p (tells_settlement x y) old new before behind))) r
+      | call.Replay file history ↦ Reads reads file.now (new ≡ old) (λ text. ReplaysNamed reads lists takes o (meaning_of text) history.now old new) r
+      | call.Over base job ↦ WorksOver misses g opens finds closes gives a am i o old new base.now job r
+      | call.Open base ↦ OverNamed base.now
+          (OverMemory (new ≡ old) (λ first last. Lists am o first last old new))
+          (IsOnFile (misses base.now) (λ s. (s ≡ Ok 0) × (new ≡ old)) (OverFile g opens finds closes base.now (new ≡ old) (λ first last. Lists a o first last old new))) r
+      | call.Verify base ↦ OverNamed base.now
+          (OverMemory (new ≡ old) (λ first last. Verifies over_memory o first last old new))
+          (OverFile g opens finds closes base.now (new ≡ old) (λ first last. Verifies g o first last old new)) r
+      | call.Work base file leave ↦ RunsOver reads g opens finds closes lends contents prints base.now (option_map (λ t. t.now) file) (activities.Inside leave) r
+      | call.Serve base file ↦ RunsOver reads g opens finds closes lends contents prints base.now (option_map (λ t. t.now) file) activities.Outside r
     ]
 
 -- The words can't be read: E01 where memory ran out, and else E97.

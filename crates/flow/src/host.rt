@@ -81,10 +81,10 @@ impl System for HostRuntime {
         unopened(self, file, said)
     }
 
-    fn close(&self, conn: Connection<FileStore<File>>)
-        ensures { Unit {0} }
-    {
-        let _ = conn.close();
+    fn close(&self, conn: &mut Option<Connection<FileStore<File>>>) {
+        if let Some(conn) = conn.take() {
+            let _ = conn.close();
+        }
     }
 
     fn lines(&self) -> io::Result<Reading<BufReader<StdinLock<'static>>>> {

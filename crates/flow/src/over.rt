@@ -34,7 +34,8 @@ fn work_in_file<H: System, O: Output>(
 {
     let mut engine = open_file(alloc, system, file, Settings::usual())?;
     let outcome = performed(alloc, system, &mut engine, output, work);
-    system.close(engine.close());
+    let mut held = Some(engine.close());
+    system.close(&mut held);
     early(outcome)
 }
 
@@ -119,7 +120,8 @@ fn list_in_file<H: System, O: Output>(
 {
     let mut engine = open_file(alloc, system, file, Settings::usual())?;
     let outcome = listed(alloc, &mut engine, output);
-    system.close(engine.close());
+    let mut held = Some(engine.close());
+    system.close(&mut held);
     early(outcome)
 }
 
@@ -191,7 +193,8 @@ fn verify_file<H: System, O: Output>(
 {
     let mut engine = open_file(alloc, system, file, Settings::usual())?;
     let outcome = verified(alloc, &mut engine, output);
-    system.close(engine.close());
+    let mut held = Some(engine.close());
+    system.close(&mut held);
     early(outcome)
 }
 

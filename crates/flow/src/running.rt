@@ -170,7 +170,8 @@ fn run_in_file<H: System, T: Threads + Wait + Clock + Copy + Send + Drop + 'stat
 {
     let mut engine = open_file(alloc, system, file, settings)?;
     let outcome = run(alloc, system, threads, &mut engine, settings, activities);
-    system.close(engine.close());
+    let mut held = Some(engine.close());
+    system.close(&mut held);
     early(outcome)
 }
 

@@ -2,7 +2,7 @@
 //!
 //! No contract can say which words, files and bytes a system gives. So each call says of its answer that this was given, by a word that
 //! nothing else tells: whoever tells it on has made the call, with that name.
-ghost use Rattle.std.specs.Prelude.{◌≡◌, ℕ, List, Bool, Result, String, Vec, Option, false, IfOk};
+ghost use Rattle.std.specs.Prelude.{◌≡◌, ℕ, List, Bool, Result, String, Vec, Option, Some, false, IfOk};
 ghost use Rattle.std.specs.declared.alloc.Global.{Global};
 ghost use Rattle.std.specs.declared.io.Error.{Error};
 ghost use Rattle.sqlite.specs.declared.error.Error.{Error as BaseError};
@@ -94,9 +94,10 @@ pub trait System {
     fn unopened(&self, file: &str, said: ErrorCode) -> Unopened
         ensures { finds self.now file.now said result };
 
-    /// Copies the log of a file into the file. What was kept is kept in either, and the next opening reads both.
-    fn close(&self, conn: Connection<Self::Base>)
-        ensures { closes self.now conn };
+    /// Copies the log of a file into the file, and takes the connection away. What was kept is kept in either, and the next opening reads
+    /// both.
+    fn close(&self, conn: &mut Option<Connection<Self::Base>>)
+        ensures { (held : Held Self.Base) → conn.old ≡ Some held → closes self.now held };
 
     /// The lines of standard input.
     fn lines(&self) -> io::Result<Self::Lines>

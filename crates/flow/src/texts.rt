@@ -66,7 +66,7 @@ pub fn safe<H: System, O: Output, P: Output>(
 ) -> Result<u8, Early>
     ensures { Reads (H.reads system.now) old.now ((output.new ≡ output.old) × (errors.new ≡ errors.old))
         (λ first. Reads (H.reads system.now) new.now ((output.new ≡ output.old) × (errors.new ≡ errors.old))
-            (λ then. Ends (Tells O.Output P.Output (tells_safety first then) output.old output.new errors.old errors.new))) result }
+        (λ then. Ends (Tells O.Output P.Output (tells_safety first then) output.old output.new errors.old errors.new))) result }
 {
     let old = text_in(alloc, system, old)?;
     let new = text_in(alloc, system, new)?;
@@ -84,7 +84,7 @@ pub fn settle<H: System, O: Output, P: Output>(
 ) -> Result<u8, Early>
     ensures { Reads (H.reads system.now) old.now ((output.new ≡ output.old) × (errors.new ≡ errors.old))
         (λ first. Reads (H.reads system.now) new.now ((output.new ≡ output.old) × (errors.new ≡ errors.old))
-            (λ then. Ends (Tells O.Output P.Output (tells_settlement first then) output.old output.new errors.old errors.new))) result }
+        (λ then. Ends (Tells O.Output P.Output (tells_settlement first then) output.old output.new errors.old errors.new))) result }
 {
     let old = text_in(alloc, system, old)?;
     let new = text_in(alloc, system, new)?;

@@ -11,5 +11,5 @@ returns-in-Err-clause-unknown g c = record {
   fault = c.fault_of_error.result;
   is = c.from.ensures;
   memory = λ out. c.fault_of_error.ensures.memory (c.kind.ensures ∙ out);
-  other = subst (λ k. (c.fault_of_error.result ≡ BadUsage) ⊎ (k ≡ OutOfMemory)) c.kind.ensures c.fault_of_error.ensures.other
+  other = subst (λ k. (c.fault_of_error.result ≡ BadUsage) ⊎ (k ≡ OutOfMemory)) c.kind.ensures c.fault_of_error.ensures.other;
 }

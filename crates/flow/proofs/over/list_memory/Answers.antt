@@ -10,5 +10,5 @@ returns g c = inl (record {
   last = _;
   told = c.listed.result;
   did = c.listed.ensures;
-  is = c.early.ensures
+  is = c.early.ensures;
 })

@@ -1,4 +1,4 @@
-use Rattle.std.proofs.Common.{inl, subst}
+use Rattle.std.proofs.Common.{inl, refl, subst}
 use Rattle.flow.proofs.over.verify_file.Goals as goal
 
 pub returns : goal.returns
@@ -10,6 +10,6 @@ returns g c = inl (record {
   last = _;
   told = c.verified.result;
   did = c.verified.ensures;
-  closed = subst (g.H.System.closes c.args.system.now) c.close.ensures c.close-2.ensures;
-  is = c.early.ensures
+  closed = subst (g.H.System.closes c.args.system.now) c.close.ensures (c.close-2.ensures _ refl);
+  is = c.early.ensures;
 })

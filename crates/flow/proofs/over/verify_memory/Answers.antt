@@ -10,5 +10,5 @@ returns g c = inl (record {
   last = _;
   told = c.verified.result;
   did = c.verified.ensures;
-  is = c.early.ensures
+  is = c.early.ensures;
 })

@@ -10,5 +10,5 @@ returns g c = inl (record {
   last = _;
   told = c.performed.result;
   did = c.performed.ensures;
-  is = c.early.ensures
+  is = c.early.ensures;
 })

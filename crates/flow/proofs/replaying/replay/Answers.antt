@@ -9,8 +9,8 @@ returns-in-text g c = inl (record {
   read = c.in_ok-text.ensures.read;
   did = record {
     input = λ _. subst (λ t. ReplaysInput (g.H.System.takes c.args.system.now) g.O.Output (meaning_of t) c.args.output.now c.replay_input.new.output c.replay_input.result) c.as_str.ensures.value c.replay_input.ensures;
-    files = λ other. absurd (other c.in-text.is)
-  }
+    files = λ other. absurd (other c.in-text.is);
+  };
 })
 
 pub returns : goal.returns
@@ -19,6 +19,6 @@ returns g c = inl (record {
   read = c.in_ok-text.ensures.read;
   did = record {
     input = λ is. absurd (c.in_default.not-text is);
-    files = λ _. subst (λ t. ReplaysAt (g.H.System.reads c.args.system.now) (g.H.System.lists c.args.system.now) g.O.Output (meaning_of t) c.args.history.now c.args.output.now c.replay_at.new.output c.replay_at.result) c.as_str-in_default.ensures.value c.replay_at.ensures
-  }
+    files = λ _. subst (λ t. ReplaysAt (g.H.System.reads c.args.system.now) (g.H.System.lists c.args.system.now) g.O.Output (meaning_of t) c.args.history.now c.args.output.now c.replay_at.new.output c.replay_at.result) c.as_str-in_default.ensures.value c.replay_at.ensures;
+  };
 })

@@ -15,6 +15,6 @@ returns g c =
       did = inl (record {
         told = c.replay_one.result;
         did = subst (λ b. Replays g.O.Output b (IsReplayOf (meaning_of c.args.text.now) (string_bytes c.in_ok-history.history)) c.args.output.now c.replay_one.new.output c.replay_one.result) (c.as_str.ensures.value ∙ c.in_ok-begins.ensures.ok) of_text;
-        is = c.early.ensures
-      })
+        is = c.early.ensures;
+      });
     })

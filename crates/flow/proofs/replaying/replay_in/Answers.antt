@@ -10,6 +10,6 @@ returns g c = inl (record {
   did = record {
     told = c.replay_one.result;
     did = subst (λ t. Replays g.O.Output [] (IsReplayOf (meaning_of c.args.text.now) t) c.args.output.now c.replay_one.new.output c.replay_one.result) c.as_str.ensures.value c.replay_one.ensures;
-    is = c.early.ensures
-  }
+    is = c.early.ensures;
+  };
 })

@@ -1,4 +1,4 @@
-use Rattle.std.proofs.Common.{inl, subst}
+use Rattle.std.proofs.Common.{inl, refl, subst}
 use Rattle.flow.proofs.running.run_in_file.Goals as goal
 
 pub returns : goal.returns
@@ -10,6 +10,6 @@ returns g c = inl (record {
   last = _;
   told = c.run.result;
   did = c.run.ensures;
-  closed = subst (g.H.System.closes c.args.system.now) c.close.ensures c.close-2.ensures;
-  is = c.early.ensures
+  closed = subst (g.H.System.closes c.args.system.now) c.close.ensures (c.close-2.ensures _ refl);
+  is = c.early.ensures;
 })

@@ -10,5 +10,5 @@ returns g c = inl (record {
   last = _;
   told = c.run.result;
   did = c.run.ensures;
-  is = c.early.ensures
+  is = c.early.ensures;
 })

@@ -12,5 +12,5 @@ returns-in-Ok g c =
       served = ended_well ended.served ended.status c.outcome.result (HasServedAll g.S.Store old new) c.in-Ok.ensures.served c.outcome.ensures.fault c.outcome.ensures.done;
       ends = either c.outcome.result (EndsServing g.S.Store old new) _ (λ f h. inl h) (ended_by ended.served ended.status c.outcome.result (EndsServing g.S.Store old new) c.in-Ok.ensures.ends c.outcome.ensures.served c.outcome.ensures.fault);
       found = c.work_shown.ensures.found;
-      follows = c.work_shown.ensures.follows
+      follows = c.work_shown.ensures.follows;
     }

@@ -12,7 +12,7 @@ returns-in-Ok-clause-runs g c =
       served = ended_well ended.served ended.status c.outcome.result (HasServedAll g.S.Store old new) c.in-Ok.ensures.served c.outcome.ensures.fault c.outcome.ensures.done;
       ends = either c.outcome.result (EndsServing g.S.Store old new) _ (λ f h. inl h) (ended_by ended.served ended.status c.outcome.result (EndsServing g.S.Store old new) c.in-Ok.ensures.ends c.outcome.ensures.served c.outcome.ensures.fault);
       found = c.serve.ensures.found;
-      follows = c.serve.ensures.follows
+      follows = c.serve.ensures.follows;
     }
 
 pub returns-in-Ok-clause-prints : goal.returns-in-Ok-clause-prints
@@ -21,7 +21,7 @@ returns-in-Ok-clause-prints g c = inl (record {
   printed = c.replies.ensures;
   ended = c.in-Ok.ended;
   shows = c.in-Ok.ensures.shown;
-  status = status_made c.in-Ok.ended.ended.status c.outcome.result c.outcome.ensures.done
+  status = status_made c.in-Ok.ended.ended.status c.outcome.result c.outcome.ensures.done;
 })
 
 pub returns-in-Err-clause-prints : goal.returns-in-Err-clause-prints

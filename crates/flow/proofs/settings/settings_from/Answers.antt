@@ -10,7 +10,7 @@ pub returns-in-Err-BadSettings-clause-unset : goal.returns-in-Err-BadSettings-cl
 returns-in-Err-BadSettings-clause-unset g c = record {
   found = c.text.result;
   read = c.text.ensures;
-  why = inr (c.in-Err-BadSettings.ensures.bad c.in-Err-BadSettings.field-0-is, c.no_settings.ensures)
+  why = inr (c.in-Err-BadSettings.ensures.bad c.in-Err-BadSettings.field-0-is, c.no_settings.ensures);
 }
 
 pub returns-in-Err-clause-unset : goal.returns-in-Err-clause-unset
@@ -20,5 +20,5 @@ returns-in-Err-clause-unset g c = record {
   why = elim c.in-Err.ensures.among [
     | inl h ↦ inl (c.from.ensures ∙ ap early_of h)
     | inr h ↦ inr (c.in-Err.ensures.bad h, bare_settings c.args.file.now c.from.result (c.from.ensures ∙ ap early_of h))
-    ]
+  ];
 }

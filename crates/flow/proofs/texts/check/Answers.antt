@@ -14,8 +14,8 @@ returns g c = inl (record {
       marked = c.tell_verdict.ensures.marked;
       stopped = c.tell_verdict.ensures.stopped;
       unmarked = c.tell_verdict.ensures.unmarked;
-      output = c.tell_verdict.ensures.output
+      output = c.tell_verdict.ensures.output;
     });
-    is = c.early.ensures
-  }
+    is = c.early.ensures;
+  };
 })

@@ -13,7 +13,7 @@ returns g c =
       marked = c.tell_safety.ensures.marked;
       stopped = c.tell_safety.ensures.stopped;
       unmarked = c.tell_safety.ensures.unmarked;
-      output = c.tell_safety.ensures.output
+      output = c.tell_safety.ensures.output;
     }) in
     inl (record {
       text = c.in_ok-old.old;
@@ -24,7 +24,7 @@ returns g c =
         did = record {
           told = c.tell_safety.result;
           did = subst (λ t. Tells g.O.Output g.P.Output (tells_safety (string_bytes c.in_ok-old.old) t) c.args.output.now c.tell_safety.new.output c.args.errors.now c.tell_safety.new.errors c.tell_safety.result) c.as_str-2.ensures.value told;
-          is = c.early.ensures
-        }
-      })
+          is = c.early.ensures;
+        };
+      });
     })

@@ -13,7 +13,7 @@ returns g c =
       marked = c.tell_settlement.ensures.marked;
       stopped = c.tell_settlement.ensures.stopped;
       unmarked = c.tell_settlement.ensures.unmarked;
-      output = c.tell_settlement.ensures.output
+      output = c.tell_settlement.ensures.output;
     }) in
     inl (record {
       text = c.in_ok-old.old;
@@ -24,7 +24,7 @@ returns g c =
         did = record {
           told = c.tell_settlement.result;
           did = subst (λ t. Tells g.O.Output g.P.Output (tells_settlement (string_bytes c.in_ok-old.old) t) c.args.output.now c.tell_settlement.new.output c.args.errors.now c.tell_settlement.new.errors c.tell_settlement.result) c.as_str-2.ensures.value told;
-          is = c.early.ensures
-        }
-      })
+          is = c.early.ensures;
+        };
+      });
     })
