@@ -13,7 +13,7 @@ use Rattle.flow_lines.specs.Driving.{lines_of, WritesBeginning}
 use Rattle.flow_lines.specs.Ends.{input_failed, output_failed}
 use Rattle.flow_lines.specs.Faults.{fault_status}
 use Rattle.flow_lines.specs.Stopping.{CausedFault, StoppedBy}
-use Rattle.flow_lines.specs.declared.input.Input.{Ghosts as Inputs}
+use Rattle.flow_lines.specs.declared.input.LineSource.{Ghosts as Inputs}
 use Rattle.flow_lines.specs.declared.output.Output.{Ghosts as Outputs}
 use Rattle.flow_cli.specs.Histories.{BeginsHistory, CausedUnwritten, HasNoRun, TellsHistory}
 use Rattle.flow_cli.specs.Listings.{open_lines, TellsOpen}

@@ -30,7 +30,8 @@ fn work_in_file<H: System, O: Output>(
     work: &Work,
 ) -> Result<u8, Early>
     ensures { OverFile H.Base.Store (H.opens system.now) (H.finds system.now) (H.closes system.now) file.now (output.new ≡ output.old)
-        (λ first last. Performed ⟦<Engine<H::Base> as Answering>⟧ H.Lines.Input O.Output (H.gives system.now) work.now first last output.old output.new) result }
+        (λ first last. Performed ⟦<Engine<H::Base> as Answering>⟧ H.Lines.Input O.Output
+        (H.gives system.now) work.now first last output.old output.new) result }
 {
     let mut engine = open_file(alloc, system, file, Settings::usual())?;
     let outcome = performed(alloc, system, &mut engine, output, work);
@@ -49,7 +50,8 @@ fn ask_file<H: System, O: Output>(
 ) -> Result<u8, Early>
     ensures { IsOnFile (H.misses system.now file.now) (λ r. (r ≡ Err (early_of faults.NoRun)) × (output.new ≡ output.old))
         (OverFile H.Base.Store (H.opens system.now) (H.finds system.now) (H.closes system.now) file.now (output.new ≡ output.old)
-        (λ first last. Performed ⟦<Engine<H::Base> as Answering>⟧ H.Lines.Input O.Output (H.gives system.now) work.now first last output.old output.new)) result }
+        (λ first last. Performed ⟦<Engine<H::Base> as Answering>⟧ H.Lines.Input O.Output
+        (H.gives system.now) work.now first last output.old output.new)) result }
 {
     if system.is_not_there(file) {
         return Err(Early::from(Fault::NoRun));
@@ -67,7 +69,8 @@ fn work_over_file<H: System, O: Output>(
 ) -> Result<u8, Early>
     ensures { Asks (H.misses system.now file.now) work.now (λ r. (r ≡ Err (early_of faults.NoRun)) × (output.new ≡ output.old))
         (OverFile H.Base.Store (H.opens system.now) (H.finds system.now) (H.closes system.now) file.now (output.new ≡ output.old)
-        (λ first last. Performed ⟦<Engine<H::Base> as Answering>⟧ H.Lines.Input O.Output (H.gives system.now) work.now first last output.old output.new)) result }
+        (λ first last. Performed ⟦<Engine<H::Base> as Answering>⟧ H.Lines.Input O.Output
+        (H.gives system.now) work.now first last output.old output.new)) result }
 {
     match work {
         Work::Drive(_) => work_in_file(alloc, system, output, file, work),
@@ -82,7 +85,8 @@ fn work_over_memory<H: System, O: Output>(
     work: &Work,
 ) -> Result<u8, Early>
     ensures { OverMemory (output.new ≡ output.old)
-        (λ first last. Performed ⟦<Engine<MemStore> as Answering>⟧ H.Lines.Input O.Output (H.gives system.now) work.now first last output.old output.new) result }
+        (λ first last. Performed ⟦<Engine<MemStore> as Answering>⟧ H.Lines.Input O.Output
+        (H.gives system.now) work.now first last output.old output.new) result }
 {
     let mut engine = open_memory(alloc, Settings::usual())?;
     early(performed(alloc, system, &mut engine, output, work))
@@ -98,10 +102,12 @@ pub fn work_over<H: System, O: Output>(
 ) -> Result<u8, Early>
     ensures { OverNamed base.now
         (OverMemory (output.new ≡ output.old)
-        (λ first last. Performed ⟦<Engine<MemStore> as Answering>⟧ H.Lines.Input O.Output (H.gives system.now) work.now first last output.old output.new))
+        (λ first last. Performed ⟦<Engine<MemStore> as Answering>⟧ H.Lines.Input O.Output
+        (H.gives system.now) work.now first last output.old output.new))
         (Asks (H.misses system.now base.now) work.now (λ r. (r ≡ Err (early_of faults.NoRun)) × (output.new ≡ output.old))
         (OverFile H.Base.Store (H.opens system.now) (H.finds system.now) (H.closes system.now) base.now (output.new ≡ output.old)
-        (λ first last. Performed ⟦<Engine<H::Base> as Answering>⟧ H.Lines.Input O.Output (H.gives system.now) work.now first last output.old output.new))) result }
+        (λ first last. Performed ⟦<Engine<H::Base> as Answering>⟧ H.Lines.Input O.Output
+        (H.gives system.now) work.now first last output.old output.new))) result }
 {
     match base {
         "-" => work_over_memory(alloc, system, output, work),
@@ -143,7 +149,8 @@ fn list_file<H: System, O: Output>(
 }
 
 fn list_memory<O: Output>(alloc: Global, output: &mut O) -> Result<u8, Early>
-    ensures { OverMemory (output.new ≡ output.old) (λ first last. Lists ⟦<Engine<MemStore> as Answering>⟧ O.Output first last output.old output.new) result }
+    ensures { OverMemory (output.new ≡ output.old)
+        (λ first last. Lists ⟦<Engine<MemStore> as Answering>⟧ O.Output first last output.old output.new) result }
 {
     let mut engine = open_memory(alloc, Settings::usual())?;
     early(listed(alloc, &mut engine, output))

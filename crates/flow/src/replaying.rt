@@ -216,7 +216,8 @@ pub fn replay<H: System, O: Output, P: Output>(
     history: &str,
 ) -> Result<u8, Early>
     ensures { Reads (H.reads system.now) file.now (output.new ≡ output.old)
-        (λ text. ReplaysNamed (H.reads system.now) (H.lists system.now) (H.takes system.now) O.Output (meaning_of text) history.now output.old output.new) result }
+        (λ text. ReplaysNamed (H.reads system.now) (H.lists system.now) (H.takes system.now) O.Output
+        (meaning_of text) history.now output.old output.new) result }
 {
     let text = text_in(alloc, system, file)?;
     match history {

@@ -17,7 +17,7 @@ use flow_work::clock::SystemClock;
 use flow_work::running::work_shown;
 use flow_work::serving::serve;
 use flow_work::skills::BuiltIn;
-use flow_work::unknown::Unknown;
+use flow_work::unknown::UnknownActivity;
 use sqlite::Alter;
 use std::alloc::Global;
 use std::sync::Wait;
@@ -45,11 +45,11 @@ fn reader_of<H: System>(system: &H) -> Result<H::Reader, Fault>
 }
 
 /// What becomes of a task whose activity no worker has.
-fn unknown_to<H: System>(system: &H, leave_unknown: bool) -> Unknown<H::Notes> {
+fn unknown_to<H: System>(system: &H, leave_unknown: bool) -> UnknownActivity<H::Notes> {
     if leave_unknown {
-        Unknown::Leave(system.notes())
+        UnknownActivity::Leave(system.notes())
     } else {
-        Unknown::Fail
+        UnknownActivity::Fail
     }
 }
 

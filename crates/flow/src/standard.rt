@@ -22,7 +22,8 @@ pub fn performed<H: System, O: Output, E: Answering>(
     output: &mut O,
     work: &Work,
 ) -> Result<u8, Fault>
-    ensures { Performed E.Answering H.Lines.Input O.Output (H.gives system.now) work.now engine.old engine.new output.old output.new result }
+    ensures { Performed E.Answering H.Lines.Input O.Output
+        (H.gives system.now) work.now engine.old engine.new output.old output.new result }
 {
     let mut lines = match system.lines() {
         Ok(lines) => lines,

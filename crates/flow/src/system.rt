@@ -11,7 +11,7 @@ ghost use Rattle.sqlite.specs.Held.{Held};
 ghost use Rattle.flow_cli.specs.declared.reason.Unopened.{Unopened as Why};
 
 use flow_cli::reason::Unopened;
-use flow_lines::input::Input;
+use flow_lines::input::LineSource;
 use sqlite::{Alter, Connection, Error, ErrorCode};
 use std::io;
 use std::io::{BufRead, Write};
@@ -22,7 +22,7 @@ pub trait System {
     type Base: Alter + Drop;
 
     /// The lines of standard input, one after the other.
-    type Lines: Input + Drop;
+    type Lines: LineSource + Drop;
 
     /// Standard input, for a thread.
     type Reader: BufRead + Drop + Send + 'static;

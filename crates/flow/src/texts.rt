@@ -32,7 +32,8 @@ pub fn unread(alloc: Global, file: &str, kind: ErrorKind) -> Early
 /// The text of a file.
 pub fn text_in<H: System>(alloc: Global, system: &H, file: &str) -> Result<String, Early>
     ensures read { IfOk result (λ text. H.reads system.now file.now (Ok text)) }
-    ensures unread { IfErr result (λ e. (error : IoError) × (H.reads system.now file.now (Err error) × IsUnread file.now (error_kind error) e)) }
+    ensures unread { IfErr result (λ e. (error : IoError)
+        × (H.reads system.now file.now (Err error) × IsUnread file.now (error_kind error) e)) }
 {
     match system.text(file) {
         Ok(text) => Ok(text),

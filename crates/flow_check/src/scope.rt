@@ -69,8 +69,10 @@ impl<'a> Scope<'a> {
     /// The activities and signals become known; of two of one name the first stays.
     pub fn add_declarations(&mut self, declarations: &'a [Declaration]) -> Result<(), AllocError>
         ensures types { OnOk result (types_of self.new ≡ types_of self.old) }
-        ensures activities { OnOk result (activities_of self.new ≡ first_then (activities_of self.old) (activity_of (map shown_declaration declarations.now))) }
-        ensures signals { OnOk result (signals_of self.new ≡ first_then (signals_of self.old) (signal_of (map shown_declaration declarations.now))) }
+        ensures activities { OnOk result (activities_of self.new ≡ first_then (activities_of self.old)
+            (activity_of (map shown_declaration declarations.now))) }
+        ensures signals { OnOk result (signals_of self.new ≡ first_then (signals_of self.old)
+            (signal_of (map shown_declaration declarations.now))) }
         ensures parameters { OnOk result (parameters_of self.new ≡ parameters_of self.old) }
     {
         for declaration in declarations {
@@ -81,8 +83,10 @@ impl<'a> Scope<'a> {
 
     fn add_declaration(&mut self, declaration: &'a Declaration) -> Result<(), AllocError>
         ensures types { OnOk result (types_of self.new ≡ types_of self.old) }
-        ensures activities { OnOk result (activities_of self.new ≡ first_then (activities_of self.old) (activity_of (shown_declaration declaration.now ∷ []))) }
-        ensures signals { OnOk result (signals_of self.new ≡ first_then (signals_of self.old) (signal_of (shown_declaration declaration.now ∷ []))) }
+        ensures activities { OnOk result (activities_of self.new ≡ first_then (activities_of self.old)
+            (activity_of (shown_declaration declaration.now ∷ []))) }
+        ensures signals { OnOk result (signals_of self.new ≡ first_then (signals_of self.old)
+            (signal_of (shown_declaration declaration.now ∷ []))) }
         ensures parameters { OnOk result (parameters_of self.new ≡ parameters_of self.old) }
     {
         match declaration {
@@ -100,7 +104,8 @@ impl<'a> Scope<'a> {
     /// The activity is declared, if none of its name was.
     fn add_activity(&mut self, name: &'a Key, signature: Signature<'a>) -> Result<(), AllocError>
         ensures types { OnOk result (types_of self.new ≡ types_of self.old) }
-        ensures activities { OnOk result (activities_of self.new ≡ first_then (activities_of self.old) (only name.now (shown_signature signature.entry))) }
+        ensures activities { OnOk result (activities_of self.new ≡ first_then (activities_of self.old)
+            (only name.now (shown_signature signature.entry))) }
         ensures signals { OnOk result (signals_of self.new ≡ signals_of self.old) }
         ensures parameters { OnOk result (parameters_of self.new ≡ parameters_of self.old) }
     {

@@ -15,7 +15,7 @@ use flow_base::fault::Fault;
 use flow_base::number::RunId;
 use flow_lines::batch::BatchSize;
 use flow_lines::drive::drive_lines;
-use flow_lines::input::Input;
+use flow_lines::input::LineSource;
 use flow_lines::output::Output;
 use flow_machine::answer::Answering;
 use std::alloc::Global;
@@ -33,7 +33,7 @@ pub enum Work {
 ///
 /// # Failure
 /// As of `drive_lines` and `tell_history`.
-pub fn perform<I: Input, O: Output, E: Answering>(
+pub fn perform<I: LineSource, O: Output, E: Answering>(
     alloc: Global,
     engine: &mut E,
     input: &mut I,

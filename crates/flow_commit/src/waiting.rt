@@ -3,7 +3,7 @@ ghost use Rattle.std.specs.Prelude.{◌≡◌, ◌++◌, IfOk, OnOk, filter};
 ghost use Rattle.flow_view.specs.Reading.{Caused, Reads};
 ghost use Rattle.flow_commit.specs.Boards as rule;
 
-use flow_base::book::Task as OpenTask;
+use flow_base::book::OpenActivity;
 use flow_base::event::{Cmd, Event, What, copy_values};
 use flow_base::number::{Moment, RunId};
 use flow_base::sequence::Sequence;
@@ -17,7 +17,7 @@ use std::alloc::{AllocError, Global};
 use std::collections::BTreeSet;
 
 /// An open activity with its run.
-type Waiting = (RunId, OpenTask);
+type Waiting = (RunId, OpenActivity);
 
 /// What is read of a book for a board.
 #[derive(Drop)]
@@ -101,7 +101,8 @@ fn call_at<V: View>(
     view: &mut V,
     entry: &Waiting,
 ) -> Result<Option<(Key, Sequence<Value>)>, ViewFault>
-    ensures reads { IfOk result (λ o. Reads (V.is_sure view.new) (V.book view.old) (V.book view.new) o (rule.call_at (V.book view.old) entry.now.0 entry.now.1.event)) }
+    ensures reads { IfOk result (λ o. Reads (V.is_sure view.new) (V.book view.old) (V.book view.new) o
+        (rule.call_at (V.book view.old) entry.now.0 entry.now.1.event)) }
     ensures cause { (a : V) → V.follows a view.old → V.is_true view.new → V.is_sure view.old → Caused result (V.refuses a view.new) }
     ensures goes_on { OnOk result (V.is_true view.new → V.is_sure view.old → V.is_sure view.new) }
     ensures sure { V.is_sure view.new → V.is_sure view.old }
@@ -135,7 +136,8 @@ fn flow_in(head: Option<Head>) -> Option<Key>
 
 /// The flow of an open activity's run.
 fn flow_at<V: View>(view: &mut V, entry: &Waiting) -> Result<Option<Key>, ViewFault>
-    ensures reads { IfOk result (λ o. Reads (V.is_sure view.new) (V.book view.old) (V.book view.new) o (rule.flow_at (V.book view.old) entry.now.0)) }
+    ensures reads { IfOk result (λ o. Reads (V.is_sure view.new) (V.book view.old) (V.book view.new) o
+        (rule.flow_at (V.book view.old) entry.now.0)) }
     ensures cause { (a : V) → V.follows a view.old → V.is_true view.new → V.is_sure view.old → Caused result (V.refuses a view.new) }
     ensures goes_on { OnOk result (V.is_true view.new → V.is_sure view.old → V.is_sure view.new) }
     ensures sure { V.is_sure view.new → V.is_sure view.old }
@@ -177,7 +179,8 @@ fn add_ready<V: View>(
     list: &mut Vec<Task>,
     entry: &Waiting,
 ) -> Result<(), ViewFault>
-    ensures reads { OnOk result (V.is_sure view.new → (V.book view.new ≡ V.book view.old) × (list.new.items ≡ list.old.items ++ rule.task_at (V.book view.old) entry.now)) }
+    ensures reads { OnOk result (V.is_sure view.new → (V.book view.new ≡ V.book view.old)
+        × (list.new.items ≡ list.old.items ++ rule.task_at (V.book view.old) entry.now)) }
     ensures cause { (a : V) → V.follows a view.old → V.is_true view.new → V.is_sure view.old → Caused result (V.refuses a view.new) }
     ensures goes_on { OnOk result (V.is_true view.new → V.is_sure view.old → V.is_sure view.new) }
     ensures sure { V.is_sure view.new → V.is_sure view.old }
@@ -198,7 +201,8 @@ pub(crate) fn tasks_of<V: View>(
     view: &mut V,
     wanted: &[Waiting],
 ) -> Result<Sequence<Task>, ViewFault>
-    ensures reads { IfOk result (λ v. Reads (V.is_sure view.new) (V.book view.old) (V.book view.new) v (rule.tasks_of (V.book view.old) wanted.now)) }
+    ensures reads { IfOk result (λ v. Reads (V.is_sure view.new) (V.book view.old) (V.book view.new) v
+        (rule.tasks_of (V.book view.old) wanted.now)) }
     ensures cause { (a : V) → V.follows a view.old → V.is_true view.new → V.is_sure view.old → Caused result (V.refuses a view.new) }
     ensures goes_on { OnOk result (V.is_true view.new → V.is_sure view.old → V.is_sure view.new) }
     ensures sure { V.is_sure view.new → V.is_sure view.old }

@@ -12,8 +12,8 @@ mod boards;
 
 use crate::denied::Denied;
 use crate::hub::Closer;
-use crate::known::Known;
-use crate::seats::{Named, PARTS, Pass, Room, Seats};
+use crate::known::HubFacts;
+use crate::seats::{HubTable, Named, PARTS, Pass, Room};
 use crate::settled::Settled;
 use flow_base::code::Code;
 use flow_base::command::Command;
@@ -58,7 +58,7 @@ pub(crate) struct State<B: Room> {
     tickets: Book<B>,
     /// The ledger's parts of the submitters that were not given yet.
     spare: Share<B>,
-    known: Known,
+    known: HubFacts,
     /// The seat that keeps.
     keeper: Pass<B>,
     /// The seat that gives tasks out, until somebody has it.
@@ -92,7 +92,7 @@ impl<B: Room> State<B> {
     pub(crate) fn new(
         alloc: Global,
         named: Named<B>,
-    ) -> Result<(Seats<B>, State<B>, Pass<B>), AllocError>
+    ) -> Result<(HubTable<B>, State<B>, Pass<B>), AllocError>
         requires seat { named.seat ≡ opener }
         requires tickets { named.tickets.total ≡ 0 }
         requires share { (named.share.parts ≡ 2 ^ 62) × (named.share.amount ≡ 0) }
@@ -124,7 +124,7 @@ impl<B: Room> State<B> {
             rung: false,
             tickets,
             spare: share,
-            known: Known::new(),
+            known: HubFacts::new(),
             keeper,
             feed: Some(feed),
         };
@@ -132,7 +132,7 @@ impl<B: Room> State<B> {
     }
 
     /// The seat sees what lies here, and nothing changes.
-    fn see(&mut self, seats: &Seats<B>, me: Pass<B>) -> Pass<B>
+    fn see(&mut self, seats: &HubTable<B>, me: Pass<B>) -> Pass<B>
         ensures same { self.new ≡ self.old }
         ensures seat { result ≡ seeing me.pubs me.gives me.owed self.new.known }
         ensures before { IsBefore me.was result.was }
@@ -145,7 +145,7 @@ impl<B: Room> State<B> {
     /// Three seats see what lies here, and the publisher's is left of them. Nothing changes.
     pub(crate) fn meet(
         &mut self,
-        seats: &Seats<B>,
+        seats: &HubTable<B>,
         me: Pass<B>,
         submitter: Pass<B>,
         giver: Pass<B>,
@@ -165,7 +165,10 @@ impl<B: Room> State<B> {
 
     /// One more submitter: its number, the seat that has this number, the seat that sees, and its part of the ledger. None where as
     /// many were given as there are parts.
-    pub(crate) fn enroll(&mut self, seats: &Seats<B>) -> Option<(u64, Pass<B>, Pass<B>, Share<B>)>
+    pub(crate) fn enroll(
+        &mut self,
+        seats: &HubTable<B>,
+    ) -> Option<(u64, Pass<B>, Pass<B>, Share<B>)>
         ensures enrolled { IfSome result (λ m. (m.0 ≡ self.old.known.members) × (self.new ≡ enrolled self.old)) }
         ensures badge { IfSome result (λ m. m.1 ≡ badge_of m.0) }
         ensures seat { IfSome result (λ m. m.2 ≡ seeing false false 0 self.new.known) }
@@ -208,7 +211,7 @@ impl<B: Room> State<B> {
     /// The ticket, or the command back.
     pub(crate) fn submit(
         &mut self,
-        seats: &Seats<B>,
+        seats: &HubTable<B>,
         me: Pass<B>,
         mine: &mut Share<B>,
         command: Command,
@@ -246,7 +249,7 @@ impl<B: Room> State<B> {
     /// The first that wait, as many as there are, and `most` at most.
     pub(crate) fn take(
         &mut self,
-        seats: &Seats<B>,
+        seats: &HubTable<B>,
         me: Pass<B>,
         into: &mut Vec<Taken>,
         most: usize,
@@ -272,7 +275,7 @@ impl<B: Room> State<B> {
     /// Answers all that was taken. What the publisher must show it shows of its own seat.
     pub(crate) fn publish(
         &mut self,
-        seats: &Seats<B>,
+        seats: &HubTable<B>,
         me: Pass<B>,
         receipts: Vec<Receipt>,
         stamp: Stamp,
@@ -300,7 +303,7 @@ impl<B: Room> State<B> {
     /// Answers all that was taken by a code.
     pub(crate) fn refuse(
         &mut self,
-        seats: &Seats<B>,
+        seats: &HubTable<B>,
         me: Pass<B>,
         all: Vec<Taken>,
         code: Code,
@@ -323,7 +326,7 @@ impl<B: Room> State<B> {
     /// The receipt for a ticket, if it came. The answer is one that is owed to the seat.
     fn fetch_receipt(
         &mut self,
-        seats: &Seats<B>,
+        seats: &HubTable<B>,
         me: Pass<B>,
         ticket: u64,
     ) -> (Pass<B>, Option<Receipt>)
@@ -351,7 +354,7 @@ impl<B: Room> State<B> {
     /// The refusal of a ticket, if it came.
     fn fetch_refusal(
         &mut self,
-        seats: &Seats<B>,
+        seats: &HubTable<B>,
         me: Pass<B>,
         ticket: u64,
     ) -> (Pass<B>, Option<Refused>)
@@ -379,7 +382,7 @@ impl<B: Room> State<B> {
     #[tactic(auto, using(crate::proofs::Growing::before_trans))]
     pub(crate) fn answer(
         &mut self,
-        seats: &Seats<B>,
+        seats: &HubTable<B>,
         me: Pass<B>,
         mine: &mut Vec<u64>,
         ticket: u64,
@@ -421,7 +424,7 @@ impl<B: Room> State<B> {
     /// What became of the tickets, where this share has so many parts and there are no more.
     pub(crate) fn settle(
         &mut self,
-        seats: &Seats<B>,
+        seats: &HubTable<B>,
         me: Pass<B>,
         all: &mut Share<B>,
         parts: u64,
@@ -456,7 +459,7 @@ impl<B: Room> State<B> {
 
     /// What waits is still taken, and nothing more is taken in. Whoever closes must have the right to: else each call that may answer
     /// that the hub is closed could close it first.
-    pub(crate) fn close(&mut self, seats: &Seats<B>, me: Pass<B>, _closer: &Closer) -> Pass<B>
+    pub(crate) fn close(&mut self, seats: &HubTable<B>, me: Pass<B>, _closer: &Closer) -> Pass<B>
         ensures closed { self.new ≡ closed self.old }
         ensures seat { result ≡ seeing me.pubs me.gives me.owed self.new.known }
         ensures grows { IsBefore me.was result.was }
@@ -467,7 +470,7 @@ impl<B: Room> State<B> {
     }
 
     /// The same by the publisher, whose right to it is its seat, and of which it stays known that it was the publisher.
-    pub(crate) fn end(&mut self, seats: &Seats<B>, me: Pass<B>) -> Pass<B>
+    pub(crate) fn end(&mut self, seats: &HubTable<B>, me: Pass<B>) -> Pass<B>
         requires seat { IsPublishers me }
         ensures ended { self.new ≡ ended self.old }
         ensures seat { result ≡ seeing true false 0 self.new.known }

@@ -29,7 +29,7 @@ impl Unread {
 }
 
 /// Lines, one after the other.
-pub trait Input {
+pub trait LineSource {
     /// The bytes that are left, where they are known.
     ghost left: { Self → Option (List ℕ) };
 

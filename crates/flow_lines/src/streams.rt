@@ -9,7 +9,7 @@ ghost use Rattle.flow_lines.specs.Driving.{WritesBeginning};
 ghost use Rattle.flow_lines.specs.Ends.{unwritten_failed, unwritten_ran_out};
 ghost use Rattle.flow_lines.specs.Replies.{line_text};
 
-use crate::input::{Input, Unread};
+use crate::input::{LineSource, Unread};
 use crate::output::{Output, Unwritten, with_end};
 use crate::reply::{Line, reply_line};
 use flow_base::memory::NoMemory;
@@ -73,7 +73,7 @@ impl<R: BufRead> Reading<R> {
     }
 }
 
-impl<R: BufRead> Input for Reading<R> {
+impl<R: BufRead> LineSource for Reading<R> {
     ghost left = { λ r. R.remaining r.reader };
 
     ghost failed = { λ r. r.failed };

@@ -3,7 +3,7 @@ ghost use Rattle.std.specs.Prelude.{◌≡◌};
 ghost use Rattle.flow_machine.specs.ByHead as by_head;
 ghost use Rattle.flow_model.specs.Apply as apply;
 
-use flow_base::book::Task;
+use flow_base::book::OpenActivity;
 use flow_base::code::Code;
 use flow_base::number::EventId;
 use flow_view::head::Head;
@@ -25,7 +25,7 @@ pub fn attempt_refusal(head: &Head, event: EventId, attempt: u64) -> Option<Code
     }
 }
 
-fn task_at(tasks: &[Task], event: EventId) -> Option<Task>
+fn task_at(tasks: &[OpenActivity], event: EventId) -> Option<OpenActivity>
     ensures { result ≡ apply.task_at tasks.now event }
 {
     for i in 0..tasks.len() {

@@ -8,9 +8,9 @@ use Rattle.flow_model.specs.Open.{timers_left}
 use Rattle.flow_maps.specs.Agenda.{is_open_run}
 use Rattle.flow_maps.specs.Gathering.{listed_with, outlook_from}
 use Rattle.flow_maps.specs.Outlooks.{Waiting, is_by, moment_of, sooner, soonest, waiting_in, waiting_from, with_next, with_ready}
-use Rattle.flow_maps.specs.declared.gathering.Listing.{Listing}
+use Rattle.flow_maps.specs.declared.gathering.WaitingList.{WaitingList}
 use Rattle.flow_maps.specs.Signals.{or_later}
-use Rattle.flow_maps.specs.declared.outlook.Outlook.{Outlook}
+use Rattle.flow_maps.specs.declared.outlook.BookWaits.{BookWaits}
 use Rattle.flow_maps.proofs.Listing.{filter_on}
 use Rattle.flow_maps.proofs.Sooner.{again, passed}
 
@@ -55,7 +55,7 @@ soonest_on at best (x ∷ xs) ys = soonest_on at (with_ready at best x) xs ys
 
 ---- What runs wait for, with one more that is listed
 
-abbrev told : List Waiting → Option ℕ → ℕ → Outlook
+abbrev told : List Waiting → Option ℕ → ℕ → BookWaits
 told ws d k = record { ready = ws; due = d; open_runs = k }
 
 pub listing_begins : (at : ℕ) (ready : List Waiting) (opened : List ℕ) → ready ≡ [] → opened ≡ [] → (n : ℕ) (rs : List Run)
@@ -66,7 +66,7 @@ listing_begins at ready opened none nobody n rs =
     let count : ℕ = length (filter is_open_run rs) in
     ap (λ ws. told (ws ++ rest) due (length opened + count)) none ∙ ap (λ ns. told rest due (length ns + count)) nobody ∙ ap (λ k. told rest due k) (let same : 0 + count ≡ count = omega arith in same)
 
-pub listing_goes_on : (l l' : Listing) (n : ℕ) (r : Run) → l'.at ≡ l.at → l'.ready.items ≡ l.ready.items ++ filter (is_by l.at) (waiting_in n r.tasks) → l'.next ≡ soonest l.at l.next (waiting_in n r.tasks)
+pub listing_goes_on : (l l' : WaitingList) (n : ℕ) (r : Run) → l'.at ≡ l.at → l'.ready.items ≡ l.ready.items ++ filter (is_by l.at) (waiting_in n r.tasks) → l'.next ≡ soonest l.at l.next (waiting_in n r.tasks)
     → l'.first ≡ least_of 1000000000000000 n l.first (timers_left r.history)
     → ((rs : List Run) → length l'.opened.items + length (filter is_open_run rs) ≡ length l.opened.items + length (filter is_open_run (r ∷ rs))) → (rs : List Run) → listed_with l' (n + 1) rs ≡ listed_with l n (r ∷ rs)
 listing_goes_on l l' n r same ready next first opened rs =
@@ -83,7 +83,7 @@ listing_goes_on l l' n r same ready next first opened rs =
     ∙ ap (λ k. told (l.ready.items ++ filter (is_by l.at) (own ++ rest)) (soonest l.at (with_next timer l.next) (own ++ rest)) k) (opened rs)
 
 -- And with none more that is all.
-pub listing_ends : (l : Listing) (o : Outlook) (n : ℕ) → o.ready ≡ l.ready.items → o.due ≡ with_next (option_map moment_of l.first) l.next → o.open_runs ≡ length l.opened.items → o ≡ listed_with l n []
+pub listing_ends : (l : WaitingList) (o : BookWaits) (n : ℕ) → o.ready ≡ l.ready.items → o.due ≡ with_next (option_map moment_of l.first) l.next → o.open_runs ≡ length l.opened.items → o ≡ listed_with l n []
 listing_ends l o n ready due opened =
     ap (λ ws. told ws o.due o.open_runs) (ready ∙ sym (append-nil l.ready.items)) ∙ ap (λ d. told (l.ready.items ++ []) d o.open_runs) due
     ∙ ap (λ k. told (l.ready.items ++ []) (with_next (option_map moment_of l.first) l.next) k) (let same : o.open_runs ≡ length l.opened.items + 0 = omega (arith, opened) in same)

@@ -12,7 +12,7 @@ use Rattle.std.proofs.Common.{Less, Greater}
 use Rattle.std.proofs.lemmas.Bool.{cases_Bool, leb-true, leb-false}
 use Rattle.std.proofs.lemmas.Cmp.{ranked}
 use Rattle.flow_base.specs.declared.book.Run.{Run}
-use Rattle.flow_base.specs.declared.book.Task.{Task}
+use Rattle.flow_base.specs.declared.book.OpenActivity.{OpenActivity}
 use Rattle.flow_model.specs.Book.{Book}
 use Rattle.flow_model.proofs.DueFirst.{Has}
 use Rattle.flow_model.proofs.Logs.{nth_at}
@@ -58,7 +58,7 @@ shift [] ys w = refl
 shift (x ∷ xs) ys w = ap (λ zs. x ∷ zs) (shift xs ys w)
 
 -- one more of a run's activities, which is listed if it is ready
-pub one_more : (at n : ℕ) (xs ys : List Waiting) (t : Task) (ts ss : List Task) (all : List Waiting) → ts ≡ t ∷ ss → ys ≡ cond (is_by at (n, t)) (xs ++ (n, t) ∷ []) xs
+pub one_more : (at n : ℕ) (xs ys : List Waiting) (t : OpenActivity) (ts ss : List OpenActivity) (all : List Waiting) → ts ≡ t ∷ ss → ys ≡ cond (is_by at (n, t)) (xs ++ (n, t) ∷ []) xs
     → xs ++ filter (is_by at) (waiting_in n ts) ≡ all → ys ++ filter (is_by at) (waiting_in n ss) ≡ all
 one_more at n xs ys t ts ss all first more was = ap (λ zs. zs ++ rest) more ∙ by (is_by at (n, t)) ∙ sym (ap (λ us. xs ++ filter (is_by at) (waiting_in n us)) first) ∙ was
   where
@@ -69,9 +69,9 @@ one_more at n xs ys t ts ss all first more was = ap (λ zs. zs ++ rest) more ∙
     by true = shift xs rest (n, t)
     by false = refl
 
-module _ (at : ℕ) (g : ℕ → List Task) where
+module _ (at : ℕ) (g : ℕ → List OpenActivity) where
   -- what a run of a number has by the moment
-  abbrev own : ℕ → List Task → List Waiting
+  abbrev own : ℕ → List OpenActivity → List Waiting
   own n ts = filter (is_by at) (waiting_in n ts)
 
   -- runs from a number on that aren't listed have nothing by then
@@ -167,30 +167,30 @@ in_part (k ∷ ks) p q h is = by (is_slot q k) refl (in_part ks p q) h
 in_time : (at : ℕ) (q : Slot) → q.0 ≤ at → range_contains slot_cmp Unbounded (Excluded (at + 1, 0, 0)) q ≡ true
 in_time at q less = rw (sym (nat_cmp_is (at + 1) q.0 Greater (omega (arith, less)))) refl
 
-none_own : (at n : ℕ) (ts : List Task) → ((t : Task) → Has ts t → nat_le t.ready at ≡ false) → filter (is_by at) (waiting_in n ts) ≡ []
+none_own : (at n : ℕ) (ts : List OpenActivity) → ((t : OpenActivity) → Has ts t → nat_le t.ready at ≡ false) → filter (is_by at) (waiting_in n ts) ≡ []
 none_own at n [] never = refl
 none_own at n (t ∷ ts) never =
     ap (λ v. cond v ((n, t) ∷ filter (is_by at) (waiting_in n ts)) (filter (is_by at) (waiting_in n ts))) (never t (inl refl)) ∙ none_own at n ts (λ x has. never x (inr has))
 
 -- A run that no slot up to the moment is of has nothing by then.
-none_by_slots : (c : Calendar Task) (g : ℕ → List Task) (at n : ℕ) → IsCalendar date_of_task c g → list_any (λ (s : Slot). is_run s.1 n) (part_by at c.slots.keys) ≡ false → filter (is_by at) (waiting_in n (g n)) ≡ []
+none_by_slots : (c : Calendar OpenActivity) (g : ℕ → List OpenActivity) (at n : ℕ) → IsCalendar date_of_task c g → list_any (λ (s : Slot). is_run s.1 n) (part_by at c.slots.keys) ≡ false → filter (is_by at) (waiting_in n (g n)) ≡ []
 none_by_slots c g at n h none = none_own at n (g n) never
   where
-    never : (t : Task) → Has (g n) t → nat_le t.ready at ≡ false
+    never : (t : OpenActivity) → Has (g n) t → nat_le t.ready at ≡ false
     never t has = not_true (nat_le t.ready at) (λ soon.
         let q : Slot = slot date_of_task n t in
         let there : contains slot_cmp c.slots q ≡ true = h.slots q ∙ one_has date_of_task n (g n) t has in
         true≢false (sym (in_part c.slots.keys (range_contains slot_cmp Unbounded (Excluded (at + 1, 0, 0))) q there (in_time at q (leb-true t.ready at soon))) ∙ none))
 
 -- what is listed of the runs that slots up to the moment are of
-pub listed_by : (c : Calendar Task) (b : Book) (at : ℕ) (g : ℕ → List Task) (ms : List ℕ) → IsCalendar date_of_task c (tasks_at b) → ((n : ℕ) → g n ≡ tasks_at b n) → IsStrictlySortedBy nat_cmp ms
+pub listed_by : (c : Calendar OpenActivity) (b : Book) (at : ℕ) (g : ℕ → List OpenActivity) (ms : List ℕ) → IsCalendar date_of_task c (tasks_at b) → ((n : ℕ) → g n ≡ tasks_at b n) → IsStrictlySortedBy nat_cmp ms
     → ((n : ℕ) → list_any (is_run n) ms ≡ list_any (λ (s : Slot). is_run s.1 n) (part_by at c.slots.keys)) → ready_of at g ms ≡ ready_by at b
 listed_by c b at g ms h are sorted runs =
     all_listed at g b ms (sorted_rise 0 ms (none_lower ms) sorted) are
     (λ n from none. ap (λ ts. filter (is_by at) (waiting_in n ts)) (are n) ∙ none_by_slots c (tasks_at b) at n h (sym (runs n) ∙ none))
 
 -- what is listed where nothing is left
-pub end_of : (at : ℕ) (g : ℕ → List Task) (ws : List Waiting) (ms : List ℕ) (all : List Waiting) → ms ≡ [] → ws ++ ready_of at g ms ≡ all → ws ≡ all
+pub end_of : (at : ℕ) (g : ℕ → List OpenActivity) (ws : List Waiting) (ms : List ℕ) (all : List Waiting) → ms ≡ [] → ws ++ ready_of at g ms ≡ all → ws ≡ all
 end_of at g ws ms all none is = sym (nil_right ws) ∙ ap (λ ns. ws ++ ready_of at g ns) (sym none) ∙ is
   where
     nil_right : (ws : List Waiting) → ws ++ [] ≡ ws

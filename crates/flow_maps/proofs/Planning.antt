@@ -3,7 +3,7 @@ use Rattle.std.proofs.Common.{◌≡◌, ◌-◌, ◌+◌, ℕ, zero, suc, Bool,
 use Rattle.std.specs.Prelude.{◌⊎◌, MatchOption}
 use Rattle.flow_base.specs.declared.event.Event.{Event}
 use Rattle.flow_base.specs.declared.book.Run.{Run}
-use Rattle.flow_base.specs.declared.book.Task.{Task}
+use Rattle.flow_base.specs.declared.book.OpenActivity.{OpenActivity}
 use Rattle.flow_base.specs.declared.book.Timer.{Timer}
 use Rattle.flow_base.specs.declared.book.Turn.{Turn}
 use Rattle.flow_model.specs.Book.{Book, nth, with_run, with_turn, with_attempt, with_text, at_attempt}
@@ -181,7 +181,7 @@ begun p b after r t run now runs at times tasks h = record {
 }
 
 -- one that is read whole
-pub whole : (p : Plans) (b : Book) (r : Run) (run : ℕ) (ts : List Timer) (ks : List Task) → run ≡ length b.runs + 1 → ts ≡ timers_of r → ks ≡ tasks_of r
+pub whole : (p : Plans) (b : Book) (r : Run) (run : ℕ) (ts : List Timer) (ks : List OpenActivity) → run ≡ length b.runs + 1 → ts ≡ timers_of r → ks ≡ tasks_of r
     → ArePlans p (length b.runs + 1) (open_runs b + one_if (is_open_run r)) (replaced run ts (timers_at b)) (replaced run ks (tasks_at b)) → IsPlan p (record b { runs = b.runs ++ r ∷ [] })
 whole p b r run ts ks at times tasks h = record {
   counted = h.counted ∙ sym (longer b.runs r);
@@ -279,5 +279,5 @@ text_set a b run text h = by a.plans h
     by (Some p) h = retexted p b run text h
 
 -- what is known, where it is
-pub known_plan : (a : Agenda) (p : Plans) (n o : ℕ) (f : ℕ → List Timer) (g : ℕ → List Task) → a.plans ≡ Some p → Knows a n o f g → ArePlans p n o f g
+pub known_plan : (a : Agenda) (p : Plans) (n o : ℕ) (f : ℕ → List Timer) (g : ℕ → List OpenActivity) → a.plans ≡ Some p → Knows a n o f g → ArePlans p n o f g
 known_plan a p n o f g is h = subst (λ q. MatchOption q (Unit {0}) (λ x. ArePlans x n o f g)) is h

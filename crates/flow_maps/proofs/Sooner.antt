@@ -10,7 +10,7 @@ use Rattle.std.proofs.Common.{Ordering, Less, Equal, Greater}
 use Rattle.std.proofs.lemmas.Cmp.{ranked}
 use Rattle.std.proofs.lemmas.Bool.{cases_Bool, ltb-true, ltb-false, lt-ltb, le-ltb}
 use Rattle.flow_base.specs.declared.book.Run.{Run}
-use Rattle.flow_base.specs.declared.book.Task.{Task}
+use Rattle.flow_base.specs.declared.book.OpenActivity.{OpenActivity}
 use Rattle.flow_model.specs.Book.{Book}
 use Rattle.flow_model.proofs.DueFirst.{Has}
 use Rattle.flow_model.proofs.Logs.{nth_at}
@@ -93,12 +93,12 @@ in_either [] vs w has = inr has
 in_either (x ∷ ws) vs w (inl same) = inl (inl same)
 in_either (x ∷ ws) vs w (inr has) = elim (in_either ws vs w has) [ inl here ↦ inl (inr here) | inr there ↦ inr there ]
 
-of_one : (n : ℕ) (ts : List Task) (w : Waiting) → Has (waiting_in n ts) w → (w.0 ≡ n) × Has ts w.1
+of_one : (n : ℕ) (ts : List OpenActivity) (w : Waiting) → Has (waiting_in n ts) w → (w.0 ≡ n) × Has ts w.1
 of_one n [] w has = absurd has
 of_one n (t ∷ ts) w (inl same) = (ap (λ (y : Waiting). y.0) same, inl (ap (λ (y : Waiting). y.1) same))
 of_one n (t ∷ ts) w (inr has) = let it = of_one n ts w has in (it.0, inr it.1)
 
-one_of : (n : ℕ) (ts : List Task) (t : Task) → Has ts t → Has (waiting_in n ts) (n, t)
+one_of : (n : ℕ) (ts : List OpenActivity) (t : OpenActivity) → Has ts t → Has (waiting_in n ts) (n, t)
 one_of n [] t has = absurd has
 one_of n (x ∷ ts) t (inl same) = inl (ap (λ y. (n, y)) same)
 one_of n (x ∷ ts) t (inr has) = inr (one_of n ts t has)
@@ -110,7 +110,7 @@ of_runs (r ∷ rs) n w has = elim (in_either (waiting_in n r.tasks) (waiting_fro
   | inr there ↦ let it = of_runs rs (n + 1) w there in (suc it.0, (omega (arith, it.1)), it.2)
 ]
 
-in_runs : (rs : List Run) (n k : ℕ) (t : Task) → Has (of_run tasks_of (slice_get rs k)) t → Has (waiting_from n rs) (n + k, t)
+in_runs : (rs : List Run) (n k : ℕ) (t : OpenActivity) → Has (of_run tasks_of (slice_get rs k)) t → Has (waiting_from n rs) (n + k, t)
 in_runs [] n k t has = absurd has
 in_runs (r ∷ rs) n zero t has = subst (λ m. Has (waiting_from n (r ∷ rs)) (m, t)) (let e : n ≡ n + zero = omega arith in e) (in_first (waiting_in n r.tasks) (waiting_from (n + 1) rs) (n, t) (one_of n r.tasks t has))
 in_runs (r ∷ rs) n (suc k) t has =
@@ -121,12 +121,12 @@ waits_at b w has =
     let it = of_runs b.runs 1 w has in
     subst (λ n. Has (tasks_at b n) w.1) (sym it.1) (subst (λ o. Has (of_run tasks_of o) w.1) (sym (nth_at b.runs (1 + it.0) it.0 (omega arith))) it.2)
 
-at_waits : (b : Book) (n : ℕ) (t : Task) → Has (tasks_at b n) t → Has (waiting b) (n, t)
+at_waits : (b : Book) (n : ℕ) (t : OpenActivity) → Has (tasks_at b n) t → Has (waiting b) (n, t)
 at_waits b zero t has = absurd has
 at_waits b (suc k) t has =
     subst (λ m. Has (waiting b) (m, t)) (let e : 1 + k ≡ suc k = omega arith in e) (in_runs b.runs 1 k t (subst (λ o. Has (of_run tasks_of o) t) (nth_at b.runs (suc k) k refl) has))
 
-module _ (c : Calendar Task) (b : Book) (at : ℕ) (h : IsCalendar date_of_task c (tasks_at b)) where
+module _ (c : Calendar OpenActivity) (b : Book) (at : ℕ) (h : IsCalendar date_of_task c (tasks_at b)) where
   has_place : (w : Waiting) → Has (waiting b) w → contains slot_cmp c.slots (slot date_of_task w.0 w.1) ≡ true
   has_place w has = h.slots (slot date_of_task w.0 w.1) ∙ one_has date_of_task w.0 (tasks_at b w.0) w.1 (waits_at b w has)
 

@@ -18,7 +18,7 @@ use Rattle.flow_view.specs.Heads.{event_of, event_if, event_at, head_of, head_if
 use Rattle.flow_view.specs.declared.head.Head.{Head}
 use Rattle.flow_maps.specs.declared.calls.Calls.{Calls}
 use Rattle.flow_maps.specs.declared.records.Records.{Records}
-use Rattle.flow_maps.specs.declared.texts.Texts.{Texts}
+use Rattle.flow_maps.specs.declared.texts.TextBodies.{TextBodies}
 use Rattle.flow_maps.specs.KnownCalls.{IsEventAt, KnowsCalls, Place, place_cmp, is_place}
 use Rattle.flow_maps.specs.KnownRecords.{KnowsRecords}
 use Rattle.flow_maps.specs.KnownTexts.{IsText, KnowsTexts}
@@ -46,21 +46,21 @@ text_stays b (AddTurn run t) n x h = ap (λ ts. nth ts n) (run_texts b run (with
 text_stays b (SetAttempt run event attempt ready) n x h = ap (λ ts. nth ts n) (run_texts b run (with_attempt event attempt ready)) ∙ h
 text_stays b (SetText run text) n x h = ap (λ ts. nth ts n) (run_texts b run (with_text text)) ∙ h
 
-pub texts_stay : (m : Texts) (b : Book) (c : Change) → KnowsTexts m b → KnowsTexts m (changed b c)
+pub texts_stay : (m : TextBodies) (b : Book) (c : Change) → KnowsTexts m b → KnowsTexts m (changed b c)
 texts_stay m b c knows n = by (get nat_cmp m.known n) (knows n)
   where
     by : (o : Option Bytes) → IsText o (nth b.texts n) → IsText o (nth (changed b c).texts n)
     by None h = tt
     by (Some x) h = text_stays b c n x h
 
-pub text_in : (m m' : Texts) (number : ℕ) (t : Bytes) → ((n : ℕ) → get nat_cmp m'.known n ≡ cond (is_run number n) (Some t) (get nat_cmp m.known n)) → (b : Book) → nth b.texts number ≡ Some t → KnowsTexts m b → KnowsTexts m' b
+pub text_in : (m m' : TextBodies) (number : ℕ) (t : Bytes) → ((n : ℕ) → get nat_cmp m'.known n ≡ cond (is_run number n) (Some t) (get nat_cmp m.known n)) → (b : Book) → nth b.texts number ≡ Some t → KnowsTexts m b → KnowsTexts m' b
 text_in m m' number t put b at knows n = subst (λ o. IsText o (nth b.texts n)) (sym (put n)) (by (is_run number n) refl)
   where
     by : (v : Bool) → is_run number n ≡ v → IsText (cond v (Some t) (get nat_cmp m.known n)) (nth b.texts n)
     by true own = subst (λ k. nth b.texts k ≡ Some t) (run_is number n own) at
     by false other = knows n
 
-pub text_found : (m : Texts) (number : ℕ) (k : Bytes) (o : Option Bytes) → get nat_cmp m.known number ≡ Some k → IfSome o (λ t. t ≡ k) → IfSome o (λ t. (b : Book) → KnowsTexts m b → Some t ≡ nth b.texts number)
+pub text_found : (m : TextBodies) (number : ℕ) (k : Bytes) (o : Option Bytes) → get nat_cmp m.known number ≡ Some k → IfSome o (λ t. t ≡ k) → IfSome o (λ t. (b : Book) → KnowsTexts m b → Some t ≡ nth b.texts number)
 text_found m number k None there is = tt
 text_found m number k (Some t) there is = λ b knows. sym (subst (λ o. IsText o (nth b.texts number)) (there ∙ ap Some (sym is)) (knows number))
 

@@ -2,7 +2,7 @@
 use Rattle.std.specs.Prelude.{◌≡◌, ℕ, ◌+◌, Bool, List, [], length, filter, cond, MatchOption, if◌then◌else◌}
 use Rattle.flow_base.specs.declared.event.Event.{Event}
 use Rattle.flow_base.specs.declared.book.Run.{Run}
-use Rattle.flow_base.specs.declared.book.Task.{Task}
+use Rattle.flow_base.specs.declared.book.OpenActivity.{OpenActivity}
 use Rattle.flow_base.specs.declared.book.Timer.{Timer}
 use Rattle.flow_base.specs.declared.book.Turn.{Turn}
 use Rattle.flow_model.specs.Book.{Book, nth}
@@ -22,7 +22,7 @@ events_behind count t = turn_events (count + 1) t.at t.input t.commands
 abbrev pub timers_behind : ℕ → Turn → List Timer → List Timer
 timers_behind count t ts = timers_after ts (events_behind count t)
 
-abbrev pub tasks_behind : ℕ → Turn → List Task → List Task
+abbrev pub tasks_behind : ℕ → Turn → List OpenActivity → List OpenActivity
 tasks_behind count t ts = tasks_after ts (events_behind count t)
 
 -- a run that is closed behind a turn has no timer
@@ -40,11 +40,11 @@ is_open_run r = is_open (state_of r.history)
 abbrev pub open_runs : Book → ℕ
 open_runs b = length (filter is_open_run b.runs)
 
-abbrev pub tasks_of : Run → List Task
+abbrev pub tasks_of : Run → List OpenActivity
 tasks_of r = r.tasks
 
 -- the open activities of the run of a number
-abbrev pub tasks_at : Book → ℕ → List Task
+abbrev pub tasks_at : Book → ℕ → List OpenActivity
 tasks_at b n = of_run tasks_of (nth b.runs n)
 
 -- one run has another list
@@ -52,7 +52,7 @@ abbrev pub replaced : {A : Type 0} → ℕ → List A → (ℕ → List A) → �
 replaced run xs f n = cond (is_run run n) xs (f n)
 
 -- So many runs, so many of them open, with these timers and activities.
-pub record ArePlans (p : Plans) (n o : ℕ) (f : ℕ → List Timer) (g : ℕ → List Task) : Type 0 where
+pub record ArePlans (p : Plans) (n o : ℕ) (f : ℕ → List Timer) (g : ℕ → List OpenActivity) : Type 0 where
   pub counted : p.count ≡ n
   pub opened : p.opened ≡ o
   pub timers : IsCalendar date_of_timer p.timers f
@@ -63,7 +63,7 @@ abbrev pub IsPlan : Plans → Book → Type 0
 IsPlan p b = ArePlans p (length b.runs) (open_runs b) (timers_at b) (tasks_at b)
 
 -- what is known is so
-abbrev pub Knows : Agenda → ℕ → ℕ → (ℕ → List Timer) → (ℕ → List Task) → Type 0
+abbrev pub Knows : Agenda → ℕ → ℕ → (ℕ → List Timer) → (ℕ → List OpenActivity) → Type 0
 Knows a count opened f g = MatchOption a.plans (Unit {0}) (λ p. ArePlans p count opened f g)
 
 -- What is known is of this book.

@@ -7,7 +7,7 @@ use Rattle.std.specs.BTreeSet.{BTreeSet, contains}
 use Rattle.std.specs.BTreeMap.Range.{range_contains}
 use Rattle.std.specs.declared.ops.Bound.TheVariants.{Excluded, Unbounded}
 use Rattle.flow_base.specs.declared.book.Due.{Due}
-use Rattle.flow_base.specs.declared.book.Task.{Task}
+use Rattle.flow_base.specs.declared.book.OpenActivity.{OpenActivity}
 use Rattle.flow_base.specs.declared.book.Timer.{Timer}
 use Rattle.flow_maps.specs.declared.calendar.Calendar.{Calendar}
 use Rattle.flow_maps.specs.OfRuns.{list_of}
@@ -26,7 +26,7 @@ is_slot x y = is_eq (slot_cmp x y)
 abbrev pub date_of_timer : Timer → ℕ × ℕ
 date_of_timer t = (t.due, t.id)
 
-abbrev pub date_of_task : Task → ℕ × ℕ
+abbrev pub date_of_task : OpenActivity → ℕ × ℕ
 date_of_task t = (t.ready, t.event)
 
 abbrev pub due_of : Slot → Due

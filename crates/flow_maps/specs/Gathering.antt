@@ -5,12 +5,12 @@ use Rattle.flow_model.specs.Book.{least_from, signalled_from}
 use Rattle.flow_maps.specs.Agenda.{is_open_run}
 use Rattle.flow_maps.specs.Outlooks.{is_by, moment_of, soonest, waiting_from, with_next}
 use Rattle.flow_maps.specs.Signals.{or_later}
-use Rattle.flow_maps.specs.declared.gathering.Listing.{Listing}
+use Rattle.flow_maps.specs.declared.gathering.WaitingList.{WaitingList}
 use Rattle.flow_maps.specs.declared.gathering.SignalAsked.{SignalAsked}
-use Rattle.flow_maps.specs.declared.outlook.Outlook.{Outlook}
+use Rattle.flow_maps.specs.declared.outlook.BookWaits.{BookWaits}
 
 -- what runs wait for at a moment, of a list that begins with number n
-abbrev pub outlook_from : ℕ → ℕ → List Run → Outlook
+abbrev pub outlook_from : ℕ → ℕ → List Run → BookWaits
 outlook_from at n rs =
     record {
       ready = filter (is_by at) (waiting_from n rs);
@@ -18,7 +18,7 @@ outlook_from at n rs =
       open_runs = length (filter is_open_run rs);
     }
 
-abbrev pub listed_with : Listing → ℕ → List Run → Outlook
+abbrev pub listed_with : WaitingList → ℕ → List Run → BookWaits
 listed_with l n rs =
     record {
       ready = l.ready.items ++ filter (is_by l.at) (waiting_from n rs);

@@ -2,16 +2,16 @@
 use Rattle.std.specs.Prelude.{ℕ, ◌+◌, ◌++◌, Bool, nat_le, nat_lt, List, [], ◌∷◌, filter, Option, Some, None, option_map, if◌then◌else◌}
 use Rattle.flow_base.specs.declared.book.Due.{Due}
 use Rattle.flow_base.specs.declared.book.Run.{Run}
-use Rattle.flow_base.specs.declared.book.Task.{Task}
+use Rattle.flow_base.specs.declared.book.OpenActivity.{OpenActivity}
 use Rattle.flow_model.specs.Book.{Book, least_due}
 use Rattle.flow_maps.specs.Agenda.{open_runs}
-use Rattle.flow_maps.specs.declared.outlook.Outlook.{Outlook}
+use Rattle.flow_maps.specs.declared.outlook.BookWaits.{BookWaits}
 
 -- an open activity of the run of a number
 abbrev pub Waiting : Type 0
-Waiting = ℕ × Task
+Waiting = ℕ × OpenActivity
 
-abbrev pub waiting_in : ℕ → List Task → List Waiting
+abbrev pub waiting_in : ℕ → List OpenActivity → List Waiting
 waiting_in n [] = []
 waiting_in n (t ∷ ts) = (n, t) ∷ waiting_in n ts
 
@@ -33,7 +33,7 @@ abbrev pub ready_by : ℕ → Book → List Waiting
 ready_by at b = filter (is_by at) (waiting b)
 
 -- those of some runs, by what runs have
-abbrev pub ready_of : ℕ → (ℕ → List Task) → List ℕ → List Waiting
+abbrev pub ready_of : ℕ → (ℕ → List OpenActivity) → List ℕ → List Waiting
 ready_of at g [] = []
 ready_of at g (n ∷ ns) = filter (is_by at) (waiting_in n (g n)) ++ ready_of at g ns
 
@@ -68,5 +68,5 @@ abbrev pub due_after : ℕ → Book → Option ℕ
 due_after at b = soonest at (option_map moment_of (first_timer b)) (waiting b)
 
 -- What a book waits for at a moment: the activities that may be attempted by then, when more is to be done, and how many runs are open.
-abbrev pub outlook_of : ℕ → Book → Outlook
+abbrev pub outlook_of : ℕ → Book → BookWaits
 outlook_of at b = record { ready = ready_by at b; due = due_after at b; open_runs = open_runs b }

@@ -21,13 +21,13 @@ pub trait Dated: Copy + Drop {
 }
 
 /// A moment, a run and an event.
-pub type Slots = BTreeSet<(u64, u64, u64)>;
+pub type TimeSlots = BTreeSet<(u64, u64, u64)>;
 
 /// What all runs have open.
 #[derive(Drop)]
 pub struct Calendar<T: Drop> {
     pub(crate) lists: OfRuns<T>,
-    pub(crate) slots: Slots,
+    pub(crate) slots: TimeSlots,
 }
 
 fn slot<T: Dated>(run: RunId, thing: &T) -> (u64, u64, u64)
@@ -37,13 +37,14 @@ fn slot<T: Dated>(run: RunId, thing: &T) -> (u64, u64, u64)
     (moment, run.get(), event)
 }
 
-fn remove_one<T: Dated>(slots: &mut Slots, run: RunId, thing: &T)
-    ensures { (q : Slot) → contains slot_cmp slots.new q ≡ cond (rule.is_slot (rule.slot T.date run thing.now) q) false (contains slot_cmp slots.old q) }
+fn remove_one<T: Dated>(slots: &mut TimeSlots, run: RunId, thing: &T)
+    ensures { (q : Slot) → contains slot_cmp slots.new q ≡ cond (rule.is_slot (rule.slot T.date run thing.now) q) false
+        (contains slot_cmp slots.old q) }
 {
     slots.remove(&slot(run, thing));
 }
 
-fn remove_all<T: Dated>(slots: &mut Slots, run: RunId, things: &[T])
+fn remove_all<T: Dated>(slots: &mut TimeSlots, run: RunId, things: &[T])
     ensures { (q : Slot) → contains slot_cmp slots.new q ≡ (contains slot_cmp slots.old q && not (has_slot T.date run things.now q)) }
 {
     for thing in things {
@@ -51,14 +52,16 @@ fn remove_all<T: Dated>(slots: &mut Slots, run: RunId, things: &[T])
     }
 }
 
-fn insert_one<T: Dated>(slots: &mut Slots, run: RunId, thing: &T) -> bool
-    ensures { result ≡ true → (q : Slot) → contains slot_cmp slots.new q ≡ cond (rule.is_slot (rule.slot T.date run thing.now) q) true (contains slot_cmp slots.old q) }
+fn insert_one<T: Dated>(slots: &mut TimeSlots, run: RunId, thing: &T) -> bool
+    ensures { result ≡ true → (q : Slot) → contains slot_cmp slots.new q ≡ cond (rule.is_slot (rule.slot T.date run thing.now) q) true
+        (contains slot_cmp slots.old q) }
 {
     slots.insert(slot(run, thing)).is_ok()
 }
 
-fn insert_all<T: Dated>(slots: &mut Slots, run: RunId, things: &[T]) -> bool
-    ensures { result ≡ true → (q : Slot) → contains slot_cmp slots.new q ≡ (contains slot_cmp slots.old q || has_slot T.date run things.now q) }
+fn insert_all<T: Dated>(slots: &mut TimeSlots, run: RunId, things: &[T]) -> bool
+    ensures { result ≡ true → (q : Slot) → contains slot_cmp slots.new q ≡
+        (contains slot_cmp slots.old q || has_slot T.date run things.now q) }
 {
     for thing in things {
         if !insert_one(slots, run, thing) {
@@ -98,7 +101,8 @@ impl<T: Dated> Calendar<T> {
 
     /// Gives a run that has nothing these. Whether it did: there may be no memory.
     pub fn put(&mut self, run: RunId, things: Sequence<T>) -> bool
-        ensures { result ≡ true → (f : ℕ → List T) → f run ≡ [] → IsCalendar T.date self.old f → IsCalendar T.date self.new (λ n. cond (is_run run n) things (f n)) }
+        ensures { result ≡ true → (f : ℕ → List T) → f run ≡ [] → IsCalendar T.date self.old f
+            → IsCalendar T.date self.new (λ n. cond (is_run run n) things (f n)) }
     {
         if !insert_all(&mut self.slots, run, things.as_slice()) {
             return false;

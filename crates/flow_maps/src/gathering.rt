@@ -7,8 +7,8 @@ ghost use Rattle.flow_maps.specs.Agenda.{is_open_run};
 ghost use Rattle.flow_maps.specs.Gathering.{listed_with, outlook_from, found_with};
 ghost use Rattle.flow_maps.specs.Signals as rule;
 
-use crate::outlook::{Outlook, add_tasks, moment_of, soonest, with_next};
-use flow_base::book::{Due, Run, Task};
+use crate::outlook::{BookWaits, add_tasks, moment_of, soonest, with_next};
+use flow_base::book::{Due, OpenActivity, Run};
 use flow_base::number::{EventId, Moment, RunId};
 use flow_base::sequence::Sequence;
 use flow_base::text::Key;
@@ -34,11 +34,11 @@ pub trait Gathers {
 
 /// What runs wait for at a moment, as far as they are listed.
 #[derive(Drop)]
-pub struct Listing {
+pub struct WaitingList {
     alloc: Global,
     at: Moment,
     /// The open activities that may be attempted by then.
-    ready: Vec<(RunId, Task)>,
+    ready: Vec<(RunId, OpenActivity)>,
     /// The first moment behind it at which another may be attempted.
     next: Option<Moment>,
     /// The open timer that is due first.
@@ -49,7 +49,8 @@ pub struct Listing {
 
 /// Lists a run if it is open.
 fn list_open(list: &mut Vec<RunId>, number: RunId, run: &Run) -> Result<(), AllocError>
-    ensures { OnOk result ((rs : List ARun) → length list.new.items + length (filter is_open_run rs) ≡ length list.old.items + length (filter is_open_run (run.now ∷ rs))) }
+    ensures { OnOk result ((rs : List ARun) → length list.new.items + length (filter is_open_run rs) ≡ length list.old.items + length
+        (filter is_open_run (run.now ∷ rs))) }
 {
     if !is_open(run.history.as_slice()) {
         return Ok(());
@@ -58,12 +59,12 @@ fn list_open(list: &mut Vec<RunId>, number: RunId, run: &Run) -> Result<(), Allo
     Ok(())
 }
 
-impl Listing {
+impl WaitingList {
     /// No run yet.
-    pub fn new(alloc: Global, at: Moment) -> Listing
+    pub fn new(alloc: Global, at: Moment) -> WaitingList
         ensures { (n : ℕ) → (rs : List ARun) → listed_with result n rs ≡ outlook_from at n rs }
     {
-        Listing {
+        WaitingList {
             alloc,
             at,
             ready: Vec::new(alloc),
@@ -74,8 +75,8 @@ impl Listing {
     }
 }
 
-impl Gathers for Listing {
-    type Value = Outlook;
+impl Gathers for WaitingList {
+    type Value = BookWaits;
 
     ghost comes_to = { λ l n rs. listed_with l n rs };
 
@@ -90,8 +91,8 @@ impl Gathers for Listing {
         Ok(())
     }
 
-    fn end(self) -> Outlook {
-        let Listing {
+    fn end(self) -> BookWaits {
+        let WaitingList {
             alloc: _,
             at: _,
             ready,
@@ -99,7 +100,7 @@ impl Gathers for Listing {
             first,
             opened,
         } = self;
-        Outlook {
+        BookWaits {
             ready: Sequence::from_vec(ready),
             due: with_next(moment_of(first), next),
             open_runs: opened.len() as u64,

@@ -223,7 +223,8 @@ impl Heads {
 
     /// One more run, which was read whole.
     pub fn add_run(&mut self, run: RunId, whole: &Run)
-        ensures { (b : Book) → run ≡ length b.runs + 1 → KnowsHeads self.old b → KnowsHeads self.new (record b { runs = b.runs ++ whole.now ∷ [] }) }
+        ensures { (b : Book) → run ≡ length b.runs + 1 → KnowsHeads self.old b
+            → KnowsHeads self.new (record b { runs = b.runs ++ whole.now ∷ [] }) }
     {
         let head = read_head(self.alloc, whole);
         self.put_if(run, head);
@@ -238,7 +239,8 @@ impl Heads {
         text: TextNo,
         turn: &Turn,
     )
-        ensures { (b : Book) → IfSome next.now (λ n. n ≡ length b.runs + 1) → KnowsHeads self.old b → KnowsHeads self.new (changed b (AddRun flow.now request.now text turn.now)) }
+        ensures { (b : Book) → IfSome next.now (λ n. n ≡ length b.runs + 1) → KnowsHeads self.old b
+            → KnowsHeads self.new (changed b (AddRun flow.now request.now text turn.now)) }
     {
         match next {
             Some(run) => {

@@ -12,7 +12,7 @@ ghost use Rattle.flow_maps.specs.Outlooks.{is_by, ready_by, waiting, waiting_in}
 
 use crate::calendar::Calendar;
 use crate::of_runs::OfRuns;
-use flow_base::book::{Due, Task};
+use flow_base::book::{Due, OpenActivity};
 use flow_base::number::{Moment, RunId};
 use flow_base::sequence::Sequence;
 use std::alloc::{AllocError, Global};
@@ -20,9 +20,9 @@ use std::collections::BTreeSet;
 
 /// What a book waits for at a moment.
 #[derive(Drop)]
-pub struct Outlook {
+pub struct BookWaits {
     /// Its open activities that may be attempted by then with their runs, in order of run and event.
-    pub ready: Sequence<(RunId, Task)>,
+    pub ready: Sequence<(RunId, OpenActivity)>,
     /// The first moment at which there is more to be done: a timer is due, or another activity may be attempted.
     pub due: Option<Moment>,
     /// How many runs are open.
@@ -30,7 +30,7 @@ pub struct Outlook {
 }
 
 /// Whether an attempt may be made by a moment.
-fn is_ready(at: Moment, task: &Task) -> bool
+fn is_ready(at: Moment, task: &OpenActivity) -> bool
     ensures { result ≡ nat_le task.now.ready at }
 {
     task.ready.get() <= at.get()
@@ -38,10 +38,10 @@ fn is_ready(at: Moment, task: &Task) -> bool
 
 /// Lists an activity behind the others, if it may be attempted by a moment.
 fn add_task(
-    list: &mut Vec<(RunId, Task)>,
+    list: &mut Vec<(RunId, OpenActivity)>,
     at: Moment,
     run: RunId,
-    task: &Task,
+    task: &OpenActivity,
 ) -> Result<(), AllocError>
     ensures { OnOk result (list.new.items ≡ cond (is_by at (run, task.now)) (list.old.items ++ (run, task.now) ∷ []) list.old.items) }
 {
@@ -54,10 +54,10 @@ fn add_task(
 
 /// Lists what a run has that may be attempted by a moment behind the others.
 pub(crate) fn add_tasks(
-    list: &mut Vec<(RunId, Task)>,
+    list: &mut Vec<(RunId, OpenActivity)>,
     at: Moment,
     run: RunId,
-    tasks: &[Task],
+    tasks: &[OpenActivity],
 ) -> Result<(), AllocError>
     ensures { OnOk result (list.new.items ≡ list.old.items ++ filter (is_by at) (waiting_in run tasks.now)) }
 {
@@ -68,7 +68,12 @@ pub(crate) fn add_tasks(
 }
 
 /// The same of a run by its number. Whether there was memory for it.
-fn add_run(list: &mut Vec<(RunId, Task)>, at: Moment, number: u64, tasks: &OfRuns<Task>) -> bool
+fn add_run(
+    list: &mut Vec<(RunId, OpenActivity)>,
+    at: Moment,
+    number: u64,
+    tasks: &OfRuns<OpenActivity>,
+) -> bool
     ensures { result ≡ true → list.new.items ≡ list.old.items ++ filter (is_by at) (waiting_in number (list_of tasks.now number)) }
 {
     match tasks.lists.get(&number) {
@@ -90,8 +95,9 @@ fn add_slot(runs: &mut BTreeSet<u64>, slot: &(u64, u64, u64)) -> bool
 }
 
 /// The runs of the slots up to a moment, in order; none where there is no memory.
-fn runs_by(alloc: Global, tasks: &Calendar<Task>, at: Moment) -> Option<BTreeSet<u64>>
-    ensures { IfSome result (λ s. (n : ℕ) → contains nat_cmp s n ≡ list_any (λ (q : Slot). is_run q.1 n) (part_by at tasks.now.slots.keys)) }
+fn runs_by(alloc: Global, tasks: &Calendar<OpenActivity>, at: Moment) -> Option<BTreeSet<u64>>
+    ensures { IfSome result (λ s. (n : ℕ) → contains nat_cmp s n ≡ list_any (λ (q : Slot). is_run q.1 n)
+        (part_by at tasks.now.slots.keys)) }
 {
     let mut runs = BTreeSet::new(alloc);
     for slot in tasks.slots.range(..(at.get() + 1, 0, 0)) {
@@ -105,12 +111,13 @@ fn runs_by(alloc: Global, tasks: &Calendar<Task>, at: Moment) -> Option<BTreeSet
 /// What these runs have that may be attempted by a moment; none where there is no memory.
 fn listed_of(
     alloc: Global,
-    tasks: &Calendar<Task>,
+    tasks: &Calendar<OpenActivity>,
     runs: &BTreeSet<u64>,
     at: Moment,
-) -> Option<Sequence<(RunId, Task)>>
+) -> Option<Sequence<(RunId, OpenActivity)>>
     ensures { IfSome result (λ v. (b : Book) → IsCalendar date_of_task tasks.now (tasks_at b)
-        → ((n : ℕ) → contains nat_cmp runs.now n ≡ list_any (λ (q : Slot). is_run q.1 n) (part_by at tasks.now.slots.keys)) → v ≡ ready_by at b) }
+        → ((n : ℕ) → contains nat_cmp runs.now n ≡ list_any (λ (q : Slot). is_run q.1 n) (part_by at tasks.now.slots.keys))
+        → v ≡ ready_by at b) }
 {
     let mut list = Vec::new(alloc);
     for number in runs {
@@ -122,7 +129,11 @@ fn listed_of(
 }
 
 /// The open activities that may be attempted by a moment; none where there is no memory.
-fn listed(alloc: Global, tasks: &Calendar<Task>, at: Moment) -> Option<Sequence<(RunId, Task)>>
+fn listed(
+    alloc: Global,
+    tasks: &Calendar<OpenActivity>,
+    at: Moment,
+) -> Option<Sequence<(RunId, OpenActivity)>>
     ensures { IfSome result (λ v. (b : Book) → IsCalendar date_of_task tasks.now (tasks_at b) → v ≡ ready_by at b) }
 {
     let Some(runs) = runs_by(alloc, tasks, at) else {
@@ -151,7 +162,7 @@ fn sooner(best: Option<Moment>, next: Moment) -> Option<Moment>
 }
 
 /// The same with a moment from which on an attempt may be made, which counts behind another moment.
-fn with_ready(at: Moment, best: Option<Moment>, run: RunId, task: &Task) -> Option<Moment>
+fn with_ready(at: Moment, best: Option<Moment>, run: RunId, task: &OpenActivity) -> Option<Moment>
     ensures { result ≡ rule.with_ready at best (run, task.now) }
 {
     if at.get() < task.ready.get() {
@@ -166,7 +177,7 @@ pub(crate) fn soonest(
     at: Moment,
     best: Option<Moment>,
     run: RunId,
-    tasks: &[Task],
+    tasks: &[OpenActivity],
 ) -> Option<Moment>
     ensures { result ≡ rule.soonest at best (waiting_in run tasks.now) }
 {
@@ -178,7 +189,7 @@ pub(crate) fn soonest(
 }
 
 /// The first moment of a slot after one, if there is such a slot; none where it is no moment.
-fn next_slot(tasks: &Calendar<Task>, at: Moment) -> Option<Option<Moment>>
+fn next_slot(tasks: &Calendar<OpenActivity>, at: Moment) -> Option<Option<Moment>>
     ensures { IfSome result (λ o. IsNext at tasks.now.slots o) }
 {
     let mut later = tasks.slots.range((at.get() + 1, 0, 0)..);
@@ -202,7 +213,11 @@ pub(crate) fn with_next(best: Option<Moment>, next: Option<Moment>) -> Option<Mo
 }
 
 /// The sooner of a moment and of the first one after another at which an activity may be attempted; none where it isn't known.
-fn next_due(best: Option<Moment>, tasks: &Calendar<Task>, at: Moment) -> Option<Option<Moment>>
+fn next_due(
+    best: Option<Moment>,
+    tasks: &Calendar<OpenActivity>,
+    at: Moment,
+) -> Option<Option<Moment>>
     ensures { IfSome result (λ o. (b : Book) → IsCalendar date_of_task tasks.now (tasks_at b) → o ≡ rule.soonest at best (waiting b)) }
 {
     let Some(next) = next_slot(tasks, at) else {
@@ -224,11 +239,12 @@ pub(crate) fn moment_of(first: Option<Due>) -> Option<Moment>
 pub(crate) fn outlook_over(
     alloc: Global,
     first: Option<Due>,
-    tasks: &Calendar<Task>,
+    tasks: &Calendar<OpenActivity>,
     open_runs: u64,
     at: Moment,
-) -> Option<Outlook>
-    ensures { IfSome result (λ v. (b : Book) → first ≡ rule.first_timer b → open_runs ≡ count_open b → IsCalendar date_of_task tasks.now (tasks_at b) → v ≡ rule.outlook_of at b) }
+) -> Option<BookWaits>
+    ensures { IfSome result (λ v. (b : Book) → first ≡ rule.first_timer b → open_runs ≡ count_open b
+        → IsCalendar date_of_task tasks.now (tasks_at b) → v ≡ rule.outlook_of at b) }
 {
     let Some(due) = next_due(moment_of(first), tasks, at) else {
         return None;
@@ -236,7 +252,7 @@ pub(crate) fn outlook_over(
     let Some(ready) = listed(alloc, tasks, at) else {
         return None;
     };
-    Some(Outlook {
+    Some(BookWaits {
         ready,
         due,
         open_runs,

@@ -7,7 +7,7 @@ ghost use Rattle.flow_view.specs.Heads.{head_at, event_at};
 
 use crate::calls::Calls;
 use crate::heads::Heads;
-use crate::texts::Texts;
+use crate::texts::TextBodies;
 use flow_base::book::{Run, Turn};
 use flow_base::event::Event;
 use flow_base::number::{EventId, Moment, RunId, TextNo};
@@ -20,7 +20,7 @@ use std::alloc::Global;
 pub struct Records {
     heads: Heads,
     calls: Calls,
-    texts: Texts,
+    texts: TextBodies,
 }
 
 impl Records {
@@ -31,7 +31,7 @@ impl Records {
         Records {
             heads: Heads::new(alloc),
             calls: Calls::new(alloc),
-            texts: Texts::new(alloc),
+            texts: TextBodies::new(alloc),
         }
     }
 
@@ -79,7 +79,8 @@ impl Records {
 
     /// One more run, which was read whole.
     pub fn add_run(&mut self, run: RunId, whole: &Run)
-        ensures { (b : Book) → run ≡ length b.runs + 1 → KnowsRecords self.old b → KnowsRecords self.new (record b { runs = b.runs ++ whole.now ∷ [] }) }
+        ensures { (b : Book) → run ≡ length b.runs + 1 → KnowsRecords self.old b
+            → KnowsRecords self.new (record b { runs = b.runs ++ whole.now ∷ [] }) }
     {
         self.heads.add_run(run, whole);
         self.calls.add_run(run, whole);
@@ -94,7 +95,8 @@ impl Records {
         text: TextNo,
         turn: &Turn,
     )
-        ensures { (b : Book) → IfSome next.now (λ n. n ≡ length b.runs + 1) → KnowsRecords self.old b → KnowsRecords self.new (changed b (AddRun flow.now request.now text turn.now)) }
+        ensures { (b : Book) → IfSome next.now (λ n. n ≡ length b.runs + 1) → KnowsRecords self.old b
+            → KnowsRecords self.new (changed b (AddRun flow.now request.now text turn.now)) }
     {
         self.heads.begin(next, flow, request, text, turn);
         self.calls.begin(next, turn);
@@ -109,7 +111,8 @@ impl Records {
 
     /// A turn more of a run whose head was read.
     pub fn go_on_from(&mut self, run: RunId, head: &Head, turn: &Turn)
-        ensures { (b : Book) → head_at b.runs run ≡ Some head.now → KnowsRecords self.old b → KnowsRecords self.new (changed b (AddTurn run turn.now)) }
+        ensures { (b : Book) → head_at b.runs run ≡ Some head.now → KnowsRecords self.old b
+            → KnowsRecords self.new (changed b (AddTurn run turn.now)) }
     {
         self.heads.learn(run, head);
         self.heads.go_on(run, turn);

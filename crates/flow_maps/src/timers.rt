@@ -7,7 +7,7 @@ ghost use Rattle.flow_maps.specs.Calendars.{IsCalendar, date_of_timer, date_of_t
 ghost use Rattle.flow_maps.specs.Timers.{timers_at};
 
 use crate::calendar::{Calendar, Dated};
-use flow_base::book::{Due, Task, Timer};
+use flow_base::book::{Due, OpenActivity, Timer};
 use flow_base::number::{EventId, Moment, RunId};
 
 impl Dated for Timer {
@@ -18,7 +18,7 @@ impl Dated for Timer {
     }
 }
 
-impl Dated for Task {
+impl Dated for OpenActivity {
     ghost date = { date_of_task };
 
     fn dated(&self) -> (u64, u64) {

@@ -3,7 +3,7 @@ ghost use Rattle.flow_base.specs.Shown.{shown_block, shown_program};
 ghost use Rattle.flow_nodes.specs.Links.{AreLinked, block_at};
 
 use crate::linking::table_of;
-use crate::table::Table;
+use crate::table::ProgramTable;
 use flow_base::syntax::Program;
 use std::alloc::{AllocError, Global};
 use std::marker::Model;
@@ -12,12 +12,12 @@ use std::sync::Arc;
 /// A table whose statements have their links. All runs of a program share it.
 #[derive(Debug, Drop)]
 pub struct Linked {
-    table: Arc<Table>,
+    table: Arc<ProgramTable>,
 }
 
 impl Model for Linked {
-    ghost use Rattle.flow_nodes.specs.declared.table.Table.{Table as ATable};
-    ghost use Rattle.flow_nodes.specs.contracts.table.Table as row;
+    ghost use Rattle.flow_nodes.specs.declared.table.ProgramTable.{ProgramTable as ATable};
+    ghost use Rattle.flow_nodes.specs.contracts.table.ProgramTable as row;
     ghost use Rattle.flow_nodes.specs.Links.{AreLinked};
 
     ghost Value = { ATable };
@@ -39,7 +39,7 @@ impl Linked {
     }
 
     /// The table.
-    pub fn table(&self) -> &Table
+    pub fn table(&self) -> &ProgramTable
         ensures same { result.now ≡ self.now }
         ensures linked { AreLinked self.now.lists.items }
     {

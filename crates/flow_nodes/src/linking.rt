@@ -2,21 +2,21 @@ ghost use Rattle.std.specs.Prelude.{◌≡◌, ◌∷◌, [], ℕ, IfOk, OnOk, m
 ghost use Rattle.flow_base.specs.Shown.{shown_block, shown_program, shown_stmt, shown_braced, shown_branch, branches_of, Braced};
 ghost use Rattle.flow_nodes.specs.Links.{AreLinked, Grows, IsLinked, LeadAll, LeadsTo, LinkEach, block_at};
 
-use crate::table::{Links, Listing, Table};
+use crate::table::{Links, Listing, ProgramTable};
 use flow_base::syntax::{Block, Branch, Program, Stmt};
 use flow_base::text::Key;
 use std::alloc::{AllocError, Global};
 use std::sync::Arc;
 
 /// The table of a program.
-pub fn table_of(alloc: Global, program: &Program) -> Result<Table, AllocError>
+pub fn table_of(alloc: Global, program: &Program) -> Result<ProgramTable, AllocError>
     ensures body { IfOk result (λ t. block_at t.lists.items t.body ≡ (shown_program program.now).body) }
     ensures linked { IfOk result (λ t. AreLinked t.lists.items) }
 {
     let mut lists = Vec::new(alloc);
     let body = add_list(alloc, &program.body, &mut lists)?;
     let names = names_of(alloc, program)?;
-    Ok(Table { lists, body, names })
+    Ok(ProgramTable { lists, body, names })
 }
 
 // A list of statements, behind those within it; gives its number.
@@ -146,7 +146,8 @@ fn add_branches(
     lists: &mut Vec<Listing>,
 ) -> Result<Links, AllocError>
     requires { AreLinked lists.old.items }
-    ensures branches { IfOk result (λ k. (b : ℕ × Braced) → LeadsTo lists.old.items first b.1.0 → LeadAll lists.new.items k.branches.items (branches_of (b ∷ map shown_branch others.now))) }
+    ensures branches { IfOk result (λ k. (b : ℕ × Braced) → LeadsTo lists.old.items first b.1.0
+        → LeadAll lists.new.items k.branches.items (branches_of (b ∷ map shown_branch others.now))) }
     ensures grows { OnOk result (Grows lists.old.items lists.new.items) }
     ensures linked { OnOk result (AreLinked lists.new.items) }
 {

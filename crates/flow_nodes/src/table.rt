@@ -22,7 +22,7 @@ pub struct Listing {
 
 /// All lists of statements of a program, by number.
 #[derive(Debug, Drop)]
-pub struct Table {
+pub struct ProgramTable {
     pub lists: Vec<Listing>,
     /// The number of the program's body.
     pub body: usize,
@@ -30,7 +30,7 @@ pub struct Table {
     pub names: Arc<Vec<Key>>,
 }
 
-impl Table {
+impl ProgramTable {
     /// The statements of a list.
     pub fn stmts(&self, list: usize) -> &[Stmt]
         ensures { result.now ≡ stmts_at self.now.lists.items list }

@@ -13,7 +13,7 @@ use flow_base::syntax::{Block, Branch, Expr};
 use flow_base::text::Key;
 use flow_run::setting::{Setting, is_answered, raise};
 use flow_values::evaluate::{eval, truth};
-use flow_values::fault::Fault;
+use flow_values::fault::EvalFault;
 use std::alloc::{AllocError, Global};
 use std::sync::Arc;
 
@@ -25,8 +25,9 @@ pub fn pick(
     e: &Expr,
     a: &Block,
     b: &Block,
-) -> Result<Moved, Fault>
-    ensures step { IfOk result (λ m. shown_move t.now m ≡ model.begin (shown_setting s.now) (shown_store t.now) (AIf 0 (shown_expr e.now) (shown_braced a.now).0 0 (shown_braced b.now).0 0)) }
+) -> Result<Moved, EvalFault>
+    ensures step { IfOk result (λ m. shown_move t.now m ≡ model.begin (shown_setting s.now) (shown_store t.now)
+        (AIf 0 (shown_expr e.now) (shown_braced a.now).0 0 (shown_braced b.now).0 0)) }
     ensures kept { IfOk result (λ m. Begins t.now t.now m) }
 {
     match eval(alloc, &t.variables, s.at, e)? {
@@ -54,8 +55,10 @@ pub fn repeat(
     at: usize,
     e: &Expr,
     body: &Block,
-) -> Result<Begun, Fault>
-    ensures step { IfOk result (λ m. shown_begun (AWhile at (shown_expr e.now) (shown_braced body.now).0 (shown_braced body.now).1) t.new m ≡ model.begin (shown_setting s.now) (shown_store t.old) (AWhile at (shown_expr e.now) (shown_braced body.now).0 (shown_braced body.now).1)) }
+) -> Result<Begun, EvalFault>
+    ensures step { IfOk result (λ m. shown_begun (AWhile at (shown_expr e.now) (shown_braced body.now).0
+        (shown_braced body.now).1) t.new m ≡ model.begin (shown_setting s.now) (shown_store t.old)
+        (AWhile at (shown_expr e.now) (shown_braced body.now).0 (shown_braced body.now).1)) }
     ensures kept { IfOk result (λ m. Starts t.old t.new m) }
 {
     if t.tests >= 10000 {
@@ -83,8 +86,9 @@ pub fn since_patch(
     id: &Key,
     a: &Block,
     b: &Block,
-) -> Result<Moved, Fault>
-    ensures step { IfOk result (λ m. shown_move t.new m ≡ model.begin (shown_setting s.now) (shown_store t.old) (APatch 0 0 id.now (shown_braced a.now).0 0 (shown_braced b.now).0 0)) }
+) -> Result<Moved, EvalFault>
+    ensures step { IfOk result (λ m. shown_move t.new m ≡ model.begin (shown_setting s.now) (shown_store t.old)
+        (APatch 0 0 id.now (shown_braced a.now).0 0 (shown_braced b.now).0 0)) }
     ensures kept { IfOk result (λ m. Begins t.old t.new m) }
 {
     match t.decided.find(id) {
@@ -103,7 +107,7 @@ pub fn since_patch(
 }
 
 /// `deprecate`: a patch with two empty lists.
-pub fn deprecate(alloc: Global, s: &Setting, t: &mut Store, id: &Key) -> Result<Moved, Fault>
+pub fn deprecate(alloc: Global, s: &Setting, t: &mut Store, id: &Key) -> Result<Moved, EvalFault>
     ensures step { IfOk result (λ m. shown_move t.new m ≡ model.begin (shown_setting s.now) (shown_store t.old) (ADeprecate 0 0 id.now)) }
     ensures kept { IfOk result (λ m. Begins t.old t.new m) }
 {

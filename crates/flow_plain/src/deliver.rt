@@ -101,7 +101,8 @@ fn complete(
     v: &Value,
 ) -> Result<Option<Turning>, AllocError>
     requires { run.now.state ≡ State.Open }
-    ensures { IfOk result (λ o. shown_started o ≡ model.completed (plain_configuration run.now) n v.now (model.target_of n (shown_rest run.now.rest))) }
+    ensures { IfOk result (λ o. shown_started o ≡ model.completed (plain_configuration run.now) n v.now
+        (model.target_of n (shown_rest run.now.rest))) }
 {
     match resume(alloc, &run.rest, n)? {
         Some(Resumed { rest, into, kind }) => {
@@ -125,7 +126,8 @@ fn fail(
     text: &Text,
 ) -> Result<Option<Turning>, AllocError>
     requires { run.now.state ≡ State.Open }
-    ensures { IfOk result (λ o. shown_started o ≡ model.with_rest (plain_configuration run.now) (model.replaced (model.when_failed n text.now) (shown_rest run.now.rest))) }
+    ensures { IfOk result (λ o. shown_started o ≡ model.with_rest (plain_configuration run.now)
+        (model.replaced (model.when_failed n text.now) (shown_rest run.now.rest))) }
 {
     match failed(alloc, &run.rest, n, text)? {
         Some(rest) => {
@@ -147,7 +149,10 @@ fn signal(
     v: &Value,
 ) -> Result<Option<Turning>, AllocError>
     requires { run.now.state ≡ State.Open }
-    ensures { IfOk result (λ o. shown_started o ≡ (if model.signal_fits (signals_of (shown_program program.now).declarations) name.now v.now then Some (started_with (shown_rest run.now.rest) (look_up run.now.variables) (run.now.buffer ++ (name.now, v.now) ∷ []) (look_up run.now.decided) State.Open) else None)) }
+    ensures { IfOk result (λ o. shown_started o ≡
+        (if model.signal_fits (signals_of (shown_program program.now).declarations) name.now v.now then Some
+        (started_with (shown_rest run.now.rest) (look_up run.now.variables) (run.now.buffer ++ (name.now, v.now) ∷ [])
+        (look_up run.now.decided) State.Open) else None)) }
 {
     if !signal_fits(&program.declarations, name, v) {
         return Ok(None);
@@ -162,7 +167,8 @@ fn signal(
 
 fn fire(alloc: Global, run: &PlainRun, n: EventId) -> Result<Option<Turning>, AllocError>
     requires { run.now.state ≡ State.Open }
-    ensures { IfOk result (λ o. shown_started o ≡ model.with_rest (plain_configuration run.now) (model.replaced (model.when_fired n) (shown_rest run.now.rest))) }
+    ensures { IfOk result (λ o. shown_started o ≡ model.with_rest (plain_configuration run.now)
+        (model.replaced (model.when_fired n) (shown_rest run.now.rest))) }
 {
     match fired(alloc, &run.rest, n)? {
         Some(rest) => {
@@ -176,7 +182,8 @@ fn fire(alloc: Global, run: &PlainRun, n: EventId) -> Result<Option<Turning>, Al
 }
 
 fn terminate(alloc: Global, run: &PlainRun) -> Result<Option<Turning>, AllocError>
-    ensures { IfOk result (λ o. shown_started o ≡ Some (started_with tree.Done (look_up run.now.variables) run.now.buffer (look_up run.now.decided) State.Terminated)) }
+    ensures { IfOk result (λ o. shown_started o ≡ Some
+        (started_with tree.Done (look_up run.now.variables) run.now.buffer (look_up run.now.decided) State.Terminated)) }
 {
     let variables = run.variables.share()?;
     let buffer = run.buffer.share()?;

@@ -131,7 +131,8 @@ impl PlainRun {
 
     /// The value of a variable, if it has one.
     pub fn variable(&self, name: &str) -> Option<&Value>
-        ensures { MatchOption result ((plain_configuration self.now).variables name.now ≡ None) (λ v. (plain_configuration self.now).variables name.now ≡ Some v.now) }
+        ensures { MatchOption result ((plain_configuration self.now).variables name.now ≡ None)
+            (λ v. (plain_configuration self.now).variables name.now ≡ Some v.now) }
     {
         self.variables.find(name)
     }
@@ -166,12 +167,17 @@ pub fn plain_turn(
     answers: Answers,
 ) -> Result<Vec<Cmd>, TurnFault>
     requires events { (plain_configuration run.old).events < 2 ^ 61 }
-    ensures ok { IfOk result (λ cmds. Turn (shown_program program.now) (shown_answers answers.entry) (plain_configuration run.old) at input.now cmds.items (plain_configuration run.new)) }
-    ensures computed { IfOk result (λ cmds. turned (shown_program program.now) (shown_answers answers.entry) (plain_configuration run.old) at input.now ≡ Some (cmds.items, plain_configuration run.new)) }
-    ensures counted { IfOk result (λ cmds. (plain_configuration run.new).events ≡ (plain_configuration run.old).events + 1 + length cmds.items) }
+    ensures ok { IfOk result (λ cmds. Turn (shown_program program.now) (shown_answers answers.entry)
+        (plain_configuration run.old) at input.now cmds.items (plain_configuration run.new)) }
+    ensures computed { IfOk result (λ cmds. turned (shown_program program.now) (shown_answers answers.entry)
+        (plain_configuration run.old) at input.now ≡ Some (cmds.items, plain_configuration run.new)) }
+    ensures counted { IfOk result (λ cmds. (plain_configuration run.new).events ≡
+        (plain_configuration run.old).events + 1 + length cmds.items) }
     ensures err { OnErr result (plain_configuration run.new ≡ plain_configuration run.old) }
     ensures closed { (result ≡ Err TurnFault.Closed) ↔ (is_closed_state (plain_configuration run.old).state ≡ true) }
-    ensures not_awaited { (result ≡ Err TurnFault.NotAwaited) ↔ ((is_closed_state (plain_configuration run.old).state ≡ false) × (delivered (shown_program program.now) (plain_configuration run.old) input.now ≡ None)) }
+    ensures not_awaited { (result ≡ Err TurnFault.NotAwaited) ↔
+        ((is_closed_state (plain_configuration run.old).state ≡ false)
+        × (delivered (shown_program program.now) (plain_configuration run.old) input.now ≡ None)) }
 {
     if is_closed(run.state) {
         return Err(TurnFault::Closed);
@@ -185,6 +191,6 @@ pub fn plain_turn(
             Ok(commands)
         }
         Ok(None) => Err(TurnFault::NotAwaited),
-        Err(fault::Fault::NoMemory(no_memory)) => Err(TurnFault::NoMemory(no_memory)),
+        Err(fault::EvalFault::NoMemory(no_memory)) => Err(TurnFault::NoMemory(no_memory)),
     }
 }

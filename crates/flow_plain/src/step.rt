@@ -17,7 +17,7 @@ use flow_base::value::Value;
 use flow_run::decided::Decided;
 use flow_run::setting::{Setting, gives, may_wait, raise, text_in};
 use flow_values::evaluate::{due, eval, eval_all};
-use flow_values::fault::Fault;
+use flow_values::fault::EvalFault;
 use flow_values::named::NamedValues;
 use std::alloc::Global;
 use std::sync::Arc;
@@ -50,7 +50,7 @@ pub enum Begun {
 }
 
 /// The leftmost place that can step does.
-pub fn step(alloc: Global, s: &Setting, t: &mut Store, rest: Rest) -> Result<Moved, Fault>
+pub fn step(alloc: Global, s: &Setting, t: &mut Store, rest: Rest) -> Result<Moved, EvalFault>
     ensures step { IfOk result (λ m. shown_move t.new m ≡ model.move (shown_setting s.now) (shown_store t.old) (shown_rest rest)) }
     ensures kept { IfOk result (λ m. KeepsRest t.old (shown_rest rest) t.new m) }
 {
@@ -113,7 +113,8 @@ fn is_end(stmts: &[Stmt], i: usize) -> bool
 
 // The first statement of what is left of a list.
 fn first<'a>(stmts: &'a [Stmt], i: usize) -> Option<&'a Stmt>
-    ensures { MatchOption result (left_from stmts.now i ≡ End) (λ s. (i < length stmts.now) × (left_from stmts.now i ≡ Next (shown_stmt s.now) (left_from stmts.now (i + 1)))) }
+    ensures { MatchOption result (left_from stmts.now i ≡ End)
+        (λ s. (i < length stmts.now) × (left_from stmts.now i ≡ Next (shown_stmt s.now) (left_from stmts.now (i + 1)))) }
 {
     if i >= stmts.len() {
         return None;
@@ -145,8 +146,9 @@ fn first_of(
     b: Arc<Vec<Stmt>>,
     i: usize,
     to: usize,
-) -> Result<Moved, Fault>
-    ensures step { IfOk result (λ m. shown_move t.new m ≡ model.first_of (shown_setting s.now) (shown_store t.old) (left_from (take to b.value.items) i)) }
+) -> Result<Moved, EvalFault>
+    ensures step { IfOk result (λ m. shown_move t.new m ≡ model.first_of (shown_setting s.now) (shown_store t.old)
+        (left_from (take to b.value.items) i)) }
     ensures kept { IfOk result (λ m. KeepsRest t.old (tree.Then (shown_rest r) (left_from (take to b.value.items) i)) t.new m) }
 {
     match first(within(&b, to), i) {
@@ -166,9 +168,17 @@ fn first_of(
 
 // What goes on, then the statement at a place of a list again, and those after it. Where it is the last, what is left
 // of the list serves as it is.
-fn repeated(alloc: Global, r: Rest, b: Arc<Vec<Stmt>>, i: usize, to: usize) -> Result<Rest, Fault>
+fn repeated(
+    alloc: Global,
+    r: Rest,
+    b: Arc<Vec<Stmt>>,
+    i: usize,
+    to: usize,
+) -> Result<Rest, EvalFault>
     requires { i < length (take to b.value.items) }
-    ensures { IfOk result (λ q. (st : Statement) → left_from (take to b.value.items) i ≡ Next st (left_from (take to b.value.items) (i + 1)) → shown_rest q ≡ model.followed_by (left_from (take to b.value.items) (i + 1)) (tree.Then (shown_rest r) (Next st End))) }
+    ensures { IfOk result (λ q. (st : Statement) → left_from (take to b.value.items) i ≡ Next st
+        (left_from (take to b.value.items) (i + 1))
+        → shown_rest q ≡ model.followed_by (left_from (take to b.value.items) (i + 1)) (tree.Then (shown_rest r) (Next st End))) }
 {
     let r = Box::new(alloc, r)?;
     if is_end(within(&b, to), i + 1) {
@@ -179,8 +189,9 @@ fn repeated(alloc: Global, r: Rest, b: Arc<Vec<Stmt>>, i: usize, to: usize) -> R
 }
 
 // A statement begins.
-fn begin(alloc: Global, s: &Setting, t: &mut Store, stmt: &Stmt) -> Result<Begun, Fault>
-    ensures step { IfOk result (λ m. shown_begun (shown_stmt stmt.now) t.new m ≡ model.begin (shown_setting s.now) (shown_store t.old) (shown_stmt stmt.now)) }
+fn begin(alloc: Global, s: &Setting, t: &mut Store, stmt: &Stmt) -> Result<Begun, EvalFault>
+    ensures step { IfOk result (λ m. shown_begun (shown_stmt stmt.now) t.new m ≡ model.begin (shown_setting s.now) (shown_store t.old)
+        (shown_stmt stmt.now)) }
     ensures kept { IfOk result (λ m. Starts t.old t.new m) }
 {
     match stmt {
@@ -205,8 +216,15 @@ fn begin(alloc: Global, s: &Setting, t: &mut Store, stmt: &Stmt) -> Result<Begun
     }
 }
 
-fn assign(alloc: Global, s: &Setting, t: &mut Store, name: &Key, e: &Expr) -> Result<Moved, Fault>
-    ensures step { IfOk result (λ m. shown_move t.new m ≡ model.begin (shown_setting s.now) (shown_store t.old) (ALet 0 0 name.now (shown_expr e.now))) }
+fn assign(
+    alloc: Global,
+    s: &Setting,
+    t: &mut Store,
+    name: &Key,
+    e: &Expr,
+) -> Result<Moved, EvalFault>
+    ensures step { IfOk result (λ m. shown_move t.new m ≡ model.begin (shown_setting s.now) (shown_store t.old)
+        (ALet 0 0 name.now (shown_expr e.now))) }
     ensures kept { IfOk result (λ m. Begins t.old t.new m) }
 {
     match eval(alloc, &t.variables, s.at, e)? {
@@ -227,8 +245,9 @@ fn call(
     es: &[Expr],
     retry: Retry,
     otherwise: &Option<Block>,
-) -> Result<Moved, Fault>
-    ensures step { IfOk result (λ m. shown_move t.now m ≡ model.begin (shown_setting s.now) (shown_store t.now) (ACall 0 into.now 0 activity.now (map shown_expr es.now) retry (shown_otherwise otherwise.now))) }
+) -> Result<Moved, EvalFault>
+    ensures step { IfOk result (λ m. shown_move t.now m ≡ model.begin (shown_setting s.now) (shown_store t.now)
+        (ACall 0 into.now 0 activity.now (map shown_expr es.now) retry (shown_otherwise otherwise.now))) }
     ensures kept { IfOk result (λ m. Begins t.now t.now m) }
 {
     match eval_all(alloc, &t.variables, s.at, es)? {
@@ -254,8 +273,9 @@ fn call(
     }
 }
 
-fn sleep(alloc: Global, s: &Setting, t: &Store, delay: &Expr) -> Result<Moved, Fault>
-    ensures step { IfOk result (λ m. shown_move t.now m ≡ model.begin (shown_setting s.now) (shown_store t.now) (ASleep 0 (shown_expr delay.now))) }
+fn sleep(alloc: Global, s: &Setting, t: &Store, delay: &Expr) -> Result<Moved, EvalFault>
+    ensures step { IfOk result (λ m. shown_move t.now m ≡ model.begin (shown_setting s.now) (shown_store t.now)
+        (ASleep 0 (shown_expr delay.now))) }
     ensures kept { IfOk result (λ m. Begins t.now t.now m) }
 {
     match due(alloc, &t.variables, s.at, delay)? {
@@ -271,8 +291,15 @@ fn sleep(alloc: Global, s: &Setting, t: &Store, delay: &Expr) -> Result<Moved, F
 }
 
 // A signal that is there is taken, however many waits are open.
-fn wait(alloc: Global, s: &Setting, t: &mut Store, into: &Key, signal: &Key) -> Result<Moved, Fault>
-    ensures step { IfOk result (λ m. shown_move t.new m ≡ model.begin (shown_setting s.now) (shown_store t.old) (AWaitSignal 0 into.now 0 signal.now)) }
+fn wait(
+    alloc: Global,
+    s: &Setting,
+    t: &mut Store,
+    into: &Key,
+    signal: &Key,
+) -> Result<Moved, EvalFault>
+    ensures step { IfOk result (λ m. shown_move t.new m ≡ model.begin (shown_setting s.now) (shown_store t.old)
+        (AWaitSignal 0 into.now 0 signal.now)) }
     ensures kept { IfOk result (λ m. Begins t.old t.new m) }
 {
     if take(alloc, t, into, signal)? {
@@ -294,8 +321,9 @@ fn wait_for(
     signal: &Key,
     delay: &Expr,
     late: &Block,
-) -> Result<Moved, Fault>
-    ensures step { IfOk result (λ m. shown_move t.new m ≡ model.begin (shown_setting s.now) (shown_store t.old) (AWaitSignalFor 0 into.now 0 signal.now (shown_expr delay.now) (shown_braced late.now).0 0)) }
+) -> Result<Moved, EvalFault>
+    ensures step { IfOk result (λ m. shown_move t.new m ≡ model.begin (shown_setting s.now) (shown_store t.old)
+        (AWaitSignalFor 0 into.now 0 signal.now (shown_expr delay.now) (shown_braced late.now).0 0)) }
     ensures kept { IfOk result (λ m. Begins t.old t.new m) }
 {
     let is_there = take(alloc, t, into, signal)?;
@@ -318,8 +346,9 @@ fn wait_for(
 }
 
 // A wait takes its signal, where that is there.
-fn hear(alloc: Global, t: &mut Store, into: Key, signal: Key) -> Result<Moved, Fault>
-    ensures step { IfOk result (λ m. shown_move t.new m ≡ model.on_signal (model.oldest signal t.old.buffer) (λ v. model.Goes tree.Done (model.take_signal (shown_store t.old) into signal v)) model.Stays) }
+fn hear(alloc: Global, t: &mut Store, into: Key, signal: Key) -> Result<Moved, EvalFault>
+    ensures step { IfOk result (λ m. shown_move t.new m ≡ model.on_signal (model.oldest signal t.old.buffer)
+        (λ v. model.Goes tree.Done (model.take_signal (shown_store t.old) into signal v)) model.Stays) }
     ensures kept { IfOk result (λ m. KeepsRest t.old (tree.OnSignal into signal) t.new m) }
 {
     if take(alloc, t, &into, &signal)? {
@@ -337,8 +366,9 @@ fn hear_in_time(
     signal: Key,
     timer: EventId,
     late: Block,
-) -> Result<Moved, Fault>
-    ensures step { IfOk result (λ m. shown_move t.new m ≡ model.on_signal (model.oldest signal t.old.buffer) (λ v. model.Asks tree.Done (model.take_signal (shown_store t.old) into signal v) (Cmd.CancelTimer timer)) model.Stays) }
+) -> Result<Moved, EvalFault>
+    ensures step { IfOk result (λ m. shown_move t.new m ≡ model.on_signal (model.oldest signal t.old.buffer)
+        (λ v. model.Asks tree.Done (model.take_signal (shown_store t.old) into signal v) (Cmd.CancelTimer timer)) model.Stays) }
     ensures kept { IfOk result (λ m. KeepsRest t.old (tree.OnSignalFor into signal timer (shown_braced late).0) t.new m) }
 {
     let is_there = take(alloc, t, &into, &signal)?;
@@ -350,9 +380,13 @@ fn hear_in_time(
 }
 
 // A variable gets the oldest signal of a name, which leaves the buffer; says whether one was there.
-fn take(alloc: Global, t: &mut Store, into: &Key, signal: &Key) -> Result<bool, Fault>
-    ensures taken { IfOk result (λ is. (m : model.Move) → (if is then model.Goes tree.Done (shown_store t.new) else m) ≡ model.on_signal (model.oldest signal.now t.old.buffer) (λ v. model.Goes tree.Done (model.take_signal (shown_store t.old) into.now signal.now v)) m) }
-    ensures in_time { IfOk result (λ is. (c : Cmd) (m : model.Move) → (if is then model.Asks tree.Done (shown_store t.new) c else m) ≡ model.on_signal (model.oldest signal.now t.old.buffer) (λ v. model.Asks tree.Done (model.take_signal (shown_store t.old) into.now signal.now v) c) m) }
+fn take(alloc: Global, t: &mut Store, into: &Key, signal: &Key) -> Result<bool, EvalFault>
+    ensures taken { IfOk result (λ is. (m : model.Move)
+        → (if is then model.Goes tree.Done (shown_store t.new) else m) ≡ model.on_signal (model.oldest signal.now t.old.buffer)
+        (λ v. model.Goes tree.Done (model.take_signal (shown_store t.old) into.now signal.now v)) m) }
+    ensures in_time { IfOk result (λ is. (c : Cmd) (m : model.Move)
+        → (if is then model.Asks tree.Done (shown_store t.new) c else m) ≡ model.on_signal (model.oldest signal.now t.old.buffer)
+        (λ v. model.Asks tree.Done (model.take_signal (shown_store t.old) into.now signal.now v) c) m) }
     ensures kept { IfOk result (λ is. is ≡ false → t.new ≡ t.old) }
 {
     match t.buffer.take(alloc, signal)? {
@@ -364,8 +398,9 @@ fn take(alloc: Global, t: &mut Store, into: &Key, signal: &Key) -> Result<bool, 
     }
 }
 
-fn finish(alloc: Global, s: &Setting, t: &Store, e: &Expr) -> Result<Moved, Fault>
-    ensures step { IfOk result (λ m. shown_move t.now m ≡ model.begin (shown_setting s.now) (shown_store t.now) (AReturn 0 (shown_expr e.now))) }
+fn finish(alloc: Global, s: &Setting, t: &Store, e: &Expr) -> Result<Moved, EvalFault>
+    ensures step { IfOk result (λ m. shown_move t.now m ≡ model.begin (shown_setting s.now) (shown_store t.now)
+        (AReturn 0 (shown_expr e.now))) }
     ensures kept { IfOk result (λ m. Begins t.now t.now m) }
 {
     match eval(alloc, &t.variables, s.at, e)? {
@@ -374,8 +409,9 @@ fn finish(alloc: Global, s: &Setting, t: &Store, e: &Expr) -> Result<Moved, Faul
     }
 }
 
-fn give_up(alloc: Global, s: &Setting, t: &Store, e: &Expr) -> Result<Moved, Fault>
-    ensures step { IfOk result (λ m. shown_move t.now m ≡ model.begin (shown_setting s.now) (shown_store t.now) (AFailWith 0 (shown_expr e.now))) }
+fn give_up(alloc: Global, s: &Setting, t: &Store, e: &Expr) -> Result<Moved, EvalFault>
+    ensures step { IfOk result (λ m. shown_move t.now m ≡ model.begin (shown_setting s.now) (shown_store t.now)
+        (AFailWith 0 (shown_expr e.now))) }
     ensures kept { IfOk result (λ m. Begins t.now t.now m) }
 {
     match eval(alloc, &t.variables, s.at, e)? {
@@ -385,8 +421,9 @@ fn give_up(alloc: Global, s: &Setting, t: &Store, e: &Expr) -> Result<Moved, Fau
 }
 
 // `continue as new`: a run's first turn can't, so that a chain of runs doesn't go on without an input.
-fn go_on_anew(alloc: Global, s: &Setting, t: &Store, es: &[Expr]) -> Result<Moved, Fault>
-    ensures step { IfOk result (λ m. shown_move t.now m ≡ model.begin (shown_setting s.now) (shown_store t.now) (AContinue 0 (map shown_expr es.now))) }
+fn go_on_anew(alloc: Global, s: &Setting, t: &Store, es: &[Expr]) -> Result<Moved, EvalFault>
+    ensures step { IfOk result (λ m. shown_move t.now m ≡ model.begin (shown_setting s.now) (shown_store t.now)
+        (AContinue 0 (map shown_expr es.now))) }
     ensures kept { IfOk result (λ m. Begins t.now t.now m) }
 {
     match eval_all(alloc, &t.variables, s.at, es)? {
@@ -402,7 +439,7 @@ fn go_on_anew(alloc: Global, s: &Setting, t: &Store, es: &[Expr]) -> Result<Move
 }
 
 // A variable gets a value.
-fn set(alloc: Global, t: &mut Store, name: &Key, v: Value) -> Result<(), Fault>
+fn set(alloc: Global, t: &mut Store, name: &Key, v: Value) -> Result<(), EvalFault>
     ensures { OnOk result (shown_store t.new ≡ model.set_in (shown_store t.old) name.now v) }
 {
     t.variables.set(alloc, name, v)?;
@@ -410,9 +447,17 @@ fn set(alloc: Global, t: &mut Store, name: &Key, v: Value) -> Result<(), Fault>
 }
 
 // What a step does, with the statements after it.
-fn before(alloc: Global, m: Moved, b: Arc<Vec<Stmt>>, i: usize, to: usize) -> Result<Moved, Fault>
-    ensures step { IfOk result (λ n. (t : Store) → shown_move t n ≡ model.around (λ r. tree.Then r (left_from (take to b.value.items) i)) (shown_move t m)) }
-    ensures kept { IfOk result (λ n. (old new : Store) (r : tree.Rest) → KeepsRest old r new m → KeepsRest old (tree.Then r (left_from (take to b.value.items) i)) new n) }
+fn before(
+    alloc: Global,
+    m: Moved,
+    b: Arc<Vec<Stmt>>,
+    i: usize,
+    to: usize,
+) -> Result<Moved, EvalFault>
+    ensures step { IfOk result (λ n. (t : Store) → shown_move t n ≡ model.around (λ r. tree.Then r (left_from (take to b.value.items) i))
+        (shown_move t m)) }
+    ensures kept { IfOk result (λ n. (old new : Store) (r : tree.Rest) → KeepsRest old r new m
+        → KeepsRest old (tree.Then r (left_from (take to b.value.items) i)) new n) }
     ensures begun { IfOk result (λ n. (old new : Store) (r : tree.Rest) → Begins old new m → KeepsRest old r new n) }
 {
     match m {
@@ -424,8 +469,15 @@ fn before(alloc: Global, m: Moved, b: Arc<Vec<Stmt>>, i: usize, to: usize) -> Re
 }
 
 // What the step of a statement does, with the statements after it: an empty list isn't kept.
-fn followed(alloc: Global, m: Moved, b: Arc<Vec<Stmt>>, i: usize, to: usize) -> Result<Moved, Fault>
-    ensures step { IfOk result (λ n. (t : Store) → shown_move t n ≡ model.around (model.followed_by (left_from (take to b.value.items) i)) (shown_move t m)) }
+fn followed(
+    alloc: Global,
+    m: Moved,
+    b: Arc<Vec<Stmt>>,
+    i: usize,
+    to: usize,
+) -> Result<Moved, EvalFault>
+    ensures step { IfOk result (λ n. (t : Store) → shown_move t n ≡ model.around (model.followed_by (left_from (take to b.value.items) i))
+        (shown_move t m)) }
     ensures begun { IfOk result (λ n. (old new : Store) (r : tree.Rest) → Begins old new m → KeepsRest old r new n) }
 {
     if is_end(within(&b, to), i) {
@@ -437,9 +489,11 @@ fn followed(alloc: Global, m: Moved, b: Arc<Vec<Stmt>>, i: usize, to: usize) -> 
 }
 
 // What the left branch does, with the right one.
-fn with_right(alloc: Global, m: Moved, b: Box<Rest>) -> Result<Moved, Fault>
-    ensures step { IfOk result (λ n. (t : Store) → shown_move t n ≡ model.around (λ r. tree.Beside r (shown_rest b.value)) (shown_move t m)) }
-    ensures kept { IfOk result (λ n. (old new : Store) (r : tree.Rest) → KeepsRest old r new m → KeepsRest old (tree.Beside r (shown_rest b.value)) new n) }
+fn with_right(alloc: Global, m: Moved, b: Box<Rest>) -> Result<Moved, EvalFault>
+    ensures step { IfOk result (λ n. (t : Store) → shown_move t n ≡ model.around (λ r. tree.Beside r (shown_rest b.value))
+        (shown_move t m)) }
+    ensures kept { IfOk result (λ n. (old new : Store) (r : tree.Rest) → KeepsRest old r new m
+        → KeepsRest old (tree.Beside r (shown_rest b.value)) new n) }
 {
     match m {
         Moved::Stays(r) => Ok(Moved::Stays(Rest::Beside(Box::new(alloc, r)?, b))),
@@ -450,9 +504,11 @@ fn with_right(alloc: Global, m: Moved, b: Box<Rest>) -> Result<Moved, Fault>
 }
 
 // What the right branch does, with the left one.
-fn with_left(alloc: Global, a: Box<Rest>, m: Moved) -> Result<Moved, Fault>
-    ensures step { IfOk result (λ n. (t : Store) → shown_move t n ≡ model.around (λ r. tree.Beside (shown_rest a.value) r) (shown_move t m)) }
-    ensures kept { IfOk result (λ n. (old new : Store) (r : tree.Rest) → KeepsRest old r new m → KeepsRest old (tree.Beside (shown_rest a.value) r) new n) }
+fn with_left(alloc: Global, a: Box<Rest>, m: Moved) -> Result<Moved, EvalFault>
+    ensures step { IfOk result (λ n. (t : Store) → shown_move t n ≡ model.around (λ r. tree.Beside (shown_rest a.value) r)
+        (shown_move t m)) }
+    ensures kept { IfOk result (λ n. (old new : Store) (r : tree.Rest) → KeepsRest old r new m
+        → KeepsRest old (tree.Beside (shown_rest a.value) r) new n) }
 {
     match m {
         Moved::Stays(r) => Ok(Moved::Stays(Rest::Beside(a, Box::new(alloc, r)?))),

@@ -18,7 +18,7 @@ use flow_base::syntax::{Declaration, Program};
 use flow_base::text::Text;
 use flow_base::value::Value;
 use flow_run::setting::{Answers, Setting};
-use flow_values::fault::Fault;
+use flow_values::fault::EvalFault;
 use std::alloc::Global;
 
 /// What is fixed in a turn.
@@ -47,10 +47,12 @@ pub fn made(
     at: Moment,
     input: &Input,
     answers: Answers,
-) -> Result<Option<(PlainRun, Vec<Cmd>)>, Fault>
+) -> Result<Option<(PlainRun, Vec<Cmd>)>, EvalFault>
     requires events { run.now.events < 2 ^ 61 }
     ensures counted { IfOk result (λ o. IfSome o (λ r. r.0.events ≡ run.now.events + 1 + length r.1.items)) }
-    ensures turn { IfOk result (λ o. MatchOption o (delivered (shown_program program.now) (plain_configuration run.now) input.now ≡ None) (λ r. model.Turn (shown_program program.now) (shown_answers answers.entry) (plain_configuration run.now) at input.now r.1.items (plain_configuration r.0))) }
+    ensures turn { IfOk result (λ o. MatchOption o (delivered (shown_program program.now) (plain_configuration run.now) input.now ≡ None)
+        (λ r. model.Turn (shown_program program.now) (shown_answers answers.entry) (plain_configuration run.now) at input.now r.1.items
+        (plain_configuration r.0))) }
 {
     match deliver(alloc, program, run, input)? {
         None => Ok(None),
@@ -80,7 +82,7 @@ pub fn is_closed(state: State) -> bool
 }
 
 // Steps until none is possible.
-fn go_on(alloc: Global, f: &Frame, p: Turning) -> Result<Turning, Fault>
+fn go_on(alloc: Global, f: &Frame, p: Turning) -> Result<Turning, EvalFault>
     requires events { f.now.events < 2 ^ 62 }
     ensures { IfOk result (λ q. (n : ℕ) × (model.steps n (shown_frame f.now) (shown_progress p) ≡ Some (shown_progress q))) }
 {
@@ -94,7 +96,7 @@ fn go_on(alloc: Global, f: &Frame, p: Turning) -> Result<Turning, Fault>
 }
 
 // One step of a run, or none.
-fn next(alloc: Global, f: &Frame, p: Turning) -> Result<Stepped, Fault>
+fn next(alloc: Global, f: &Frame, p: Turning) -> Result<Stepped, EvalFault>
     requires events { f.now.events < 2 ^ 62 }
     ensures step { IfOk result (λ n. shown_next n ≡ model.next (shown_frame f.now) (shown_progress p)) }
     ensures kept { IfOk result (λ n. KeepsProgress (shown_progress p) n) }
@@ -174,7 +176,7 @@ fn count(asked: &[Cmd]) -> u64
     asked.len() as u64
 }
 
-fn ended(store: Store, asked: Vec<Cmd>, c: Cmd) -> Result<Turning, Fault>
+fn ended(store: Store, asked: Vec<Cmd>, c: Cmd) -> Result<Turning, EvalFault>
     ensures { IfOk result (λ q. shown_progress q ≡ record { rest = Done; store = shown_store store; asked = asked.items ++ c ∷ []; state = model.state_after_command c }) }
 {
     let mut asked = asked;

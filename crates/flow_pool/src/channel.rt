@@ -5,7 +5,7 @@ ghost use Rattle.flow_pool.specs.Orders.{back_of, Delivers, WasEmpty};
 ghost use Rattle.flow_pool.specs.Ends.{put_by, made_by, back_at, came_back, known_by, number_of, taken_by, AreOne, IsOpenTo, IsSameEnd, IsSameFeed};
 
 use crate::ends::{Door, TaskReceiver, TaskSender, receiver, sender, with_task};
-use crate::hand::{Learnt, Makes, Puts, Returns, Takes, Tells};
+use crate::hand::{AddsWorker, Learnt, Puts, Returns, Takes, Tells};
 use crossbeam_channel::{SendError, bounded_with};
 use flow_machine::task::Task;
 use std::alloc::{AllocError, Global};
@@ -32,7 +32,7 @@ impl TaskSender {
         ensures returned { came_back self.new ≡ came_back self.old }
     {
         let end = door.end.try_clone()?;
-        let pass = self.end.another::<Makes>(&mut self.pass);
+        let pass = self.end.another::<AddsWorker>(&mut self.pass);
         Ok(receiver(end, pass))
     }
 

@@ -6,7 +6,7 @@ use Rattle.flow_base.specs.declared.value.Value.{Value}
 use Rattle.flow_base.specs.declared.event.State.{State}
 use Rattle.flow_base.specs.declared.event.State.TheVariants.{Open}
 use Rattle.flow_nodes.specs.declared.table.Listing.{Listing}
-use Rattle.flow_nodes.specs.declared.table.Table.{Table}
+use Rattle.flow_nodes.specs.declared.table.ProgramTable.{ProgramTable}
 use Rattle.flow_model.specs.Values.{Variables}
 use Rattle.flow_model.specs.Rest.{Rest}
 use Rattle.flow_model.specs.Deliver.{Progress}
@@ -78,21 +78,21 @@ whole_none ls [] s e b = record { sound = (λ i x h. absurd (omega (arith, h)), 
 whole_none ls (d ∷ ds) s e b = cc
 
 -- a copy of what a run is
-pub copied_whole : (run : Standing) (t : Table) (ds : List Cell) → t ≡ run.table → contents_of ds ≡ contents_of run.cells.items → IsWhole run → IsWholeAt t.lists.items ds run.state
+pub copied_whole : (run : Standing) (t : ProgramTable) (ds : List Cell) → t ≡ run.table → contents_of ds ≡ contents_of run.cells.items → IsWhole run → IsWholeAt t.lists.items ds run.state
 copied_whole run t ds e same w =
     let ls = run.table.lists.items in
     let cs = run.cells.items in
     let marks : marks_of ls cs ≡ marks_of ls ds = sym (same_marks ls ds cs same) in
-    subst (λ (u : Table). IsWholeAt u.lists.items ds run.state) (sym e)
+    subst (λ (u : ProgramTable). IsWholeAt u.lists.items ds run.state) (sym e)
     (record {
       sound = (same_full ls cs ds (sym same) w.sound.0, subst (λ (ms : List Mark). Counted ms []) marks w.sound.1);
       one = subst (λ (ms : List Mark). length (onto ms []) ≤ 1) marks w.one;
       begun = w.begun;
     })
 
-pub rest_again : (t u : Table) (cs ds : List Cell) → t ≡ u → contents_of ds ≡ contents_of cs → rest_at t.lists.items ds ≡ rest_at u.lists.items cs
+pub rest_again : (t u : ProgramTable) (cs ds : List Cell) → t ≡ u → contents_of ds ≡ contents_of cs → rest_at t.lists.items ds ≡ rest_at u.lists.items cs
 rest_again t u cs ds e same =
-    ap (λ (v : Table). rest_at v.lists.items ds) e ∙ ap (λ (ms : List Mark). first_rest (onto ms [])) (same_marks u.lists.items ds cs same)
+    ap (λ (v : ProgramTable). rest_at v.lists.items ds) e ∙ ap (λ (ms : List Mark). first_rest (onto ms [])) (same_marks u.lists.items ds cs same)
 
 -- one more task that may wait
 opens_next : (cs : List Cell) (i : ℕ) (c : Cell) → i < length cs → c ≡ get_or cs i c → opens_in_all (take (suc i) cs) ≡ opens_in_all (take i cs) + one_if (is_waiting c.doing)

@@ -13,7 +13,7 @@ use Rattle.flow_model.specs.Values.{Variables, with_variable}
 use Rattle.flow_model.specs.Configuration.{Configuration}
 use Rattle.flow_model.specs.Deliver.{Progress, completed, has_kind, replaced, start_from, target_of, when_completed, with_rest}
 use Rattle.flow_nodes.specs.declared.table.Listing.{Listing}
-use Rattle.flow_nodes.specs.declared.table.Table.{Table}
+use Rattle.flow_nodes.specs.declared.table.ProgramTable.{ProgramTable}
 use Rattle.flow_run.specs.Marks.{Mark, One, Many, Counted, first_rest, onto, put, within}
 use Rattle.flow_run.specs.Flat.{AreSound, blocks_of, content, contents_of, is_task, mark_of, marks_of, shown_doing, task_rest}
 use Rattle.flow_run.specs.Waiting.{IsFirst, NoneOf, going_on, on_activity, target_in, waits_itself}
@@ -65,8 +65,8 @@ one_there (c ∷ cs) zero h = (c, refl)
 one_there (c ∷ cs) (suc i) h = one_there cs i (omega (arith, h))
 
 -- what holds of a run holds of a copy
-pub whole_at : (run : Standing) (t : Table) → t ≡ run.table → IsWhole run → IsWholeAt t.lists.items run.cells.items run.state
-whole_at run t is w = subst (λ (u : Table). IsWholeAt u.lists.items run.cells.items run.state) (sym is) w
+pub whole_at : (run : Standing) (t : ProgramTable) → t ≡ run.table → IsWhole run → IsWholeAt t.lists.items run.cells.items run.state
+whole_at run t is w = subst (λ (u : ProgramTable). IsWholeAt u.lists.items run.cells.items run.state) (sym is) w
 
 pub sound_again : (ls : List Listing) (cs ds : List Cell) → contents_of ds ≡ contents_of cs → AreSound ls cs → AreSound ls ds
 sound_again ls cs ds same s = (same_full ls cs ds (sym same) s.0, subst (λ (ms : List Mark). Counted ms []) (sym (same_marks ls ds cs same)) s.1)
@@ -113,16 +113,16 @@ module _ (f : Rest → Option Rest) (e : f Done ≡ None) (p : Doing → Bool) (
   pub it_waits : (cs : List Cell) (i : ℕ) (c : Cell) → IsFirst p cs i → c ≡ get_or cs i c → waits_itself c.doing ≡ true
   it_waits cs i c first g = waits c.doing (does_it cs i c first g)
 
-  pub goes_on : (run : Standing) (t : Table) (i : ℕ) (c : Cell) (list : Option ℕ) (other : Doing) (q : Turning) → t ≡ run.table → IsWhole run → run.state ≡ Open → IsFirst p run.cells.items i → c ≡ get_or run.cells.items i c
+  pub goes_on : (run : Standing) (t : ProgramTable) (i : ℕ) (c : Cell) (list : Option ℕ) (other : Doing) (q : Turning) → t ≡ run.table → IsWhole run → run.state ≡ Open → IsFirst p run.cells.items i → c ≡ get_or run.cells.items i c
       → (p c.doing ≡ true → replaced f (shown_doing t.lists.items c.doing) ≡ Some (going_on t.lists.items list other))
       → onto (marks_of t.lists.items q.cells.items) [] ≡ onto (take i (marks_of t.lists.items run.cells.items)) (within (blocks_of t.lists.items c.places.items) (going_on t.lists.items list other) ∷ onto (drop (i + 1) (marks_of t.lists.items run.cells.items)) [])
       → replaced f (shown_standing run).rest ≡ Some (rest_at t.lists.items q.cells.items)
   goes_on run t i c list other q is whole opened first g becomes shows =
       let ls = t.lists.items in
       let cs = run.cells.items in
-      let one : length (onto (marks_of ls cs) []) ≤ 1 = subst (λ (u : Table). length (onto (marks_of u.lists.items cs) []) ≤ 1) (sym is) whole.one in
+      let one : length (onto (marks_of ls cs) []) ≤ 1 = subst (λ (u : ProgramTable). length (onto (marks_of u.lists.items cs) []) ≤ 1) (sym is) whole.one in
       let so = does_it cs i c first g in
-      ap (λ (u : Table). replaced f (rest_at u.lists.items cs)) (sym is)
+      ap (λ (u : ProgramTable). replaced f (rest_at u.lists.items cs)) (sym is)
       ∙ replaced_at f e ls p (none ls) cs q.cells.items i c (going_on ls list other) first.inside g first.before (waits_task c.doing (waits c.doing so)) (becomes so) one shows
 
   pub can_go : (run : Standing) (i : ℕ) (c : Cell) (r : Rest) → IsWhole run → IsFirst p run.cells.items i → c ≡ get_or run.cells.items i c

@@ -15,9 +15,9 @@ use flow_base::number::Moment;
 use flow_base::sequence::Sequence;
 use flow_base::syntax::{Block, Expr, Retry, Stmt};
 use flow_base::text::Key;
-use flow_nodes::table::{Links, Table};
+use flow_nodes::table::{Links, ProgramTable};
 use flow_values::evaluate::{due, eval, eval_all, truth};
-use flow_values::fault::Fault;
+use flow_values::fault::EvalFault;
 use std::alloc::Global;
 
 /// What is to be done next of a task.
@@ -48,14 +48,15 @@ pub enum Begun {
 /// A statement begins.
 pub fn begin(
     alloc: Global,
-    table: &Table,
+    table: &ProgramTable,
     s: &Setting,
     t: &mut Store,
     stmt: &Stmt,
     links: &Links,
-) -> Result<Begun, Fault>
+) -> Result<Begun, EvalFault>
     requires linked { IsLinked table.now.lists.items (shown_stmt stmt.now) links.now }
-    ensures step { IfOk result (λ m. shown_begun table.now.lists.items (shown_stmt stmt.now) t.new m ≡ model.begin (shown_setting s.now) (shown_store t.old) (shown_stmt stmt.now)) }
+    ensures step { IfOk result (λ m. shown_begun table.now.lists.items (shown_stmt stmt.now) t.new m ≡ model.begin (shown_setting s.now)
+        (shown_store t.old) (shown_stmt stmt.now)) }
     ensures kept { IfOk result (λ m. KeepsStore t.old t.new m) }
 {
     match stmt {
@@ -81,7 +82,7 @@ pub fn begin(
 }
 
 // A wait in a box of its own.
-fn boxed(alloc: Global, doing: Doing) -> Result<Box<Doing>, Fault>
+fn boxed(alloc: Global, doing: Doing) -> Result<Box<Doing>, EvalFault>
     ensures { IfOk result (λ b. b.value ≡ doing) }
 {
     let b = Box::new(alloc, doing)?;
@@ -89,7 +90,7 @@ fn boxed(alloc: Global, doing: Doing) -> Result<Box<Doing>, Fault>
 }
 
 // A fault fails the run.
-fn raised(alloc: Global, cause: Cause) -> Result<Box<Cmd>, Fault>
+fn raised(alloc: Global, cause: Cause) -> Result<Box<Cmd>, EvalFault>
     ensures { IfOk result (λ b. b.value ≡ Cmd.Fail cause []) }
 {
     let c = Box::new(alloc, raise(alloc, cause))?;
@@ -98,13 +99,14 @@ fn raised(alloc: Global, cause: Cause) -> Result<Box<Cmd>, Fault>
 
 fn assign(
     alloc: Global,
-    table: &Table,
+    table: &ProgramTable,
     s: &Setting,
     t: &mut Store,
     name: &Key,
     e: &Expr,
-) -> Result<Begun, Fault>
-    ensures step { IfOk result (λ m. shown_begun table.now.lists.items (ALet 0 0 name.now (shown_expr e.now)) t.new m ≡ model.begin (shown_setting s.now) (shown_store t.old) (ALet 0 0 name.now (shown_expr e.now))) }
+) -> Result<Begun, EvalFault>
+    ensures step { IfOk result (λ m. shown_begun table.now.lists.items (ALet 0 0 name.now (shown_expr e.now)) t.new m ≡ model.begin
+        (shown_setting s.now) (shown_store t.old) (ALet 0 0 name.now (shown_expr e.now))) }
     ensures kept { IfOk result (λ m. KeepsStore t.old t.new m) }
 {
     match eval(alloc, &t.variables, s.at, e)? {
@@ -117,8 +119,9 @@ fn assign(
 }
 
 // What a call has where its activity fails: a list of the table.
-fn late_of(table: &Table, otherwise: &Option<Block>, links: &Links) -> Option<Late>
-    requires { IsLinked table.now.lists.items (ACall 0 [] 0 [] [] (record { tries_at = 0; tries = 0; every_at = 0; every = 0 }) (shown_otherwise otherwise.now)) links.now }
+fn late_of(table: &ProgramTable, otherwise: &Option<Block>, links: &Links) -> Option<Late>
+    requires { IsLinked table.now.lists.items (ACall 0 [] 0 [] [] (record { tries_at = 0; tries = 0; every_at = 0; every = 0 })
+        (shown_otherwise otherwise.now)) links.now }
     ensures { late_at table.now.lists.items result ≡ shown_otherwise otherwise.now }
 {
     match otherwise {
@@ -132,7 +135,7 @@ fn late_of(table: &Table, otherwise: &Option<Block>, links: &Links) -> Option<La
 
 fn call(
     alloc: Global,
-    table: &Table,
+    table: &ProgramTable,
     s: &Setting,
     t: &Store,
     into: &Key,
@@ -141,9 +144,13 @@ fn call(
     retry: Retry,
     otherwise: &Option<Block>,
     links: &Links,
-) -> Result<Begun, Fault>
-    requires linked { IsLinked table.now.lists.items (ACall 0 into.now 0 activity.now (map shown_expr es.now) retry (shown_otherwise otherwise.now)) links.now }
-    ensures step { IfOk result (λ m. shown_begun table.now.lists.items (ACall 0 into.now 0 activity.now (map shown_expr es.now) retry (shown_otherwise otherwise.now)) t.now m ≡ model.begin (shown_setting s.now) (shown_store t.now) (ACall 0 into.now 0 activity.now (map shown_expr es.now) retry (shown_otherwise otherwise.now))) }
+) -> Result<Begun, EvalFault>
+    requires linked { IsLinked table.now.lists.items
+        (ACall 0 into.now 0 activity.now (map shown_expr es.now) retry (shown_otherwise otherwise.now)) links.now }
+    ensures step { IfOk result (λ m. shown_begun table.now.lists.items
+        (ACall 0 into.now 0 activity.now (map shown_expr es.now) retry (shown_otherwise otherwise.now)) t.now m ≡ model.begin
+        (shown_setting s.now) (shown_store t.now)
+        (ACall 0 into.now 0 activity.now (map shown_expr es.now) retry (shown_otherwise otherwise.now))) }
     ensures kept { IfOk result (λ m. KeepsStore t.now t.now m) }
 {
     match eval_all(alloc, &t.variables, s.at, es)? {
@@ -171,8 +178,15 @@ fn call(
     }
 }
 
-fn sleep(alloc: Global, table: &Table, s: &Setting, t: &Store, delay: &Expr) -> Result<Begun, Fault>
-    ensures step { IfOk result (λ m. shown_begun table.now.lists.items (ASleep 0 (shown_expr delay.now)) t.now m ≡ model.begin (shown_setting s.now) (shown_store t.now) (ASleep 0 (shown_expr delay.now))) }
+fn sleep(
+    alloc: Global,
+    table: &ProgramTable,
+    s: &Setting,
+    t: &Store,
+    delay: &Expr,
+) -> Result<Begun, EvalFault>
+    ensures step { IfOk result (λ m. shown_begun table.now.lists.items (ASleep 0 (shown_expr delay.now)) t.now m ≡ model.begin
+        (shown_setting s.now) (shown_store t.now) (ASleep 0 (shown_expr delay.now))) }
     ensures kept { IfOk result (λ m. KeepsStore t.now t.now m) }
 {
     match due(alloc, &t.variables, s.at, delay)? {
@@ -192,13 +206,14 @@ fn sleep(alloc: Global, table: &Table, s: &Setting, t: &Store, delay: &Expr) -> 
 // A signal that is there is taken, however many waits are open.
 fn wait(
     alloc: Global,
-    table: &Table,
+    table: &ProgramTable,
     s: &Setting,
     t: &mut Store,
     into: &Key,
     signal: &Key,
-) -> Result<Begun, Fault>
-    ensures step { IfOk result (λ m. shown_begun table.now.lists.items (AWaitSignal 0 into.now 0 signal.now) t.new m ≡ model.begin (shown_setting s.now) (shown_store t.old) (AWaitSignal 0 into.now 0 signal.now)) }
+) -> Result<Begun, EvalFault>
+    ensures step { IfOk result (λ m. shown_begun table.now.lists.items (AWaitSignal 0 into.now 0 signal.now) t.new m ≡ model.begin
+        (shown_setting s.now) (shown_store t.old) (AWaitSignal 0 into.now 0 signal.now)) }
     ensures kept { IfOk result (λ m. KeepsStore t.old t.new m) }
 {
     if take(alloc, t, into, signal)? {
@@ -216,7 +231,7 @@ fn wait(
 // The same for at most a delay, which isn't computed where the signal is there.
 fn wait_for(
     alloc: Global,
-    table: &Table,
+    table: &ProgramTable,
     s: &Setting,
     t: &mut Store,
     into: &Key,
@@ -224,9 +239,12 @@ fn wait_for(
     delay: &Expr,
     late: &Block,
     list: usize,
-) -> Result<Begun, Fault>
+) -> Result<Begun, EvalFault>
     requires linked { block_at table.now.lists.items list ≡ (shown_braced late.now).0 }
-    ensures step { IfOk result (λ m. shown_begun table.now.lists.items (AWaitSignalFor 0 into.now 0 signal.now (shown_expr delay.now) (shown_braced late.now).0 0) t.new m ≡ model.begin (shown_setting s.now) (shown_store t.old) (AWaitSignalFor 0 into.now 0 signal.now (shown_expr delay.now) (shown_braced late.now).0 0)) }
+    ensures step { IfOk result (λ m. shown_begun table.now.lists.items
+        (AWaitSignalFor 0 into.now 0 signal.now (shown_expr delay.now) (shown_braced late.now).0 0) t.new m ≡ model.begin
+        (shown_setting s.now) (shown_store t.old)
+        (AWaitSignalFor 0 into.now 0 signal.now (shown_expr delay.now) (shown_braced late.now).0 0)) }
     ensures kept { IfOk result (λ m. KeepsStore t.old t.new m) }
 {
     let is_there = take(alloc, t, into, signal)?;
@@ -245,7 +263,7 @@ fn wait_for(
 // The wait with its timer opens.
 fn wait_open(
     alloc: Global,
-    table: &Table,
+    table: &ProgramTable,
     s: &Setting,
     t: &Store,
     into: &Key,
@@ -253,9 +271,11 @@ fn wait_open(
     at: Moment,
     late: &Block,
     list: usize,
-) -> Result<Begun, Fault>
+) -> Result<Begun, EvalFault>
     requires linked { block_at table.now.lists.items list ≡ (shown_braced late.now).0 }
-    ensures step { IfOk result (λ m. shown_begun table.now.lists.items (AWaitSignalFor 0 into.now 0 signal.now (ANow 0) (shown_braced late.now).0 0) t.now m ≡ model.waiting (shown_setting s.now) (model.Asks (tree.OnSignalFor into.now signal.now s.now.event (shown_braced late.now).0) (shown_store t.now) (Cmd.StartTimer at))) }
+    ensures step { IfOk result (λ m. shown_begun table.now.lists.items
+        (AWaitSignalFor 0 into.now 0 signal.now (ANow 0) (shown_braced late.now).0 0) t.now m ≡ model.waiting (shown_setting s.now)
+        (model.Asks (tree.OnSignalFor into.now signal.now s.now.event (shown_braced late.now).0) (shown_store t.now) (Cmd.StartTimer at))) }
     ensures kept { IfOk result (λ m. KeepsStore t.now t.now m) }
 {
     if may_wait(s) {
@@ -272,7 +292,7 @@ fn wait_open(
 // `if`: the list that the condition picks begins.
 fn pick(
     alloc: Global,
-    table: &Table,
+    table: &ProgramTable,
     s: &Setting,
     t: &Store,
     e: &Expr,
@@ -280,10 +300,12 @@ fn pick(
     b: &Block,
     first: usize,
     second: usize,
-) -> Result<Begun, Fault>
+) -> Result<Begun, EvalFault>
     requires first { block_at table.now.lists.items first ≡ (shown_braced a.now).0 }
     requires second { block_at table.now.lists.items second ≡ (shown_braced b.now).0 }
-    ensures step { IfOk result (λ m. shown_begun table.now.lists.items (AIf 0 (shown_expr e.now) (shown_braced a.now).0 0 (shown_braced b.now).0 0) t.now m ≡ model.begin (shown_setting s.now) (shown_store t.now) (AIf 0 (shown_expr e.now) (shown_braced a.now).0 0 (shown_braced b.now).0 0)) }
+    ensures step { IfOk result (λ m. shown_begun table.now.lists.items
+        (AIf 0 (shown_expr e.now) (shown_braced a.now).0 0 (shown_braced b.now).0 0) t.now m ≡ model.begin (shown_setting s.now)
+        (shown_store t.now) (AIf 0 (shown_expr e.now) (shown_braced a.now).0 0 (shown_braced b.now).0 0)) }
     ensures kept { IfOk result (λ m. KeepsStore t.now t.now m) }
 {
     match eval(alloc, &t.variables, s.at, e)? {
@@ -292,11 +314,19 @@ fn pick(
     }
 }
 
-fn picked(table: &Table, is_first: bool, a: &Block, b: &Block, first: usize, second: usize) -> Next
+fn picked(
+    table: &ProgramTable,
+    is_first: bool,
+    a: &Block,
+    b: &Block,
+    first: usize,
+    second: usize,
+) -> Next
     requires first { block_at table.now.lists.items first ≡ (shown_braced a.now).0 }
     requires second { block_at table.now.lists.items second ≡ (shown_braced b.now).0 }
     ensures list { result ≡ Next.Enters (if is_first then first else second) }
-    ensures rest { tree.rest_of (block_at table.now.lists.items (if is_first then first else second)) ≡ model.picked is_first (shown_braced a.now).0 (shown_braced b.now).0 }
+    ensures rest { tree.rest_of (block_at table.now.lists.items (if is_first then first else second)) ≡ model.picked is_first
+        (shown_braced a.now).0 (shown_braced b.now).0 }
 {
     if is_first {
         Next::Enters(first)
@@ -309,16 +339,18 @@ fn picked(table: &Table, is_first: bool, a: &Block, b: &Block, first: usize, sec
 // make fails the run.
 fn repeat(
     alloc: Global,
-    table: &Table,
+    table: &ProgramTable,
     s: &Setting,
     t: &mut Store,
     at: usize,
     e: &Expr,
     body: &Block,
     list: usize,
-) -> Result<Begun, Fault>
+) -> Result<Begun, EvalFault>
     requires linked { block_at table.now.lists.items list ≡ (shown_braced body.now).0 }
-    ensures step { IfOk result (λ m. shown_begun table.now.lists.items (AWhile at (shown_expr e.now) (shown_braced body.now).0 (shown_braced body.now).1) t.new m ≡ model.begin (shown_setting s.now) (shown_store t.old) (AWhile at (shown_expr e.now) (shown_braced body.now).0 (shown_braced body.now).1)) }
+    ensures step { IfOk result (λ m. shown_begun table.now.lists.items
+        (AWhile at (shown_expr e.now) (shown_braced body.now).0 (shown_braced body.now).1) t.new m ≡ model.begin (shown_setting s.now)
+        (shown_store t.old) (AWhile at (shown_expr e.now) (shown_braced body.now).0 (shown_braced body.now).1)) }
     ensures kept { IfOk result (λ m. KeepsStore t.old t.new m) }
 {
     if t.tests >= 10000 {
@@ -341,7 +373,7 @@ fn repeat(
 // answer is recorded.
 fn since_patch(
     alloc: Global,
-    table: &Table,
+    table: &ProgramTable,
     s: &Setting,
     t: &mut Store,
     id: &Key,
@@ -349,10 +381,12 @@ fn since_patch(
     b: &Block,
     first: usize,
     second: usize,
-) -> Result<Begun, Fault>
+) -> Result<Begun, EvalFault>
     requires first { block_at table.now.lists.items first ≡ (shown_braced a.now).0 }
     requires second { block_at table.now.lists.items second ≡ (shown_braced b.now).0 }
-    ensures step { IfOk result (λ m. shown_begun table.now.lists.items (APatch 0 0 id.now (shown_braced a.now).0 0 (shown_braced b.now).0 0) t.new m ≡ model.begin (shown_setting s.now) (shown_store t.old) (APatch 0 0 id.now (shown_braced a.now).0 0 (shown_braced b.now).0 0)) }
+    ensures step { IfOk result (λ m. shown_begun table.now.lists.items
+        (APatch 0 0 id.now (shown_braced a.now).0 0 (shown_braced b.now).0 0) t.new m ≡ model.begin (shown_setting s.now)
+        (shown_store t.old) (APatch 0 0 id.now (shown_braced a.now).0 0 (shown_braced b.now).0 0)) }
     ensures kept { IfOk result (λ m. KeepsStore t.old t.new m) }
 {
     match t.decided.find(id) {
@@ -374,12 +408,13 @@ fn since_patch(
 // `deprecate`: a patch with two empty lists.
 fn deprecate(
     alloc: Global,
-    table: &Table,
+    table: &ProgramTable,
     s: &Setting,
     t: &mut Store,
     id: &Key,
-) -> Result<Begun, Fault>
-    ensures step { IfOk result (λ m. shown_begun table.now.lists.items (ADeprecate 0 0 id.now) t.new m ≡ model.begin (shown_setting s.now) (shown_store t.old) (ADeprecate 0 0 id.now)) }
+) -> Result<Begun, EvalFault>
+    ensures step { IfOk result (λ m. shown_begun table.now.lists.items (ADeprecate 0 0 id.now) t.new m ≡ model.begin (shown_setting s.now)
+        (shown_store t.old) (ADeprecate 0 0 id.now)) }
     ensures kept { IfOk result (λ m. KeepsStore t.old t.new m) }
 {
     match t.decided.find(id) {
@@ -397,8 +432,15 @@ fn deprecate(
     }
 }
 
-fn finish(alloc: Global, table: &Table, s: &Setting, t: &Store, e: &Expr) -> Result<Begun, Fault>
-    ensures step { IfOk result (λ m. shown_begun table.now.lists.items (AReturn 0 (shown_expr e.now)) t.now m ≡ model.begin (shown_setting s.now) (shown_store t.now) (AReturn 0 (shown_expr e.now))) }
+fn finish(
+    alloc: Global,
+    table: &ProgramTable,
+    s: &Setting,
+    t: &Store,
+    e: &Expr,
+) -> Result<Begun, EvalFault>
+    ensures step { IfOk result (λ m. shown_begun table.now.lists.items (AReturn 0 (shown_expr e.now)) t.now m ≡ model.begin
+        (shown_setting s.now) (shown_store t.now) (AReturn 0 (shown_expr e.now))) }
     ensures kept { IfOk result (λ m. KeepsStore t.now t.now m) }
 {
     match eval(alloc, &t.variables, s.at, e)? {
@@ -407,8 +449,15 @@ fn finish(alloc: Global, table: &Table, s: &Setting, t: &Store, e: &Expr) -> Res
     }
 }
 
-fn give_up(alloc: Global, table: &Table, s: &Setting, t: &Store, e: &Expr) -> Result<Begun, Fault>
-    ensures step { IfOk result (λ m. shown_begun table.now.lists.items (AFailWith 0 (shown_expr e.now)) t.now m ≡ model.begin (shown_setting s.now) (shown_store t.now) (AFailWith 0 (shown_expr e.now))) }
+fn give_up(
+    alloc: Global,
+    table: &ProgramTable,
+    s: &Setting,
+    t: &Store,
+    e: &Expr,
+) -> Result<Begun, EvalFault>
+    ensures step { IfOk result (λ m. shown_begun table.now.lists.items (AFailWith 0 (shown_expr e.now)) t.now m ≡ model.begin
+        (shown_setting s.now) (shown_store t.now) (AFailWith 0 (shown_expr e.now))) }
     ensures kept { IfOk result (λ m. KeepsStore t.now t.now m) }
 {
     match eval(alloc, &t.variables, s.at, e)? {
@@ -420,12 +469,13 @@ fn give_up(alloc: Global, table: &Table, s: &Setting, t: &Store, e: &Expr) -> Re
 // `continue as new`: a run's first turn can't, so that a chain of runs doesn't go on without an input.
 fn go_on_anew(
     alloc: Global,
-    table: &Table,
+    table: &ProgramTable,
     s: &Setting,
     t: &Store,
     es: &[Expr],
-) -> Result<Begun, Fault>
-    ensures step { IfOk result (λ m. shown_begun table.now.lists.items (AContinue 0 (map shown_expr es.now)) t.now m ≡ model.begin (shown_setting s.now) (shown_store t.now) (AContinue 0 (map shown_expr es.now))) }
+) -> Result<Begun, EvalFault>
+    ensures step { IfOk result (λ m. shown_begun table.now.lists.items (AContinue 0 (map shown_expr es.now)) t.now m ≡ model.begin
+        (shown_setting s.now) (shown_store t.now) (AContinue 0 (map shown_expr es.now))) }
     ensures kept { IfOk result (λ m. KeepsStore t.now t.now m) }
 {
     match eval_all(alloc, &t.variables, s.at, es)? {

@@ -27,8 +27,8 @@ use flow_base::syntax::{Parameter, Program};
 use flow_base::text::{Key, Text};
 use flow_base::value::{Kind, Value};
 use flow_model::kinds::{all_fit, has_kind};
-use flow_nodes::table::Table;
-use flow_values::fault::Fault;
+use flow_nodes::table::ProgramTable;
+use flow_values::fault::EvalFault;
 use flow_values::named::NamedValues;
 use flow_values::slots::Slots;
 use std::alloc::{AllocError, Global};
@@ -47,10 +47,10 @@ pub struct Turning {
 /// A run begins with its arguments; none where they don't fit the parameters.
 pub fn begin(
     alloc: Global,
-    table: &Table,
+    table: &ProgramTable,
     program: &Program,
     values: &[Value],
-) -> Result<Option<Turning>, Fault>
+) -> Result<Option<Turning>, EvalFault>
     requires { block_at table.now.lists.items table.now.body ≡ (shown_program program.now).body }
     ensures started { IfOk result (λ o. shown_started table.now.lists.items o ≡ model.begun (shown_program program.now) values.now) }
     ensures whole { IfOk result (λ o. IfSome o (λ p. IsWholeTurning table.now.lists.items p)) }
@@ -104,14 +104,15 @@ fn none_bound(names: &Arc<Vec<Key>>) -> Result<Slots, AllocError>
 /// An input takes effect on a copy of a run that has begun; none where it can't be delivered.
 pub fn deliver(
     alloc: Global,
-    table: &Table,
+    table: &ProgramTable,
     program: &Program,
     run: &Standing,
     input: &Input,
-) -> Result<Option<Turning>, Fault>
+) -> Result<Option<Turning>, EvalFault>
     requires table { table.now ≡ run.now.table }
     requires whole { IsWhole run.now }
-    ensures started { IfOk result (λ o. shown_started table.now.lists.items o ≡ model.deliver (shown_program program.now) (shown_standing run.now) input.now) }
+    ensures started { IfOk result (λ o. shown_started table.now.lists.items o ≡ model.deliver (shown_program program.now)
+        (shown_standing run.now) input.now) }
     ensures whole { IfOk result (λ o. IfSome o (λ p. IsWholeTurning table.now.lists.items p)) }
     ensures err { OnErr result (is_some (model.deliver (shown_program program.now) (shown_standing run.now) input.now) ≡ true) }
 {
@@ -150,17 +151,19 @@ pub fn deliver(
 // A call gets its value and is over.
 fn complete(
     alloc: Global,
-    table: &Table,
+    table: &ProgramTable,
     run: &Standing,
     n: EventId,
     v: &Value,
-) -> Result<Option<Turning>, Fault>
+) -> Result<Option<Turning>, EvalFault>
     requires table { table.now ≡ run.now.table }
     requires whole { IsWhole run.now }
     requires is_open { run.now.state ≡ State.Open }
-    ensures started { IfOk result (λ o. shown_started table.now.lists.items o ≡ model.completed (shown_standing run.now) n v.now (model.target_of n (shown_standing run.now).rest)) }
+    ensures started { IfOk result (λ o. shown_started table.now.lists.items o ≡ model.completed (shown_standing run.now) n v.now
+        (model.target_of n (shown_standing run.now).rest)) }
     ensures whole { IfOk result (λ o. IfSome o (λ p. IsWholeTurning table.now.lists.items p)) }
-    ensures err { OnErr result (is_some (model.completed (shown_standing run.now) n v.now (model.target_of n (shown_standing run.now).rest)) ≡ true) }
+    ensures err { OnErr result (is_some (model.completed (shown_standing run.now) n v.now
+        (model.target_of n (shown_standing run.now).rest)) ≡ true) }
 {
     match activity_at(&run.cells, n) {
         Some(i) => complete_at(alloc, table, run, n, v, i),
@@ -171,19 +174,21 @@ fn complete(
 // The same of the first task that waits on the activity.
 fn complete_at(
     alloc: Global,
-    table: &Table,
+    table: &ProgramTable,
     run: &Standing,
     n: EventId,
     v: &Value,
     i: usize,
-) -> Result<Option<Turning>, Fault>
+) -> Result<Option<Turning>, EvalFault>
     requires table { table.now ≡ run.now.table }
     requires whole { IsWhole run.now }
     requires is_open { run.now.state ≡ State.Open }
     requires first { IsFirst (on_activity n) run.now.cells.items i }
-    ensures started { IfOk result (λ o. shown_started table.now.lists.items o ≡ model.completed (shown_standing run.now) n v.now (model.target_of n (shown_standing run.now).rest)) }
+    ensures started { IfOk result (λ o. shown_started table.now.lists.items o ≡ model.completed (shown_standing run.now) n v.now
+        (model.target_of n (shown_standing run.now).rest)) }
     ensures whole { IfOk result (λ o. IfSome o (λ p. IsWholeTurning table.now.lists.items p)) }
-    ensures err { OnErr result (is_some (model.completed (shown_standing run.now) n v.now (model.target_of n (shown_standing run.now).rest)) ≡ true) }
+    ensures err { OnErr result (is_some (model.completed (shown_standing run.now) n v.now
+        (model.target_of n (shown_standing run.now).rest)) ≡ true) }
 {
     match target(&run.cells[i].doing) {
         Some((into, kind)) => {
@@ -201,15 +206,16 @@ fn complete_at(
 // A call whose activity has failed does its `else`, or the run is to fail.
 fn fail(
     alloc: Global,
-    table: &Table,
+    table: &ProgramTable,
     run: &Standing,
     n: EventId,
     text: &Text,
-) -> Result<Option<Turning>, Fault>
+) -> Result<Option<Turning>, EvalFault>
     requires table { table.now ≡ run.now.table }
     requires whole { IsWhole run.now }
     requires is_open { run.now.state ≡ State.Open }
-    ensures started { IfOk result (λ o. shown_started table.now.lists.items o ≡ model.with_rest (shown_standing run.now) (model.replaced (model.when_failed n text.now) (shown_standing run.now).rest)) }
+    ensures started { IfOk result (λ o. shown_started table.now.lists.items o ≡ model.with_rest (shown_standing run.now)
+        (model.replaced (model.when_failed n text.now) (shown_standing run.now).rest)) }
     ensures whole { IfOk result (λ o. IfSome o (λ p. IsWholeTurning table.now.lists.items p)) }
     ensures err { OnErr result (is_some (model.replaced (model.when_failed n text.now) (shown_standing run.now).rest) ≡ true) }
 {
@@ -225,11 +231,17 @@ fn fail(
 }
 
 // A sleep is over, or a wait for a signal does what is to be done where none came.
-fn fire(alloc: Global, table: &Table, run: &Standing, n: EventId) -> Result<Option<Turning>, Fault>
+fn fire(
+    alloc: Global,
+    table: &ProgramTable,
+    run: &Standing,
+    n: EventId,
+) -> Result<Option<Turning>, EvalFault>
     requires table { table.now ≡ run.now.table }
     requires whole { IsWhole run.now }
     requires is_open { run.now.state ≡ State.Open }
-    ensures started { IfOk result (λ o. shown_started table.now.lists.items o ≡ model.with_rest (shown_standing run.now) (model.replaced (model.when_fired n) (shown_standing run.now).rest)) }
+    ensures started { IfOk result (λ o. shown_started table.now.lists.items o ≡ model.with_rest (shown_standing run.now)
+        (model.replaced (model.when_fired n) (shown_standing run.now).rest)) }
     ensures whole { IfOk result (λ o. IfSome o (λ p. IsWholeTurning table.now.lists.items p)) }
     ensures err { OnErr result (is_some (model.replaced (model.when_fired n) (shown_standing run.now).rest) ≡ true) }
 {
@@ -246,16 +258,19 @@ fn fire(alloc: Global, table: &Table, run: &Standing, n: EventId) -> Result<Opti
 // A signal is put behind those that nobody took yet.
 fn signal(
     alloc: Global,
-    table: &Table,
+    table: &ProgramTable,
     program: &Program,
     run: &Standing,
     name: &Key,
     v: &Value,
-) -> Result<Option<Turning>, Fault>
+) -> Result<Option<Turning>, EvalFault>
     requires table { table.now ≡ run.now.table }
     requires whole { IsWhole run.now }
     requires is_open { run.now.state ≡ State.Open }
-    ensures started { IfOk result (λ o. shown_started table.now.lists.items o ≡ (if model.signal_fits (signals_of (shown_program program.now).declarations) name.now v.now then Some (started_with (shown_standing run.now).rest (slot_of run.now.variables) (run.now.buffer ++ (name.now, v.now) ∷ []) (look_up run.now.decided) State.Open) else None)) }
+    ensures started { IfOk result (λ o. shown_started table.now.lists.items o ≡
+        (if model.signal_fits (signals_of (shown_program program.now).declarations) name.now v.now then Some
+        (started_with (shown_standing run.now).rest (slot_of run.now.variables) (run.now.buffer ++ (name.now, v.now) ∷ [])
+        (look_up run.now.decided) State.Open) else None)) }
     ensures whole { IfOk result (λ o. IfSome o (λ p. IsWholeTurning table.now.lists.items p)) }
     ensures err { OnErr result (model.signal_fits (signals_of (shown_program program.now).declarations) name.now v.now ≡ true) }
 {
@@ -267,8 +282,13 @@ fn signal(
     Ok(Some(p))
 }
 
-fn terminate(alloc: Global, table: &Table, run: &Standing) -> Result<Option<Turning>, Fault>
-    ensures started { IfOk result (λ o. shown_started table.now.lists.items o ≡ Some (started_with tree.Done (slot_of run.now.variables) run.now.buffer (look_up run.now.decided) State.Terminated)) }
+fn terminate(
+    alloc: Global,
+    table: &ProgramTable,
+    run: &Standing,
+) -> Result<Option<Turning>, EvalFault>
+    ensures started { IfOk result (λ o. shown_started table.now.lists.items o ≡ Some
+        (started_with tree.Done (slot_of run.now.variables) run.now.buffer (look_up run.now.decided) State.Terminated)) }
     ensures whole { IfOk result (λ o. IfSome o (λ p. IsWholeTurning table.now.lists.items p)) }
 {
     let variables = run.variables.share()?;
@@ -281,7 +301,8 @@ fn terminate(alloc: Global, table: &Table, run: &Standing) -> Result<Option<Turn
 // A copy of an open run, in a turn that has asked nothing yet.
 fn resumed(alloc: Global, run: &Standing) -> Result<Turning, AllocError>
     ensures cells { IfOk result (λ p. contents_of p.cells.items ≡ contents_of run.now.cells.items) }
-    ensures shows { IfOk result (λ p. (ls : _) → shown_progress ls p ≡ started_with (rest_at ls p.cells.items) (slot_of run.now.variables) run.now.buffer (look_up run.now.decided) State.Open) }
+    ensures shows { IfOk result (λ p. (ls : _) → shown_progress ls p ≡ started_with (rest_at ls p.cells.items)
+        (slot_of run.now.variables) run.now.buffer (look_up run.now.decided) State.Open) }
 {
     let cells = copy_cells(alloc, &run.cells)?;
     let variables = run.variables.share()?;
@@ -299,7 +320,8 @@ fn start_from(
     state: State,
 ) -> Turning
     ensures cells { result.cells ≡ cells }
-    ensures shows { (ls : _) → shown_progress ls result ≡ started_with (rest_at ls cells.items) (slot_of variables) buffer (look_up decided) state }
+    ensures shows { (ls : _) → shown_progress ls result ≡ started_with (rest_at ls cells.items) (slot_of variables) buffer
+        (look_up decided) state }
 {
     Turning {
         cells,
@@ -317,19 +339,23 @@ fn start_from(
 // A copy of an open run in which the task at a place does a list, or else this.
 fn gone_on(
     alloc: Global,
-    table: &Table,
+    table: &ProgramTable,
     run: &Standing,
     i: usize,
     list: Option<usize>,
     other: Doing,
-) -> Result<Turning, Fault>
+) -> Result<Turning, EvalFault>
     requires table { table.now ≡ run.now.table }
     requires whole { IsWhole run.now }
     requires there { i < length run.now.cells.items }
     requires waits { (c : ACell) → c ≡ slice_index_or run.now.cells.items i c → waits_itself c.doing ≡ true }
     requires task { is_task other ≡ true }
-    ensures shows { IfOk result (λ p. (c : ACell) → c ≡ slice_index_or run.now.cells.items i c → onto (marks_of table.now.lists.items p.cells.items) [] ≡ onto (take i (marks_of table.now.lists.items run.now.cells.items)) (within (blocks_of table.now.lists.items c.places.items) (going_on table.now.lists.items list other) ∷ onto (drop (i + 1) (marks_of table.now.lists.items run.now.cells.items)) [])) }
-    ensures store { IfOk result (λ p. shown_progress table.now.lists.items p ≡ started_with (rest_at table.now.lists.items p.cells.items) (slot_of run.now.variables) run.now.buffer (look_up run.now.decided) State.Open) }
+    ensures shows { IfOk result (λ p. (c : ACell) → c ≡ slice_index_or run.now.cells.items i c
+        → onto (marks_of table.now.lists.items p.cells.items) [] ≡ onto (take i (marks_of table.now.lists.items run.now.cells.items))
+        (within (blocks_of table.now.lists.items c.places.items) (going_on table.now.lists.items list other) ∷ onto
+        (drop (i + 1) (marks_of table.now.lists.items run.now.cells.items)) [])) }
+    ensures store { IfOk result (λ p. shown_progress table.now.lists.items p ≡ started_with (rest_at table.now.lists.items p.cells.items)
+        (slot_of run.now.variables) run.now.buffer (look_up run.now.decided) State.Open) }
     ensures whole { IfOk result (λ p. IsWholeTurning table.now.lists.items p) }
 {
     let mut p = resumed(alloc, run)?;
@@ -340,17 +366,20 @@ fn gone_on(
 // The task at a place does a list, or else this.
 fn go_on_as(
     alloc: Global,
-    table: &Table,
+    table: &ProgramTable,
     cells: &mut Vec<Cell>,
     i: usize,
     list: Option<usize>,
     other: Doing,
-) -> Result<(), Fault>
+) -> Result<(), EvalFault>
     requires there { i < length cells.old.items }
     requires sound { AreSound table.now.lists.items cells.old.items }
     requires waits { (c : ACell) → c ≡ slice_index_or cells.old.items i c → waits_itself c.doing ≡ true }
     requires task { is_task other ≡ true }
-    ensures shows { OnOk result ((c : ACell) → c ≡ slice_index_or cells.old.items i c → onto (marks_of table.now.lists.items cells.new.items) [] ≡ onto (take i (marks_of table.now.lists.items cells.old.items)) (within (blocks_of table.now.lists.items c.places.items) (going_on table.now.lists.items list other) ∷ onto (drop (i + 1) (marks_of table.now.lists.items cells.old.items)) [])) }
+    ensures shows { OnOk result ((c : ACell) → c ≡ slice_index_or cells.old.items i c
+        → onto (marks_of table.now.lists.items cells.new.items) [] ≡ onto (take i (marks_of table.now.lists.items cells.old.items))
+        (within (blocks_of table.now.lists.items c.places.items) (going_on table.now.lists.items list other) ∷ onto
+        (drop (i + 1) (marks_of table.now.lists.items cells.old.items)) [])) }
     ensures sound { OnOk result (AreSound table.now.lists.items cells.new.items) }
 {
     match list {
@@ -367,12 +396,15 @@ fn go_on_as(
 }
 
 // The task at a place does this.
-fn becomes(table: &Table, cells: &mut Vec<Cell>, i: usize, doing: Doing)
+fn becomes(table: &ProgramTable, cells: &mut Vec<Cell>, i: usize, doing: Doing)
     requires there { i < length cells.old.items }
     requires sound { AreSound table.now.lists.items cells.old.items }
     requires waits { (c : ACell) → c ≡ slice_index_or cells.old.items i c → waits_itself c.doing ≡ true }
     requires task { is_task doing ≡ true }
-    ensures shows { (c : ACell) → c ≡ slice_index_or cells.old.items i c → onto (marks_of table.now.lists.items cells.new.items) [] ≡ onto (take i (marks_of table.now.lists.items cells.old.items)) (within (blocks_of table.now.lists.items c.places.items) (shown_doing table.now.lists.items doing) ∷ onto (drop (i + 1) (marks_of table.now.lists.items cells.old.items)) []) }
+    ensures shows { (c : ACell) → c ≡ slice_index_or cells.old.items i c
+        → onto (marks_of table.now.lists.items cells.new.items) [] ≡ onto (take i (marks_of table.now.lists.items cells.old.items))
+        (within (blocks_of table.now.lists.items c.places.items) (shown_doing table.now.lists.items doing) ∷ onto
+        (drop (i + 1) (marks_of table.now.lists.items cells.old.items)) []) }
     ensures sound { AreSound table.now.lists.items cells.new.items }
 {
     cells[i].doing = doing;
@@ -382,15 +414,18 @@ fn becomes(table: &Table, cells: &mut Vec<Cell>, i: usize, doing: Doing)
 // The task at a place does a list.
 fn begins(
     alloc: Global,
-    table: &Table,
+    table: &ProgramTable,
     cells: &mut Vec<Cell>,
     i: usize,
     list: usize,
-) -> Result<(), Fault>
+) -> Result<(), EvalFault>
     requires there { i < length cells.old.items }
     requires sound { AreSound table.now.lists.items cells.old.items }
     requires waits { (c : ACell) → c ≡ slice_index_or cells.old.items i c → waits_itself c.doing ≡ true }
-    ensures shows { OnOk result ((c : ACell) → c ≡ slice_index_or cells.old.items i c → onto (marks_of table.now.lists.items cells.new.items) [] ≡ onto (take i (marks_of table.now.lists.items cells.old.items)) (within (blocks_of table.now.lists.items c.places.items) (tree.rest_of (block_at table.now.lists.items list)) ∷ onto (drop (i + 1) (marks_of table.now.lists.items cells.old.items)) [])) }
+    ensures shows { OnOk result ((c : ACell) → c ≡ slice_index_or cells.old.items i c
+        → onto (marks_of table.now.lists.items cells.new.items) [] ≡ onto (take i (marks_of table.now.lists.items cells.old.items))
+        (within (blocks_of table.now.lists.items c.places.items) (tree.rest_of (block_at table.now.lists.items list)) ∷ onto
+        (drop (i + 1) (marks_of table.now.lists.items cells.old.items)) [])) }
     ensures sound { OnOk result (AreSound table.now.lists.items cells.new.items) }
 {
     enter(alloc, table, &mut cells[i], list)?;

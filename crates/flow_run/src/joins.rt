@@ -4,7 +4,7 @@ ghost use Rattle.flow_run.specs.Marks.{Counted, IsParent, Owes, Parent, first_re
 ghost use Rattle.flow_run.specs.Flat.{AreFull, AreFullCells, join_of as joined, mark_of, marks_of};
 
 use crate::cell::{Cell, Doing};
-use flow_nodes::table::Table;
+use flow_nodes::table::ProgramTable;
 
 /// How many branches a join has, and how many of them run.
 pub fn join_of(doing: &Doing) -> Option<(usize, usize)>
@@ -17,9 +17,10 @@ pub fn join_of(doing: &Doing) -> Option<(usize, usize)>
 }
 
 /// Whether nothing is left of a task, or of a join and its branches.
-pub fn is_over(_table: &Table, cell: &Cell) -> bool
+pub fn is_over(_table: &ProgramTable, cell: &Cell) -> bool
     requires { AreFull _table.now.lists.items cell.now }
-    ensures { (rs : List Rest) → Counted (mark_of _table.now.lists.items cell.now ∷ []) rs → is_done (first_rest (put (mark_of _table.now.lists.items cell.now) rs)) ≡ result }
+    ensures { (rs : List Rest) → Counted (mark_of _table.now.lists.items cell.now ∷ []) rs
+        → is_done (first_rest (put (mark_of _table.now.lists.items cell.now) rs)) ≡ result }
 {
     if !cell.places.is_empty() {
         return false;
@@ -42,7 +43,7 @@ pub fn is_over(_table: &Table, cell: &Cell) -> bool
 }
 
 // The join that has the task or join at a place among its branches.
-fn parent(_table: &Table, cells: &[Cell], i: usize) -> Option<usize>
+fn parent(_table: &ProgramTable, cells: &[Cell], i: usize) -> Option<usize>
     requires { i ≤ length cells.now }
     ensures { IsParent (marks_of _table.now.lists.items cells.now) i result }
 {
@@ -65,7 +66,7 @@ fn parent(_table: &Table, cells: &[Cell], i: usize) -> Option<usize>
 
 /// The task or join at a place is over: the join that it is a branch of has one less that runs. Where that was the last, and
 /// nothing follows it, it is over too.
-pub fn end(table: &Table, cells: &mut Vec<Cell>, i: usize)
+pub fn end(table: &ProgramTable, cells: &mut Vec<Cell>, i: usize)
     requires there { i < length cells.old.items }
     requires full { AreFullCells table.now.lists.items cells.old.items }
     requires owes { Owes (marks_of table.now.lists.items cells.old.items) i }
@@ -85,7 +86,7 @@ pub fn end(table: &Table, cells: &mut Vec<Cell>, i: usize)
 }
 
 // A join has one branch less that runs.
-fn leave(table: &Table, cells: &mut Vec<Cell>, i: usize, j: usize)
+fn leave(table: &ProgramTable, cells: &mut Vec<Cell>, i: usize, j: usize)
     requires there { i < length cells.old.items }
     requires full { AreFullCells table.now.lists.items cells.old.items }
     requires owes { Owes (marks_of table.now.lists.items cells.old.items) i }
@@ -93,8 +94,10 @@ fn leave(table: &Table, cells: &mut Vec<Cell>, i: usize, j: usize)
     ensures length { length cells.new.items ≡ length cells.old.items }
     ensures shows { onto (marks_of table.now.lists.items cells.new.items) [] ≡ onto (marks_of table.now.lists.items cells.old.items) [] }
     ensures later { Counted (drop j (marks_of table.now.lists.items cells.new.items)) [] }
-    ensures counted { is_done (first_rest (onto (drop j (marks_of table.now.lists.items cells.new.items)) [])) ≡ false → Counted (marks_of table.now.lists.items cells.new.items) [] }
-    ensures owes { is_done (first_rest (onto (drop j (marks_of table.now.lists.items cells.new.items)) [])) ≡ true → Owes (marks_of table.now.lists.items cells.new.items) j }
+    ensures counted { is_done (first_rest (onto (drop j (marks_of table.now.lists.items cells.new.items)) [])) ≡ false
+        → Counted (marks_of table.now.lists.items cells.new.items) [] }
+    ensures owes { is_done (first_rest (onto (drop j (marks_of table.now.lists.items cells.new.items)) [])) ≡ true
+        → Owes (marks_of table.now.lists.items cells.new.items) j }
     ensures full { AreFullCells table.now.lists.items cells.new.items }
 {
     match join_of(&cells[j].doing) {

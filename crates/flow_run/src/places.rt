@@ -5,13 +5,13 @@ ghost use Rattle.flow_run.specs.Flat.{AreFullPlaces, IsFull, IsNextOf, blocks_of
 ghost use Rattle.flow_nodes.specs.Links.{block_at};
 
 use crate::cell::{Cell, Doing, Place};
-use flow_nodes::table::Table;
-use flow_values::fault::Fault;
+use flow_nodes::table::ProgramTable;
+use flow_values::fault::EvalFault;
 use std::alloc::Global;
 
 // Whether statements are left at a place behind its first.
 #[tactic(auto, using(crate::proofs::Parts::begun_part, crate::proofs::Parts::ended_part, crate::proofs::Parts::ended_list))]
-fn has_more(table: &Table, place: Place) -> bool
+fn has_more(table: &ProgramTable, place: Place) -> bool
     requires { IsFull table.now.lists.items place }
     ensures { result ≡ not (is_end (left_at table.now.lists.items (record { list = place.list; at = place.at + 1; to = place.to }))) }
 {
@@ -26,7 +26,7 @@ fn has_more(table: &Table, place: Place) -> bool
 }
 
 /// The statement that is next of a task, which its places then are behind.
-pub fn advance(table: &Table, places: &mut Vec<Place>) -> Option<Place>
+pub fn advance(table: &ProgramTable, places: &mut Vec<Place>) -> Option<Place>
     requires { AreFullPlaces table.now.lists.items places.old.items }
     ensures next { IsNextOf table.now.lists.items places.old.items places.new.items result }
     ensures full { AreFullPlaces table.now.lists.items places.new.items }
@@ -45,9 +45,15 @@ pub fn advance(table: &Table, places: &mut Vec<Place>) -> Option<Place>
 }
 
 /// A list begins.
-pub fn enter(alloc: Global, table: &Table, cell: &mut Cell, list: usize) -> Result<(), Fault>
+pub fn enter(
+    alloc: Global,
+    table: &ProgramTable,
+    cell: &mut Cell,
+    list: usize,
+) -> Result<(), EvalFault>
     requires { AreFull table.now.lists.items cell.old }
-    ensures rest { OnOk result (task_rest table.now.lists.items cell.new ≡ within (blocks_of table.now.lists.items cell.old.places.items) (rest_of (block_at table.now.lists.items list))) }
+    ensures rest { OnOk result (task_rest table.now.lists.items cell.new ≡ within (blocks_of table.now.lists.items cell.old.places.items)
+        (rest_of (block_at table.now.lists.items list))) }
     ensures full { OnOk result (AreFull table.now.lists.items cell.new) }
     ensures task { OnOk result (is_task cell.new.doing ≡ true) }
 {

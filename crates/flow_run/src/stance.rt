@@ -13,7 +13,7 @@ ghost use Rattle.flow_run.specs.Whole.{shown_standing};
 
 use crate::fault::RunFault;
 pub use crate::setting::Answers;
-use crate::standing::Position;
+use crate::standing::SoundStanding;
 use crate::turn::{begun, continued, is_closed, waits};
 pub use crate::waits::OpenWait;
 use flow_base::event::{Cmd, Input, State, copy_values};
@@ -21,7 +21,7 @@ use flow_base::number::Moment;
 use flow_base::text::Key;
 use flow_base::value::Value;
 use flow_model::checked::Checked;
-use flow_values::fault::Fault;
+use flow_values::fault::EvalFault;
 use std::alloc::{AllocError, Global};
 
 /// The position of a run between two turns. It is used with the program with which it was made, by the caller's
@@ -29,7 +29,7 @@ use std::alloc::{AllocError, Global};
 #[derive(Debug, Drop)]
 pub struct Stance {
     /// None before its first event.
-    begun: Option<Position>,
+    begun: Option<SoundStanding>,
 }
 
 impl Stance {
@@ -51,8 +51,10 @@ impl Stance {
         at: Moment,
         answers: Answers,
     ) -> Result<(Stance, Vec<Cmd>), RunFault>
-        ensures turn { IfOk result (λ r. Turn (shown_checked program.now) (shown_answers answers.entry) first_configuration at (Input.Started arguments.now) r.1.items (config_of (shown_checked program.now) r.0)) }
-        ensures computed { IfOk result (λ r. turned (shown_checked program.now) (shown_answers answers.entry) first_configuration at (Input.Started arguments.now) ≡ Some (r.1.items, config_of (shown_checked program.now) r.0)) }
+        ensures turn { IfOk result (λ r. Turn (shown_checked program.now) (shown_answers answers.entry) first_configuration at
+            (Input.Started arguments.now) r.1.items (config_of (shown_checked program.now) r.0)) }
+        ensures computed { IfOk result (λ r. turned (shown_checked program.now) (shown_answers answers.entry) first_configuration at
+            (Input.Started arguments.now) ≡ Some (r.1.items, config_of (shown_checked program.now) r.0)) }
         ensures counted { IfOk result (λ r. (config_of (shown_checked program.now) r.0).events ≡ 1 + length r.1.items) }
         ensures not_awaited { result ≡ Err RunFault.NotAwaited → all_fit (shown_checked program.now).parameters arguments.now ≡ false }
         ensures not_closed { result ≢ Err RunFault.Closed }
@@ -113,7 +115,8 @@ impl Stance {
 
     /// The value of a variable, if it has one.
     pub fn variable(&self, _program: &Checked, name: &str) -> Option<&Value>
-        ensures { MatchOption result ((config_of (shown_checked _program.now) self.now).variables name.now ≡ None) (λ v. (config_of (shown_checked _program.now) self.now).variables name.now ≡ Some v.now) }
+        ensures { MatchOption result ((config_of (shown_checked _program.now) self.now).variables name.now ≡ None)
+            (λ v. (config_of (shown_checked _program.now) self.now).variables name.now ≡ Some v.now) }
     {
         match &self.begun {
             Some(position) => position.get().variables.find(name),
@@ -159,12 +162,18 @@ pub fn turn(
     answers: Answers,
 ) -> Result<Vec<Cmd>, RunFault>
     requires events { (config_of (shown_checked program.now) stance.old).events < 2 ^ 61 }
-    ensures turn { IfOk result (λ cmds. Turn (shown_checked program.now) (shown_answers answers.entry) (config_of (shown_checked program.now) stance.old) at input.now cmds.items (config_of (shown_checked program.now) stance.new)) }
-    ensures computed { IfOk result (λ cmds. turned (shown_checked program.now) (shown_answers answers.entry) (config_of (shown_checked program.now) stance.old) at input.now ≡ Some (cmds.items, config_of (shown_checked program.now) stance.new)) }
-    ensures counted { IfOk result (λ cmds. (config_of (shown_checked program.now) stance.new).events ≡ (config_of (shown_checked program.now) stance.old).events + 1 + length cmds.items) }
+    ensures turn { IfOk result (λ cmds. Turn (shown_checked program.now) (shown_answers answers.entry)
+        (config_of (shown_checked program.now) stance.old) at input.now cmds.items (config_of (shown_checked program.now) stance.new)) }
+    ensures computed { IfOk result (λ cmds. turned (shown_checked program.now) (shown_answers answers.entry)
+        (config_of (shown_checked program.now) stance.old) at input.now ≡ Some
+        (cmds.items, config_of (shown_checked program.now) stance.new)) }
+    ensures counted { IfOk result (λ cmds. (config_of (shown_checked program.now) stance.new).events ≡
+        (config_of (shown_checked program.now) stance.old).events + 1 + length cmds.items) }
     ensures unchanged { OnErr result ((p : Tree) → config_of p stance.new ≡ config_of p stance.old) }
     ensures closed { (result ≡ Err RunFault.Closed) ↔ (is_closed_state (config_of (shown_checked program.now) stance.old).state ≡ true) }
-    ensures not_awaited { (result ≡ Err RunFault.NotAwaited) ↔ ((is_closed_state (config_of (shown_checked program.now) stance.old).state ≡ false) × (deliver (shown_checked program.now) (config_of (shown_checked program.now) stance.old) input.now ≡ None)) }
+    ensures not_awaited { (result ≡ Err RunFault.NotAwaited) ↔
+        ((is_closed_state (config_of (shown_checked program.now) stance.old).state ≡ false)
+        × (deliver (shown_checked program.now) (config_of (shown_checked program.now) stance.old) input.now ≡ None)) }
 {
     if is_closed(stance.state()) {
         return Err(RunFault::Closed);
@@ -175,7 +184,7 @@ pub fn turn(
             Ok(commands)
         }
         Ok(None) => Err(RunFault::NotAwaited),
-        Err(Fault::NoMemory(no_memory)) => Err(RunFault::NoMemory(no_memory)),
+        Err(EvalFault::NoMemory(no_memory)) => Err(RunFault::NoMemory(no_memory)),
     }
 }
 
@@ -187,11 +196,16 @@ fn made(
     at: Moment,
     input: &Input,
     answers: Answers,
-) -> Result<Option<(Position, Vec<Cmd>)>, Fault>
+) -> Result<Option<(SoundStanding, Vec<Cmd>)>, EvalFault>
     requires events { (config_of (shown_checked program.now) stance.now).events < 2 ^ 61 }
-    ensures counted { IfOk result (λ o. IfSome o (λ r. r.0.events ≡ (config_of (shown_checked program.now) stance.now).events + 1 + length r.1.items)) }
-    ensures turn { IfOk result (λ o. MatchOption o (deliver (shown_checked program.now) (config_of (shown_checked program.now) stance.now) input.now ≡ None) (λ r. Turn (shown_checked program.now) (shown_answers answers.entry) (config_of (shown_checked program.now) stance.now) at input.now r.1.items (shown_standing r.0))) }
-    ensures err { OnErr result (is_some (deliver (shown_checked program.now) (config_of (shown_checked program.now) stance.now) input.now) ≡ true) }
+    ensures counted { IfOk result (λ o. IfSome o (λ r. r.0.events ≡
+        (config_of (shown_checked program.now) stance.now).events + 1 + length r.1.items)) }
+    ensures turn { IfOk result (λ o. MatchOption o
+        (deliver (shown_checked program.now) (config_of (shown_checked program.now) stance.now) input.now ≡ None)
+        (λ r. Turn (shown_checked program.now) (shown_answers answers.entry)
+        (config_of (shown_checked program.now) stance.now) at input.now r.1.items (shown_standing r.0))) }
+    ensures err { OnErr result (is_some (deliver (shown_checked program.now)
+        (config_of (shown_checked program.now) stance.now) input.now) ≡ true) }
 {
     match &stance.begun {
         Some(position) => continued(alloc, position, program, at, input, answers),

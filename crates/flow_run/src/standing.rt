@@ -28,11 +28,11 @@ pub struct Standing {
 /// The same, with what every turn keeps of it: at each place of a cell something is left, each join knows how many of its branches
 /// run, and all cells are those of one rest.
 #[derive(Debug, Drop)]
-pub struct Position {
+pub struct SoundStanding {
     standing: Standing,
 }
 
-impl Model for Position {
+impl Model for SoundStanding {
     ghost use Rattle.flow_run.specs.declared.standing.Standing.{Standing as AStanding};
     ghost use Rattle.flow_run.specs.contracts.standing.Standing as row;
     ghost use Rattle.flow_run.specs.Whole.{IsWhole};
@@ -46,13 +46,13 @@ impl Model for Position {
     ghost invariant = { λ p. IsWhole p.standing };
 }
 
-impl Position {
+impl SoundStanding {
     /// What keeps it.
-    pub fn of(standing: Standing) -> Position
+    pub fn of(standing: Standing) -> SoundStanding
         requires { IsWhole standing }
         ensures { result ≡ standing }
     {
-        Position { standing }
+        SoundStanding { standing }
     }
 
     /// What it is.
@@ -64,11 +64,11 @@ impl Position {
     }
 
     /// An equal one, over the same table and values, or E01.
-    pub fn copy(&self, alloc: Global) -> Result<Position, AllocError>
+    pub fn copy(&self, alloc: Global) -> Result<SoundStanding, AllocError>
         ensures { IfOk result (λ p. same_standing p self.now) }
     {
         let standing = copied(alloc, &self.standing)?;
-        Ok(Position { standing })
+        Ok(SoundStanding { standing })
     }
 }
 

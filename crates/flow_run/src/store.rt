@@ -7,7 +7,7 @@ ghost use Rattle.flow_run.specs.Shown.{shown_store};
 use crate::decided::Decided;
 use flow_base::text::Key;
 use flow_base::value::Value;
-use flow_values::fault::Fault;
+use flow_values::fault::EvalFault;
 use flow_values::named::NamedValues;
 use flow_values::slots::Slots;
 use std::alloc::Global;
@@ -23,7 +23,7 @@ pub struct Store {
 }
 
 /// A variable gets a value.
-pub fn set(alloc: Global, t: &mut Store, name: &Key, v: Value) -> Result<(), Fault>
+pub fn set(alloc: Global, t: &mut Store, name: &Key, v: Value) -> Result<(), EvalFault>
     ensures { OnOk result (shown_store t.new ≡ model.set_in (shown_store t.old) name.now v) }
 {
     t.variables.set(alloc, name, v)?;
@@ -31,9 +31,13 @@ pub fn set(alloc: Global, t: &mut Store, name: &Key, v: Value) -> Result<(), Fau
 }
 
 /// A variable gets the oldest signal of a name, which leaves the buffer; says whether one was there.
-pub fn take(alloc: Global, t: &mut Store, into: &Key, signal: &Key) -> Result<bool, Fault>
-    ensures taken { IfOk result (λ is. (m : model.Move) → (if is then model.Goes tree.Done (shown_store t.new) else m) ≡ model.on_signal (model.oldest signal.now t.old.buffer) (λ v. model.Goes tree.Done (model.take_signal (shown_store t.old) into.now signal.now v)) m) }
-    ensures in_time { IfOk result (λ is. (c : ACmd) (m : model.Move) → (if is then model.Asks tree.Done (shown_store t.new) c else m) ≡ model.on_signal (model.oldest signal.now t.old.buffer) (λ v. model.Asks tree.Done (model.take_signal (shown_store t.old) into.now signal.now v) c) m) }
+pub fn take(alloc: Global, t: &mut Store, into: &Key, signal: &Key) -> Result<bool, EvalFault>
+    ensures taken { IfOk result (λ is. (m : model.Move)
+        → (if is then model.Goes tree.Done (shown_store t.new) else m) ≡ model.on_signal (model.oldest signal.now t.old.buffer)
+        (λ v. model.Goes tree.Done (model.take_signal (shown_store t.old) into.now signal.now v)) m) }
+    ensures in_time { IfOk result (λ is. (c : ACmd) (m : model.Move)
+        → (if is then model.Asks tree.Done (shown_store t.new) c else m) ≡ model.on_signal (model.oldest signal.now t.old.buffer)
+        (λ v. model.Asks tree.Done (model.take_signal (shown_store t.old) into.now signal.now v) c) m) }
     ensures kept { IfOk result (λ is. is ≡ false → t.new ≡ t.old) }
 {
     match t.buffer.take(alloc, signal)? {

@@ -13,8 +13,8 @@ use crate::places::{advance, enter};
 use crate::setting::Setting;
 use crate::store::{Store, take};
 use flow_base::event::Cmd;
-use flow_nodes::table::Table;
-use flow_values::fault::Fault;
+use flow_nodes::table::ProgramTable;
+use flow_values::fault::EvalFault;
 use std::alloc::Global;
 
 /// What one step does with a task: the statement at a place may split it.
@@ -30,15 +30,16 @@ pub enum Went {
 // A task that waits for nothing goes on.
 fn go_on(
     alloc: Global,
-    table: &Table,
+    table: &ProgramTable,
     s: &Setting,
     t: &mut Store,
     cell: &mut Cell,
-) -> Result<Went, Fault>
+) -> Result<Went, EvalFault>
     requires linked { AreLinked table.now.lists.items }
     requires full { AreFull table.now.lists.items cell.old }
     requires idle { is_idle cell.old.doing ≡ true }
-    ensures step { IfOk result (λ w. shown_went table.now.lists.items cell.new t.new w ≡ model.move (shown_setting s.now) (shown_store t.old) (task_rest table.now.lists.items cell.old)) }
+    ensures step { IfOk result (λ w. shown_went table.now.lists.items cell.new t.new w ≡ model.move (shown_setting s.now)
+        (shown_store t.old) (task_rest table.now.lists.items cell.old)) }
     ensures kept { IfOk result (λ w. KeepsTask table.now.lists.items cell.old t.old cell.new t.new w) }
     ensures full { IfOk result (λ _. AreFull table.now.lists.items cell.new) }
 {
@@ -66,15 +67,17 @@ fn go_on(
 // What a task does next, behind the statement at a place.
 fn onward(
     alloc: Global,
-    table: &Table,
+    table: &ProgramTable,
     cell: &mut Cell,
     place: Place,
     next: Next,
-) -> Result<(), Fault>
+) -> Result<(), EvalFault>
     requires at { place.at < length (stmts_at table.now.lists.items place.list) }
     requires full { AreFull table.now.lists.items cell.old }
     requires task { is_task_next next ≡ true }
-    ensures rest { OnOk result ((st : AStmt) → slice_get (stmts_at table.now.lists.items place.list) place.at ≡ Some st → task_rest table.now.lists.items cell.new ≡ within (blocks_of table.now.lists.items cell.old.places.items) (shown_onward table.now.lists.items (shown_stmt st) next)) }
+    ensures rest { OnOk result ((st : AStmt) → slice_get (stmts_at table.now.lists.items place.list) place.at ≡ Some st
+        → task_rest table.now.lists.items cell.new ≡ within (blocks_of table.now.lists.items cell.old.places.items)
+        (shown_onward table.now.lists.items (shown_stmt st) next)) }
     ensures full { OnOk result (AreFull table.now.lists.items cell.new) }
     ensures task { OnOk result (is_task cell.new.doing ≡ true) }
 {
@@ -107,15 +110,16 @@ fn onward(
 /// What one step does with a task: the leftmost place that can step is in it, or it stays.
 pub fn act(
     alloc: Global,
-    table: &Table,
+    table: &ProgramTable,
     s: &Setting,
     t: &mut Store,
     cell: &mut Cell,
-) -> Result<Went, Fault>
+) -> Result<Went, EvalFault>
     requires linked { AreLinked table.now.lists.items }
     requires full { AreFull table.now.lists.items cell.old }
     requires task { is_task cell.old.doing ≡ true }
-    ensures step { IfOk result (λ w. shown_went table.now.lists.items cell.new t.new w ≡ model.move (shown_setting s.now) (shown_store t.old) (task_rest table.now.lists.items cell.old)) }
+    ensures step { IfOk result (λ w. shown_went table.now.lists.items cell.new t.new w ≡ model.move (shown_setting s.now)
+        (shown_store t.old) (task_rest table.now.lists.items cell.old)) }
     ensures kept { IfOk result (λ w. KeepsTask table.now.lists.items cell.old t.old cell.new t.new w) }
     ensures full { IfOk result (λ _. AreFull table.now.lists.items cell.new) }
 {

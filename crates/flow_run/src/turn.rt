@@ -18,7 +18,7 @@ use crate::cell::{Cell, Doing};
 use crate::deliver::{Turning, begin, deliver};
 use crate::joins::is_over;
 use crate::setting::{Answers, Setting};
-use crate::standing::{Position, Standing};
+use crate::standing::{SoundStanding, Standing};
 use crate::store::Store;
 use crate::waits::OpenWait;
 use crate::walk::{Stepped, step};
@@ -30,8 +30,8 @@ use flow_base::text::Text;
 use flow_base::value::Value;
 use flow_model::checked::Checked;
 use flow_nodes::linked::Linked;
-use flow_nodes::table::Table;
-use flow_values::fault::Fault;
+use flow_nodes::table::ProgramTable;
+use flow_values::fault::EvalFault;
 use std::alloc::{AllocError, Global};
 
 /// What is fixed in a turn.
@@ -52,9 +52,11 @@ pub fn begun(
     at: Moment,
     values: &[Value],
     answers: Answers,
-) -> Result<Option<(Position, Vec<Cmd>)>, Fault>
+) -> Result<Option<(SoundStanding, Vec<Cmd>)>, EvalFault>
     ensures counted { IfOk result (λ o. IfSome o (λ r. r.0.events ≡ 1 + length r.1.items)) }
-    ensures turn { IfOk result (λ o. MatchOption o (fit (shown_checked program.now).parameters values.now ≡ false) (λ r. model.Turn (shown_checked program.now) (shown_answers answers.entry) first_configuration at (input_of.Started values.now) r.1.items (shown_standing r.0))) }
+    ensures turn { IfOk result (λ o. MatchOption o (fit (shown_checked program.now).parameters values.now ≡ false)
+        (λ r. model.Turn (shown_checked program.now) (shown_answers answers.entry) first_configuration at
+        (input_of.Started values.now) r.1.items (shown_standing r.0))) }
     ensures err { OnErr result (fit (shown_checked program.now).parameters values.now ≡ true) }
 {
     let linked = program.table();
@@ -79,15 +81,17 @@ pub fn begun(
 /// A further turn of a run, made on a copy: where it leaves the run, and its commands; none where the input can't be delivered.
 pub fn continued(
     alloc: Global,
-    position: &Position,
+    position: &SoundStanding,
     program: &Checked,
     at: Moment,
     input: &Input,
     answers: Answers,
-) -> Result<Option<(Position, Vec<Cmd>)>, Fault>
+) -> Result<Option<(SoundStanding, Vec<Cmd>)>, EvalFault>
     requires events { position.now.events < 2 ^ 61 }
     ensures counted { IfOk result (λ o. IfSome o (λ r. r.0.events ≡ position.now.events + 1 + length r.1.items)) }
-    ensures turn { IfOk result (λ o. MatchOption o (delivered (shown_checked program.now) (shown_standing position.now) input.now ≡ None) (λ r. model.Turn (shown_checked program.now) (shown_answers answers.entry) (shown_standing position.now) at input.now r.1.items (shown_standing r.0))) }
+    ensures turn { IfOk result (λ o. MatchOption o (delivered (shown_checked program.now) (shown_standing position.now) input.now ≡ None)
+        (λ r. model.Turn (shown_checked program.now) (shown_answers answers.entry) (shown_standing position.now) at input.now r.1.items
+        (shown_standing r.0))) }
     ensures err { OnErr result (is_some (delivered (shown_checked program.now) (shown_standing position.now) input.now) ≡ true) }
 {
     let run = position.get();
@@ -114,9 +118,9 @@ fn led(
     alloc: Global,
     f: &Frame,
     linked: &Linked,
-    table: &Table,
+    table: &ProgramTable,
     p: Turning,
-) -> Result<(Position, Vec<Cmd>), Fault>
+) -> Result<(SoundStanding, Vec<Cmd>), EvalFault>
     requires events { f.now.events < 2 ^ 62 }
     requires table { table.now ≡ linked.now }
     requires linked { AreLinked table.now.lists.items }
@@ -131,11 +135,12 @@ fn led(
 }
 
 // Steps until none is possible.
-fn go_on(alloc: Global, f: &Frame, table: &Table, p: &mut Turning) -> Result<(), Fault>
+fn go_on(alloc: Global, f: &Frame, table: &ProgramTable, p: &mut Turning) -> Result<(), EvalFault>
     requires events { f.now.events < 2 ^ 62 }
     requires linked { AreLinked table.now.lists.items }
     requires whole { IsWholeTurning table.now.lists.items p.old }
-    ensures runs { OnOk result ((n : ℕ) × (model.steps n (shown_frame f.now) (shown_progress table.now.lists.items p.old) ≡ Some (shown_progress table.now.lists.items p.new))) }
+    ensures runs { OnOk result ((n : ℕ) × (model.steps n (shown_frame f.now) (shown_progress table.now.lists.items p.old) ≡ Some
+        (shown_progress table.now.lists.items p.new))) }
     ensures whole { OnOk result (IsWholeTurning table.now.lists.items p.new) }
 {
     loop {
@@ -147,12 +152,14 @@ fn go_on(alloc: Global, f: &Frame, table: &Table, p: &mut Turning) -> Result<(),
 }
 
 // One step of a run; says whether there was one.
-fn next(alloc: Global, f: &Frame, table: &Table, p: &mut Turning) -> Result<bool, Fault>
+fn next(alloc: Global, f: &Frame, table: &ProgramTable, p: &mut Turning) -> Result<bool, EvalFault>
     requires events { f.now.events < 2 ^ 62 }
     requires linked { AreLinked table.now.lists.items }
     requires whole { IsWholeTurning table.now.lists.items p.old }
-    ensures step { IfOk result (λ steps. (if steps then Some (shown_progress table.now.lists.items p.new) else None) ≡ model.next (shown_frame f.now) (shown_progress table.now.lists.items p.old)) }
-    ensures kept { IfOk result (λ steps. steps ≡ false → shown_progress table.now.lists.items p.new ≡ shown_progress table.now.lists.items p.old) }
+    ensures step { IfOk result (λ steps. (if steps then Some (shown_progress table.now.lists.items p.new) else None) ≡ model.next
+        (shown_frame f.now) (shown_progress table.now.lists.items p.old)) }
+    ensures kept { IfOk result (λ steps. steps ≡ false
+        → shown_progress table.now.lists.items p.new ≡ shown_progress table.now.lists.items p.old) }
     ensures whole { IfOk result (λ _. IsWholeTurning table.now.lists.items p.new) }
 {
     if !is_open(p.state) {
@@ -167,14 +174,21 @@ fn next(alloc: Global, f: &Frame, table: &Table, p: &mut Turning) -> Result<bool
 }
 
 // The same of an open run of which something is left.
-fn step_on(alloc: Global, f: &Frame, table: &Table, p: &mut Turning) -> Result<bool, Fault>
+fn step_on(
+    alloc: Global,
+    f: &Frame,
+    table: &ProgramTable,
+    p: &mut Turning,
+) -> Result<bool, EvalFault>
     requires events { f.now.events < 2 ^ 62 }
     requires linked { AreLinked table.now.lists.items }
     requires whole { IsWholeTurning table.now.lists.items p.old }
     requires is_open { configuration.is_open p.old.state ≡ true }
     requires going { is_done (rest_at table.now.lists.items p.old.cells.items) ≡ false }
-    ensures step { IfOk result (λ steps. (if steps then Some (shown_progress table.now.lists.items p.new) else None) ≡ model.next (shown_frame f.now) (shown_progress table.now.lists.items p.old)) }
-    ensures kept { IfOk result (λ steps. steps ≡ false → shown_progress table.now.lists.items p.new ≡ shown_progress table.now.lists.items p.old) }
+    ensures step { IfOk result (λ steps. (if steps then Some (shown_progress table.now.lists.items p.new) else None) ≡ model.next
+        (shown_frame f.now) (shown_progress table.now.lists.items p.old)) }
+    ensures kept { IfOk result (λ steps. steps ≡ false
+        → shown_progress table.now.lists.items p.new ≡ shown_progress table.now.lists.items p.old) }
     ensures whole { IfOk result (λ _. IsWholeTurning table.now.lists.items p.new) }
 {
     match stepped(alloc, f, table, &p.asked, &mut p.store, &mut p.cells)? {
@@ -195,15 +209,17 @@ fn step_on(alloc: Global, f: &Frame, table: &Table, p: &mut Turning) -> Result<b
 fn stepped(
     alloc: Global,
     f: &Frame,
-    table: &Table,
+    table: &ProgramTable,
     asked: &[Cmd],
     t: &mut Store,
     cells: &mut Vec<Cell>,
-) -> Result<Stepped, Fault>
+) -> Result<Stepped, EvalFault>
     requires events { f.now.events < 2 ^ 62 }
     requires linked { AreLinked table.now.lists.items }
     requires sound { AreSound table.now.lists.items cells.old.items }
-    ensures step { IfOk result (λ m. StepsFirst table.now.lists.items (setting_with (shown_frame f.now) (min (opens_in_all cells.old.items) 32) (length asked.now)) t.old cells.old.items t.new cells.new.items m) }
+    ensures step { IfOk result (λ m. StepsFirst table.now.lists.items
+        (setting_with (shown_frame f.now) (min (opens_in_all cells.old.items) 32)
+        (length asked.now)) t.old cells.old.items t.new cells.new.items m) }
     ensures sound { IfOk result (λ m. KeepsSound table.now.lists.items cells.new.items m) }
 {
     let s = Setting {
@@ -220,7 +236,7 @@ fn stepped(
 }
 
 // Whether nothing is left of a run.
-fn is_finished(table: &Table, cells: &[Cell]) -> bool
+fn is_finished(table: &ProgramTable, cells: &[Cell]) -> bool
     requires { AreSound table.now.lists.items cells.now }
     ensures { result ≡ is_done (rest_at table.now.lists.items cells.now) }
 {
@@ -261,7 +277,7 @@ fn is_waiting(doing: &Doing) -> bool
 }
 
 // A command closes a run, of which nothing is left then.
-fn ends(alloc: Global, p: &mut Turning, c: Cmd) -> Result<(), Fault>
+fn ends(alloc: Global, p: &mut Turning, c: Cmd) -> Result<(), EvalFault>
     ensures ends { OnOk result ((ls : _) → shown_progress ls p.new ≡ model.ended (shown_progress ls p.old) c) }
     ensures whole { OnOk result ((ls : _) → IsWholeTurning ls p.new) }
 {
@@ -299,7 +315,7 @@ fn count(asked: &[Cmd]) -> u64
 }
 
 // Where a turn leaves a run.
-fn left_by(f: &Frame, table: Linked, p: Turning) -> (Position, Vec<Cmd>)
+fn left_by(f: &Frame, table: Linked, p: Turning) -> (SoundStanding, Vec<Cmd>)
     requires events { f.now.events < 2 ^ 62 }
     requires whole { IsWholeTurning table.lists.items p }
     ensures run { shown_standing result.0 ≡ model.left_by (shown_frame f.now) (shown_progress table.lists.items p) }
@@ -328,7 +344,7 @@ fn left_by(f: &Frame, table: Linked, p: Turning) -> (Position, Vec<Cmd>)
         moment: f.at,
         state,
     };
-    (Position::of(standing), asked)
+    (SoundStanding::of(standing), asked)
 }
 
 /// The open waits of tasks, from the left.

@@ -13,8 +13,8 @@ use crate::setting::Setting;
 use crate::store::Store;
 use crate::tasks::{Went, act};
 use flow_base::event::Cmd;
-use flow_nodes::table::Table;
-use flow_values::fault::Fault;
+use flow_nodes::table::ProgramTable;
+use flow_values::fault::EvalFault;
 use std::alloc::Global;
 
 /// What one step does with a run.
@@ -27,7 +27,7 @@ pub enum Stepped {
 }
 
 /// What began at a place has gone on. If it is over, the join that it is a branch of knows it then.
-pub fn settle(table: &Table, cells: &mut Vec<Cell>, i: usize)
+pub fn settle(table: &ProgramTable, cells: &mut Vec<Cell>, i: usize)
     requires there { i < length cells.old.items }
     requires full { AreFullCells table.now.lists.items cells.old.items }
     requires settles { Settles (marks_of table.now.lists.items cells.old.items) i }
@@ -40,7 +40,7 @@ pub fn settle(table: &Table, cells: &mut Vec<Cell>, i: usize)
 }
 
 /// A branch that begins with a list.
-pub fn branch(alloc: Global, table: &Table, list: usize) -> Result<Cell, Fault>
+pub fn branch(alloc: Global, table: &ProgramTable, list: usize) -> Result<Cell, EvalFault>
     ensures mark { IfOk result (λ c. mark_of table.now.lists.items c ≡ One (rest_of (block_at table.now.lists.items list))) }
     ensures full { IfOk result (λ c. AreFull table.now.lists.items c) }
 {
@@ -62,16 +62,21 @@ fn count(is_over: bool) -> usize
 /// The branches of a statement begin, behind the place of the task that it splits.
 pub fn split(
     alloc: Global,
-    table: &Table,
+    table: &ProgramTable,
     cells: &mut Vec<Cell>,
     i: usize,
     lists: &[usize],
-) -> Result<(), Fault>
+) -> Result<(), EvalFault>
     requires there { i < length cells.old.items }
     requires full { AreFullCells table.now.lists.items cells.old.items }
-    requires earlier { (r : Rest) → is_done r ≡ false → Counted (take i (marks_of table.now.lists.items cells.old.items)) (r ∷ onto (drop (i + 1) (marks_of table.now.lists.items cells.old.items)) []) }
+    requires earlier { (r : Rest) → is_done r ≡ false
+        → Counted (take i (marks_of table.now.lists.items cells.old.items))
+        (r ∷ onto (drop (i + 1) (marks_of table.now.lists.items cells.old.items)) []) }
     requires later { Counted (drop (i + 1) (marks_of table.now.lists.items cells.old.items)) [] }
-    ensures shows { OnOk result ((c : ACell) → c ≡ slice_index_or cells.old.items i c → onto (marks_of table.now.lists.items cells.new.items) [] ≡ onto (take i (marks_of table.now.lists.items cells.old.items)) (within (blocks_of table.now.lists.items c.places.items) (branches_at table.now.lists.items lists.now) ∷ onto (drop (i + 1) (marks_of table.now.lists.items cells.old.items)) [])) }
+    ensures shows { OnOk result ((c : ACell) → c ≡ slice_index_or cells.old.items i c
+        → onto (marks_of table.now.lists.items cells.new.items) [] ≡ onto (take i (marks_of table.now.lists.items cells.old.items))
+        (within (blocks_of table.now.lists.items c.places.items) (branches_at table.now.lists.items lists.now) ∷ onto
+        (drop (i + 1) (marks_of table.now.lists.items cells.old.items)) [])) }
     ensures sound { OnOk result (AreSound table.now.lists.items cells.new.items) }
 {
     let mut running = 0;
@@ -116,12 +121,14 @@ fn take_out(cells: &mut Vec<Cell>, at: usize) -> usize
 }
 
 /// The branches of a join, all over, are no more: so many rests go that stand behind it.
-pub fn clear(table: &Table, cells: &mut Vec<Cell>, i: usize, n: usize)
+pub fn clear(table: &ProgramTable, cells: &mut Vec<Cell>, i: usize, n: usize)
     requires there { i < length cells.old.items }
     requires full { AreFullCells table.now.lists.items cells.old.items }
     requires later { Counted (drop (i + 1) (marks_of table.now.lists.items cells.old.items)) [] }
-    ensures front { take (i + 1) (marks_of table.now.lists.items cells.new.items) ≡ take (i + 1) (marks_of table.now.lists.items cells.old.items) }
-    ensures shows { onto (drop (i + 1) (marks_of table.now.lists.items cells.new.items)) [] ≡ drop n (onto (drop (i + 1) (marks_of table.now.lists.items cells.old.items)) []) }
+    ensures front { take (i + 1) (marks_of table.now.lists.items cells.new.items) ≡ take (i + 1)
+        (marks_of table.now.lists.items cells.old.items) }
+    ensures shows { onto (drop (i + 1) (marks_of table.now.lists.items cells.new.items)) [] ≡ drop n
+        (onto (drop (i + 1) (marks_of table.now.lists.items cells.old.items)) []) }
     ensures counted { Counted (drop (i + 1) (marks_of table.now.lists.items cells.new.items)) [] }
     ensures cell { (d : ACell) → slice_index_or cells.new.items i d ≡ slice_index_or cells.old.items i d }
     ensures there { i < length cells.new.items }
@@ -140,19 +147,22 @@ pub fn clear(table: &Table, cells: &mut Vec<Cell>, i: usize, n: usize)
 /// The task at a place steps, if it can.
 pub fn act_at(
     alloc: Global,
-    table: &Table,
+    table: &ProgramTable,
     s: &Setting,
     t: &mut Store,
     cells: &mut Vec<Cell>,
     i: usize,
-) -> Result<Stepped, Fault>
+) -> Result<Stepped, EvalFault>
     requires there { i < length cells.old.items }
     requires linked { AreLinked table.now.lists.items }
     requires full { AreFullCells table.now.lists.items cells.old.items }
     requires task { (c : ACell) → c ≡ slice_index_or cells.old.items i c → is_task c.doing ≡ true }
-    requires earlier { (c : ACell) → c ≡ slice_index_or cells.old.items i c → is_done (task_rest table.now.lists.items c) ≡ false → (r : Rest) → is_done r ≡ false → Counted (take i (marks_of table.now.lists.items cells.old.items)) (r ∷ onto (drop (i + 1) (marks_of table.now.lists.items cells.old.items)) []) }
+    requires earlier { (c : ACell) → c ≡ slice_index_or cells.old.items i c → is_done (task_rest table.now.lists.items c) ≡ false
+        → (r : Rest) → is_done r ≡ false → Counted (take i (marks_of table.now.lists.items cells.old.items))
+        (r ∷ onto (drop (i + 1) (marks_of table.now.lists.items cells.old.items)) []) }
     requires later { Counted (drop (i + 1) (marks_of table.now.lists.items cells.old.items)) [] }
-    ensures step { IfOk result (λ m. (c : ACell) → c ≡ slice_index_or cells.old.items i c → ActedAt table.now.lists.items (shown_setting s.now) t.old c cells.old.items i t.new cells.new.items m) }
+    ensures step { IfOk result (λ m. (c : ACell) → c ≡ slice_index_or cells.old.items i c
+        → ActedAt table.now.lists.items (shown_setting s.now) t.old c cells.old.items i t.new cells.new.items m) }
     ensures sound { IfOk result (λ m. KeepsSound table.now.lists.items cells.new.items m) }
 {
     let went = act(alloc, table, s, t, &mut cells[i])?;
@@ -178,13 +188,13 @@ pub fn act_at(
 /// A join whose branches are all over goes on.
 pub fn resume(
     alloc: Global,
-    table: &Table,
+    table: &ProgramTable,
     s: &Setting,
     t: &mut Store,
     cells: &mut Vec<Cell>,
     i: usize,
     n: usize,
-) -> Result<Stepped, Fault>
+) -> Result<Stepped, EvalFault>
     requires there { i < length cells.old.items }
     requires linked { AreLinked table.now.lists.items }
     requires sound { AreSound table.now.lists.items cells.old.items }
@@ -201,12 +211,12 @@ pub fn resume(
 // What begins at a place steps, if it can.
 fn step_at(
     alloc: Global,
-    table: &Table,
+    table: &ProgramTable,
     s: &Setting,
     t: &mut Store,
     cells: &mut Vec<Cell>,
     i: usize,
-) -> Result<Stepped, Fault>
+) -> Result<Stepped, EvalFault>
     requires there { i < length cells.old.items }
     requires linked { AreLinked table.now.lists.items }
     requires sound { AreSound table.now.lists.items cells.old.items }
@@ -235,11 +245,11 @@ fn step_at(
 /// The leftmost task or join that can step does.
 pub fn step(
     alloc: Global,
-    table: &Table,
+    table: &ProgramTable,
     s: &Setting,
     t: &mut Store,
     cells: &mut Vec<Cell>,
-) -> Result<Stepped, Fault>
+) -> Result<Stepped, EvalFault>
     requires linked { AreLinked table.now.lists.items }
     requires sound { AreSound table.now.lists.items cells.old.items }
     ensures step { IfOk result (λ m. StepsFirst table.now.lists.items (shown_setting s.now) t.old cells.old.items t.new cells.new.items m) }

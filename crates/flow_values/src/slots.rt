@@ -101,7 +101,8 @@ fn found<'a>(
     values: &'a Option<Arc<Vec<Option<Value>>>>,
     name: &str,
 ) -> Option<&'a Value>
-    ensures { MatchOption result (slot_of (slots names.now (held values.now (λ a. a.value.items))) name.now ≡ None) (λ v. slot_of (slots names.now (held values.now (λ a. a.value.items))) name.now ≡ Some v.now) }
+    ensures { MatchOption result (slot_of (slots names.now (held values.now (λ a. a.value.items))) name.now ≡ None)
+        (λ v. slot_of (slots names.now (held values.now (λ a. a.value.items))) name.now ≡ Some v.now) }
 {
     for (i, n) in names.iter().enumerate() {
         if name == n.as_str() {
@@ -113,7 +114,8 @@ fn found<'a>(
 
 // What a number has.
 fn value_in(values: &Option<Arc<Vec<Option<Value>>>>, i: usize) -> Option<&Value>
-    ensures { MatchOption result (value_at (held values.now (λ a. a.value.items)) i ≡ None) (λ v. value_at (held values.now (λ a. a.value.items)) i ≡ Some v.now) }
+    ensures { MatchOption result (value_at (held values.now (λ a. a.value.items)) i ≡ None)
+        (λ v. value_at (held values.now (λ a. a.value.items)) i ≡ Some v.now) }
 {
     match values {
         Some(list) => nth(list, i),

@@ -13,7 +13,7 @@ use Rattle.flow_machine.specs.declared.submission.Taken.{Taken}
 use Rattle.flow_machine.specs.declared.task.Task.{Task}
 use Rattle.flow_hub.specs.declared.fed.Fed.{Fed}
 use Rattle.flow_hub.specs.declared.fed.Fed.TheVariants as fed
-use Rattle.flow_hub.specs.declared.known.Known.{Known}
+use Rattle.flow_hub.specs.declared.known.HubFacts.{HubFacts}
 use Rattle.flow_hub.specs.declared.ticket.Ticket.{Ticket}
 use Rattle.flow_hub.specs.Knowing.{IsBefore, nothing}
 use Rattle.flow_hub.specs.Feeding.{HasFed}
@@ -27,8 +27,8 @@ use Rattle.flow_work.specs.Reading.{IsOf, IsPendingOf}
 use Rattle.flow_work.specs.Silence.{EndsTaking, IsOver, IsSilent, Quits}
 use Rattle.flow_work.specs.Telling.{TellsAll, HasTold}
 use Rattle.flow_work.specs.Counting.{shown_bytes, tasks_in, replies_in, Holds, AreShown, Answered, AreAnswered, AreWaiting, IsStatusOf, Says, IsFed, Counts, Counted, PrintsFed, Goes}
-use Rattle.flow_work.specs.declared.input.Input.{Input}
-use Rattle.flow_work.specs.declared.input.Input.TheVariants as input
+use Rattle.flow_work.specs.declared.input.InputMessage.{InputMessage}
+use Rattle.flow_work.specs.declared.input.InputMessage.TheVariants as input
 use Rattle.flow_work.specs.declared.queue.Pending.{Pending}
 use Rattle.flow_work.specs.declared.queue.Pending.TheVariants as pending
 use Rattle.flow_work.specs.declared.shown.Shown.{Shown}
@@ -298,13 +298,13 @@ says_task : (reads : List ℕ → Option Command) (tells : ℕ → Type 0) (firs
 says_task reads tells first given m lines t old new s p = task_by reads tells first given m lines s.said s.silent t old new old.is_mute s.bytes s.tasks s.are s.replies s.all p.0 (status_task t old new old.is_mute new.is_mute refl p.0 p.1 s.status)
 
 -- what was given out is printed
-says_fed : (reads : List ℕ → Option Command) (tells : ℕ → Type 0) (first : Option (List ℕ)) (feed then : Known) (m : Member) (lines : List (List ℕ)) (f : Fed) (old new : Printed) → HasFed feed then f → PrintsFed f old new → Says reads tells first feed.given m lines old
+says_fed : (reads : List ℕ → Option Command) (tells : ℕ → Type 0) (first : Option (List ℕ)) (feed then : HubFacts) (m : Member) (lines : List (List ℕ)) (f : Fed) (old new : Printed) → HasFed feed then f → PrintsFed f old new → Says reads tells first feed.given m lines old
     → Says reads tells first then.given m lines new
 says_fed reads tells first feed then m lines (fed.Task t) old new h p s = subst (λ g. Says reads tells first g m lines new) (sym h.next) (says_task reads tells first feed.given m lines t old new s p)
 says_fed reads tells first feed then m lines fed.Nothing old new h p s = subst (λ g. Says reads tells first g m lines new) (sym h.0.next) (subst (Says reads tells first feed.given m lines) (sym p) s)
 says_fed reads tells first feed then m lines fed.Closed old new h p s = subst (λ g. Says reads tells first g m lines new) (sym h.0.next) (subst (Says reads tells first feed.given m lines) (sym p) s)
 
-is_fed : (feed then : Known) (f : Fed) → HasFed feed then f → IsFed then
+is_fed : (feed then : HubFacts) (f : Fed) → HasFed feed then f → IsFed then
 is_fed feed then (fed.Task t) h = record { first = h.first; once = h.once }
 is_fed feed then fed.Nothing h = record { first = h.0.first; once = h.0.once }
 is_fed feed then fed.Closed h = record { first = h.0.first; once = h.0.once }
@@ -322,15 +322,15 @@ counts_none reads tells first m = record {
   fed = record { first = ([], refl); once = tt };
 }
 
-pub counted : (reads : List ℕ → Option Command) (tells : ℕ → Type 0) (first : Option (List ℕ)) (feed : Known) (m : Member) (ps : List Pending) (lines : List (List ℕ)) (page : Printed) → Counts reads tells first feed m ps lines page → Counted reads tells first feed m lines page
+pub counted : (reads : List ℕ → Option Command) (tells : ℕ → Type 0) (first : Option (List ℕ)) (feed : HubFacts) (m : Member) (ps : List Pending) (lines : List (List ℕ)) (page : Printed) → Counts reads tells first feed m ps lines page → Counted reads tells first feed m lines page
 counted reads tells first feed m ps lines page c = record { done = c.done; rest = c.waiting; are = c.are; says = c.says; fed = c.fed }
 
 -- it is over
-pub goes_over : (reads : List ℕ → Option Command) (tells : ℕ → Type 0) (first : Option (List ℕ)) (feed : Known) (m : Member) (ps : List Pending) (lines : List (List ℕ)) (page : Printed) → Counted reads tells first feed m lines page → Goes reads tells first false feed m ps lines page
+pub goes_over : (reads : List ℕ → Option Command) (tells : ℕ → Type 0) (first : Option (List ℕ)) (feed : HubFacts) (m : Member) (ps : List Pending) (lines : List (List ℕ)) (page : Printed) → Counted reads tells first feed m lines page → Goes reads tells first false feed m ps lines page
 goes_over reads tells first feed m ps lines page c = ((λ e. absurd (cc e)), c)
 
 -- the oldest lines are told of
-told_part : (reads : List ℕ → Option Command) (tells : ℕ → Type 0) (first : Option (List ℕ)) (feed : Known) (k m : Member) (on : Bool) (ps rest : List Pending) (lines : List (List ℕ)) (old new : Printed) → m.id ≡ k.id → IsBefore k.was m.was → HasTold m on ps rest old new
+told_part : (reads : List ℕ → Option Command) (tells : ℕ → Type 0) (first : Option (List ℕ)) (feed : HubFacts) (k m : Member) (on : Bool) (ps rest : List Pending) (lines : List (List ℕ)) (old new : Printed) → m.id ≡ k.id → IsBefore k.was m.was → HasTold m on ps rest old new
     → Counts reads tells first feed k ps lines old → Counted reads tells first feed m lines new
 told_part reads tells first feed k m on ps rest lines old new same later h c =
     let waits = waiting_later reads tells k m (sym same) later c.waiting ps c.waits in
@@ -343,7 +343,7 @@ told_part reads tells first feed k m on ps rest lines old new same later h c =
       fed = c.fed;
     }
 
-pub told_on : (reads : List ℕ → Option Command) (tells : ℕ → Type 0) (first : Option (List ℕ)) (feed : Known) (k m : Member) (ps rest : List Pending) (lines : List (List ℕ)) (old new : Printed) → m.id ≡ k.id → IsBefore k.was m.was → HasTold m true ps rest old new
+pub told_on : (reads : List ℕ → Option Command) (tells : ℕ → Type 0) (first : Option (List ℕ)) (feed : HubFacts) (k m : Member) (ps rest : List Pending) (lines : List (List ℕ)) (old new : Printed) → m.id ≡ k.id → IsBefore k.was m.was → HasTold m true ps rest old new
     → Counts reads tells first feed k ps lines old → Counts reads tells first feed m rest lines new
 told_on reads tells first feed k m ps rest lines old new same later h c =
     let waits = waiting_later reads tells k m (sym same) later c.waiting ps c.waits in
@@ -358,17 +358,17 @@ told_on reads tells first feed k m ps rest lines old new same later h c =
       fed = c.fed;
     }
 
-pub goes_told : (reads : List ℕ → Option Command) (tells : ℕ → Type 0) (first : Option (List ℕ)) (feed : Known) (k m : Member) (on : Bool) (ps rest : List Pending) (lines : List (List ℕ)) (old new : Printed) → m.id ≡ k.id → IsBefore k.was m.was → HasTold m on ps rest old new
+pub goes_told : (reads : List ℕ → Option Command) (tells : ℕ → Type 0) (first : Option (List ℕ)) (feed : HubFacts) (k m : Member) (on : Bool) (ps rest : List Pending) (lines : List (List ℕ)) (old new : Printed) → m.id ≡ k.id → IsBefore k.was m.was → HasTold m on ps rest old new
     → Counts reads tells first feed k ps lines old → Goes reads tells first on feed m rest lines new
 goes_told reads tells first feed k m on ps rest lines old new same later h c =
     ((λ e. told_on reads tells first feed k m ps rest lines old new same later (told_as m on true e h) c), told_part reads tells first feed k m on ps rest lines old new same later h c)
 
-pub all_told : (reads : List ℕ → Option Command) (tells : ℕ → Type 0) (first : Option (List ℕ)) (feed : Known) (k m : Member) (ps rest : List Pending) (lines : List (List ℕ)) (old new : Printed) → m.id ≡ k.id → IsBefore k.was m.was → HasTold m false ps rest old new
+pub all_told : (reads : List ℕ → Option Command) (tells : ℕ → Type 0) (first : Option (List ℕ)) (feed : HubFacts) (k m : Member) (ps rest : List Pending) (lines : List (List ℕ)) (old new : Printed) → m.id ≡ k.id → IsBefore k.was m.was → HasTold m false ps rest old new
     → Counts reads tells first feed k ps lines old → Counted reads tells first feed m lines new
 all_told reads tells first feed k m ps rest lines old new same later h c = told_part reads tells first feed k m false ps rest lines old new same later h c
 
 -- one more is read
-counts_more : (reads : List ℕ → Option Command) (tells : ℕ → Type 0) (first : Option (List ℕ)) (feed : Known) (m : Member) (ps : List Pending) (p : Pending) (lines : List (List ℕ)) (l : List ℕ) (page : Printed) → IsPendingOf reads tells m l p → Counts reads tells first feed m ps lines page
+counts_more : (reads : List ℕ → Option Command) (tells : ℕ → Type 0) (first : Option (List ℕ)) (feed : HubFacts) (m : Member) (ps : List Pending) (p : Pending) (lines : List (List ℕ)) (l : List ℕ) (page : Printed) → IsPendingOf reads tells m l p → Counts reads tells first feed m ps lines page
     → Counts reads tells first feed m (ps ++ p ∷ []) (lines ++ l ∷ []) page
 counts_more reads tells first feed m ps p lines l page one c = record {
   done = c.done;
@@ -379,7 +379,7 @@ counts_more reads tells first feed m ps p lines l page one c = record {
   fed = c.fed;
 }
 
-counted_more : (reads : List ℕ → Option Command) (tells : ℕ → Type 0) (first : Option (List ℕ)) (feed : Known) (m : Member) (lines : List (List ℕ)) (l : List ℕ) (page : Printed) → Counted reads tells first feed m lines page → Counted reads tells first feed m (lines ++ l ∷ []) page
+counted_more : (reads : List ℕ → Option Command) (tells : ℕ → Type 0) (first : Option (List ℕ)) (feed : HubFacts) (m : Member) (lines : List (List ℕ)) (l : List ℕ) (page : Printed) → Counted reads tells first feed m lines page → Counted reads tells first feed m (lines ++ l ∷ []) page
 counted_more reads tells first feed m lines l page c = record {
   done = c.done;
   rest = c.rest ++ l ∷ [];
@@ -389,14 +389,14 @@ counted_more reads tells first feed m lines l page c = record {
 }
 
 -- a line is taken in, or it isn't
-pub taken_in : (reads : List ℕ → Option Command) (tells : ℕ → Type 0) (first : Option (List ℕ)) (feed : Known) (k m : Member) (ps now : List Pending) (lines : List (List ℕ)) (l : List ℕ) (old new : Printed) → m.id ≡ k.id → IsBefore k.was m.was
+pub taken_in : (reads : List ℕ → Option Command) (tells : ℕ → Type 0) (first : Option (List ℕ)) (feed : HubFacts) (k m : Member) (ps now : List Pending) (lines : List (List ℕ)) (l : List ℕ) (old new : Printed) → m.id ≡ k.id → IsBefore k.was m.was
     → (p : Pending) × (rest : List Pending) × IsPendingOf reads tells m l p × (now ≡ rest ++ p ∷ []) × HasTold m true ps rest old new
     → Counts reads tells first feed k ps lines old → Counts reads tells first feed m now (lines ++ l ∷ []) new
 taken_in reads tells first feed k m ps now lines l old new same later (p, rest, one, is, h) c =
     subst (λ w. Counts reads tells first feed m w (lines ++ l ∷ []) new) (sym is)
     (counts_more reads tells first feed m rest p lines l new one (told_on reads tells first feed k m ps rest lines old new same later h c))
 
-pub taken_goes : (reads : List ℕ → Option Command) (tells : ℕ → Type 0) (first : Option (List ℕ)) (feed : Known) (k m : Member) (on : Bool) (ps now : List Pending) (lines : List (List ℕ)) (l : List ℕ) (old new : Printed) → m.id ≡ k.id → IsBefore k.was m.was
+pub taken_goes : (reads : List ℕ → Option Command) (tells : ℕ → Type 0) (first : Option (List ℕ)) (feed : HubFacts) (k m : Member) (on : Bool) (ps now : List Pending) (lines : List (List ℕ)) (l : List ℕ) (old new : Printed) → m.id ≡ k.id → IsBefore k.was m.was
     → (on ≡ true → (p : Pending) × (rest : List Pending) × IsPendingOf reads tells m l p × (now ≡ rest ++ p ∷ []) × HasTold m true ps rest old new)
     → (on ≡ false → HasTold m false ps now old new)
     → Counts reads tells first feed k ps lines old → Goes reads tells first on feed m now (lines ++ l ∷ []) new
@@ -407,7 +407,7 @@ taken_goes reads tells first feed k m false ps now lines l old new same later ta
     ((λ e. absurd (cc e)), counted_more reads tells first feed m lines l new (told_part reads tells first feed k m false ps now lines old new same later (not_taken refl) c))
 
 -- what was given out is printed
-counts_fed : (reads : List ℕ → Option Command) (tells : ℕ → Type 0) (first : Option (List ℕ)) (feed then : Known) (k m : Member) (ps rest : List Pending) (lines : List (List ℕ)) (f : Fed) (old new : Printed) → m ≡ k → rest ≡ ps → HasFed feed then f → PrintsFed f old new
+counts_fed : (reads : List ℕ → Option Command) (tells : ℕ → Type 0) (first : Option (List ℕ)) (feed then : HubFacts) (k m : Member) (ps rest : List Pending) (lines : List (List ℕ)) (f : Fed) (old new : Printed) → m ≡ k → rest ≡ ps → HasFed feed then f → PrintsFed f old new
     → Counts reads tells first feed k ps lines old → Counts reads tells first then m rest lines new
 counts_fed reads tells first feed then k m ps rest lines f old new same left h p c =
     subst (λ x. Counts reads tells first then x rest lines new) (sym same)
@@ -420,13 +420,13 @@ counts_fed reads tells first feed then k m ps rest lines f old new same left h p
       fed = is_fed feed then f h;
     }))
 
-pub goes_fed : (reads : List ℕ → Option Command) (tells : ℕ → Type 0) (first : Option (List ℕ)) (on : Bool) (feed then : Known) (k m : Member) (ps rest : List Pending) (lines : List (List ℕ)) (f : Fed) (old new : Printed) → m ≡ k → rest ≡ ps → HasFed feed then f
+pub goes_fed : (reads : List ℕ → Option Command) (tells : ℕ → Type 0) (first : Option (List ℕ)) (on : Bool) (feed then : HubFacts) (k m : Member) (ps rest : List Pending) (lines : List (List ℕ)) (f : Fed) (old new : Printed) → m ≡ k → rest ≡ ps → HasFed feed then f
     → PrintsFed f old new → Counts reads tells first feed k ps lines old → Goes reads tells first on then m rest lines new
 goes_fed reads tells first on feed then k m ps rest lines f old new same left h p c =
     let now = counts_fed reads tells first feed then k m ps rest lines f old new same left h p c in
     ((λ _. now), counted reads tells first then m rest lines new now)
 
-pub counted_fed : (reads : List ℕ → Option Command) (tells : ℕ → Type 0) (first : Option (List ℕ)) (feed then : Known) (k m : Member) (lines : List (List ℕ)) (f : Fed) (old new : Printed) → m ≡ k → HasFed feed then f → PrintsFed f old new
+pub counted_fed : (reads : List ℕ → Option Command) (tells : ℕ → Type 0) (first : Option (List ℕ)) (feed then : HubFacts) (k m : Member) (lines : List (List ℕ)) (f : Fed) (old new : Printed) → m ≡ k → HasFed feed then f → PrintsFed f old new
     → Counted reads tells first feed k lines old → Counted reads tells first then m lines new
 counted_fed reads tells first feed then k m lines f old new same h p c =
     subst (λ x. Counted reads tells first then x lines new) (sym same) (record {
@@ -438,7 +438,7 @@ counted_fed reads tells first feed then k m lines f old new same h p c =
     })
 
 -- something couldn't be read, and nothing is printed of it
-pub counts_failed : (reads : List ℕ → Option Command) (tells : ℕ → Type 0) (first : Option (List ℕ)) (feed : Known) (k m : Member) (ps rest : List Pending) (lines : List (List ℕ)) (old new : Printed) → m ≡ k → rest ≡ ps → new ≡ record old { status = 3 }
+pub counts_failed : (reads : List ℕ → Option Command) (tells : ℕ → Type 0) (first : Option (List ℕ)) (feed : HubFacts) (k m : Member) (ps rest : List Pending) (lines : List (List ℕ)) (old new : Printed) → m ≡ k → rest ≡ ps → new ≡ record old { status = 3 }
     → Counts reads tells first feed k ps lines old → Counts reads tells first feed m rest lines new
 counts_failed reads tells first feed k m ps rest lines old new same left is c =
     let s = c.says in
@@ -455,21 +455,21 @@ counts_failed reads tells first feed k m ps rest lines old new same left is c =
 
 -- ---- the same, of what is the same
 
-pub counts_as : (reads : List ℕ → Option Command) (tells : ℕ → Type 0) (first : Option (List ℕ)) (feed : Known) (m : Member) (ps : List Pending) (lines : List (List ℕ)) (page : Printed) → feed ≡ nothing → ps ≡ [] → lines ≡ [] → page ≡ blank first
+pub counts_as : (reads : List ℕ → Option Command) (tells : ℕ → Type 0) (first : Option (List ℕ)) (feed : HubFacts) (m : Member) (ps : List Pending) (lines : List (List ℕ)) (page : Printed) → feed ≡ nothing → ps ≡ [] → lines ≡ [] → page ≡ blank first
     → Counts reads tells first feed m ps lines page
 counts_as reads tells first feed m ps lines page a b d e =
     subst (λ x. Counts reads tells first x m ps lines page) (sym a)
     (subst (λ x. Counts reads tells first nothing m x lines page) (sym b)
     (subst (λ x. Counts reads tells first nothing m [] x page) (sym d) (subst (Counts reads tells first nothing m [] []) (sym e) (counts_none reads tells first m))))
 
-pub counted_as : (reads : List ℕ → Option Command) (tells : ℕ → Type 0) (first : Option (List ℕ)) (feed then : Known) (k m : Member) (lines ls : List (List ℕ)) (page now : Printed) → then ≡ feed → m ≡ k → ls ≡ lines → now ≡ page
+pub counted_as : (reads : List ℕ → Option Command) (tells : ℕ → Type 0) (first : Option (List ℕ)) (feed then : HubFacts) (k m : Member) (lines ls : List (List ℕ)) (page now : Printed) → then ≡ feed → m ≡ k → ls ≡ lines → now ≡ page
     → Counted reads tells first feed k lines page → Counted reads tells first then m ls now
 counted_as reads tells first feed then k m lines ls page now a b d e c =
     subst (λ x. Counted reads tells first x m ls now) (sym a)
     (subst (λ x. Counted reads tells first feed x ls now) (sym b) (subst (λ x. Counted reads tells first feed k x now) (sym d) (subst (Counted reads tells first feed k lines) (sym e) c)))
 
 -- and later
-pub counted_later : (reads : List ℕ → Option Command) (tells : ℕ → Type 0) (first : Option (List ℕ)) (feed : Known) (k m : Member) (lines : List (List ℕ)) (page : Printed) → m.id ≡ k.id → IsBefore k.was m.was
+pub counted_later : (reads : List ℕ → Option Command) (tells : ℕ → Type 0) (first : Option (List ℕ)) (feed : HubFacts) (k m : Member) (lines : List (List ℕ)) (page : Printed) → m.id ≡ k.id → IsBefore k.was m.was
     → Counted reads tells first feed k lines page → Counted reads tells first feed m lines page
 counted_later reads tells first feed k m lines page same later c =
     record { done = c.done; rest = c.rest; are = c.are; says = says_later reads tells first feed.given k m c.done page (sym same) later c.says; fed = c.fed }
@@ -489,36 +489,36 @@ silent_waits reads tells m ls ps a (inr u) =
     inr (record { bytes = one.0; line = u.line; waits = one.1; seen = u.seen; same = u.same; before = u.before; without = u.without })
 
 -- one of the lines that waited has no answer
-pub quits : (reads : List ℕ → Option Command) (tells : ℕ → Type 0) (first : Option (List ℕ)) (feed : Known) (k m : Member) (ps : List Pending) (lines : List (List ℕ)) (page : Printed) → m.id ≡ k.id → IsBefore k.was m.was → IsSilent m ps → Counts reads tells first feed k ps lines page
+pub quits : (reads : List ℕ → Option Command) (tells : ℕ → Type 0) (first : Option (List ℕ)) (feed : HubFacts) (k m : Member) (ps : List Pending) (lines : List (List ℕ)) (page : Printed) → m.id ≡ k.id → IsBefore k.was m.was → IsSilent m ps → Counts reads tells first feed k ps lines page
     → Quits reads tells m
 quits reads tells first feed k m ps lines page same later silent c =
     silent_waits reads tells m c.waiting ps (waiting_later reads tells k m (sym same) later c.waiting ps c.waits) silent
 
 -- none waits, or one of them has no answer
-pub over : (reads : List ℕ → Option Command) (tells : ℕ → Type 0) (first : Option (List ℕ)) (feed : Known) (k m : Member) (ps rest : List Pending) (lines : List (List ℕ)) (page : Printed) → m.id ≡ k.id → IsBefore k.was m.was → (rest ≡ []) ⊎ IsSilent m ps
+pub over : (reads : List ℕ → Option Command) (tells : ℕ → Type 0) (first : Option (List ℕ)) (feed : HubFacts) (k m : Member) (ps rest : List Pending) (lines : List (List ℕ)) (page : Printed) → m.id ≡ k.id → IsBefore k.was m.was → (rest ≡ []) ⊎ IsSilent m ps
     → Counts reads tells first feed k ps lines page → (rest ≡ []) ⊎ Quits reads tells m
 over reads tells first feed k m ps rest lines page same later (inl e) c = inl e
 over reads tells first feed k m ps rest lines page same later (inr s) c = inr (quits reads tells first feed k m ps lines page same later s c)
 
-pub ends_given : (reads : List ℕ → Option Command) (tells : ℕ → Type 0) (m : Member) (ps : List Pending) (given was : List Input) (x : Input) → given ≡ was ++ x ∷ [] → IsOver x ps ⊎ Quits reads tells m → EndsTaking reads tells m ps given
+pub ends_given : (reads : List ℕ → Option Command) (tells : ℕ → Type 0) (m : Member) (ps : List Pending) (given was : List InputMessage) (x : InputMessage) → given ≡ was ++ x ∷ [] → IsOver x ps ⊎ Quits reads tells m → EndsTaking reads tells m ps given
 ends_given reads tells m ps given was x e (inl off) = inl (was, x, e, off)
 ends_given reads tells m ps given was x e (inr q) = inr q
 
 -- ---- the lines of what was given, and one more
 
-lines_more : (xs : List Input) (x : Input) → lines_in (xs ++ x ∷ []) ≡ lines_in xs ++ lines_in (x ∷ [])
+lines_more : (xs : List InputMessage) (x : InputMessage) → lines_in (xs ++ x ∷ []) ≡ lines_in xs ++ lines_in (x ∷ [])
 lines_more [] x = refl
 lines_more (input.Line l ∷ xs) x = ap (λ r. l.items ∷ r) (lines_more xs x)
 lines_more (input.Ended ∷ xs) x = lines_more xs x
 lines_more (input.Failed ∷ xs) x = lines_more xs x
 lines_more (input.Stopped ∷ xs) x = lines_more xs x
 
-one_taken : (x : Input) (was now : List (List ℕ)) → Takes x was now → now ≡ was ++ lines_in (x ∷ [])
+one_taken : (x : InputMessage) (was now : List (List ℕ)) → Takes x was now → now ≡ was ++ lines_in (x ∷ [])
 one_taken (input.Line l) was now t = t
 one_taken input.Ended was now t = t ∙ sym (append-nil was)
 one_taken input.Failed was now t = t ∙ sym (append-nil was)
 one_taken input.Stopped was now t = t ∙ sym (append-nil was)
 
-pub lines_given : (given was : List Input) (x : Input) (old now : List (List ℕ)) → given ≡ was ++ x ∷ [] → Takes x old now → old ≡ lines_in was → now ≡ lines_in given
+pub lines_given : (given was : List InputMessage) (x : InputMessage) (old now : List (List ℕ)) → given ≡ was ++ x ∷ [] → Takes x old now → old ≡ lines_in was → now ≡ lines_in given
 lines_given given was x old now e t is =
     one_taken x old now t ∙ (ap (λ l. l ++ lines_in (x ∷ [])) is ∙ (sym (lines_more was x) ∙ ap lines_in (sym e)))

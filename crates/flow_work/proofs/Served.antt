@@ -20,7 +20,7 @@ use Rattle.flow_hub.specs.Asks.{IsTold, Stands}
 use Rattle.flow_hub.specs.Knowing.{IsBefore, IsSamePart, nothing}
 use Rattle.flow_hub.specs.Publishing.{Together}
 use Rattle.flow_hub.specs.Submitting.{Member, IsReceipt, IsNotDone, IsFor}
-use Rattle.flow_hub.specs.declared.known.Known.{Known}
+use Rattle.flow_hub.specs.declared.known.HubFacts.{HubFacts}
 use Rattle.flow_hub.specs.declared.ticket.NotDone.{NotDone}
 use Rattle.flow_hub.specs.declared.ticket.Ticket.{Ticket}
 use Rattle.flow_hub.specs.declared.ticket.Why.{Why}
@@ -123,7 +123,7 @@ are_told reads tells m log refused (l ∷ ls) (x ∷ xs) more on off a =
     (by_pending reads tells m a.0.seen log refused l x a.0.pending a.0.before on off a.0.waits a.0.answer, are_told reads tells m log refused ls xs more on off a.1)
 
 -- what was printed, by what is kept and posted
-shows_by : {S : Type 0} (g : Ghosts S) (tells : ℕ → Type 0) (old now : Keeping S) (first : Option (List ℕ)) (feed hub : Known) (m : Member) (lines : List (List ℕ)) (page : Printed) → Counted line_served tells first feed m lines page → IsBefore m.was hub
+shows_by : {S : Type 0} (g : Ghosts S) (tells : ℕ → Type 0) (old now : Keeping S) (first : Option (List ℕ)) (feed hub : HubFacts) (m : Member) (lines : List (List ℕ)) (page : Printed) → Counted line_served tells first feed m lines page → IsBefore m.was hub
     → IsBefore feed hub → ServedBy g tells old now hub → Shows g tells old now first page.bytes page.is_mute lines page.shown
 shows_by g tells old now first feed hub m lines page c submitter giver b =
     let s = c.says in
@@ -145,7 +145,7 @@ shows_by g tells old now first feed hub m lines page c submitter giver b =
     }
 
 -- what a publisher alone changes is as it was
-still_served : {S : Type 0} (g : Ghosts S) (tells : ℕ → Type 0) (old now : Keeping S) (k l : Known) → ServedBy g tells old now k → IsSamePart k l → ServedBy g tells old now l
+still_served : {S : Type 0} (g : Ghosts S) (tells : ℕ → Type 0) (old now : Keeping S) (k l : HubFacts) → ServedBy g tells old now k → IsSamePart k l → ServedBy g tells old now l
 still_served g tells old now k l b p = record {
   log = b.log ∙ p.history;
   waiting = b.waiting;
@@ -153,7 +153,7 @@ still_served g tells old now k l b p = record {
   posts = subst (Posts g tells now []) p.posted b.posts;
 }
 
-pub shows : {S : Type 0} (g : Ghosts S) (tells : ℕ → Type 0) (old now : Keeping S) (first last : Option (List ℕ)) (is_mute : Bool) (lines ls : List (List ℕ)) (shown : List Shown) (feed k l : Known) (m : Member) (page : Printed)
+pub shows : {S : Type 0} (g : Ghosts S) (tells : ℕ → Type 0) (old now : Keeping S) (first last : Option (List ℕ)) (is_mute : Bool) (lines ls : List (List ℕ)) (shown : List Shown) (feed k l : HubFacts) (m : Member) (page : Printed)
     → Counted line_served tells first feed m lines page → ServedBy g tells old now k → IsSamePart k l → IsBefore m.was l → IsBefore feed l → last ≡ page.bytes → is_mute ≡ page.is_mute → ls ≡ lines → shown ≡ page.shown
     → Shows g tells old now first last is_mute ls shown
 shows g tells old now first last is_mute lines ls shown feed k l m page c b part submitter giver bytes mute same are =
@@ -173,7 +173,7 @@ no_tasks false xs e = e
 no_tasks true xs (rest, e) = front_none (tasks_in xs) rest e
 
 -- what was printed where no task was given, and its status
-pub prints : {S : Type 0} (g : Ghosts S) (tells : ℕ → Type 0) (old now : Keeping S) (first last : Option (List ℕ)) (status : ℕ) (lines : List (List ℕ)) (k l : Known) (m : Member) (page : Printed)
+pub prints : {S : Type 0} (g : Ghosts S) (tells : ℕ → Type 0) (old now : Keeping S) (first last : Option (List ℕ)) (status : ℕ) (lines : List (List ℕ)) (k l : HubFacts) (m : Member) (page : Printed)
     → Counted line_command tells first nothing m lines page → ServedBy g tells old now k → IsSamePart k l → IsBefore m.was l → last ≡ page.bytes → status ≡ page.status → PrintsReplies g tells old now first last status
 prints g tells old now first last status lines k l m page c kept part submitter bytes is =
     let s = c.says in
@@ -194,32 +194,32 @@ prints g tells old now first last status lines k l m page c kept part submitter 
     }
 
 -- it served a hub to which nothing was submitted before
-pub served_on : {S : Type 0} (g : Ghosts S) (tells : ℕ → Type 0) (old now : Keeping S) (k l : Known) (waiting : List Taken) → k ≡ nothing → Together (account_of g now) l → HasServed g old now k.refused l.refused waiting
+pub served_on : {S : Type 0} (g : Ghosts S) (tells : ℕ → Type 0) (old now : Keeping S) (k l : HubFacts) (waiting : List Taken) → k ≡ nothing → Together (account_of g now) l → HasServed g old now k.refused l.refused waiting
     → Posts g tells now k.posted l.posted → ServedBy g tells old now l
 served_on g tells old now k l waiting none t h p = record {
   log = t.log;
   waiting = waiting;
-  served = subst (λ (x : Known). HasServed g old now x.refused l.refused waiting) none h;
-  posts = subst (λ (x : Known). Posts g tells now x.posted l.posted) none p;
+  served = subst (λ (x : HubFacts). HasServed g old now x.refused l.refused waiting) none h;
+  posts = subst (λ (x : HubFacts). Posts g tells now x.posted l.posted) none p;
 }
 
 -- what has kept nothing and what was told nothing stand together
-pub together_new : {S : Type 0} (g : Ghosts S) (old : Keeping S) (k : Known) → old.log ≡ [] → k ≡ nothing → Together (account_of g old) k
-together_new g old k fresh none = subst (λ (x : Known). Together (account_of g old) x) (sym none) (record { log = fresh; over = tt; none = refl })
+pub together_new : {S : Type 0} (g : Ghosts S) (old : Keeping S) (k : HubFacts) → old.log ≡ [] → k ≡ nothing → Together (account_of g old) k
+together_new g old k fresh none = subst (λ (x : HubFacts). Together (account_of g old) x) (sym none) (record { log = fresh; over = tt; none = refl })
 
 -- it has served such a hub to the end
-pub served_all : {S : Type 0} (g : Ghosts S) (old now : Keeping S) (k l : Known) → k ≡ nothing → GivesUp k.refused l.refused → HasServed g old now k.refused l.refused [] → HasServedAll g old now
+pub served_all : {S : Type 0} (g : Ghosts S) (old now : Keeping S) (k l : HubFacts) → k ≡ nothing → GivesUp k.refused l.refused → HasServed g old now k.refused l.refused [] → HasServedAll g old now
 served_all g old now k l none gives h = record {
   now = l.refused;
-  given_up = subst (λ (x : Known). GivesUp x.refused l.refused) none gives;
-  served = subst (λ (x : Known). HasServed g old now x.refused l.refused []) none h;
+  given_up = subst (λ (x : HubFacts). GivesUp x.refused l.refused) none gives;
+  served = subst (λ (x : HubFacts). HasServed g old now x.refused l.refused []) none h;
 }
 
 -- or until a fault ended it
-pub ends_serving : {S : Type 0} (g : Ghosts S) (old now : Keeping S) (k l : Known) (f : Fault) → k ≡ nothing → (waiting : List Taken) × EndsFor old now k.refused l.refused waiting f
+pub ends_serving : {S : Type 0} (g : Ghosts S) (old now : Keeping S) (k l : HubFacts) (f : Fault) → k ≡ nothing → (waiting : List Taken) × EndsFor old now k.refused l.refused waiting f
     → (waiting : List Taken) × HasServed g old now k.refused l.refused waiting → EndsServing g old now f
 ends_serving g old now k l f none how h = record {
   now = l.refused;
-  how = (how.0, subst (λ (x : Known). EndsFor old now x.refused l.refused how.0 f) none how.1);
-  served = (h.0, subst (λ (x : Known). HasServed g old now x.refused l.refused h.0) none h.1);
+  how = (how.0, subst (λ (x : HubFacts). EndsFor old now x.refused l.refused how.0 f) none how.1);
+  served = (h.0, subst (λ (x : HubFacts). HasServed g old now x.refused l.refused h.0) none h.1);
 }

@@ -13,7 +13,7 @@ use Rattle.flow_commit.specs.Keeping.{Keeping}
 use Rattle.flow_queues.specs.Posting.{IsOnce}
 use Rattle.flow_queues.specs.declared.refused.Refused.{Refused}
 use Rattle.flow_hub.specs.Asks.{IsTold, Stands}
-use Rattle.flow_hub.specs.declared.known.Known.{Known}
+use Rattle.flow_hub.specs.declared.known.HubFacts.{HubFacts}
 use Rattle.flow_hub.specs.declared.ticket.Why.TheVariants as why
 use Rattle.flow_serve.specs.Posting.{Posts}
 use Rattle.flow_serve.specs.Serving.{HasServed}
@@ -58,7 +58,7 @@ AreTold reads tells log refused (x ∷ xs) (l ∷ ls) = IsTelling reads tells lo
 
 -- An engine has served a hub since both were made: all that is kept is in the history, and what else was answered by a code; and what is
 -- posted is what boards of the kept book named.
-pub record ServedBy {S : Type 0} (g : Ghosts S) (tells : ℕ → Type 0) (old now : Keeping S) (hub : Known) : Type 0 where
+pub record ServedBy {S : Type 0} (g : Ghosts S) (tells : ℕ → Type 0) (old now : Keeping S) (hub : HubFacts) : Type 0 where
   pub log : now.log ≡ hub.history
   pub waiting : List Taken
   pub served : HasServed g old now [] hub.refused waiting

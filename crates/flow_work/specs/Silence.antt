@@ -5,8 +5,8 @@ use Rattle.flow_hub.specs.Knowing.{IsBefore}
 use Rattle.flow_hub.specs.Submitting.{Member}
 use Rattle.flow_work.specs.Reading.{IsPendingOf}
 use Rattle.flow_work.specs.Telling.{IsAnswer}
-use Rattle.flow_work.specs.declared.input.Input.{Input}
-use Rattle.flow_work.specs.declared.input.Input.TheVariants as input
+use Rattle.flow_work.specs.declared.input.InputMessage.{InputMessage}
+use Rattle.flow_work.specs.declared.input.InputMessage.TheVariants as input
 use Rattle.flow_work.specs.declared.queue.Pending.{Pending}
 
 -- One of these lines that waited has no answer, by what was seen then, a beginning of what is seen now.
@@ -39,13 +39,13 @@ abbrev pub Quits : (List ℕ → Option Command) → (ℕ → Type 0) → Member
 Quits reads tells m = (m.was.closed ≡ true) ⊎ HasNoAnswer reads tells m
 
 -- It is no line, and behind the end of the input, or where it can't be read, no line waits.
-abbrev pub IsOver : Input → List Pending → Type 0
+abbrev pub IsOver : InputMessage → List Pending → Type 0
 IsOver (input.Line line) ps = ⊥
 IsOver input.Ended ps = ps ≡ []
 IsOver input.Failed ps = ps ≡ []
 IsOver input.Stopped ps = Unit {0}
 
 -- Why no line is taken in any more: what was given last is none, and no line waits behind the end; or nothing is answered any more.
-abbrev pub EndsTaking : (List ℕ → Option Command) → (ℕ → Type 0) → Member → List Pending → List Input → Type 0
+abbrev pub EndsTaking : (List ℕ → Option Command) → (ℕ → Type 0) → Member → List Pending → List InputMessage → Type 0
 EndsTaking reads tells m ps given =
-    ((before : List Input) × (last : Input) × (given ≡ before ++ last ∷ []) × IsOver last ps) ⊎ Quits reads tells m
+    ((before : List InputMessage) × (last : InputMessage) × (given ≡ before ++ last ∷ []) × IsOver last ps) ⊎ Quits reads tells m

@@ -9,7 +9,7 @@ ghost use Rattle.flow_work.specs.Silence.{EndsTaking, IsOver, Quits};
 
 use crate::desk::Desk;
 use crate::giving::{Giving, Incoming};
-use crate::input::Input;
+use crate::input::InputMessage;
 use crate::lines::{no_lines, with_line};
 use crate::page::Page;
 use crate::progress::Progress;
@@ -140,27 +140,28 @@ impl<B: Room, W: Write + Drop> Clerk<B, W> {
 
     /// Does what is to be done of what was read. No where it is no line and all is printed, or nothing is answered any more.
     #[tactic(auto, using(crate::proofs::Counting::goes_over, crate::proofs::Counting::counted))]
-    fn deal<R: Wait, C: Clock>(&mut self, rt: &R, clock: &C, input: Input) -> bool
+    fn deal<R: Wait, C: Clock>(&mut self, rt: &R, clock: &C, input: InputMessage) -> bool
         requires { length self.old.desk.pending.lines.items < 64 }
         ensures counted { (first : Option (List ℕ)) → Counts line_command
             (C.tells clock.now) first nothing self.old.desk.submitter self.old.desk.pending.lines.items self.old.lines self.old.desk.page
             → Goes line_command (C.tells clock.now) first result nothing self.new.desk.submitter self.new.desk.pending.lines.items self.new.lines self.new.desk.page }
         ensures quits { (first : Option (List ℕ)) → Counts line_command
             (C.tells clock.now) first nothing self.old.desk.submitter self.old.desk.pending.lines.items self.old.lines self.old.desk.page
-            → result ≡ false → IsOver input self.new.desk.pending.lines.items ⊎ Quits line_command (C.tells clock.now) self.new.desk.submitter }
+            → result ≡ false → IsOver input self.new.desk.pending.lines.items
+            ⊎ Quits line_command (C.tells clock.now) self.new.desk.submitter }
         ensures lines { Takes input self.old.lines self.new.lines }
     {
         match input {
-            Input::Line(line) => self.take(rt, clock, line),
-            Input::Ended => {
+            InputMessage::Line(line) => self.take(rt, clock, line),
+            InputMessage::Ended => {
                 self.end(rt, clock);
                 false
             }
-            Input::Failed => {
+            InputMessage::Failed => {
                 self.fail(rt, clock);
                 false
             }
-            Input::Stopped => false,
+            InputMessage::Stopped => false,
         }
     }
 
@@ -172,7 +173,8 @@ impl<B: Room, W: Write + Drop> Clerk<B, W> {
             → Goes line_command (C.tells clock.now) first result nothing self.new.desk.submitter self.new.desk.pending.lines.items self.new.lines self.new.desk.page }
         ensures ends { (first : Option (List ℕ)) → Counts line_command
             (C.tells clock.now) first nothing self.old.desk.submitter self.old.desk.pending.lines.items self.old.lines self.old.desk.page
-            → result ≡ false → EndsTaking line_command (C.tells clock.now) self.new.desk.submitter self.new.desk.pending.lines.items (G.given inputs.new) }
+            → result ≡ false → EndsTaking line_command (C.tells clock.now) self.new.desk.submitter self.new.desk.pending.lines.items
+            (G.given inputs.new) }
         ensures lines { self.old.lines ≡ lines_in (G.given inputs.old) → self.new.lines ≡ lines_in (G.given inputs.new) }
     {
         match self.desk.next_input(rt, inputs) {
@@ -207,7 +209,7 @@ pub(crate) fn run_clerk<B: Room, W: Write + Drop, R: Wait + time::Clock, C: Cloc
     rt: &R,
     desk: Desk<B, W>,
     clock: &C,
-    inputs: Receiver<Input>,
+    inputs: Receiver<InputMessage>,
     progress: Option<Progress<P>>,
 ) -> Answered<B, W>
     ensures owes { Owes line_command (C.tells clock.now) desk.page desk.pending.lines.items nothing nothing result.submitter result.lines result.page }

@@ -4,7 +4,7 @@ ghost use Rattle.flow_work.specs.Counting.{Counted, Counts, Goes, is_open, is_ta
 ghost use Rattle.flow_work.specs.Questions.{line_served};
 
 use crate::desk::Desk;
-use crate::input::Input;
+use crate::input::InputMessage;
 use crate::lines::{no_lines, with_line};
 use crate::page::Page;
 use crate::question::Accepted;
@@ -163,22 +163,27 @@ impl<B: Room, W: Write + Drop> Counter<B, W> {
     /// Takes in the line that is there; else tells of what it has. So a worker that writes its report before it reads on is never
     /// waited for by one who waits for it: a task is printed only where no report waits. No where it is over.
     #[tactic(auto, using(crate::proofs::Counting::goes_over, crate::proofs::Counting::counted))]
-    fn step<R: Wait, C: Clock>(&mut self, rt: &R, clock: &C, inputs: &Receiver<Input>) -> bool
+    fn step<R: Wait, C: Clock>(
+        &mut self,
+        rt: &R,
+        clock: &C,
+        inputs: &Receiver<InputMessage>,
+    ) -> bool
         ensures { (first : Option (List ℕ)) → Counts line_served
             (C.tells clock.now) first self.old.feed self.old.desk.submitter self.old.desk.pending.lines.items self.old.lines self.old.desk.page
             → Goes line_served (C.tells clock.now) first result self.new.feed self.new.desk.submitter self.new.desk.pending.lines.items self.new.lines self.new.desk.page }
     {
         match self.desk.ready_input(rt, inputs) {
-            Some(Input::Line(line)) => self.take(rt, clock, line),
-            Some(Input::Ended) => {
+            Some(InputMessage::Line(line)) => self.take(rt, clock, line),
+            Some(InputMessage::Ended) => {
                 self.end(rt, clock);
                 false
             }
-            Some(Input::Failed) => {
+            Some(InputMessage::Failed) => {
                 self.fail(rt, clock);
                 false
             }
-            Some(Input::Stopped) => false,
+            Some(InputMessage::Stopped) => false,
             None => self.tell(rt, clock),
         }
     }
@@ -189,7 +194,7 @@ impl<B: Room, W: Write + Drop> Counter<B, W> {
         &mut self,
         rt: &R,
         clock: &C,
-        inputs: &Receiver<Input>,
+        inputs: &Receiver<InputMessage>,
     )
         ensures { (first : Option (List ℕ)) → Counts line_served
             (C.tells clock.now) first self.old.feed self.old.desk.submitter self.old.desk.pending.lines.items self.old.lines self.old.desk.page

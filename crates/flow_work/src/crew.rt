@@ -7,7 +7,7 @@ ghost use Rattle.flow_work.specs.Counting.{Owes};
 use crate::clerk::{Answered, run_clerk};
 use crate::desk::Desk;
 use crate::handing::{Handing, Ringing};
-use crate::input::{Input, Taking, read_lines};
+use crate::input::{InputMessage, Taking, read_lines};
 use crate::progress::Progress;
 use crate::reports::Reporter;
 use crate::tasks::Tasks;
@@ -78,7 +78,7 @@ fn run_reader<R: Wait, I: BufRead + Drop, T: Taking>(rt: &R, alloc: Global, read
 #[derive(Drop)]
 pub(crate) struct Answerer<B: Room, W: Write, P: Write> {
     pub(crate) desk: Desk<B, W>,
-    pub(crate) inputs: Receiver<Input>,
+    pub(crate) inputs: Receiver<InputMessage>,
     pub(crate) hub: Arc<Hub<B>, Global>,
     pub(crate) progress: Option<Progress<P>>,
 }
@@ -192,7 +192,7 @@ pub(crate) fn start_reader<R, I>(
     rt: &R,
     alloc: Global,
     reader: I,
-    lines: Sender<Input>,
+    lines: Sender<InputMessage>,
 ) -> Result<(), Fault>
 where
     R: Threads + Wait + Copy + Send + Drop + 'static,
@@ -212,7 +212,7 @@ pub(crate) fn start_ringing<B, R, I>(
     rt: &R,
     alloc: Global,
     reader: I,
-    lines: Sender<Input>,
+    lines: Sender<InputMessage>,
     hub: Arc<Hub<B>, Global>,
 ) -> Result<(), Fault>
 where

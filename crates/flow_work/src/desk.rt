@@ -13,7 +13,7 @@ ghost use Rattle.flow_work.specs.Telling.{AnswersFirst, HasTold, IsAnswer, Print
 ghost use Rattle.flow_work.specs.declared.queue.Pending.{Pending as APending};
 
 use crate::giving::Giving;
-use crate::input::Input;
+use crate::input::InputMessage;
 use crate::moments::command_at;
 use crate::page::Page;
 use crate::progress::Progress;
@@ -259,7 +259,11 @@ impl<B: Room, W: Write + Drop> Desk<B, W> {
     }
 
     /// What is read next. None where there is nothing yet and a reply can be waited for meanwhile.
-    pub(crate) fn next_input<R: Wait, G: Giving>(&self, rt: &R, inputs: &mut G) -> Option<Input>
+    pub(crate) fn next_input<R: Wait, G: Giving>(
+        &self,
+        rt: &R,
+        inputs: &mut G,
+    ) -> Option<InputMessage>
         ensures room { IfSome result (λ _. length self.now.pending.lines.items < 64) }
         ensures given { MatchOption result (G.given inputs.new ≡ G.given inputs.old)
             (λ i. G.given inputs.new ≡ G.given inputs.old ++ i ∷ []) }
@@ -275,7 +279,11 @@ impl<B: Room, W: Write + Drop> Desk<B, W> {
     }
 
     /// What is read next, if it is there and room is left for what waits for a reply.
-    pub(crate) fn ready_input<R: Wait>(&self, rt: &R, inputs: &Receiver<Input>) -> Option<Input>
+    pub(crate) fn ready_input<R: Wait>(
+        &self,
+        rt: &R,
+        inputs: &Receiver<InputMessage>,
+    ) -> Option<InputMessage>
         ensures { IfSome result (λ _. length self.now.pending.lines.items < 64) }
     {
         if self.pending.len() >= MOST_PENDING {

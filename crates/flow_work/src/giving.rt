@@ -2,7 +2,7 @@
 ghost use Rattle.std.specs.Prelude.{◌≡◌, [], ◌∷◌, ◌++◌, MatchOption};
 
 use crate::handing::{no_inputs, with_input};
-use crate::input::Input;
+use crate::input::InputMessage;
 use crossbeam_channel::Receiver;
 use std::snapshot::Snapshot;
 use std::sync::Wait;
@@ -11,29 +11,29 @@ use unseen::Listed;
 /// Gives what comes of the input, one after the other.
 pub trait Giving {
     ghost use Rattle.std.specs.Prelude.{◌≡◌, [], ◌∷◌, ◌++◌, List, MatchOption};
-    ghost use Rattle.flow_work.specs.declared.input.Input.{Input};
+    ghost use Rattle.flow_work.specs.declared.input.InputMessage.{InputMessage};
 
     /// All that it gave, for contracts alone.
-    ghost given: { Self → List Input };
+    ghost given: { Self → List InputMessage };
 
     /// Waits for what comes next.
-    fn next<R: Wait>(&mut self, rt: &R) -> Input
+    fn next<R: Wait>(&mut self, rt: &R) -> InputMessage
         ensures { given self.new ≡ given self.old ++ result ∷ [] };
 
     /// What comes next, if it is there.
-    fn ready<R: Wait>(&mut self, rt: &R) -> Option<Input>
+    fn ready<R: Wait>(&mut self, rt: &R) -> Option<InputMessage>
         ensures { MatchOption result (given self.new ≡ given self.old) (λ i. given self.new ≡ given self.old ++ i ∷ []) };
 }
 
 /// The end of the channel of what is read, and what it gave.
 #[derive(Drop)]
 pub(crate) struct Incoming {
-    receiver: Receiver<Input>,
-    given: Listed<Input>,
+    receiver: Receiver<InputMessage>,
+    given: Listed<InputMessage>,
 }
 
 impl Incoming {
-    pub(crate) fn new(receiver: Receiver<Input>) -> Incoming
+    pub(crate) fn new(receiver: Receiver<InputMessage>) -> Incoming
         ensures { result.given ≡ [] }
     {
         Incoming {
@@ -46,13 +46,13 @@ impl Incoming {
 impl Giving for Incoming {
     ghost given = { λ g. g.given };
 
-    fn next<R: Wait>(&mut self, rt: &R) -> Input {
-        let input = self.receiver.recv(rt).unwrap_or(Input::Stopped);
+    fn next<R: Wait>(&mut self, rt: &R) -> InputMessage {
+        let input = self.receiver.recv(rt).unwrap_or(InputMessage::Stopped);
         self.given = with_input(&self.given, Snapshot::of(&input));
         input
     }
 
-    fn ready<R: Wait>(&mut self, rt: &R) -> Option<Input> {
+    fn ready<R: Wait>(&mut self, rt: &R) -> Option<InputMessage> {
         match self.receiver.try_recv(rt) {
             Ok(input) => {
                 self.given = with_input(&self.given, Snapshot::of(&input));

@@ -14,14 +14,14 @@ use crate::crew::{
 };
 use crate::desk::Desk;
 use crate::ended::Ended;
-use crate::input::Input;
+use crate::input::InputMessage;
 use crate::progress::Progress;
 use crate::queue::Queue;
 use crate::reports::Reporter;
 use crate::skills::Skills;
 use crate::tally::Tally;
 use crate::tasks::Tasks;
-use crate::unknown::{Strangers, Unknown};
+use crate::unknown::{Strangers, UnknownActivity};
 use crossbeam_channel::{Receiver, Sender, bounded};
 use crossbeam_utils::sync::WaitGroup;
 use flow_base::fault::Fault;
@@ -198,9 +198,9 @@ where
 
 /// What those who read and answer lines have beside where the lines come from and where the replies go.
 pub(crate) struct Opening<B: Room> {
-    pub(crate) lines: Sender<Input>,
-    pub(crate) own_lines: Sender<Input>,
-    pub(crate) inputs: Receiver<Input>,
+    pub(crate) lines: Sender<InputMessage>,
+    pub(crate) own_lines: Sender<InputMessage>,
+    pub(crate) inputs: Receiver<InputMessage>,
     pub(crate) pending: Queue,
     pub(crate) submitter: Submitter<B>,
     pub(crate) hub: Arc<Hub<B>, Global>,
@@ -237,10 +237,14 @@ pub(crate) fn open_lines<B: Room, R: Wait>(
 type Answering<B, W, C> = PromisedHandle<Answered<B, W>, OwedReplies<B, W, C>>;
 
 /// The same, and the end by which it is told that no line is answered any more.
-type Telling<B, W, C> = (Answering<B, W, C>, Sender<Input>);
+type Telling<B, W, C> = (Answering<B, W, C>, Sender<InputMessage>);
 
 /// The same, and who hands out tasks.
-type Started<B, W, C> = (Answering<B, W, C>, Sender<Input>, JoinHandle<Tasks<B>>);
+type Started<B, W, C> = (
+    Answering<B, W, C>,
+    Sender<InputMessage>,
+    JoinHandle<Tasks<B>>,
+);
 
 /// Starts who reads lines and who answers them.
 fn start_lines<B, R, I, W, C, P>(
@@ -378,7 +382,7 @@ fn start_all<B, R, I, W, A, K, C, P>(
     reader: I,
     writer: W,
     terminal: Option<P>,
-    unknown: Unknown<P>,
+    unknown: UnknownActivity<P>,
     workers: usize,
     skills: &K,
     clock: C,
@@ -477,7 +481,7 @@ where
         reader,
         writer,
         None::<Vec<u8>>,
-        Unknown::Fail,
+        UnknownActivity::Fail,
         settings,
         skills,
         clock,
@@ -493,7 +497,7 @@ pub fn work_shown<S, R, I, W, A, K, C, P>(
     reader: I,
     writer: W,
     terminal: Option<P>,
-    unknown: Unknown<P>,
+    unknown: UnknownActivity<P>,
     settings: Settings,
     skills: &K,
     clock: C,
@@ -576,7 +580,7 @@ fn work_in<S, B, R, I, W, A, K, C, P>(
     reader: I,
     writer: W,
     terminal: Option<P>,
-    unknown: Unknown<P>,
+    unknown: UnknownActivity<P>,
     settings: Settings,
     skills: &K,
     clock: C,
@@ -619,7 +623,7 @@ where
         Ok((answering, own_lines, dispatching)) => {
             let served = serve_new(rt, engine, &mut publisher, &clock, settings.batch());
             // Who answers lines may wait for one, and none is answered any more.
-            let _ = own_lines.send(rt, Input::Stopped);
+            let _ = own_lines.send(rt, InputMessage::Stopped);
             let answered = answering.join(rt);
             group.wait(rt);
             let feed = dispatching.join(rt).into_feed();

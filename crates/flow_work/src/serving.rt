@@ -12,7 +12,7 @@ use crate::counter::Told;
 use crate::crew::start_ringing;
 use crate::desk::Desk;
 use crate::ended::{Ended, Served};
-use crate::input::Input;
+use crate::input::InputMessage;
 use crate::running::{Opening, begin, feed_of, open_hub, open_lines, serve_new, start_timing};
 use crate::teller::{Owed, Teller, start_teller};
 use crossbeam_channel::Sender;
@@ -72,7 +72,10 @@ where
 }
 
 /// Who answers lines and prints tasks, and the end by which it is told that no line is answered any more.
-type Telling<B, W, C> = (PromisedHandle<Told<B, W>, Owed<B, W, C>>, Sender<Input>);
+type Telling<B, W, C> = (
+    PromisedHandle<Told<B, W>, Owed<B, W, C>>,
+    Sender<InputMessage>,
+);
 
 /// Starts who reads lines and who answers them and prints tasks.
 fn start_lines<B, R, I, W, C>(
@@ -258,7 +261,7 @@ where
         Ok((telling, own_lines)) => {
             let served = serve_new(rt, engine, &mut publisher, &clock, settings.batch());
             // Who answers lines may have none, and none is answered any more.
-            let _ = own_lines.send(rt, Input::Stopped);
+            let _ = own_lines.send(rt, InputMessage::Stopped);
             let told = telling.join(rt);
             group.wait(rt);
             Ok(taken_back(rt, &mut publisher, told, served))

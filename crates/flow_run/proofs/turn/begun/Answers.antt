@@ -3,7 +3,7 @@ use Rattle.flow_base.specs.Syntax.{Program, activities_of}
 use Rattle.flow_base.specs.Shown.{shown_declaration}
 use Rattle.flow_base.specs.declared.syntax.Declaration.{Declaration}
 use Rattle.flow_nodes.specs.Links.{AreLinked, block_at}
-use Rattle.flow_nodes.specs.declared.table.Table.{Table}
+use Rattle.flow_nodes.specs.declared.table.ProgramTable.{ProgramTable}
 use Rattle.flow_model.specs.Checked.{shown_checked}
 use Rattle.flow_model.specs.Deliver.{all_fit, begun}
 use Rattle.flow_run.specs.Shown.{shown_answers}
@@ -15,10 +15,10 @@ use Rattle.flow_run.proofs.turn.begun.Goals as goal
 
 pub begin-requires : goal.begin-requires
 begin-requires c =
-    ap (λ (t : Table). block_at t.lists.items t.body) c.table-table.ensures.same ∙ c.table-linked.ensures ∙ sym (ap (λ (t : Program). t.body) c.program-tree.ensures.same)
+    ap (λ (t : ProgramTable). block_at t.lists.items t.body) c.table-table.ensures.same ∙ c.table-linked.ensures ∙ sym (ap (λ (t : Program). t.body) c.program-tree.ensures.same)
 
 pub led-requires-clause-linked : goal.led-requires-clause-linked
-led-requires-clause-linked c = subst (λ (t : Table). AreLinked t.lists.items) (sym c.table-table.ensures.same) c.table-table.ensures.linked
+led-requires-clause-linked c = subst (λ (t : ProgramTable). AreLinked t.lists.items) (sym c.table-table.ensures.same) c.table-table.ensures.linked
 
 pub led-requires-clause-whole : goal.led-requires-clause-whole
 led-requires-clause-whole c = rw c.in-Some.is at c.in_ok-begin.ensures.whole

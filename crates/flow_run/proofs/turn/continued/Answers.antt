@@ -4,7 +4,7 @@ use Rattle.flow_base.specs.Syntax.{Program, activities_of}
 use Rattle.flow_base.specs.Shown.{shown_declaration, shown_program}
 use Rattle.flow_base.specs.declared.syntax.Declaration.{Declaration}
 use Rattle.flow_nodes.specs.Links.{AreLinked}
-use Rattle.flow_nodes.specs.declared.table.Table.{Table}
+use Rattle.flow_nodes.specs.declared.table.ProgramTable.{ProgramTable}
 use Rattle.flow_model.specs.Checked.{shown_checked}
 use Rattle.flow_model.specs.Deliver.{deliver}
 use Rattle.flow_run.specs.Shown.{shown_answers}
@@ -19,7 +19,7 @@ pub deliver-requires-clause-whole : goal.deliver-requires-clause-whole
 deliver-requires-clause-whole c = subst IsWhole (sym c.get-run.ensures.same) c.get-run.ensures.whole
 
 pub led-requires-clause-linked : goal.led-requires-clause-linked
-led-requires-clause-linked c = subst (λ (t : Table). AreLinked t.lists.items) (sym c.table-table.ensures.same) c.table-table.ensures.linked
+led-requires-clause-linked c = subst (λ (t : ProgramTable). AreLinked t.lists.items) (sym c.table-table.ensures.same) c.table-table.ensures.linked
 
 pub led-requires-clause-events : goal.led-requires-clause-events
 led-requires-clause-events c = omega (arith, c.requires.events, ap (λ (r : Standing). r.events) c.get-run.ensures.same)
