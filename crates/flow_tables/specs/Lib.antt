@@ -13,4 +13,5 @@ pub mod Known
 pub mod Owned
 pub mod Asking
 pub mod Asked
+pub mod Histories
 pub mod Low

@@ -7,6 +7,7 @@ pub mod book_changes;
 pub mod create;
 pub mod fault;
 mod first_due;
+mod history;
 mod keys;
 pub mod known;
 mod learning;
