@@ -6,6 +6,7 @@ use crate::code::Code;
 use crate::event::Wrong;
 use crate::memory::NoMemory;
 use crate::number::RunId;
+use crate::unended::Unended;
 use std::alloc::{AllocError, AllocFailed};
 
 /// A table whose rows may be damaged, in the order in which they are tried.
@@ -72,7 +73,7 @@ pub enum Fault {
     #[error("{} damaged at {} of {}", self.code(), .0.place, .0.run)]
     Damaged(Damage),
     #[error("{} not known whether it was kept", self.code())]
-    Unknown,
+    Unknown(Unended),
     #[error("{} halted", self.code())]
     Halted,
     #[error("{} no program file", self.code())]
@@ -103,7 +104,7 @@ impl Fault {
             Fault::NotOurs => Code::NotOurs,
             Fault::BadVersion => Code::BadVersion,
             Fault::Damaged(_) => Code::Damaged,
-            Fault::Unknown => Code::Unknown,
+            Fault::Unknown(unended) => unended.code(),
             Fault::Halted => Code::Halted,
             Fault::NoFile => Code::NoFile,
             Fault::InputFailed => Code::InputFailed,

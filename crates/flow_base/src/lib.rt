@@ -16,4 +16,5 @@ pub mod sequence;
 pub mod syntax;
 pub mod text;
 pub mod token;
+pub mod unended;
 pub mod value;

@@ -2,6 +2,7 @@
 ghost use Rattle.flow_model.specs.Apply.{rules_of};
 
 use flow_base::command::Command;
+use flow_base::unended::Unended;
 use flow_check::language::Language;
 use flow_machine::answer::{Answer, Answering, Stop, Together};
 use flow_machine::decide::{decide, decide_all};
@@ -44,7 +45,7 @@ impl<V: View + Drop, P: Programs + Drop> Answering for Deciding<V, P> {
     fn answer(&mut self, command: Command) -> Result<Answer, Stop> {
         // No position is known from one command to the next.
         let Ok(mut seats) = Seats::new(self.alloc, 1) else {
-            return Err(Stop::Unknown);
+            return Err(Stop::Unknown(Unended::told()));
         };
         match decide(
             self.alloc,
@@ -54,13 +55,13 @@ impl<V: View + Drop, P: Programs + Drop> Answering for Deciding<V, P> {
             &command,
         ) {
             Ok((reply, _)) => Ok(Answer::Replied(reply)),
-            Err(_) => Err(Stop::Unknown),
+            Err(_) => Err(Stop::Unknown(Unended::told())),
         }
     }
 
     fn answer_together(&mut self, commands: Vec<Command>) -> Result<Together, Stop> {
         let Ok(mut seats) = Seats::new(self.alloc, 1) else {
-            return Err(Stop::Unknown);
+            return Err(Stop::Unknown(Unended::told()));
         };
         match decide_all(
             self.alloc,
@@ -70,7 +71,7 @@ impl<V: View + Drop, P: Programs + Drop> Answering for Deciding<V, P> {
             commands.as_slice(),
         ) {
             Ok(replies) => Ok(Together::Replied(replies)),
-            Err(_) => Err(Stop::Unknown),
+            Err(_) => Err(Stop::Unknown(Unended::told())),
         }
     }
 }

@@ -8,6 +8,7 @@ use flow_base::memory::NoMemory;
 use flow_base::number::{EventId, TextNo};
 use flow_base::sequence::Sequence;
 use flow_base::text::Key;
+use flow_base::unended::Unended;
 use flow_lines::ending::ended;
 use flow_lines::fault::{fault_line, fault_of_error, short_line, status};
 use flow_lines::reply::Line;
@@ -27,7 +28,7 @@ fn is_written(alloc: Global, fault: &Fault, line: &str) -> bool {
 fn faults_have_lines(rt: HostRuntime) -> Result<(), Fail> {
     let rows = [
         (Fault::NoMemory(NoMemory::told()), "flow: E01"),
-        (Fault::Unknown, "flow: E84"),
+        (Fault::Unknown(Unended::told()), "flow: E84"),
         (Fault::Halted, "flow: E85"),
     ];
     for (fault, line) in rows {

@@ -3,6 +3,7 @@ use crate::lines_deciding::over_lists;
 use flow_base::code::Code;
 use flow_base::command::Command;
 use flow_base::fault::Fault;
+use flow_base::unended::Unended;
 use flow_lines::batch::BatchSize;
 use flow_lines::drive::drive_lines;
 use flow_lines::fault::{fault_of_stop, status};
@@ -151,14 +152,16 @@ fn a_command_that_is_given_up_changes_nothing(rt: HostRuntime) -> Result<(), Fai
     Ok(())
 }
 
-const STOPS: [(Stop, Fault); 2] = [
-    (Stop::Unknown, Fault::Unknown),
-    (Stop::Halted, Fault::Halted),
-];
-
 #[test]
 fn a_stop_ends_it(rt: HostRuntime) -> Result<(), Fail> {
-    for (stop, fault) in STOPS {
+    let stops = [
+        (
+            Stop::Unknown(Unended::told()),
+            Fault::Unknown(Unended::told()),
+        ),
+        (Stop::Halted, Fault::Halted),
+    ];
+    for (stop, fault) in stops {
         assert_eq!(rt;
             failed_at(
                 rt.alloc(),
@@ -198,7 +201,7 @@ fn a_stop_leaves_its_batch_without_a_line(rt: HostRuntime) -> Result<(), Fail> {
             rt.alloc(),
             2,
             1,
-            Some(Stop::Unknown),
+            Some(Stop::Unknown(Unended::told())),
             b"{\"do\":\"history\",\"run\":1}\nx\n{\"do\":\"history\",\"run\":1}\nx\n{\"do\":\"history\",\"run\":1}\nx\n{\"do\":\"history\",\"run\":1}\n",
             b"{\"code\":\"E70\",\"reply\":\"refused\"}\n{\"code\":\"E02\",\"reply\":\"refused\"}\n{\"code\":\"E70\",\"reply\":\"refused\"}\n{\"code\":\"E02\",\"reply\":\"refused\"}\n"
         ),

@@ -27,13 +27,13 @@ use Rattle.flow_commit.specs.Stamps.{IsStampOf}
 abbrev pub EndsAs : {S : Type 0} → Ghosts S → Stored S → Book → List Command → End → Type 0
 EndsAs g new b cs (end.Kept rs) = (rs.items ≡ replies rules b cs) × Keeps (state_of g new) (after rules b cs)
 EndsAs g new b cs (end.Refused f) = Keeps (state_of g new) b
-EndsAs g new b cs (end.Unknown f) = LeavesEither (state_of g new) b (after rules b cs) × (IsUp g new → Keeps (state_of g new) b)
+EndsAs g new b cs (end.Unknown f _) = LeavesEither (state_of g new) b (after rules b cs) × (IsUp g new → Keeps (state_of g new) b)
 
 -- one that was committed has so many replies
 abbrev pub HasReplies : ℕ → End → Type 0
 HasReplies count (end.Kept rs) = length rs.items ≡ count
 HasReplies count (end.Refused f) = Unit {0}
-HasReplies count (end.Unknown f) = Unit {0}
+HasReplies count (end.Unknown f _) = Unit {0}
 
 ---- Why nothing is kept
 
@@ -72,7 +72,7 @@ WasCutOff {S} g old new f =
 -- a transaction that was to apply commands has these causes where it was given up for E80, and where nobody knows
 abbrev pub EndsFor : Type 0 → (ViewFault → Type 0) → End → Type 0
 EndsFor stopped unknown (end.Refused fault.StoreRefused) = stopped
-EndsFor stopped unknown (end.Unknown f) = unknown f
+EndsFor stopped unknown (end.Unknown f _) = unknown f
 EndsFor stopped unknown _ = Unit {0}
 
 -- behind so many commands, the last of a batch would have a place past the last number
@@ -82,7 +82,7 @@ HasNoRoom kept batch = 2 ^ 63 ≤ kept + length batch
 -- and a commit, over a book that is kept
 abbrev pub IsFor : {S : Type 0} → Ghosts S → Keeping S → Keeping S → Book → List Taken → Outcome → Type 0
 IsFor g old new b batch (outcomes.NotApplied back fault.StoreRefused) = HasNoRoom old.kept batch ⊎ (CantBeApplied b (commands_of batch) ⊎ WasGivenUp g old.stored new.stored)
-IsFor g old new b batch (outcomes.Unknown back f) = WasCutOff g old.stored new.stored f
+IsFor g old new b batch (outcomes.Unknown back f _) = WasCutOff g old.stored new.stored f
 IsFor g old new b batch _ = Unit {0}
 
 -- E80 of a commit in the words of what the keeper is before and behind, over the book that is read off the tables: the last place would
@@ -103,7 +103,7 @@ pub record HasGoneOn {S : Type 0} (g : Ghosts S) (old new : Keeping S) : Type 0 
 abbrev pub HasCommitted : {S : Type 0} → Ghosts S → Keeping S → Keeping S → Book → List Taken → Outcome → Type 0
 HasCommitted g old new b batch (outcomes.Kept receipts stamp) = (old.halted ≡ false) × (stamp.number ≡ new.kept) × HasKept g old new b batch receipts.items
 HasCommitted g old new b batch (outcomes.NotApplied back f) = (old.halted ≡ false) × (back ≡ batch) × HasRefused g old new b
-HasCommitted g old new b batch (outcomes.Unknown back f) = (old.halted ≡ false) × (back ≡ batch) × IsUnknown g old new b batch
+HasCommitted g old new b batch (outcomes.Unknown back f _) = (old.halted ≡ false) × (back ≡ batch) × IsUnknown g old new b batch
 HasCommitted g old new b batch (outcomes.Halted back) = (old.halted ≡ true) × (back ≡ batch) × (new ≡ old)
 
 -- the submission that a receipt answers
@@ -117,5 +117,5 @@ abbrev pub HasNoted : {S : Type 0} → Ghosts S → Keeping S → Keeping S → 
 HasNoted g old new batch (outcomes.Kept receipts stamp) =
     (new.halted ≡ false) × (new.kept ≡ old.kept + length batch) × (length receipts.items ≡ length batch) × (map taken_of receipts.items ≡ batch) × (new.log ≡ old.log ++ receipts.items) × IsStampOf (account_of g new) receipts.items stamp
 HasNoted g old new batch (outcomes.NotApplied back f) = (new.halted ≡ false) × (new.kept ≡ old.kept) × (new.log ≡ old.log) × (back ≡ batch)
-HasNoted g old new batch (outcomes.Unknown back f) = (new.halted ≡ true) × (new.kept ≡ old.kept) × (new.log ≡ old.log) × (back ≡ batch)
+HasNoted g old new batch (outcomes.Unknown back f _) = (new.halted ≡ true) × (new.kept ≡ old.kept) × (new.log ≡ old.log) × (back ≡ batch)
 HasNoted g old new batch (outcomes.Halted back) = (new.halted ≡ true) × (new ≡ old) × (back ≡ batch)

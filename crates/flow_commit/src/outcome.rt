@@ -1,6 +1,7 @@
 //! How a commit has ended.
 use crate::batch::Batch;
 use crate::stamp::Stamp;
+use flow_base::unended::Unended;
 use flow_machine::submission::Receipt;
 use flow_view::fault::ViewFault;
 
@@ -12,7 +13,7 @@ pub enum Outcome {
     NotApplied(Batch, ViewFault),
     /// E84: nobody knows until the store is opened again whether it is kept, since the end of the transaction was refused with
     /// this, E80 or E01. The keeper has halted.
-    Unknown(Batch, ViewFault),
+    Unknown(Batch, ViewFault, Unended),
     /// E85: the keeper had halted before.
     Halted(Batch),
 }

@@ -143,9 +143,9 @@ module _ {S : Type 0} (g : Ghosts S) (old new : Keeping S) (batch : List Taken) 
         part = inl (part_of (done.NotApplied f) driven (Ok (together.NotApplied k)) told);
       }
   all_together (done.NotApplied f) (Err s) driven told = absurd told
-  all_together done.Unknown (Ok t) driven told = absurd told
-  all_together done.Unknown (Err s) driven told =
-      let went = goes done.Unknown driven (λ e. cc) old.halted refl in
+  all_together (done.Unknown _) (Ok t) driven told = absurd told
+  all_together (done.Unknown _) (Err s) driven told =
+      let went = goes (done.Unknown _) driven (λ e. cc) old.halted refl in
       record {
         answers = tt;
         kept = tt;
@@ -153,11 +153,11 @@ module _ {S : Type 0} (g : Ghosts S) (old new : Keeping S) (batch : List Taken) 
         cause = tt;
         stopped = subst (HasStopped old new) (sym told) (went, (driven.noted went).halted);
         unstopped = tt;
-        leaves = hand_left done.Unknown driven went refl (append-nil (commands_of batch));
-        sure = is_sure done.Unknown driven;
+        leaves = hand_left (done.Unknown _) driven went refl (append-nil (commands_of batch));
+        sure = is_sure (done.Unknown _) driven;
         follows = (driven.runs.opened, driven.runs.fit);
         goes_on = driven.on;
-        part = inl (part_of done.Unknown driven (Err s) told);
+        part = inl (part_of (done.Unknown _) driven (Err s) told);
       }
   all_together done.Halted (Ok t) driven told = absurd told
   all_together done.Halted (Err s) driven told =
@@ -235,5 +235,5 @@ few_kept g old new batch (done.Kept rs) driven =
     let long : length rs.items ≡ length batch = (driven.noted went).answers.0 in
     omega (arith, long)
 few_kept g old new batch (done.NotApplied f) driven = omega arith
-few_kept g old new batch done.Unknown driven = omega arith
+few_kept g old new batch (done.Unknown _) driven = omega arith
 few_kept g old new batch done.Halted driven = omega arith

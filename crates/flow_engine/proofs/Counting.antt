@@ -117,7 +117,7 @@ module _ {S : Type 0} (g : Ghosts S) where
   one_or_other mid new b batch (done.Kept rs) h = inl tt
   one_or_other mid new b batch (done.NotApplied (fault.NoMemory _)) h = inl tt
   one_or_other mid new b batch (done.NotApplied fault.StoreRefused) h = failed_or_other mid new b (commands_of batch) h
-  one_or_other mid new b batch done.Unknown h = inl tt
+  one_or_other mid new b batch (done.Unknown _) h = inl tt
   one_or_other mid new b batch done.Halted h = inl tt
 
   pub held_since : (old mid new : Keeping S) → Since (state_of g old.stored) (state_of g mid.stored) → IsHeldBack g mid new

@@ -20,7 +20,7 @@ same_length n b [] (d ∷ ds) h = absurd h
 same_length n b (x ∷ bs) [] h = absurd h
 same_length n b (x ∷ bs) (done.Kept rs ∷ ds) h = ap suc (same_length (n + length x) (after rules b (commands_of x)) bs ds h.1)
 same_length n b (x ∷ bs) (done.NotApplied f ∷ ds) h = ap suc (same_length n b bs ds h)
-same_length n b (x ∷ bs) (done.Unknown ∷ ds) h = ap suc (sym (ap length h ∙ length-map bs (λ _. done.Halted)))
+same_length n b (x ∷ bs) (done.Unknown _ ∷ ds) h = ap suc (sym (ap length h ∙ length-map bs (λ _. done.Halted)))
 same_length n b (x ∷ bs) (done.Halted ∷ ds) h = absurd h
 
 pub gathered_more : {A : Type 0} (f : List Taken → Done → List A) (bs : List (List Taken)) (ds : List Done) (batch : List Taken) (d : Done) → length bs ≡ length ds → gathered f (bs ++ batch ∷ []) (ds ++ d ∷ []) ≡ gathered f bs ds ++ f batch d
@@ -30,18 +30,18 @@ gathered_more f (x ∷ bs) [] batch d e = absurd (omega (arith, e))
 gathered_more f (x ∷ bs) (y ∷ ds) batch d e =
     ap (λ l. f x y ++ l) (gathered_more f bs ds batch d (omega (arith, e))) ∙ sym (append_assoc (f x y) (gathered f bs ds) (f batch d))
 
-pub unknown_behind : (ds : List Done) → has_unknown (ds ++ done.Unknown ∷ []) ≡ true
+pub unknown_behind : (ds : List Done) → has_unknown (ds ++ done.Unknown _ ∷ []) ≡ true
 unknown_behind [] = refl
 unknown_behind (done.Kept rs ∷ ds) = unknown_behind ds
 unknown_behind (done.NotApplied f ∷ ds) = unknown_behind ds
-unknown_behind (done.Unknown ∷ ds) = refl
+unknown_behind (done.Unknown _ ∷ ds) = refl
 unknown_behind (done.Halted ∷ ds) = unknown_behind ds
 
 pub known_behind : (ds : List Done) (d : Done) → has_unknown (d ∷ []) ≡ false → has_unknown (ds ++ d ∷ []) ≡ has_unknown ds
 known_behind [] d e = e
 known_behind (done.Kept rs ∷ ds) d e = known_behind ds d e
 known_behind (done.NotApplied f ∷ ds) d e = known_behind ds d e
-known_behind (done.Unknown ∷ ds) d e = refl
+known_behind (done.Unknown _ ∷ ds) d e = refl
 known_behind (done.Halted ∷ ds) d e = known_behind ds d e
 
 -- where nobody is in doubt nothing is in hand
@@ -50,7 +50,7 @@ none_in_hand [] ds e = refl
 none_in_hand (x ∷ bs) [] e = refl
 none_in_hand (x ∷ bs) (done.Kept rs ∷ ds) e = none_in_hand bs ds e
 none_in_hand (x ∷ bs) (done.NotApplied f ∷ ds) e = none_in_hand bs ds e
-none_in_hand (x ∷ bs) (done.Unknown ∷ ds) e = off e
+none_in_hand (x ∷ bs) (done.Unknown _ ∷ ds) e = off e
 none_in_hand (x ∷ bs) (done.Halted ∷ ds) e = none_in_hand bs ds e
 
 -- one more batch is answered over the book that the others have led to
@@ -66,7 +66,7 @@ answers_more n b (x ∷ bs) (done.Kept rs ∷ ds) batch d e h more =
     let over = subst (λ k. AreAnswers (n + length x + length (kept_of bs ds)) k (batch ∷ []) (d ∷ [])) (after_cut rules b (commands_of x) (kept_of bs ds)) at in
     (h.0, answers_more (n + length x) (after rules b (commands_of x)) bs ds batch d e h.1 over)
 answers_more n b (x ∷ bs) (done.NotApplied f ∷ ds) batch d e h more = answers_more n b bs ds batch d e h more
-answers_more n b (x ∷ bs) (done.Unknown ∷ ds) batch d e h more = off e
+answers_more n b (x ∷ bs) (done.Unknown _ ∷ ds) batch d e h more = off e
 answers_more n b (x ∷ bs) (done.Halted ∷ ds) batch d e h more = absurd h
 
 pub all_halted_more : (bs : List (List Taken)) (ds : List Done) (batch : List Taken) → ds ≡ all_halted bs → ds ++ done.Halted ∷ [] ≡ all_halted (bs ++ batch ∷ [])
@@ -79,7 +79,7 @@ halted_more n b [] (y ∷ ds) batch e h = absurd h
 halted_more n b (x ∷ bs) [] batch e h = absurd h
 halted_more n b (x ∷ bs) (done.Kept rs ∷ ds) batch e h = (h.0, halted_more (n + length x) (after rules b (commands_of x)) bs ds batch e h.1)
 halted_more n b (x ∷ bs) (done.NotApplied f ∷ ds) batch e h = halted_more n b bs ds batch e h
-halted_more n b (x ∷ bs) (done.Unknown ∷ ds) batch e h = all_halted_more bs ds batch h
+halted_more n b (x ∷ bs) (done.Unknown _ ∷ ds) batch e h = all_halted_more bs ds batch h
 halted_more n b (x ∷ bs) (done.Halted ∷ ds) batch e h = absurd h
 
 ---- What is noted
@@ -91,7 +91,7 @@ noted_more [] (y ∷ ds) batch d e h more = absurd h
 noted_more (x ∷ bs) [] batch d e h more = absurd h
 noted_more (x ∷ bs) (done.Kept rs ∷ ds) batch d e h more = (h.0, noted_more bs ds batch d e h.1 more)
 noted_more (x ∷ bs) (done.NotApplied f ∷ ds) batch d e h more = noted_more bs ds batch d e h more
-noted_more (x ∷ bs) (done.Unknown ∷ ds) batch d e h more = off e
+noted_more (x ∷ bs) (done.Unknown _ ∷ ds) batch d e h more = off e
 noted_more (x ∷ bs) (done.Halted ∷ ds) batch d e h more = absurd h
 
 pub noted_halted : (bs : List (List Taken)) (ds : List Done) (batch : List Taken) → has_unknown ds ≡ true → AreNoted bs ds → AreNoted (bs ++ batch ∷ []) (ds ++ done.Halted ∷ [])
@@ -100,7 +100,7 @@ noted_halted [] (y ∷ ds) batch e h = absurd h
 noted_halted (x ∷ bs) [] batch e h = absurd h
 noted_halted (x ∷ bs) (done.Kept rs ∷ ds) batch e h = (h.0, noted_halted bs ds batch e h.1)
 noted_halted (x ∷ bs) (done.NotApplied f ∷ ds) batch e h = noted_halted bs ds batch e h
-noted_halted (x ∷ bs) (done.Unknown ∷ ds) batch e h = all_halted_more bs ds batch h
+noted_halted (x ∷ bs) (done.Unknown _ ∷ ds) batch e h = all_halted_more bs ds batch h
 noted_halted (x ∷ bs) (done.Halted ∷ ds) batch e h = absurd h
 
 ---- Replies
@@ -134,6 +134,6 @@ replies_told n b (x ∷ bs) (done.Kept rs ∷ ds) h =
     ∙ ap (λ l. replies rules b (commands_of x) ++ l) (replies_told (n + length x) (after rules b (commands_of x)) bs ds h.1)
     ∙ sym (replies_cut rules b (commands_of x) (kept_of bs ds))
 replies_told n b (x ∷ bs) (done.NotApplied f ∷ ds) h = replies_told n b bs ds h
-replies_told n b (x ∷ bs) (done.Unknown ∷ ds) h =
+replies_told n b (x ∷ bs) (done.Unknown _ ∷ ds) h =
     ap (replies_of bs) h ∙ none_of_halted bs bs ∙ sym (ap (λ l. replies rules b (kept_of bs l)) h ∙ ap (replies rules b) (none_kept_of_halted bs bs))
 replies_told n b (x ∷ bs) (done.Halted ∷ ds) h = absurd h

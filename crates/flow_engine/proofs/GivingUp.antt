@@ -44,7 +44,7 @@ pub given_up_on : (P Q : Book → List Command → Type 0) → ((b : Book) (cs :
 given_up_on P Q on b batch (done.Kept rs) h = tt
 given_up_on P Q on b batch (done.NotApplied (fault.NoMemory _)) h = tt
 given_up_on P Q on b batch (done.NotApplied fault.StoreRefused) h = on b (commands_of batch) h
-given_up_on P Q on b batch done.Unknown h = tt
+given_up_on P Q on b batch (done.Unknown _) h = tt
 given_up_on P Q on b batch done.Halted h = tt
 
 -- Another book, where the batch was given up.
@@ -52,7 +52,7 @@ pub given_up_over : (P : Book → List Command → Type 0) (b b' : Book) (batch 
 given_up_over P b b' batch (done.Kept rs) on h = tt
 given_up_over P b b' batch (done.NotApplied (fault.NoMemory _)) on h = tt
 given_up_over P b b' batch (done.NotApplied fault.StoreRefused) on h = on fault.StoreRefused refl h
-given_up_over P b b' batch done.Unknown on h = tt
+given_up_over P b b' batch (done.Unknown _) on h = tt
 given_up_over P b b' batch done.Halted on h = tt
 
 ---- Many
@@ -121,5 +121,5 @@ module _ {S : Type 0} (g : Ghosts S) (old new : Keeping S) where
   given_caused b (t ∷ ts) (done.NotApplied f ∷ ds) long single h =
       let fewer : length ds ≡ length ts = omega (arith, long) in
       ((given_up_by f, gives_up_by g old new b (t ∷ []) f (λ fit. (h fit).0)), given_caused b ts ds fewer single.1 (λ fit. (h fit).1))
-  given_caused b (t ∷ ts) (done.Unknown ∷ ds) long single h = tt
+  given_caused b (t ∷ ts) (done.Unknown _ ∷ ds) long single h = tt
   given_caused b (t ∷ ts) (done.Halted ∷ ds) long single h = tt

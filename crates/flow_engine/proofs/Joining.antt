@@ -26,14 +26,14 @@ unknown_join : (ds es : List Done) → has_unknown ds ≡ false → has_unknown 
 unknown_join [] es e = refl
 unknown_join (done.Kept rs ∷ ds) es e = unknown_join ds es e
 unknown_join (done.NotApplied f ∷ ds) es e = unknown_join ds es e
-unknown_join (done.Unknown ∷ ds) es e = off e
+unknown_join (done.Unknown _ ∷ ds) es e = off e
 unknown_join (done.Halted ∷ ds) es e = unknown_join ds es e
 
 unknown_stays : (ds es : List Done) → has_unknown ds ≡ true → has_unknown (ds ++ es) ≡ true
 unknown_stays [] es e = off (sym e)
 unknown_stays (done.Kept rs ∷ ds) es e = unknown_stays ds es e
 unknown_stays (done.NotApplied f ∷ ds) es e = unknown_stays ds es e
-unknown_stays (done.Unknown ∷ ds) es e = refl
+unknown_stays (done.Unknown _ ∷ ds) es e = refl
 unknown_stays (done.Halted ∷ ds) es e = unknown_stays ds es e
 
 -- over the book that the first ones have led to
@@ -49,7 +49,7 @@ answers_join n b (x ∷ bs) cs (done.Kept rs ∷ ds) es e h more =
     let over = subst (λ k. AreAnswers (n + length x + length (kept_of bs ds)) k cs es) (after_cut rules b (commands_of x) (kept_of bs ds)) at in
     (h.0, answers_join (n + length x) (after rules b (commands_of x)) bs cs ds es e h.1 over)
 answers_join n b (x ∷ bs) cs (done.NotApplied f ∷ ds) es e h more = answers_join n b bs cs ds es e h more
-answers_join n b (x ∷ bs) cs (done.Unknown ∷ ds) es e h more = off e
+answers_join n b (x ∷ bs) cs (done.Unknown _ ∷ ds) es e h more = off e
 answers_join n b (x ∷ bs) cs (done.Halted ∷ ds) es e h more = absurd h
 
 -- behind a batch of which nobody knows
@@ -59,7 +59,7 @@ halted_join n b [] cs (y ∷ ds) e h = absurd h
 halted_join n b (x ∷ bs) cs [] e h = absurd h
 halted_join n b (x ∷ bs) cs (done.Kept rs ∷ ds) e h = (h.0, halted_join (n + length x) (after rules b (commands_of x)) bs cs ds e h.1)
 halted_join n b (x ∷ bs) cs (done.NotApplied f ∷ ds) e h = halted_join n b bs cs ds e h
-halted_join n b (x ∷ bs) cs (done.Unknown ∷ ds) e h = ap (λ l. l ++ all_halted cs) h ∙ sym (map-append (λ _. done.Halted) bs cs)
+halted_join n b (x ∷ bs) cs (done.Unknown _ ∷ ds) e h = ap (λ l. l ++ all_halted cs) h ∙ sym (map-append (λ _. done.Halted) bs cs)
 halted_join n b (x ∷ bs) cs (done.Halted ∷ ds) e h = absurd h
 
 module _ {S : Type 0} (g : Ghosts S) where

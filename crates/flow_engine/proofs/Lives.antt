@@ -54,7 +54,7 @@ nth_within xs ys zs i n x e there =
 abbrev taken_if : List Taken → Done → List Taken
 taken_if batch (done.Kept receipts) = batch
 taken_if batch (done.NotApplied f) = []
-taken_if batch done.Unknown = []
+taken_if batch (done.Unknown _) = []
 taken_if batch done.Halted = []
 
 receipts_cut : (k : ℕ) (b : Book) (x y : List Taken) → receipts_of k b (x ++ y) ≡ receipts_of k b x ++ receipts_of (k + length x) (after rules b (commands_of x)) y
@@ -77,7 +77,7 @@ told_all k b (x ∷ bs) (done.Kept rs ∷ ds) h =
     ap (λ l. l ++ gathered receipts_in bs ds) h.0 ∙ ap (λ l. receipts_of k b x ++ l) (told_all (k + length x) (after rules b (commands_of x)) bs ds h.1)
     ∙ sym (receipts_cut k b x (gathered taken_if bs ds))
 told_all k b (x ∷ bs) (done.NotApplied f ∷ ds) h = told_all k b bs ds h
-told_all k b (x ∷ bs) (done.Unknown ∷ ds) h =
+told_all k b (x ∷ bs) (done.Unknown _ ∷ ds) h =
     ap (gathered receipts_in bs) h ∙ none_of receipts_in (λ _. refl) bs bs
     ∙ sym (ap (λ l. receipts_of k b (gathered taken_if bs l)) h ∙ ap (receipts_of k b) (none_of taken_if (λ _. refl) bs bs))
 told_all k b (x ∷ bs) (done.Halted ∷ ds) h = absurd h
@@ -87,7 +87,7 @@ kept_is [] ds = refl
 kept_is (x ∷ bs) [] = refl
 kept_is (x ∷ bs) (done.Kept rs ∷ ds) = ap (λ l. commands_of x ++ l) (kept_is bs ds) ∙ sym (map-append command_of x (gathered taken_if bs ds))
 kept_is (x ∷ bs) (done.NotApplied f ∷ ds) = kept_is bs ds
-kept_is (x ∷ bs) (done.Unknown ∷ ds) = kept_is bs ds
+kept_is (x ∷ bs) (done.Unknown _ ∷ ds) = kept_is bs ds
 kept_is (x ∷ bs) (done.Halted ∷ ds) = kept_is bs ds
 
 -- a receipt, among those of a list of commands
@@ -139,7 +139,7 @@ module _ {S : Type 0} (g : Ghosts S) where
   only_for old new b batch (done.NotApplied fault.StoreRefused) well (inl room) = inl room
   only_for old new b batch (done.NotApplied fault.StoreRefused) well (inr (inl cant)) = inr (inl (only_numbers b (commands_of batch) well cant))
   only_for old new b batch (done.NotApplied fault.StoreRefused) well (inr (inr given_up)) = inr (inr given_up)
-  only_for old new b batch done.Unknown well h = h
+  only_for old new b batch (done.Unknown _) well h = h
   only_for old new b batch done.Halted well h = tt
 
   passes_only : (old new : Keeping S) (b : Book) (bs : List (List Taken)) (ds : List Done) → IsWell b → Passes g old new b bs ds → PassesOnly g old new b bs ds

@@ -105,9 +105,9 @@ module _ {S : Type 0} (g : Ghosts S) (old : Keeping S) (b : Book) where
           leads_as new false (has_unknown (ds ++ done.NotApplied f ∷ [])) _ _ _ _ (known_behind ds (done.NotApplied f) refl ∙ known) (kept_now (done.NotApplied f) ∙ append-nil (kept_of bs ds)) refl
               (lead_refused mid new (kept_of bs ds) (in_hand bs ds) (in_hand (bs ++ batch ∷ []) (ds ++ done.NotApplied f ∷ [])) leads one.1),
         )
-    goes_on known done.Unknown one = (
-      answers_more old.kept b bs ds batch done.Unknown known was.0 refl,
-      leads_as new true (has_unknown (ds ++ done.Unknown ∷ [])) _ _ _ _ (unknown_behind ds) (kept_now done.Unknown ∙ append-nil (kept_of bs ds)) (hand_now done.Unknown ∙ ap (λ l. l ++ commands_of batch) (none_in_hand bs ds known))
+    goes_on known (done.Unknown _) one = (
+      answers_more old.kept b bs ds batch (done.Unknown _) known was.0 refl,
+      leads_as new true (has_unknown (ds ++ done.Unknown _ ∷ [])) _ _ _ _ (unknown_behind ds) (kept_now (done.Unknown _) ∙ append-nil (kept_of bs ds)) (hand_now (done.Unknown _) ∙ ap (λ l. l ++ commands_of batch) (none_in_hand bs ds known))
           (lead_unknown mid new (kept_of bs ds) batch one.1),
     )
     goes_on known done.Halted one = off (sym one.0 ∙ was.1.halted ∙ known)
@@ -157,10 +157,10 @@ module _ {S : Type 0} (old mid new : Keeping S) (bs : List (List Taken)) (ds : L
     halted = one.0 ∙ sym (known_behind ds (done.NotApplied f) refl ∙ known);
     counts = counts_now (done.NotApplied f) (let same : new.kept ≡ mid.kept = one.1 in omega (arith, same));
   }
-  notes_on known done.Unknown one = record {
-    answers = noted_more bs ds batch done.Unknown known was.answers refl;
+  notes_on known (done.Unknown _) one = record {
+    answers = noted_more bs ds batch (done.Unknown _) known was.answers refl;
     halted = one.0 ∙ sym (unknown_behind ds);
-    counts = counts_now done.Unknown (let same : new.kept ≡ mid.kept = one.1 in omega (arith, same));
+    counts = counts_now (done.Unknown _) (let same : new.kept ≡ mid.kept = one.1 in omega (arith, same));
   }
   notes_on known done.Halted one = off (sym one.0 ∙ ap (λ (k : Keeping S). k.halted) one.1 ∙ was.halted ∙ known)
 

@@ -63,7 +63,7 @@ single_noted [] (d ∷ ds) h = absurd h
 single_noted (t ∷ ts) [] h = absurd h
 single_noted (t ∷ ts) (done.Kept rs ∷ ds) h = (h.0, single_noted ts ds h.1)
 single_noted (t ∷ ts) (done.NotApplied f ∷ ds) h = (tt, single_noted ts ds h)
-single_noted (t ∷ ts) (done.Unknown ∷ ds) h = (tt, subst AreSingle (sym h) (single_halted (map alone ts)))
+single_noted (t ∷ ts) (done.Unknown _ ∷ ds) h = (tt, subst AreSingle (sym h) (single_halted (map alone ts)))
 single_noted (t ∷ ts) (done.Halted ∷ ds) h = absurd h
 
 -- a batch of one has one answer, if it has one at all
@@ -76,7 +76,7 @@ pub given_long : (ds : List Done) → AreSingle ds → first_stop ds ≡ None �
 given_long [] h e = refl
 given_long (done.Kept rs ∷ ds) h e = one_long rs.items (given ds) h.0 ∙ ap (λ n. 1 + n) (given_long ds h.1 e) ∙ omega arith
 given_long (done.NotApplied f ∷ ds) h e = ap suc (given_long ds h.1 e)
-given_long (done.Unknown ∷ ds) h e = none_is e
+given_long (done.Unknown _ ∷ ds) h e = none_is e
 given_long (done.Halted ∷ ds) h e = none_is e
 
 pub given_fewer : (ds : List Done) (s : Stop) → AreSingle ds → first_stop ds ≡ Some s → length (given ds) < length ds
@@ -86,7 +86,7 @@ given_fewer (done.Kept rs ∷ ds) s h e =
     let rest : length (given ds) < length ds = given_fewer ds s h.1 e in
     omega (arith, one, rest)
 given_fewer (done.NotApplied f ∷ ds) s h e = let rest : length (given ds) < length ds = given_fewer ds s h.1 e in omega (arith, rest)
-given_fewer (done.Unknown ∷ ds) s h e = omega arith
+given_fewer (done.Unknown _ ∷ ds) s h e = omega arith
 given_fewer (done.Halted ∷ ds) s h e = omega arith
 
 ---- Stops
@@ -96,16 +96,16 @@ known_on : (ds : List Done) → first_stop ds ≡ None → has_unknown ds ≡ fa
 known_on [] e = refl
 known_on (done.Kept rs ∷ ds) e = known_on ds e
 known_on (done.NotApplied f ∷ ds) e = known_on ds e
-known_on (done.Unknown ∷ ds) e = none_is e
+known_on (done.Unknown _ ∷ ds) e = none_is e
 known_on (done.Halted ∷ ds) e = none_is e
 
-stop_noted : (bs : List (List Taken)) (ds : List Done) (s : Stop) → AreNoted bs ds → first_stop ds ≡ Some s → (s ≡ stop.Unknown) × (has_unknown ds ≡ true)
+stop_noted : (bs : List (List Taken)) (ds : List Done) (s : Stop) → AreNoted bs ds → first_stop ds ≡ Some s → (s ≡ stop.Unknown _) × (has_unknown ds ≡ true)
 stop_noted [] [] s h e = absurd (cc)
 stop_noted [] (d ∷ ds) s h e = absurd h
 stop_noted (x ∷ bs) [] s h e = absurd h
 stop_noted (x ∷ bs) (done.Kept rs ∷ ds) s h e = stop_noted bs ds s h.1 e
 stop_noted (x ∷ bs) (done.NotApplied f ∷ ds) s h e = stop_noted bs ds s h e
-stop_noted (x ∷ bs) (done.Unknown ∷ ds) s h e = (sym (same_Some stop.Unknown s e), refl)
+stop_noted (x ∷ bs) (done.Unknown _ ∷ ds) s h e = (sym (same_Some (stop.Unknown _) s e), refl)
 stop_noted (x ∷ bs) (done.Halted ∷ ds) s h e = absurd h
 
 ---- Over a book
@@ -119,7 +119,7 @@ told_all n b (t ∷ ts) (done.Kept rs ∷ ds) h e =
     subst (λ l. AnswersAll rules b (after rules (after_one rules b t.command) (kept_of (map alone ts) ds)) (t.command ∷ commands_of ts) (map replied l ++ given ds)) (sym h.0)
     (refl, told_all (n + 1) (after_one rules b t.command) ts ds h.1 e)
 told_all n b (t ∷ ts) (done.NotApplied f ∷ ds) h e = told_all n b ts ds h e
-told_all n b (t ∷ ts) (done.Unknown ∷ ds) h e = none_is e
+told_all n b (t ∷ ts) (done.Unknown _ ∷ ds) h e = none_is e
 told_all n b (t ∷ ts) (done.Halted ∷ ds) h e = none_is e
 
 -- Where nothing is kept nothing was applied.
@@ -129,7 +129,7 @@ told_none b [] (d ∷ ds) h e none = absurd h
 told_none b (t ∷ ts) [] h e none = absurd h
 told_none b (t ∷ ts) (done.Kept rs ∷ ds) h e none = absurd (omega (arith, none))
 told_none b (t ∷ ts) (done.NotApplied f ∷ ds) h e none = told_none b ts ds h e none
-told_none b (t ∷ ts) (done.Unknown ∷ ds) h e none = none_is e
+told_none b (t ∷ ts) (done.Unknown _ ∷ ds) h e none = none_is e
 told_none b (t ∷ ts) (done.Halted ∷ ds) h e none = none_is e
 
 -- The batch at which a stop came, with the answers before it.
@@ -160,7 +160,7 @@ cut_at n b (t ∷ ts) (done.Kept rs ∷ ds) s h e =
 cut_at n b (t ∷ ts) (done.NotApplied f ∷ ds) s h e =
     let rest = cut_at n b ts ds s h e in
     record { first = t ∷ rest.first; here = rest.here; behind = rest.behind; split = ap (λ l. t ∷ l) rest.split; told = rest.told; hand = rest.hand }
-cut_at n b (t ∷ ts) (done.Unknown ∷ ds) s h e = record {
+cut_at n b (t ∷ ts) (done.Unknown _ ∷ ds) s h e = record {
   first = [];
   here = t;
   behind = ts;
@@ -317,7 +317,7 @@ module _ {S : Type 0} (g : Ghosts S) (old new : Keeping S) (ts : List Taken) (ds
     stopped_by false h =
         let notes = driven.noted h in
         let its = stop_noted (map alone ts) ds s notes.answers e in
-        (subst (HasStopped old new) (sym its.0) (h, notes.halted ∙ its.1), λ is. absurd (let clash : stop.Unknown ≡ stop.Halted = sym its.0 ∙ is in cc))
+        (subst (HasStopped old new) (sym its.0) (h, notes.halted ∙ its.1), λ is. absurd (let clash : (stop.Unknown _) ≡ stop.Halted = sym its.0 ∙ is in cc))
 
     pub has_stopped : HasStopped old new s
     has_stopped = (stopped_by old.halted refl).0
@@ -364,14 +364,14 @@ one_cut whole now left behind bs t next split are = (split ∙ ap (λ l. command
 pub given_first : (d : Done) (ds : List Done) (a : Answer) → given (d ∷ []) ≡ a ∷ [] → first_stop (d ∷ []) ≡ None → (given (d ∷ ds) ≡ a ∷ given ds) × (first_stop (d ∷ ds) ≡ first_stop ds)
 given_first (done.Kept rs) ds a is e = (sym (append_assoc (map replied rs.items) [] (given ds)) ∙ ap (λ l. l ++ given ds) is, refl)
 given_first (done.NotApplied f) ds a is e = (ap (λ l. l ++ given ds) is, refl)
-given_first done.Unknown ds a is e = none_is e
+given_first (done.Unknown _) ds a is e = none_is e
 given_first done.Halted ds a is e = none_is e
 
 -- and a stop before all of them
 pub stop_first : (d : Done) (ds : List Done) (s : Stop) → first_stop (d ∷ []) ≡ Some s → (given (d ∷ ds) ≡ []) × (first_stop (d ∷ ds) ≡ Some s)
 stop_first (done.Kept rs) ds s e = none_is (sym e)
 stop_first (done.NotApplied f) ds s e = none_is (sym e)
-stop_first done.Unknown ds s e = (refl, e)
+stop_first (done.Unknown _) ds s e = (refl, e)
 stop_first done.Halted ds s e = (refl, e)
 
 -- What is still to be answered, with the answers so far, is the whole.

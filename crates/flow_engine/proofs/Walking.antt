@@ -260,7 +260,7 @@ module _ (b : Book) (opening : ℕ) where
         has = rest.has;
         whole = rest.whole;
       }
-  walk k log may rs (x ∷ bs) (done.Unknown ∷ ds) long has some h =
+  walk k log may rs (x ∷ bs) (done.Unknown _ ∷ ds) long has some h =
       let cs = commands_of x in
       record {
         steps = (map Submit cs ++ Take (length cs) ∷ []) ++ CommitBegins ∷ CommitFails ∷ [];

@@ -35,7 +35,7 @@ Follows g a b = (b.stored.opened ≡ a.stored.opened) × (IsFit g b → IsFit g 
 
 -- A stop is for good: nobody knows whether the command is kept, and the engine halts; or it had halted before, and does nothing.
 abbrev pub HasStopped : {S : Type 0} → Keeping S → Keeping S → Stop → Type 0
-HasStopped old new stop.Unknown = (old.halted ≡ false) × (new.halted ≡ true)
+HasStopped old new (stop.Unknown _) = (old.halted ≡ false) × (new.halted ≡ true)
 HasStopped old new stop.Halted = (old.halted ≡ true) × (new ≡ old)
 
 -- Beside an answer: it hadn't halted and hasn't, or nothing has changed.
@@ -135,14 +135,14 @@ abbrev pub given : List Done → List Answer
 given [] = []
 given (done.Kept receipts ∷ ds) = map replied receipts.items ++ given ds
 given (done.NotApplied f ∷ ds) = answer.NotApplied (view_fault_code f) ∷ given ds
-given (done.Unknown ∷ ds) = []
+given (done.Unknown _ ∷ ds) = []
 given (done.Halted ∷ ds) = []
 
 abbrev pub first_stop : List Done → Option Stop
 first_stop [] = None
 first_stop (done.Kept receipts ∷ ds) = first_stop ds
 first_stop (done.NotApplied f ∷ ds) = first_stop ds
-first_stop (done.Unknown ∷ ds) = Some stop.Unknown
+first_stop (done.Unknown _ ∷ ds) = Some (stop.Unknown _)
 first_stop (done.Halted ∷ ds) = Some stop.Halted
 
 -- what is told where answering ended early, behind answers that were there

@@ -22,14 +22,14 @@ use Rattle.flow_engine.specs.declared.done.Done.TheVariants as done
 abbrev pub HasDone : {S : Type 0} → Ghosts S → Keeping S → Keeping S → Book → List Taken → Done → Type 0
 HasDone g old new b batch (done.Kept receipts) = (old.halted ≡ false) × HasKept g old new b batch receipts.items
 HasDone g old new b batch (done.NotApplied f) = (old.halted ≡ false) × HasRefused g old new b
-HasDone g old new b batch done.Unknown = (old.halted ≡ false) × IsUnknown g old new b batch
+HasDone g old new b batch (done.Unknown _) = (old.halted ≡ false) × IsUnknown g old new b batch
 HasDone g old new b batch done.Halted = (old.halted ≡ true) × (new ≡ old)
 
 -- and why it has, over a book that was kept
 abbrev pub IsDoneFor : {S : Type 0} → Ghosts S → Keeping S → Keeping S → Book → List Taken → Done → Type 0
 IsDoneFor g old new b batch (done.Kept receipts) = Unit {0}
 IsDoneFor g old new b batch (done.NotApplied f) = IsFor g old new b batch (outcomes.NotApplied batch f)
-IsDoneFor g old new b batch done.Unknown = (f : ViewFault) × IsFor g old new b batch (outcomes.Unknown batch f)
+IsDoneFor g old new b batch (done.Unknown _) = (f : ViewFault) × IsFor g old new b batch (outcomes.Unknown batch f _)
 IsDoneFor g old new b batch done.Halted = Unit {0}
 
 -- The same over a book such as commands make, where a batch can't be applied only where the numbers run out.
@@ -37,7 +37,7 @@ abbrev pub IsDoneOnlyFor : {S : Type 0} → Ghosts S → Keeping S → Keeping S
 IsDoneOnlyFor g old new b batch (done.Kept receipts) = Unit {0}
 IsDoneOnlyFor g old new b batch (done.NotApplied (fault.NoMemory _)) = Unit {0}
 IsDoneOnlyFor g old new b batch (done.NotApplied fault.StoreRefused) = HasNoRoom old.kept batch ⊎ (NumbersRunOut b (commands_of batch) ⊎ WasGivenUp g old.stored new.stored)
-IsDoneOnlyFor g old new b batch done.Unknown = (f : ViewFault) × WasCutOff g old.stored new.stored f
+IsDoneOnlyFor g old new b batch (done.Unknown _) = (f : ViewFault) × WasCutOff g old.stored new.stored f
 IsDoneOnlyFor g old new b batch done.Halted = Unit {0}
 
 -- What is noted of a batch, whatever the disk tells: one that is kept is counted and has a receipt for each command, and behind
@@ -45,7 +45,7 @@ IsDoneOnlyFor g old new b batch done.Halted = Unit {0}
 abbrev pub IsNoted : {S : Type 0} → Keeping S → Keeping S → List Taken → Done → Type 0
 IsNoted old new batch (done.Kept receipts) = (new.halted ≡ false) × (new.kept ≡ old.kept + length batch) × (length receipts.items ≡ length batch)
 IsNoted old new batch (done.NotApplied f) = (new.halted ≡ false) × (new.kept ≡ old.kept)
-IsNoted old new batch done.Unknown = (new.halted ≡ true) × (new.kept ≡ old.kept)
+IsNoted old new batch (done.Unknown _) = (new.halted ≡ true) × (new.kept ≡ old.kept)
 IsNoted old new batch done.Halted = (new.halted ≡ true) × (new ≡ old)
 
 ---- Answers to batches, in their order
@@ -63,14 +63,14 @@ AreAnswers kept b (batch ∷ batches) [] = ⊥
 AreAnswers kept b (batch ∷ batches) (done.Kept receipts ∷ ds) =
     (receipts.items ≡ receipts_of kept b batch) × AreAnswers (kept + length batch) (after rules b (commands_of batch)) batches ds
 AreAnswers kept b (batch ∷ batches) (done.NotApplied f ∷ ds) = AreAnswers kept b batches ds
-AreAnswers kept b (batch ∷ batches) (done.Unknown ∷ ds) = ds ≡ all_halted batches
+AreAnswers kept b (batch ∷ batches) (done.Unknown _ ∷ ds) = ds ≡ all_halted batches
 AreAnswers kept b (batch ∷ batches) (done.Halted ∷ ds) = ⊥
 
 abbrev pub has_unknown : List Done → Bool
 has_unknown [] = false
 has_unknown (done.Kept receipts ∷ ds) = has_unknown ds
 has_unknown (done.NotApplied f ∷ ds) = has_unknown ds
-has_unknown (done.Unknown ∷ ds) = true
+has_unknown (done.Unknown _ ∷ ds) = true
 has_unknown (done.Halted ∷ ds) = has_unknown ds
 
 -- what batches and their answers have, one after the other
@@ -82,13 +82,13 @@ gathered f (batch ∷ batches) (d ∷ ds) = f batch d ++ gathered f batches ds
 abbrev pub if_kept : List Taken → Done → List Command
 if_kept batch (done.Kept receipts) = commands_of batch
 if_kept batch (done.NotApplied f) = []
-if_kept batch done.Unknown = []
+if_kept batch (done.Unknown _) = []
 if_kept batch done.Halted = []
 
 abbrev pub if_unknown : List Taken → Done → List Command
 if_unknown batch (done.Kept receipts) = []
 if_unknown batch (done.NotApplied f) = []
-if_unknown batch done.Unknown = commands_of batch
+if_unknown batch (done.Unknown _) = commands_of batch
 if_unknown batch done.Halted = []
 
 abbrev pub reply_of : Receipt → Reply
@@ -97,13 +97,13 @@ reply_of r = r.reply
 abbrev pub replies_in : List Taken → Done → List Reply
 replies_in batch (done.Kept receipts) = map reply_of receipts.items
 replies_in batch (done.NotApplied f) = []
-replies_in batch done.Unknown = []
+replies_in batch (done.Unknown _) = []
 replies_in batch done.Halted = []
 
 abbrev pub receipts_in : List Taken → Done → List Receipt
 receipts_in batch (done.Kept receipts) = receipts.items
 receipts_in batch (done.NotApplied f) = []
-receipts_in batch done.Unknown = []
+receipts_in batch (done.Unknown _) = []
 receipts_in batch done.Halted = []
 
 -- the commands of the kept batches, in their order
@@ -151,7 +151,7 @@ AreNoted [] (d ∷ ds) = ⊥
 AreNoted (batch ∷ batches) [] = ⊥
 AreNoted (batch ∷ batches) (done.Kept receipts ∷ ds) = (length receipts.items ≡ length batch) × AreNoted batches ds
 AreNoted (batch ∷ batches) (done.NotApplied f ∷ ds) = AreNoted batches ds
-AreNoted (batch ∷ batches) (done.Unknown ∷ ds) = ds ≡ all_halted batches
+AreNoted (batch ∷ batches) (done.Unknown _ ∷ ds) = ds ≡ all_halted batches
 AreNoted (batch ∷ batches) (done.Halted ∷ ds) = ⊥
 
 -- The kept commands are counted, and the engine has halted where a batch is in doubt.

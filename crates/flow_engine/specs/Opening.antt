@@ -50,7 +50,7 @@ pub record IsUnopened {S : Type 0} (g : Ghosts S) (from to : State) (f : Fault) 
   -- E01, E68 and E80 to E84 alone are told: E82 and E83 only where the tables say so, and E84 only where the first format was read.
   pub among : IsOfRecovery f
   pub version : HasCleanDisk to → f ≡ fault.BadVersion → HasNeitherFormat g to
-  pub moving : HasCleanDisk to → f ≡ fault.Unknown → HasFirstFormat g from
+  pub moving : HasCleanDisk to → f ≡ fault.Unknown _ → HasFirstFormat g from
   pub damaged : HasCleanDisk to → (HasCleanDisk from → HasTables from.committed) → IsFirstDamage is_program (tables_in from.committed) f
   pub damaged_before : HasCleanDisk to → (HasCleanDisk from → HasPast from.committed) → IsFirstDamage is_program (past_tables from.committed.trees) f
   pub cause : HasCleanDisk to → HasCause g f

@@ -30,7 +30,7 @@ KeepsTogether g new b commands (together.NotApplied k) = KeepsBook g new b
 abbrev pub are_kept : Done → ℕ
 are_kept (done.Kept receipts) = length receipts.items
 are_kept (done.NotApplied f) = 0
-are_kept done.Unknown = 0
+are_kept (done.Unknown _) = 0
 are_kept done.Halted = 0
 
 -- this is told of a batch
@@ -41,8 +41,8 @@ IsToldOf (done.Kept receipts) (Err s) = ⊥
 IsToldOf (done.NotApplied f) (Ok (together.Replied rs)) = ⊥
 IsToldOf (done.NotApplied f) (Ok (together.NotApplied k)) = k ≡ view_fault_code f
 IsToldOf (done.NotApplied f) (Err s) = ⊥
-IsToldOf done.Unknown (Ok t) = ⊥
-IsToldOf done.Unknown (Err s) = s ≡ stop.Unknown
+IsToldOf (done.Unknown _) (Ok t) = ⊥
+IsToldOf (done.Unknown _) (Err s) = s ≡ stop.Unknown _
 IsToldOf done.Halted (Ok t) = ⊥
 IsToldOf done.Halted (Err s) = s ≡ stop.Halted
 

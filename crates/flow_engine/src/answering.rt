@@ -44,7 +44,7 @@ fn answer_of(done: Done) -> Result<Answer, Stop>
     match done {
         Done::Kept(receipts) => Ok(Answer::Replied(reply_of(receipts))),
         Done::NotApplied(fault) => Ok(Answer::NotApplied(fault.code())),
-        Done::Unknown => Err(Stop::Unknown),
+        Done::Unknown(unended) => Err(Stop::Unknown(unended)),
         Done::Halted => Err(Stop::Halted),
     }
 }

@@ -1,5 +1,6 @@
 //! What becomes of batches, and of lists of commands.
 use flow_base::memory::NoMemory;
+use flow_base::unended::Unended;
 use flow_machine::answer::{Answer, Stop};
 use flow_machine::submission::Receipt;
 use flow_view::fault::ViewFault;
@@ -12,7 +13,7 @@ pub enum Done {
     /// E80 or E01: nothing has changed, and the engine goes on.
     NotApplied(ViewFault),
     /// E84: nobody knows until the store is opened again whether it is kept. The engine has halted.
-    Unknown,
+    Unknown(Unended),
     /// E85: the engine had halted before.
     Halted,
 }

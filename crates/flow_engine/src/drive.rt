@@ -37,7 +37,7 @@ pub(crate) fn done_with<S: Alter>(engine: &mut Engine<S>, batch: Batch) -> Done
             Done::Kept(receipts)
         }
         Outcome::NotApplied(_, fault) => Done::NotApplied(fault),
-        Outcome::Unknown(_batch, _fault) => Done::Unknown,
+        Outcome::Unknown(_batch, _fault, unended) => Done::Unknown(unended),
         Outcome::Halted(_) => Done::Halted,
     }
 }

@@ -87,7 +87,7 @@ fn told_of(done: Done, replies: Vec<Reply>) -> Result<Together, Stop>
     match done {
         Done::Kept(receipts) => Ok(Together::Replied(replies_in(receipts, replies))),
         Done::NotApplied(fault) => Ok(Together::NotApplied(fault.code())),
-        Done::Unknown => Err(Stop::Unknown),
+        Done::Unknown(unended) => Err(Stop::Unknown(unended)),
         Done::Halted => Err(Stop::Halted),
     }
 }

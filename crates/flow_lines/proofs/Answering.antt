@@ -84,7 +84,7 @@ part_by fault.StoreRefused old new bytes G w none some = absurd w
 part_by fault.NotOurs old new bytes G w none some = absurd w
 part_by fault.BadVersion old new bytes G w none some = absurd w
 part_by (fault.Damaged d) old new bytes G w none some = absurd w
-part_by fault.Unknown old new bytes G w none some = absurd w
+part_by (fault.Unknown _) old new bytes G w none some = absurd w
 part_by fault.Halted old new bytes G w none some = absurd w
 part_by fault.NoFile old new bytes G w none some = absurd w
 part_by fault.InputFailed old new bytes G w none some = absurd w
@@ -101,7 +101,7 @@ some_by fault.StoreRefused old new answers G w front some = absurd w
 some_by fault.NotOurs old new answers G w front some = absurd w
 some_by fault.BadVersion old new answers G w front some = absurd w
 some_by (fault.Damaged d) old new answers G w front some = absurd w
-some_by fault.Unknown old new answers G w front some = absurd w
+some_by (fault.Unknown _) old new answers G w front some = absurd w
 some_by fault.Halted old new answers G w front some = absurd w
 some_by fault.NoFile old new answers G w front some = absurd w
 some_by fault.InputFailed old new answers G w front some = absurd w
@@ -153,7 +153,7 @@ module _ (u : Rules) (given_up : Book → List Command → Code → Type 0) wher
 
   -- its commands have no answer
   pub none_replied : (stops : Book → List Command → Stop → Type 0) (b b1 : Book) (lines : List (List ℕ)) (out : Option (List ℕ)) (s : Stop) → stops b (commands_in lines) s → StopsAtPart u given_up stops (fault_of_stop s) b b1 lines out out
-  none_replied stops b b1 lines out stop.Unknown is = (is, keeps_self out)
+  none_replied stops b b1 lines out (stop.Unknown _) is = (is, keeps_self out)
   none_replied stops b b1 lines out stop.Halted is = (is, keeps_self out)
 
   module _ (cut : List (List ℕ) → List (List ℕ) → Type 0) where

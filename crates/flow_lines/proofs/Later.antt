@@ -64,7 +64,7 @@ module _ (one two : Book → List Command → Code → Type 0) (on : Gives one t
       at_too fault.NotOurs b b1 lines old new h = h
       at_too fault.BadVersion b b1 lines old new h = h
       at_too (fault.Damaged d) b b1 lines old new h = h
-      at_too fault.Unknown b b1 lines old new h = (gives b (commands_in lines) stop.Unknown h.0, h.1)
+      at_too (fault.Unknown _) b b1 lines old new h = (gives b (commands_in lines) (stop.Unknown _) h.0, h.1)
       at_too fault.Halted b b1 lines old new h = (gives b (commands_in lines) stop.Halted h.0, h.1)
       at_too fault.NoFile b b1 lines old new h = h
       at_too fault.InputFailed b b1 lines old new h = h

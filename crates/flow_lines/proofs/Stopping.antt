@@ -15,12 +15,12 @@ use Rattle.flow_base.specs.declared.fault.Fault.{Fault}
 use Rattle.flow_base.specs.declared.fault.Fault.TheVariants as fault
 
 pub stop_status : (s : Stop) → fault_status (fault_of_stop s) ≡ 3
-stop_status stop.Unknown = refl
+stop_status (stop.Unknown _) = refl
 stop_status stop.Halted = refl
 
 -- the fault of a stop has the stop's cause
 pub stop_caused : (s : Stop) (X : Stop → Type 0) → X s → CausedFault (fault_of_stop s) X
-stop_caused stop.Unknown X h = h
+stop_caused (stop.Unknown _) X h = h
 stop_caused stop.Halted X h = h
 
 -- An early end has every cause that follows from its cause.
@@ -32,7 +32,7 @@ fault_by fault.StoreRefused X Y g c = absurd c
 fault_by fault.NotOurs X Y g c = absurd c
 fault_by fault.BadVersion X Y g c = absurd c
 fault_by (fault.Damaged d) X Y g c = absurd c
-fault_by fault.Unknown X Y g c = g stop.Unknown c
+fault_by (fault.Unknown _) X Y g c = g (stop.Unknown _) c
 fault_by fault.Halted X Y g c = g stop.Halted c
 fault_by fault.NoFile X Y g c = absurd c
 fault_by fault.InputFailed X Y g c = tt

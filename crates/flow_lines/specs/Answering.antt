@@ -237,7 +237,7 @@ StopsBetween f = (f ≡ fault.NoMemory _) ⊎ (f ≡ fault.InputFailed)
 abbrev pub StopsAtPart : Rules → (Book → List Command → Code → Type 0) → (Book → List Command → Stop → Type 0) → Fault → Book → Book → List (List ℕ) → Option (List ℕ) → Option (List ℕ) → Type 0
 StopsAtPart u given_up stops (fault.NoMemory _) b b1 lines old new = TellsPart u given_up b b1 lines (λ answers. WritesFront old new answers)
 StopsAtPart u given_up stops fault.OutputFailed b b1 lines old new = TellsPart u given_up b b1 lines (λ answers. WritesBeginning old new (written answers))
-StopsAtPart u given_up stops fault.Unknown b b1 lines old new = stops b (commands_in lines) stop.Unknown × Keeps old new
+StopsAtPart u given_up stops (fault.Unknown _) b b1 lines old new = stops b (commands_in lines) (stop.Unknown _) × Keeps old new
 StopsAtPart u given_up stops fault.Halted b b1 lines old new = stops b (commands_in lines) stop.Halted × Keeps old new
 StopsAtPart u given_up stops f b b1 lines old new = ⊥
 

@@ -16,7 +16,7 @@ use Rattle.flow_lines.specs.declared.command.LineFault.{LineFault}
 use Rattle.flow_lines.specs.declared.command.LineFault.TheVariants as line_fault
 
 abbrev pub fault_of_stop : Stop → Fault
-fault_of_stop stop.Unknown = fault.Unknown
+fault_of_stop (stop.Unknown _) = fault.Unknown _
 fault_of_stop stop.Halted = fault.Halted
 
 -- a table, a run, a place in it, and the code of an event that doesn't read

@@ -14,7 +14,7 @@ use Rattle.flow_base.specs.declared.fault.Fault.TheVariants as fault
 -- E84 and E85 have their stop's cause. No other fault is met but E01, and E94 and E95, whose ends say themselves that they failed.
 abbrev pub CausedFault : Fault → (Stop → Type 0) → Type 0
 CausedFault (fault.NoMemory _) cause = Unit {0}
-CausedFault fault.Unknown cause = cause stop.Unknown
+CausedFault (fault.Unknown _) cause = cause (stop.Unknown _)
 CausedFault fault.Halted cause = cause stop.Halted
 CausedFault fault.InputFailed cause = Unit {0}
 CausedFault fault.OutputFailed cause = Unit {0}

@@ -69,7 +69,7 @@ pub fn status(fault: &Fault) -> u8
         | Fault::NotOurs
         | Fault::BadVersion
         | Fault::Damaged(_)
-        | Fault::Unknown
+        | Fault::Unknown(_)
         | Fault::Halted
         | Fault::InputFailed
         | Fault::OutputFailed => 3,
@@ -81,7 +81,7 @@ pub fn fault_of_stop(stop: Stop) -> Fault
     ensures { result ≡ words.fault_of_stop stop }
 {
     match stop {
-        Stop::Unknown => Fault::Unknown,
+        Stop::Unknown(unended) => Fault::Unknown(unended),
         Stop::Halted => Fault::Halted,
     }
 }

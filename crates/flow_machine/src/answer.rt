@@ -9,6 +9,7 @@ ghost use Rattle.flow_machine.specs.declared.answer.Stop.{Stop};
 
 use flow_base::code::Code;
 use flow_base::command::{Command, Reply};
+use flow_base::unended::Unended;
 
 /// How a command was answered.
 #[derive(Debug, Drop)]
@@ -32,7 +33,7 @@ pub enum Together {
 #[derive(Clone, Copy, Debug, PartialEq, Eq)]
 pub enum Stop {
     /// E84: nobody knows whether it is kept.
-    Unknown,
+    Unknown(Unended),
     /// E85: an earlier command was stopped so.
     Halted,
 }

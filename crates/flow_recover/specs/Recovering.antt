@@ -103,7 +103,7 @@ IsOfRecovery fault.StoreRefused = Unit {0}
 IsOfRecovery fault.NotOurs = Unit {0}
 IsOfRecovery fault.BadVersion = Unit {0}
 IsOfRecovery (fault.Damaged d) = Unit {0}
-IsOfRecovery fault.Unknown = Unit {0}
+IsOfRecovery (fault.Unknown _) = Unit {0}
 IsOfRecovery f = ⊥
 
 -- What is told once the tables were opened: E01 and E68.
@@ -163,7 +163,7 @@ pub record IsNotMoved {S : Type 0} (g : Ghosts S) (from conn back : Held S) (f :
   pub clean : HasCleanDisk (state g back) → HasCleanDisk (state g conn)
   pub since : Since (state g from) (state g back)
   pub among : IsOfRecovery f
-  pub moving : HasCleanDisk (state g back) → f ≡ fault.Unknown → HasFirstFormat g (state g from)
+  pub moving : HasCleanDisk (state g back) → f ≡ fault.Unknown _ → HasFirstFormat g (state g from)
   pub damaged : HasCleanDisk (state g back) → HasPast (state g from).committed → IsFirstDamage is_program (past_tables (state g from).committed.trees) f
   pub cause : HasCleanDisk (state g back) → HasCause g f
   pub own : HasCleanDisk (state g back) → HoldsSoundBefore (state g from) → IsOfStore f

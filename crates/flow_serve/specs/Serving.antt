@@ -59,12 +59,12 @@ pub record EndsUnserved {S : Type 0} (old new : Keeping S) (was now : List Refus
 -- how one batch stops the engine: nobody knows of it, and E84 has answered it, or the engine had halted before
 abbrev pub StopsAt : {S : Type 0} → Keeping S → Keeping S → List Refused → List Refused → List Taken → Fault → Type 0
 StopsAt old new was now hand f =
-    ((f ≡ fault.Unknown) × (old.halted ≡ false) × (new.halted ≡ true) × (now ≡ was ++ map (refused_by code.Unknown) hand))
+    ((f ≡ fault.Unknown _) × (old.halted ≡ false) × (new.halted ≡ true) × (now ≡ was ++ map (refused_by code.Unknown) hand))
     ⊎ ((f ≡ fault.Halted) × EndsHalted old new was now hand)
 
 -- a batch has halted the engine, with this fault, and these were behind it
 abbrev pub StopsFor : {S : Type 0} → Keeping S → Keeping S → List Refused → List Refused → List Taken → Fault → Type 0
-StopsFor old new was now waiting f = ((f ≡ fault.Unknown) × EndsInDoubt old new was now waiting) ⊎ ((f ≡ fault.Halted) × EndsHalted old new was now waiting)
+StopsFor old new was now waiting f = ((f ≡ fault.Unknown _) × EndsInDoubt old new was now waiting) ⊎ ((f ≡ fault.Halted) × EndsHalted old new was now waiting)
 
 -- why an engine serves no more, and what has answered the submissions
 abbrev pub EndsFor : {S : Type 0} → Keeping S → Keeping S → List Refused → List Refused → List Taken → Fault → Type 0
@@ -76,7 +76,7 @@ EndsFor old new was now waiting f = StopsFor old new was now waiting f ⊎ ((f �
 abbrev pub codes_in : List Taken → Done → List Refused
 codes_in batch (done.Kept receipts) = []
 codes_in batch (done.NotApplied f) = map (refused_by (view_fault_code f)) batch
-codes_in batch done.Unknown = map (refused_by code.Unknown) batch
+codes_in batch (done.Unknown _) = map (refused_by code.Unknown) batch
 codes_in batch done.Halted = map (refused_by code.Halted) batch
 
 -- and many

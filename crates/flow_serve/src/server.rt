@@ -67,9 +67,9 @@ fn commit_taken<S: Alter, B: Room, R: Wait>(
             publisher.refuse(rt, back.into_taken(), fault.code());
             Ok(())
         }
-        Outcome::Unknown(back, _fault) => {
-            publisher.refuse(rt, back.into_taken(), Code::Unknown);
-            Err(Fault::Unknown)
+        Outcome::Unknown(back, _fault, unended) => {
+            publisher.refuse(rt, back.into_taken(), unended.code());
+            Err(Fault::Unknown(unended))
         }
         Outcome::Halted(back) => {
             publisher.refuse(rt, back.into_taken(), Code::Halted);

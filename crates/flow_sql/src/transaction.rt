@@ -5,6 +5,7 @@ ghost use Rattle.sqlite.specs.State.{CommitsBy};
 ghost use Rattle.flow_sql.specs.Names.{state, Executes, HasCleanDisk, Survives, IfErr, IsTrue, MatchResult, codes, false, true, ℕ, Err, Ok, []};
 ghost use Rattle.flow_sql.specs.States.{HasBegun, HasCommitted, HasEnded, Holds, IsOver, IsRefused, IsStill, IsUndone, RunsTo, HasGoneBack};
 
+use flow_base::unended::Unended;
 use sqlite::{Alter, Connection, Error};
 
 /// Runs a statement that shows no rows.
@@ -73,4 +74,45 @@ pub fn undo<S: Alter>(conn: &mut Connection<S>) -> Result<(), Error>
         return Ok(());
     }
     rollback(conn)
+}
+
+/// Why a transaction wasn't ended: its COMMIT or its ROLLBACK was refused with this.
+#[derive(Debug, Drop)]
+pub struct Cut {
+    pub error: Error,
+    pub unended: Unended,
+}
+
+/// Commits. Behind a refusal nobody knows what is kept.
+pub fn conclude<S: Alter>(conn: &mut Connection<S>) -> Result<(), Cut>
+    ensures effect { HasCleanDisk (state S.Store conn.new)
+        → MatchResult result (λ _. HasCommitted (state S.Store conn.old) (state S.Store conn.new)) (λ c. Executes (codes "COMMIT") [] (state S.Store conn.old) (state S.Store conn.new) (Err c.error)) }
+    ensures ended { HasCleanDisk (state S.Store conn.new) → IsTrue (state S.Store conn.old).in_transaction
+        → IfErr result (λ _. HasEnded (state S.Store conn.old) (state S.Store conn.new)) }
+    ensures survives { Survives (state S.Store conn.old) (state S.Store conn.new) (λ db. db ≡ (state S.Store conn.old).now.trees) }
+{
+    match commit(conn) {
+        Ok(()) => Ok(()),
+        Err(error) => Err(Cut {
+            error,
+            unended: Unended::told(),
+        }),
+    }
+}
+
+/// Ends the transaction if one runs. Behind a refusal nobody knows what is kept.
+pub fn retract<S: Alter>(conn: &mut Connection<S>) -> Result<(), Cut>
+    ensures ended { HasCleanDisk (state S.Store conn.new) → HasEnded (state S.Store conn.old) (state S.Store conn.new) }
+    ensures cause { HasCleanDisk (state S.Store conn.new) → IfErr result (λ c. Executes (codes "ROLLBACK") [] (state S.Store conn.old) (state S.Store conn.new) (Err c.error)) }
+    ensures inside { IfErr result (λ _. (state S.Store conn.old).in_transaction ≡ true) }
+    ensures done { HasCleanDisk (state S.Store conn.new) → OnOk result (HasGoneBack S.Store conn.old conn.new) }
+    ensures survives { Survives (state S.Store conn.old) (state S.Store conn.new) (λ _. ⊥) }
+{
+    match undo(conn) {
+        Ok(()) => Ok(()),
+        Err(error) => Err(Cut {
+            error,
+            unended: Unended::told(),
+        }),
+    }
 }

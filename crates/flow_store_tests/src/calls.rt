@@ -5,7 +5,6 @@ use flow_base::number::{EventId, Moment, RunId, TextNo};
 use flow_base::sequence::Sequence;
 use flow_base::text::{Key, RawText};
 use flow_base::value::Value;
-use flow_machine::answer::Stop;
 use flow_machine::submission::Receipt;
 use std::alloc::Global;
 
@@ -65,7 +64,8 @@ pub enum Told {
     /// By an engine that was given it alone, or in a list: what its reply names, the code where it is given up, the stop.
     Replied(Named),
     NotApplied(u8),
-    Stopped(Stop),
+    /// With E84 or E85.
+    Stopped(u8),
 }
 
 /// What is to be told of calls.

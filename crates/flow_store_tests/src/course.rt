@@ -173,7 +173,7 @@ fn end_of(answer: &Result<Together, Stop>) -> Ended {
         Ok(Together::Replied(_replies)) => Ended::Kept,
         Ok(Together::NotApplied(Code::StoreRefused)) => Ended::GivenUp,
         Ok(Together::NotApplied(_code)) => Ended::Other,
-        Err(Stop::Unknown) => Ended::Unknown,
+        Err(Stop::Unknown(_)) => Ended::Unknown,
         Err(Stop::Halted) => Ended::Halted,
     }
 }

@@ -40,10 +40,18 @@ fn told_of(answer: &Answer) -> Told {
     }
 }
 
+/// E84 or E85.
+fn number_of(stop: &Stop) -> u8 {
+    match stop {
+        Stop::Unknown(unended) => unended.code().number(),
+        Stop::Halted => 85,
+    }
+}
+
 fn told_by(answer: &Result<Answer, Stop>) -> Told {
     match answer {
         Ok(answer) => told_of(answer),
-        Err(stop) => Told::Stopped(*stop),
+        Err(stop) => Told::Stopped(number_of(stop)),
     }
 }
 
@@ -91,7 +99,7 @@ fn answer_list<S: Alter>(
     match engine.answer_all(commands) {
         Ok(answers) => tell_all(list, answers.as_slice()),
         Err(Unanswered::Stopped(answers, stop)) => {
-            tell_all(list, answers.as_slice()) && list.push(Told::Stopped(stop)).is_ok()
+            tell_all(list, answers.as_slice()) && list.push(Told::Stopped(number_of(&stop))).is_ok()
         }
         Err(Unanswered::NoMemory(_)) => false,
     }
@@ -124,7 +132,7 @@ fn add_done(list: &mut Vec<Told>, done: &Done, is_halted: bool) -> bool {
     match done {
         Done::Kept(receipts) => add_receipts(list, receipts.as_slice(), is_halted),
         Done::NotApplied(fault) => list.push(Told::Refused(code_of(fault), is_halted)).is_ok(),
-        Done::Unknown => list.push(Told::Refused(84, is_halted)).is_ok(),
+        Done::Unknown(_) => list.push(Told::Refused(84, is_halted)).is_ok(),
         Done::Halted => list.push(Told::Refused(85, is_halted)).is_ok(),
     }
 }

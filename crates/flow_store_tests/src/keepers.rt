@@ -110,7 +110,7 @@ fn ended(outcome: Outcome) -> Result<Vec<Receipt>, u8> {
             Ok(receipts)
         }
         Outcome::NotApplied(_batch, fault) => Err(code_of(&fault)),
-        Outcome::Unknown(_batch, fault) => Err(code_of_end(&fault)),
+        Outcome::Unknown(_batch, fault, _unended) => Err(code_of_end(&fault)),
         Outcome::Halted(_batch) => Err(85),
     }
 }

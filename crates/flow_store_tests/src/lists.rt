@@ -2,7 +2,6 @@
 use crate::acts::{Act, are_so, are_so_failing};
 use crate::calls::{Call, Named, Told, Want};
 use crate::engines::Asking;
-use flow_machine::answer::Stop;
 use std::test::Fail;
 
 // examples/payment.jsonl
@@ -34,9 +33,9 @@ fn a_list_is_answered_as_one_by_one(rt: HostRuntime) -> Result<(), Fail> {
 
 const STOPPED: &[Act] = &[Act::Asks(Asking::AnswersAll(
     &[Call::Register, Call::Start("f"), Call::Complete(1)],
-    Want::Told(&[Told::Replied(Named::Text(1)), Told::Stopped(Stop::Unknown)]),
+    Want::Told(&[Told::Replied(Named::Text(1)), Told::Stopped(84)]),
     &[Call::Complete(1)],
-    Want::Told(&[Told::Stopped(Stop::Halted)]),
+    Want::Told(&[Told::Stopped(85)]),
 ))];
 
 // The commit of the second command fails. What was answered before it isn't lost, and nothing more is answered.

@@ -4,7 +4,6 @@ use crate::calls::{Call, Named, Told, Want};
 use crate::engines::Asking;
 use flow_base::fault::Fault;
 use flow_engine::engine::Engine;
-use flow_machine::answer::Stop;
 use flow_machine::verify::Totals;
 use sqlite::Alter;
 use std::test::Fail;
@@ -103,8 +102,8 @@ const HALTED: &[Act] = &[Act::Asks(Asking::Verifies(
     &[Call::Register, Call::Start("f"), Call::Complete(1)],
     Want::Told(&[
         Told::Replied(Named::Text(1)),
-        Told::Stopped(Stop::Unknown),
-        Told::Stopped(Stop::Halted),
+        Told::Stopped(84),
+        Told::Stopped(85),
     ]),
     Verdict::Refused(85),
 ))];

@@ -78,7 +78,7 @@ IsOfTables _ = ⊥
 
 -- Of a store of the first format too, which is moved when it is opened: E01, E80, E81, or E84.
 abbrev pub IsOfStore : Fault → Type 0
-IsOfStore Unknown = ⊤
+IsOfStore (Unknown _) = ⊤
 IsOfStore f = IsOfTables f
 
 -- It is the first damage of these rows.
@@ -135,7 +135,7 @@ StopsTables g first new _ = ⊤
 
 -- The same of any file of ours: behind E84 stands that the first format was read.
 abbrev pub StopsOpening : {S : Type 0} → Ghosts S → State → State → Fault → Type 0
-StopsOpening g first new f = (IsCurrent first → StopsTables g first new f) × (f ≡ Unknown → HasFirstFormat g first)
+StopsOpening g first new f = (IsCurrent first → StopsTables g first new f) × (f ≡ Unknown _ → HasFirstFormat g first)
 
 ---- What is opened
 

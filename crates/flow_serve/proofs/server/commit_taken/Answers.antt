@@ -92,7 +92,7 @@ returns-in-Unknown-clause-answered g c =
     let noted = c.in-Unknown.ensures.noted in
     let same = c.into_taken-in-Unknown.ensures.same ∙ noted.3 in
     record {
-      ended = dones.Unknown;
+      ended = dones.Unknown _;
       fit = c.commit.ensures.fit;
       does = λ fit b keeps. (let h = c.in-Unknown.ensures.commits fit b keeps in (h.0, h.2));
       halted = c.commit.ensures.halted;
