@@ -1,8 +1,11 @@
 //! The threads that a running engine starts. Each owns all that it has.
-ghost use Rattle.std.specs.Prelude.{◌≡◌, IfErr, IfOk};
+ghost use Rattle.std.specs.Prelude.{◌≡◌, IfErr, IfOk, is_some};
+ghost use Rattle.flow_pool.specs.Ends.{known_by, taken_by};
+ghost use Rattle.flow_pool.specs.Reports.{MayCome, is_left};
 ghost use Rattle.flow_lines.specs.Commands.{line_command};
 ghost use Rattle.flow_hub.specs.Knowing.{nothing};
 ghost use Rattle.flow_work.specs.Counting.{Owes};
+ghost use Rattle.flow_work.specs.Working.{HasFired, HasHanded, HasWorked};
 
 use crate::clerk::{Answered, run_clerk};
 use crate::desk::Desk;
@@ -27,8 +30,68 @@ use std::alloc::{AllocError, Global};
 use std::io::{BufRead, Write};
 use std::snapshot::Snapshot;
 use std::sync::{Arc, Wait};
-use std::thread::{JoinHandle, Promise, PromisedHandle, Threads};
+use std::thread::{Promise, PromisedHandle, Threads};
 use std::{thread, time};
+
+/// What a worker had at its end, for contracts alone.
+#[derive(Drop)]
+pub(crate) struct Worked<B: Room> {
+    pub(crate) receiver: Snapshot<TaskReceiver>,
+    pub(crate) reports: Snapshot<Reporter<B>>,
+}
+
+/// What a worker began with. Behind its end it has made an attempt of each task that it took, and has reported it.
+#[derive(Drop)]
+pub(crate) struct OwedWork<B: Room, A, C, P: Write> {
+    pub(crate) activities: Snapshot<Vec<A>>,
+    pub(crate) receiver: Snapshot<TaskReceiver>,
+    pub(crate) reports: Snapshot<Reporter<B>>,
+    pub(crate) unknown: Snapshot<Stranger<P>>,
+    pub(crate) clock: Snapshot<C>,
+}
+
+impl<B: Room, A: Activity, C: Clock, P: Write> Promise<Worked<B>> for OwedWork<B, A, C, P> {
+    ghost use Rattle.std.specs.Prelude.{is_some};
+    ghost use Rattle.flow_pool.specs.Ends.{known_by, taken_by};
+    ghost use Rattle.flow_pool.specs.Reports.{MayCome, is_left};
+    ghost use Rattle.flow_work.specs.Working.{HasWorked};
+
+    ghost kept_by = { λ p r. HasWorked (C.tells p.clock.value) (MayCome A.named A.gives p.activities.value.items) (is_left (is_some p.unknown.value.names) A.named p.activities.value.items) (taken_by p.receiver.value) (known_by r.receiver.value) p.reports.value.told r.reports.value.told };
+}
+
+/// A thread that makes attempts.
+pub(crate) type Working<B, A, C, P> = PromisedHandle<Worked<B>, OwedWork<B, A, C, P>>;
+
+/// What the thread began with that hands out tasks. Behind its end it has handed out what it was given.
+#[derive(Drop)]
+pub(crate) struct OwedTasks<B: Room> {
+    pub(crate) tasks: Snapshot<Tasks<B>>,
+}
+
+impl<B: Room> Promise<Tasks<B>> for OwedTasks<B> {
+    ghost use Rattle.flow_work.specs.Working.{HasHanded};
+
+    ghost kept_by = { λ p r. HasHanded p.tasks.value.feed r.feed };
+}
+
+/// A thread that hands out tasks.
+pub(crate) type Dispatching<B> = PromisedHandle<Tasks<B>, OwedTasks<B>>;
+
+/// What the thread began with that fires what is due. Behind its end it has told ticks.
+#[derive(Drop)]
+pub(crate) struct OwedTicks<B: Room, C> {
+    pub(crate) reports: Snapshot<Reporter<B>>,
+    pub(crate) clock: Snapshot<C>,
+}
+
+impl<B: Room, C: Clock> Promise<Snapshot<Reporter<B>>> for OwedTicks<B, C> {
+    ghost use Rattle.flow_work.specs.Working.{HasFired};
+
+    ghost kept_by = { λ p r. HasFired (C.tells p.clock.value) r.value.submitter.was p.reports.value.told r.value.told };
+}
+
+/// A thread that fires what is due.
+pub(crate) type Timing<B, C> = PromisedHandle<Snapshot<Reporter<B>>, OwedTicks<B, C>>;
 
 /// Makes attempts until no task comes any more, or nothing is answered.
 fn run_worker<B: Room, R: Wait, A: Activity + Drop, C: Clock, P: Write + Drop>(
@@ -40,9 +103,20 @@ fn run_worker<B: Room, R: Wait, A: Activity + Drop, C: Clock, P: Write + Drop>(
     unknown: Stranger<P>,
     clock: &C,
     group: WaitGroup,
-) {
-    drop(worker(rt, alloc, activities, receiver, reports, unknown, clock));
+) -> Worked<B>
+    ensures { HasWorked (C.tells clock.now) (MayCome A.named A.gives activities.items)
+        (is_left (is_some unknown.names) A.named activities.items) (taken_by receiver) (known_by result.receiver.value) reports.told
+        result.reports.value.told }
+{
+    let (end, told) = worker(rt, alloc, activities, receiver, reports, unknown, clock);
+    let worked = Worked {
+        receiver: Snapshot::of(&end),
+        reports: Snapshot::of(&told),
+    };
+    drop(end);
+    drop(told);
     drop(group);
+    worked
 }
 
 /// Hands tasks to the workers until none is posted any more. The workers end when its end of the channel is gone. Where the tasks came
@@ -52,11 +126,13 @@ fn run_dispatcher<B: Room, R: Wait>(
     tasks: Tasks<B>,
     sender: TaskSender,
     group: WaitGroup,
-) -> Tasks<B> {
-    let (sender, tasks) = dispatcher(rt, tasks, sender);
-    drop(sender);
+) -> Tasks<B>
+    ensures { HasHanded tasks.feed result.feed }
+{
+    let (end, posted) = dispatcher(rt, tasks, sender);
+    drop(end);
     drop(group);
-    tasks
+    posted
 }
 
 fn run_timer<B: Room, R: Wait + time::Clock, C: Clock>(
@@ -64,9 +140,14 @@ fn run_timer<B: Room, R: Wait + time::Clock, C: Clock>(
     reports: Reporter<B>,
     clock: &C,
     group: WaitGroup,
-) {
-    drop(fire_timers(rt, reports, clock));
+) -> Snapshot<Reporter<B>>
+    ensures { HasFired (C.tells clock.now) result.value.submitter.was reports.told result.value.told }
+{
+    let told = fire_timers(rt, reports, clock);
+    let fired = Snapshot::of(&told);
+    drop(told);
     drop(group);
+    fired
 }
 
 /// Reads until the input has ended, or nobody takes it any more.
@@ -127,23 +208,33 @@ pub(crate) fn start_worker<B, R, A, C, P>(
     unknown: Stranger<P>,
     clock: C,
     group: WaitGroup,
-) -> Result<(), Fault>
+) -> Result<Working<B, A, C, P>, Fault>
 where
     B: Room + Send + Sync + 'static,
     R: Threads + Wait + Copy + Send + Drop + 'static,
     A: Activity + Drop + Send + 'static,
     C: Clock + Copy + Send + Drop + 'static,
     P: Write + Drop + Send + 'static,
-    ensures { IfErr result (λ f. f ≡ Fault.NoMemory _) }
+    ensures owed { IfOk result (λ h. (h.promise.activities.value ≡ activities) × (h.promise.receiver.value ≡ receiver)
+        × (h.promise.reports.value ≡ reports) × (h.promise.clock.value ≡ clock)) }
+    ensures refused { IfErr result (λ f. f ≡ Fault.NoMemory _) }
 {
     let its = *rt;
-    match thread::spawn(
+    let owed = OwedWork {
+        activities: Snapshot::of(&activities),
+        receiver: Snapshot::of(&receiver),
+        reports: Snapshot::of(&reports),
+        unknown: Snapshot::of(&unknown),
+        clock: Snapshot::of(&clock),
+    };
+    match thread::spawn_with(
         rt,
+        owed,
         move || run_worker(
             &its, alloc, activities, receiver, reports, unknown, &clock, group,
         ),
     ) {
-        Ok(_thread) => Ok(()),
+        Ok(thread) => Ok(thread),
         Err(refused) => Err(Fault::from(AllocError::from(refused))),
     }
 }
@@ -154,14 +245,18 @@ pub(crate) fn start_dispatcher<B, R>(
     tasks: Tasks<B>,
     sender: TaskSender,
     group: WaitGroup,
-) -> Result<JoinHandle<Tasks<B>>, Fault>
+) -> Result<Dispatching<B>, Fault>
 where
     B: Room + Send + Sync + 'static,
     R: Threads + Wait + Copy + Send + Drop + 'static,
-    ensures { IfErr result (λ f. f ≡ Fault.NoMemory _) }
+    ensures owed { IfOk result (λ h. h.promise.tasks.value ≡ tasks) }
+    ensures refused { IfErr result (λ f. f ≡ Fault.NoMemory _) }
 {
     let its = *rt;
-    match thread::spawn(rt, move || run_dispatcher(&its, tasks, sender, group)) {
+    let owed = OwedTasks {
+        tasks: Snapshot::of(&tasks),
+    };
+    match thread::spawn_with(rt, owed, move || run_dispatcher(&its, tasks, sender, group)) {
         Ok(thread) => Ok(thread),
         Err(refused) => Err(Fault::from(AllocError::from(refused))),
     }
@@ -173,16 +268,21 @@ pub(crate) fn start_timer<B, R, C>(
     reports: Reporter<B>,
     clock: C,
     group: WaitGroup,
-) -> Result<(), Fault>
+) -> Result<Timing<B, C>, Fault>
 where
     B: Room + Send + Sync + 'static,
     R: Threads + Wait + time::Clock + Copy + Send + Drop + 'static,
     C: Clock + Copy + Send + Drop + 'static,
-    ensures { IfErr result (λ f. f ≡ Fault.NoMemory _) }
+    ensures owed { IfOk result (λ h. (h.promise.reports.value ≡ reports) × (h.promise.clock.value ≡ clock)) }
+    ensures refused { IfErr result (λ f. f ≡ Fault.NoMemory _) }
 {
     let its = *rt;
-    match thread::spawn(rt, move || run_timer(&its, reports, &clock, group)) {
-        Ok(_thread) => Ok(()),
+    let owed = OwedTicks {
+        reports: Snapshot::of(&reports),
+        clock: Snapshot::of(&clock),
+    };
+    match thread::spawn_with(rt, owed, move || run_timer(&its, reports, &clock, group)) {
+        Ok(thread) => Ok(thread),
         Err(refused) => Err(Fault::from(AllocError::from(refused))),
     }
 }

@@ -10,7 +10,8 @@ ghost use Rattle.flow_work.specs.Serving.{PrintsReplies, ServedBy};
 
 use crate::clerk::Answered;
 use crate::crew::{
-    Answerer, OwedReplies, start_desk, start_dispatcher, start_reader, start_timer, start_worker,
+    Answerer, Dispatching, OwedReplies, Timing, Working, start_desk, start_dispatcher,
+    start_reader, start_timer, start_worker,
 };
 use crate::desk::Desk;
 use crate::ended::Ended;
@@ -44,7 +45,7 @@ use std::alloc::{AllocError, Global};
 use std::io::{BufRead, Write};
 use std::marker::Brand;
 use std::sync::{Arc, Wait};
-use std::thread::{JoinHandle, PromisedHandle, Threads};
+use std::thread::{PromisedHandle, Threads};
 use std::time;
 
 /// How many tasks may wait for a worker.
@@ -115,7 +116,7 @@ fn start_one<B, R, A, K, C, P>(
     tally: &Tally,
     strangers: &Strangers<P>,
     group: &WaitGroup,
-) -> Result<(), Fault>
+) -> Result<Working<B, A, C, P>, Fault>
 where
     B: Room + Send + Sync + 'static,
     R: Threads + Wait + Copy + Send + Drop + 'static,
@@ -123,7 +124,8 @@ where
     K: Skills<A>,
     C: Clock + Copy + Send + Drop + 'static,
     P: Write + Drop + Send + 'static,
-    ensures { IfErr result (λ f. f ≡ Fault.NoMemory _) }
+    ensures owed { IfOk result (λ h. K.has skills.now h.promise.activities.value.items × (h.promise.clock.value ≡ clock)) }
+    ensures refused { IfErr result (λ f. f ≡ Fault.NoMemory _) }
 {
     let group = group.clone()?;
     let own = tally.share()?;
@@ -147,7 +149,7 @@ fn start_workers<B, R, A, K, C, P>(
     tally: &Tally,
     strangers: &Strangers<P>,
     group: &WaitGroup,
-) -> Result<(), Fault>
+) -> Result<Vec<Working<B, A, C, P>>, Fault>
 where
     B: Room + Send + Sync + 'static,
     R: Threads + Wait + Copy + Send + Drop + 'static,
@@ -155,14 +157,17 @@ where
     K: Skills<A>,
     C: Clock + Copy + Send + Drop + 'static,
     P: Write + Drop + Send + 'static,
-    ensures { IfErr result (λ f. f ≡ Fault.NoMemory _) }
+    ensures count { IfOk result (λ w. length w.items ≡ length receivers.items) }
+    ensures refused { IfErr result (λ f. f ≡ Fault.NoMemory _) }
 {
-    for receiver in receivers {
-        start_one(
+    let mut workers = Vec::with_capacity(alloc, receivers.len())?;
+    'starts: for receiver in receivers {
+        let worker = start_one(
             rt, alloc, hub, receiver, skills, clock, tally, strangers, group,
         )?;
+        workers.push_reserved(worker);
     }
-    Ok(())
+    Ok(workers)
 }
 
 /// Starts those who make attempts of the tasks that are posted, and who hands the tasks to them and gives back where they came from.
@@ -176,7 +181,7 @@ fn start_pool<B, R, A, K, C, P>(
     tally: &Tally,
     strangers: &Strangers<P>,
     group: &WaitGroup,
-) -> Result<JoinHandle<Tasks<B>>, Fault>
+) -> Result<(Dispatching<B>, Vec<Working<B, A, C, P>>), Fault>
 where
     B: Room + Send + Sync + 'static,
     R: Threads + Wait + Copy + Send + Drop + 'static,
@@ -184,16 +189,26 @@ where
     K: Skills<A>,
     C: Clock + Copy + Send + Drop + 'static,
     P: Write + Drop + Send + 'static,
-    ensures { IfErr result (λ f. f ≡ Fault.NoMemory _) }
+    ensures workers { IfOk result (λ r. length r.1.items ≡ workers) }
+    ensures refused { IfErr result (λ f. f ≡ Fault.NoMemory _) }
 {
     let (sender, receivers) = open_channel(alloc, workers)?;
-    start_workers(
+    let its_group = group.clone()?;
+    let its_tally = tally.share()?;
+    let feed = feed_of(rt, hub)?;
+    let dispatching = start_dispatcher(rt, Tasks::new(feed, its_tally), sender, its_group)?;
+    let working = start_workers(
         rt, alloc, hub, receivers, skills, clock, tally, strangers, group,
     )?;
-    let group = group.clone()?;
-    let tally = tally.share()?;
-    let feed = feed_of(rt, hub)?;
-    start_dispatcher(rt, Tasks::new(feed, tally), sender, group)
+    Ok((dispatching, working))
+}
+
+/// The threads that make attempts, that hand out tasks, and that fire what is due.
+#[derive(Drop)]
+struct Crew<B: Room, A: Activity, C: Clock, P: Write> {
+    timing: Timing<B, C>,
+    dispatching: Dispatching<B>,
+    workers: Vec<Working<B, A, C, P>>,
 }
 
 /// What those who read and answer lines have beside where the lines come from and where the replies go.
@@ -239,8 +254,8 @@ type Answering<B, W, C> = PromisedHandle<Answered<B, W>, OwedReplies<B, W, C>>;
 /// The same, and the end by which it is told that no line is answered any more.
 type Telling<B, W, C> = (Answering<B, W, C>, Sender<Input>);
 
-/// The same, and who hands out tasks.
-type Started<B, W, C> = (Answering<B, W, C>, Sender<Input>, JoinHandle<Tasks<B>>);
+/// The same, and the others.
+type Started<B, A, W, C, P> = (Answering<B, W, C>, Sender<Input>, Crew<B, A, C, P>);
 
 /// Starts who reads lines and who answers them.
 fn start_lines<B, R, I, W, C, P>(
@@ -290,12 +305,13 @@ pub(crate) fn start_timing<B, R, C>(
     hub: &Hub<B>,
     clock: C,
     group: &WaitGroup,
-) -> Result<(), Fault>
+) -> Result<Timing<B, C>, Fault>
 where
     B: Room + Send + Sync + 'static,
     R: Threads + Wait + time::Clock + Copy + Send + Drop + 'static,
     C: Clock + Copy + Send + Drop + 'static,
-    ensures { IfErr result (λ f. f ≡ Fault.NoMemory _) }
+    ensures owed { IfOk result (λ h. h.promise.clock.value ≡ clock) }
+    ensures refused { IfErr result (λ f. f ≡ Fault.NoMemory _) }
 {
     let group = group.clone()?;
     let reports = reporter(rt, hub, None)?;
@@ -312,7 +328,7 @@ fn start_others<B, R, A, K, C, P>(
     clock: C,
     strangers: &Strangers<P>,
     group: &WaitGroup,
-) -> Result<(JoinHandle<Tasks<B>>, Tally), Fault>
+) -> Result<(Crew<B, A, C, P>, Tally), Fault>
 where
     B: Room + Send + Sync + 'static,
     R: Threads + Wait + time::Clock + Copy + Send + Drop + 'static,
@@ -320,14 +336,20 @@ where
     K: Skills<A>,
     C: Clock + Copy + Send + Drop + 'static,
     P: Write + Drop + Send + 'static,
-    ensures { IfErr result (λ f. f ≡ Fault.NoMemory _) }
+    ensures workers { IfOk result (λ r. length r.0.workers.items ≡ workers) }
+    ensures refused { IfErr result (λ f. f ≡ Fault.NoMemory _) }
 {
-    start_timing(rt, hub, clock, group)?;
     let tally = Tally::new(alloc)?;
-    let dispatching = start_pool(
+    let timing = start_timing(rt, hub, clock, group)?;
+    let (dispatching, working) = start_pool(
         rt, alloc, hub, workers, skills, clock, &tally, strangers, group,
     )?;
-    Ok((dispatching, tally))
+    let crew = Crew {
+        timing,
+        dispatching,
+        workers: working,
+    };
+    Ok((crew, tally))
 }
 
 /// A terminal, if there is one, that shows what is left.
@@ -352,7 +374,7 @@ fn start_first<B, R, A, K, C, P>(
     clock: C,
     strangers: &Strangers<P>,
     group: &WaitGroup,
-) -> Result<(Opening<B>, JoinHandle<Tasks<B>>, Tally), Fault>
+) -> Result<(Opening<B>, Crew<B, A, C, P>, Tally), Fault>
 where
     B: Room + Send + Sync + 'static,
     R: Threads + Wait + time::Clock + Copy + Send + Drop + 'static,
@@ -361,13 +383,12 @@ where
     C: Clock + Copy + Send + Drop + 'static,
     P: Write + Drop + Send + 'static,
     ensures none { IfOk result (λ r. r.0.pending.lines.items ≡ []) }
+    ensures workers { IfOk result (λ r. length r.1.workers.items ≡ workers) }
     ensures refused { IfErr result (λ f. f ≡ Fault.NoMemory _) }
 {
-    let (dispatching, tally) = start_others(
-        rt, alloc, hub, workers, skills, clock, strangers, group,
-    )?;
+    let (crew, tally) = start_others(rt, alloc, hub, workers, skills, clock, strangers, group)?;
     let opening = open_lines(rt, alloc, hub, MOST_LINES)?;
-    Ok((opening, dispatching, tally))
+    Ok((opening, crew, tally))
 }
 
 /// Starts all threads but the one that serves.
@@ -379,11 +400,11 @@ fn start_all<B, R, I, W, A, K, C, P>(
     writer: W,
     terminal: Option<P>,
     unknown: Unknown<P>,
-    workers: usize,
+    settings: Settings,
     skills: &K,
     clock: C,
     group: &WaitGroup,
-) -> Result<Started<B, W, C>, Fault>
+) -> Result<Started<B, A, W, C, P>, Fault>
 where
     B: Room + Send + Sync + 'static,
     R: Threads + Wait + time::Clock + Copy + Send + Drop + 'static,
@@ -396,15 +417,30 @@ where
     ensures page { IfOk result (λ r. (r.0.promise.desk.value.page ≡ blank (W.contents writer))
         × (r.0.promise.desk.value.pending.lines.items ≡ [])) }
     ensures owed { IfOk result (λ r. r.0.promise.clock.value ≡ clock) }
+    ensures workers { IfOk result (λ r. length r.2.workers.items ≡ settings.workers) }
     ensures refused { IfErr result (λ f. f ≡ Fault.NoMemory _) }
 {
     let strangers = Strangers::new(alloc, unknown, terminal.is_some())?;
-    let (opening, dispatching, tally) = start_first(
+    let workers = settings.workers();
+    let (opening, crew, tally) = start_first(
         rt, alloc, hub, workers, skills, clock, &strangers, group,
     )?;
     let progress = progress_on(alloc, terminal, tally);
     let (answering, own_lines) = start_lines(rt, alloc, opening, reader, writer, clock, progress)?;
-    Ok((answering, own_lines, dispatching))
+    Ok((answering, own_lines, crew))
+}
+
+/// What hands tasks out, once the threads have ended.
+fn feed_back<B: Room, R: Threads, A: Activity, C: Clock, P: Write>(
+    rt: &R,
+    crew: Crew<B, A, C, P>,
+) -> Feed<B> {
+    let Crew {
+        timing: _timing,
+        dispatching,
+        workers: _workers,
+    } = crew;
+    dispatching.join(rt).into_feed()
 }
 
 /// What came of it, once the threads have ended that answered lines and handed out tasks: what they had of the hub is taken back.
@@ -604,25 +640,15 @@ where
 {
     let (mut publisher, hub) = open_hub::<B>(alloc, opened)?;
     match start_all(
-        rt,
-        alloc,
-        &hub,
-        reader,
-        writer,
-        terminal,
-        unknown,
-        settings.workers(),
-        skills,
-        clock,
-        &group,
+        rt, alloc, &hub, reader, writer, terminal, unknown, settings, skills, clock, &group,
     ) {
-        Ok((answering, own_lines, dispatching)) => {
+        Ok((answering, own_lines, crew)) => {
             let served = serve_new(rt, engine, &mut publisher, &clock, settings.batch());
             // Who answers lines may wait for one, and none is answered any more.
             let _ = own_lines.send(rt, Input::Stopped);
             let answered = answering.join(rt);
             group.wait(rt);
-            let feed = dispatching.join(rt).into_feed();
+            let feed = feed_back(rt, crew);
             Ok(ended_with(rt, &mut publisher, answered, feed, served))
         }
         Err(fault) => {

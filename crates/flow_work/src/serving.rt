@@ -60,7 +60,7 @@ where
     ensures none { IfOk result (λ s. (s.opening.pending.lines.items ≡ []) × (s.feed ≡ nothing)) }
     ensures refused { IfErr result (λ f. f ≡ Fault.NoMemory _) }
 {
-    start_timing(rt, hub, clock, group)?;
+    let _timing = start_timing(rt, hub, clock, group)?;
     let feed = feed_of(rt, hub)?;
     let its_hub = Arc::try_clone(hub)?;
     let opening = open_lines(rt, alloc, hub, MOST_LINES)?;
