@@ -40,6 +40,17 @@ pub(crate) struct Worked<B: Room> {
     pub(crate) reports: Snapshot<Reporter<B>>,
 }
 
+/// What these were then.
+fn worked_by<B: Room>(receiver: &TaskReceiver, reports: &Reporter<B>) -> Worked<B>
+    ensures receiver { result.receiver.value ≡ receiver.now }
+    ensures reports { result.reports.value ≡ reports.now }
+{
+    Worked {
+        receiver: Snapshot::of(receiver),
+        reports: Snapshot::of(reports),
+    }
+}
+
 /// What a worker began with. Behind its end it has made an attempt of each task that it took, and has reported it.
 #[derive(Drop)]
 pub(crate) struct OwedWork<B: Room, A, C, P: Write> {
@@ -109,10 +120,7 @@ fn run_worker<B: Room, R: Wait, A: Activity + Drop, C: Clock, P: Write + Drop>(
         result.reports.value.told }
 {
     let (end, told) = worker(rt, alloc, activities, receiver, reports, unknown, clock);
-    let worked = Worked {
-        receiver: Snapshot::of(&end),
-        reports: Snapshot::of(&told),
-    };
+    let worked = worked_by(&end, &told);
     drop(end);
     drop(told);
     drop(group);
