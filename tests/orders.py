@@ -11,7 +11,7 @@ import subprocess
 import threading
 import time
 
-from program import FLOW, HERE, flow
+from program import FLOW, HERE, flow, without_reasons
 
 ORDERS, FEW = 100, 20
 KILLS = {"flow": 50, "processes": 20}
@@ -345,7 +345,6 @@ def orders_over_a_full_disk(tally, folder):
     engine.end()
     compare(tally, base, FEW)
     tally.check("orders over a full disk: reported once", sorted(engine.reports), sorted(set(engine.reports)))
-    with open(errors, encoding="utf-8") as err:
-        # a line that says why, behind an opening that met the full disk, begins with two spaces
-        said = {word for line in err if not line.startswith("  ") for word in line.split()}
+    with open(errors, "rb") as err:
+        said = set(without_reasons(err.read()).decode().split())
     tally.check("orders over a full disk: what is said", said - {"E80"}, {"flow:", "E84"})
