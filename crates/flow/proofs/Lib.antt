@@ -1,1 +1,3 @@
-pub mod Works
+pub mod Causes
+pub mod Replays
+pub mod Runs

@@ -1,3 +1,10 @@
+pub mod Called
+pub mod Configured
+pub mod Ends
 pub mod Openings
-pub mod Nexts
-pub mod Standard
+pub mod Over
+pub mod Reading
+pub mod Replays
+pub mod Running
+pub mod Telling
+pub mod Working

@@ -1,7 +1,5 @@
 //! A second look at a file that isn't opened as a store: why it isn't.
-ghost use Rattle.std.specs.Prelude.{◌≡◌};
-ghost use Rattle.sqlite.specs.declared.error.ErrorCode.TheVariants as code;
-ghost use Rattle.flow.specs.Openings.{IsOfBytes, IsOfPath};
+ghost use Rattle.flow.specs.Openings.{HasLooked, IsOfPath};
 
 use flow_cli::reason::Unopened;
 use sqlite::ErrorCode;
@@ -91,11 +89,7 @@ fn is_database(rt: &HostRuntime, file: &str) -> bool {
 
 /// Why a file isn't opened as a database, by what was said of it.
 pub fn unopened(rt: &HostRuntime, file: &str, said: ErrorCode) -> Unopened
-    ensures busy { said ≡ code.DatabaseBusy → result ≡ Unopened.Busy }
-    ensures path { said ≡ code.CannotOpen → IsOfPath result }
-    ensures rule { said ≡ code.NotADatabase → IsOfBytes result }
-    ensures bytes { said ≡ code.DatabaseCorrupt → IsOfBytes result }
-    ensures full { said ≡ code.DiskFull → result ≡ Unopened.Full }
+    ensures { HasLooked said result }
 {
     match said {
         ErrorCode::DatabaseBusy => Unopened::Busy,

@@ -1,9 +1,13 @@
 //! The call that keeps an engine running.
-ghost use Rattle.std.specs.Prelude.{◌≡◌, ◌≤◌, [], IfOk};
-ghost use Rattle.flow.specs.Nexts.{IsWithin, next_of, told_early};
+ghost use Rattle.std.specs.Prelude.{◌≡◌, [], Ok, IfOk, IfErr, option_map};
+ghost use Rattle.sqlite.specs.Steps.{over_memory};
+ghost use Rattle.flow.specs.Over.{OverFile, OverMemory, OverNamed};
+ghost use Rattle.flow.specs.Running.{HasSettings, IsUnlent, Prints, Runs, RunsWith};
 
-use crate::settings::no_settings;
-use crate::store::open_memory;
+use crate::ends::early;
+use crate::settings::settings_in;
+use crate::store::{open_file, open_memory};
+use crate::system::System;
 use flow_base::fault::Fault;
 use flow_cli::reason::Early;
 use flow_engine::engine::Engine;
@@ -12,27 +16,13 @@ use flow_settings::settings::Settings;
 use flow_work::clock::SystemClock;
 use flow_work::running::work_shown;
 use flow_work::serving::serve;
-use flow_work::settings::settings_of;
 use flow_work::skills::BuiltIn;
-use flow_work::unknown::Unknown;
+use flow_work::unknown::UnknownActivity;
 use sqlite::Alter;
-use std::fs;
-use std::io::{BufReader, IsTerminal};
+use std::alloc::Global;
 use std::sync::Wait;
 use std::thread::Threads;
 use std::time::Clock;
-
-/// The settings of this file, and the usual ones where none is named.
-fn settings_in(rt: &HostRuntime, file: Option<&str>) -> Result<Settings, Early> {
-    let Some(file) = file else {
-        return Ok(Settings::usual());
-    };
-    match settings_of(rt.alloc(), fs::read_to_string(rt, file)) {
-        Ok(settings) => Ok(settings),
-        Err(Fault::BadSettings) => Err(no_settings(rt, file)),
-        Err(fault) => Err(Early::from(fault)),
-    }
-}
 
 /// Where the activities of a running engine are.
 #[derive(Clone, Copy, Debug)]
@@ -43,156 +33,198 @@ pub enum Activities {
     Outside,
 }
 
-/// Runs an engine from standard input to standard output, with the activities of the program.
-fn run_inside<S: Alter, T: Threads + Wait + Clock + Copy + Send + Drop + 'static>(
-    rt: &HostRuntime,
+/// Standard input, for a thread.
+fn reader_of<H: System>(system: &H) -> Result<H::Reader, Fault>
+    ensures lent { IfOk result (λ reader. H.lends system.now (Ok reader)) }
+    ensures refused { IfErr result (IsUnlent (H.lends system.now)) }
+{
+    match system.reader() {
+        Ok(reader) => Ok(reader),
+        Err(error) => Err(fault_of_error(error.kind(), Fault::NoFile)),
+    }
+}
+
+/// What becomes of a task whose activity no worker has.
+fn unknown_to<H: System>(system: &H, leave_unknown: bool) -> UnknownActivity<H::Notes> {
+    if leave_unknown {
+        UnknownActivity::Leave(system.notes())
+    } else {
+        UnknownActivity::Fail
+    }
+}
+
+/// Runs an engine from this input to standard output, with the activities of the program.
+fn run_inside<H: System, S: Alter, T: Threads + Wait + Clock + Copy + Send + Drop + 'static>(
+    alloc: Global,
+    system: &H,
     threads: &T,
     engine: &mut Engine<S>,
+    reader: H::Reader,
     settings: Settings,
     leave_unknown: bool,
 ) -> Result<u8, Fault>
     requires { engine.old.log ≡ [] }
-    ensures { IfOk result (λ n. n ≤ 3) }
+    ensures { Runs S.Store (H.lends system.now) engine.old engine.new result }
 {
-    let reader = match BufReader::new(rt.alloc(), rt.reader()) {
-        Ok(reader) => reader,
-        Err(error) => return Err(fault_of_error(error.kind(), Fault::NoFile)),
-    };
-    let stderr = rt.stderr();
-    let terminal = if stderr.is_terminal() {
-        Some(stderr)
-    } else {
-        None
-    };
-    let unknown = if leave_unknown {
-        Unknown::Leave(rt.stderr())
-    } else {
-        Unknown::Fail
-    };
-    let ended = work_shown(
+    let unknown = unknown_to(system, leave_unknown);
+    match work_shown(
         threads,
-        rt.alloc(),
+        alloc,
         engine,
         reader,
-        rt.stdout(),
-        terminal,
+        system.replies(),
+        system.terminal(),
         unknown,
         settings,
         &BuiltIn,
         SystemClock::new(*threads),
-    );
-    match ended {
+    ) {
         Ok(ended) => ended.outcome(),
         Err(fault) => Err(fault),
     }
 }
 
-/// Runs an engine from standard input to standard output, with activities outside.
-fn run_outside<S: Alter, T: Threads + Wait + Clock + Copy + Send + Drop + 'static>(
-    rt: &HostRuntime,
+/// Runs an engine from this input to standard output, with activities outside.
+fn run_outside<H: System, S: Alter, T: Threads + Wait + Clock + Copy + Send + Drop + 'static>(
+    alloc: Global,
+    system: &H,
     threads: &T,
     engine: &mut Engine<S>,
+    reader: H::Reader,
     settings: Settings,
 ) -> Result<u8, Fault>
     requires { engine.old.log ≡ [] }
-    ensures { IfOk result (λ n. n ≤ 3) }
+    ensures runs { Runs S.Store (H.lends system.now) engine.old engine.new result }
+    ensures prints { Prints S.Store H.Replies.contents (H.prints system.now) (H.lends system.now) engine.old engine.new result }
 {
-    let reader = match BufReader::new(rt.alloc(), rt.reader()) {
-        Ok(reader) => reader,
-        Err(error) => return Err(fault_of_error(error.kind(), Fault::NoFile)),
-    };
-    let ended = serve(
+    let replies = system.replies();
+    match serve(
         threads,
-        rt.alloc(),
+        alloc,
         engine,
         reader,
-        rt.stdout(),
+        replies,
         settings,
         SystemClock::new(*threads),
-    );
-    match ended {
+    ) {
         Ok(ended) => ended.outcome(),
         Err(fault) => Err(fault),
+    }
+}
+
+/// Runs an engine from this input to standard output.
+fn run_from<H: System, S: Alter, T: Threads + Wait + Clock + Copy + Send + Drop + 'static>(
+    alloc: Global,
+    system: &H,
+    threads: &T,
+    engine: &mut Engine<S>,
+    reader: H::Reader,
+    settings: Settings,
+    activities: Activities,
+) -> Result<u8, Fault>
+    requires { engine.old.log ≡ [] }
+    ensures { RunsWith activities S.Store H.Replies.contents (H.prints system.now) (H.lends system.now) engine.old engine.new result }
+{
+    match activities {
+        Activities::Inside { leave_unknown } => run_inside(
+            alloc,
+            system,
+            threads,
+            engine,
+            reader,
+            settings,
+            leave_unknown,
+        ),
+        Activities::Outside => run_outside(alloc, system, threads, engine, reader, settings),
     }
 }
 
 /// Runs an engine from standard input to standard output.
-pub fn run<S: Alter, T: Threads + Wait + Clock + Copy + Send + Drop + 'static>(
-    rt: &HostRuntime,
+fn run<H: System, S: Alter, T: Threads + Wait + Clock + Copy + Send + Drop + 'static>(
+    alloc: Global,
+    system: &H,
     threads: &T,
     engine: &mut Engine<S>,
     settings: Settings,
     activities: Activities,
 ) -> Result<u8, Fault>
     requires { engine.old.log ≡ [] }
-    ensures { IfOk result (λ n. n ≤ 3) }
+    ensures { RunsWith activities S.Store H.Replies.contents (H.prints system.now) (H.lends system.now) engine.old engine.new result }
 {
-    match activities {
-        Activities::Inside { leave_unknown } => {
-            run_inside(rt, threads, engine, settings, leave_unknown)
-        }
-        Activities::Outside => run_outside(rt, threads, engine, settings),
+    match reader_of(system) {
+        Ok(reader) => run_from(alloc, system, threads, engine, reader, settings, activities),
+        Err(fault) => Err(fault),
     }
 }
 
-/// What is left to be done of a call.
-#[derive(Drop)]
-pub enum Next {
-    /// Nothing: the status that the program ends with.
-    Done(u8),
-    /// An engine is to be kept running over this file.
-    Keep(String, Settings, Activities),
-}
-
-/// An end whose fault tells by itself why.
-pub fn early(outcome: Result<u8, Fault>) -> Result<u8, Early>
-    ensures { result ≡ told_early outcome }
+fn run_in_file<H: System, T: Threads + Wait + Clock + Copy + Send + Drop + 'static>(
+    alloc: Global,
+    system: &H,
+    threads: &T,
+    file: &str,
+    settings: Settings,
+    activities: Activities,
+) -> Result<u8, Early>
+    ensures { OverFile H.Base.Store (H.opens system.now) (H.finds system.now) (H.closes system.now) file.now (Unit {0})
+        (RunsWith activities H.Base.Store H.Replies.contents (H.prints system.now) (H.lends system.now)) result }
 {
-    match outcome {
-        Ok(status) => Ok(status),
-        Err(fault) => Err(Early::from(fault)),
-    }
+    let mut engine = open_file(alloc, system, file, settings)?;
+    let outcome = run(alloc, system, threads, &mut engine, settings, activities);
+    let mut held = Some(engine.close());
+    system.close(&mut held);
+    early(outcome)
 }
 
-/// Nothing is left to be done, whatever came of it.
-pub fn done(outcome: Result<u8, Early>) -> Result<Next, Early>
-    ensures { result ≡ next_of outcome }
-{
-    match outcome {
-        Ok(status) => Ok(Next::Done(status)),
-        Err(early) => Err(early),
-    }
-}
-
-fn run_in_memory<T: Threads + Wait + Clock + Copy + Send + Drop + 'static>(
-    rt: &HostRuntime,
+fn run_in_memory<H: System, T: Threads + Wait + Clock + Copy + Send + Drop + 'static>(
+    alloc: Global,
+    system: &H,
     threads: &T,
     settings: Settings,
     activities: Activities,
 ) -> Result<u8, Early>
-    ensures { IfOk result (λ n. n ≤ 3) }
+    ensures { OverMemory (Unit {0}) (RunsWith activities over_memory H.Replies.contents (H.prints system.now) (H.lends system.now)) result }
 {
-    let mut engine = open_memory(rt, settings)?;
-    let status = run(rt, threads, &mut engine, settings, activities)?;
-    Ok(status)
+    let mut engine = open_memory(alloc, settings)?;
+    early(run(alloc, system, threads, &mut engine, settings, activities))
 }
 
-/// Keeps an engine running over a store in memory; one over a file is left to the caller. Settings that aren't allowed are E96, and
-/// nothing is opened then.
-pub fn keep_running<T: Threads + Wait + Clock + Copy + Send + Drop + 'static>(
-    rt: &HostRuntime,
+/// Keeps an engine running over the store of this name; `-` is a new one in memory.
+fn run_over<H: System, T: Threads + Wait + Clock + Copy + Send + Drop + 'static>(
+    alloc: Global,
+    system: &H,
+    threads: &T,
+    base: &str,
+    settings: Settings,
+    activities: Activities,
+) -> Result<u8, Early>
+    ensures { OverNamed base.now
+        (OverMemory (Unit {0}) (RunsWith activities over_memory H.Replies.contents (H.prints system.now) (H.lends system.now)))
+        (OverFile H.Base.Store (H.opens system.now) (H.finds system.now) (H.closes system.now) base.now (Unit {0})
+        (RunsWith activities H.Base.Store H.Replies.contents (H.prints system.now) (H.lends system.now))) result }
+{
+    match base {
+        "-" => run_in_memory(alloc, system, threads, settings, activities),
+        file => run_in_file(alloc, system, threads, file, settings, activities),
+    }
+}
+
+/// Keeps an engine running by the settings in a file. Settings that aren't allowed are E96, and nothing is opened then.
+pub fn keep_running<H: System, T: Threads + Wait + Clock + Copy + Send + Drop + 'static>(
+    alloc: Global,
+    system: &H,
     threads: &T,
     base: &str,
     file: Option<&str>,
     activities: Activities,
-) -> Result<Next, Early>
-    ensures { IfOk result IsWithin }
+) -> Result<u8, Early>
+    ensures { HasSettings (H.reads system.now) (option_map (λ name. name.now) file.entry)
+        (OverNamed base.now
+        (OverMemory (Unit {0}) (RunsWith activities over_memory H.Replies.contents (H.prints system.now) (H.lends system.now)))
+        (OverFile H.Base.Store (H.opens system.now) (H.finds system.now) (H.closes system.now) base.now (Unit {0})
+        (RunsWith activities H.Base.Store H.Replies.contents (H.prints system.now) (H.lends system.now)))) result }
 {
-    match settings_in(rt, file) {
-        Ok(settings) => match base {
-            "-" => done(run_in_memory(rt, threads, settings, activities)),
-            _ => Ok(Next::Keep(String::from_str(rt.alloc(), base)?, settings, activities)),
-        },
-        Err(fault) => Err(fault),
+    match settings_in(alloc, system, file) {
+        Ok(settings) => run_over(alloc, system, threads, base, settings, activities),
+        Err(early) => Err(early),
     }
 }

@@ -1,10 +1,16 @@
-//! A second look at a file of settings that gives none: why it doesn't.
+//! The settings of a running engine, and a second look at a file that gives none: why it doesn't.
+ghost use Rattle.std.specs.Prelude.{IfOk, IfErr, option_map};
+ghost use Rattle.flow_base.specs.declared.fault.Fault.TheVariants as faults;
+ghost use Rattle.flow_cli.specs.Reasons.{EndsBy};
+ghost use Rattle.flow.specs.Configured.{IsOfSettings, IsSet, IsSetBy, IsUnset, IsUnsetBy};
+
+use crate::system::System;
 use flow_base::fault::Fault;
 use flow_cli::place::spot_of;
 use flow_cli::reason::{BadSetting, Early, SettingKey};
-use flow_settings::settings::{MOST_BATCH, MOST_CACHE, MOST_WORKERS};
+use flow_settings::settings::{MOST_BATCH, MOST_CACHE, MOST_WORKERS, Settings};
+use flow_work::settings::settings_of;
 use std::alloc::{AllocError, Global};
-use std::fs;
 use toml::{Table, Value};
 
 /// Whether a value is a whole number from 1 to the most.
@@ -51,13 +57,49 @@ fn bad_setting(alloc: Global, text: &str) -> Result<Option<BadSetting>, AllocErr
     }
 }
 
+/// The end of a call whose text gives no settings, and why.
+fn bad_settings(alloc: Global, file: &str, text: &str) -> Early
+    ensures { EndsBy faults.BadSettings (IsOfSettings file.now) result }
+{
+    match bad_setting(alloc, text) {
+        Ok(Some(why)) => Early::no_settings(alloc, file, why),
+        _ => Early::from(Fault::BadSettings),
+    }
+}
+
 /// The end of a call whose file gives no settings, and why.
-pub fn no_settings(rt: &HostRuntime, file: &str) -> Early {
-    match fs::read_to_string(rt, file) {
-        Ok(text) => match bad_setting(rt.alloc(), text.as_str()) {
-            Ok(Some(why)) => Early::no_settings(rt.alloc(), file, why),
-            _ => Early::from(Fault::BadSettings),
-        },
-        Err(error) => Early::unread(rt.alloc(), Fault::BadSettings, file, error.kind()),
+fn no_settings<H: System>(alloc: Global, system: &H, file: &str) -> Early
+    ensures { EndsBy faults.BadSettings (IsOfSettings file.now) result }
+{
+    match system.text(file) {
+        Ok(text) => bad_settings(alloc, file, text.as_str()),
+        Err(error) => Early::unread(alloc, Fault::BadSettings, file, error.kind()),
+    }
+}
+
+/// The settings of a file.
+fn settings_from<H: System>(alloc: Global, system: &H, file: &str) -> Result<Settings, Early>
+    ensures set { IfOk result (IsSetBy (H.reads system.now) file.now) }
+    ensures unset { IfErr result (IsUnsetBy (H.reads system.now) file.now) }
+{
+    match settings_of(alloc, system.text(file)) {
+        Ok(settings) => Ok(settings),
+        Err(Fault::BadSettings) => Err(no_settings(alloc, system, file)),
+        Err(fault) => Err(Early::from(fault)),
+    }
+}
+
+/// The settings of this file, and the usual ones where none is named.
+pub fn settings_in<H: System>(
+    alloc: Global,
+    system: &H,
+    file: Option<&str>,
+) -> Result<Settings, Early>
+    ensures set { IfOk result (IsSet (H.reads system.now) (option_map (λ name. name.now) file.entry)) }
+    ensures unset { IfErr result (IsUnset (H.reads system.now) (option_map (λ name. name.now) file.entry)) }
+{
+    match file {
+        Some(file) => settings_from(alloc, system, file),
+        None => Ok(Settings::usual()),
     }
 }

@@ -1,44 +1,33 @@
 //! The store of a call, and the engine over it.
-ghost use Rattle.std.specs.Prelude.{◌≡◌, [], false, IfOk, IfErr};
+ghost use Rattle.std.specs.Prelude.{Ok, IfOk, IfErr};
 ghost use Rattle.sqlite.specs.Held.{state};
-ghost use Rattle.flow_tables.specs.Owned.{IsFound};
-ghost use Rattle.flow_commit.specs.Keeping.{IsFit, kept_book};
-ghost use Rattle.flow_engine.specs.Answering.{IsSure};
-ghost use Rattle.flow_engine.specs.Opening.{IsOpened};
-ghost use Rattle.flow.specs.Openings.{IsHandedOn};
+ghost use Rattle.sqlite.specs.Steps.{over_memory, IsEmpty};
+ghost use Rattle.flow.specs.Openings.{IsHandedOn, IsNotOpened, IsOfCode, IsOfFile, IsOfOpening, IsOver, IsUnmade};
 
-use crate::looking::unopened;
 use crate::moving::Moving;
+use crate::system::System;
 use flow_base::fault::Fault;
 use flow_base::memory::NoMemory;
 use flow_cli::reason::{Early, Unopened};
 use flow_engine::engine::Engine;
 use flow_settings::settings::Settings;
-use sqlite::{Alter, Connection, Error, ErrorCode, File, FileStore, MemStore};
-use std::io::IsTerminal;
+use sqlite::{Alter, Connection, Error, ErrorCode, MemStore};
+use std::alloc::Global;
+use std::io::Write;
 
-/// The engine over a store. A terminal on standard error shows how far its move is, if it is moved.
-fn open<S: Alter + Drop>(
-    rt: &HostRuntime,
+/// The engine over a store. A terminal, where there is one, shows how far its move is, if it is moved.
+fn open<S: Alter + Drop, P: Write + Drop>(
+    alloc: Global,
     conn: Connection<S>,
     settings: Settings,
+    terminal: Option<P>,
 ) -> Result<Engine<S>, Fault>
-    ensures opened { IfOk result (λ e. e.stored.opened ≡ conn) }
-    ensures anew { IfOk result (λ e. (e.kept ≡ 0) × (e.halted ≡ false) × (e.log ≡ [])) }
-    ensures found { IfOk result (λ e. IsFit S.Store e → IsOpened S.Store (state S.Store conn) e) }
-    // The book over which it answers first is the one that the store held.
-    ensures book { IfOk result (λ e. IsSure S.Store e → IsFound (state S.Store conn) (kept_book S.Store e)) }
+    ensures over { IfOk result (IsOver S.Store conn) }
     // The fault is that of the engine, with all that the engine tells of it.
     ensures refused { IfErr result (IsHandedOn S.Store (state S.Store conn)) }
 {
-    let stderr = rt.stderr();
-    let terminal = if stderr.is_terminal() {
-        Some(stderr)
-    } else {
-        None
-    };
-    let mut moving = Moving::on(rt.alloc(), terminal);
-    let opened = Engine::open_watched(rt.alloc(), conn, settings, &mut moving);
+    let mut moving = Moving::on(alloc, terminal);
+    let opened = Engine::open_watched(alloc, conn, settings, &mut moving);
     moving.clear();
     match opened {
         Ok(engine) => Ok(engine),
@@ -46,38 +35,63 @@ fn open<S: Alter + Drop>(
     }
 }
 
-/// The store in this file, which is made where there is none.
-pub fn open_file(
-    rt: &HostRuntime,
-    file: &str,
-    settings: Settings,
-) -> Result<Engine<FileStore<File>>, Early>
-    ensures { IfOk result (λ e. e.log ≡ []) }
+/// Why the store in a file that was opened has no engine: for what the engine says alone, the file is told too.
+fn unkept(alloc: Global, file: &str, fault: Fault) -> Early
+    ensures { IsOfOpening file.now fault result }
 {
-    match Connection::open(rt, file) {
-        Ok(conn) => match open(rt, conn, settings) {
-            Ok(engine) => Ok(engine),
-            Err(Fault::StoreRefused) => Err(Early::unopened(rt.alloc(), file, Unopened::Failed)),
-            Err(fault) => Err(Early::from(fault)),
-        },
-        Err(Error::SqliteFailure(ErrorCode::OutOfMemory)) => {
-            Err(Early::from(Fault::NoMemory(NoMemory::told())))
-        }
-        Err(Error::SqliteFailure(code)) => {
-            Err(Early::unopened(rt.alloc(), file, unopened(rt, file, code)))
-        }
-        Err(_) => Err(Early::unopened(rt.alloc(), file, Unopened::Failed)),
+    match fault {
+        Fault::StoreRefused => Early::unopened(alloc, file, Unopened::Failed),
+        _ => Early::from(fault),
     }
 }
 
-/// Copies the log of a file into the file. What was kept is kept in either, and the next opening reads both.
-pub fn close_file(engine: Engine<FileStore<File>>) {
-    let _ = engine.close().close();
+/// Why a file isn't opened, by what was said of it.
+fn unopened_by<H: System>(alloc: Global, system: &H, file: &str, said: ErrorCode) -> Early
+    ensures { IsOfCode (H.finds system.now file.now) file.now said result }
+{
+    match said {
+        ErrorCode::OutOfMemory => Early::from(Fault::NoMemory(NoMemory::told())),
+        _ => Early::unopened(alloc, file, system.unopened(file, said)),
+    }
+}
+
+/// Why a file isn't opened.
+fn unopened<H: System>(alloc: Global, system: &H, file: &str, error: Error) -> Early
+    ensures { IsOfFile (H.finds system.now) file.now error result }
+{
+    match error {
+        Error::SqliteFailure(said) => unopened_by(alloc, system, file, said),
+        _ => Early::unopened(alloc, file, Unopened::Failed),
+    }
+}
+
+/// The store in this file, which is made where there is none.
+pub fn open_file<H: System>(
+    alloc: Global,
+    system: &H,
+    file: &str,
+    settings: Settings,
+) -> Result<Engine<H::Base>, Early>
+    ensures opened { IfOk result (λ e. (conn : _) × (H.opens system.now file.now (Ok conn) × IsOver H.Base.Store conn e)) }
+    ensures refused { IfErr result (IsNotOpened H.Base.Store (H.opens system.now) (H.finds system.now) file.now) }
+{
+    match system.open(file) {
+        Ok(conn) => match open(alloc, conn, settings, system.terminal()) {
+            Ok(engine) => Ok(engine),
+            Err(fault) => Err(unkept(alloc, file, fault)),
+        },
+        Err(error) => Err(unopened(alloc, system, file, error)),
+    }
 }
 
 /// A new store in memory.
-pub fn open_memory(rt: &HostRuntime, settings: Settings) -> Result<Engine<MemStore>, Fault>
-    ensures { IfOk result (λ e. e.log ≡ []) }
+pub fn open_memory(alloc: Global, settings: Settings) -> Result<Engine<MemStore>, Fault>
+    ensures opened { IfOk result (λ e. (conn : _) × (IsEmpty (state over_memory conn) × IsOver over_memory conn e)) }
+    ensures refused { IfErr result (IsUnmade over_memory) }
 {
-    open(rt, Connection::open_in_memory(rt.alloc())?, settings)
+    let conn = Connection::open_in_memory(alloc)?;
+    match open(alloc, conn, settings, None::<Vec<u8>>) {
+        Ok(engine) => Ok(engine),
+        Err(fault) => Err(fault),
+    }
 }

@@ -1,7 +1,7 @@
 -- What a function returned, against what a definition gives. Where memory ran out nothing is said.
 use Rattle.std.specs.Prelude.{◌≡◌, Option, Some, None, Result, Ok, Err}
-use Rattle.flow_base.specs.declared.fields.Refused.{Refused}
-use Rattle.flow_base.specs.declared.fields.Refused.TheVariants as refused
+use Rattle.flow_base.specs.declared.fields.FieldFault.{FieldFault}
+use Rattle.flow_base.specs.declared.fields.FieldFault.TheVariants as refused
 use Rattle.flow_base.specs.declared.value.ValueFault.{ValueFault}
 use Rattle.flow_base.specs.declared.value.ValueFault.TheVariants as fault
 
@@ -17,17 +17,17 @@ GivesValue (Ok x) given = given ≡ Ok x
 GivesValue (Err f) given = FailsAsGiven f given
 
 -- nothing is given, or memory ran out
-abbrev pub GivesNone : {Y : Type 0} → Refused → Option Y → Type 0
+abbrev pub GivesNone : {Y : Type 0} → FieldFault → Option Y → Type 0
 GivesNone (refused.Memory _) given = Unit {0}
 GivesNone refused.Unfit given = given ≡ None
 
 -- Ok exactly where the definition gives a value, and that value
-abbrev pub Gives : {X Y : Type 0} → (X → Y) → Result X Refused → Option Y → Type 0
+abbrev pub Gives : {X Y : Type 0} → (X → Y) → Result X FieldFault → Option Y → Type 0
 Gives shown (Ok x) given = given ≡ Some (shown x)
 Gives shown (Err e) given = GivesNone e given
 
 -- a reader of members stops for want of memory, or since a value isn't one of those that are read
-abbrev pub refusal_of : ValueFault → Refused
+abbrev pub refusal_of : ValueFault → FieldFault
 refusal_of (fault.NoMemory _) = refused.Memory _
 refusal_of fault.NotAValue = refused.Unfit
 refusal_of fault.TooLong = refused.Unfit

@@ -5,7 +5,7 @@ ghost use Rattle.serde_json.specs.Data.{array};
 ghost use Rattle.flow_base.specs.Leaves.{value_in, value_out, values_in, any_values_in, list_in, list_out};
 ghost use Rattle.flow_base.specs.Gives.{Gives, GivesValue};
 
-use crate::fields::Refused;
+use crate::fields::FieldFault;
 use crate::sequence::Sequence;
 use crate::text::Text;
 use crate::value::{Value, ValueFault};
@@ -56,7 +56,7 @@ impl Value {
 
 /// The values that stand for this: a JSON array of at most [`VALUES_LIMIT`] values.
 #[tactic(auto, using(crate::proofs::Lists::values_read))]
-pub(crate) fn values_of_json(alloc: Global, json: &Json) -> Result<Sequence<Value>, Refused>
+pub(crate) fn values_of_json(alloc: Global, json: &Json) -> Result<Sequence<Value>, FieldFault>
     ensures { Gives (λ vs. vs) result (values_in (view json.now)) }
 {
     match json {
@@ -65,21 +65,21 @@ pub(crate) fn values_of_json(alloc: Global, json: &Json) -> Result<Sequence<Valu
                 let list = list_of_json(alloc, items)?;
                 Ok(Sequence::from_vec(list))
             } else {
-                Err(Refused::Unfit)
+                Err(FieldFault::Unfit)
             }
         }
-        _ => Err(Refused::Unfit),
+        _ => Err(FieldFault::Unfit),
     }
 }
 
 /// The values that stand for this: a JSON array of values, however many.
 #[tactic(auto, using(crate::proofs::Lists::any_values_read))]
-pub(crate) fn any_values_of_json(alloc: Global, json: &Json) -> Result<Sequence<Value>, Refused>
+pub(crate) fn any_values_of_json(alloc: Global, json: &Json) -> Result<Sequence<Value>, FieldFault>
     ensures { Gives (λ vs. vs) result (any_values_in (view json.now)) }
 {
     match json {
         Json::Array(items) => Ok(Sequence::from_vec(list_of_json(alloc, items)?)),
-        _ => Err(Refused::Unfit),
+        _ => Err(FieldFault::Unfit),
     }
 }
 
@@ -94,7 +94,7 @@ pub fn values_to_json(alloc: Global, values: &[Value]) -> Result<Json, AllocErro
     Ok(Json::Array(items))
 }
 
-fn list_of_json(alloc: Global, items: &[Json]) -> Result<Vec<Value>, Refused>
+fn list_of_json(alloc: Global, items: &[Json]) -> Result<Vec<Value>, FieldFault>
     ensures { Gives (λ vs. vs.items) result (list_in (items_view items.now)) }
 {
     let mut list = Vec::new(alloc);

@@ -96,7 +96,8 @@ impl Text {
 
     /// The two, one after the other, if that is no more than [`TEXT_LIMIT`] bytes.
     pub fn joined(&self, alloc: Global, other: &Text) -> Result<Option<Text>, AllocError>
-        ensures { IfOk result (λ o. MatchOption o (TEXT_LIMIT < length (self.now ++ other.now)) (λ t. (t ≡ self.now ++ other.now) × (length (self.now ++ other.now) ≤ TEXT_LIMIT))) }
+        ensures { IfOk result (λ o. MatchOption o (TEXT_LIMIT < length (self.now ++ other.now))
+            (λ t. (t ≡ self.now ++ other.now) × (length (self.now ++ other.now) ≤ TEXT_LIMIT))) }
     {
         if self.len() + other.len() > TEXT_LIMIT {
             return Ok(None);

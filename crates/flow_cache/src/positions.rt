@@ -85,11 +85,12 @@ impl Positions {
     /// all stays as it was; none is needed for a run that has an entry.
     pub fn keep(&mut self, run: RunId, text: TextNo, stance: Stance)
         ensures kept { (self.new ≡ with_entry run (record { text = text; stance = stance }) self.old) ⊎ (self.new ≡ self.old) }
-        ensures replaced { IsSome (entry_of run self.old.entries) → self.new ≡ with_entry run (record { text = text; stance = stance }) self.old }
+        ensures replaced { IsSome (entry_of run self.old.entries)
+            → self.new ≡ with_entry run (record { text = text; stance = stance }) self.old }
     {
         match self.cache.put(run.get(), Entry { text, stance }) {
-            Ok(_old) => {}
-            Err(_refused) => {}
+            Ok(old) => drop(old),
+            Err(refused) => drop(refused),
         }
     }
 

@@ -4,8 +4,8 @@ use flow_base::event::{Event, State};
 use flow_base::value::{Kind, Value};
 use flow_check::checked::Checked;
 use flow_match::replay::replay;
-use flow_run::rest::OpenWait;
 use flow_run::stance::Stance;
+use flow_run::waits::OpenWait;
 use std::alloc::Global;
 use std::test::Fail;
 

@@ -7,7 +7,7 @@ use flow_base::fault::Fault;
 use flow_base::memory::NoMemory;
 use flow_lines::batch::BatchSize;
 use flow_lines::drive::drive_lines;
-use flow_lines::input::{Input, Unread};
+use flow_lines::input::{LineSource, Unread};
 use flow_lines::output::{Output, Unwritten};
 use flow_lines::reply::Line;
 use flow_lines::streams::Reading;
@@ -18,7 +18,7 @@ use std::test::Fail;
 /// Gives the lines of another input. A read fails after so many lines, and where a batch is begun before the lines until then have
 /// their replies.
 #[derive(Drop)]
-struct Watching<'a, I: Input> {
+struct Watching<'a, I: LineSource> {
     inner: I,
     written: &'a Cell<u64>,
     /// How many lines were given, and after how many a read fails.
@@ -30,7 +30,7 @@ struct Watching<'a, I: Input> {
     failed: bool,
 }
 
-impl<'a, I: Input> Watching<'a, I> {
+impl<'a, I: LineSource> Watching<'a, I> {
     fn is_read(&mut self) -> bool
         ensures { (self.new.inner ≡ self.old.inner) × (self.new.failed ≡ self.old.failed) }
     {
@@ -49,7 +49,7 @@ impl<'a, I: Input> Watching<'a, I> {
     }
 }
 
-impl<'a, I: Input> Input for Watching<'a, I> {
+impl<'a, I: LineSource> LineSource for Watching<'a, I> {
     ghost use Rattle.std.specs.Prelude.{None};
 
     ghost left = { λ w. None };

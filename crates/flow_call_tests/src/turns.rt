@@ -7,7 +7,7 @@ use flow_base::syntax::Program;
 use flow_base::value::Value;
 use flow_check::checked::Checked;
 use flow_match::matching::matches;
-use flow_run::plain::{PlainRun, plain_turn, unbegun};
+use flow_plain::plain::{PlainRun, plain_turn, unbegun};
 use flow_run::stance::{Answers, Stance, turn};
 use std::alloc::Global;
 use std::test::Fail;

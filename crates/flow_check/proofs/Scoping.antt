@@ -1,5 +1,6 @@
 -- What the table of variables and activities knows behind a declaration, an activity, a statement.
 use Rattle.std.proofs.Common.{◌≡◌, ℕ, ◌+◌, ◌<◌, ◌≤◌, min, Bool, true, false, cond, List, [], ◌∷◌, ◌++◌, length, map, take, get_or, Option, Some, None, is_some, option_map, refl, sym, ap, subst, ◌∙◌, bytes_eq, arith, append_assoc}
+use Rattle.std.specs.Prelude.{Result, Ok, Err, OnErr}
 use Rattle.std.proofs.Math.Seq.{take-length}
 use Rattle.std.proofs.lemmas.List.{append-nil, take_more, take-take, length-take}
 use Rattle.std.proofs.lemmas.Map.Text.{hash_map_updates_str}
@@ -96,6 +97,15 @@ module _ {S : Type 0} (m : HashMap (Bor Bytes) Kind S) (name : Bytes) where
 pub types_in-append : (t : rule.Types) (vs : List Variable) (v : Variable) → types_in t (vs ++ v ∷ []) ≡ with_type (types_in t vs) v.name.now v.kind
 types_in-append t [] v = refl
 types_in-append t (w ∷ vs) v = types_in-append (with_type t w.name.now w.kind) vs v
+
+-- what a table knows that has these variables
+abbrev pub known_with : Scope → List Variable → rule.Scope
+known_with s vs = record { types = types_in no_types vs; activities = activities_of s; signals = signals_of s; parameters = parameters_of s; in_parallel = false }
+
+-- what holds anyway holds behind an error
+pub behind_error : {A E : Type 0} (r : Result A E) (X : Type 0) → X → OnErr r X
+behind_error (Ok v) X x = tt
+behind_error (Err e) X x = x
 
 -- what the last one of some says of a name
 pub last_type : (vs : List Variable) (i : ℕ) (v : Variable) (x : Bytes) → i < length vs → v ≡ get_or vs i v

@@ -12,6 +12,7 @@ use crate::statement::check_statements;
 use flow_base::command::TextFault;
 use flow_base::syntax::Program;
 use flow_model::checked::Checked;
+use flow_nodes::linked::Linked;
 use std::alloc::{AllocError, Global};
 
 /// The program, if it keeps the checking rules.
@@ -27,7 +28,10 @@ pub fn check(alloc: Global, program: Program) -> Result<Checked, CheckFault>
 {
     match first_fault(alloc, &program)? {
         Some(fault) => Err(CheckFault::Rule(fault)),
-        None => Ok(Checked::of(program)),
+        None => {
+            let table = Linked::of(alloc, &program)?;
+            Ok(Checked::of(program, table))
+        }
     }
 }
 

@@ -132,7 +132,8 @@ fn declaration_names<'a>(
     declarations: &'a [Declaration],
     found: &mut FirstFault,
 ) -> Result<(), AllocError>
-    ensures { OnOk result (Declares names.old found.old (map name_of_declared (map shown_declaration declarations.now)) names.new found.new) }
+    ensures { OnOk result (Declares names.old found.old
+        (map name_of_declared (map shown_declaration declarations.now)) names.new found.new) }
 {
     for declaration in declarations {
         declaration_name(names, declaration, found)?;
@@ -234,7 +235,8 @@ fn branch_names<'a>(
     branches: &'a [Branch],
     found: &mut FirstFault,
 ) -> Result<(), AllocError>
-    ensures { OnOk result (Declares names.old found.old (names_of_branches (branches_of (map shown_branch branches.now))) names.new found.new) }
+    ensures { OnOk result (Declares names.old found.old
+        (names_of_branches (branches_of (map shown_branch branches.now))) names.new found.new) }
 {
     for branch in branches {
         block_names(names, &branch.body, found)?;

@@ -1,7 +1,7 @@
-ghost use Rattle.std.specs.Prelude.{◌≡◌, [], ◌∷◌, map, take, length, option_map, OnOk};
+ghost use Rattle.std.specs.Prelude.{◌≡◌, [], ◌∷◌, map, take, length, option_map, OnOk, OnErr};
 ghost use Rattle.flow_base.specs.Shown.{shown_declaration};
 ghost use Rattle.flow_model.specs.WellFormed.{with_type, no_types, types_of_parameters, activity_of, signal_of};
-ghost use Rattle.flow_check.specs.Tables.{variables_of, types_of, activities_of, signals_of, parameters_of, kinds_of_parameters, shown_signature, nothing_known, first_then, only};
+ghost use Rattle.flow_check.specs.Tables.{variables_of, types_of, activities_of, signals_of, parameters_of, kinds_of_parameters, shown_signature, nothing_known, first_then, only, IsSame};
 
 use flow_base::syntax::{Declaration, Parameter, TypeAt};
 use flow_base::text::Key;
@@ -69,8 +69,10 @@ impl<'a> Scope<'a> {
     /// The activities and signals become known; of two of one name the first stays.
     pub fn add_declarations(&mut self, declarations: &'a [Declaration]) -> Result<(), AllocError>
         ensures types { OnOk result (types_of self.new ≡ types_of self.old) }
-        ensures activities { OnOk result (activities_of self.new ≡ first_then (activities_of self.old) (activity_of (map shown_declaration declarations.now))) }
-        ensures signals { OnOk result (signals_of self.new ≡ first_then (signals_of self.old) (signal_of (map shown_declaration declarations.now))) }
+        ensures activities { OnOk result (activities_of self.new ≡ first_then (activities_of self.old)
+            (activity_of (map shown_declaration declarations.now))) }
+        ensures signals { OnOk result (signals_of self.new ≡ first_then (signals_of self.old)
+            (signal_of (map shown_declaration declarations.now))) }
         ensures parameters { OnOk result (parameters_of self.new ≡ parameters_of self.old) }
     {
         for declaration in declarations {
@@ -81,8 +83,10 @@ impl<'a> Scope<'a> {
 
     fn add_declaration(&mut self, declaration: &'a Declaration) -> Result<(), AllocError>
         ensures types { OnOk result (types_of self.new ≡ types_of self.old) }
-        ensures activities { OnOk result (activities_of self.new ≡ first_then (activities_of self.old) (activity_of (shown_declaration declaration.now ∷ []))) }
-        ensures signals { OnOk result (signals_of self.new ≡ first_then (signals_of self.old) (signal_of (shown_declaration declaration.now ∷ []))) }
+        ensures activities { OnOk result (activities_of self.new ≡ first_then (activities_of self.old)
+            (activity_of (shown_declaration declaration.now ∷ []))) }
+        ensures signals { OnOk result (signals_of self.new ≡ first_then (signals_of self.old)
+            (signal_of (shown_declaration declaration.now ∷ []))) }
         ensures parameters { OnOk result (parameters_of self.new ≡ parameters_of self.old) }
     {
         match declaration {
@@ -100,7 +104,8 @@ impl<'a> Scope<'a> {
     /// The activity is declared, if none of its name was.
     fn add_activity(&mut self, name: &'a Key, signature: Signature<'a>) -> Result<(), AllocError>
         ensures types { OnOk result (types_of self.new ≡ types_of self.old) }
-        ensures activities { OnOk result (activities_of self.new ≡ first_then (activities_of self.old) (only name.now (shown_signature signature.entry))) }
+        ensures activities { OnOk result (activities_of self.new ≡ first_then (activities_of self.old)
+            (only name.now (shown_signature signature.entry))) }
         ensures signals { OnOk result (signals_of self.new ≡ signals_of self.old) }
         ensures parameters { OnOk result (parameters_of self.new ≡ parameters_of self.old) }
     {
@@ -123,10 +128,11 @@ impl<'a> Scope<'a> {
         Ok(())
     }
 
-    /// The variable is visible from here on.
+    /// The variable is visible from here on. After an error all is known that was, and no more.
     pub fn add_variable(&mut self, name: &'a Key, kind: Option<Kind>) -> Result<(), AllocError>
         ensures variables { OnOk result (take (length (variables_of self.old)) (variables_of self.new) ≡ variables_of self.old) }
         ensures types { OnOk result (types_of self.new ≡ with_type (types_of self.old) name.now kind) }
+        ensures same { OnErr result (IsSame self.old self.new) }
         ensures activities { OnOk result (activities_of self.new ≡ activities_of self.old) }
         ensures signals { OnOk result (signals_of self.new ≡ signals_of self.old) }
         ensures parameters { OnOk result (parameters_of self.new ≡ parameters_of self.old) }

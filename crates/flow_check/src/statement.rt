@@ -117,7 +117,8 @@ fn check_inner<'a>(
     in_parallel: bool,
     found: &mut FirstFault,
 ) -> Result<(), AllocError>
-    ensures { OnOk result (Notes scope.old found.old (faults_of_block (shown_scope in_parallel scope.old) (shown_braced block.now).0) scope.new found.new) }
+    ensures { OnOk result (Notes scope.old found.old
+        (faults_of_block (shown_scope in_parallel scope.old) (shown_braced block.now).0) scope.new found.new) }
 {
     let visible = scope.visible();
     check_statements(scope, block.list.as_slice(), in_parallel, found)?;
@@ -133,7 +134,8 @@ fn check_otherwise<'a>(
     in_parallel: bool,
     found: &mut FirstFault,
 ) -> Result<(), AllocError>
-    ensures { OnOk result (Notes scope.old found.old (faults_of_otherwise (shown_scope in_parallel scope.old) (shown_otherwise otherwise.now)) scope.new found.new) }
+    ensures { OnOk result (Notes scope.old found.old
+        (faults_of_otherwise (shown_scope in_parallel scope.old) (shown_otherwise otherwise.now)) scope.new found.new) }
 {
     match otherwise {
         None => Ok(()),
@@ -148,7 +150,8 @@ fn check_branches<'a>(
     branches: &'a [Branch],
     found: &mut FirstFault,
 ) -> Result<(), AllocError>
-    ensures { OnOk result (Notes scope.old found.old (faults_of_branches (shown_scope true scope.old) (branches_of (map shown_branch branches.now))) scope.new found.new) }
+    ensures { OnOk result (Notes scope.old found.old
+        (faults_of_branches (shown_scope true scope.old) (branches_of (map shown_branch branches.now))) scope.new found.new) }
 {
     for branch in branches {
         check_inner(scope, &branch.body, true, found)?;
@@ -158,7 +161,8 @@ fn check_branches<'a>(
 
 /// Notes the branch with which there are too many, of those behind the first.
 fn check_branch_count(others: &Vec<Branch>, found: &mut FirstFault)
-    ensures { found.new ≡ earliest found.old (fault_at_first Code.TooManyBranches (drop MOST_OTHERS (branch_places (branches_of (map shown_branch others.now.items))))) }
+    ensures { found.new ≡ earliest found.old (fault_at_first Code.TooManyBranches
+        (drop MOST_OTHERS (branch_places (branches_of (map shown_branch others.now.items))))) }
 {
     if let Some(beyond) = others.get(MOST_OTHERS) {
         found.note(Code::TooManyBranches, beyond.at);
@@ -183,7 +187,8 @@ fn check_wait(
     signal: &Key,
     found: &mut FirstFault,
 )
-    ensures { found.new ≡ earliest found.old (unknown_signal (signals_of scope.now signal.now) signal_at ++ faults_of_assigned (types_of scope.now name.now) at (signals_of scope.now signal.now) at) }
+    ensures { found.new ≡ earliest found.old (unknown_signal (signals_of scope.now signal.now) signal_at ++ faults_of_assigned
+        (types_of scope.now name.now) at (signals_of scope.now signal.now) at) }
 {
     let carried = scope.signal(signal);
     check_signal(carried, signal_at, found);
@@ -215,7 +220,8 @@ fn check_call(
     arguments: &[Expr],
     found: &mut FirstFault,
 )
-    ensures { found.new ≡ earliest found.old (faults_of_call (types_of scope.now) (option_map shown_signature signature.entry) at (map shown_expr arguments.now)) }
+    ensures { found.new ≡ earliest found.old (faults_of_call (types_of scope.now) (option_map shown_signature signature.entry) at
+        (map shown_expr arguments.now)) }
 {
     match signature {
         None => {
@@ -272,7 +278,9 @@ fn check_applied(
     at: usize,
     found: &mut FirstFault,
 )
-    ensures { found.new ≡ earliest found.old (wrong_count (kinds_wanted wanted.entry) (map shown_expr arguments.now) at ++ faults_of_arguments (types_of scope.now) (kinds_wanted wanted.entry) (map shown_expr arguments.now)) }
+    ensures { found.new ≡ earliest found.old (wrong_count (kinds_wanted wanted.entry)
+        (map shown_expr arguments.now) at ++ faults_of_arguments (types_of scope.now) (kinds_wanted wanted.entry)
+        (map shown_expr arguments.now)) }
 {
     check_count(arguments, wanted, at, found);
     check_arguments(scope, arguments, wanted, found);
@@ -289,7 +297,8 @@ fn check_count(arguments: &[Expr], wanted: Wanted, at: usize, found: &mut FirstF
 
 /// Notes the faults of arguments, and those of another type than the one at their position.
 fn check_arguments(scope: &Scope, arguments: &[Expr], wanted: Wanted, found: &mut FirstFault)
-    ensures { found.new ≡ earliest found.old (faults_of_arguments (types_of scope.now) (kinds_wanted wanted.entry) (map shown_expr arguments.now)) }
+    ensures { found.new ≡ earliest found.old (faults_of_arguments (types_of scope.now) (kinds_wanted wanted.entry)
+        (map shown_expr arguments.now)) }
 {
     for (i, argument) in arguments.iter().enumerate() {
         check_argument(scope, wanted.kind_at(i), argument, found);

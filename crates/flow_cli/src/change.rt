@@ -67,7 +67,8 @@ pub(crate) fn read_both<T: Texts>(
     old: &str,
     new: &str,
 ) -> Result<Result<(Checked, Checked), Broken>, Fault>
-    ensures programs { IfOk result (λ r. IfOk r (λ ps. both_of (T.meaning old.now) (T.meaning new.now) ≡ Ok (shown_checked ps.0, shown_checked ps.1))) }
+    ensures programs { IfOk result (λ r. IfOk r (λ ps. both_of (T.meaning old.now) (T.meaning new.now) ≡ Ok
+        (shown_checked ps.0, shown_checked ps.1))) }
     ensures broken { IfOk result (λ r. IfErr r (λ b. both_of (T.meaning old.now) (T.meaning new.now) ≡ Err b)) }
     ensures memory { IfErr result (λ e. e ≡ Fault.NoMemory _) }
 {

@@ -81,15 +81,18 @@ pub fn tell_verdict<T: Texts, O: Output, P: Output>(
     errors: &mut P,
     text: &str,
 ) -> Result<u8, Fault>
-    ensures told { IfOk result (λ n. Appends (O.contents output.old) (O.contents output.new) (verdict_text (verdict_of (T.meaning text.now)) ++ 10 ∷ [])) }
+    ensures told { IfOk result (λ n. Appends (O.contents output.old) (O.contents output.new)
+        (verdict_text (verdict_of (T.meaning text.now)) ++ 10 ∷ [])) }
     ensures status { IfOk result (λ n. n ≡ verdict_status (verdict_of (T.meaning text.now))) }
-    ensures stopped { IfErr result (λ e. WritesPart e (O.contents output.old) (O.contents output.new) (verdict_text (verdict_of (T.meaning text.now)) ++ 10 ∷ [])) }
+    ensures stopped { IfErr result (λ e. WritesPart e (O.contents output.old) (O.contents output.new)
+        (verdict_text (verdict_of (T.meaning text.now)) ++ 10 ∷ [])) }
     ensures early { IfErr result (λ e. fault_status e ≡ 3) }
     // E95 where the output failed, and only there; else memory ran out.
     ensures output { O.failed output.new ≡ output_failed result (O.failed output.old) }
     ensures input { (before : Bool) → input_failed result before ≡ before }
     ensures cause { IfErr result (λ e. (e ≡ Fault.NoMemory _) ⊎ (e ≡ Fault.OutputFailed)) }
-    ensures marked { IfOk result (λ n. IsMarked (P.contents errors.old) (P.contents errors.new) (P.failed errors.new) (P.ran_out errors.new) (verdict_mark text.now (verdict_of (T.meaning text.now)))) }
+    ensures marked { IfOk result (λ n. IsMarked (P.contents errors.old) (P.contents errors.new) (P.failed errors.new)
+        (P.ran_out errors.new) (verdict_mark text.now (verdict_of (T.meaning text.now)))) }
     ensures unmarked { IfErr result (λ e. errors.new ≡ errors.old) }
 {
     let verdict = check_text(alloc, texts, text)?;

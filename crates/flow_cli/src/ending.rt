@@ -39,7 +39,8 @@ fn say_early<O: Output>(alloc: Global, errors: &mut O, early: &Early) -> Result<
     ensures said { SaysEarly early.now (O.contents errors.old) (O.contents errors.new) }
     ensures all { OnOk result (SaysAll early.now (O.contents errors.old) (O.contents errors.new)) }
     ensures failed { O.failed errors.new ≡ write_failed result (O.failed errors.old) }
-    ensures first { SaysFirst early.now.fault (O.contents errors.old) (O.contents errors.new) ⊎ ((O.failed errors.new ≡ true) ⊎ (O.ran_out errors.new ≡ true)) }
+    ensures first { SaysFirst early.now.fault (O.contents errors.old) (O.contents errors.new)
+        ⊎ ((O.failed errors.new ≡ true) ⊎ (O.ran_out errors.new ≡ true)) }
 {
     match say_fault(alloc, errors, &early.fault) {
         Ok(()) => say_reason(alloc, errors, &early.reason),
@@ -64,7 +65,8 @@ pub fn ended_early<O: Output>(alloc: Global, errors: &mut O, outcome: &Result<u8
     ensures all { IfErr outcome.now (λ e. IfNone result.unsaid (SaysAll e (O.contents errors.old) (O.contents errors.new))) }
     ensures failed { IfErr outcome.now (λ e. IfSome result.unsaid (λ u. u ≡ Unwritten.Failed → O.failed errors.new ≡ true)) }
     // Where nothing has failed there the line of the fault, or of its number, stands there first.
-    ensures first { IfErr outcome.now (λ e. SaysFirst e.fault (O.contents errors.old) (O.contents errors.new) ⊎ ((O.failed errors.new ≡ true) ⊎ (O.ran_out errors.new ≡ true))) }
+    ensures first { IfErr outcome.now (λ e. SaysFirst e.fault (O.contents errors.old) (O.contents errors.new)
+        ⊎ ((O.failed errors.new ≡ true) ⊎ (O.ran_out errors.new ≡ true))) }
 {
     match outcome {
         Ok(status) => End {

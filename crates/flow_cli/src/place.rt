@@ -196,7 +196,8 @@ pub(crate) fn write_marked<O: Output, P: Output>(
     ensures output { O.failed output.new ≡ output_failed result (O.failed output.old) }
     ensures input { (before : Bool) → input_failed result before ≡ before }
     ensures status { IfErr result (λ f. fault_status f ≡ 3) }
-    ensures marked { OnOk result (IsMarked (P.contents errors.old) (P.contents errors.new) (P.failed errors.new) (P.ran_out errors.new) marks.now) }
+    ensures marked { OnOk result (IsMarked (P.contents errors.old) (P.contents errors.new) (P.failed errors.new)
+        (P.ran_out errors.new) marks.now) }
     ensures unmarked { IfErr result (λ f. errors.new ≡ errors.old) }
 {
     match write_text(output, line) {

@@ -104,17 +104,20 @@ pub fn tell_safety<T: Texts, O: Output, P: Output>(
     old: &str,
     new: &str,
 ) -> Result<u8, Fault>
-    ensures told { IfOk result (λ n. Appends (O.contents output.old) (O.contents output.new) (safety_text (safety_of (T.meaning old.now) (T.meaning new.now)) ++ 10 ∷ [])) }
+    ensures told { IfOk result (λ n. Appends (O.contents output.old) (O.contents output.new)
+        (safety_text (safety_of (T.meaning old.now) (T.meaning new.now)) ++ 10 ∷ [])) }
     ensures status { IfOk result (λ n. n ≡ safety_status (safety_of (T.meaning old.now) (T.meaning new.now))) }
     // The status is 0 exactly where both are programs and the new one wraps the old one.
     ensures safe { IfOk result (λ n. (n ≡ 0) ↔ MeansWrap (T.meaning old.now) (T.meaning new.now)) }
-    ensures stopped { IfErr result (λ e. WritesPart e (O.contents output.old) (O.contents output.new) (safety_text (safety_of (T.meaning old.now) (T.meaning new.now)) ++ 10 ∷ [])) }
+    ensures stopped { IfErr result (λ e. WritesPart e (O.contents output.old) (O.contents output.new)
+        (safety_text (safety_of (T.meaning old.now) (T.meaning new.now)) ++ 10 ∷ [])) }
     ensures early { IfErr result (λ e. fault_status e ≡ 3) }
     // E95 where the output failed, and only there; else memory ran out.
     ensures output { O.failed output.new ≡ output_failed result (O.failed output.old) }
     ensures input { (before : Bool) → input_failed result before ≡ before }
     ensures cause { IfErr result (λ e. (e ≡ Fault.NoMemory _) ⊎ (e ≡ Fault.OutputFailed)) }
-    ensures marked { IfOk result (λ n. IsMarked (P.contents errors.old) (P.contents errors.new) (P.failed errors.new) (P.ran_out errors.new) (safety_marks old.now new.now (safety_of (T.meaning old.now) (T.meaning new.now)))) }
+    ensures marked { IfOk result (λ n. IsMarked (P.contents errors.old) (P.contents errors.new) (P.failed errors.new)
+        (P.ran_out errors.new) (safety_marks old.now new.now (safety_of (T.meaning old.now) (T.meaning new.now)))) }
     ensures unmarked { IfErr result (λ e. errors.new ≡ errors.old) }
 {
     let safety = compare_texts(alloc, texts, old, new)?;

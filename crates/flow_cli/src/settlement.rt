@@ -140,17 +140,20 @@ pub fn tell_settlement<T: Texts, O: Output, P: Output>(
     old: &str,
     new: &str,
 ) -> Result<u8, Fault>
-    ensures told { IfOk result (λ n. Appends (O.contents output.old) (O.contents output.new) (settlement_text (settlement_of (T.meaning old.now) (T.meaning new.now)) ++ 10 ∷ [])) }
+    ensures told { IfOk result (λ n. Appends (O.contents output.old) (O.contents output.new)
+        (settlement_text (settlement_of (T.meaning old.now) (T.meaning new.now)) ++ 10 ∷ [])) }
     ensures status { IfOk result (λ n. n ≡ settlement_status (settlement_of (T.meaning old.now) (T.meaning new.now))) }
     // The status is 0 exactly where both are programs and the new one is the old one with patches settled.
     ensures settles { IfOk result (λ n. (n ≡ 0) ↔ MeansSettled (T.meaning old.now) (T.meaning new.now)) }
-    ensures stopped { IfErr result (λ e. WritesPart e (O.contents output.old) (O.contents output.new) (settlement_text (settlement_of (T.meaning old.now) (T.meaning new.now)) ++ 10 ∷ [])) }
+    ensures stopped { IfErr result (λ e. WritesPart e (O.contents output.old) (O.contents output.new)
+        (settlement_text (settlement_of (T.meaning old.now) (T.meaning new.now)) ++ 10 ∷ [])) }
     ensures early { IfErr result (λ e. fault_status e ≡ 3) }
     // E95 where the output failed, and only there; else memory ran out.
     ensures output { O.failed output.new ≡ output_failed result (O.failed output.old) }
     ensures input { (before : Bool) → input_failed result before ≡ before }
     ensures cause { IfErr result (λ e. (e ≡ Fault.NoMemory _) ⊎ (e ≡ Fault.OutputFailed)) }
-    ensures marked { IfOk result (λ n. IsMarked (P.contents errors.old) (P.contents errors.new) (P.failed errors.new) (P.ran_out errors.new) (settlement_marks old.now new.now (settlement_of (T.meaning old.now) (T.meaning new.now)))) }
+    ensures marked { IfOk result (λ n. IsMarked (P.contents errors.old) (P.contents errors.new) (P.failed errors.new)
+        (P.ran_out errors.new) (settlement_marks old.now new.now (settlement_of (T.meaning old.now) (T.meaning new.now)))) }
     ensures unmarked { IfErr result (λ e. errors.new ≡ errors.old) }
 {
     let settlement = settle_texts(alloc, texts, old, new)?;

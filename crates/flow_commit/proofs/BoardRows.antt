@@ -1,7 +1,7 @@
 -- What a small book gives out, by computation.
 use Rattle.std.specs.Prelude.{◌≡◌, ℕ, [], ◌∷◌, Some, None, refl}
 use Rattle.flow_base.specs.declared.book.Run.{Run}
-use Rattle.flow_base.specs.declared.book.Task.{Task as OpenTask}
+use Rattle.flow_base.specs.declared.book.OpenActivity.{OpenActivity}
 use Rattle.flow_base.specs.declared.event.Cmd.TheVariants.{Schedule, StartTimer}
 use Rattle.flow_base.specs.declared.event.Input.TheVariants.{Started}
 use Rattle.flow_base.specs.declared.value.Kind.TheVariants as kind
@@ -20,7 +20,7 @@ called n = record { id = n; at = 5; what = Asked (Schedule (97 ∷ []) [] 3 7 ki
 abbrev sleeps : Event
 sleeps = record { id = 4; at = 5; what = Asked (StartTimer 40) }
 
-abbrev waits : ℕ → ℕ → ℕ → OpenTask
+abbrev waits : ℕ → ℕ → ℕ → OpenActivity
 waits event attempt ready = record { event = event; attempt = attempt; ready = ready }
 
 -- a run that has called two activities, the second of which is to be tried again at 30, and waits for a timer

@@ -1,5 +1,5 @@
 -- What a board names: the tasks that are ready and weren't posted, and what else whoever posts them needs to know.
-use Rattle.std.specs.Prelude.{◌≡◌, ℕ, Bool, true, ◌&&◌, not, ◌++◌, List, [], ◌∷◌, filter, Option, Some, None, nat_eq, nat_le, nat_lt, if◌then◌else◌, refl}
+use Rattle.std.specs.Prelude.{◌≡◌, ℕ, Bool, true, ◌&&◌, not, ◌++◌, List, [], ◌∷◌, filter, Option, Some, None, nat_eq, refl}
 use Rattle.std.specs.Coded.{Coded, code_by, coded×, coded_ℕ, coded_list, coded_option}
 use Rattle.std.specs.List.{list_any}
 use Rattle.flow_base.specs.Syntax.{Bytes}
@@ -13,7 +13,7 @@ use Rattle.flow_base.specs.declared.fault.Fault.TheVariants as fault
 use Rattle.flow_base.specs.declared.value.Value.{Value}
 use Rattle.flow_model.specs.Book.{Book}
 use Rattle.flow_maps.specs.Agenda.{open_runs}
-use Rattle.flow_maps.specs.Outlooks.{Waiting, waiting}
+use Rattle.flow_maps.specs.Outlooks.{Waiting, ready_by, soonest, waiting}
 use Rattle.flow_rows.specs.Dues.{next_moment}
 use Rattle.flow_view.specs.Heads.{event_at, head_at}
 use Rattle.flow_view.specs.declared.head.Head.{Head}
@@ -47,9 +47,9 @@ is_key q p = nat_eq q.0 p.0 && nat_eq q.1 p.1 && nat_eq q.2 p.2
 abbrev pub is_posted : List Key → Key → Bool
 is_posted posted q = list_any (is_key q) posted
 
--- the attempt may be made by now, and wasn't posted
-abbrev pub is_ready : List Key → ℕ → Waiting → Bool
-is_ready posted at w = nat_le w.1.ready at && not (is_posted posted (w.0, w.1.event, w.1.attempt))
+-- the attempt wasn't posted
+abbrev pub is_new : List Key → Waiting → Bool
+is_new posted w = not (is_posted posted (w.0, w.1.event, w.1.attempt))
 
 -- an activity's name and its arguments
 abbrev pub Call : Type 0
@@ -96,21 +96,7 @@ tasks_of b (w ∷ ws) = task_at b w ++ tasks_of b ws
 
 -- The tasks that are ready by a moment and weren't posted.
 abbrev pub ready_tasks : List Key → ℕ → Book → List Task
-ready_tasks posted at b = tasks_of b (filter (is_ready posted at) (waiting b))
-
--- the lesser of two moments, of which one needn't be there
-abbrev pub sooner : Option ℕ → ℕ → Option ℕ
-sooner None m = Some m
-sooner (Some n) m = if nat_lt m n then Some m else Some n
-
--- an attempt counts that is ready after `at`
-abbrev pub with_ready : ℕ → Option ℕ → Waiting → Option ℕ
-with_ready at best w = if nat_lt at w.1.ready then sooner best w.1.ready else best
-
--- the least of a moment and of those after `at` at which attempts are ready
-abbrev pub soonest : ℕ → Option ℕ → List Waiting → Option ℕ
-soonest at best [] = best
-soonest at best (w ∷ ws) = soonest at (with_ready at best w) ws
+ready_tasks posted at b = tasks_of b (filter (is_new posted) (ready_by at b))
 
 -- When more is to be done: the least of the open timers' due moments and of the ready moments after this one.
 abbrev pub next_due : ℕ → Book → Option ℕ

@@ -26,7 +26,8 @@ fn replayed<S: Alter>(
     ensures verdict { IsFit S.Store tables.new → (b : Book) → Keeps (state_of S.Store tables.old) b → IsVerdict b result }
     ensures follows { Follows S.Store tables.old tables.new }
     ensures own { IsFit S.Store tables.new → IsUp S.Store tables.old → Keeps (state_of S.Store tables.old) (kept_book S.Store tables.old) }
-    ensures cause { IsFit S.Store tables.new → (b : Book) → Keeps (state_of S.Store tables.old) b → CausedUnverified result (IsDown S.Store tables.old tables.new ⊎ CantBeReplayed meaning_of b) }
+    ensures cause { IsFit S.Store tables.new → (b : Book) → Keeps (state_of S.Store tables.old) b
+        → CausedUnverified result (IsDown S.Store tables.old tables.new ⊎ CantBeReplayed meaning_of b) }
 {
     match begin_anew(tables) {
         Ok(()) => verified(alloc, programs, tables),
@@ -44,7 +45,8 @@ pub(crate) fn verify_all<S: Alter>(
     ensures verdict { IsFit S.Store tables.new → (b : Book) → Keeps (state_of S.Store tables.old) b → IsVerdict b result }
     ensures follows { Follows S.Store tables.old tables.new }
     ensures own { IsFit S.Store tables.new → IsUp S.Store tables.old → Keeps (state_of S.Store tables.old) (kept_book S.Store tables.old) }
-    ensures cause { IsFit S.Store tables.new → (b : Book) → Keeps (state_of S.Store tables.old) b → CausedUnverified result (IsDown S.Store tables.old tables.new ⊎ CantBeReplayed meaning_of b) }
+    ensures cause { IsFit S.Store tables.new → (b : Book) → Keeps (state_of S.Store tables.old) b
+        → CausedUnverified result (IsDown S.Store tables.old tables.new ⊎ CantBeReplayed meaning_of b) }
     // None runs behind it, however it ends.
     ensures rest { IsFit S.Store tables.new → (state_of S.Store tables.new).in_transaction ≡ false }
 {

@@ -3,7 +3,7 @@ ghost use Rattle.std.specs.Prelude.{◌≡◌, ◌++◌, IfOk, OnOk, filter};
 ghost use Rattle.flow_view.specs.Reading.{Caused, Reads};
 ghost use Rattle.flow_commit.specs.Boards as rule;
 
-use flow_base::book::Task as OpenTask;
+use flow_base::book::OpenActivity;
 use flow_base::event::{Cmd, Event, What, copy_values};
 use flow_base::number::{Moment, RunId};
 use flow_base::sequence::Sequence;
@@ -17,7 +17,7 @@ use std::alloc::{AllocError, Global};
 use std::collections::BTreeSet;
 
 /// An open activity with its run.
-type Waiting = (RunId, OpenTask);
+type Waiting = (RunId, OpenActivity);
 
 /// What is read of a book for a board.
 #[derive(Drop)]
@@ -33,71 +33,30 @@ fn is_posted(posted: &BTreeSet<Posted>, key: &Posted) -> bool
     posted.contains(key)
 }
 
-/// Whether an attempt may be made by a moment and wasn't posted.
-fn is_ready(posted: &BTreeSet<Posted>, at: Moment, entry: &Waiting) -> bool
-    ensures { result ≡ rule.is_ready posted.now.keys at entry.now }
+/// Whether an attempt wasn't posted.
+fn is_new(posted: &BTreeSet<Posted>, entry: &Waiting) -> bool
+    ensures { result ≡ rule.is_new posted.now.keys entry.now }
 {
     let task = &entry.1;
-    if at.get() < task.ready.get() {
-        return false;
-    }
     let key = (entry.0.get(), task.event.get(), task.attempt);
     !is_posted(posted, &key)
 }
 
-/// The open activities whose attempt is to be posted.
+/// The activities that may be attempted, but for those that were posted.
 pub(crate) fn wanted(
     alloc: Global,
     posted: &BTreeSet<Posted>,
-    at: Moment,
-    waiting: &[Waiting],
+    ready: &[Waiting],
 ) -> Result<Vec<Waiting>, AllocError>
-    ensures { IfOk result (λ v. v.items ≡ filter (rule.is_ready posted.now.keys at) waiting.now) }
+    ensures { IfOk result (λ v. v.items ≡ filter (rule.is_new posted.now.keys) ready.now) }
 {
     let mut list = Vec::new(alloc);
-    for entry in waiting {
-        if is_ready(posted, at, entry) {
+    for entry in ready {
+        if is_new(posted, entry) {
             list.push(*entry)?;
         }
     }
     Ok(list)
-}
-
-fn sooner(best: Option<Moment>, next: Moment) -> Option<Moment>
-    ensures { result ≡ rule.sooner best next }
-{
-    match best {
-        Some(moment) => {
-            if next.get() < moment.get() {
-                Some(next)
-            } else {
-                Some(moment)
-            }
-        }
-        None => Some(next),
-    }
-}
-
-fn with_ready(at: Moment, best: Option<Moment>, entry: &Waiting) -> Option<Moment>
-    ensures { result ≡ rule.with_ready at best entry.now }
-{
-    let ready = entry.1.ready;
-    if at.get() < ready.get() {
-        sooner(best, ready)
-    } else {
-        best
-    }
-}
-
-/// The least of a moment and of those after `at` at which attempts are ready.
-pub(crate) fn soonest(at: Moment, first: Option<Moment>, waiting: &[Waiting]) -> Option<Moment>
-    ensures { result ≡ rule.soonest at first waiting.now }
-{
-    let mut best = first;
-    for entry in waiting {
-        best = with_ready(at, best, entry);
-    }
-    best
 }
 
 fn called_of(alloc: Global, command: &Cmd) -> Result<Option<(Key, Sequence<Value>)>, AllocError>
@@ -142,7 +101,8 @@ fn call_at<V: View>(
     view: &mut V,
     entry: &Waiting,
 ) -> Result<Option<(Key, Sequence<Value>)>, ViewFault>
-    ensures reads { IfOk result (λ o. Reads (V.is_sure view.new) (V.book view.old) (V.book view.new) o (rule.call_at (V.book view.old) entry.now.0 entry.now.1.event)) }
+    ensures reads { IfOk result (λ o. Reads (V.is_sure view.new) (V.book view.old) (V.book view.new) o
+        (rule.call_at (V.book view.old) entry.now.0 entry.now.1.event)) }
     ensures cause { (a : V) → V.follows a view.old → V.is_true view.new → V.is_sure view.old → Caused result (V.refuses a view.new) }
     ensures goes_on { OnOk result (V.is_true view.new → V.is_sure view.old → V.is_sure view.new) }
     ensures sure { V.is_sure view.new → V.is_sure view.old }
@@ -176,7 +136,8 @@ fn flow_in(head: Option<Head>) -> Option<Key>
 
 /// The flow of an open activity's run.
 fn flow_at<V: View>(view: &mut V, entry: &Waiting) -> Result<Option<Key>, ViewFault>
-    ensures reads { IfOk result (λ o. Reads (V.is_sure view.new) (V.book view.old) (V.book view.new) o (rule.flow_at (V.book view.old) entry.now.0)) }
+    ensures reads { IfOk result (λ o. Reads (V.is_sure view.new) (V.book view.old) (V.book view.new) o
+        (rule.flow_at (V.book view.old) entry.now.0)) }
     ensures cause { (a : V) → V.follows a view.old → V.is_true view.new → V.is_sure view.old → Caused result (V.refuses a view.new) }
     ensures goes_on { OnOk result (V.is_true view.new → V.is_sure view.old → V.is_sure view.new) }
     ensures sure { V.is_sure view.new → V.is_sure view.old }
@@ -218,7 +179,8 @@ fn add_ready<V: View>(
     list: &mut Vec<Task>,
     entry: &Waiting,
 ) -> Result<(), ViewFault>
-    ensures reads { OnOk result (V.is_sure view.new → (V.book view.new ≡ V.book view.old) × (list.new.items ≡ list.old.items ++ rule.task_at (V.book view.old) entry.now)) }
+    ensures reads { OnOk result (V.is_sure view.new → (V.book view.new ≡ V.book view.old)
+        × (list.new.items ≡ list.old.items ++ rule.task_at (V.book view.old) entry.now)) }
     ensures cause { (a : V) → V.follows a view.old → V.is_true view.new → V.is_sure view.old → Caused result (V.refuses a view.new) }
     ensures goes_on { OnOk result (V.is_true view.new → V.is_sure view.old → V.is_sure view.new) }
     ensures sure { V.is_sure view.new → V.is_sure view.old }
@@ -239,7 +201,8 @@ pub(crate) fn tasks_of<V: View>(
     view: &mut V,
     wanted: &[Waiting],
 ) -> Result<Sequence<Task>, ViewFault>
-    ensures reads { IfOk result (λ v. Reads (V.is_sure view.new) (V.book view.old) (V.book view.new) v (rule.tasks_of (V.book view.old) wanted.now)) }
+    ensures reads { IfOk result (λ v. Reads (V.is_sure view.new) (V.book view.old) (V.book view.new) v
+        (rule.tasks_of (V.book view.old) wanted.now)) }
     ensures cause { (a : V) → V.follows a view.old → V.is_true view.new → V.is_sure view.old → Caused result (V.refuses a view.new) }
     ensures goes_on { OnOk result (V.is_true view.new → V.is_sure view.old → V.is_sure view.new) }
     ensures sure { V.is_sure view.new → V.is_sure view.old }

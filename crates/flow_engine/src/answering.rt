@@ -119,15 +119,18 @@ fn cut(alloc: Global, first: u64, commands: Vec<Command>) -> Result<Vec<Batch>, 
 fn answered<S: Alter>(engine: &mut Engine<S>, batches: Vec<Batch>) -> Result<Answer, Stop>
     requires one { length batches.items ≡ 1 }
     requires alone { AreAlone batches.items }
-    ensures answers { IfOk result (λ a. IsSure S.Store engine.new → (t : ATaken) → batches.items ≡ (t ∷ []) ∷ [] → Answers rules (kept_book S.Store engine.old) (kept_book S.Store engine.new) t.command a) }
-    ensures given_up { IfOk result (λ a. (t : ATaken) → batches.items ≡ (t ∷ []) ∷ [] → CausedAnswer (GivesUp S.Store engine.old engine.new (kept_book S.Store engine.old) (t.command ∷ [])) a) }
+    ensures answers { IfOk result (λ a. IsSure S.Store engine.new → (t : ATaken) → batches.items ≡ (t ∷ []) ∷ []
+        → Answers rules (kept_book S.Store engine.old) (kept_book S.Store engine.new) t.command a) }
+    ensures given_up { IfOk result (λ a. (t : ATaken) → batches.items ≡ (t ∷ []) ∷ []
+        → CausedAnswer (GivesUp S.Store engine.old engine.new (kept_book S.Store engine.old) (t.command ∷ [])) a) }
     ensures stopped { IfErr result (λ s. HasStopped engine.old engine.new s) }
     ensures unstopped { OnOk result (HasAnswered engine.old engine.new) }
     ensures sure { IsSure S.Store engine.new → IsSure S.Store engine.old }
     ensures follows { Follows S.Store engine.old engine.new }
     ensures goes_on { IsFit S.Store engine.new → HasGoneOn S.Store engine.old engine.new }
     ensures part { (t : ATaken) → batches.items ≡ (t ∷ []) ∷ []
-        → MatchResult result (λ a. IsPart S.Store engine.old engine.new (t.command ∷ []) (a ∷ []) None) (λ s. IsPart S.Store engine.old engine.new (t.command ∷ []) [] (Some s)) }
+        → MatchResult result (λ a. IsPart S.Store engine.old engine.new (t.command ∷ []) (a ∷ []) None)
+        (λ s. IsPart S.Store engine.old engine.new (t.command ∷ []) [] (Some s)) }
 {
     match drive(engine, batches) {
         Ok(dones) => one_answer(dones),
@@ -144,17 +147,23 @@ fn all_answered<S: Alter>(
     requires none { answers.items ≡ [] }
     requires room { vec_len answers + length batches.items ≤ vec_capacity answers }
     requires alone { AreAlone batches.items }
-    ensures answers { IfOk result (λ all. IsSure S.Store engine.new → (ts : List ATaken) → batches.items ≡ map alone ts → AnswersAll rules (kept_book S.Store engine.old) (kept_book S.Store engine.new) (commands_of ts) all.items) }
-    ensures kept { IfOk result (λ all. IsFit S.Store engine.new → (b : Book) → KeepsBook S.Store engine.old b → (ts : List ATaken) → batches.items ≡ map alone ts → KeepsAnswered S.Store engine.new b (commands_of ts) all.items) }
+    ensures answers { IfOk result (λ all. IsSure S.Store engine.new → (ts : List ATaken) → batches.items ≡ map alone ts
+        → AnswersAll rules (kept_book S.Store engine.old) (kept_book S.Store engine.new) (commands_of ts) all.items) }
+    ensures kept { IfOk result (λ all. IsFit S.Store engine.new → (b : Book) → KeepsBook S.Store engine.old b → (ts : List ATaken)
+        → batches.items ≡ map alone ts → KeepsAnswered S.Store engine.new b (commands_of ts) all.items) }
     ensures count { IfOk result (λ all. length all.items ≡ length batches.items) }
-    ensures given_up { IfOk result (λ all. (ts : List ATaken) → batches.items ≡ map alone ts → AreCaused (GivesUp S.Store engine.old engine.new) (kept_book S.Store engine.old) (commands_of ts) all.items) }
-    ensures early { IfErr result (λ u. (ts : List ATaken) → batches.items ≡ map alone ts → EndsEarly S.Store engine.old engine.new (commands_of ts) u) }
-    ensures leaves { IfErr result (λ u. IsFit S.Store engine.new → (b : Book) → KeepsBook S.Store engine.old b → (ts : List ATaken) → batches.items ≡ map alone ts → LeavesBehind S.Store engine.new b (commands_of ts) u) }
+    ensures given_up { IfOk result (λ all. (ts : List ATaken) → batches.items ≡ map alone ts
+        → AreCaused (GivesUp S.Store engine.old engine.new) (kept_book S.Store engine.old) (commands_of ts) all.items) }
+    ensures early { IfErr result (λ u. (ts : List ATaken) → batches.items ≡ map alone ts
+        → EndsEarly S.Store engine.old engine.new (commands_of ts) u) }
+    ensures leaves { IfErr result (λ u. IsFit S.Store engine.new → (b : Book) → KeepsBook S.Store engine.old b → (ts : List ATaken)
+        → batches.items ≡ map alone ts → LeavesBehind S.Store engine.new b (commands_of ts) u) }
     ensures sure { IsSure S.Store engine.new → IsSure S.Store engine.old }
     ensures follows { Follows S.Store engine.old engine.new }
     ensures goes_on { IsFit S.Store engine.new → HasGoneOn S.Store engine.old engine.new }
     ensures part { (ts : List ATaken) → batches.items ≡ map alone ts
-        → MatchResult result (λ all. IsPart S.Store engine.old engine.new (commands_of ts) all.items None) (λ u. IsPartUpTo S.Store engine.old engine.new (commands_of ts) u) }
+        → MatchResult result (λ all. IsPart S.Store engine.old engine.new (commands_of ts) all.items None)
+        (λ u. IsPartUpTo S.Store engine.old engine.new (commands_of ts) u) }
 {
     match drive(engine, batches) {
         Ok(dones) => all_answers(answers, dones),
@@ -170,7 +179,8 @@ impl<S: Alter> Engine<S> {
     pub fn answer(&mut self, command: Command) -> Result<Answer, Stop>
         // The book is the one in the tables. It is known on a disk that told no lie, over a file that held our tables or none, and
         // while the connection is open.
-        ensures answers { IfOk result (λ a. IsSure S.Store self.new → Answers rules (kept_book S.Store self.old) (kept_book S.Store self.new) command a) }
+        ensures answers { IfOk result (λ a. IsSure S.Store self.new
+            → Answers rules (kept_book S.Store self.old) (kept_book S.Store self.new) command a) }
         // It is given up with E01, or with E80 for a cause in what the engine is before and behind; the book is again the one in the tables.
         ensures cause { IfOk result (λ a. CausedAnswer (GivesUp S.Store self.old self.new (kept_book S.Store self.old) (command ∷ [])) a) }
         ensures stopped { IfErr result (λ s. HasStopped self.old self.new s) }
@@ -179,7 +189,8 @@ impl<S: Alter> Engine<S> {
         ensures follows { Follows S.Store self.old self.new }
         ensures goes_on { IsFit S.Store self.new → HasGoneOn S.Store self.old self.new }
         // It is a part of a life, as the headline has it.
-        ensures part { MatchResult result (λ a. IsPart S.Store self.old self.new (command ∷ []) (a ∷ []) None) (λ s. IsPart S.Store self.old self.new (command ∷ []) [] (Some s)) }
+        ensures part { MatchResult result (λ a. IsPart S.Store self.old self.new (command ∷ []) (a ∷ []) None)
+            (λ s. IsPart S.Store self.old self.new (command ∷ []) [] (Some s)) }
     {
         let ticket = self.tickets(1);
         match one_batch(self.alloc(), Taken { ticket, command }) {
@@ -195,20 +206,25 @@ impl<S: Alter> Engine<S> {
     /// E01, before the first command, and nothing has changed; E84 where nobody knows until the store is opened again whether
     /// the next command is kept; E85 where the engine had halted before.
     pub fn answer_all(&mut self, commands: Vec<Command>) -> Result<Vec<Answer>, Unanswered>
-        ensures answers { IfOk result (λ all. IsSure S.Store self.new → AnswersAll rules (kept_book S.Store self.old) (kept_book S.Store self.new) commands.items all.items) }
+        ensures answers { IfOk result (λ all. IsSure S.Store self.new
+            → AnswersAll rules (kept_book S.Store self.old) (kept_book S.Store self.new) commands.items all.items) }
         // Over a book that is kept, the book behind the commands is kept.
-        ensures kept { IfOk result (λ all. IsFit S.Store self.new → (b : Book) → KeepsBook S.Store self.old b → KeepsAnswered S.Store self.new b commands.items all.items) }
+        ensures kept { IfOk result (λ all. IsFit S.Store self.new → (b : Book) → KeepsBook S.Store self.old b
+            → KeepsAnswered S.Store self.new b commands.items all.items) }
         ensures count { IfOk result (λ all. length all.items ≡ length commands.items) }
-        ensures cause { IfOk result (λ all. AreCaused (GivesUp S.Store self.old self.new) (kept_book S.Store self.old) commands.items all.items) }
+        ensures cause { IfOk result (λ all. AreCaused (GivesUp S.Store self.old self.new)
+            (kept_book S.Store self.old) commands.items all.items) }
         ensures stopped { IfErr result (λ u. EndsEarly S.Store self.old self.new commands.items u) }
         // The answers before a stop are those of the first commands, and a stop of the process then leaves the book behind them, or
         // that behind the commands in hand.
-        ensures leaves { IfErr result (λ u. IsFit S.Store self.new → (b : Book) → KeepsBook S.Store self.old b → LeavesBehind S.Store self.new b commands.items u) }
+        ensures leaves { IfErr result (λ u. IsFit S.Store self.new → (b : Book) → KeepsBook S.Store self.old b
+            → LeavesBehind S.Store self.new b commands.items u) }
         ensures sure { IsSure S.Store self.new → IsSure S.Store self.old }
         ensures follows { Follows S.Store self.old self.new }
         ensures goes_on { IsFit S.Store self.new → HasGoneOn S.Store self.old self.new }
         // They are a part of a life, as the headline has it.
-        ensures part { MatchResult result (λ all. IsPart S.Store self.old self.new commands.items all.items None) (λ u. IsPartUpTo S.Store self.old self.new commands.items u) }
+        ensures part { MatchResult result (λ all. IsPart S.Store self.old self.new commands.items all.items None)
+            (λ u. IsPartUpTo S.Store self.old self.new commands.items u) }
     {
         let first = self.tickets(commands.len() as u64);
         let answers = match room_for(self.alloc(), commands.as_slice()) {

@@ -20,15 +20,19 @@ use std::alloc::AllocError;
 /// Commits a batch and gives its stamp up.
 pub(crate) fn done_with<S: Alter>(engine: &mut Engine<S>, batch: Batch) -> Done
     ensures fit { IsFit S.Store engine.new → IsFit S.Store engine.old }
-    ensures does { IsFit S.Store engine.new → (b : Book) → KeepsBook S.Store engine.old b → HasDone S.Store engine.old engine.new b batch result }
-    ensures cause { IsFit S.Store engine.new → (b : Book) → KeepsBook S.Store engine.old b → IsDoneFor S.Store engine.old engine.new b batch result }
+    ensures does { IsFit S.Store engine.new → (b : Book) → KeepsBook S.Store engine.old b
+        → HasDone S.Store engine.old engine.new b batch result }
+    ensures cause { IsFit S.Store engine.new → (b : Book) → KeepsBook S.Store engine.old b
+        → IsDoneFor S.Store engine.old engine.new b batch result }
     ensures halted { engine.old.halted ≡ true → engine.new ≡ engine.old }
     ensures later { engine.old.halted ≡ true → result ≡ dones.Halted }
     ensures same { engine.new.stored.opened ≡ engine.old.stored.opened }
     ensures noted { IsNoted engine.old engine.new batch result }
     ensures up { IsFit S.Store engine.new → IsUp S.Store engine.new → IsUp S.Store engine.old }
-    ensures own { IsFit S.Store engine.new → IsUp S.Store engine.old → (engine.new ≡ engine.old) ⊎ KeepsBook S.Store engine.old (kept_book S.Store engine.old) }
-    ensures why { IsFit S.Store engine.new → IsGivenUpFor (WasRefused S.Store engine.old engine.new) (kept_book S.Store engine.old) batch result }
+    ensures own { IsFit S.Store engine.new → IsUp S.Store engine.old → (engine.new ≡ engine.old)
+        ⊎ KeepsBook S.Store engine.old (kept_book S.Store engine.old) }
+    ensures why { IsFit S.Store engine.new → IsGivenUpFor (WasRefused S.Store engine.old engine.new)
+        (kept_book S.Store engine.old) batch result }
     ensures goes_on { IsFit S.Store engine.new → HasGoneOn S.Store engine.old engine.new }
 {
     match engine.commit(batch) {
@@ -52,13 +56,15 @@ pub fn drive<S: Alter>(
 ) -> Result<Vec<Done>, (Vec<Batch>, AllocError)>
     ensures fit { IsFit S.Store engine.new → IsFit S.Store engine.old }
     // Each answer over the book that the batches before it left, and why it was given.
-    ensures drives { IsFit S.Store engine.new → (b : Book) → KeepsBook S.Store engine.old b → engine.old.halted ≡ false → IfOk result (λ ds. Drives S.Store engine.old engine.new b batches.items ds.items) }
+    ensures drives { IsFit S.Store engine.new → (b : Book) → KeepsBook S.Store engine.old b → engine.old.halted ≡ false
+        → IfOk result (λ ds. Drives S.Store engine.old engine.new b batches.items ds.items) }
     // Every book on the way is sound, and so is the one that a batch in hand may have led to.
     ensures sound { IfOk result (λ ds. (b : Book) → ReachesSound b (kept_of batches.items ds.items ++ in_hand batches.items ds.items)) }
     ensures well { IfOk result (λ ds. (b : Book) → ReachesWell b (kept_of batches.items ds.items ++ in_hand batches.items ds.items)) }
     // So whatever a stop leaves at this moment is found again, and nothing of it is refused.
     ensures leaves { IsFit S.Store engine.new → (b : Book) → IsWell b → KeepsBook S.Store engine.old b → engine.old.halted ≡ false
-        → IfOk result (λ ds. (db : Trees) → (state_of S.Store engine.new.stored).may_leave db → IsLeft db b (kept_of batches.items ds.items) (in_hand batches.items ds.items)) }
+        → IfOk result (λ ds. (db : Trees) → (state_of S.Store engine.new.stored).may_leave db
+        → IsLeft db b (kept_of batches.items ds.items) (in_hand batches.items ds.items)) }
     // This is what a life has of these batches.
     ensures runs { IfOk result (λ ds. Runs S.Store engine.old engine.new batches.items ds.items) }
     // An engine that has halted does nothing.
@@ -70,9 +76,11 @@ pub fn drive<S: Alter>(
     ensures opened { engine.new.stored.opened ≡ engine.old.stored.opened }
     // An open connection was open before, and a book was kept unless nothing was done.
     ensures up { IsFit S.Store engine.new → IsUp S.Store engine.new → IsUp S.Store engine.old }
-    ensures own { IsFit S.Store engine.new → IsUp S.Store engine.old → (engine.new ≡ engine.old) ⊎ KeepsBook S.Store engine.old (kept_book S.Store engine.old) }
+    ensures own { IsFit S.Store engine.new → IsUp S.Store engine.old → (engine.new ≡ engine.old)
+        ⊎ KeepsBook S.Store engine.old (kept_book S.Store engine.old) }
     // Why batches were given up with E80, over the book read off the tables at the beginning, whether it is known to be kept or not.
-    ensures given_up { IfOk result (λ ds. IsFit S.Store engine.new → AreGivenUp (WasRefused S.Store engine.old engine.new) (kept_book S.Store engine.old) batches.items ds.items) }
+    ensures given_up { IfOk result (λ ds. IsFit S.Store engine.new
+        → AreGivenUp (WasRefused S.Store engine.old engine.new) (kept_book S.Store engine.old) batches.items ds.items) }
     // No more of them than the store has counted failures, but for other causes.
     ensures counted { IfOk result
         (λ ds. IsFit S.Store engine.new → IsCounted S.Store engine.old engine.new (kept_book S.Store engine.old) batches.items ds.items) }

@@ -120,15 +120,19 @@ impl<S: Alter> Engine<S> {
         requires some { 1 ≤ length commands.items }
         requires most { length commands.items ≤ 64 }
         // The book is the one in the tables, as that of `answer`.
-        ensures answers { IfOk result (λ t. IsSure S.Store self.new → AnswersTogether rules (kept_book S.Store self.old) (kept_book S.Store self.new) commands.items t) }
+        ensures answers { IfOk result (λ t. IsSure S.Store self.new
+            → AnswersTogether rules (kept_book S.Store self.old) (kept_book S.Store self.new) commands.items t) }
         // Over a book that is kept, the book behind the commands is kept.
-        ensures kept { IfOk result (λ t. IsFit S.Store self.new → (b : Book) → KeepsBook S.Store self.old b → KeepsTogether S.Store self.new b commands.items t) }
+        ensures kept { IfOk result (λ t. IsFit S.Store self.new → (b : Book) → KeepsBook S.Store self.old b
+            → KeepsTogether S.Store self.new b commands.items t) }
         ensures count { IfOk result (λ t. CountsTogether commands.items t) }
-        ensures cause { IfOk result (λ t. CausedTogether (GivesUp S.Store self.old self.new (kept_book S.Store self.old) commands.items) t) }
+        ensures cause { IfOk result (λ t. CausedTogether
+            (GivesUp S.Store self.old self.new (kept_book S.Store self.old) commands.items) t) }
         ensures stopped { IfErr result (λ s. HasStopped self.old self.new s) }
         ensures unstopped { OnOk result (HasAnswered self.old self.new) }
         // A stop of the process then leaves the book before all of them, or the book behind them all.
-        ensures leaves { IfErr result (λ s. IsFit S.Store self.new → (b : Book) → KeepsBook S.Store self.old b → LeavesEither (state_of S.Store self.new.stored) b (after rules b commands.items)) }
+        ensures leaves { IfErr result (λ s. IsFit S.Store self.new → (b : Book) → KeepsBook S.Store self.old b
+            → LeavesEither (state_of S.Store self.new.stored) b (after rules b commands.items)) }
         ensures sure { IsSure S.Store self.new → IsSure S.Store self.old }
         ensures follows { Follows S.Store self.old self.new }
         ensures goes_on { IsFit S.Store self.new → HasGoneOn S.Store self.old self.new }

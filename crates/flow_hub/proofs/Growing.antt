@@ -7,8 +7,8 @@ use Rattle.flow_machine.specs.declared.submission.Receipt.{Receipt}
 use Rattle.flow_machine.specs.declared.submission.Taken.{Taken}
 use Rattle.flow_commit.specs.Accounts.{Accounted}
 use Rattle.flow_machine.specs.declared.task.Task.{Task}
-use Rattle.flow_hub.specs.declared.known.Known.{Known}
-use Rattle.flow_hub.specs.declared.known.Outlook.{Outlook}
+use Rattle.flow_hub.specs.declared.known.HubFacts.{HubFacts}
+use Rattle.flow_hub.specs.declared.known.BoardSummary.{BoardSummary}
 use Rattle.flow_queues.specs.Refusing.{refused_by}
 use Rattle.flow_hub.specs.Knowing.{nothing, with_ask, with_taken, with_published, with_refused, with_fetched, with_member, with_closed, with_ended, with_posted, with_skipped, with_given, IsOver, IsBefore, IsSamePart}
 
@@ -31,7 +31,7 @@ over_trans (j ∷ js) [] ls p q = absurd p
 over_trans (j ∷ js) (k ∷ ks) [] p q = absurd q
 over_trans (j ∷ js) (k ∷ ks) (l ∷ ls) p q = q ∙ p
 
-pub before_self : (k : Known) → IsBefore k k
+pub before_self : (k : HubFacts) → IsBefore k k
 before_self k = record {
   asked = prefix_self k.asked;
   history = prefix_self k.history;
@@ -44,7 +44,7 @@ before_self k = record {
   given = prefix_self k.given;
 }
 
-pub before_trans : (j k l : Known) → IsBefore j k → IsBefore k l → IsBefore j l
+pub before_trans : (j k l : HubFacts) → IsBefore j k → IsBefore k l → IsBefore j l
 before_trans j k l p q = record {
   asked = prefix_trans j.asked k.asked l.asked p.asked q.asked;
   history = prefix_trans j.history k.history l.history p.history q.history;
@@ -57,7 +57,7 @@ before_trans j k l p q = record {
   given = prefix_trans j.given k.given l.given p.given q.given;
 }
 
-pub before_all : (k : Known) → IsBefore nothing k
+pub before_all : (k : HubFacts) → IsBefore nothing k
 before_all k = record {
   asked = (k.asked, refl);
   history = (k.history, refl);
@@ -70,25 +70,25 @@ before_all k = record {
   given = (k.given, refl);
 }
 
-pub same_part : (k : Known) → IsSamePart k k
+pub same_part : (k : HubFacts) → IsSamePart k k
 same_part k = record { history = refl; refused = refl; last = refl; held = refl; ended = refl; posted = refl; boarded = refl; outlook = refl }
 
 -- two that agree with a third on the publisher's part agree
-pub part_of : (x now y k : Known) → IsSamePart x now → y ≡ now → IsSamePart k y → IsSamePart x k
+pub part_of : (x now y k : HubFacts) → IsSamePart x now → y ≡ now → IsSamePart k y → IsSamePart x k
 part_of x now y k p e q = record {
-  history = p.history ∙ (ap (λ (l : Known). l.history) (sym e) ∙ sym q.history);
-  refused = p.refused ∙ (ap (λ (l : Known). l.refused) (sym e) ∙ sym q.refused);
-  last = p.last ∙ (ap (λ (l : Known). l.last) (sym e) ∙ sym q.last);
-  held = p.held ∙ (ap (λ (l : Known). l.held) (sym e) ∙ sym q.held);
-  ended = p.ended ∙ (ap (λ (l : Known). l.ended) (sym e) ∙ sym q.ended);
-  posted = p.posted ∙ (ap (λ (l : Known). l.posted) (sym e) ∙ sym q.posted);
-  boarded = p.boarded ∙ (ap (λ (l : Known). l.boarded) (sym e) ∙ sym q.boarded);
-  outlook = p.outlook ∙ (ap (λ (l : Known). l.outlook) (sym e) ∙ sym q.outlook);
+  history = p.history ∙ (ap (λ (l : HubFacts). l.history) (sym e) ∙ sym q.history);
+  refused = p.refused ∙ (ap (λ (l : HubFacts). l.refused) (sym e) ∙ sym q.refused);
+  last = p.last ∙ (ap (λ (l : HubFacts). l.last) (sym e) ∙ sym q.last);
+  held = p.held ∙ (ap (λ (l : HubFacts). l.held) (sym e) ∙ sym q.held);
+  ended = p.ended ∙ (ap (λ (l : HubFacts). l.ended) (sym e) ∙ sym q.ended);
+  posted = p.posted ∙ (ap (λ (l : HubFacts). l.posted) (sym e) ∙ sym q.posted);
+  boarded = p.boarded ∙ (ap (λ (l : HubFacts). l.boarded) (sym e) ∙ sym q.boarded);
+  outlook = p.outlook ∙ (ap (λ (l : HubFacts). l.outlook) (sym e) ∙ sym q.outlook);
 }
 
 ---- Each change lets it grow
 
-pub asks_on : (k : Known) (t : Taken) → IsBefore k (with_ask k t)
+pub asks_on : (k : HubFacts) (t : Taken) → IsBefore k (with_ask k t)
 asks_on k t = record {
   asked = (t ∷ [], refl);
   history = prefix_self k.history;
@@ -101,7 +101,7 @@ asks_on k t = record {
   given = prefix_self k.given;
 }
 
-pub takes_on : (k : Known) (xs : List Taken) → IsBefore k (with_taken k xs)
+pub takes_on : (k : HubFacts) (xs : List Taken) → IsBefore k (with_taken k xs)
 takes_on k xs = record {
   asked = prefix_self k.asked;
   history = prefix_self k.history;
@@ -114,7 +114,7 @@ takes_on k xs = record {
   given = prefix_self k.given;
 }
 
-pub publishes_on : (k : Known) (keeper : Accounted) (rs : List Receipt) → IsOver k.last (keeper ∷ []) → IsBefore k (with_published k keeper rs)
+pub publishes_on : (k : HubFacts) (keeper : Accounted) (rs : List Receipt) → IsOver k.last (keeper ∷ []) → IsBefore k (with_published k keeper rs)
 publishes_on k keeper rs o = record {
   asked = prefix_self k.asked;
   history = (rs, refl);
@@ -127,7 +127,7 @@ publishes_on k keeper rs o = record {
   given = prefix_self k.given;
 }
 
-pub refuses_on : (k : Known) (xs : List Taken) (code : Code) → IsBefore k (with_refused k xs code)
+pub refuses_on : (k : HubFacts) (xs : List Taken) (code : Code) → IsBefore k (with_refused k xs code)
 refuses_on k xs code = record {
   asked = prefix_self k.asked;
   history = prefix_self k.history;
@@ -140,7 +140,7 @@ refuses_on k xs code = record {
   given = prefix_self k.given;
 }
 
-pub fetches_on : (k : Known) → IsBefore k (with_fetched k)
+pub fetches_on : (k : HubFacts) → IsBefore k (with_fetched k)
 fetches_on k = record {
   asked = prefix_self k.asked;
   history = prefix_self k.history;
@@ -154,18 +154,18 @@ fetches_on k = record {
 }
 
 -- where one answer more was fetched than what a seat saw a beginning of
-pub fetches_more : (k all l m : Known) → IsBefore k all → all ≡ l → m ≡ with_fetched l → k.fetched < m.fetched
+pub fetches_more : (k all l m : HubFacts) → IsBefore k all → all ≡ l → m ≡ with_fetched l → k.fetched < m.fetched
 fetches_more k all l m before same next =
     let upto = before.fetched in
-    let here = ap (λ (x : Known). x.fetched) same in
-    let more = ap (λ (x : Known). x.fetched) next in
+    let here = ap (λ (x : HubFacts). x.fetched) same in
+    let more = ap (λ (x : HubFacts). x.fetched) next in
     omega (arith, upto, here, more)
 
 -- and where a seat had seen a beginning of what another one saw
-pub fetches_later : (j k l : Known) → IsBefore j k → k.fetched < l.fetched → j.fetched < l.fetched
+pub fetches_later : (j k l : HubFacts) → IsBefore j k → k.fetched < l.fetched → j.fetched < l.fetched
 fetches_later j k l before less = let upto = before.fetched in omega (arith, upto, less)
 
-pub enrolls_on : (k : Known) → IsBefore k (with_member k)
+pub enrolls_on : (k : HubFacts) → IsBefore k (with_member k)
 enrolls_on k = record {
   asked = prefix_self k.asked;
   history = prefix_self k.history;
@@ -178,7 +178,7 @@ enrolls_on k = record {
   given = prefix_self k.given;
 }
 
-pub closes_on : (k : Known) → IsBefore k (with_closed k)
+pub closes_on : (k : HubFacts) → IsBefore k (with_closed k)
 closes_on k = record {
   asked = prefix_self k.asked;
   history = prefix_self k.history;
@@ -191,7 +191,7 @@ closes_on k = record {
   given = prefix_self k.given;
 }
 
-pub ends_on : (k : Known) → IsBefore k (with_ended k)
+pub ends_on : (k : HubFacts) → IsBefore k (with_ended k)
 ends_on k = record {
   asked = prefix_self k.asked;
   history = prefix_self k.history;
@@ -204,7 +204,7 @@ ends_on k = record {
   given = prefix_self k.given;
 }
 
-pub posts_on : (k : Known) (ts : List Task) (outlook : Outlook) → IsBefore k (with_posted k ts outlook)
+pub posts_on : (k : HubFacts) (ts : List Task) (outlook : BoardSummary) → IsBefore k (with_posted k ts outlook)
 posts_on k ts outlook = record {
   asked = prefix_self k.asked;
   history = prefix_self k.history;
@@ -217,7 +217,7 @@ posts_on k ts outlook = record {
   given = prefix_self k.given;
 }
 
-pub skips_on : (k : Known) → IsBefore k (with_skipped k)
+pub skips_on : (k : HubFacts) → IsBefore k (with_skipped k)
 skips_on k = record {
   asked = prefix_self k.asked;
   history = prefix_self k.history;
@@ -230,7 +230,7 @@ skips_on k = record {
   given = prefix_self k.given;
 }
 
-pub gives_on : (k : Known) (t : Task) → IsBefore k (with_given k t)
+pub gives_on : (k : HubFacts) (t : Task) → IsBefore k (with_given k t)
 gives_on k t = record {
   asked = prefix_self k.asked;
   history = prefix_self k.history;
@@ -245,24 +245,24 @@ gives_on k t = record {
 
 ---- What a submitter changes, hub and lock included, isn't the publisher's
 
-pub asks_part : (k : Known) (t : Taken) → IsSamePart (with_ask k t) k
+pub asks_part : (k : HubFacts) (t : Taken) → IsSamePart (with_ask k t) k
 asks_part k t = record { history = refl; refused = refl; last = refl; held = refl; ended = refl; posted = refl; boarded = refl; outlook = refl }
 
-pub fetches_part : (k : Known) → IsSamePart (with_fetched k) k
+pub fetches_part : (k : HubFacts) → IsSamePart (with_fetched k) k
 fetches_part k = record { history = refl; refused = refl; last = refl; held = refl; ended = refl; posted = refl; boarded = refl; outlook = refl }
 
-pub enrolls_part : (k : Known) → IsSamePart (with_member k) k
+pub enrolls_part : (k : HubFacts) → IsSamePart (with_member k) k
 enrolls_part k = record { history = refl; refused = refl; last = refl; held = refl; ended = refl; posted = refl; boarded = refl; outlook = refl }
 
-pub closes_part : (k : Known) → IsSamePart (with_closed k) k
+pub closes_part : (k : HubFacts) → IsSamePart (with_closed k) k
 closes_part k = record { history = refl; refused = refl; last = refl; held = refl; ended = refl; posted = refl; boarded = refl; outlook = refl }
 
-pub gives_part : (k : Known) (t : Task) → IsSamePart (with_given k t) k
+pub gives_part : (k : HubFacts) (t : Task) → IsSamePart (with_given k t) k
 gives_part k t = record { history = refl; refused = refl; last = refl; held = refl; ended = refl; posted = refl; boarded = refl; outlook = refl }
 
 -- the same of equal ones
-pub grows_by : (k l m n : Known) → k ≡ l → n ≡ m → IsBefore l m → IsBefore k n
+pub grows_by : (k l m n : HubFacts) → k ≡ l → n ≡ m → IsBefore l m → IsBefore k n
 grows_by k l m n e f b = subst (λ x. IsBefore x n) (sym e) (subst (λ y. IsBefore l y) (sym f) b)
 
-pub part_by : (k l m n : Known) → k ≡ l → n ≡ m → IsSamePart m l → IsSamePart n k
+pub part_by : (k l m n : HubFacts) → k ≡ l → n ≡ m → IsSamePart m l → IsSamePart n k
 part_by k l m n e f p = subst (λ x. IsSamePart n x) (sym e) (subst (λ y. IsSamePart y l) (sym f) p)

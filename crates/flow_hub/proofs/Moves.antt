@@ -6,7 +6,7 @@ use mathlib.Core.Option.{none, some, some-ne-none, some-injective}
 use lib.ListN.{get_elem?}
 use Rattle.atomic_table.specs.Table.{Me, step, Allows, Enters, Splits, Joins, keeps, opening}
 use Rattle.atomic_table.proofs.Lists.{at_set, at_snoc}
-use Rattle.flow_hub.specs.declared.known.Known.{Known}
+use Rattle.flow_hub.specs.declared.known.HubFacts.{HubFacts}
 use Rattle.flow_hub.specs.declared.seats.Sight.{Sight}
 use Rattle.flow_hub.specs.Knowing.{nothing, IsBefore, IsSamePart, with_member}
 use Rattle.flow_hub.specs.Seating.{opener, nobody, Fits, IsApart, AreNumbered, Kept, Knows, owed_in, AreOwed, owed_after, IsOwing, added, adding, admitting, Adds, Admits, Looks, lent, keeps_left, handed_back, gives_none, gives_alone, member_none, member_alone, meeting, keeping, seeing}
@@ -147,10 +147,10 @@ numbers_meet m by other views v u at away there (seat, all) = numbers_drop m oth
 
 ---- The steps
 
-nobody_fits : (a b c : ℕ) (now : Known) (by : ℕ) → Fits a b c now by nobody
+nobody_fits : (a b c : ℕ) (now : HubFacts) (by : ℕ) → Fits a b c now by nobody
 nobody_fits a b c now by = ((λ k. absurd (off k)), (λ p. absurd (off p)), (λ g. absurd (off g)), before_all now)
 
-fits_set : (a b c : ℕ) (now : Known) (views : List Sight) (by : ℕ) (w : Sight) → ((j : ℕ) (u : Sight) → j ≢ by → get_elem? views j ≡ some u → Fits a b c now j u) → Fits a b c now by w
+fits_set : (a b c : ℕ) (now : HubFacts) (views : List Sight) (by : ℕ) (w : Sight) → ((j : ℕ) (u : Sight) → j ≢ by → get_elem? views j ≡ some u → Fits a b c now j u) → Fits a b c now by w
     → (j : ℕ) (u : Sight) → get_elem? (set views by w) j ≡ some u → Fits a b c now j u
 fits_set a b c now views by w others mine j u e =
     ⊎_elim
@@ -174,22 +174,22 @@ owed_one : (views : List Sight) (by : ℕ) (v : Sight) → get_elem? views by �
 owed_one views by v at = let rest = owed_set views by v nobody at in omega (arith, rest)
 
 -- as much is owed to the seat
-owes_still : (now : Known) (views : List Sight) (by : ℕ) (v w : Sight) → get_elem? views by ≡ some v → w.owed ≡ v.owed → AreOwed now views → AreOwed now (set views by w)
+owes_still : (now : HubFacts) (views : List Sight) (by : ℕ) (v w : Sight) → get_elem? views by ≡ some v → w.owed ≡ v.owed → AreOwed now views → AreOwed now (set views by w)
 owes_still now views by v w at same h = let one = owed_set views by v w at in omega (arith, one, same, h)
 
 -- a further seat to which nothing is owed
-owes_more : (now : Known) (views : List Sight) (w : Sight) → w.owed ≡ 0 → AreOwed now views → AreOwed now (views ++ w ∷ [])
+owes_more : (now : HubFacts) (views : List Sight) (w : Sight) → w.owed ≡ 0 → AreOwed now views → AreOwed now (views ++ w ∷ [])
 owes_more now views w none' h = let one = owed_end views w in omega (arith, one, none', h)
 
 -- what is owed to one seat is owed to a further one
-owes_moved : (now : Known) (views : List Sight) (by : ℕ) (v w u : Sight) → get_elem? views by ≡ some v → w.owed + u.owed ≡ v.owed → AreOwed now views → AreOwed now (set views by w ++ u ∷ [])
+owes_moved : (now : HubFacts) (views : List Sight) (by : ℕ) (v w u : Sight) → get_elem? views by ≡ some v → w.owed + u.owed ≡ v.owed → AreOwed now views → AreOwed now (set views by w ++ u ∷ [])
 owes_moved now views by v w u at same h =
     let one = owed_set views by v w at in
     let two = owed_end (set views by w) u in
     omega (arith, one, two, same, h)
 
 -- what is owed to two seats is owed to one of them
-owes_both : (now : Known) (views : List Sight) (by other : ℕ) (v w u : Sight) → get_elem? views by ≡ some v → get_elem? (set views by w) other ≡ some u → w.owed ≡ v.owed + u.owed
+owes_both : (now : HubFacts) (views : List Sight) (by other : ℕ) (v w u : Sight) → get_elem? views by ≡ some v → get_elem? (set views by w) other ≡ some u → w.owed ≡ v.owed + u.owed
     → AreOwed now views → AreOwed now (set (set views by w) other nobody)
 owes_both now views by other v w u at there same h =
     let one = owed_set views by v w at in
@@ -197,45 +197,45 @@ owes_both now views by other v w u at there same h =
     omega (arith, one, two, same, h)
 
 -- what is owed behind a store
-owes_after : (now k : Known) (views : List Sight) (by : ℕ) (v w : Sight) → get_elem? views by ≡ some v → IsOwing v.owed now k → w.owed ≡ owed_after v.owed now k → AreOwed now views → AreOwed k (set views by w)
+owes_after : (now k : HubFacts) (views : List Sight) (by : ℕ) (v w : Sight) → get_elem? views by ≡ some v → IsOwing v.owed now k → w.owed ≡ owed_after v.owed now k → AreOwed now views → AreOwed k (set views by w)
 owes_after now k views by v w at owing is h = let one = owed_set views by v w at in omega (arith, one, owing, is, h)
 
 -- no more is owed to a seat than what wasn't fetched
-owed_below : (now all : Known) (views : List Sight) (by : ℕ) (v : Sight) → get_elem? views by ≡ some v → all ≡ now → AreOwed now views → v.owed + all.fetched ≤ length all.asked
+owed_below : (now all : HubFacts) (views : List Sight) (by : ℕ) (v : Sight) → get_elem? views by ≡ some v → all ≡ now → AreOwed now views → v.owed + all.fetched ≤ length all.asked
 owed_below now all views by v at same h =
     let one = owed_one views by v at in
-    let asked = ap (λ (l : Known). length l.asked) same in
-    let fetched = ap (λ (l : Known). l.fetched) same in
+    let asked = ap (λ (l : HubFacts). length l.asked) same in
+    let fetched = ap (λ (l : HubFacts). l.fetched) same in
     omega (arith, one, asked, fetched, h)
 
 -- where nothing was asked for and nothing fetched
-pub owing_same : (n : ℕ) (old new : Known) → new.asked ≡ old.asked → new.fetched ≡ old.fetched → IsOwing n old new
+pub owing_same : (n : ℕ) (old new : HubFacts) → new.asked ≡ old.asked → new.fetched ≡ old.fetched → IsOwing n old new
 owing_same n old new asked fetched = let long = ap length asked in omega (arith, long, fetched)
 
-pub owed_same : (n : ℕ) (old new : Known) → new.asked ≡ old.asked → new.fetched ≡ old.fetched → owed_after n old new ≡ n
+pub owed_same : (n : ℕ) (old new : HubFacts) → new.asked ≡ old.asked → new.fetched ≡ old.fetched → owed_after n old new ≡ n
 owed_same n old new asked fetched = let long = ap length asked in omega (arith, long, fetched)
 
 -- where one more was asked for
-pub owing_more : (n : ℕ) (old new : Known) → length new.asked ≡ length old.asked + 1 → new.fetched ≡ old.fetched → IsOwing n old new
+pub owing_more : (n : ℕ) (old new : HubFacts) → length new.asked ≡ length old.asked + 1 → new.fetched ≡ old.fetched → IsOwing n old new
 owing_more n old new asked fetched = omega (arith, asked, fetched)
 
-pub owed_more : (n : ℕ) (old new : Known) → length new.asked ≡ length old.asked + 1 → new.fetched ≡ old.fetched → owed_after n old new ≡ n + 1
+pub owed_more : (n : ℕ) (old new : HubFacts) → length new.asked ≡ length old.asked + 1 → new.fetched ≡ old.fetched → owed_after n old new ≡ n + 1
 owed_more n old new asked fetched = omega (arith, asked, fetched)
 
 -- where one more was fetched
-pub owing_less : (n : ℕ) (old new : Known) → 1 ≤ n → new.asked ≡ old.asked → new.fetched ≡ old.fetched + 1 → IsOwing n old new
+pub owing_less : (n : ℕ) (old new : HubFacts) → 1 ≤ n → new.asked ≡ old.asked → new.fetched ≡ old.fetched + 1 → IsOwing n old new
 owing_less n old new some' asked fetched = let long = ap length asked in omega (arith, some', long, fetched)
 
-pub owed_less : (n : ℕ) (old new : Known) → 1 ≤ n → new.asked ≡ old.asked → new.fetched ≡ old.fetched + 1 → owed_after n old new + 1 ≡ n
+pub owed_less : (n : ℕ) (old new : HubFacts) → 1 ≤ n → new.asked ≡ old.asked → new.fetched ≡ old.fetched + 1 → owed_after n old new + 1 ≡ n
 owed_less n old new some' asked fetched = let long = ap length asked in omega (arith, some', long, fetched)
 
 -- what the seat that asked is left with, behind the three steps under the lock
-pub hands_back : (v w x y z : Sight) (k : Known) → v.owed ≡ 0 → x ≡ lent v w → y ≡ adding x k → z ≡ handed_back y → z ≡ seeing w.pubs w.gives (owed_after w.owed v.all k) k
+pub hands_back : (v w x y z : Sight) (k : HubFacts) → v.owed ≡ 0 → x ≡ lent v w → y ≡ adding x k → z ≡ handed_back y → z ≡ seeing w.pubs w.gives (owed_after w.owed v.all k) k
 hands_back v w x y z k none' e f h =
     let here : v.owed + w.owed ≡ w.owed = omega (arith, none') in
     h ∙ (ap handed_back (f ∙ ap (λ u. adding u k) e) ∙ ap (λ n. seeing w.pubs w.gives (owed_after n v.all k) k) here)
 
-pub seeing_by : (pubs gives : Bool) (m n : ℕ) (k : Known) (v : Sight) → v ≡ seeing pubs gives m k → m ≡ n → v ≡ seeing pubs gives n k
+pub seeing_by : (pubs gives : Bool) (m n : ℕ) (k : HubFacts) (v : Sight) → v ≡ seeing pubs gives m k → m ≡ n → v ≡ seeing pubs gives n k
 seeing_by pubs gives m n k v e f = e ∙ ap (λ i. seeing pubs gives i k) f
 
 pub begins : Kept (opening (0 ∷ []) [] opener)
@@ -250,12 +250,12 @@ begins = (0, 0, 0, nothing, refl, one, ((λ n. 0), unnamed), refl)
     one (suc by) v e = absurd (some-ne-none v (sym e))
 
 -- what a store under the lock leaves in the seat, and what it tells
-abbrev Leaves : Sight → Option ℕ → Known → ℕ → Me Known Sight → Type 0
+abbrev Leaves : Sight → Option ℕ → HubFacts → ℕ → Me HubFacts Sight → Type 0
 Leaves v member k n w = (w ≡ (added v member k, [])) × Knows v
 
 -- where the seat keeps, and publishes unless the publisher's part stays, and gives out unless what is given out stays, all that is
 -- known may grow, as far as the rule of the numbers holds
-stores : (by old new : ℕ) (v : Sight) (k : Known) (member : Option ℕ) → v.keeps ≡ true → (v.pubs ≡ true) ⊎ IsSamePart k v.all → (v.gives ≡ true) ⊎ (k.given ≡ v.all.given)
+stores : (by old new : ℕ) (v : Sight) (k : HubFacts) (member : Option ℕ) → v.keeps ≡ true → (v.pubs ≡ true) ⊎ IsSamePart k v.all → (v.gives ≡ true) ⊎ (k.given ≡ v.all.given)
     → IsBefore v.all k → length v.all.history ≡ old → length k.history ≡ new → IsOwing v.owed v.all k
     → ((views : List Sight) → get_elem? views by ≡ some v → AreNumbered v.all.members views → AreNumbered k.members (set views by (added v member k)))
     → Allows Kept 0 by (v, []) 0 (λ n. either (n == old) new n) (Leaves v member k)
@@ -280,7 +280,7 @@ stores by old new v k member keeping may may_give grows was is owing numbered s 
           ((f.1 pub').0, (part_of u.was now v.all k (f.1 pub').1 same part))) may),
       (λ gives. ⊎_elim (λ both. absurd (apart ((f.2 gives).0 ∙ sym (mine.2 both).0)))
           (λ (part : k.given ≡ v.all.given).
-          ((f.2 gives).0, ((f.2 gives).1 ∙ (ap (λ (m : Known). m.given) (sym same) ∙ sym part)))) may_give),
+          ((f.2 gives).0, ((f.2 gives).1 ∙ (ap (λ (m : HubFacts). m.given) (sym same) ∙ sym part)))) may_give),
       before_trans u.was now k f.3 (subst (λ m. IsBefore m k) same grows),
     ) in (
       w,
@@ -293,15 +293,15 @@ stores by old new v k member keeping may may_give grows was is owing numbered s 
         k,
         words,
         fits_set a b c k s.views by w others ((λ kept. ((mine.0 kept).0, refl)), (λ pub'. ((mine.1 pub').0, same_part k)), (λ gives. ((mine.2 gives).0, refl)), before_self k),
-        numbered s.views at (subst (λ (m : Known). AreNumbered m.members s.views) (sym same) h.6),
-        owes_after v.all k s.views by v w at owing refl (subst (λ (m : Known). AreOwed m s.views) (sym same) h.7),
+        numbered s.views at (subst (λ (m : HubFacts). AreNumbered m.members s.views) (sym same) h.6),
+        owes_after v.all k s.views by v w at owing refl (subst (λ (m : HubFacts). AreOwed m s.views) (sym same) h.7),
       ),
       (
         refl,
         (
           subst (λ m. IsBefore v.was m) (sym same) mine.3,
           (λ pub'. subst (λ m. IsSamePart v.was m) (sym same) (mine.1 pub').1),
-          (λ gives. (mine.2 gives).1 ∙ ap (λ (m : Known). m.given) (sym same)),
+          (λ gives. (mine.2 gives).1 ∙ ap (λ (m : HubFacts). m.given) (sym same)),
           owed_below now v.all s.views by v at same h.7,
         ),
       ),
@@ -314,24 +314,24 @@ stores by old new v k member keeping may may_give grows was is owing numbered s 
         here n new = let t : (n == n) ≡ true = grind (arith, nat_tests) in ap (λ t'. either t' new n) t
 
 -- the seat has the number that it had
-pub adds : (by old new : ℕ) (v : Sight) (k : Known) → v.keeps ≡ true → (v.pubs ≡ true) ⊎ IsSamePart k v.all → (v.gives ≡ true) ⊎ (k.given ≡ v.all.given)
+pub adds : (by old new : ℕ) (v : Sight) (k : HubFacts) → v.keeps ≡ true → (v.pubs ≡ true) ⊎ IsSamePart k v.all → (v.gives ≡ true) ⊎ (k.given ≡ v.all.given)
     → IsBefore v.all k → length v.all.history ≡ old → length k.history ≡ new → IsOwing v.owed v.all k
     → Allows Kept 0 by (v, []) 0 (λ n. either (n == old) new n) (Adds (step 0 0 old new (some k)) (v, []))
 adds by old new v k keeping may may_give grows was is owing =
     stores by old new v k v.member keeping may may_give grows was is owing (λ views at all. numbers_stay v.all.members k.members by views v (adding v k) at refl (λ _. met_none (adding v k) refl) grows.members all)
 
 -- the seat has the number of one submitter more
-pub admits : (by places : ℕ) (v : Sight) (k : Known) → v.keeps ≡ true → k ≡ with_member v.all → length k.history ≡ places
+pub admits : (by places : ℕ) (v : Sight) (k : HubFacts) → v.keeps ≡ true → k ≡ with_member v.all → length k.history ≡ places
     → Allows Kept 0 by (v, []) 0 (λ n. either (n == places) places n) (Admits (step 0 0 places places (some k)) (v, []))
 admits by places v k keeping next is =
-    let more' : k.members ≡ v.all.members + 1 = ap (λ (l : Known). l.members) next in
+    let more' : k.members ≡ v.all.members + 1 = ap (λ (l : HubFacts). l.members) next in
     stores by places places v k (Some v.all.members) keeping
     (inr (part_by v.all v.all (with_member v.all) k refl next (enrolls_part v.all)))
-    (inr (ap (λ (l : Known). l.given) next))
+    (inr (ap (λ (l : HubFacts). l.given) next))
     (grows_by v.all v.all (with_member v.all) k refl next (enrolls_on v.all))
-    (ap (λ (l : Known). length l.history) (sym next) ∙ is)
+    (ap (λ (l : HubFacts). length l.history) (sym next) ∙ is)
     is
-    (owing_same v.owed v.all k (ap (λ (l : Known). l.asked) next) (ap (λ (l : Known). l.fetched) next))
+    (owing_same v.owed v.all k (ap (λ (l : HubFacts). l.asked) next) (ap (λ (l : HubFacts). l.fetched) next))
     (λ views at all. numbers_next v.all.members k.members by views (admitting v k) refl refl (omega (arith, more')) all)
 
 -- a load sees all
@@ -398,7 +398,7 @@ lends by v other u s h at apart there =
       owes_both now s.views by other v w u at there refl h.7,
     )
   where
-    fits_set' : (a b c : ℕ) (now : Known) (views : List Sight) (by : ℕ) (w : Sight) (other j : ℕ) (x : Sight) → j ≢ other
+    fits_set' : (a b c : ℕ) (now : HubFacts) (views : List Sight) (by : ℕ) (w : Sight) (other j : ℕ) (x : Sight) → j ≢ other
         → ((i : ℕ) (y : Sight) → i ≢ other → get_elem? views i ≡ some y → Fits a b c now i y) → Fits a b c now by w → get_elem? (set views by w) j ≡ some x → Fits a b c now j x
     fits_set' a b c now views by w other j x away rest mine e =
         ⊎_elim
@@ -539,9 +539,9 @@ apart_of v u x w is member met apart n theirs mine =
     apart n (met ∙ (ap (λ (y : Sight). y.met) is ∙ theirs)) (member ∙ (ap (λ (y : Sight). y.member) is ∙ mine))
 
 -- what a seat that was told has seen
-pub was_of : (v : Sight) (pubs gives : Bool) {n : ℕ} (k : Known) → v ≡ seeing pubs gives n k → v.was ≡ k
+pub was_of : (v : Sight) (pubs gives : Bool) {n : ℕ} (k : HubFacts) → v ≡ seeing pubs gives n k → v.was ≡ k
 was_of v pubs gives k e = ap (λ (w : Sight). w.was) e
 
 -- what the seat under the lock knows
-pub all_of : (v : Sight) (k : Known) → v ≡ keeping k → v.all ≡ k
+pub all_of : (v : Sight) (k : HubFacts) → v ≡ keeping k → v.all ≡ k
 all_of v k e = ap (λ (w : Sight). w.all) e

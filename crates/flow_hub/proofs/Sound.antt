@@ -12,8 +12,8 @@ use Rattle.flow_commit.specs.Boards.{Boarded}
 use Rattle.flow_commit.specs.Keeping.{count_from, place_of}
 use Rattle.flow_commit.specs.Committing.{taken_of}
 use Rattle.flow_commit.specs.Stamps.{Stamped, IsLawful}
-use Rattle.flow_hub.specs.declared.known.Known.{Known}
-use Rattle.flow_hub.specs.declared.known.Outlook.{Outlook}
+use Rattle.flow_hub.specs.declared.known.HubFacts.{HubFacts}
+use Rattle.flow_hub.specs.declared.known.BoardSummary.{BoardSummary}
 use Rattle.flow_queues.specs.declared.refused.Refused.{Refused}
 use Rattle.flow_hub.specs.Asks.{Rises, ticket_in, ticket_of, tickets_in, tickets_of, takens_of, IsAsked, IsOwn, IsGone, IsTold, Stands}
 use Rattle.flow_queues.specs.Refusing.{refused_by}
@@ -107,7 +107,7 @@ takes h xs rest is s =
     }
 
 -- what the publisher's seat has of what was taken
-pub has_taken : (h : Hall) (was : Known) (xs rest : List Taken) → h.waiting ≡ xs ++ rest → IsSound h → IsSamePart was h.known → HasTaken was (with_taken h.known xs) xs
+pub has_taken : (h : Hall) (was : HubFacts) (xs rest : List Taken) → h.waiting ≡ xs ++ rest → IsSound h → IsSamePart was h.known → HasTaken was (with_taken h.known xs) xs
 has_taken h was xs rest is s same =
     let held = h.known.held in
     let first = answered_in h.known in
@@ -136,7 +136,7 @@ all_taken h none s = omega (arith, s.asked, s.counts, ap length none)
 pub is_done : (h : Hall) → h.waiting ≡ [] → h.known.closed ≡ true → IsSound h → IsDone h.known
 is_done h none c s = record { closed = c; empty = all_taken h none s }
 
-pub all_taken_by : (k l : Known) → k ≡ l → IsAllTaken l → IsAllTaken k
+pub all_taken_by : (k l : HubFacts) → k ≡ l → IsAllTaken l → IsAllTaken k
 all_taken_by k l e a = subst (λ x. IsAllTaken x) (sym e) a
 
 owned : (asked : List Taken) (rs : List Receipt) → All (IsAsked asked) (takens_of rs) → All (IsOwn asked) rs
@@ -144,7 +144,7 @@ owned asked [] a = All-nil (IsOwn asked)
 owned asked (r ∷ rs) a = All-cons (IsOwn asked) r rs (All-head (IsAsked asked) (taken_of r) (takens_of rs) a) (owned asked rs (All-tail (IsAsked asked) (taken_of r) (takens_of rs) a))
 
 -- what the publisher's seat saw is what lies under the lock
-pub same_answers : (k l : Known) (stamp : Stamped) (rs : List Receipt) → IsSamePart k l → Answers k stamp rs → Answers l stamp rs
+pub same_answers : (k l : HubFacts) (stamp : Stamped) (rs : List Receipt) → IsSamePart k l → Answers k stamp rs → Answers l stamp rs
 same_answers k l stamp rs same a = record {
   asked = a.asked ∙ same.held;
   own = a.own;
@@ -204,7 +204,7 @@ publishes h stamp rs s a lawful =
     }
 
 -- what the publisher's seat has of what was published
-pub has_published : (l was : Known) (stamp : Stamped) (rs : List Receipt) → IsSamePart was l → Answers was stamp rs → HasPublished was (with_published l stamp.account rs) stamp rs
+pub has_published : (l was : HubFacts) (stamp : Stamped) (rs : List Receipt) → IsSamePart was l → Answers was stamp rs → HasPublished was (with_published l stamp.account rs) stamp rs
 has_published l was stamp rs same a = record {
   history = ap (λ h. h ++ rs) (sym same.history);
   log = ap (λ h. h ++ rs) (sym same.history) ∙ sym a.log;
@@ -217,7 +217,7 @@ has_published l was stamp rs same a = record {
   outlook = refl;
 }
 
-pub history_by : (k l : Known) → k ≡ l → IsHistory l → IsHistory k
+pub history_by : (k l : HubFacts) → k ≡ l → IsHistory l → IsHistory k
 history_by k l e h = subst (IsHistory) (sym e) h
 
 pub All-without : {X : Type 0} (P : X → Type 0) (xs ys : List X) (k : ℕ) → ys ≡ take k xs ++ drop (k + 1) xs → All P xs → All P ys
@@ -305,7 +305,7 @@ refuses h code s =
     }
 
 -- what the publisher's seat has of what was refused
-pub has_refused : (l was : Known) (xs : List Taken) (code : Code) → IsSamePart was l → HasRefused was (with_refused l xs code) xs code
+pub has_refused : (l was : HubFacts) (xs : List Taken) (code : Code) → IsSamePart was l → HasRefused was (with_refused l xs code) xs code
 has_refused l was xs code same = record {
   refused = ap (λ r. r ++ map (refused_by code) xs) (sym same.refused);
   held = refl;
@@ -373,7 +373,7 @@ ends h s = record {
 
 ---- Tasks
 
-pub posts : (h : Hall) (ts : List Task) (outlook : Outlook) → IsSound h → IsSound (posted_on h ts outlook)
+pub posts : (h : Hall) (ts : List Task) (outlook : BoardSummary) → IsSound h → IsSound (posted_on h ts outlook)
 posts h ts outlook s = record {
   legal = record { kept = s.legal.kept; rising = s.legal.rising };
   order = s.order;
@@ -428,7 +428,7 @@ gives h t rest is s = record {
 }
 
 -- what the publisher's seat has of what was posted
-pub has_posted : (l was : Known) (board : Boarded) → IsSamePart was l
+pub has_posted : (l was : HubFacts) (board : Boarded) → IsSamePart was l
     → HasPosted was (with_posted l (new_ones l.posted board.tasks) (record { due = board.due; open_runs = board.open_runs })) board
 has_posted l was board same = record {
   rest = record { history = sym same.history; refused = sym same.refused; last = sym same.last; held = sym same.held; ended = sym same.ended };
@@ -437,7 +437,7 @@ has_posted l was board same = record {
   outlook = refl;
 }
 
-pub has_skipped : (l was : Known) → IsSamePart was l → HasSkipped was (with_skipped l)
+pub has_skipped : (l was : HubFacts) → IsSamePart was l → HasSkipped was (with_skipped l)
 has_skipped l was same = record {
   rest = record { history = sym same.history; refused = sym same.refused; last = sym same.last; held = sym same.held; ended = sym same.ended };
   posted = sym same.posted;
@@ -445,7 +445,7 @@ has_skipped l was same = record {
   outlook = sym same.outlook;
 }
 
-pub has_ended : (l was : Known) → IsSamePart was l → HasEnded was (with_ended l)
+pub has_ended : (l was : HubFacts) → IsSamePart was l → HasEnded was (with_ended l)
 has_ended l was same = record {
   ended = refl;
   history = sym same.history;
@@ -458,14 +458,14 @@ has_ended l was same = record {
 }
 
 -- what the giver's seat has of what was given out
-pub has_given : (h : Hall) (was : Known) (t : Task) (rest : List Task) → h.tasks ≡ t ∷ rest → IsSound h → was.given ≡ h.known.given → HasGiven was (with_given h.known t) (Some t)
+pub has_given : (h : Hall) (was : HubFacts) (t : Task) (rest : List Task) → h.tasks ≡ t ∷ rest → IsSound h → was.given ≡ h.known.given → HasGiven was (with_given h.known t) (Some t)
 has_given h was t rest is s same = record {
   next = ap (λ l. l ++ t ∷ []) (sym same);
   first = (rest, append_assoc h.known.given (t ∷ []) rest ∙ (ap (λ l. h.known.given ++ l) (sym is) ∙ sym s.queued));
   once = s.once;
 }
 
-pub has_given_none : (h : Hall) (was : Known) → IsSound h → was.given ≡ h.known.given → HasGiven was h.known None
+pub has_given_none : (h : Hall) (was : HubFacts) → IsSound h → was.given ≡ h.known.given → HasGiven was h.known None
 has_given_none h was s same = record {
   next = sym same;
   first = (h.tasks, sym s.queued);
@@ -473,7 +473,7 @@ has_given_none h was s same = record {
 }
 
 -- where nothing waits and nothing is taken, all is answered
-pub is_idle : (h : Hall) (o : Outlook) → h.known.outlook ≡ Some o → o.open_runs ≡ 0 → h.waiting ≡ [] → h.known.held ≡ [] → IsSound h → IsIdle h.known
+pub is_idle : (h : Hall) (o : BoardSummary) → h.known.outlook ≡ Some o → o.open_runs ≡ 0 → h.waiting ≡ [] → h.known.held ≡ [] → IsSound h → IsIdle h.known
 is_idle h o named none waits held s = record {
   outlook = o;
   named = named;
@@ -483,7 +483,7 @@ is_idle h o named none waits held s = record {
 }
 
 -- what was taken since
-pub taken_since : (j k l : Known) (xs : List Taken) → IsSamePart j k → HasTaken k l xs → HasTaken j l xs
+pub taken_since : (j k l : HubFacts) (xs : List Taken) → IsSamePart j k → HasTaken k l xs → HasTaken j l xs
 taken_since j k l xs same t = record {
   held = t.held ∙ ap (λ h. h ++ xs) (sym same.held);
   history = t.history ∙ sym same.history;
@@ -499,13 +499,13 @@ taken_since j k l xs same t = record {
 }
 
 -- the same of an equal one
-pub taken_by : (was k l : Known) (xs : List Taken) → k ≡ l → HasTaken was l xs → HasTaken was k xs
+pub taken_by : (was k l : HubFacts) (xs : List Taken) → k ≡ l → HasTaken was l xs → HasTaken was k xs
 taken_by was k l xs e t = subst (λ x. HasTaken was x xs) (sym e) t
 
-pub published_by : (was k l : Known) (stamp : Stamped) (rs : List Receipt) → k ≡ l → HasPublished was l stamp rs → HasPublished was k stamp rs
+pub published_by : (was k l : HubFacts) (stamp : Stamped) (rs : List Receipt) → k ≡ l → HasPublished was l stamp rs → HasPublished was k stamp rs
 published_by was k l stamp rs e t = subst (λ x. HasPublished was x stamp rs) (sym e) t
 
-pub none_taken : (j k l : Known) (xs : List Taken) → xs ≡ [] → IsSamePart j k → HasTaken k l xs → IsSamePart j l
+pub none_taken : (j k l : HubFacts) (xs : List Taken) → xs ≡ [] → IsSamePart j k → HasTaken k l xs → IsSamePart j l
 none_taken j k l xs none same t = record {
   history = same.history ∙ sym t.history;
   refused = same.refused ∙ sym t.refused;
@@ -517,28 +517,28 @@ none_taken j k l xs none same t = record {
   outlook = same.outlook ∙ sym t.outlook;
 }
 
-pub posted_by : (was k l : Known) (board : Boarded) → k ≡ l → HasPosted was l board → HasPosted was k board
+pub posted_by : (was k l : HubFacts) (board : Boarded) → k ≡ l → HasPosted was l board → HasPosted was k board
 posted_by was k l board e t = subst (λ x. HasPosted was x board) (sym e) t
 
-pub skipped_by : (was k l : Known) → k ≡ l → HasSkipped was l → HasSkipped was k
+pub skipped_by : (was k l : HubFacts) → k ≡ l → HasSkipped was l → HasSkipped was k
 skipped_by was k l e t = subst (λ x. HasSkipped was x) (sym e) t
 
-pub ended_by : (was k l : Known) → k ≡ l → HasEnded was l → HasEnded was k
+pub ended_by : (was k l : HubFacts) → k ≡ l → HasEnded was l → HasEnded was k
 ended_by was k l e t = subst (λ x. HasEnded was x) (sym e) t
 
-pub given_by : (was k l : Known) (t : Option Task) → k ≡ l → HasGiven was l t → HasGiven was k t
+pub given_by : (was k l : HubFacts) (t : Option Task) → k ≡ l → HasGiven was l t → HasGiven was k t
 given_by was k l t e h = subst (λ x. HasGiven was x t) (sym e) h
 
-pub idle_by : (k l : Known) → k ≡ l → IsIdle l → IsIdle k
+pub idle_by : (k l : HubFacts) → k ≡ l → IsIdle l → IsIdle k
 idle_by k l e h = subst (λ x. IsIdle x) (sym e) h
 
-pub none_given : (j k l : Known) (t : Option Task) → t ≡ None → j.given ≡ k.given → HasGiven k l t → j.given ≡ l.given
+pub none_given : (j k l : HubFacts) (t : Option Task) → t ≡ None → j.given ≡ k.given → HasGiven k l t → j.given ≡ l.given
 none_given j k l t none same h = same ∙ sym (subst (λ (o : Option Task). given_with k l o) none h.next)
 
-pub once_by : (k l : Known) → k ≡ l → IsOnce l.posted → IsOnce k.posted
-once_by k l e o = subst (λ (x : Known). IsOnce x.posted) (sym e) o
+pub once_by : (k l : HubFacts) → k ≡ l → IsOnce l.posted → IsOnce k.posted
+once_by k l e o = subst (λ (x : HubFacts). IsOnce x.posted) (sym e) o
 
 -- what was given out since
-pub given_since : (j k l : Known) (t : Option Task) → j.given ≡ k.given → HasGiven k l t → HasGiven j l t
+pub given_since : (j k l : HubFacts) (t : Option Task) → j.given ≡ k.given → HasGiven k l t → HasGiven j l t
 given_since j k l None same h = record { next = h.next ∙ sym same; first = h.first; once = h.once }
 given_since j k l (Some t) same h = record { next = h.next ∙ ap (λ xs. xs ++ t ∷ []) (sym same); first = h.first; once = h.once }

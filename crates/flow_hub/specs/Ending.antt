@@ -4,16 +4,16 @@ use Rattle.flow_hub.specs.declared.fed.Fed.{Fed}
 use Rattle.flow_hub.specs.declared.fed.Fed.TheVariants as fed
 use Rattle.flow_hub.specs.declared.fed.Until.{Until}
 use Rattle.flow_hub.specs.declared.fed.Until.TheVariants as until
-use Rattle.flow_hub.specs.declared.known.Known.{Known}
+use Rattle.flow_hub.specs.declared.known.HubFacts.{HubFacts}
 
 -- what has come, beside a task and the hub's closing: at the last, a board behind all that is answered
-abbrev pub HasCome : Until → Known → Type 0
+abbrev pub HasCome : Until → HubFacts → Type 0
 HasCome until.There k = ⊥
 HasCome until.Rung k = Unit {0}
 HasCome until.Boarded k = k.boarded ≡ true
 
 -- and where nothing is given, that has
-abbrev pub EndsAt : Until → Known → Fed → Type 0
+abbrev pub EndsAt : Until → HubFacts → Fed → Type 0
 EndsAt u k (fed.Task t) = Unit {0}
 EndsAt u k fed.Nothing = HasCome u k
 EndsAt u k fed.Closed = Unit {0}

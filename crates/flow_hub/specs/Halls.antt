@@ -8,8 +8,8 @@ use Rattle.flow_machine.specs.declared.submission.Taken.{Taken}
 use Rattle.flow_machine.specs.declared.task.Task.{Task}
 use Rattle.flow_commit.specs.Accounts.{Accounted, log_code}
 use Rattle.flow_commit.specs.Keeping.{batch_code, count_from}
-use Rattle.flow_hub.specs.declared.known.Known.{Known}
-use Rattle.flow_hub.specs.declared.known.Outlook.{Outlook}
+use Rattle.flow_hub.specs.declared.known.HubFacts.{HubFacts}
+use Rattle.flow_hub.specs.declared.known.BoardSummary.{BoardSummary}
 use Rattle.flow_queues.specs.declared.refused.Refused.{Refused}
 use Rattle.flow_hub.specs.Asks.{tickets_in, IsAsked, IsOwn, IsGone, IsTold, Stands}
 use Rattle.flow_queues.specs.Refusing.{refused_by}
@@ -19,7 +19,7 @@ use Rattle.flow_queues.specs.Posting.{IsOnce, new_ones}
 -- What is known of the hub, and the four lists that its calls work on: what waits, the answers that were not fetched, and the tasks that
 -- were posted and not given out.
 pub record Hall : Type 0 where
-  pub known : Known
+  pub known : HubFacts
   pub waiting : List Taken
   pub answered : List Receipt
   pub refused : List Refused
@@ -29,7 +29,7 @@ pub record Hall : Type 0 where
 
 abbrev pub hall_code : Coded Hall
 hall_code =
-    code_by (Known × (List Taken × (List Receipt × (List Refused × (ℕ × (ℕ × List Task))))))
+    code_by (HubFacts × (List Taken × (List Receipt × (List Refused × (ℕ × (ℕ × List Task))))))
     (coded× known_code (coded× batch_code (coded× log_code (coded× refusals_code (coded× coded_ℕ (coded× coded_ℕ task_list_code))))))
     (λ h. (h.known, (h.waiting, (h.answered, (h.refused, (h.given, (h.shares, h.tasks)))))))
     (λ p. record { known = p.0; waiting = p.1.0; answered = p.1.1.0; refused = p.1.1.1.0; given = p.1.1.1.1.0; shares = p.1.1.1.1.1.0; tasks = p.1.1.1.1.1.1 })
@@ -92,7 +92,7 @@ abbrev pub ended : Hall → Hall
 ended h = record h { known = with_ended h.known }
 
 -- Of these tasks those are posted that weren't before, each once.
-abbrev pub posted_on : Hall → List Task → Outlook → Hall
+abbrev pub posted_on : Hall → List Task → BoardSummary → Hall
 posted_on h ts outlook = let more = new_ones h.known.posted ts in record h { known = with_posted h.known more outlook; tasks = h.tasks ++ more }
 
 abbrev pub skipped : Hall → Hall

@@ -10,9 +10,9 @@ use Rattle.flow_machine.specs.contracts.task.Task as task_row
 use Rattle.flow_commit.specs.Keeping.{batch_code}
 use Rattle.flow_commit.specs.Accounts.{Accounted, account_code, log_code}
 use Rattle.flow_commit.specs.Stamps.{IsLegal}
-use Rattle.flow_hub.specs.declared.known.Known.{Known}
-use Rattle.flow_hub.specs.declared.known.Outlook.{Outlook}
-use Rattle.flow_hub.specs.contracts.known.Outlook as outlook_row
+use Rattle.flow_hub.specs.declared.known.HubFacts.{HubFacts}
+use Rattle.flow_hub.specs.declared.known.BoardSummary.{BoardSummary}
+use Rattle.flow_hub.specs.contracts.known.BoardSummary as outlook_row
 use Rattle.flow_queues.specs.Refusing.{refused_by}
 use Rattle.flow_queues.specs.declared.refused.Refused.{Refused}
 use Rattle.flow_queues.specs.contracts.refused.Refused as refused_row
@@ -26,7 +26,7 @@ task_list_code = coded_list task_row.the_row.coded
 
 -- the part of the tasks
 abbrev Tasks : Type 0
-Tasks = List Task × (List Task × (Bool × Option Outlook))
+Tasks = List Task × (List Task × (Bool × Option BoardSummary))
 
 abbrev tasks_code : Coded Tasks
 tasks_code = coded× task_list_code (coded× task_list_code (coded× coded_bool (coded_option outlook_row.the_row.coded)))
@@ -35,7 +35,7 @@ tasks_code = coded× task_list_code (coded× task_list_code (coded× coded_bool 
 abbrev Closing : Type 0
 Closing = Bool × Bool
 
-abbrev pub known_code : Coded Known
+abbrev pub known_code : Coded HubFacts
 known_code =
     code_by (List Taken × (List Receipt × (List Refused × (List Accounted × (List Taken × (ℕ × (ℕ × (Closing × Tasks))))))))
     (coded× batch_code (coded× log_code (coded× refusals_code (coded× (coded_list account_code) (coded× batch_code (coded× coded_ℕ (coded× coded_ℕ (coded× (coded× coded_bool coded_bool) tasks_code))))))))
@@ -43,47 +43,47 @@ known_code =
     (λ p. record { asked = p.0; history = p.1.0; refused = p.1.1.0; last = p.1.1.1.0; held = p.1.1.1.1.0; fetched = p.1.1.1.1.1.0; members = p.1.1.1.1.1.1.0; closed = p.1.1.1.1.1.1.1.0.0; ended = p.1.1.1.1.1.1.1.0.1; posted = p.1.1.1.1.1.1.1.1.0; given = p.1.1.1.1.1.1.1.1.1.0; boarded = p.1.1.1.1.1.1.1.1.1.1.0; outlook = p.1.1.1.1.1.1.1.1.1.1.1 })
     (λ _. refl)
 
-abbrev pub nothing : Known
+abbrev pub nothing : HubFacts
 nothing = record { asked = []; history = []; refused = []; last = []; held = []; fetched = 0; members = 0; closed = false; ended = false; posted = []; given = []; boarded = false; outlook = None }
 
 -- how many submissions are answered, by a receipt or by a code
-abbrev pub answered_in : Known → ℕ
+abbrev pub answered_in : HubFacts → ℕ
 answered_in k = length k.history + length k.refused
 
 ---- How it changes
 
-abbrev pub with_ask : Known → Taken → Known
+abbrev pub with_ask : HubFacts → Taken → HubFacts
 with_ask k t = record k { asked = k.asked ++ t ∷ [] }
 
-abbrev pub with_taken : Known → List Taken → Known
+abbrev pub with_taken : HubFacts → List Taken → HubFacts
 with_taken k xs = record k { held = k.held ++ xs }
 
-abbrev pub with_published : Known → Accounted → List Receipt → Known
+abbrev pub with_published : HubFacts → Accounted → List Receipt → HubFacts
 with_published k keeper rs = record k { history = k.history ++ rs; last = keeper ∷ []; held = []; boarded = false; outlook = None }
 
-abbrev pub with_refused : Known → List Taken → Code → Known
+abbrev pub with_refused : HubFacts → List Taken → Code → HubFacts
 with_refused k xs code = record k { refused = k.refused ++ map (refused_by code) xs; held = []; boarded = false; outlook = None }
 
-abbrev pub with_fetched : Known → Known
+abbrev pub with_fetched : HubFacts → HubFacts
 with_fetched k = record k { fetched = k.fetched + 1 }
 
-abbrev pub with_member : Known → Known
+abbrev pub with_member : HubFacts → HubFacts
 with_member k = record k { members = k.members + 1 }
 
-abbrev pub with_closed : Known → Known
+abbrev pub with_closed : HubFacts → HubFacts
 with_closed k = record k { closed = true }
 
 -- its publisher has closed it
-abbrev pub with_ended : Known → Known
+abbrev pub with_ended : HubFacts → HubFacts
 with_ended k = record k { closed = true; ended = true }
 
-abbrev pub with_posted : Known → List Task → Outlook → Known
+abbrev pub with_posted : HubFacts → List Task → BoardSummary → HubFacts
 with_posted k ts outlook = record k { posted = k.posted ++ ts; boarded = true; outlook = Some outlook }
 
-abbrev pub with_skipped : Known → Known
+abbrev pub with_skipped : HubFacts → HubFacts
 with_skipped k = record k { boarded = true }
 
-abbrev pub with_given : Known → Task → Known
+abbrev pub with_given : HubFacts → Task → HubFacts
 with_given k t = record k { given = k.given ++ t ∷ [] }
 
 ---- How it grows
@@ -96,7 +96,7 @@ IsOver (k ∷ ks) (l ∷ ls) = l.base ≡ k.base
 
 -- What was submitted, the history, what was answered by a code, the tasks posted and those given only grow; all stamps have one
 -- base; answers that were fetched and submitters are counted on; and what is closed stays so.
-pub record IsBefore (k l : Known) : Type 0 where
+pub record IsBefore (k l : HubFacts) : Type 0 where
   pub asked : IsPrefix k.asked l.asked
   pub history : IsPrefix k.history l.history
   pub refused : IsPrefix k.refused l.refused
@@ -109,7 +109,7 @@ pub record IsBefore (k l : Known) : Type 0 where
 
 -- What the publisher alone changes is the same: the history, the last stamp, what was answered by a code, what is taken, what it has
 -- posted, and whether it has closed the hub.
-pub record IsSamePart (k l : Known) : Type 0 where
+pub record IsSamePart (k l : HubFacts) : Type 0 where
   pub history : k.history ≡ l.history
   pub refused : k.refused ≡ l.refused
   pub last : k.last ≡ l.last
@@ -128,6 +128,6 @@ IsKept [] history = history ≡ []
 IsKept (k ∷ ks) history = (history ≡ k.log) × IsLegal k
 
 -- and its tickets rise
-pub record IsHistory (k : Known) : Type 0 where
+pub record IsHistory (k : HubFacts) : Type 0 where
   pub kept : IsKept k.last k.history
   pub rising : Rises 0 (tickets_of k.history) (answered_in k)

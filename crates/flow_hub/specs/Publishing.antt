@@ -7,26 +7,26 @@ use Rattle.flow_commit.specs.Accounts.{Accounted}
 use Rattle.flow_commit.specs.Keeping.{count_from}
 use Rattle.flow_commit.specs.Stamps.{Stamped}
 use Rattle.flow_commit.specs.Boards.{Boarded}
-use Rattle.flow_hub.specs.declared.known.Known.{Known}
+use Rattle.flow_hub.specs.declared.known.HubFacts.{HubFacts}
 use Rattle.flow_queues.specs.Posting.{HasKeys, new_ones}
 use Rattle.flow_hub.specs.Asks.{IsAsked, tickets_in, takens_of}
 use Rattle.flow_queues.specs.Refusing.{refused_by}
 use Rattle.flow_hub.specs.Knowing.{IsOver, answered_in}
 
 -- What the keeper has kept is what the publisher has published, over the same book and file, and nothing is taken.
-pub record Together (keeper : Accounted) (k : Known) : Type 0 where
+pub record Together (keeper : Accounted) (k : HubFacts) : Type 0 where
   pub log : keeper.log ≡ k.history
   pub over : IsOver k.last (keeper ∷ [])
   pub none : k.held ≡ []
 
 -- These are taken, and in all else keeper and publisher stand together.
-pub record InHand (keeper : Accounted) (k : Known) (xs : List Taken) : Type 0 where
+pub record InHand (keeper : Accounted) (k : HubFacts) (xs : List Taken) : Type 0 where
   pub log : keeper.log ≡ k.history
   pub over : IsOver k.last (keeper ∷ [])
   pub taken : k.held ≡ xs
 
 -- These are taken: the next that were submitted and not taken before, with none left out.
-pub record HasTaken (old new : Known) (xs : List Taken) : Type 0 where
+pub record HasTaken (old new : HubFacts) (xs : List Taken) : Type 0 where
   pub held : new.held ≡ old.held ++ xs
   pub history : new.history ≡ old.history
   pub refused : new.refused ≡ old.refused
@@ -39,24 +39,24 @@ pub record HasTaken (old new : Known) (xs : List Taken) : Type 0 where
   pub order : tickets_in xs ≡ count_from (answered_in old + length old.held) (length xs)
 
 -- All that was submitted is answered or taken.
-abbrev pub IsAllTaken : Known → Type 0
+abbrev pub IsAllTaken : HubFacts → Type 0
 IsAllTaken k = length k.asked ≡ answered_in k + length k.held
 
 -- Nothing more is taken in, and all that was submitted is answered or taken.
-pub record IsDone (k : Known) : Type 0 where
+pub record IsDone (k : HubFacts) : Type 0 where
   pub closed : k.closed ≡ true
   pub empty : IsAllTaken k
 
 -- The receipts are those of the stamp, and answer what was taken, whole and in order; and with them all that the stamp's keeper
 -- has kept is published, and nothing twice.
-pub record Answers (k : Known) (stamp : Stamped) (rs : List Receipt) : Type 0 where
+pub record Answers (k : HubFacts) (stamp : Stamped) (rs : List Receipt) : Type 0 where
   pub asked : takens_of rs ≡ k.held
   pub own : stamp.own ≡ rs
   pub log : stamp.account.log ≡ k.history ++ rs
   pub over : IsOver k.last (stamp.account ∷ [])
 
 -- The history has these receipts more, and is all that the stamp's keeper has kept. What the last board says holds no more.
-pub record HasPublished (old new : Known) (stamp : Stamped) (rs : List Receipt) : Type 0 where
+pub record HasPublished (old new : HubFacts) (stamp : Stamped) (rs : List Receipt) : Type 0 where
   pub history : new.history ≡ old.history ++ rs
   pub log : new.history ≡ stamp.account.log
   pub last : new.last ≡ stamp.account ∷ []
@@ -68,7 +68,7 @@ pub record HasPublished (old new : Known) (stamp : Stamped) (rs : List Receipt) 
   pub outlook : new.outlook ≡ None
 
 -- These are answered by a code.
-pub record HasRefused (old new : Known) (xs : List Taken) (code : Code) : Type 0 where
+pub record HasRefused (old new : HubFacts) (xs : List Taken) (code : Code) : Type 0 where
   pub refused : new.refused ≡ old.refused ++ map (refused_by code) xs
   pub held : new.held ≡ []
   pub history : new.history ≡ old.history
@@ -79,12 +79,12 @@ pub record HasRefused (old new : Known) (xs : List Taken) (code : Code) : Type 0
   pub outlook : new.outlook ≡ None
 
 -- The board was made behind all that is published, when these tasks were posted.
-pub record IsFresh (k : Known) (board : Boarded) : Type 0 where
+pub record IsFresh (k : HubFacts) (board : Boarded) : Type 0 where
   pub kept : board.kept ≡ length k.history
   pub posted : HasKeys (record { keys = board.posted }) k.posted
 
 -- All else that the publisher alone changes is as it was.
-pub record IsSameHistory (old new : Known) : Type 0 where
+pub record IsSameHistory (old new : HubFacts) : Type 0 where
   pub history : new.history ≡ old.history
   pub refused : new.refused ≡ old.refused
   pub last : new.last ≡ old.last
@@ -92,21 +92,21 @@ pub record IsSameHistory (old new : Known) : Type 0 where
   pub ended : new.ended ≡ old.ended
 
 -- Those of the board's tasks are posted that weren't posted before, each once and in their order, and it says what is open.
-pub record HasPosted (old new : Known) (board : Boarded) : Type 0 where
+pub record HasPosted (old new : HubFacts) (board : Boarded) : Type 0 where
   pub rest : IsSameHistory old new
   pub posted : new.posted ≡ old.posted ++ new_ones old.posted board.tasks
   pub boarded : new.boarded ≡ true
   pub outlook : new.outlook ≡ Some (record { due = board.due; open_runs = board.open_runs })
 
 -- There is no board this time.
-pub record HasSkipped (old new : Known) : Type 0 where
+pub record HasSkipped (old new : HubFacts) : Type 0 where
   pub rest : IsSameHistory old new
   pub posted : new.posted ≡ old.posted
   pub boarded : new.boarded ≡ true
   pub outlook : new.outlook ≡ old.outlook
 
 -- The publisher has closed the hub, and all else that it alone changes is as it was.
-pub record HasEnded (old new : Known) : Type 0 where
+pub record HasEnded (old new : HubFacts) : Type 0 where
   pub ended : new.ended ≡ true
   pub history : new.history ≡ old.history
   pub refused : new.refused ≡ old.refused

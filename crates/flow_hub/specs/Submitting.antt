@@ -5,7 +5,7 @@ use Rattle.flow_base.specs.declared.command.Command.{Command}
 use Rattle.flow_machine.specs.declared.submission.Receipt.{Receipt}
 use Rattle.flow_hub.specs.declared.denied.Denied.{Denied}
 use Rattle.flow_hub.specs.declared.denied.Denied.TheVariants as denied
-use Rattle.flow_hub.specs.declared.known.Known.{Known}
+use Rattle.flow_hub.specs.declared.known.HubFacts.{HubFacts}
 use Rattle.flow_queues.specs.declared.refused.Refused.{Refused}
 use Rattle.flow_hub.specs.declared.settled.Settled.{Settled}
 use Rattle.flow_hub.specs.declared.ticket.NotDone.{NotDone}
@@ -19,35 +19,35 @@ use Rattle.flow_hub.specs.Knowing.{IsHistory, known_code}
 -- those that it has gathered, and how many tickets), and those of its own tickets whose answer it hasn't fetched.
 pub record Member : Type 0 where
   pub id : ℕ
-  pub was : Known
+  pub was : HubFacts
   pub parts : ℕ
   pub amount : ℕ
   pub unfetched : List ℕ
 
 abbrev pub member_code : Coded Member
 member_code =
-    code_by (ℕ × (Known × (ℕ × (ℕ × List ℕ)))) (coded× coded_ℕ (coded× known_code (coded× coded_ℕ (coded× coded_ℕ (coded_list coded_ℕ)))))
+    code_by (ℕ × (HubFacts × (ℕ × (ℕ × List ℕ)))) (coded× coded_ℕ (coded× known_code (coded× coded_ℕ (coded× coded_ℕ (coded_list coded_ℕ)))))
     (λ m. (m.id, (m.was, (m.parts, (m.amount, m.unfetched)))))
     (λ p. record { id = p.0; was = p.1.0; parts = p.1.1.0; amount = p.1.1.1.0; unfetched = p.1.1.1.1 }) (λ _. refl)
 
 -- as many answers were not fetched as there is room for, or as many tickets were given
-abbrev pub IsFull : Known → Type 0
+abbrev pub IsFull : HubFacts → Type 0
 IsFull k = (k.fetched + 1024 ≤ length k.asked) ⊎ (2 ^ 62 ≤ length k.asked)
 
 -- it takes one more submission in
-pub record IsOpen (k : Known) : Type 0 where
+pub record IsOpen (k : HubFacts) : Type 0 where
   pub goes_on : k.closed ≡ false
   pub room : length k.asked < k.fetched + 1024
   pub tickets : length k.asked < 2 ^ 62
 
 -- it has just taken one more in: it isn't closed, and there was room for that one
-pub record HasTakenIn (k : Known) : Type 0 where
+pub record HasTakenIn (k : HubFacts) : Type 0 where
   pub goes_on : k.closed ≡ false
   pub room : length k.asked ≤ k.fetched + 1024
   pub tickets : length k.asked ≤ 2 ^ 62
 
 -- why a command isn't taken in; closing is asked first
-abbrev pub IsDenied : Known → Denied → Type 0
+abbrev pub IsDenied : HubFacts → Denied → Type 0
 IsDenied k denied.HubClosed = k.closed ≡ true
 IsDenied k denied.InboxFull = (k.closed ≡ false) × IsFull k
 
@@ -83,7 +83,7 @@ abbrev pub IsNotDone : Member → Ticket → NotDone → Type 0
 IsNotDone m ticket n = (n.ticket ≡ ticket) × IsFor m ticket n n.code
 
 -- Of the tickets given so many are answered by a receipt, answered by a code, taken and waiting.
-pub record IsSettled (k : Known) (s : Settled) : Type 0 where
+pub record IsSettled (k : HubFacts) (s : Settled) : Type 0 where
   pub split : s.given ≡ s.by_receipt + s.by_code + s.taken + s.waiting
   pub given : s.given ≡ length k.asked
   pub by_receipt : s.by_receipt ≡ length k.history

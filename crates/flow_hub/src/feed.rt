@@ -21,11 +21,11 @@ pub struct Feed<B: Room> {
 }
 
 impl<B: Room> Model for Feed<B> {
-    ghost use Rattle.flow_hub.specs.declared.known.Known.{Known};
+    ghost use Rattle.flow_hub.specs.declared.known.HubFacts.{HubFacts};
     ghost use Rattle.flow_hub.specs.Knowing.{known_code};
     ghost use Rattle.flow_hub.specs.Seating.{IsGivers};
 
-    ghost Value = { Known };
+    ghost Value = { HubFacts };
 
     ghost coded = { known_code };
 

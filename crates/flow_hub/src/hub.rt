@@ -6,7 +6,7 @@ ghost use Rattle.flow_hub.specs.Seating.{IsRoomOf};
 use crate::denied::Unseated;
 use crate::feed::Feed;
 use crate::publisher::Publisher;
-use crate::seats::{Opened, Room, Seats};
+use crate::seats::{HubTable, Opened, Room};
 use crate::state::{MOST, State};
 use crate::submitter::Submitter;
 use crate::waits::Waits;
@@ -17,7 +17,7 @@ use std::sync::{Arc, Condvar, Mutex, MutexGuard, Wait};
 /// What the threads of a hub share.
 #[derive(Drop)]
 pub(crate) struct Shared<B: Room> {
-    pub(crate) seats: Seats<B>,
+    pub(crate) seats: HubTable<B>,
     pub(crate) state: Mutex<State<B>>,
     /// Told when something waits, and at closing.
     pub(crate) asked: Condvar,
@@ -50,7 +50,7 @@ impl<B: Room> Shared<B> {
 }
 
 /// The right to close a hub. Its field is this module's, and the hub alone has one. Submitters and whoever gives tasks out have none, so
-/// no call of theirs can close the hub that it then finds closed; and where its publisher closes it, that is known (`Known::ended`).
+/// no call of theirs can close the hub that it then finds closed; and where its publisher closes it, that is known (`HubFacts::ended`).
 #[derive(Drop)]
 pub(crate) struct Closer {
     made: (),

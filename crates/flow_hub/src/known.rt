@@ -14,7 +14,7 @@ use unseen::{Listed, Makes};
 
 /// What a board says beside its tasks.
 #[derive(Clone, Copy, Debug, PartialEq, Eq)]
-pub struct Outlook {
+pub struct BoardSummary {
     /// When a timer is due next, or the next attempt of an activity is ready.
     pub due: Option<Moment>,
     /// How many runs are open.
@@ -23,7 +23,7 @@ pub struct Outlook {
 
 /// What threads know of a hub. Its lists are data for contracts alone.
 #[derive(Drop)]
-pub struct Known {
+pub struct HubFacts {
     /// All that was submitted: each submission stands at its ticket.
     pub asked: Listed<Taken>,
     /// The one history: all receipts that were published, in their order.
@@ -49,7 +49,7 @@ pub struct Known {
     /// Whether a board was posted or skipped since the hub was made and since what was taken last was answered.
     pub boarded: bool,
     /// What the last board says. None where what was taken was answered since it was made.
-    pub outlook: Option<Outlook>,
+    pub outlook: Option<BoardSummary>,
 }
 
 struct Empty;
@@ -107,11 +107,11 @@ impl Makes<Stamp, Account> for Named {
     ghost list = { λ s. s.account ∷ [] };
 }
 
-impl Known {
-    pub(crate) fn new() -> Known
+impl HubFacts {
+    pub(crate) fn new() -> HubFacts
         ensures { result ≡ nothing }
     {
-        Known {
+        HubFacts {
             asked: Listed::of::<(), Empty>(&()),
             history: Listed::of::<(), Empty>(&()),
             refused: Listed::of::<(), Empty>(&()),
@@ -171,7 +171,7 @@ impl Known {
     }
 
     /// A board was posted: those of its tasks that are marked, and what it says beside.
-    pub(crate) fn post(&mut self, tasks: &Vec<Task>, marks: &Vec<bool>, outlook: Outlook)
+    pub(crate) fn post(&mut self, tasks: &Vec<Task>, marks: &Vec<bool>, outlook: BoardSummary)
         ensures { self.new ≡ with_posted self.old (chosen tasks.now.items marks.now.items) outlook }
     {
         self.posted = Listed::of::<(Listed<Task>, &Vec<Task>, &Vec<bool>), Chosen>(&(

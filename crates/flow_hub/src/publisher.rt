@@ -35,12 +35,12 @@ pub struct Publisher<B: Room> {
 }
 
 impl<B: Room> Model for Publisher<B> {
-    ghost use Rattle.flow_hub.specs.declared.known.Known.{Known};
+    ghost use Rattle.flow_hub.specs.declared.known.HubFacts.{HubFacts};
     ghost use Rattle.flow_hub.specs.Knowing.{known_code};
     ghost use Rattle.flow_queues.specs.Posting.{HasKeys};
     ghost use Rattle.flow_hub.specs.Seating.{IsPublishers};
 
-    ghost Value = { Known };
+    ghost Value = { HubFacts };
 
     ghost coded = { known_code };
 

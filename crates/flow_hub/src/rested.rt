@@ -1,5 +1,5 @@
 //! What came of waiting for the end of all work for a while.
-use crate::known::Outlook;
+use crate::known::BoardSummary;
 
 /// What came of waiting until nothing is left to be done, for a while.
 #[derive(Clone, Copy, Debug, PartialEq, Eq)]
@@ -9,5 +9,5 @@ pub enum Rested {
     /// The hub is closed.
     Closed,
     /// Neither; and what the last board says, if nothing was answered since.
-    NotYet(Option<Outlook>),
+    NotYet(Option<BoardSummary>),
 }

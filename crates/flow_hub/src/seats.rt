@@ -3,7 +3,7 @@ ghost use Rattle.std.specs.Prelude.{ℕ, ◌≡◌, ◌≢◌, ◌+◌, ◌≤�
 ghost use Rattle.flow_hub.specs.Knowing.{IsBefore, IsSamePart, with_member};
 ghost use Rattle.flow_hub.specs.Seating.{IsRoomOf, opener, nobody, lent, adding, admitting, keeps_left, handed_back, gives_none, gives_alone, member_none, member_alone, meeting, badge_of, keeping, seeing, owed_after, IsApart, IsKeepers, IsOwing, Knows};
 
-use crate::known::Known;
+use crate::known::HubFacts;
 use atomic_table::{Join, Play, Seat, Split, Table, TableRule};
 use std::alloc::{AllocError, Global};
 use std::marker::{Brand, Model, PhantomData};
@@ -27,9 +27,9 @@ pub struct Sight {
     pub met: Option<u64>,
     /// How many answers are owed to it, and not fetched.
     pub owed: u64,
-    pub all: Known,
+    pub all: HubFacts,
     /// What was seen last.
-    pub was: Known,
+    pub was: HubFacts,
 }
 
 /// Names one hub: its table, and the ledger of its tickets. A program picks it once, with `Brand`.
@@ -48,7 +48,7 @@ impl Room for Brand {
 /// The rule of the table.
 pub struct Law;
 
-impl TableRule<Known, Sight, ()> for Law {
+impl TableRule<HubFacts, Sight, ()> for Law {
     ghost use Rattle.flow_hub.specs.Seating.{Kept, opener};
 
     ghost holds = { λ _. Kept };
@@ -58,7 +58,7 @@ impl TableRule<Known, Sight, ()> for Law {
 
 struct Store;
 
-impl Play<Known, Sight> for Store {
+impl Play<HubFacts, Sight> for Store {
     ghost use Rattle.flow_hub.specs.Seating.{Adds};
 
     ghost then = { Adds };
@@ -66,7 +66,7 @@ impl Play<Known, Sight> for Store {
 
 struct Admit;
 
-impl Play<Known, Sight> for Admit {
+impl Play<HubFacts, Sight> for Admit {
     ghost use Rattle.flow_hub.specs.Seating.{Admits};
 
     ghost then = { Admits };
@@ -74,7 +74,7 @@ impl Play<Known, Sight> for Admit {
 
 struct Look;
 
-impl Play<Known, Sight> for Look {
+impl Play<HubFacts, Sight> for Look {
     ghost use Rattle.flow_hub.specs.Seating.{Looks};
 
     ghost then = { Looks };
@@ -82,7 +82,7 @@ impl Play<Known, Sight> for Look {
 
 struct Enter;
 
-impl Play<Known, Sight> for Enter {
+impl Play<HubFacts, Sight> for Enter {
     ghost use Rattle.std.specs.Prelude.{◌≡◌};
     ghost use Rattle.flow_hub.specs.Seating.{nobody};
 
@@ -141,8 +141,8 @@ impl Split<Sight> for Names {
 
 /// What a hub is made of before it has a name. `Hub::new` takes it under the one that its caller has picked.
 pub struct Opened {
-    table: Table<Known, Sight, (), Law, Global>,
-    seat: Seat<Known, Sight>,
+    table: Table<HubFacts, Sight, (), Law, Global>,
+    seat: Seat<HubFacts, Sight>,
     blank: Blank,
 }
 
@@ -161,8 +161,8 @@ impl Model for Opened {
 
 /// The word that publishes the history's length.
 #[derive(Drop)]
-pub(crate) struct Seats<B: Room> {
-    table: Table<Known, Sight, (), Law, Global>,
+pub(crate) struct HubTable<B: Room> {
+    table: Table<HubFacts, Sight, (), Law, Global>,
     of: PhantomData<B>,
     ghost named: { table.shared.table_id ≡ B.table },
     ghost one_word: { table.shared.table_id.words ≡ 1 },
@@ -172,7 +172,7 @@ pub(crate) struct Seats<B: Room> {
 /// A seat at the table. To a contract it is what it knows.
 #[derive(Drop)]
 pub(crate) struct Pass<B: Room> {
-    seat: Seat<Known, Sight>,
+    seat: Seat<HubFacts, Sight>,
     of: PhantomData<B>,
 }
 
@@ -192,7 +192,7 @@ impl<B: Room> Model for Pass<B> {
 
 /// What a hub is made of under its name.
 pub(crate) struct Named<B: Room> {
-    pub seats: Seats<B>,
+    pub seats: HubTable<B>,
     pub seat: Pass<B>,
     pub tickets: Book<B>,
     pub share: Share<B>,
@@ -220,7 +220,7 @@ impl Opened {
         let Opened { table, seat, blank } = self;
         let (tickets, share) = blank.open::<B>();
         Named {
-            seats: Seats {
+            seats: HubTable {
                 table,
                 of: PhantomData,
             },
@@ -234,7 +234,7 @@ impl Opened {
     }
 }
 
-impl<B: Room> Seats<B> {
+impl<B: Room> HubTable<B> {
     /// A seat that has seen nothing.
     pub(crate) fn enter(&self) -> Pass<B>
         ensures { result ≡ nobody }
@@ -296,7 +296,7 @@ impl<B: Room> Seats<B> {
     }
 
     /// The seat under the lock adds to what is known, and publishes the history's length.
-    fn store(&self, keeper: &mut Pass<B>, old: u64, new: u64, all: &Known)
+    fn store(&self, keeper: &mut Pass<B>, old: u64, new: u64, all: &HubFacts)
         requires keeps { keeper.old.keeps ≡ true }
         requires may { (keeper.old.pubs ≡ true) ⊎ IsSamePart all.now keeper.old.all }
         requires may_give { (keeper.old.gives ≡ true) ⊎ (all.now.given ≡ keeper.old.all.given) }
@@ -312,7 +312,7 @@ impl<B: Room> Seats<B> {
     }
 
     /// The seat under the lock adds one submitter more, and has its number.
-    fn number(&self, keeper: &mut Pass<B>, places: u64, all: &Known)
+    fn number(&self, keeper: &mut Pass<B>, places: u64, all: &HubFacts)
         requires keeps { keeper.old.keeps ≡ true }
         requires one_more { all.now ≡ with_member keeper.old.all }
         requires length { length all.now.history ≡ places }
@@ -335,7 +335,7 @@ impl<B: Room> Seats<B> {
     }
 
     /// Under the lock: one submitter more is known of, and a seat has its number, which no other has or had.
-    pub(crate) fn admit(&self, keeper: &mut Pass<B>, places: u64, all: &Known) -> Pass<B>
+    pub(crate) fn admit(&self, keeper: &mut Pass<B>, places: u64, all: &HubFacts) -> Pass<B>
         requires keeps { IsKeepers keeper.old }
         requires one_more { all.now ≡ with_member keeper.old.all }
         requires length { length all.now.history ≡ places }
@@ -364,7 +364,7 @@ impl<B: Room> Seats<B> {
     }
 
     /// Under the lock: what is known becomes `all`, the word the length of its history, and the seat that asks is told of it.
-    fn told(&self, keeper: &mut Pass<B>, me: Pass<B>, old: u64, new: u64, all: &Known) -> Pass<B>
+    fn told(&self, keeper: &mut Pass<B>, me: Pass<B>, old: u64, new: u64, all: &HubFacts) -> Pass<B>
         requires keeps { IsKeepers keeper.old }
         requires may { (me.pubs ≡ true) ⊎ IsSamePart all.now keeper.old.all }
         requires may_give { (me.gives ≡ true) ⊎ (all.now.given ≡ keeper.old.all.given) }
@@ -390,7 +390,7 @@ impl<B: Room> Seats<B> {
         me: Pass<B>,
         old: u64,
         new: u64,
-        all: &Known,
+        all: &HubFacts,
     ) -> Pass<B>
         requires keeps { IsKeepers keeper.old }
         requires may { (me.pubs ≡ true) ⊎ IsSamePart all.now keeper.old.all }
@@ -414,7 +414,7 @@ impl<B: Room> Seats<B> {
         keeper: &mut Pass<B>,
         me: Pass<B>,
         places: u64,
-        all: &Known,
+        all: &HubFacts,
     ) -> Pass<B>
         requires keeps { IsKeepers keeper.old }
         requires may { (me.pubs ≡ true) ⊎ IsSamePart all.now keeper.old.all }
@@ -439,7 +439,7 @@ impl<B: Room> Seats<B> {
         keeper: &mut Pass<B>,
         me: Pass<B>,
         places: u64,
-        all: &Known,
+        all: &HubFacts,
     ) -> Pass<B>
         requires keeps { IsKeepers keeper.old }
         requires may { (me.pubs ≡ true) ⊎ IsSamePart all.now keeper.old.all }

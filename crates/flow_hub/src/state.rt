@@ -12,8 +12,8 @@ mod boards;
 
 use crate::denied::Denied;
 use crate::hub::Closer;
-use crate::known::Known;
-use crate::seats::{Named, PARTS, Pass, Room, Seats};
+use crate::known::HubFacts;
+use crate::seats::{HubTable, Named, PARTS, Pass, Room};
 use crate::settled::Settled;
 use flow_base::code::Code;
 use flow_base::command::Command;
@@ -58,7 +58,7 @@ pub(crate) struct State<B: Room> {
     tickets: Book<B>,
     /// The ledger's parts of the submitters that were not given yet.
     spare: Share<B>,
-    known: Known,
+    known: HubFacts,
     /// The seat that keeps.
     keeper: Pass<B>,
     /// The seat that gives tasks out, until somebody has it.
@@ -92,7 +92,7 @@ impl<B: Room> State<B> {
     pub(crate) fn new(
         alloc: Global,
         named: Named<B>,
-    ) -> Result<(Seats<B>, State<B>, Pass<B>), AllocError>
+    ) -> Result<(HubTable<B>, State<B>, Pass<B>), AllocError>
         requires seat { named.seat ≡ opener }
         requires tickets { named.tickets.total ≡ 0 }
         requires share { (named.share.parts ≡ 2 ^ 62) × (named.share.amount ≡ 0) }
@@ -124,7 +124,7 @@ impl<B: Room> State<B> {
             rung: false,
             tickets,
             spare: share,
-            known: Known::new(),
+            known: HubFacts::new(),
             keeper,
             feed: Some(feed),
         };
@@ -132,7 +132,7 @@ impl<B: Room> State<B> {
     }
 
     /// The seat sees what lies here, and nothing changes.
-    fn see(&mut self, seats: &Seats<B>, me: Pass<B>) -> Pass<B>
+    fn see(&mut self, seats: &HubTable<B>, me: Pass<B>) -> Pass<B>
         ensures same { self.new ≡ self.old }
         ensures seat { result ≡ seeing me.pubs me.gives me.owed self.new.known }
         ensures before { IsBefore me.was result.was }
@@ -145,7 +145,7 @@ impl<B: Room> State<B> {
     /// Three seats see what lies here, and the publisher's is left of them. Nothing changes.
     pub(crate) fn meet(
         &mut self,
-        seats: &Seats<B>,
+        seats: &HubTable<B>,
         me: Pass<B>,
         submitter: Pass<B>,
         giver: Pass<B>,
@@ -165,7 +165,10 @@ impl<B: Room> State<B> {
 
     /// One more submitter: its number, the seat that has this number, the seat that sees, and its part of the ledger. None where as
     /// many were given as there are parts.
-    pub(crate) fn enroll(&mut self, seats: &Seats<B>) -> Option<(u64, Pass<B>, Pass<B>, Share<B>)>
+    pub(crate) fn enroll(
+        &mut self,
+        seats: &HubTable<B>,
+    ) -> Option<(u64, Pass<B>, Pass<B>, Share<B>)>
         ensures enrolled { IfSome result (λ m. (m.0 ≡ self.old.known.members) × (self.new ≡ enrolled self.old)) }
         ensures badge { IfSome result (λ m. m.1 ≡ badge_of m.0) }
         ensures seat { IfSome result (λ m. m.2 ≡ seeing false false 0 self.new.known) }
@@ -208,24 +211,27 @@ impl<B: Room> State<B> {
     /// The ticket, or the command back.
     pub(crate) fn submit(
         &mut self,
-        seats: &Seats<B>,
+        seats: &HubTable<B>,
         me: Pass<B>,
         mine: &mut Share<B>,
         command: Command,
     ) -> (Pass<B>, Result<u64, (Command, Denied)>)
         requires share { 0 < mine.old.parts }
         requires seat { IsSubmitters me }
-        ensures ok { IfOk result.1 (λ t. (t ≡ self.old.given) × (self.new ≡ submitted self.old command) × (mine.new.amount ≡ mine.old.amount + 1)) }
+        ensures ok { IfOk result.1 (λ t. (t ≡ self.old.given) × (self.new ≡ submitted self.old command)
+            × (mine.new.amount ≡ mine.old.amount + 1)) }
         ensures room { OnOk result.1 (IsOpen self.old.known × (unfetched self.old < 1024)) }
         ensures taken_in { OnOk result.1 (HasTakenIn result.0.was) }
-        ensures err { IfErr result.1 (λ e. (e.0 ≡ command) × (self.new ≡ self.old) × (mine.new.amount ≡ mine.old.amount) × IsDenied self.old.known e.1) }
+        ensures err { IfErr result.1 (λ e. (e.0 ≡ command) × (self.new ≡ self.old) × (mine.new.amount ≡ mine.old.amount)
+            × IsDenied self.old.known e.1) }
         ensures parts { mine.new.parts ≡ mine.old.parts }
         ensures seat { result.0 ≡ seeing false false result.0.owed self.new.known }
         ensures owed { OnOk result.1 ((result.0.owed ≡ me.owed + 1) × (me.owed < 1024)) }
         ensures owed_still { OnErr result.1 (result.0.owed ≡ me.owed) }
         ensures before { IsBefore me.was self.old.known }
         ensures grows { IsBefore me.was result.0.was }
-        ensures ticket { IfOk result.1 (λ t. (length me.was.asked ≤ t) × (length result.0.was.asked ≡ t + 1) × (slice_get result.0.was.asked t ≡ Some (new_ask self.old command))) }
+        ensures ticket { IfOk result.1 (λ t. (length me.was.asked ≤ t) × (length result.0.was.asked ≡ t + 1)
+            × (slice_get result.0.was.asked t ≡ Some (new_ask self.old command))) }
     {
         if let Some(denied) = self.denied() {
             return (self.see(seats, me), Err((command, denied)));
@@ -243,7 +249,7 @@ impl<B: Room> State<B> {
     /// The first that wait, as many as there are, and `most` at most.
     pub(crate) fn take(
         &mut self,
-        seats: &Seats<B>,
+        seats: &HubTable<B>,
         me: Pass<B>,
         into: &mut Vec<Taken>,
         most: usize,
@@ -251,7 +257,8 @@ impl<B: Room> State<B> {
         requires seat { IsPublishers me }
         requires most { 1 ≤ most }
         requires room { (into.old.items ≡ []) × (most ≤ vec_capacity into.old) }
-        ensures taken { (self.old.waiting ≡ into.new.items ++ self.new.waiting) × (self.new ≡ took self.old into.new.items self.new.waiting) }
+        ensures taken { (self.old.waiting ≡ into.new.items ++ self.new.waiting)
+            × (self.new ≡ took self.old into.new.items self.new.waiting) }
         ensures count { (length into.new.items ≤ most) × (vec_capacity into.new ≡ vec_capacity into.old) }
         ensures seat { result ≡ seeing true false 0 self.new.known }
         ensures seen { HasTaken me.was result.was into.new.items }
@@ -268,7 +275,7 @@ impl<B: Room> State<B> {
     /// Answers all that was taken. What the publisher must show it shows of its own seat.
     pub(crate) fn publish(
         &mut self,
-        seats: &Seats<B>,
+        seats: &HubTable<B>,
         me: Pass<B>,
         receipts: Vec<Receipt>,
         stamp: Stamp,
@@ -296,7 +303,7 @@ impl<B: Room> State<B> {
     /// Answers all that was taken by a code.
     pub(crate) fn refuse(
         &mut self,
-        seats: &Seats<B>,
+        seats: &HubTable<B>,
         me: Pass<B>,
         all: Vec<Taken>,
         code: Code,
@@ -319,7 +326,7 @@ impl<B: Room> State<B> {
     /// The receipt for a ticket, if it came. The answer is one that is owed to the seat.
     fn fetch_receipt(
         &mut self,
-        seats: &Seats<B>,
+        seats: &HubTable<B>,
         me: Pass<B>,
         ticket: u64,
     ) -> (Pass<B>, Option<Receipt>)
@@ -327,7 +334,8 @@ impl<B: Room> State<B> {
         requires owed { 1 ≤ me.owed }
         ensures own { IfSome result.1 (λ r. (r.ticket ≡ ticket) × IsOwn result.0.was.asked r × Stands result.0.was.history r) }
         ensures legal { IfSome result.1 (λ r. IsHistory result.0.was) }
-        ensures fetched { MatchOption result.1 (self.new ≡ self.old) (λ r. (k : ℕ) × (slice_get self.old.answered k ≡ Some r) × (self.new ≡ fetched_receipt self.old (remove self.old.answered k))) }
+        ensures fetched { MatchOption result.1 (self.new ≡ self.old)
+            (λ r. (k : ℕ) × (slice_get self.old.answered k ≡ Some r) × (self.new ≡ fetched_receipt self.old (remove self.old.answered k))) }
         ensures none { IfNone result.1 (All (λ r. r.ticket ≢ ticket) self.old.answered) }
         ensures one_more { IfSome result.1 (λ r. me.was.fetched < result.0.was.fetched) }
         ensures owed { MatchOption result.1 (result.0.owed ≡ me.owed) (λ r. result.0.owed + 1 ≡ me.owed) }
@@ -346,14 +354,15 @@ impl<B: Room> State<B> {
     /// The refusal of a ticket, if it came.
     fn fetch_refusal(
         &mut self,
-        seats: &Seats<B>,
+        seats: &HubTable<B>,
         me: Pass<B>,
         ticket: u64,
     ) -> (Pass<B>, Option<Refused>)
         requires seat { IsSubmitters me }
         requires owed { 1 ≤ me.owed }
         ensures own { IfSome result.1 (λ r. (r.asked.ticket ≡ ticket) × IsGone result.0.was.asked r × IsTold result.0.was.refused r) }
-        ensures fetched { MatchOption result.1 (self.new ≡ self.old) (λ r. (k : ℕ) × (slice_get self.old.refused k ≡ Some r) × (self.new ≡ fetched_refusal self.old (remove self.old.refused k))) }
+        ensures fetched { MatchOption result.1 (self.new ≡ self.old)
+            (λ r. (k : ℕ) × (slice_get self.old.refused k ≡ Some r) × (self.new ≡ fetched_refusal self.old (remove self.old.refused k))) }
         ensures none { IfNone result.1 (All (λ r. r.asked.ticket ≢ ticket) self.old.refused) }
         ensures one_more { IfSome result.1 (λ r. me.was.fetched < result.0.was.fetched) }
         ensures owed { MatchOption result.1 (result.0.owed ≡ me.owed) (λ r. result.0.owed + 1 ≡ me.owed) }
@@ -373,16 +382,18 @@ impl<B: Room> State<B> {
     #[tactic(auto, using(crate::proofs::Growing::before_trans))]
     pub(crate) fn answer(
         &mut self,
-        seats: &Seats<B>,
+        seats: &HubTable<B>,
         me: Pass<B>,
         mine: &mut Vec<u64>,
         ticket: u64,
     ) -> (Pass<B>, Option<Result<Receipt, Refused>>)
         requires seat { IsSubmitters me }
         requires mine { length mine.old.items ≡ me.owed }
-        ensures receipt { IfSome result.1 (λ a. IfOk a (λ r. (r.ticket ≡ ticket) × IsOwn result.0.was.asked r × Stands result.0.was.history r)) }
+        ensures receipt { IfSome result.1 (λ a. IfOk a
+            (λ r. (r.ticket ≡ ticket) × IsOwn result.0.was.asked r × Stands result.0.was.history r)) }
         ensures legal { IfSome result.1 (λ a. IfOk a (λ r. IsHistory result.0.was)) }
-        ensures refused { IfSome result.1 (λ a. IfErr a (λ r. (r.asked.ticket ≡ ticket) × IsGone result.0.was.asked r × IsTold result.0.was.refused r)) }
+        ensures refused { IfSome result.1 (λ a. IfErr a
+            (λ r. (r.asked.ticket ≡ ticket) × IsGone result.0.was.asked r × IsTold result.0.was.refused r)) }
         ensures one_more { IfSome result.1 (λ a. me.was.fetched < result.0.was.fetched) }
         ensures none { IfNone result.1 (All (λ n. n ≢ ticket) mine.old.items
             ⊎ (All (λ r. r.ticket ≢ ticket) self.old.answered × All (λ r. r.asked.ticket ≢ ticket) self.old.refused)) }
@@ -413,7 +424,7 @@ impl<B: Room> State<B> {
     /// What became of the tickets, where this share has so many parts and there are no more.
     pub(crate) fn settle(
         &mut self,
-        seats: &Seats<B>,
+        seats: &HubTable<B>,
         me: Pass<B>,
         all: &mut Share<B>,
         parts: u64,
@@ -448,7 +459,7 @@ impl<B: Room> State<B> {
 
     /// What waits is still taken, and nothing more is taken in. Whoever closes must have the right to: else each call that may answer
     /// that the hub is closed could close it first.
-    pub(crate) fn close(&mut self, seats: &Seats<B>, me: Pass<B>, _closer: &Closer) -> Pass<B>
+    pub(crate) fn close(&mut self, seats: &HubTable<B>, me: Pass<B>, _closer: &Closer) -> Pass<B>
         ensures closed { self.new ≡ closed self.old }
         ensures seat { result ≡ seeing me.pubs me.gives me.owed self.new.known }
         ensures grows { IsBefore me.was result.was }
@@ -459,7 +470,7 @@ impl<B: Room> State<B> {
     }
 
     /// The same by the publisher, whose right to it is its seat, and of which it stays known that it was the publisher.
-    pub(crate) fn end(&mut self, seats: &Seats<B>, me: Pass<B>) -> Pass<B>
+    pub(crate) fn end(&mut self, seats: &HubTable<B>, me: Pass<B>) -> Pass<B>
         requires seat { IsPublishers me }
         ensures ended { self.new ≡ ended self.old }
         ensures seat { result ≡ seeing true false 0 self.new.known }

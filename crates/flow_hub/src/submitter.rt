@@ -273,7 +273,8 @@ impl<B: Room> Submitter<B> {
         ensures length { result ≡ length self.new.was.history }
         ensures never_falls { length self.old.was.history ≤ result }
         ensures grows { IsBefore self.old.was self.new.was }
-        ensures same { (self.new.id ≡ self.old.id) × (self.new.parts ≡ self.old.parts) × (self.new.amount ≡ self.old.amount) × (self.new.unfetched ≡ self.old.unfetched) }
+        ensures same { (self.new.id ≡ self.old.id) × (self.new.parts ≡ self.old.parts) × (self.new.amount ≡ self.old.amount)
+            × (self.new.unfetched ≡ self.old.unfetched) }
     {
         self.shared.seats.look(&mut self.seat)
     }
@@ -286,7 +287,8 @@ impl<B: Room> Submitter<B> {
     pub fn submit<R: Wait>(&mut self, rt: &R, command: Command) -> Result<Ticket, (Command, Denied)>
         ensures ticket { IfOk result (λ t. IsTicket self.old self.new command t) }
         ensures denied { IfErr result (λ e. (e.0 ≡ command) × IsDenied self.new.was e.1 × (self.new.amount ≡ self.old.amount)) }
-        ensures unfetched { MatchResult result (λ t. self.new.unfetched ≡ self.old.unfetched ++ t.number ∷ []) (λ e. self.new.unfetched ≡ self.old.unfetched) }
+        ensures unfetched { MatchResult result (λ t. self.new.unfetched ≡ self.old.unfetched ++ t.number ∷ [])
+            (λ e. self.new.unfetched ≡ self.old.unfetched) }
         ensures taken_in { OnOk result (HasTakenIn self.new.was) }
         ensures open_until_then { OnOk result (self.old.was.closed ≡ false) }
         ensures grows { IsBefore self.old.was self.new.was }
@@ -315,7 +317,8 @@ impl<B: Room> Submitter<B> {
     pub fn wait<R: Wait>(&mut self, rt: &R, ticket: Ticket) -> Result<Receipt, NotDone>
         ensures receipt { IfOk result (λ r. IsReceipt self.new ticket r) }
         ensures not_done { IfErr result (λ n. IsNotDone self.new ticket n) }
-        ensures spent { IfErr result (λ n. (is_spent n ≡ true → ticket.owner ≡ self.old.id) × (is_spent n ≡ false → ticket.owner ≢ self.old.id)) }
+        ensures spent { IfErr result (λ n. (is_spent n ≡ true → ticket.owner ≡ self.old.id)
+            × (is_spent n ≡ false → ticket.owner ≢ self.old.id)) }
         ensures fetched { ticket.owner ≡ self.old.id → self.old.was.fetched < self.new.was.fetched }
         ensures own { ticket.owner ≡ self.old.id → IsFetched self.old.unfetched self.new.unfetched ticket.number }
         ensures anothers { ticket.owner ≢ self.old.id → self.new.unfetched ≡ self.old.unfetched }
@@ -356,7 +359,8 @@ impl<B: Room> Submitter<B> {
         ensures tick { IfSome result (λ c. IsTickOf (C.tells clock.now) self.new.was c) }
         ensures none { IfNone result (self.new.was.closed ≡ true) }
         ensures grows { IsBefore self.old.was self.new.was }
-        ensures same { (self.new.id ≡ self.old.id) × (self.new.parts ≡ self.old.parts) × (self.new.amount ≡ self.old.amount) × (self.new.unfetched ≡ self.old.unfetched) }
+        ensures same { (self.new.id ≡ self.old.id) × (self.new.parts ≡ self.old.parts) × (self.new.amount ≡ self.old.amount)
+            × (self.new.unfetched ≡ self.old.unfetched) }
     {
         let shared = shared_in(&self.shared);
         let me = shared.seats.leave(&mut self.seat);
@@ -372,7 +376,8 @@ impl<B: Room> Submitter<B> {
         ensures idle { result ≡ true → IsIdle self.new.was }
         ensures closed { result ≡ false → (self.new.was.closed ≡ true) × (IsIdle self.new.was → ⊥) }
         ensures grows { IsBefore self.old.was self.new.was }
-        ensures same { (self.new.id ≡ self.old.id) × (self.new.parts ≡ self.old.parts) × (self.new.amount ≡ self.old.amount) × (self.new.unfetched ≡ self.old.unfetched) }
+        ensures same { (self.new.id ≡ self.old.id) × (self.new.parts ≡ self.old.parts) × (self.new.amount ≡ self.old.amount)
+            × (self.new.unfetched ≡ self.old.unfetched) }
     {
         let shared = shared_in(&self.shared);
         let me = shared.seats.leave(&mut self.seat);
@@ -386,7 +391,8 @@ impl<B: Room> Submitter<B> {
     pub fn rest_for<R: Wait + Timing>(&mut self, rt: &R, pause: Duration) -> Rested
         ensures rested { IsRested self.new.was result }
         ensures grows { IsBefore self.old.was self.new.was }
-        ensures same { (self.new.id ≡ self.old.id) × (self.new.parts ≡ self.old.parts) × (self.new.amount ≡ self.old.amount) × (self.new.unfetched ≡ self.old.unfetched) }
+        ensures same { (self.new.id ≡ self.old.id) × (self.new.parts ≡ self.old.parts) × (self.new.amount ≡ self.old.amount)
+            × (self.new.unfetched ≡ self.old.unfetched) }
     {
         let shared = shared_in(&self.shared);
         let me = shared.seats.leave(&mut self.seat);
@@ -436,7 +442,8 @@ impl<B: Room> Submitter<B> {
         ensures settled { IfSome result (λ s. (s.given ≡ self.new.amount) × IsSettled self.new.was s) }
         ensures none { IfNone result (self.new.was.members ≢ self.new.parts) }
         ensures grows { IsBefore self.old.was self.new.was }
-        ensures same { (self.new.id ≡ self.old.id) × (self.new.parts ≡ self.old.parts) × (self.new.amount ≡ self.old.amount) × (self.new.unfetched ≡ self.old.unfetched) }
+        ensures same { (self.new.id ≡ self.old.id) × (self.new.parts ≡ self.old.parts) × (self.new.amount ≡ self.old.amount)
+            × (self.new.unfetched ≡ self.old.unfetched) }
     {
         let shared = shared_in(&self.shared);
         let me = shared.seats.leave(&mut self.seat);

@@ -5,8 +5,8 @@ use Rattle.flow_base.specs.Codes.{code_text, fault_code, table_name, wrong_code}
 use Rattle.flow_base.specs.declared.code.Code.{Code}
 use Rattle.flow_base.specs.declared.code.Code.TheVariants as code
 use Rattle.flow_base.specs.declared.command.Command.{Command}
-use Rattle.flow_base.specs.declared.fields.Refused.{Refused}
-use Rattle.flow_base.specs.declared.fields.Refused.TheVariants as refused
+use Rattle.flow_base.specs.declared.fields.FieldFault.{FieldFault}
+use Rattle.flow_base.specs.declared.fields.FieldFault.TheVariants as refused
 use Rattle.flow_base.specs.declared.fault.Fault.{Fault}
 use Rattle.flow_base.specs.declared.fault.Fault.TheVariants as fault
 use Rattle.flow_base.specs.declared.fault.Table.{Table}
@@ -54,7 +54,7 @@ abbrev pub line_fault_code : LineFault → Code
 line_fault_code (line_fault.NoMemory _) = code.NoMemory
 line_fault_code line_fault.NotACommand = code.NotAValue
 
-abbrev pub line_fault_of : Refused → LineFault
+abbrev pub line_fault_of : FieldFault → LineFault
 line_fault_of (refused.Memory _) = line_fault.NoMemory _
 line_fault_of refused.Unfit = line_fault.NotACommand
 

@@ -11,20 +11,20 @@ ghost use Rattle.flow_lines.specs.Faults.{GivesLine};
 
 use crate::command::LineFault;
 use flow_base::command::Command;
-use flow_base::fields::{Fields, Refused};
+use flow_base::fields::{FieldFault, Fields};
 use flow_base::memory::NoMemory;
 use flow_base::number::Most;
 use serde_json::Value as Json;
 use std::alloc::Global;
 
-fn most_of(fields: &mut Fields) -> Result<Most, Refused>
+fn most_of(fields: &mut Fields) -> Result<Most, FieldFault>
     ensures { Gives (λ n. (n, left fields.new)) result (field (codes "most") (whole 1 256) (left fields.old)) }
 {
     let number = fields.whole("most", 1, 256)?;
-    Most::new(number).ok_or(Refused::Unfit)
+    Most::new(number).ok_or(FieldFault::Unfit)
 }
 
-fn of_fields(mut fields: Fields) -> Result<Command, Refused>
+fn of_fields(mut fields: Fields) -> Result<Command, FieldFault>
     ensures { Gives (λ c. c) result (asked_members (left fields)) }
 {
     fields.fixed("ask", "open")?;
@@ -34,7 +34,7 @@ fn of_fields(mut fields: Fields) -> Result<Command, Refused>
     Ok(Command::Open(from, most))
 }
 
-fn of_json(json: Json) -> Result<Command, Refused>
+fn of_json(json: Json) -> Result<Command, FieldFault>
     ensures { Gives (λ c. c) result (asked_in (view json)) }
 {
     of_fields(Fields::of_json(json)?)

@@ -7,7 +7,7 @@ ghost use Rattle.flow_lines.specs.Stopping.{CausedFault};
 
 use crate::command::{LineFault, command_of};
 use crate::drive::read;
-use crate::input::Input;
+use crate::input::LineSource;
 use flow_base::command::Command;
 use flow_base::fault::Fault;
 use std::alloc::{AllocError, Global};
@@ -94,7 +94,7 @@ fn put_line(alloc: Global, line: &[u8], begun: &mut Begun) -> Result<(), Fault>
 }
 
 /// Puts the next line of the input to a batch; no where the input has ended.
-fn put_next<I: Input>(alloc: Global, input: &mut I, begun: &mut Begun) -> Result<bool, Fault>
+fn put_next<I: LineSource>(alloc: Global, input: &mut I, begun: &mut Begun) -> Result<bool, Fault>
     ensures gathered { IfOk result (λ found. Gathered begun.old.commands.items begun.new.commands.items begun.old.marks.items begun.new.marks.items (I.left input.old) (I.left input.new)) }
     ensures more { IfOk result (λ found. HasOneMore begun.old.commands.items begun.new.commands.items) }
     ensures last { IfOk result (λ found. EndsNext begun.old.commands.items begun.new.commands.items begun.new.marks.items) }
@@ -125,13 +125,14 @@ fn put_next<I: Input>(alloc: Global, input: &mut I, begun: &mut Begun) -> Result
 ///
 /// # Failure
 /// E01, and E94 where a read failed: none of the batch is applied then.
-pub(crate) fn gather<I: Input>(
+pub(crate) fn gather<I: LineSource>(
     alloc: Global,
     input: &mut I,
     first: Command,
     most: BatchSize,
 ) -> Result<Begun, Fault>
-    ensures gathered { IfOk result (λ b. Gathered (first ∷ []) b.commands.items (true ∷ []) b.marks.items (I.left input.old) (I.left input.new)) }
+    ensures gathered { IfOk result (λ b. Gathered (first ∷ []) b.commands.items (true ∷ []) b.marks.items (I.left input.old)
+        (I.left input.new)) }
     ensures some { IfOk result (λ b. 1 ≤ length b.commands.items) }
     ensures few { IfOk result (λ b. length b.commands.items ≤ most) }
     ensures full { IfOk result (λ b. IsFilled most b.commands.items b.marks.items (I.left input.old) (I.left input.new)) }

@@ -13,7 +13,7 @@ ghost use Rattle.flow_lines.specs.declared.command.Verb.TheVariants as verb;
 
 use flow_base::code::Code;
 use flow_base::command::Command;
-use flow_base::fields::{Fields, Refused};
+use flow_base::fields::{FieldFault, Fields};
 use flow_base::memory::NoMemory;
 use flow_base::number::LAST_NUMBER;
 use serde_json::Value as Json;
@@ -76,21 +76,21 @@ impl LineFault {
     }
 }
 
-impl From<Refused> for LineFault {
+impl From<FieldFault> for LineFault {
     ghost use Rattle.std.specs.Prelude.{◌≡◌};
     ghost use Rattle.flow_lines.specs.Faults.{line_fault_of};
 
     ghost from_gives = { λ r e. e ≡ line_fault_of r };
 
-    fn from(refused: Refused) -> LineFault {
+    fn from(refused: FieldFault) -> LineFault {
         match refused {
-            Refused::Memory(no_memory) => LineFault::NoMemory(no_memory),
-            Refused::Unfit => LineFault::NotACommand,
+            FieldFault::Memory(no_memory) => LineFault::NoMemory(no_memory),
+            FieldFault::Unfit => LineFault::NotACommand,
         }
     }
 }
 
-fn register_of(alloc: Global, mut fields: Fields) -> Result<Command, Refused>
+fn register_of(alloc: Global, mut fields: Fields) -> Result<Command, FieldFault>
     ensures { Gives (λ c. c) result (members_in verb.Register (left fields)) }
 {
     fields.fixed("do", "register")?;
@@ -99,7 +99,7 @@ fn register_of(alloc: Global, mut fields: Fields) -> Result<Command, Refused>
     Ok(Command::Register(src))
 }
 
-fn start_of(alloc: Global, mut fields: Fields) -> Result<Command, Refused>
+fn start_of(alloc: Global, mut fields: Fields) -> Result<Command, FieldFault>
     ensures { Gives (λ c. c) result (members_in verb.Start (left fields)) }
 {
     let args = fields.any_values(alloc, "args")?;
@@ -112,7 +112,7 @@ fn start_of(alloc: Global, mut fields: Fields) -> Result<Command, Refused>
     Ok(Command::Start(request, flow, text, args, at))
 }
 
-fn signal_of(alloc: Global, mut fields: Fields) -> Result<Command, Refused>
+fn signal_of(alloc: Global, mut fields: Fields) -> Result<Command, FieldFault>
     ensures { Gives (λ c. c) result (members_in verb.Signal (left fields)) }
 {
     let at = fields.moment("at")?;
@@ -125,13 +125,13 @@ fn signal_of(alloc: Global, mut fields: Fields) -> Result<Command, Refused>
     Ok(Command::Signal(request, flow, name, value, at))
 }
 
-fn attempt_of(fields: &mut Fields) -> Result<u64, Refused>
+fn attempt_of(fields: &mut Fields) -> Result<u64, FieldFault>
     ensures { Gives (λ n. (n, left fields.new)) result (field (codes "attempt") position (left fields.old)) }
 {
     fields.whole("attempt", 1, LAST_NUMBER)
 }
 
-fn complete_of(alloc: Global, mut fields: Fields) -> Result<Command, Refused>
+fn complete_of(alloc: Global, mut fields: Fields) -> Result<Command, FieldFault>
     ensures { Gives (λ c. c) result (members_in verb.Complete (left fields)) }
 {
     let at = fields.moment("at")?;
@@ -144,7 +144,7 @@ fn complete_of(alloc: Global, mut fields: Fields) -> Result<Command, Refused>
     Ok(Command::Complete(run, event, attempt, value, at))
 }
 
-fn fail_of(alloc: Global, mut fields: Fields) -> Result<Command, Refused>
+fn fail_of(alloc: Global, mut fields: Fields) -> Result<Command, FieldFault>
     ensures { Gives (λ c. c) result (members_in verb.Fail (left fields)) }
 {
     let at = fields.moment("at")?;
@@ -157,7 +157,7 @@ fn fail_of(alloc: Global, mut fields: Fields) -> Result<Command, Refused>
     Ok(Command::Fail(run, event, attempt, reason, at))
 }
 
-fn tick_of(mut fields: Fields) -> Result<Command, Refused>
+fn tick_of(mut fields: Fields) -> Result<Command, FieldFault>
     ensures { Gives (λ c. c) result (members_in verb.Tick (left fields)) }
 {
     let at = fields.moment("at")?;
@@ -166,7 +166,7 @@ fn tick_of(mut fields: Fields) -> Result<Command, Refused>
     Ok(Command::Tick(at))
 }
 
-fn terminate_of(alloc: Global, mut fields: Fields) -> Result<Command, Refused>
+fn terminate_of(alloc: Global, mut fields: Fields) -> Result<Command, FieldFault>
     ensures { Gives (λ c. c) result (members_in verb.Terminate (left fields)) }
 {
     let at = fields.moment("at")?;
@@ -177,7 +177,7 @@ fn terminate_of(alloc: Global, mut fields: Fields) -> Result<Command, Refused>
     Ok(Command::Terminate(run, reason, at))
 }
 
-fn upgrade_of(mut fields: Fields) -> Result<Command, Refused>
+fn upgrade_of(mut fields: Fields) -> Result<Command, FieldFault>
     ensures { Gives (λ c. c) result (members_in verb.Upgrade (left fields)) }
 {
     fields.fixed("do", "upgrade")?;
@@ -187,7 +187,7 @@ fn upgrade_of(mut fields: Fields) -> Result<Command, Refused>
     Ok(Command::Upgrade(run, text))
 }
 
-fn describe_of(mut fields: Fields) -> Result<Command, Refused>
+fn describe_of(mut fields: Fields) -> Result<Command, FieldFault>
     ensures { Gives (λ c. c) result (members_in verb.Describe (left fields)) }
 {
     fields.fixed("do", "describe")?;
@@ -196,7 +196,7 @@ fn describe_of(mut fields: Fields) -> Result<Command, Refused>
     Ok(Command::Describe(run))
 }
 
-fn history_of(mut fields: Fields) -> Result<Command, Refused>
+fn history_of(mut fields: Fields) -> Result<Command, FieldFault>
     ensures { Gives (λ c. c) result (members_in verb.History (left fields)) }
 {
     fields.fixed("do", "history")?;
@@ -211,10 +211,10 @@ fn verb_of(json: &Json) -> Option<Verb>
     Verb::named(json.get("do")?.as_str()?)
 }
 
-fn of_json(alloc: Global, json: Json) -> Result<Command, Refused>
+fn of_json(alloc: Global, json: Json) -> Result<Command, FieldFault>
     ensures { Gives (λ c. c) result (command_in (view json)) }
 {
-    let verb = verb_of(&json).ok_or(Refused::Unfit)?;
+    let verb = verb_of(&json).ok_or(FieldFault::Unfit)?;
     match verb {
         Verb::Register => register_of(alloc, Fields::of_json(json)?),
         Verb::Start => start_of(alloc, Fields::of_json(json)?),

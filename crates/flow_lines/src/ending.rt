@@ -62,7 +62,8 @@ pub fn ended<O: Output>(alloc: Global, errors: &mut O, outcome: &Result<u8, Faul
     ensures early { IfErr outcome.now (λ f. result ≡ fault_status f) }
     ensures said { IfErr outcome.now (λ f. SaysFault f (O.contents errors.old) (O.contents errors.new)) }
     // Where nothing has failed there the line of the fault, or of its number, stands there first.
-    ensures first { IfErr outcome.now (λ f. SaysFirst f (O.contents errors.old) (O.contents errors.new) ⊎ ((O.failed errors.new ≡ true) ⊎ (O.ran_out errors.new ≡ true))) }
+    ensures first { IfErr outcome.now (λ f. SaysFirst f (O.contents errors.old) (O.contents errors.new)
+        ⊎ ((O.failed errors.new ≡ true) ⊎ (O.ran_out errors.new ≡ true))) }
 {
     match outcome {
         Ok(status) => *status,

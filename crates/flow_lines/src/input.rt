@@ -29,7 +29,7 @@ impl Unread {
 }
 
 /// Lines, one after the other.
-pub trait Input {
+pub trait LineSource {
     /// The bytes that are left, where they are known.
     ghost left: { Self → Option (List ℕ) };
 
@@ -41,7 +41,8 @@ pub trait Input {
 
     /// The next line, without its end; none after the last one. An input that goes on after as many lines as are counted has failed.
     fn next_line(&mut self, alloc: Global) -> Result<Option<Vec<u8>>, Unread>
-        ensures line { IfOk result (λ found. IfSome found (λ line. IfSome (left self.old) (λ bytes. FirstLine bytes line.items (left self.new)))) }
+        ensures line { IfOk result (λ found. IfSome found
+            (λ line. IfSome (left self.old) (λ bytes. FirstLine bytes line.items (left self.new)))) }
         ensures end { IfOk result (λ found. IfNone found (IfSome (left self.old) (λ bytes. (bytes ≡ []) × (left self.new ≡ Some bytes)))) }
         ensures given { IfOk result (λ found. IfSome found (λ line. Gives 1 (given self.old) (given self.new))) }
         ensures still { IfOk result (λ found. IfNone found (Gives 0 (given self.old) (given self.new))) }

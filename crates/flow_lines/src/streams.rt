@@ -9,7 +9,7 @@ ghost use Rattle.flow_lines.specs.Driving.{WritesBeginning};
 ghost use Rattle.flow_lines.specs.Ends.{unwritten_failed, unwritten_ran_out};
 ghost use Rattle.flow_lines.specs.Replies.{line_text};
 
-use crate::input::{Input, Unread};
+use crate::input::{LineSource, Unread};
 use crate::output::{Output, Unwritten, with_end};
 use crate::reply::{Line, reply_line};
 use flow_base::memory::NoMemory;
@@ -38,8 +38,10 @@ fn without_end(mut line: Vec<u8>) -> Vec<u8>
 /// The next line of a reader, without its end; none after the last one.
 #[tactic(auto, using(crate::proofs::Lines::first_line_read, crate::proofs::Lines::ended))]
 pub fn next_line<R: BufRead>(alloc: Global, reader: &mut R) -> Result<Option<Vec<u8>>, io::Error>
-    ensures line { IfOk result (λ found. IfSome found (λ line. IfSome (R.remaining reader.old) (λ bytes. FirstLine bytes line.items (R.remaining reader.new)))) }
-    ensures end { IfOk result (λ found. IfNone found (IfSome (R.remaining reader.old) (λ bytes. (bytes ≡ []) × (R.remaining reader.new ≡ Some bytes)))) }
+    ensures line { IfOk result (λ found. IfSome found
+        (λ line. IfSome (R.remaining reader.old) (λ bytes. FirstLine bytes line.items (R.remaining reader.new)))) }
+    ensures end { IfOk result (λ found. IfNone found
+        (IfSome (R.remaining reader.old) (λ bytes. (bytes ≡ []) × (R.remaining reader.new ≡ Some bytes)))) }
 {
     let mut line = Vec::new(alloc);
     let count = reader.read_until(b'\n', &mut line)?;
@@ -71,7 +73,7 @@ impl<R: BufRead> Reading<R> {
     }
 }
 
-impl<R: BufRead> Input for Reading<R> {
+impl<R: BufRead> LineSource for Reading<R> {
     ghost left = { λ r. R.remaining r.reader };
 
     ghost failed = { λ r. r.failed };

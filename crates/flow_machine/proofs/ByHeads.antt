@@ -10,7 +10,7 @@ use Rattle.flow_base.specs.declared.event.Input.{Input}
 use Rattle.flow_base.specs.declared.event.Input.TheVariants.{ActivityCompleted, ActivityFailed, Signaled, TimerFired}
 use Rattle.flow_base.specs.declared.book.Due.{Due}
 use Rattle.flow_base.specs.declared.book.Run.{Run}
-use Rattle.flow_base.specs.declared.book.Task.{Task}
+use Rattle.flow_base.specs.declared.book.OpenActivity.{OpenActivity}
 use Rattle.flow_base.specs.declared.book.Turn.{Turn}
 use Rattle.flow_base.specs.declared.code.Code.{Code}
 use Rattle.flow_base.specs.declared.code.Code.TheVariants.{NoRun, NoOpenRun, NoSuchSignal, OldAttempt, WrongType}
@@ -75,7 +75,7 @@ attempted true true x = refl
 attempted true false x = refl
 attempted false g x = refl
 
-reported : (o : Option Task) (attempt : ℕ) (g : Bool) (x : Outcome)
+reported : (o : Option OpenActivity) (attempt : ℕ) (g : Bool) (x : Outcome)
     → tested (on_task o (λ t. refuse_unless (nat_eq t.attempt attempt) OldAttempt (refuse_unless g WrongType None))) x ≡ tested (on_task o (λ t. refuse_unless (nat_eq t.attempt attempt) OldAttempt None)) (must_hold g WrongType x)
 reported None attempt g x = refl
 reported (Some t) attempt g x = attempted (nat_eq t.attempt attempt) g x
@@ -85,7 +85,7 @@ attempt_stuck true true s h = h
 attempt_stuck true false s h = h
 attempt_stuck false g s h = h
 
-report_stuck : (o : Option Task) (attempt : ℕ) (g : Bool) (s : Type 0)
+report_stuck : (o : Option OpenActivity) (attempt : ℕ) (g : Bool) (s : Type 0)
     → unless_there (on_task o (λ t. refuse_unless (nat_eq t.attempt attempt) OldAttempt None)) (where_holds g s) → unless_there (on_task o (λ t. refuse_unless (nat_eq t.attempt attempt) OldAttempt (refuse_unless g WrongType None))) s
 report_stuck None attempt g s h = h
 report_stuck (Some t) attempt g s h = attempt_stuck (nat_eq t.attempt attempt) g s h

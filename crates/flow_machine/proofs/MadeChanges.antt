@@ -9,7 +9,7 @@ use Rattle.flow_base.specs.declared.event.Cmd.{Cmd}
 use Rattle.flow_base.specs.declared.event.Wrong.{Wrong}
 use Rattle.flow_base.specs.declared.event.Input.{Input}
 use Rattle.flow_base.specs.declared.event.Input.TheVariants.{Signaled, ActivityCompleted, ActivityFailed, Terminated, TimerFired}
-use Rattle.flow_base.specs.declared.book.Task.{Task}
+use Rattle.flow_base.specs.declared.book.OpenActivity.{OpenActivity}
 use Rattle.flow_base.specs.declared.book.Timer.{Timer}
 use Rattle.flow_base.specs.declared.book.Due.{Due}
 use Rattle.flow_base.specs.declared.book.Run.{Run}
@@ -248,7 +248,7 @@ module _ (u : Rules) (b : Book) (Q : List Change → Type 0) (c : CoversTurns u 
       text = r.text;
       state = state_of r.history;
       events = length r.history;
-      activities = map (λ (t : Task). t.event) r.tasks;
+      activities = map (λ (t : OpenActivity). t.event) r.tasks;
       timers = map (λ (t : Timer). t.id) (timers_left r.history);
     }))))) [ None ↦ c.nothing | Some r ↦ c.nothing ]
 

@@ -6,7 +6,7 @@ use Rattle.std.proofs.lemmas.Option.{none-some}
 use Rattle.flow_base.specs.Syntax.{Bytes, Program}
 use Rattle.flow_base.specs.declared.event.Event.{Event}
 use Rattle.flow_base.specs.declared.book.Run.{Run}
-use Rattle.flow_base.specs.declared.book.Task.{Task}
+use Rattle.flow_base.specs.declared.book.OpenActivity.{OpenActivity}
 use Rattle.flow_base.specs.declared.book.Change.{Change}
 use Rattle.flow_base.specs.declared.command.Command.{Command}
 use Rattle.flow_base.specs.declared.command.Command.TheVariants as command
@@ -24,8 +24,8 @@ use Rattle.flow_model.specs.Apply.{Rules, Outcome, program_at, with_named, named
 use Rattle.flow_model.proofs.Positions.{position_computed}
 use Rattle.flow_run.specs.Position.{config_of}
 use Rattle.flow_run.specs.Shown.{waits_of}
-use Rattle.flow_run.specs.declared.rest.OpenWait.{OpenWait}
-use Rattle.flow_run.specs.declared.rest.OpenWait.TheVariants as wait
+use Rattle.flow_run.specs.declared.waits.OpenWait.{OpenWait}
+use Rattle.flow_run.specs.declared.waits.OpenWait.TheVariants as wait
 use Rattle.flow_run.specs.declared.stance.Stance.{Stance}
 use Rattle.flow_view.specs.Heads.{head_of, head_if}
 use Rattle.flow_view.specs.Reading.{Caused}
@@ -64,9 +64,9 @@ behind_named : (o : Option OpenTask) (ts : List OpenTask) → with_named o ts �
 behind_named None ts = refl
 behind_named (Some t) ts = refl
 
-pub one_named : (h : List Event) (whole : List OpenTask) (cut : List Task) (t : Task) (rest : List Task) (before after : List OpenTask) → cut ≡ t ∷ rest → whole ≡ before ++ named_tasks h cut → after ≡ before ++ with_named (named_by t (nth h t.event)) []
+pub one_named : (h : List Event) (whole : List OpenTask) (cut : List OpenActivity) (t : OpenActivity) (rest : List OpenActivity) (before after : List OpenTask) → cut ≡ t ∷ rest → whole ≡ before ++ named_tasks h cut → after ≡ before ++ with_named (named_by t (nth h t.event)) []
     → whole ≡ after ++ named_tasks h rest
-one_named h = put_more (named_tasks h) (λ (t : Task). with_named (named_by t (nth h t.event)) []) (λ t ts. behind_named (named_by t (nth h t.event)) (named_tasks h ts))
+one_named h = put_more (named_tasks h) (λ (t : OpenActivity). with_named (named_by t (nth h t.event)) []) (λ t ts. behind_named (named_by t (nth h t.event)) (named_tasks h ts))
 
 ---- What a run waits for
 

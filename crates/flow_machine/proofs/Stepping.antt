@@ -12,7 +12,9 @@ use Rattle.flow_model.specs.Book.{Book}
 use Rattle.flow_model.specs.Apply.{Rules, Outcome, gives_kind}
 use Rattle.flow_view.specs.Heads.{event_at, head_at}
 use Rattle.flow_view.specs.declared.head.Head.{Head}
+use Rattle.flow_view.specs.Called.{Called}
 use Rattle.flow_view.specs.Reading.{Caused}
+use Rattle.flow_view.specs.declared.view.View.{Ghosts}
 use Rattle.flow_view.specs.declared.fault.ViewFault.{ViewFault}
 use Rattle.flow_view.specs.declared.fault.ViewFault.TheVariants as fault
 use Rattle.flow_machine.specs.ByHead.{history_at, StuckInputAt, StuckGivenAt, StuckFiredAt}
@@ -33,11 +35,21 @@ pub sticks_as : (r : Result Step ViewFault) (sure : Type 0) (b : Book) (X Y : Ty
 sticks_as (Ok s) sure b X Y on h = λ now. sticks_on b s X Y on (h now)
 sticks_as (Err f) sure b X Y on h = h
 
-pub caused_as : {A : Type 0} (r : Result A ViewFault) (R X Y : Type 0) → (X → Y) → Caused r (R ⊎ X) → Caused r (R ⊎ Y)
+caused_as : {A : Type 0} (r : Result A ViewFault) (R X Y : Type 0) → (X → Y) → Caused r (R ⊎ X) → Caused r (R ⊎ Y)
 caused_as (Ok x) R X Y on h = tt
 caused_as (Err (fault.NoMemory _)) R X Y on h = tt
 caused_as (Err fault.StoreRefused) R X Y on (inl x) = inl x
 caused_as (Err fault.StoreRefused) R X Y on (inr x) = inr (on x)
+
+pub called_as : {V A : Type 0} (g : Ghosts V) (old new : V) (r : Result A ViewFault) (X Y : Type 0) → (X → Y) → Called g old new r X → Called g old new r Y
+called_as g old new r X Y on h =
+    record {
+      cause = λ a begun now first. caused_as r (g.refuses a new) X Y on (h.cause a begun now first);
+      goes_on = h.goes_on;
+      sure = h.sure;
+      was_true = h.was_true;
+      follows = h.follows;
+    }
 
 pub step_stuck : (b : Book) (s : Step) (X : Type 0) → Sticks b s X → IsStuckStep b s → X
 step_stuck b (step.Answered reply cs) X h stuck = absurd stuck

@@ -11,7 +11,7 @@ use Rattle.flow_base.specs.declared.event.What.TheVariants.{Asked}
 use Rattle.flow_base.specs.declared.event.Event.{Event}
 use Rattle.flow_base.specs.declared.effect.Effect.{Effect}
 use Rattle.flow_base.specs.declared.effect.Effect.TheVariants as effect
-use Rattle.flow_base.specs.declared.book.Task.{Task}
+use Rattle.flow_base.specs.declared.book.OpenActivity.{OpenActivity}
 use Rattle.flow_base.specs.declared.book.Turn.{Turn}
 use Rattle.flow_base.specs.declared.book.Run.{Run}
 use Rattle.flow_base.specs.Effects.{effect_of, effect_of_input, effect_of_command}
@@ -24,7 +24,7 @@ use Rattle.flow_machine.proofs.Places.{get_past, nth_at, nth_kept}
 
 ---- Attempts
 
-asked_tasks : (r : Run) (n at : ℕ) (c : Cmd) (ts : List Task) → nth r.history n ≡ Some (record { id = n; at = at; what = Asked c }) → AskedWell c → All (IsSoundTask r) ts → All (IsSoundTask r) (tasks_by ts n at (effect_of_command c))
+asked_tasks : (r : Run) (n at : ℕ) (c : Cmd) (ts : List OpenActivity) → nth r.history n ≡ Some (record { id = n; at = at; what = Asked c }) → AskedWell c → All (IsSoundTask r) ts → All (IsSoundTask r) (tasks_by ts n at (effect_of_command c))
 asked_tasks r n at (Schedule a vs tries every k) ts e w h =
     All-push (IsSoundTask r) ts (record { event = n; attempt = 1; ready = at }) h
     (record { first = omega arith; event = record { id = n; at = at; what = Asked (Schedule a vs tries every k) }; scheduled = e; tries = tries; asked = (a, (vs, (every, (k, refl)))); last = w.1.0 })
@@ -35,7 +35,7 @@ asked_tasks r n at (Complete v) ts e w h = All-nil (IsSoundTask r)
 asked_tasks r n at (Fail c t) ts e w h = All-nil (IsSoundTask r)
 asked_tasks r n at (ContinueAsNew vs) ts e w h = All-nil (IsSoundTask r)
 
-traced_tasks : (r : Run) (n at : ℕ) (cs : List Cmd) (ts : List Task) → ((i : ℕ) (e : Event) → slice_get (traces n at cs) i ≡ Some e → nth r.history (n + i) ≡ Some e)
+traced_tasks : (r : Run) (n at : ℕ) (cs : List Cmd) (ts : List OpenActivity) → ((i : ℕ) (e : Event) → slice_get (traces n at cs) i ≡ Some e → nth r.history (n + i) ≡ Some e)
     → All AskedWell cs → All (IsSoundTask r) ts → All (IsSoundTask r) (tasks_after ts (traces n at cs))
 traced_tasks r n at [] ts f w h = h
 traced_tasks r n at (c ∷ cs) ts f w h =
@@ -46,15 +46,15 @@ traced_tasks r n at (c ∷ cs) ts f w h =
     (λ i d g. let next : n + suc i ≡ n + 1 + i = omega arith in subst (λ m. nth r.history m ≡ Some d) next (f (suc i) d g))
     (All-tail AskedWell c cs w) (asked_tasks r n at c ts here (All-head AskedWell c cs w) h)
 
-came_tasks : (r : Run) (ts : List Task) (id at : ℕ) (i : Input) → All (IsSoundTask r) ts → All (IsSoundTask r) (tasks_by ts id at (effect_of_input i))
+came_tasks : (r : Run) (ts : List OpenActivity) (id at : ℕ) (i : Input) → All (IsSoundTask r) ts → All (IsSoundTask r) (tasks_by ts id at (effect_of_input i))
 came_tasks r ts id at (input.Started vs) h = h
 came_tasks r ts id at (input.Signaled a q v) h = h
-came_tasks r ts id at (input.ActivityCompleted n v) h = All-filter (λ (t : Task). not (nat_eq t.event n)) (IsSoundTask r) ts h
-came_tasks r ts id at (input.ActivityFailed n t) h = All-filter (λ (t : Task). not (nat_eq t.event n)) (IsSoundTask r) ts h
+came_tasks r ts id at (input.ActivityCompleted n v) h = All-filter (λ (t : OpenActivity). not (nat_eq t.event n)) (IsSoundTask r) ts h
+came_tasks r ts id at (input.ActivityFailed n t) h = All-filter (λ (t : OpenActivity). not (nat_eq t.event n)) (IsSoundTask r) ts h
 came_tasks r ts id at (input.TimerFired n) h = h
 came_tasks r ts id at (input.Terminated t) h = All-nil (IsSoundTask r)
 
-kept_task : (r : Run) (t : Turn) (k : Task) → IsSoundTask r k → IsSoundTask (with_turn t r) k
+kept_task : (r : Run) (t : Turn) (k : OpenActivity) → IsSoundTask r k → IsSoundTask (with_turn t r) k
 kept_task r t k s =
     record {
       first = s.first;
@@ -81,8 +81,8 @@ turn_attempts r t w h =
 
 ---- Which are open
 
-abbrev pub events_of : List Task → List ℕ
-events_of ts = map (λ (t : Task). t.event) ts
+abbrev pub events_of : List OpenActivity → List ℕ
+events_of ts = map (λ (t : OpenActivity). t.event) ts
 
 -- what a list loses by its numbers its numbers lose
 pub kept_numbers : {A : Type 0} (number : A → ℕ) (n : ℕ) (xs : List A) → map number (filter (λ x. not (nat_eq (number x) n)) xs) ≡ filter (λ m. not (nat_eq m n)) (map number xs)
@@ -94,27 +94,27 @@ kept_numbers number n (x ∷ xs) =
       | false ↦ kept_numbers number n xs
     ]
 
-same_without : (n : ℕ) (ts us : List Task) → events_of ts ≡ events_of us → events_of (without n ts) ≡ events_of (without n us)
+same_without : (n : ℕ) (ts us : List OpenActivity) → events_of ts ≡ events_of us → events_of (without n ts) ≡ events_of (without n us)
 same_without n ts us e =
-    let number = λ (t : Task). t.event in
+    let number = λ (t : OpenActivity). t.event in
     kept_numbers number n ts ∙ ap (filter (λ m. not (nat_eq m n))) e ∙ sym (kept_numbers number n us)
 
-same_by : (ts us : List Task) (id at : ℕ) (e : Effect) → events_of ts ≡ events_of us → events_of (tasks_by ts id at e) ≡ events_of (tasks_by us id at e)
+same_by : (ts us : List OpenActivity) (id at : ℕ) (e : Effect) → events_of ts ≡ events_of us → events_of (tasks_by ts id at e) ≡ events_of (tasks_by us id at e)
 same_by ts us id at effect.Begins e = e
 same_by ts us id at effect.OpensActivity e =
-    let new : List Task = record { event = id; attempt = 1; ready = at } ∷ [] in
-    map-append (λ (t : Task). t.event) ts new ∙ ap (λ l. l ++ id ∷ []) e ∙ sym (map-append (λ (t : Task). t.event) us new)
+    let new : List OpenActivity = record { event = id; attempt = 1; ready = at } ∷ [] in
+    map-append (λ (t : OpenActivity). t.event) ts new ∙ ap (λ l. l ++ id ∷ []) e ∙ sym (map-append (λ (t : OpenActivity). t.event) us new)
 same_by ts us id at (effect.OpensTimer due) e = e
 same_by ts us id at (effect.EndsActivity n) e = same_without n ts us e
 same_by ts us id at (effect.EndsTimer n) e = e
 same_by ts us id at (effect.Closes s) e = refl
 same_by ts us id at effect.Nothing e = e
 
-same_after : (ts us : List Task) (es : List Event) → events_of ts ≡ events_of us → events_of (tasks_after ts es) ≡ events_of (tasks_after us es)
+same_after : (ts us : List OpenActivity) (es : List Event) → events_of ts ≡ events_of us → events_of (tasks_after ts es) ≡ events_of (tasks_after us es)
 same_after ts us [] e = e
 same_after ts us (d ∷ es) e = same_after (tasks_after_one ts d) (tasks_after_one us d) es (same_by ts us d.id d.at (effect_of d.what) e)
 
-appended_tasks : (ts : List Task) (h es : List Event) → tasks_after ts (h ++ es) ≡ tasks_after (tasks_after ts h) es
+appended_tasks : (ts : List OpenActivity) (h es : List Event) → tasks_after ts (h ++ es) ≡ tasks_after (tasks_after ts h) es
 appended_tasks ts [] es = refl
 appended_tasks ts (e ∷ h) es = appended_tasks (tasks_after_one ts e) h es
 

@@ -12,7 +12,7 @@ use Rattle.flow_base.specs.declared.event.Input.{Input}
 use Rattle.flow_base.specs.declared.event.What.{What}
 use Rattle.flow_base.specs.declared.event.What.TheVariants.{Came, Asked}
 use Rattle.flow_base.specs.declared.event.Event.{Event}
-use Rattle.flow_base.specs.declared.book.Task.{Task}
+use Rattle.flow_base.specs.declared.book.OpenActivity.{OpenActivity}
 use Rattle.flow_base.specs.declared.book.Run.{Run}
 use Rattle.flow_model.specs.Configuration.{Configuration, first_configuration}
 use Rattle.flow_model.specs.Turn.{Recorded}
@@ -84,28 +84,28 @@ few_tries p h k n x b s e =
     well.1.1
 
 -- a sound activity is tried as often as its event asked
-its_tries : (r : Run) (t : Task) (s : IsSoundTask r t) (x : ℕ × ℕ) → tries_of (nth r.history t.event) ≡ Some x → s.tries ≡ x.0
+its_tries : (r : Run) (t : OpenActivity) (s : IsSoundTask r t) (x : ℕ × ℕ) → tries_of (nth r.history t.event) ≡ Some x → s.tries ≡ x.0
 its_tries r t s x e =
     let asked = s.asked.1.1 in
     let by : tries_of (nth r.history t.event) ≡ Some (s.tries, asked.0) = ap tries_of s.scheduled ∙ ap tries_by asked.1.1 in
     ap (λ (y : ℕ × ℕ). y.0) (same_Some (s.tries, asked.0) x (sym by ∙ e))
 
-pub task_tried : (r : Run) (t : Task) (s : IsSoundTask r t) → tries_of (nth r.history t.event) ≡ None → ⊥
+pub task_tried : (r : Run) (t : OpenActivity) (s : IsSoundTask r t) → tries_of (nth r.history t.event) ≡ None → ⊥
 task_tried r t s e =
     let asked = s.asked.1.1 in none-some (s.tries, asked.0) (sym e ∙ ap tries_of s.scheduled ∙ ap tries_by asked.1.1)
 
-found_by : (r : Run) (event : ℕ) (t u : Task) (o : Option Task) (b : Bool) → nat_eq u.event event ≡ b → IsSoundTask r u → (o ≡ Some t → (t.event ≡ event) × IsSoundTask r t) → (if b then Some u else o) ≡ Some t
+found_by : (r : Run) (event : ℕ) (t u : OpenActivity) (o : Option OpenActivity) (b : Bool) → nat_eq u.event event ≡ b → IsSoundTask r u → (o ≡ Some t → (t.event ≡ event) × IsSoundTask r t) → (if b then Some u else o) ≡ Some t
     → (t.event ≡ event) × IsSoundTask r t
-found_by r event t u o true is s more e = subst (λ (x : Task). (x.event ≡ event) × IsSoundTask r x) (same_Some u t e) (eqb-true u.event event is, s)
+found_by r event t u o true is s more e = subst (λ (x : OpenActivity). (x.event ≡ event) × IsSoundTask r x) (same_Some u t e) (eqb-true u.event event is, s)
 found_by r event t u o false is s more e = more e
 
-found_in : (r : Run) (event : ℕ) (t : Task) (ts : List Task) → All (IsSoundTask r) ts → task_at ts event ≡ Some t → (t.event ≡ event) × IsSoundTask r t
+found_in : (r : Run) (event : ℕ) (t : OpenActivity) (ts : List OpenActivity) → All (IsSoundTask r) ts → task_at ts event ≡ Some t → (t.event ≡ event) × IsSoundTask r t
 found_in r event t [] h e = absurd (none-some t e)
 found_in r event t (u ∷ ts) h e =
     found_by r event t u (task_at ts event) (nat_eq u.event event) refl (All-head (IsSoundTask r) u ts h) (found_in r event t ts (All-tail (IsSoundTask r) u ts h)) e
 
 -- a task that is found is sound, and of its event
-pub found_task : (r : Run) (event : ℕ) (t : Task) → All (IsSoundTask r) r.tasks → task_at r.tasks event ≡ Some t → (t.event ≡ event) × IsSoundTask r t
+pub found_task : (r : Run) (event : ℕ) (t : OpenActivity) → All (IsSoundTask r) r.tasks → task_at r.tasks event ≡ Some t → (t.event ≡ event) × IsSoundTask r t
 found_task r event t h e = found_in r event t r.tasks h e
 
 ---- A later attempt
@@ -114,33 +114,33 @@ module _ (r : Run) (event attempt ready : ℕ) where
   abbrev Later : Run
   Later = with_attempt event attempt ready r
 
-  same_task : (t : Task) → IsSoundTask r t → IsSoundTask Later t
+  same_task : (t : OpenActivity) → IsSoundTask r t → IsSoundTask Later t
   same_task t s = record { first = s.first; event = s.event; scheduled = s.scheduled; tries = s.tries; asked = s.asked; last = s.last }
 
-  later_task : (t : Task) (s : IsSoundTask r t) → 1 ≤ attempt → attempt ≤ s.tries → IsSoundTask Later (record { event = t.event; attempt = attempt; ready = ready })
+  later_task : (t : OpenActivity) (s : IsSoundTask r t) → 1 ≤ attempt → attempt ≤ s.tries → IsSoundTask Later (record { event = t.event; attempt = attempt; ready = ready })
   later_task t s first last = record { first = first; event = s.event; scheduled = s.scheduled; tries = s.tries; asked = s.asked; last = last }
 
-  one_attempt : (t : Task) (x : ℕ × ℕ) → IsSoundTask r t → tries_of (nth r.history event) ≡ Some x → 1 ≤ attempt → attempt ≤ x.0 → IsSoundTask Later (at_attempt event attempt ready t)
+  one_attempt : (t : OpenActivity) (x : ℕ × ℕ) → IsSoundTask r t → tries_of (nth r.history event) ≡ Some x → 1 ≤ attempt → attempt ≤ x.0 → IsSoundTask Later (at_attempt event attempt ready t)
   one_attempt t x s e first last =
-      let new : Task = record { event = t.event; attempt = attempt; ready = ready } in
-      let by : Bool → Task = λ b. if b then new else t in
+      let new : OpenActivity = record { event = t.event; attempt = attempt; ready = ready } in
+      let by : Bool → OpenActivity = λ b. if b then new else t in
       ⊎_elim (λ (y : (nat_eq t.event event ≡ true) × (t.event ≡ event)).
       let tries : s.tries ≡ x.0 = its_tries r t s x (ap (λ n. tries_of (nth r.history n)) y.1 ∙ e) in
       subst (IsSoundTask Later) (sym (ap by y.0)) (later_task t s first (subst (λ n. attempt ≤ n) (sym tries) last)))
       (λ (y : (nat_eq t.event event ≡ false) × (t.event ≢ event)). subst (IsSoundTask Later) (sym (ap by y.0)) (same_task t s)) (eqb_tells t.event event)
 
-  pub all_attempts : (ts : List Task) (x : ℕ × ℕ) → All (IsSoundTask r) ts → tries_of (nth r.history event) ≡ Some x → 1 ≤ attempt → attempt ≤ x.0 → All (IsSoundTask Later) (map (at_attempt event attempt ready) ts)
+  pub all_attempts : (ts : List OpenActivity) (x : ℕ × ℕ) → All (IsSoundTask r) ts → tries_of (nth r.history event) ≡ Some x → 1 ≤ attempt → attempt ≤ x.0 → All (IsSoundTask Later) (map (at_attempt event attempt ready) ts)
   all_attempts [] x h e first last = All-nil (IsSoundTask Later)
   all_attempts (t ∷ ts) x h e first last =
       All-cons (IsSoundTask Later) (at_attempt event attempt ready t) (map (at_attempt event attempt ready) ts)
       (one_attempt t x (All-head (IsSoundTask r) t ts h) e first last) (all_attempts ts x (All-tail (IsSoundTask r) t ts h) e first last)
 
-  same_event : (t : Task) (b : Bool) → (if b then record { event = t.event; attempt = attempt; ready = ready } else t).event ≡ t.event
+  same_event : (t : OpenActivity) (b : Bool) → (if b then record { event = t.event; attempt = attempt; ready = ready } else t).event ≡ t.event
   same_event t true = refl
   same_event t false = refl
 
   -- the same activities are open
-  pub same_events : (ts : List Task) → events_of (map (at_attempt event attempt ready) ts) ≡ events_of ts
+  pub same_events : (ts : List OpenActivity) → events_of (map (at_attempt event attempt ready) ts) ≡ events_of ts
   same_events [] = refl
   same_events (t ∷ ts) =
       ap (λ n. n ∷ events_of (map (at_attempt event attempt ready) ts)) (same_event t (nat_eq t.event event)) ∙ ap (λ l. t.event ∷ l) (same_events ts)

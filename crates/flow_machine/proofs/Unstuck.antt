@@ -6,7 +6,7 @@ use Rattle.flow_base.specs.Syntax.{Bytes, Program}
 use Rattle.flow_base.specs.declared.value.Value.{Value}
 use Rattle.flow_base.specs.declared.code.Code.{Code}
 use Rattle.flow_base.specs.declared.event.Input.TheVariants.{Signaled, ActivityCompleted, ActivityFailed}
-use Rattle.flow_base.specs.declared.book.Task.{Task}
+use Rattle.flow_base.specs.declared.book.OpenActivity.{OpenActivity}
 use Rattle.flow_base.specs.declared.book.Run.{Run}
 use Rattle.flow_base.specs.declared.command.Command.TheVariants as command
 use Rattle.flow_model.specs.WellFormed.{signal_of}
@@ -55,7 +55,7 @@ module _ (Y : Type 0) where
   unheld_then true X f h = absurd h
   unheld_then false X f h = f h
 
-task_found : (o : Option Task) (next : Task → Option Code) → on_task o next ≡ None → (t : Task) × ((o ≡ Some t) × (next t ≡ None))
+task_found : (o : Option OpenActivity) (next : OpenActivity → Option Code) → on_task o next ≡ None → (t : OpenActivity) × ((o ≡ Some t) × (next t ≡ None))
 task_found None next e = absurd (none-some _ (sym e))
 task_found (Some t) next e = (t, (refl, e))
 
@@ -64,7 +64,7 @@ refuses_none true c next e = (refl, e)
 refuses_none false c next e = absurd (none-some c (sym e))
 
 -- a report that nothing refuses is of an open activity, with a value of the type that it gives
-reported : (r : Run) (event attempt : ℕ) (v : Value) → report_refusal r event attempt v ≡ None → (t : Task) × ((task_at r.tasks event ≡ Some t) × (gives_kind (nth r.history event) v ≡ true))
+reported : (r : Run) (event attempt : ℕ) (v : Value) → report_refusal r event attempt v ≡ None → (t : OpenActivity) × ((task_at r.tasks event ≡ Some t) × (gives_kind (nth r.history event) v ≡ true))
 unfolding report_refusal
 reported r event attempt v e =
     let found = task_found (task_at r.tasks event) _ e in
@@ -72,7 +72,7 @@ reported r event attempt v e =
     (found.0, (found.1.0, (refuses_none (gives_kind (nth r.history event) v) _ None attempted.1).0))
 
 -- a failed attempt that nothing refuses is of an open activity
-failed : (r : Run) (event attempt : ℕ) → failure_refusal r event attempt ≡ None → (t : Task) × (task_at r.tasks event ≡ Some t)
+failed : (r : Run) (event attempt : ℕ) → failure_refusal r event attempt ≡ None → (t : OpenActivity) × (task_at r.tasks event ≡ Some t)
 unfolding failure_refusal
 failed r event attempt e = let found = task_found (task_at r.tasks event) _ e in (found.0, found.1.0)
 
@@ -127,7 +127,7 @@ module _ (u : Rules) (b : Book) where
       (λ p text stuck. records r p event attempt v its text unrefused stuck)))
 
   -- a sound run takes that its open activity failed
-  records_failure : (r : Run) (p : Program) (event : ℕ) (reason : Bytes) (t : Task) → IsSoundRun u b r → program_at u.program_of b r.text ≡ Some p → task_at r.tasks event ≡ Some t → CantRecord p r.history (ActivityFailed event reason) → ⊥
+  records_failure : (r : Run) (p : Program) (event : ℕ) (reason : Bytes) (t : OpenActivity) → IsSoundRun u b r → program_at u.program_of b r.text ≡ Some p → task_at r.tasks event ≡ Some t → CantRecord p r.history (ActivityFailed event reason) → ⊥
   records_failure r p event reason t its text there =
       let same : its.program ≡ p = same_Some its.program p (sym its.its_text ∙ text) in
       let stands : Stands p r.history its.place = subst (λ (q : Program). Stands q r.history its.place) same its.stands in

@@ -18,7 +18,7 @@ use Rattle.flow_base.specs.declared.event.What.TheVariants.{Came, Asked as Asked
 use Rattle.flow_base.specs.declared.event.Event.{Event}
 use Rattle.flow_base.specs.declared.event.State.{State}
 use Rattle.flow_base.specs.declared.event.State.TheVariants as state
-use Rattle.flow_base.specs.declared.book.Task.{Task}
+use Rattle.flow_base.specs.declared.book.OpenActivity.{OpenActivity}
 use Rattle.flow_base.specs.declared.book.Timer.{Timer}
 use Rattle.flow_base.specs.Effects.{effect_of}
 use Rattle.flow_model.specs.Rest.{Rest, Done, rest_of, is_done}
@@ -356,14 +356,14 @@ module _ {A T : Type 0} (number : T → ℕ) where
   same_more t n a ts os is e =
       map-append number ts (t ∷ []) ∙ ap (λ l. l ++ number t ∷ []) e ∙ ap (λ m. numbers os ++ m ∷ []) is ∙ sym (map-append (λ (o : ℕ × A). o.0) os ((n, a) ∷ []))
 
-same_tasks_by : (ts : List Task) (os : List (ℕ × Kind)) (id at : ℕ) (x : What) → events_of ts ≡ numbers os → events_of (tasks_by ts id at (effect_of x)) ≡ numbers (by (act_of calls x) id os)
+same_tasks_by : (ts : List OpenActivity) (os : List (ℕ × Kind)) (id at : ℕ) (x : What) → events_of ts ≡ numbers os → events_of (tasks_by ts id at (effect_of x)) ≡ numbers (by (act_of calls x) id os)
 same_tasks_by ts os id at (Came (input.Started vs)) e = e
 same_tasks_by ts os id at (Came (input.Signaled name request v)) e = e
-same_tasks_by ts os id at (Came (input.ActivityCompleted n v)) e = same_gone (λ (t : Task). t.event) n ts os e
-same_tasks_by ts os id at (Came (input.ActivityFailed n text)) e = same_gone (λ (t : Task). t.event) n ts os e
+same_tasks_by ts os id at (Came (input.ActivityCompleted n v)) e = same_gone (λ (t : OpenActivity). t.event) n ts os e
+same_tasks_by ts os id at (Came (input.ActivityFailed n text)) e = same_gone (λ (t : OpenActivity). t.event) n ts os e
 same_tasks_by ts os id at (Came (input.TimerFired n)) e = e
 same_tasks_by ts os id at (Came (input.Terminated text)) e = refl
-same_tasks_by ts os id at (AskedFor (Schedule a vs n m k)) e = same_more (λ (t : Task). t.event) (record { event = id; attempt = 1; ready = at }) id k ts os refl e
+same_tasks_by ts os id at (AskedFor (Schedule a vs n m k)) e = same_more (λ (t : OpenActivity). t.event) (record { event = id; attempt = 1; ready = at }) id k ts os refl e
 same_tasks_by ts os id at (AskedFor (StartTimer d)) e = e
 same_tasks_by ts os id at (AskedFor (CancelTimer n)) e = e
 same_tasks_by ts os id at (AskedFor (RecordMarker p)) e = e
@@ -371,7 +371,7 @@ same_tasks_by ts os id at (AskedFor (Complete v)) e = refl
 same_tasks_by ts os id at (AskedFor (Fail c t)) e = refl
 same_tasks_by ts os id at (AskedFor (ContinueAsNew vs)) e = refl
 
-same_tasks : (ts : List Task) (os : List (ℕ × Kind)) (h : List Event) → events_of ts ≡ numbers os → events_of (tasks_after ts h) ≡ numbers (opens_after calls os h)
+same_tasks : (ts : List OpenActivity) (os : List (ℕ × Kind)) (h : List Event) → events_of ts ≡ numbers os → events_of (tasks_after ts h) ≡ numbers (opens_after calls os h)
 same_tasks ts os [] e = e
 same_tasks ts os (d ∷ h) e = same_tasks (tasks_after_one ts d) (by (act_of calls d.what) d.id os) h (same_tasks_by ts os d.id d.at d.what e)
 
@@ -403,7 +403,7 @@ abbrev pub Has : ℕ → List ℕ → Type 0
 Has n [] = ⊥
 Has n (m ∷ ms) = (m ≡ n) ⊎ Has n ms
 
-has_task : (ts : List Task) (n : ℕ) (t : Task) → task_at ts n ≡ Some t → Has n (events_of ts)
+has_task : (ts : List OpenActivity) (n : ℕ) (t : OpenActivity) → task_at ts n ≡ Some t → Has n (events_of ts)
 has_task [] n t e = absurd (none-some t e)
 has_task (x ∷ ts) n t e =
     elim (nat_eq x.event n) as (λ b. nat_eq x.event n ≡ b → (if b then Some x else task_at ts n) ≡ Some t → Has n (events_of (x ∷ ts))) [
@@ -493,12 +493,12 @@ module _ (p : Program) (h : List Event) (k : Configuration) (stands : Stands p h
       not_none (takes_firing k n (open_with k.state n os w.closed is) ∙ ap is_some (find_open (IsAwaited timers k.rest) n os w.awaited is).1) none
 
 -- What an open activity gave can be delivered, where it is of the type that the activity gives.
-pub completion_taken : (p : Program) (h : List Event) (k : Configuration) (ts : List Task) (n : ℕ) (v : Value) (t : Task) → Stands p h k → events_of ts ≡ events_of (open_activities h)
+pub completion_taken : (p : Program) (h : List Event) (k : Configuration) (ts : List OpenActivity) (n : ℕ) (v : Value) (t : OpenActivity) → Stands p h k → events_of ts ≡ events_of (open_activities h)
     → task_at ts n ≡ Some t → gives_kind (nth h n) v ≡ true → deliver p k (input.ActivityCompleted n v) ≡ None → ⊥
 completion_taken p h k ts n v t stands same there gives none = completes_open p h k stands n v (subst (Has n) same (has_task ts n t there)) gives none
 
 -- A failure of an open activity can be delivered.
-pub failure_taken : (p : Program) (h : List Event) (k : Configuration) (ts : List Task) (n : ℕ) (text : Bytes) (t : Task) → Stands p h k → events_of ts ≡ events_of (open_activities h)
+pub failure_taken : (p : Program) (h : List Event) (k : Configuration) (ts : List OpenActivity) (n : ℕ) (text : Bytes) (t : OpenActivity) → Stands p h k → events_of ts ≡ events_of (open_activities h)
     → task_at ts n ≡ Some t → deliver p k (input.ActivityFailed n text) ≡ None → ⊥
 failure_taken p h k ts n text t stands same there none = fails_open p h k stands n text (subst (Has n) same (has_task ts n t there)) none
 
@@ -509,16 +509,16 @@ firing_taken p h k i t stands there none = fires_open p h k stands t.id (has_pla
 ---- The laws
 
 pub activities_complete : ActivitiesComplete
-activities_complete p h k s = all_has (λ (t : Task). t.event) (CanComplete p h k) (open_activities h) (λ t there v gives none. completes_open p h k s t.event v there gives none)
+activities_complete p h k s = all_has (λ (t : OpenActivity). t.event) (CanComplete p h k) (open_activities h) (λ t there v gives none. completes_open p h k s t.event v there gives none)
 
 pub activities_fail : ActivitiesFail
-activities_fail p h k s = all_has (λ (t : Task). t.event) (CanFail p k) (open_activities h) (λ t there text none. fails_open p h k s t.event text there none)
+activities_fail p h k s = all_has (λ (t : OpenActivity). t.event) (CanFail p k) (open_activities h) (λ t there text none. fails_open p h k s t.event text there none)
 
 pub timers_fire : TimersFire
 timers_fire p h k s = all_has (λ (t : Timer). t.id) (CanFire p k) (open_timers h) (λ t there none. fires_open p h k s t.id there none)
 
 pub closed_waits_on_nothing : ClosedWaitsOnNothing
 closed_waits_on_nothing p h k s closed = (
-  no_numbers (λ (t : Task). t.event) (open_activities h) (same_tasks [] [] h refl ∙ ap (λ (l : List (ℕ × Kind)). numbers l) ((stands_waits calls p h k s).closed closed)),
+  no_numbers (λ (t : OpenActivity). t.event) (open_activities h) (same_tasks [] [] h refl ∙ ap (λ (l : List (ℕ × Kind)). numbers l) ((stands_waits calls p h k s).closed closed)),
   no_numbers (λ (t : Timer). t.id) (open_timers h) (same_timers [] [] h refl ∙ ap (λ (l : List (ℕ × Unit {0})). numbers l) ((stands_waits timers p h k s).closed closed)),
 )

@@ -4,7 +4,7 @@ use Rattle.flow_base.specs.Syntax.{Bytes, Program}
 use Rattle.flow_base.specs.declared.value.Value.{Value}
 use Rattle.flow_base.specs.declared.event.Input.TheVariants.{ActivityCompleted, ActivityFailed, TimerFired}
 use Rattle.flow_base.specs.declared.event.Event.{Event}
-use Rattle.flow_base.specs.declared.book.Task.{Task}
+use Rattle.flow_base.specs.declared.book.OpenActivity.{OpenActivity}
 use Rattle.flow_base.specs.declared.book.Timer.{Timer}
 use Rattle.flow_model.specs.Configuration.{Configuration, is_open}
 use Rattle.flow_model.specs.Deliver.{deliver}
@@ -14,10 +14,10 @@ use Rattle.flow_model.specs.Book.{nth}
 use Rattle.flow_model.specs.Apply.{gives_kind}
 
 -- what the activity gives can be delivered
-abbrev pub CanComplete : Program → List Event → Configuration → Task → Type 0
+abbrev pub CanComplete : Program → List Event → Configuration → OpenActivity → Type 0
 CanComplete p h k t = (v : Value) → gives_kind (nth h t.event) v ≡ true → deliver p k (ActivityCompleted t.event v) ≢ None
 
-abbrev pub CanFail : Program → Configuration → Task → Type 0
+abbrev pub CanFail : Program → Configuration → OpenActivity → Type 0
 CanFail p k t = (text : Bytes) → deliver p k (ActivityFailed t.event text) ≢ None
 
 abbrev pub CanFire : Program → Configuration → Timer → Type 0

@@ -6,8 +6,8 @@ use Rattle.flow_base.specs.declared.command.OpenRun.{OpenRun}
 use Rattle.flow_model.specs.Book.{Book, nth}
 use Rattle.flow_model.specs.Open.{timers_left, moment_of}
 use Rattle.flow_model.specs.Apply.{named_tasks, open_run_told}
-use Rattle.flow_run.specs.declared.rest.OpenWait.{OpenWait}
-use Rattle.flow_run.specs.declared.rest.OpenWait.TheVariants as wait
+use Rattle.flow_run.specs.declared.waits.OpenWait.{OpenWait}
+use Rattle.flow_run.specs.declared.waits.OpenWait.TheVariants as wait
 use Rattle.flow_machine.specs.Reached.{Meaning}
 use Rattle.flow_machine.specs.Stuck.{needs, StuckTold}
 

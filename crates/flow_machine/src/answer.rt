@@ -84,8 +84,10 @@ pub trait Answering {
     ghost follows_self: { (a : Self) → follows a a };
 
     /// What stood behind commands that were given up stands behind them later too.
-    ghost gives_up_still: { (a b c : Self) (k : Book) (cs : List Command) (code : Code) → follows b c → gives_up a b k cs code → gives_up a c k cs code };
+    ghost gives_up_still: { (a b c : Self) (k : Book) (cs : List Command) (code : Code)
+        → follows b c → gives_up a b k cs code → gives_up a c k cs code };
 
     /// And since an earlier state.
-    ghost gives_up_since: { (a b c : Self) (k : Book) (cs : List Command) (code : Code) → follows a b → follows b c → gives_up b c k cs code → gives_up a c k cs code };
+    ghost gives_up_since: { (a b c : Self) (k : Book) (cs : List Command) (code : Code)
+        → follows a b → follows b c → gives_up b c k cs code → gives_up a c k cs code };
 }

@@ -2,21 +2,26 @@
 #![tactic(auto)]
 
 pub mod answer;
+mod complete;
 pub mod decide;
-mod description;
-mod failing;
+mod describe;
+mod fail;
 mod going;
+mod history;
 pub mod laws;
 mod listing;
 pub mod programs;
 mod puts;
 pub mod reached;
+mod register;
 mod report;
 pub mod seats;
-mod sending;
+mod signal;
+mod start;
 pub mod submission;
 pub mod task;
-mod ticking;
+mod terminate;
+mod tick;
 mod turns;
-mod upgrading;
+mod upgrade;
 pub mod verify;

@@ -1,7 +1,8 @@
 //! The program that a text of a view is.
-ghost use Rattle.std.specs.Prelude.{◌≡◌, ◌⊎◌, IfOk, OnOk, Ok, Some, None};
-ghost use Rattle.flow_model.specs.Checked.{shown_checked};
+ghost use Rattle.std.specs.Prelude.{◌≡◌, IfOk, None, Ok, Some};
 ghost use Rattle.flow_model.specs.Apply.{program_at, program_if};
+ghost use Rattle.flow_model.specs.Checked.{shown_checked};
+ghost use Rattle.flow_view.specs.Called.{Called};
 ghost use Rattle.flow_view.specs.Reading.{Caused, Reads};
 
 use flow_base::number::TextNo;
@@ -41,12 +42,9 @@ pub(crate) fn program_of<V: View, P: Programs>(
     view: &mut V,
     text: TextNo,
 ) -> Result<Arc<Checked>, ViewFault>
-    ensures reads { IfOk result (λ p. Reads (V.is_sure view.new) (V.book view.old) (V.book view.new) (Some (shown_checked p.value)) (program_at P.meaning (V.book view.old) text)) }
-    ensures cause { (a : V) → V.follows a view.old → V.is_true view.new → V.is_sure view.old → Caused result (V.refuses a view.new ⊎ program_at P.meaning (V.book view.old) text ≡ None) }
-    ensures goes_on { OnOk result (V.is_true view.new → V.is_sure view.old → V.is_sure view.new) }
-    ensures sure { V.is_sure view.new → V.is_sure view.old }
-    ensures was_true { V.is_true view.new → V.is_true view.old }
-    ensures follows { (a : V) → V.follows a view.old → V.follows a view.new }
+    ensures reads { IfOk result (λ p. Reads (V.is_sure view.new) (V.book view.old) (V.book view.new) (Some (shown_checked p.value))
+        (program_at P.meaning (V.book view.old) text)) }
+    ensures called { Called V.View view.old view.new result (program_at P.meaning (V.book view.old) text ≡ None) }
 {
     match view.text(text)? {
         Some(body) => stored(alloc, programs, &body),

@@ -1,8 +1,8 @@
 //! Changes that a command makes: listed, and put into a view.
-ghost use Rattle.std.specs.Prelude.{◌≡◌, ◌⊎◌, ◌∷◌, ◌++◌, [], IfOk, OnOk};
+ghost use Rattle.std.specs.Prelude.{◌++◌, ◌∷◌, ◌≡◌, IfOk, OnOk, []};
 ghost use Rattle.flow_machine.specs.Fitting.{HasUnfit};
 ghost use Rattle.flow_model.specs.Book.{changed_by};
-ghost use Rattle.flow_view.specs.Reading.{Caused};
+ghost use Rattle.flow_view.specs.Called.{Called};
 
 use flow_base::book::Change;
 use flow_view::fault::ViewFault;
@@ -31,11 +31,7 @@ pub fn list_behind(changes: &mut Vec<Change>, more: Vec<Change>) -> Result<(), A
 /// Puts changes into a view, in their order.
 pub fn put_all<V: View>(view: &mut V, changes: &[Change]) -> Result<(), ViewFault>
     ensures put { OnOk result (V.is_sure view.new → V.book view.new ≡ changed_by (V.book view.old) changes.now) }
-    ensures cause { (a : V) → V.follows a view.old → V.is_true view.new → V.is_sure view.old → Caused result (V.refuses a view.new ⊎ HasUnfit V.unfit (V.book view.old) changes.now) }
-    ensures goes_on { OnOk result (V.is_true view.new → V.is_sure view.old → V.is_sure view.new) }
-    ensures sure { V.is_sure view.new → V.is_sure view.old }
-    ensures was_true { V.is_true view.new → V.is_true view.old }
-    ensures follows { (a : V) → V.follows a view.old → V.follows a view.new }
+    ensures called { Called V.View view.old view.new result (HasUnfit V.unfit (V.book view.old) changes.now) }
 {
     for change in changes {
         view.put(change)?;

@@ -1,41 +1,12 @@
+//! What `complete` and `fail` refuse alike.
 ghost use Rattle.std.specs.Prelude.{◌≡◌};
-ghost use Rattle.flow_model.specs.Apply as apply;
 ghost use Rattle.flow_machine.specs.ByHead as by_head;
+ghost use Rattle.flow_model.specs.Apply as apply;
 
-use flow_base::book::Task;
+use flow_base::book::OpenActivity;
 use flow_base::code::Code;
-use flow_base::event::{Cmd, Event, What};
 use flow_base::number::EventId;
-use flow_base::value::Value;
-use flow_model::kinds::has_kind;
 use flow_view::head::Head;
-
-fn task_at(tasks: &[Task], event: EventId) -> Option<Task>
-    ensures { result ≡ apply.task_at tasks.now event }
-{
-    for i in 0..tasks.len() {
-        if tasks[i].event == event {
-            return Some(tasks[i]);
-        }
-    }
-    None
-}
-
-/// Whether an event schedules an activity that gives such a value.
-pub fn gives(event: &Option<Event>, value: &Value) -> bool
-    ensures { result ≡ apply.gives_kind event.now value.now }
-{
-    match event {
-        None => false,
-        Some(event) => match &event.what {
-            What::Came(_) => false,
-            What::Asked(command) => match command {
-                Cmd::Schedule(_, _, _, _, kind) => has_kind(*kind, value),
-                _ => false,
-            },
-        },
-    }
-}
 
 /// The first refusal of a report of an attempt, whatever it gave.
 #[tactic(auto, unfolding(crate::specs::ByHead::attempt_refusal))]
@@ -52,4 +23,15 @@ pub fn attempt_refusal(head: &Head, event: EventId, attempt: u64) -> Option<Code
             }
         }
     }
+}
+
+fn task_at(tasks: &[OpenActivity], event: EventId) -> Option<OpenActivity>
+    ensures { result ≡ apply.task_at tasks.now event }
+{
+    for i in 0..tasks.len() {
+        if tasks[i].event == event {
+            return Some(tasks[i]);
+        }
+    }
+    None
 }

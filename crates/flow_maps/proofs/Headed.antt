@@ -154,3 +154,8 @@ pub begun_head : (o : Option Head) (b : Book) (run : ℕ) (t : Turn) (r : Run) (
     → IfSome o (λ h. head_at (b.runs ++ with_turn t r ∷ []) run ≡ Some h)
 begun_head (Some h) b run t r k at same is = last_head b (with_turn t r) run at ∙ ap Some (turned t r ∙ ap (head_behind t) (sym same) ∙ sym is)
 begun_head None b run t r k at same is = tt
+
+-- and of a run that was read behind the others
+pub read_there : (o : Option Head) (b : Book) (r : Run) (run : ℕ) → run ≡ length b.runs + 1 → IfSome o (λ h. h ≡ head_of r) → IfSome o (λ h. head_at (b.runs ++ r ∷ []) run ≡ Some h)
+read_there (Some h) b r run at is = last_head b r run at ∙ ap Some (sym is)
+read_there None b r run at is = tt

@@ -1,84 +1,135 @@
--- What the open activities by run are, listed.
-use Rattle.std.proofs.Common.{◌≡◌, ◌≢◌, ◌≤◌, ◌<◌, ◌+◌, ◌-◌, ℕ, zero, suc, Bool, true, false, cond, List, [], ◌∷◌, ◌++◌, map, Option, Some, None, slice_get, refl, sym, ap, subst, ◌∙◌, inl, inr, true≢false, arith}
-use Rattle.std.specs.Ordering.{nat_cmp}
-use Rattle.std.specs.List.{AllByRecursion}
-use Rattle.std.specs.List.Sorted.{IsStrictlySortedBy}
-use Rattle.std.specs.BTreeMap.{is_at}
-use Rattle.std.specs.Map.{lookup, keys_of}
+-- What may be attempted by a moment, listed by the runs that have something by then.
+use Rattle.std.proofs.Common.{◌≡◌, ◌≤◌, ◌<◌, ◌+◌, ◌-◌, ◌||◌, ℕ, zero, suc, Bool, true, false, cond, List, [], ◌∷◌, ◌++◌, filter, slice_get, refl, sym, ap, ◌∙◌, inl, inr, true≢false, arith}
 use Rattle.std.specs.Prelude.{nat_le}
-use Rattle.std.proofs.Common.{Less}
+use Rattle.std.specs.List.{AllByRecursion, list_any}
+use Rattle.std.specs.List.Sorted.{IsStrictlySortedBy}
+use Rattle.std.specs.Ordering.{nat_cmp}
+use Rattle.std.specs.BTreeSet.{contains}
+use Rattle.std.specs.BTreeMap.Range.{range_contains}
+use Rattle.std.specs.Cmp.{nat_cmp_is}
+use Rattle.std.specs.declared.ops.Bound.TheVariants.{Excluded, Unbounded}
+use Rattle.std.proofs.Common.{Less, Greater}
 use Rattle.std.proofs.lemmas.Bool.{cases_Bool, leb-true, leb-false}
 use Rattle.std.proofs.lemmas.Cmp.{ranked}
 use Rattle.flow_base.specs.declared.book.Run.{Run}
-use Rattle.flow_base.specs.declared.book.Task.{Task}
-use Rattle.flow_model.specs.Book.{Book, nth}
+use Rattle.flow_base.specs.declared.book.OpenActivity.{OpenActivity}
+use Rattle.flow_model.specs.Book.{Book}
+use Rattle.flow_model.proofs.DueFirst.{Has}
 use Rattle.flow_model.proofs.Logs.{nth_at}
+use Rattle.flow_maps.specs.declared.calendar.Calendar.{Calendar}
 use Rattle.flow_maps.specs.Agenda.{tasks_of, tasks_at}
-use Rattle.flow_maps.specs.OfRuns.{is_run, listed}
+use Rattle.flow_maps.specs.Calendars.{Slot, slot_cmp, is_slot, slot, date_of_task, IsCalendar, part_by}
+use Rattle.flow_maps.specs.OfRuns.{is_run}
+use Rattle.flow_maps.specs.Outlooks.{Waiting, is_by, ready_by, ready_of, waiting_in, waiting_from}
 use Rattle.flow_maps.specs.Timers.{of_run}
-use Rattle.flow_maps.specs.Outlooks.{Waiting, waiting_in, waiting_from, waiting, joined}
-use Rattle.flow_maps.proofs.Slots.{run_is, run_itself, not_true}
-
-abbrev Entries : Type 0
-Entries = List (ℕ × List Task)
+use Rattle.flow_maps.proofs.Slots.{run_is, run_itself, not_true, slot_is, one_has, later}
 
 -- each number is above those before it, and none is below the first one
-abbrev Rises : ℕ → Entries → Type 0
+abbrev Rises : ℕ → List ℕ → Type 0
 Rises n [] = Unit {0}
-Rises n (e ∷ es) = (n ≤ e.0) × Rises (suc e.0) es
+Rises n (m ∷ ms) = (n ≤ m) × Rises (suc m) ms
 
--- what stands at a number
-abbrev at : Entries → ℕ → List Task
-at es n = listed (lookup (is_run n) es)
+abbrev among : List ℕ → ℕ → Bool
+among ms n = list_any (is_run n) ms
 
-passed : (n : ℕ) (e : ℕ × List Task) (es : Entries) → n < e.0 → at (e ∷ es) n ≡ at es n
-passed n e es less = ap (λ v. listed (cond v (Some e.1) (lookup (is_run n) es))) (not_true (is_run n e.0) (λ same. let is = run_is n e.0 same in absurd (omega (arith, less, is))))
-
-left : (n : ℕ) (e : ℕ × List Task) (es : Entries) → e.0 < n → at (e ∷ es) n ≡ at es n
-left n e es less = ap (λ v. listed (cond v (Some e.1) (lookup (is_run n) es))) (not_true (is_run n e.0) (λ same. let is = run_is n e.0 same in absurd (omega (arith, less, is))))
-
-own : (e : ℕ × List Task) (es : Entries) → at (e ∷ es) e.0 ≡ e.1
-own e es = ap (λ v. listed (cond v (Some e.1) (lookup (is_run e.0) es))) (run_itself e.0)
-
--- nothing stands below the first one
-none_below : (n m : ℕ) (es : Entries) → Rises m es → n < m → at es n ≡ []
+none_below : (n m : ℕ) (ms : List ℕ) → Rises m ms → n < m → among ms n ≡ false
 none_below n m [] rises less = refl
-none_below n m (e ∷ es) rises less = passed n e es (omega (arith, less, rises)) ∙ none_below n (suc e.0) es rises.1 (omega (arith, less, rises))
+none_below n m (k ∷ ms) rises less =
+    ap (λ v. v || among ms n) (not_true (is_run n k) (λ same. let is = run_is n k same in absurd (omega (arith, less, is, rises)))) ∙ none_below n (suc k) ms rises.1 (omega (arith, less, rises))
 
-rises_from : (n m : ℕ) (es : Entries) → n ≤ m → Rises m es → Rises n es
+rises_from : (n m : ℕ) (ms : List ℕ) → n ≤ m → Rises m ms → Rises n ms
 rises_from n m [] less rises = tt
-rises_from n m (e ∷ es) less rises = (omega (arith, less, rises), rises.1)
+rises_from n m (k ∷ ms) less rises = (omega (arith, less, rises), rises.1)
 
-no_task : (n : ℕ) (ts : List Task) → ts ≡ [] → waiting_in n ts ≡ []
-no_task n ts none = ap (waiting_in n) none
+-- a number that isn't the first one is among the others
+others : (n m : ℕ) (ms : List ℕ) → m < n → among ms n ≡ false → among (m ∷ ms) n ≡ false
+others n m ms less none = ap (λ v. v || among ms n) (not_true (is_run n m) (λ same. let is = run_is n m same in absurd (omega (arith, less, is)))) ∙ none
 
--- where nothing stands nothing is listed
-none_joined : (n : ℕ) (es : Entries) → Rises n es → ((k : ℕ) → at es (n + k) ≡ []) → joined es ≡ []
-none_joined n [] rises none = refl
-none_joined n (e ∷ es) rises none =
-    let here : e.1 ≡ [] = sym (own e es) ∙ ap (at (e ∷ es)) (omega (arith, rises)) ∙ none (e.0 - n) in
-    ap (λ xs. xs ++ joined es) (no_task e.0 e.1 here)
-    ∙ none_joined (suc e.0) es rises.1 (λ k. sym (left (suc e.0 + k) e es (omega arith)) ∙ ap (at (e ∷ es)) (omega (arith, rises)) ∙ none (suc e.0 + k - n))
+pub filter_on : (p : Waiting → Bool) (xs ys : List Waiting) → filter p (xs ++ ys) ≡ filter p xs ++ filter p ys
+filter_on p [] ys = refl
+filter_on p (x ∷ xs) ys = by (p x) (filter_on p xs ys)
+  where
+    by : (v : Bool) → filter p (xs ++ ys) ≡ filter p xs ++ filter p ys → cond v (x ∷ filter p (xs ++ ys)) (filter p (xs ++ ys)) ≡ cond v (x ∷ filter p xs) (filter p xs) ++ filter p ys
+    by true is = ap (λ zs. x ∷ zs) is
+    by false is = is
 
--- What stands at the number of each run is what it waits for: so all of it is listed.
-all_joined : (rs : List Run) (n : ℕ) (es : Entries) → Rises n es → ((k : ℕ) → at es (n + k) ≡ of_run tasks_of (slice_get rs k)) → joined es ≡ waiting_from n rs
-all_joined [] n es rises are = none_joined n es rises are
-all_joined (r ∷ rs) n [] rises are = all_joined rs (n + 1) [] tt (λ k. are (suc k)) ∙ ap (λ xs. xs ++ waiting_from (n + 1) rs) (sym (no_task n r.tasks (sym (are zero))))
-all_joined (r ∷ rs) n (e ∷ es) rises are = elim (cases_Bool (nat_le e.0 n)) [
-  | inl low ↦
-      let below = leb-true e.0 n low in
-      let same : e.0 ≡ n = omega (arith, below, rises) in
-      let tasks : e.1 ≡ r.tasks = sym (own e es) ∙ ap (at (e ∷ es)) (omega (arith, same)) ∙ are zero in
-      let others : joined es ≡ waiting_from (n + 1) rs =
-      all_joined rs (n + 1) es (rises_from (n + 1) (suc e.0) es (omega (arith, same)) rises.1) (λ k. sym (left (n + 1 + k) e es (omega (arith, same))) ∙ ap (at (e ∷ es)) (omega arith) ∙ are (suc k)) in
-      ap (λ m. waiting_in m e.1 ++ joined es) same ∙ ap (λ ts. waiting_in n ts ++ joined es) tasks ∙ ap (λ ws. waiting_in n r.tasks ++ ws) others
-  | inr high ↦
-      let less = leb-false e.0 n high in
-      let none : r.tasks ≡ [] = sym (are zero) ∙ ap (at (e ∷ es)) (omega arith) ∙ passed n e es less ∙ none_below n (suc e.0) es rises.1 (omega (arith, less)) in
-      all_joined rs (n + 1) (e ∷ es) (omega (arith, less), rises.1) (λ k. ap (at (e ∷ es)) (omega arith) ∙ are (suc k)) ∙ ap (λ xs. xs ++ waiting_from (n + 1) rs) (sym (no_task n r.tasks none))
-]
+shift : (xs ys : List Waiting) (w : Waiting) → (xs ++ w ∷ []) ++ ys ≡ xs ++ w ∷ ys
+shift [] ys w = refl
+shift (x ∷ xs) ys w = ap (λ zs. x ∷ zs) (shift xs ys w)
 
----- Of a map
+-- one more of a run's activities, which is listed if it is ready
+pub one_more : (at n : ℕ) (xs ys : List Waiting) (t : OpenActivity) (ts ss : List OpenActivity) (all : List Waiting) → ts ≡ t ∷ ss → ys ≡ cond (is_by at (n, t)) (xs ++ (n, t) ∷ []) xs
+    → xs ++ filter (is_by at) (waiting_in n ts) ≡ all → ys ++ filter (is_by at) (waiting_in n ss) ≡ all
+one_more at n xs ys t ts ss all first more was = ap (λ zs. zs ++ rest) more ∙ by (is_by at (n, t)) ∙ sym (ap (λ us. xs ++ filter (is_by at) (waiting_in n us)) first) ∙ was
+  where
+    rest : List Waiting
+    rest = filter (is_by at) (waiting_in n ss)
+
+    by : (v : Bool) → cond v (xs ++ (n, t) ∷ []) xs ++ rest ≡ xs ++ cond v ((n, t) ∷ rest) rest
+    by true = shift xs rest (n, t)
+    by false = refl
+
+module _ (at : ℕ) (g : ℕ → List OpenActivity) where
+  -- what a run of a number has by the moment
+  abbrev own : ℕ → List OpenActivity → List Waiting
+  own n ts = filter (is_by at) (waiting_in n ts)
+
+  -- runs from a number on that aren't listed have nothing by then
+  abbrev AreRest : ℕ → List ℕ → Type 0
+  AreRest n ms = (k : ℕ) → n ≤ k → among ms k ≡ false → own k (g k) ≡ []
+
+  rest_on : (n m : ℕ) (ms : List ℕ) → m < n → AreRest m (m ∷ ms) → AreRest n ms
+  rest_on n m ms less rest k from none = rest k (omega (arith, less, from)) (others k m ms (omega (arith, less, from)) none)
+
+  rest_from : (n m : ℕ) (ms : List ℕ) → n ≤ m → AreRest n ms → AreRest m ms
+  rest_from n m ms less rest k from none = rest k (omega (arith, less, from)) none
+
+  none_ready : (n : ℕ) (ms : List ℕ) → Rises n ms → ((k : ℕ) → n ≤ k → g k ≡ []) → ready_of at g ms ≡ []
+  none_ready n [] rises none = refl
+  none_ready n (m ∷ ms) rises none =
+      ap (λ ts. own m ts ++ ready_of at g ms) (none m rises.0) ∙ none_ready (suc m) ms rises.1 (λ k from. none k (omega (arith, from, rises)))
+
+  all_ready : (rs : List Run) (n : ℕ) (ms : List ℕ) → Rises n ms → ((k : ℕ) → g (n + k) ≡ of_run tasks_of (slice_get rs k)) → AreRest n ms → ready_of at g ms ≡ filter (is_by at) (waiting_from n rs)
+  all_ready [] n ms rises are rest = none_ready n ms rises (λ k from. ap g (let e : k ≡ n + (k - n) = omega (arith, from) in e) ∙ are (k - n))
+  all_ready (r ∷ rs) n [] rises are rest =
+      let here : own n r.tasks ≡ [] = ap (own n) (sym (are zero) ∙ ap g (omega arith)) ∙ rest n (omega arith) refl in
+      all_ready rs (n + 1) [] tt (λ k. ap g (omega arith) ∙ are (suc k)) (rest_from n (n + 1) [] (omega arith) rest) ∙ ap (λ ws. ws ++ filter (is_by at) (waiting_from (n + 1) rs)) (sym here)
+      ∙ sym (filter_on (is_by at) (waiting_in n r.tasks) (waiting_from (n + 1) rs))
+  all_ready (r ∷ rs) n (m ∷ ms) rises are rest = elim (cases_Bool (nat_le m n)) [
+    | inl low ↦
+        let below = leb-true m n low in
+        let same : m ≡ n = omega (arith, below, rises) in
+        let tasks : g m ≡ r.tasks = ap g (omega (arith, same)) ∙ are zero in
+        let next : n + 1 ≤ suc m = omega (arith, same) in
+        ap (λ ts. own m ts ++ ready_of at g ms) tasks ∙ ap (λ k. own k r.tasks ++ ready_of at g ms) same
+        ∙ ap (λ ws. own n r.tasks ++ ws) (all_ready rs (n + 1) ms (rises_from (n + 1) (suc m) ms next rises.1) (λ k. ap g (omega arith) ∙ are (suc k)) (rest_on (n + 1) m ms (omega (arith, same)) (rest_from n m (m ∷ ms) rises.0 rest)))
+        ∙ sym (filter_on (is_by at) (waiting_in n r.tasks) (waiting_from (n + 1) rs))
+    | inr high ↦
+        let less = leb-false m n high in
+        let here : own n r.tasks ≡ [] = ap (own n) (sym (are zero) ∙ ap g (omega arith)) ∙ rest n (omega arith) (none_below n m (m ∷ ms) (omega arith, rises.1) less) in
+        all_ready rs (n + 1) (m ∷ ms) (omega (arith, less), rises.1) (λ k. ap g (omega arith) ∙ are (suc k)) (rest_from n (n + 1) (m ∷ ms) (omega arith) rest)
+        ∙ ap (λ ws. ws ++ filter (is_by at) (waiting_from (n + 1) rs)) (sym here)
+        ∙ sym (filter_on (is_by at) (waiting_in n r.tasks) (waiting_from (n + 1) rs))
+  ]
+
+  -- Listed by runs in order, of which each has what the book has, it is all that the book has by the moment, where the others have nothing.
+  all_listed : (b : Book) (ms : List ℕ) → Rises 0 ms → ((n : ℕ) → g n ≡ tasks_at b n) → AreRest 0 ms → ready_of at g ms ≡ ready_by at b
+  all_listed b ms rises are rest = go ms rises rest
+    where
+      from_one : (ms : List ℕ) → Rises 1 ms → AreRest 1 ms → ready_of at g ms ≡ ready_by at b
+      from_one ms rises rest = all_ready b.runs 1 ms rises (λ k. are (1 + k) ∙ ap (of_run tasks_of) (nth_at b.runs (1 + k) k (omega arith))) rest
+
+      go : (ms : List ℕ) → Rises 0 ms → AreRest 0 ms → ready_of at g ms ≡ ready_by at b
+      go [] rises rest = from_one [] tt (rest_from 0 1 [] (omega arith) rest)
+      go (m ∷ ms) rises rest = elim (cases_Bool (nat_le 1 m)) [
+        | inl high ↦ from_one (m ∷ ms) (leb-true 1 m high, rises.1) (rest_from 0 1 (m ∷ ms) (omega arith) rest)
+        | inr low ↦
+            let zeroth : m ≡ 0 = let less = leb-false 1 m low in omega (arith, less) in
+            ap (λ ts. own m ts ++ ready_of at g ms) (ap g zeroth ∙ are zero)
+            ∙ from_one ms (rises_from 1 (suc m) ms (omega (arith, zeroth)) rises.1) (rest_on 1 m ms (omega (arith, zeroth)) (rest_from 0 m (m ∷ ms) (omega arith) rest))
+      ]
+
+---- Of a set
 
 above_all : (n : ℕ) (ks : List ℕ) → AllByRecursion (λ k. nat_cmp n k ≡ Less) ks → AllByRecursion (λ k. suc n ≤ k) ks
 above_all n [] all = tt
@@ -88,37 +139,59 @@ none_lower : (ks : List ℕ) → AllByRecursion (λ k. 0 ≤ k) ks
 none_lower [] = tt
 none_lower (k ∷ ks) = (omega arith, none_lower ks)
 
-sorted_rise : (n : ℕ) (es : Entries) → AllByRecursion (λ k. n ≤ k) (keys_of es) → IsStrictlySortedBy nat_cmp (keys_of es) → Rises n es
+sorted_rise : (n : ℕ) (ks : List ℕ) → AllByRecursion (λ k. n ≤ k) ks → IsStrictlySortedBy nat_cmp ks → Rises n ks
 unfolding IsStrictlySortedBy
 sorted_rise n [] all sorted = tt
-sorted_rise n (e ∷ es) all sorted = (all.0, sorted_rise (suc e.0) es (above_all e.0 (keys_of es) sorted.0) sorted.1)
+sorted_rise n (k ∷ ks) all sorted = (all.0, sorted_rise (suc k) ks (above_all k ks sorted.0) sorted.1)
 
--- The entries of a map by run, in their order, are all open activities of the book.
-pub all_listed : (b : Book) (es : Entries) → IsStrictlySortedBy nat_cmp (keys_of es) → ((n : ℕ) → listed (lookup (is_run n) es) ≡ tasks_at b n) → joined es ≡ waiting b
-all_listed b es sorted are = go es (sorted_rise 0 es (none_lower (keys_of es)) sorted) are
+---- By the slots up to the moment
+
+-- a slot of a part has its run among those of the part
+in_part : (ks : List Slot) (p : Slot → Bool) (q : Slot) → list_any (is_slot q) ks ≡ true → p q ≡ true → list_any (λ (s : Slot). is_run s.1 q.1) (filter p ks) ≡ true
+in_part [] p q h is = absurd (true≢false (sym h))
+in_part (k ∷ ks) p q h is = by (is_slot q k) refl (in_part ks p q) h
   where
-    from_one : (es : Entries) → Rises 1 es → ((n : ℕ) → at es n ≡ tasks_at b n) → joined es ≡ waiting b
-    from_one es rises are = all_joined b.runs 1 es rises (λ k. are (1 + k) ∙ ap (of_run tasks_of) (nth_at b.runs (1 + k) k (omega arith)))
+    found : List Slot → Bool
+    found ss = list_any (λ (s : Slot). is_run s.1 q.1) ss
 
-    go : (es : Entries) → Rises 0 es → ((n : ℕ) → at es n ≡ tasks_at b n) → joined es ≡ waiting b
-    go [] rises are = from_one [] tt are
-    go (e ∷ es) rises are = elim (cases_Bool (nat_le 1 e.0)) [
-      | inl high ↦ from_one (e ∷ es) (leb-true 1 e.0 high, rises.1) are
-      | inr low ↦
-          let zeroth : e.0 ≡ 0 = let less = leb-false 1 e.0 low in omega (arith, less) in
-          let none : e.1 ≡ [] = sym (own e es) ∙ ap (at (e ∷ es)) zeroth ∙ are zero in
-          ap (λ xs. xs ++ joined es) (no_task e.0 e.1 none) ∙ from_one es (rises_from 1 (suc e.0) es (omega (arith, zeroth)) rises.1) (later e es zeroth rises.1 are)
-    ]
-      where
-        later : (e : ℕ × List Task) (es : Entries) → e.0 ≡ 0 → Rises (suc e.0) es → ((n : ℕ) → at (e ∷ es) n ≡ tasks_at b n) → (n : ℕ) → at es n ≡ tasks_at b n
-        later e es zeroth rises are n = elim (cases_Bool (nat_le n 0)) [
-          | inl low ↦ let no = leb-true n 0 low in let is : n ≡ 0 = omega (arith, no) in ap (at es) is ∙ none_below 0 (suc e.0) es rises (omega arith) ∙ ap (tasks_at b) (sym is)
-          | inr high ↦ let more = leb-false n 0 high in sym (left n e es (omega (arith, more, zeroth))) ∙ are n
-        ]
+    more : (v : Bool) → found (filter p ks) ≡ true → found (cond v (k ∷ filter p ks) (filter p ks)) ≡ true
+    more true is = later (is_run k.1 q.1) (found (filter p ks)) is
+    more false is = is
+
+    by : (v : Bool) → is_slot q k ≡ v → (list_any (is_slot q) ks ≡ true → p q ≡ true → found (filter p ks) ≡ true) → (v || list_any (is_slot q) ks) ≡ true → found (filter p (k ∷ ks)) ≡ true
+    by true same rest h =
+        let e = slot_is q k same in
+        ap (λ v. found (cond v (k ∷ filter p ks) (filter p ks))) (ap p (sym e) ∙ is) ∙ ap (λ v. v || found (filter p ks)) (ap (λ (s : Slot). is_run s.1 q.1) (sym e) ∙ run_itself q.1)
+    by false same rest h = more (p k) (rest h is)
+
+in_time : (at : ℕ) (q : Slot) → q.0 ≤ at → range_contains slot_cmp Unbounded (Excluded (at + 1, 0, 0)) q ≡ true
+in_time at q less = rw (sym (nat_cmp_is (at + 1) q.0 Greater (omega (arith, less)))) refl
+
+none_own : (at n : ℕ) (ts : List OpenActivity) → ((t : OpenActivity) → Has ts t → nat_le t.ready at ≡ false) → filter (is_by at) (waiting_in n ts) ≡ []
+none_own at n [] never = refl
+none_own at n (t ∷ ts) never =
+    ap (λ v. cond v ((n, t) ∷ filter (is_by at) (waiting_in n ts)) (filter (is_by at) (waiting_in n ts))) (never t (inl refl)) ∙ none_own at n ts (λ x has. never x (inr has))
+
+-- A run that no slot up to the moment is of has nothing by then.
+none_by_slots : (c : Calendar OpenActivity) (g : ℕ → List OpenActivity) (at n : ℕ) → IsCalendar date_of_task c g → list_any (λ (s : Slot). is_run s.1 n) (part_by at c.slots.keys) ≡ false → filter (is_by at) (waiting_in n (g n)) ≡ []
+none_by_slots c g at n h none = none_own at n (g n) never
+  where
+    never : (t : OpenActivity) → Has (g n) t → nat_le t.ready at ≡ false
+    never t has = not_true (nat_le t.ready at) (λ soon.
+        let q : Slot = slot date_of_task n t in
+        let there : contains slot_cmp c.slots q ≡ true = h.slots q ∙ one_has date_of_task n (g n) t has in
+        true≢false (sym (in_part c.slots.keys (range_contains slot_cmp Unbounded (Excluded (at + 1, 0, 0))) q there (in_time at q (leb-true t.ready at soon))) ∙ none))
+
+-- what is listed of the runs that slots up to the moment are of
+pub listed_by : (c : Calendar OpenActivity) (b : Book) (at : ℕ) (g : ℕ → List OpenActivity) (ms : List ℕ) → IsCalendar date_of_task c (tasks_at b) → ((n : ℕ) → g n ≡ tasks_at b n) → IsStrictlySortedBy nat_cmp ms
+    → ((n : ℕ) → list_any (is_run n) ms ≡ list_any (λ (s : Slot). is_run s.1 n) (part_by at c.slots.keys)) → ready_of at g ms ≡ ready_by at b
+listed_by c b at g ms h are sorted runs =
+    all_listed at g b ms (sorted_rise 0 ms (none_lower ms) sorted) are
+    (λ n from none. ap (λ ts. filter (is_by at) (waiting_in n ts)) (are n) ∙ none_by_slots c (tasks_at b) at n h (sym (runs n) ∙ none))
 
 -- what is listed where nothing is left
-pub end_of : (ws : List Waiting) (es : Entries) (all : List Waiting) → es ≡ [] → ws ++ joined es ≡ all → ws ≡ all
-end_of ws es all none is = sym (nil_right ws) ∙ ap (λ es. ws ++ joined es) (sym none) ∙ is
+pub end_of : (at : ℕ) (g : ℕ → List OpenActivity) (ws : List Waiting) (ms : List ℕ) (all : List Waiting) → ms ≡ [] → ws ++ ready_of at g ms ≡ all → ws ≡ all
+end_of at g ws ms all none is = sym (nil_right ws) ∙ ap (λ ns. ws ++ ready_of at g ns) (sym none) ∙ is
   where
     nil_right : (ws : List Waiting) → ws ++ [] ≡ ws
     nil_right [] = refl

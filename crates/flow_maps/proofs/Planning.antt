@@ -1,9 +1,9 @@
 -- What becomes of what runs wait for, where the book is changed.
-use Rattle.std.proofs.Common.{◌≡◌, ◌-◌, ◌+◌, ℕ, zero, suc, Bool, true, false, cond, nat_eq, if◌then◌else◌, List, [], ◌∷◌, ◌++◌, length, map, filter, Option, Some, None, slice_get, slice_set, refl, sym, ap, subst, ◌∙◌, inl, inr, true≢false, arith}
+use Rattle.std.proofs.Common.{◌≡◌, ◌-◌, ◌+◌, ℕ, zero, suc, Bool, true, false, cond, if◌then◌else◌, List, [], ◌∷◌, ◌++◌, length, map, filter, Option, Some, None, slice_get, slice_set, refl, sym, ap, subst, ◌∙◌, inl, inr, true≢false, arith}
 use Rattle.std.specs.Prelude.{◌⊎◌, MatchOption}
 use Rattle.flow_base.specs.declared.event.Event.{Event}
 use Rattle.flow_base.specs.declared.book.Run.{Run}
-use Rattle.flow_base.specs.declared.book.Task.{Task}
+use Rattle.flow_base.specs.declared.book.OpenActivity.{OpenActivity}
 use Rattle.flow_base.specs.declared.book.Timer.{Timer}
 use Rattle.flow_base.specs.declared.book.Turn.{Turn}
 use Rattle.flow_model.specs.Book.{Book, nth, with_run, with_turn, with_attempt, with_text, at_attempt}
@@ -12,12 +12,13 @@ use Rattle.flow_model.specs.Open.{timers_after, timers_after_one, open_timers, t
 use Rattle.flow_model.proofs.Logs.{nth_at}
 use Rattle.flow_maps.specs.declared.agenda.Agenda.{Agenda}
 use Rattle.flow_maps.specs.declared.agenda.Plans.{Plans}
-use Rattle.flow_maps.specs.declared.timers.Timers.{Timers}
-use Rattle.flow_maps.specs.OfRuns.{is_run, list_of}
-use Rattle.flow_maps.specs.Timers.{Times, has_slot, of_run, timers_of, timers_at}
+use Rattle.flow_maps.specs.declared.calendar.Calendar.{Calendar}
+use Rattle.flow_maps.specs.Calendars.{IsCalendar, date_of_task, date_of_timer}
+use Rattle.flow_maps.specs.OfRuns.{is_run}
+use Rattle.flow_maps.specs.Timers.{of_run, timers_of, timers_at}
 use Rattle.flow_maps.specs.Agenda.{ArePlans, IsPlan, Knows, IsOf, timers_now, tasks_behind, events_behind, replaced, one_if, is_open_run, open_runs, tasks_of, tasks_at}
 use Rattle.flow_maps.proofs.Serving.{run_is as book_is, none_is_there}
-use Rattle.flow_maps.proofs.Slots.{run_is, run_itself, not_true}
+use Rattle.flow_maps.proofs.Slots.{calendar_same, run_is, run_itself, not_true}
 
 none_is : {A : Type 0} (x : A) → None ≡ Some x → ⊥
 none_is x h = let same = h in cc
@@ -31,19 +32,12 @@ cond_twice : {A : Type 0} (v : Bool) (x y z : A) → cond v x (cond v y z) ≡ c
 cond_twice true x y z = refl
 cond_twice false x y z = refl
 
-pub times_same : (t : Timers) (f g : ℕ → List Timer) → ((n : ℕ) → f n ≡ g n) → Times t f → Times t g
-times_same t f g same h = record { lists = λ n. h.lists n ∙ same n; slots = λ q. h.slots q ∙ ap (λ xs. has_slot q.1 xs q) (same q.1) }
-
-pub put_back : (t : Timers) (run : ℕ) (xs : List Timer) (f : ℕ → List Timer) → Times t (λ n. cond (is_run run n) xs (cond (is_run run n) [] (f n))) → Times t (replaced run xs f)
-put_back t run xs f h = times_same t (λ n. cond (is_run run n) xs (cond (is_run run n) [] (f n))) (replaced run xs f) (λ n. cond_twice (is_run run n) xs [] (f n)) h
+-- what was taken and is put again
+pub put_back : {T : Type 0} (date : T → ℕ × ℕ) (c : Calendar T) (run : ℕ) (xs : List T) (f : ℕ → List T) → IsCalendar date c (λ n. cond (is_run run n) xs (cond (is_run run n) [] (f n))) → IsCalendar date c (replaced run xs f)
+put_back date c run xs f h = calendar_same date c (λ n. cond (is_run run n) xs (cond (is_run run n) [] (f n))) (replaced run xs f) (λ n. cond_twice (is_run run n) xs [] (f n)) h
 
 pub none_left : {A : Type 0} (run : ℕ) (f : ℕ → List A) → cond (is_run run run) [] (f run) ≡ []
 none_left run f = ap (λ v. cond v [] (f run)) (run_itself run)
-
--- a list that was taken and is put again, in the functions of two maps
-pub lists_put : {A : Type 0} (run n : ℕ) (xs ys : List A) (f : ℕ → List A) (old mid new : List A) → old ≡ f n → mid ≡ cond (is_run run n) [] old → new ≡ cond (is_run run n) xs mid → xs ≡ ys → new ≡ replaced run ys f n
-lists_put run n xs ys f old mid new was out back same =
-    back ∙ ap (cond (is_run run n) xs) (out ∙ ap (cond (is_run run n) []) was) ∙ cond_twice (is_run run n) xs [] (f n) ∙ ap (λ zs. cond (is_run run n) zs (f n)) same
 
 -- what a run that has this list is given in its place
 pub same_replaced : {A : Type 0} (run : ℕ) (f : ℕ → List A) (n : ℕ) → replaced run (f run) f n ≡ f n
@@ -180,19 +174,20 @@ pub begun : (p : Plans) (b after : Book) (r : Run) (t : Turn) (run : ℕ) (now :
 begun p b after r t run now runs at times tasks h = record {
   counted = h.counted ∙ sym (ap length runs ∙ longer b.runs r);
   opened = h.opened;
-  timers = times_same p.timers (replaced run (timers_now now 0 t (timers_at b run)) (timers_at b)) (timers_at after)
+  timers = calendar_same date_of_timer p.timers (replaced run (timers_now now 0 t (timers_at b run)) (timers_at b)) (timers_at after)
       (λ n. ap (λ xs. replaced run xs (timers_at b) n) (ap (timers_now now 0 t) (no_run_yet timers_of b run at) ∙ sym times) ∙ sym (ap (λ rs. of_run timers_of (nth rs n)) runs ∙ new_run timers_of b r run at n)) h.timers;
-  tasks = λ n. h.tasks n ∙ ap (λ xs. replaced run xs (tasks_at b) n) (ap (tasks_behind 0 t) (no_run_yet tasks_of b run at) ∙ sym tasks) ∙ sym (ap (λ rs. of_run tasks_of (nth rs n)) runs ∙ new_run tasks_of b r run at n);
+  tasks = calendar_same date_of_task p.tasks (replaced run (tasks_behind 0 t (tasks_at b run)) (tasks_at b)) (tasks_at after)
+      (λ n. ap (λ xs. replaced run xs (tasks_at b) n) (ap (tasks_behind 0 t) (no_run_yet tasks_of b run at) ∙ sym tasks) ∙ sym (ap (λ rs. of_run tasks_of (nth rs n)) runs ∙ new_run tasks_of b r run at n)) h.tasks;
 }
 
 -- one that is read whole
-pub whole : (p : Plans) (b : Book) (r : Run) (run : ℕ) (ts : List Timer) (ks : List Task) → run ≡ length b.runs + 1 → ts ≡ timers_of r → ks ≡ tasks_of r
+pub whole : (p : Plans) (b : Book) (r : Run) (run : ℕ) (ts : List Timer) (ks : List OpenActivity) → run ≡ length b.runs + 1 → ts ≡ timers_of r → ks ≡ tasks_of r
     → ArePlans p (length b.runs + 1) (open_runs b + one_if (is_open_run r)) (replaced run ts (timers_at b)) (replaced run ks (tasks_at b)) → IsPlan p (record b { runs = b.runs ++ r ∷ [] })
 whole p b r run ts ks at times tasks h = record {
   counted = h.counted ∙ sym (longer b.runs r);
   opened = h.opened ∙ sym (count_more b.runs r);
-  timers = times_same p.timers (replaced run ts (timers_at b)) (timers_at (record b { runs = b.runs ++ r ∷ [] })) (λ n. ap (λ xs. replaced run xs (timers_at b) n) times ∙ sym (new_run timers_of b r run at n)) h.timers;
-  tasks = λ n. h.tasks n ∙ ap (λ xs. replaced run xs (tasks_at b) n) tasks ∙ sym (new_run tasks_of b r run at n);
+  timers = calendar_same date_of_timer p.timers (replaced run ts (timers_at b)) (timers_at (record b { runs = b.runs ++ r ∷ [] })) (λ n. ap (λ xs. replaced run xs (timers_at b) n) times ∙ sym (new_run timers_of b r run at n)) h.timers;
+  tasks = calendar_same date_of_task p.tasks (replaced run ks (tasks_at b)) (tasks_at (record b { runs = b.runs ++ r ∷ [] })) (λ n. ap (λ xs. replaced run xs (tasks_at b) n) tasks ∙ sym (new_run tasks_of b r run at n)) h.tasks;
 }
 
 pub begun_open : (b after : Book) (r : Run) (now : Bool) → after.runs ≡ b.runs ++ r ∷ [] → is_open_run r ≡ now → open_runs after + one_if false ≡ open_runs b + one_if false + one_if now
@@ -207,10 +202,11 @@ pub went : (p : Plans) (b after : Book) (r : Run) (t : Turn) (run : ℕ) (was no
 went p b after r t run was now there runs before behind which h = record {
   counted = h.counted ∙ sym (ap length runs ∙ as_long b.runs (run - 1) (with_turn t r));
   opened = h.opened;
-  timers = times_same p.timers (replaced run (timers_now now (length r.history) t (timers_at b run)) (timers_at b)) (timers_at after)
+  timers = calendar_same date_of_timer p.timers (replaced run (timers_now now (length r.history) t (timers_at b run)) (timers_at b)) (timers_at after)
       (λ n. ap (λ xs. replaced run xs (timers_at b) n) (ap (λ o. timers_now now (length r.history) t (of_run timers_of o)) there ∙ sym (timers_turn t r now behind (which_is which)))
       ∙ sym (ap (λ rs. of_run timers_of (nth rs n)) runs ∙ at_set timers_of b.runs run r (with_turn t r) there n)) h.timers;
-  tasks = λ n. h.tasks n ∙ ap (λ o. replaced run (tasks_behind (length r.history) t (of_run tasks_of o)) (tasks_at b) n) there ∙ sym (ap (λ rs. of_run tasks_of (nth rs n)) runs ∙ at_set tasks_of b.runs run r (with_turn t r) there n);
+  tasks = calendar_same date_of_task p.tasks (replaced run (tasks_behind (length r.history) t (tasks_at b run)) (tasks_at b)) (tasks_at after)
+      (λ n. ap (λ o. replaced run (tasks_behind (length r.history) t (of_run tasks_of o)) (tasks_at b) n) there ∙ sym (ap (λ rs. of_run tasks_of (nth rs n)) runs ∙ at_set tasks_of b.runs run r (with_turn t r) there n)) h.tasks;
 }
   where
     which_is : (was ≡ true) ⊎ (now ≡ false) → (timers_left r.history ≡ open_timers r.history) ⊎ (now ≡ false)
@@ -241,17 +237,18 @@ attempted p b run event attempt ready h = by (nth b.runs run) refl
       counted = h.counted;
       opened = h.opened;
       timers = h.timers;
-      tasks = λ n. let nothing = ap (of_run tasks_of) none in
-          h.tasks n ∙ ap (λ xs. replaced run (map (at_attempt event attempt ready) xs) (tasks_at b) n) nothing ∙ ap (λ xs. replaced run xs (tasks_at b) n) (sym nothing) ∙ same_replaced run (tasks_at b) n;
+      tasks = calendar_same date_of_task p.tasks (replaced run (map (at_attempt event attempt ready) (tasks_at b run)) (tasks_at b)) (tasks_at b) (λ n. let nothing = ap (of_run tasks_of) none in
+          ap (λ xs. replaced run (map (at_attempt event attempt ready) xs) (tasks_at b) n) nothing ∙ ap (λ xs. replaced run xs (tasks_at b) n) (sym nothing) ∙ same_replaced run (tasks_at b) n) h.tasks;
     })
     by (Some r) there =
         let runs = run_set b run set r there in
         record {
           counted = h.counted ∙ sym (ap length runs ∙ as_long b.runs (run - 1) (set r));
           opened = h.opened ∙ (let e = went_open b (with_run b run set) r (set r) run (is_open_run r) (is_open_run r) there runs refl refl in omega (arith, e));
-          timers = times_same p.timers (timers_at b) (timers_at (with_run b run set))
+          timers = calendar_same date_of_timer p.timers (timers_at b) (timers_at (with_run b run set))
               (λ n. sym (ap (λ rs. of_run timers_of (nth rs n)) runs ∙ at_set timers_of b.runs run r (set r) there n ∙ ap (λ o. replaced run (of_run timers_of o) (timers_at b) n) (sym there) ∙ same_replaced run (timers_at b) n)) h.timers;
-          tasks = λ n. h.tasks n ∙ ap (λ o. replaced run (map (at_attempt event attempt ready) (of_run tasks_of o)) (tasks_at b) n) there ∙ sym (ap (λ rs. of_run tasks_of (nth rs n)) runs ∙ at_set tasks_of b.runs run r (set r) there n);
+          tasks = calendar_same date_of_task p.tasks (replaced run (map (at_attempt event attempt ready) (tasks_at b run)) (tasks_at b)) (tasks_at (with_run b run set))
+              (λ n. ap (λ o. replaced run (map (at_attempt event attempt ready) (of_run tasks_of o)) (tasks_at b) n) there ∙ sym (ap (λ rs. of_run tasks_of (nth rs n)) runs ∙ at_set tasks_of b.runs run r (set r) there n)) h.tasks;
         }
 
 -- another text
@@ -268,9 +265,10 @@ retexted p b run text h = by (nth b.runs run) refl
         record {
           counted = h.counted ∙ sym (ap length runs ∙ as_long b.runs (run - 1) (set r));
           opened = h.opened ∙ (let e = went_open b (with_run b run set) r (set r) run (is_open_run r) (is_open_run r) there runs refl refl in omega (arith, e));
-          timers = times_same p.timers (timers_at b) (timers_at (with_run b run set))
+          timers = calendar_same date_of_timer p.timers (timers_at b) (timers_at (with_run b run set))
               (λ n. sym (ap (λ rs. of_run timers_of (nth rs n)) runs ∙ at_set timers_of b.runs run r (set r) there n ∙ ap (λ o. replaced run (of_run timers_of o) (timers_at b) n) (sym there) ∙ same_replaced run (timers_at b) n)) h.timers;
-          tasks = λ n. h.tasks n ∙ sym (ap (λ rs. of_run tasks_of (nth rs n)) runs ∙ at_set tasks_of b.runs run r (set r) there n ∙ ap (λ o. replaced run (of_run tasks_of o) (tasks_at b) n) (sym there) ∙ same_replaced run (tasks_at b) n);
+          tasks = calendar_same date_of_task p.tasks (tasks_at b) (tasks_at (with_run b run set))
+              (λ n. sym (ap (λ rs. of_run tasks_of (nth rs n)) runs ∙ at_set tasks_of b.runs run r (set r) there n ∙ ap (λ o. replaced run (of_run tasks_of o) (tasks_at b) n) (sym there) ∙ same_replaced run (tasks_at b) n)) h.tasks;
         }
 
 pub text_set : (a : Agenda) (b : Book) (run text : ℕ) → IsOf a b → IsOf a (with_run b run (with_text text))
@@ -281,5 +279,5 @@ text_set a b run text h = by a.plans h
     by (Some p) h = retexted p b run text h
 
 -- what is known, where it is
-pub known_plan : (a : Agenda) (p : Plans) (n o : ℕ) (f : ℕ → List Timer) (g : ℕ → List Task) → a.plans ≡ Some p → Knows a n o f g → ArePlans p n o f g
+pub known_plan : (a : Agenda) (p : Plans) (n o : ℕ) (f : ℕ → List Timer) (g : ℕ → List OpenActivity) → a.plans ≡ Some p → Knows a n o f g → ArePlans p n o f g
 known_plan a p n o f g is h = subst (λ q. MatchOption q (Unit {0}) (λ x. ArePlans x n o f g)) is h

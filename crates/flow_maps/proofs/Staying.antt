@@ -1,5 +1,5 @@
 -- What no change of a book takes back: its texts, and the events of its runs.
-use Rattle.std.proofs.Common.{◌≡◌, ◌-◌, ◌+◌, ◌<◌, ℕ, zero, suc, Bool, true, false, cond, List, [], ◌∷◌, ◌++◌, length, Option, Some, None, slice_get, slice_set, refl, sym, ap, subst, ◌∙◌, arith, get_or}
+use Rattle.std.proofs.Common.{◌≡◌, ◌+◌, ◌<◌, ℕ, zero, suc, Bool, true, false, cond, List, [], ◌∷◌, ◌++◌, length, Option, Some, None, slice_get, refl, sym, ap, subst, ◌∙◌, arith, get_or}
 use Rattle.std.specs.Prelude.{IfSome}
 use Rattle.std.specs.BTreeMap.{get}
 use Rattle.std.specs.Ordering.{nat_cmp}
@@ -18,14 +18,14 @@ use Rattle.flow_view.specs.Heads.{event_of, event_if, event_at, head_of, head_if
 use Rattle.flow_view.specs.declared.head.Head.{Head}
 use Rattle.flow_maps.specs.declared.calls.Calls.{Calls}
 use Rattle.flow_maps.specs.declared.records.Records.{Records}
-use Rattle.flow_maps.specs.declared.texts.Texts.{Texts}
-use Rattle.flow_maps.specs.KnownCalls.{IsEventOf, KnowsCalls}
+use Rattle.flow_maps.specs.declared.texts.TextBodies.{TextBodies}
+use Rattle.flow_maps.specs.KnownCalls.{IsEventAt, KnowsCalls, Place, place_cmp, is_place}
 use Rattle.flow_maps.specs.KnownRecords.{KnowsRecords}
 use Rattle.flow_maps.specs.KnownTexts.{IsText, KnowsTexts}
 use Rattle.flow_maps.specs.OfRuns.{is_run}
 use Rattle.flow_maps.proofs.Headed.{nth_more, own_run, other_run, one_more}
 use Rattle.flow_maps.proofs.Serving.{run_is as book_is, none_is_there}
-use Rattle.flow_maps.proofs.Slots.{run_is}
+use Rattle.flow_maps.proofs.Slots.{both_eq, run_is}
 
 none_is : {A : Type 0} (x : A) → None ≡ Some x → ⊥
 none_is x h = let same = h in cc
@@ -46,21 +46,21 @@ text_stays b (AddTurn run t) n x h = ap (λ ts. nth ts n) (run_texts b run (with
 text_stays b (SetAttempt run event attempt ready) n x h = ap (λ ts. nth ts n) (run_texts b run (with_attempt event attempt ready)) ∙ h
 text_stays b (SetText run text) n x h = ap (λ ts. nth ts n) (run_texts b run (with_text text)) ∙ h
 
-pub texts_stay : (m : Texts) (b : Book) (c : Change) → KnowsTexts m b → KnowsTexts m (changed b c)
+pub texts_stay : (m : TextBodies) (b : Book) (c : Change) → KnowsTexts m b → KnowsTexts m (changed b c)
 texts_stay m b c knows n = by (get nat_cmp m.known n) (knows n)
   where
     by : (o : Option Bytes) → IsText o (nth b.texts n) → IsText o (nth (changed b c).texts n)
     by None h = tt
     by (Some x) h = text_stays b c n x h
 
-pub text_in : (m m' : Texts) (number : ℕ) (t : Bytes) → ((n : ℕ) → get nat_cmp m'.known n ≡ cond (is_run number n) (Some t) (get nat_cmp m.known n)) → (b : Book) → nth b.texts number ≡ Some t → KnowsTexts m b → KnowsTexts m' b
+pub text_in : (m m' : TextBodies) (number : ℕ) (t : Bytes) → ((n : ℕ) → get nat_cmp m'.known n ≡ cond (is_run number n) (Some t) (get nat_cmp m.known n)) → (b : Book) → nth b.texts number ≡ Some t → KnowsTexts m b → KnowsTexts m' b
 text_in m m' number t put b at knows n = subst (λ o. IsText o (nth b.texts n)) (sym (put n)) (by (is_run number n) refl)
   where
     by : (v : Bool) → is_run number n ≡ v → IsText (cond v (Some t) (get nat_cmp m.known n)) (nth b.texts n)
     by true own = subst (λ k. nth b.texts k ≡ Some t) (run_is number n own) at
     by false other = knows n
 
-pub text_found : (m : Texts) (number : ℕ) (k : Bytes) (o : Option Bytes) → get nat_cmp m.known number ≡ Some k → IfSome o (λ t. t ≡ k) → IfSome o (λ t. (b : Book) → KnowsTexts m b → Some t ≡ nth b.texts number)
+pub text_found : (m : TextBodies) (number : ℕ) (k : Bytes) (o : Option Bytes) → get nat_cmp m.known number ≡ Some k → IfSome o (λ t. t ≡ k) → IfSome o (λ t. (b : Book) → KnowsTexts m b → Some t ≡ nth b.texts number)
 text_found m number k None there is = tt
 text_found m number k (Some t) there is = λ b knows. sym (subst (λ o. IsText o (nth b.texts number)) (there ∙ ap Some (sym is)) (knows number))
 
@@ -103,34 +103,47 @@ event_stays b (SetAttempt run event attempt ready) n id e h = set_stays b run (w
 event_stays b (SetText run text) n id e h = set_stays b run (with_text text) (λ r k x at. at) n id e h
 
 pub calls_stay : (m : Calls) (b : Book) (c : Change) → KnowsCalls m b → KnowsCalls m (changed b c)
-calls_stay m b c knows n = by (get nat_cmp m.known n) (knows n)
+calls_stay m b c knows q = by (get place_cmp m.known q) (knows q)
   where
-    by : (o : Option Event) → IsEventOf b.runs n o → IsEventOf (changed b c).runs n o
+    by : (o : Option Event) → IsEventAt b.runs q o → IsEventAt (changed b c).runs q o
     by None h = tt
-    by (Some e) h = event_stays b c n e.id e h
+    by (Some e) h = event_stays b c q.0 q.1 e h
 
 -- the same where a run is read behind the others
 pub calls_more : (m : Calls) (b : Book) (r : Run) → KnowsCalls m b → KnowsCalls m (record b { runs = b.runs ++ r ∷ [] })
-calls_more m b r knows n = by (get nat_cmp m.known n) (knows n)
+calls_more m b r knows q = by (get place_cmp m.known q) (knows q)
   where
-    by : (o : Option Event) → IsEventOf b.runs n o → IsEventOf (b.runs ++ r ∷ []) n o
+    by : (o : Option Event) → IsEventAt b.runs q o → IsEventAt (b.runs ++ r ∷ []) q o
     by None h = tt
-    by (Some e) h = more_stays b r n e.id e h
+    by (Some e) h = more_stays b r q.0 q.1 e h
 
-pub call_in : (m m' : Calls) (run : ℕ) (e : Event) → ((n : ℕ) → get nat_cmp m'.known n ≡ cond (is_run run n) (Some e) (get nat_cmp m.known n)) → (b : Book) → event_at b.runs run e.id ≡ Some e → KnowsCalls m b → KnowsCalls m' b
-call_in m m' run e put b at knows n = subst (λ o. IsEventOf b.runs n o) (sym (put n)) (by (is_run run n) refl)
+place_is : (x y : Place) → is_place x y ≡ true → x ≡ y
+place_is x y h =
+    let both = both_eq (nat_cmp x.0 y.0) (nat_cmp x.1 y.1) h in
+    let run = run_is x.0 y.0 both.0 in
+    let id = run_is x.1 y.1 both.1 in
+    λ i. (run i, id i)
+
+pub call_in : (m m' : Calls) (run id : ℕ) (e : Event) → ((q : Place) → get place_cmp m'.known q ≡ cond (is_place (run, id) q) (Some e) (get place_cmp m.known q)) → (b : Book) → event_at b.runs run id ≡ Some e → KnowsCalls m b → KnowsCalls m' b
+call_in m m' run id e put b at knows q = subst (λ o. IsEventAt b.runs q o) (sym (put q)) (by (is_place (run, id) q) refl)
   where
-    by : (v : Bool) → is_run run n ≡ v → IsEventOf b.runs n (cond v (Some e) (get nat_cmp m.known n))
-    by true own = subst (λ k. event_at b.runs k e.id ≡ Some e) (run_is run n own) at
-    by false other = knows n
+    by : (v : Bool) → is_place (run, id) q ≡ v → IsEventAt b.runs q (cond v (Some e) (get place_cmp m.known q))
+    by true own = subst (λ (p : Place). event_at b.runs p.0 p.1 ≡ Some e) (place_is (run, id) q own) at
+    by false other = knows q
 
-pub call_found : (m : Calls) (run id : ℕ) (k : Event) (o : Option Event) → get nat_cmp m.known run ≡ Some k → k.id ≡ id → IfSome o (λ e. e ≡ k) → IfSome o (λ e. (b : Book) → KnowsCalls m b → Some e ≡ event_at b.runs run id)
-call_found m run id k None there number is = tt
-call_found m run id k (Some e) there number is = λ b knows.
-    let at : event_at b.runs run k.id ≡ Some k = subst (λ o. IsEventOf b.runs run o) there (knows run) in
-    ap Some is ∙ sym at ∙ ap (event_at b.runs run) number
+-- what is let go says nothing any more
+pub call_out : (m m' : Calls) (run id : ℕ) → ((q : Place) → get place_cmp m'.known q ≡ cond (is_place (run, id) q) None (get place_cmp m.known q)) → (b : Book) → KnowsCalls m b → KnowsCalls m' b
+call_out m m' run id out b knows q = subst (λ o. IsEventAt b.runs q o) (sym (out q)) (by (is_place (run, id) q))
+  where
+    by : (v : Bool) → IsEventAt b.runs q (cond v None (get place_cmp m.known q))
+    by true = tt
+    by false = knows q
 
----- The event of a turn's last command
+pub call_found : (m : Calls) (run id : ℕ) (k : Event) (o : Option Event) → get place_cmp m.known (run, id) ≡ Some k → IfSome o (λ e. e ≡ k) → IfSome o (λ e. (b : Book) → KnowsCalls m b → Some e ≡ event_at b.runs run id)
+call_found m run id k None there is = tt
+call_found m run id k (Some e) there is = λ b knows. ap Some is ∙ sym (subst (λ o. IsEventAt b.runs (run, id) o) there (knows (run, id)))
+
+---- The event of a turn's command
 
 traced_at : (n at : ℕ) (cs : List Cmd) (k : ℕ) (c : Cmd) → k < length cs → c ≡ get_or cs k c → slice_get (traces n at cs) k ≡ Some (record { id = n + k; at = at; what = Asked c })
 traced_at n at [] k c less is = absurd (omega (arith, less))
@@ -144,34 +157,33 @@ past [] ys m j e = let same : m ≡ j = omega (arith, e) in ap (slice_get ys) sa
 past (x ∷ xs) ys zero j e = absurd (omega (arith, e))
 past (x ∷ xs) ys (suc m) j e = past xs ys m j (omega (arith, e))
 
-pub last_event : (t : Turn) (r : Run) (count id : ℕ) (c : Cmd) → length r.history ≡ count → id ≡ count + 1 + length t.commands → 0 < length t.commands → c ≡ get_or t.commands (length t.commands - 1) c
+command_event : (t : Turn) (r : Run) (count k id : ℕ) (c : Cmd) → length r.history ≡ count → id ≡ count + 1 + k + 1 → k < length t.commands → c ≡ get_or t.commands k c
     → event_of (with_turn t r).history id ≡ Some (record { id = id; at = t.at; what = Asked c })
-last_event t r count id c long number some is =
+command_event t r count k id c long number less is =
     let h = r.history in
-    let k = length t.commands - 1 in
     let es = turn_events (length h + 1) t.at t.input t.commands in
-    let place : id ≡ suc (length h + suc k) = omega (arith, long, number, some) in
-    let own : length h + 1 + 1 + k ≡ id = omega (arith, long, number, some) in
-    nth_at (h ++ es) id (length h + suc k) place ∙ past h es (length h + suc k) (suc k) refl ∙ traced_at (length h + 1 + 1) t.at t.commands k c (omega (arith, some)) is
+    let place : id ≡ suc (length h + suc k) = omega (arith, long, number) in
+    let own : length h + 1 + 1 + k ≡ id = omega (arith, long, number) in
+    nth_at (h ++ es) id (length h + suc k) place ∙ past h es (length h + suc k) (suc k) refl ∙ traced_at (length h + 1 + 1) t.at t.commands k c less is
     ∙ (λ i. Some (record { id = own i; at = t.at; what = Asked c }))
 
 -- as it is asked of whatever run has so many events
-pub last_asked : (o : Option Event) (t : Turn) (count id : ℕ) (c : Cmd) → id ≡ count + 1 + length t.commands → 0 < length t.commands → c ≡ get_or t.commands (length t.commands - 1) c
+pub command_asked : (o : Option Event) (t : Turn) (count k id : ℕ) (c : Cmd) → id ≡ count + 1 + k + 1 → k < length t.commands → c ≡ get_or t.commands k c
     → IfSome o (λ e. e ≡ record { id = id; at = t.at; what = Asked c }) → IfSome o (λ e. (r : Run) → length r.history ≡ count → event_of (with_turn t r).history e.id ≡ Some e)
-last_asked None t count id c number some is made = tt
-last_asked (Some e) t count id c number some is made = λ r long.
-    subst (λ x. event_of (with_turn t r).history x.id ≡ Some x) (sym made) (last_event t r count id c long number some is)
+command_asked None t count k id c number less is made = tt
+command_asked (Some e) t count k id c number less is made = λ r long.
+    subst (λ x. event_of (with_turn t r).history x.id ≡ Some x) (sym made) (command_event t r count k id c long number less is)
 
--- and put into a book
-pub call_set : (o : Option Event) (b : Book) (run : ℕ) (t : Turn) (r : Run) (count : ℕ) → nth b.runs run ≡ Some r → length r.history ≡ count → IfSome o (λ e. (x : Run) → length x.history ≡ count → event_of (with_turn t x).history e.id ≡ Some e)
-    → IfSome o (λ e. event_at (with_run b run (with_turn t)).runs run e.id ≡ Some e)
-call_set None b run t r count at long is = tt
-call_set (Some e) b run t r count at long is = ap (λ o. event_if o e.id) (own_run b run (with_turn t) r at) ∙ is r long
+-- where such a run stands in a book
+pub call_there : (o : Option Event) (b : Book) (run : ℕ) (t : Turn) (r : Run) (count : ℕ) → nth b.runs run ≡ Some (with_turn t r) → length r.history ≡ count
+    → IfSome o (λ e. (x : Run) → length x.history ≡ count → event_of (with_turn t x).history e.id ≡ Some e) → IfSome o (λ e. event_at b.runs run e.id ≡ Some e)
+call_there None b run t r count at long is = tt
+call_there (Some e) b run t r count at long is = ap (λ o. event_if o e.id) at ∙ is r long
 
-pub call_begun : (o : Option Event) (b : Book) (run : ℕ) (t : Turn) (r : Run) → run ≡ length b.runs + 1 → length r.history ≡ 0 → IfSome o (λ e. (x : Run) → length x.history ≡ 0 → event_of (with_turn t x).history e.id ≡ Some e)
-    → IfSome o (λ e. event_at (b.runs ++ with_turn t r ∷ []) run e.id ≡ Some e)
-call_begun None b run t r at long is = tt
-call_begun (Some e) b run t r at long is = ap (λ o. event_if o e.id) (nth_next b.runs (with_turn t r) [] run (omega (arith, at))) ∙ is r long
+-- an event of a run that was read behind the others
+pub call_read : (o : Option Event) (b : Book) (r : Run) (run id : ℕ) → run ≡ length b.runs + 1 → IfSome o (λ e. event_of r.history id ≡ Some e) → IfSome o (λ e. event_at (b.runs ++ r ∷ []) run id ≡ Some e)
+call_read None b r run id at is = tt
+call_read (Some e) b r run id at is = ap (λ o. event_if o id) (nth_next b.runs r [] run (omega (arith, at))) ∙ is
 
 ---- Together
 

@@ -1,8 +1,8 @@
 -- What the runs of a book wait for: their open timers and activities, and how many runs are open.
-use Rattle.std.specs.Prelude.{◌≡◌, ℕ, ◌+◌, Bool, List, [], ◌∷◌, length, filter, cond, Option, Some, None, MatchOption, if◌then◌else◌}
+use Rattle.std.specs.Prelude.{◌≡◌, ℕ, ◌+◌, Bool, List, [], length, filter, cond, MatchOption, if◌then◌else◌}
 use Rattle.flow_base.specs.declared.event.Event.{Event}
 use Rattle.flow_base.specs.declared.book.Run.{Run}
-use Rattle.flow_base.specs.declared.book.Task.{Task}
+use Rattle.flow_base.specs.declared.book.OpenActivity.{OpenActivity}
 use Rattle.flow_base.specs.declared.book.Timer.{Timer}
 use Rattle.flow_base.specs.declared.book.Turn.{Turn}
 use Rattle.flow_model.specs.Book.{Book, nth}
@@ -11,8 +11,9 @@ use Rattle.flow_model.specs.Open.{timers_after, tasks_after, state_of}
 use Rattle.flow_model.specs.Turned.{turn_events}
 use Rattle.flow_maps.specs.declared.agenda.Agenda.{Agenda}
 use Rattle.flow_maps.specs.declared.agenda.Plans.{Plans}
-use Rattle.flow_maps.specs.OfRuns.{is_run, list_of}
-use Rattle.flow_maps.specs.Timers.{Times, of_run, timers_at}
+use Rattle.flow_maps.specs.Calendars.{IsCalendar, date_of_task, date_of_timer}
+use Rattle.flow_maps.specs.OfRuns.{is_run}
+use Rattle.flow_maps.specs.Timers.{of_run, timers_at}
 
 -- the events of a turn behind so many
 abbrev pub events_behind : ℕ → Turn → List Event
@@ -21,7 +22,7 @@ events_behind count t = turn_events (count + 1) t.at t.input t.commands
 abbrev pub timers_behind : ℕ → Turn → List Timer → List Timer
 timers_behind count t ts = timers_after ts (events_behind count t)
 
-abbrev pub tasks_behind : ℕ → Turn → List Task → List Task
+abbrev pub tasks_behind : ℕ → Turn → List OpenActivity → List OpenActivity
 tasks_behind count t ts = tasks_after ts (events_behind count t)
 
 -- a run that is closed behind a turn has no timer
@@ -39,11 +40,11 @@ is_open_run r = is_open (state_of r.history)
 abbrev pub open_runs : Book → ℕ
 open_runs b = length (filter is_open_run b.runs)
 
-abbrev pub tasks_of : Run → List Task
+abbrev pub tasks_of : Run → List OpenActivity
 tasks_of r = r.tasks
 
 -- the open activities of the run of a number
-abbrev pub tasks_at : Book → ℕ → List Task
+abbrev pub tasks_at : Book → ℕ → List OpenActivity
 tasks_at b n = of_run tasks_of (nth b.runs n)
 
 -- one run has another list
@@ -51,18 +52,18 @@ abbrev pub replaced : {A : Type 0} → ℕ → List A → (ℕ → List A) → �
 replaced run xs f n = cond (is_run run n) xs (f n)
 
 -- So many runs, so many of them open, with these timers and activities.
-pub record ArePlans (p : Plans) (n o : ℕ) (f : ℕ → List Timer) (g : ℕ → List Task) : Type 0 where
+pub record ArePlans (p : Plans) (n o : ℕ) (f : ℕ → List Timer) (g : ℕ → List OpenActivity) : Type 0 where
   pub counted : p.count ≡ n
   pub opened : p.opened ≡ o
-  pub timers : Times p.timers f
-  pub tasks : (n : ℕ) → list_of p.tasks n ≡ g n
+  pub timers : IsCalendar date_of_timer p.timers f
+  pub tasks : IsCalendar date_of_task p.tasks g
 
 -- what the runs of a book wait for
 abbrev pub IsPlan : Plans → Book → Type 0
 IsPlan p b = ArePlans p (length b.runs) (open_runs b) (timers_at b) (tasks_at b)
 
 -- what is known is so
-abbrev pub Knows : Agenda → ℕ → ℕ → (ℕ → List Timer) → (ℕ → List Task) → Type 0
+abbrev pub Knows : Agenda → ℕ → ℕ → (ℕ → List Timer) → (ℕ → List OpenActivity) → Type 0
 Knows a count opened f g = MatchOption a.plans (Unit {0}) (λ p. ArePlans p count opened f g)
 
 -- What is known is of this book.

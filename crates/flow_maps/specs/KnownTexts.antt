@@ -4,7 +4,7 @@ use Rattle.std.specs.Ordering.{nat_cmp}
 use Rattle.std.specs.BTreeMap.{get}
 use Rattle.flow_base.specs.Syntax.{Bytes}
 use Rattle.flow_model.specs.Book.{Book, nth}
-use Rattle.flow_maps.specs.declared.texts.Texts.{Texts}
+use Rattle.flow_maps.specs.declared.texts.TextBodies.{TextBodies}
 
 -- what is known of a text is so
 abbrev pub IsText : Option Bytes → Option Bytes → Type 0
@@ -12,5 +12,5 @@ IsText None o = Unit {0}
 IsText (Some t) o = o ≡ Some t
 
 -- What is known is of this book.
-abbrev pub KnowsTexts : Texts → Book → Type 0
+abbrev pub KnowsTexts : TextBodies → Book → Type 0
 KnowsTexts m b = (n : ℕ) → IsText (get nat_cmp m.known n) (nth b.texts n)

@@ -1,4 +1,6 @@
 pub mod Agenda
+pub mod Calendars
+pub mod Gathering
 pub mod Keys
 pub mod KnownCalls
 pub mod KnownHeads

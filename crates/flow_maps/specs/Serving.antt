@@ -8,7 +8,7 @@ use Rattle.flow_model.specs.Open.{state_of}
 use Rattle.flow_maps.specs.declared.maps.Maps.{Maps}
 use Rattle.flow_maps.specs.declared.maps.ReadText.{ReadText}
 use Rattle.flow_maps.specs.declared.maps.Seen.{Seen}
-use Rattle.flow_base.specs.declared.book.Task.{Task}
+use Rattle.flow_base.specs.declared.book.OpenActivity.{OpenActivity}
 use Rattle.flow_base.specs.declared.book.Timer.{Timer}
 use Rattle.flow_maps.specs.Agenda.{Knows, IsOf}
 use Rattle.flow_maps.specs.Keys.{Lists}
@@ -42,7 +42,7 @@ abbrev pub AreRunKeys : Maps → Book → Type 0
 AreRunKeys m b = AreKeys m (map request_key b.runs) (map open_key b.runs)
 
 -- What is known of what runs wait for: so many, so many of them open, with these timers and activities.
-abbrev pub Awaits : Maps → ℕ → ℕ → (ℕ → List Timer) → (ℕ → List Task) → Type 0
+abbrev pub Awaits : Maps → ℕ → ℕ → (ℕ → List Timer) → (ℕ → List OpenActivity) → Type 0
 Awaits m n o f g = Knows m.agenda n o f g
 
 -- where the signals of its flows are recorded, as far as that is known

@@ -3,23 +3,23 @@ ghost use Rattle.std.specs.Prelude.{◌≡◌, ◌⊎◌, ◌+◌, ◌++◌, ◌
 ghost use Rattle.flow_base.specs.Syntax.{Bytes};
 ghost use Rattle.flow_base.specs.declared.book.Change.TheVariants.{AddRun, AddTurn, SetAttempt};
 ghost use Rattle.flow_base.specs.declared.book.Run.{Run as ARun};
-ghost use Rattle.flow_base.specs.declared.book.Task.{Task as ATask};
+ghost use Rattle.flow_base.specs.declared.book.OpenActivity.{OpenActivity as AnActivity};
 ghost use Rattle.flow_base.specs.declared.book.Timer.{Timer as ATimer};
 ghost use Rattle.std.specs.Prelude.{Option};
 ghost use Rattle.flow_model.specs.Book as words;
 ghost use Rattle.flow_model.specs.Book.{Book, nth, changed, at_attempt};
 ghost use Rattle.flow_maps.specs.Agenda as rule;
 ghost use Rattle.flow_maps.specs.Agenda.{ArePlans, IsPlan, Knows, IsOf, replaced, one_if, is_open_run, open_runs};
-ghost use Rattle.flow_maps.specs.OfRuns.{list_of};
 ghost use Rattle.flow_maps.specs.Outlooks.{outlook_of};
-ghost use Rattle.flow_maps.specs.Timers.{Times, timers_at, timers_of};
+ghost use Rattle.flow_maps.specs.Calendars.{IsCalendar, date_of_task, date_of_timer};
+ghost use Rattle.flow_maps.specs.Timers.{timers_at, timers_of};
 
+use crate::calendar::Calendar;
 use crate::left::{tasks_behind, timers_behind, with_attempt};
-use crate::of_runs::OfRuns;
-use crate::outlook::{Outlook, listed};
-use crate::timers::Timers;
+use crate::outlook::{BookWaits, outlook_over};
+use crate::timers::first_due;
 use crate::turned::is_open_behind;
-use flow_base::book::{Due, Task, Timer, Turn};
+use flow_base::book::{Due, OpenActivity, Timer, Turn};
 use flow_base::number::{EventId, LAST_NUMBER, Moment, RunId};
 use flow_base::sequence::Sequence;
 use std::alloc::Global;
@@ -30,8 +30,8 @@ pub struct Plans {
     count: u64,
     /// How many of them are open.
     opened: u64,
-    timers: Timers,
-    tasks: OfRuns<Task>,
+    timers: Calendar<Timer>,
+    tasks: Calendar<OpenActivity>,
 }
 
 /// What is known of it: all, or nothing.
@@ -59,13 +59,14 @@ fn timers_now(
 
 fn put_timers(
     alloc: Global,
-    timers: &mut Timers,
+    timers: &mut Calendar<Timer>,
     run: RunId,
     is_open: bool,
     count: u64,
     turn: &Turn,
 ) -> bool
-    ensures { result ≡ true → (f : ℕ → List ATimer) → Times timers.old f → Times timers.new (replaced run (rule.timers_now is_open count turn.now (f run)) f) }
+    ensures { result ≡ true → (f : ℕ → List ATimer) → IsCalendar date_of_timer timers.old f
+        → IsCalendar date_of_timer timers.new (replaced run (rule.timers_now is_open count turn.now (f run)) f) }
 {
     let before = timers.take(run);
     match timers_now(alloc, is_open, before, count, turn) {
@@ -74,8 +75,15 @@ fn put_timers(
     }
 }
 
-fn put_tasks(alloc: Global, tasks: &mut OfRuns<Task>, run: RunId, count: u64, turn: &Turn) -> bool
-    ensures { result ≡ true → (n : ℕ) → list_of tasks.new n ≡ replaced run (rule.tasks_behind count turn.now (list_of tasks.old run)) (list_of tasks.old) n }
+fn put_tasks(
+    alloc: Global,
+    tasks: &mut Calendar<OpenActivity>,
+    run: RunId,
+    count: u64,
+    turn: &Turn,
+) -> bool
+    ensures { result ≡ true → (g : ℕ → List AnActivity) → IsCalendar date_of_task tasks.old g
+        → IsCalendar date_of_task tasks.new (replaced run (rule.tasks_behind count turn.now (g run)) g) }
 {
     let before = tasks.take(run);
     match tasks_behind(alloc, before, count, turn) {
@@ -117,8 +125,8 @@ impl Plans {
         Plans {
             count: 0,
             opened: 0,
-            timers: Timers::new(alloc),
-            tasks: OfRuns::new(alloc),
+            timers: Calendar::new(alloc),
+            tasks: Calendar::new(alloc),
         }
     }
 
@@ -134,7 +142,8 @@ impl Plans {
 
     /// One more run, which waits for nothing yet.
     fn add(&mut self, is_open: bool) -> bool
-        ensures { result ≡ true → (n o : ℕ) → (f : ℕ → List ATimer) → (g : ℕ → List ATask) → ArePlans self.old n o f g → ArePlans self.new (n + 1) (o + one_if is_open) f g }
+        ensures { result ≡ true → (n o : ℕ) → (f : ℕ → List ATimer) → (g : ℕ → List AnActivity) → ArePlans self.old n o f g
+            → ArePlans self.new (n + 1) (o + one_if is_open) f g }
     {
         if self.count >= LAST_NUMBER {
             return false;
@@ -148,7 +157,8 @@ impl Plans {
     }
 
     fn add_timer(&mut self, run: RunId, timer: &Timer) -> bool
-        ensures { result ≡ true → (n o : ℕ) → (f : ℕ → List ATimer) → (g : ℕ → List ATask) → ArePlans self.old n o f g → ArePlans self.new n o (replaced run (f run ++ timer.now ∷ []) f) g }
+        ensures { result ≡ true → (n o : ℕ) → (f : ℕ → List ATimer) → (g : ℕ → List AnActivity) → ArePlans self.old n o f g
+            → ArePlans self.new n o (replaced run (f run ++ timer.now ∷ []) f) g }
     {
         let mut list = self.timers.take(run);
         if list.push(*timer).is_err() {
@@ -157,8 +167,9 @@ impl Plans {
         self.timers.put(run, list)
     }
 
-    fn add_task(&mut self, run: RunId, task: &Task) -> bool
-        ensures { result ≡ true → (n o : ℕ) → (f : ℕ → List ATimer) → (g : ℕ → List ATask) → ArePlans self.old n o f g → ArePlans self.new n o f (replaced run (g run ++ task.now ∷ []) g) }
+    fn add_task(&mut self, run: RunId, task: &OpenActivity) -> bool
+        ensures { result ≡ true → (n o : ℕ) → (f : ℕ → List ATimer) → (g : ℕ → List AnActivity) → ArePlans self.old n o f g
+            → ArePlans self.new n o f (replaced run (g run ++ task.now ∷ []) g) }
     {
         let mut list = self.tasks.take(run);
         if list.push(*task).is_err() {
@@ -177,8 +188,10 @@ impl Plans {
         count: u64,
         turn: &Turn,
     ) -> bool
-        ensures { result ≡ true → (n o p : ℕ) → (f : ℕ → List ATimer) → (g : ℕ → List ATask) → p + one_if was ≡ o + one_if is_now → ArePlans self.old n o f g
-            → ArePlans self.new n p (replaced run (rule.timers_now is_now count turn.now (f run)) f) (replaced run (rule.tasks_behind count turn.now (g run)) g) }
+        ensures { result ≡ true → (n o p : ℕ) → (f : ℕ → List ATimer) → (g : ℕ → List AnActivity) → p + one_if was ≡ o + one_if is_now
+            → ArePlans self.old n o f g
+            → ArePlans self.new n p (replaced run (rule.timers_now is_now count turn.now (f run)) f)
+            (replaced run (rule.tasks_behind count turn.now (g run)) g) }
     {
         let Some(opened) = opened_by(self.opened, was, is_now) else {
             return false;
@@ -205,8 +218,14 @@ impl Plans {
     }
 
     /// One more run, which waits for these.
-    fn add_whole(&mut self, is_open: bool, timers: Sequence<Timer>, tasks: Sequence<Task>) -> bool
-        ensures { result ≡ true → (b : Book) → (r : ARun) → timers ≡ timers_of r → tasks ≡ r.tasks → is_open ≡ is_open_run r → IsPlan self.old b → IsPlan self.new (record b { runs = b.runs ++ r ∷ [] }) }
+    fn add_whole(
+        &mut self,
+        is_open: bool,
+        timers: Sequence<Timer>,
+        tasks: Sequence<OpenActivity>,
+    ) -> bool
+        ensures { result ≡ true → (b : Book) → (r : ARun) → timers ≡ timers_of r → tasks ≡ r.tasks → is_open ≡ is_open_run r
+            → IsPlan self.old b → IsPlan self.new (record b { runs = b.runs ++ r ∷ [] }) }
     {
         if !self.add(is_open) {
             return false;
@@ -218,12 +237,14 @@ impl Plans {
         if !self.timers.put(run, timers) {
             return false;
         }
+        self.tasks.take(run);
         self.tasks.put(run, tasks)
     }
 
     /// A turn more of a run that has so many events and was open or not. One that is opened again isn't followed.
     fn follow(&mut self, alloc: Global, run: RunId, was: bool, count: u64, turn: &Turn) -> bool
-        ensures { result ≡ true → (b : Book) → (r : ARun) → nth b.runs run ≡ Some r → is_open_run r ≡ was → length r.history ≡ count → IsPlan self.old b → IsPlan self.new (changed b (AddTurn run turn.now)) }
+        ensures { result ≡ true → (b : Book) → (r : ARun) → nth b.runs run ≡ Some r → is_open_run r ≡ was → length r.history ≡ count
+            → IsPlan self.old b → IsPlan self.new (changed b (AddTurn run turn.now)) }
     {
         let is_now = is_open_behind(was, turn);
         if !may_follow(was, is_now) {
@@ -241,7 +262,8 @@ impl Plans {
         attempt: u64,
         ready: Moment,
     ) -> bool
-        ensures { result ≡ true → (n o : ℕ) → (f : ℕ → List ATimer) → (g : ℕ → List ATask) → ArePlans self.old n o f g → ArePlans self.new n o f (replaced run (map (at_attempt event attempt ready) (g run)) g) }
+        ensures { result ≡ true → (n o : ℕ) → (f : ℕ → List ATimer) → (g : ℕ → List AnActivity) → ArePlans self.old n o f g
+            → ArePlans self.new n o f (replaced run (map (at_attempt event attempt ready) (g run)) g) }
     {
         let before = self.tasks.take(run);
         match with_attempt(alloc, before, event, attempt, ready) {
@@ -250,21 +272,14 @@ impl Plans {
         }
     }
 
-    /// All of it, listed; none where there is no memory.
-    fn outlook(&self, alloc: Global) -> Option<Outlook>
-        ensures { IfSome result (λ v. (b : Book) → IsPlan self.now b → v ≡ outlook_of b) }
+    /// What there is to do at a moment; none where there is no memory.
+    fn outlook(&self, alloc: Global, at: Moment) -> Option<BookWaits>
+        ensures { IfSome result (λ v. (b : Book) → IsPlan self.now b → v ≡ outlook_of at b) }
     {
-        let Some(first) = self.timers.first_due(Moment::last()) else {
+        let Some(first) = first_due(&self.timers, Moment::last()) else {
             return None;
         };
-        let Some(waiting) = listed(alloc, &self.tasks) else {
-            return None;
-        };
-        Some(Outlook {
-            waiting,
-            first,
-            open_runs: self.opened,
-        })
+        outlook_over(alloc, first, &self.tasks, self.opened, at)
     }
 }
 
@@ -281,21 +296,22 @@ impl Agenda {
 
     /// Nothing is known.
     pub fn unknown(alloc: Global) -> Agenda
-        ensures { (n o : ℕ) → (f : ℕ → List ATimer) → (g : ℕ → List ATask) → Knows result n o f g }
+        ensures { (n o : ℕ) → (f : ℕ → List ATimer) → (g : ℕ → List AnActivity) → Knows result n o f g }
     {
         Agenda { alloc, plans: None }
     }
 
     /// Nothing is known any more of what runs wait for.
     pub fn forget(&mut self)
-        ensures { (n o : ℕ) → (f : ℕ → List ATimer) → (g : ℕ → List ATask) → Knows self.new n o f g }
+        ensures { (n o : ℕ) → (f : ℕ → List ATimer) → (g : ℕ → List AnActivity) → Knows self.new n o f g }
     {
         self.plans = None;
     }
 
     /// One more run, by its row.
     pub fn add(&mut self, is_open: bool)
-        ensures { (n o : ℕ) → (f : ℕ → List ATimer) → (g : ℕ → List ATask) → Knows self.old n o f g → Knows self.new (n + 1) (o + one_if is_open) f g }
+        ensures { (n o : ℕ) → (f : ℕ → List ATimer) → (g : ℕ → List AnActivity) → Knows self.old n o f g
+            → Knows self.new (n + 1) (o + one_if is_open) f g }
     {
         if let Some(plans) = &mut self.plans {
             if plans.add(is_open) {
@@ -307,7 +323,8 @@ impl Agenda {
 
     /// One more timer of a run, by its row.
     pub fn add_timer(&mut self, run: RunId, timer: &Timer)
-        ensures { (n o : ℕ) → (f : ℕ → List ATimer) → (g : ℕ → List ATask) → Knows self.old n o f g → Knows self.new n o (replaced run (f run ++ timer.now ∷ []) f) g }
+        ensures { (n o : ℕ) → (f : ℕ → List ATimer) → (g : ℕ → List AnActivity) → Knows self.old n o f g
+            → Knows self.new n o (replaced run (f run ++ timer.now ∷ []) f) g }
     {
         if let Some(plans) = &mut self.plans {
             if plans.add_timer(run, timer) {
@@ -318,8 +335,9 @@ impl Agenda {
     }
 
     /// One more activity of a run, by its row.
-    pub fn add_task(&mut self, run: RunId, task: &Task)
-        ensures { (n o : ℕ) → (f : ℕ → List ATimer) → (g : ℕ → List ATask) → Knows self.old n o f g → Knows self.new n o f (replaced run (g run ++ task.now ∷ []) g) }
+    pub fn add_task(&mut self, run: RunId, task: &OpenActivity)
+        ensures { (n o : ℕ) → (f : ℕ → List ATimer) → (g : ℕ → List AnActivity) → Knows self.old n o f g
+            → Knows self.new n o f (replaced run (g run ++ task.now ∷ []) g) }
     {
         if let Some(plans) = &mut self.plans {
             if plans.add_task(run, task) {
@@ -330,8 +348,14 @@ impl Agenda {
     }
 
     /// One more run, open or not, with its open timers and activities.
-    pub fn add_whole(&mut self, is_open: bool, timers: Sequence<Timer>, tasks: Sequence<Task>)
-        ensures { (b : Book) → (r : ARun) → timers ≡ timers_of r → tasks ≡ r.tasks → is_open ≡ is_open_run r → IsOf self.old b → IsOf self.new (record b { runs = b.runs ++ r ∷ [] }) }
+    pub fn add_whole(
+        &mut self,
+        is_open: bool,
+        timers: Sequence<Timer>,
+        tasks: Sequence<OpenActivity>,
+    )
+        ensures { (b : Book) → (r : ARun) → timers ≡ timers_of r → tasks ≡ r.tasks → is_open ≡ is_open_run r → IsOf self.old b
+            → IsOf self.new (record b { runs = b.runs ++ r ∷ [] }) }
     {
         if let Some(plans) = &mut self.plans {
             if plans.add_whole(is_open, timers, tasks) {
@@ -343,7 +367,8 @@ impl Agenda {
 
     /// One more run, with its first turn.
     pub fn begin(&mut self, turn: &Turn)
-        ensures { (b : Book) → (flow : Bytes) → (request : Option Bytes) → (text : ℕ) → IsOf self.old b → IsOf self.new (changed b (AddRun flow request text turn.now)) }
+        ensures { (b : Book) → (flow : Bytes) → (request : Option Bytes) → (text : ℕ) → IsOf self.old b
+            → IsOf self.new (changed b (AddRun flow request text turn.now)) }
     {
         if let Some(plans) = &mut self.plans {
             if plans.begin(self.alloc, turn) {
@@ -355,7 +380,8 @@ impl Agenda {
 
     /// A turn more of a run that has so many events and was open or not. One that is opened again isn't followed.
     pub fn go_on(&mut self, run: RunId, was: bool, count: u64, turn: &Turn)
-        ensures { (b : Book) → (r : ARun) → nth b.runs run ≡ Some r → is_open_run r ≡ was → length r.history ≡ count → IsOf self.old b → IsOf self.new (changed b (AddTurn run turn.now)) }
+        ensures { (b : Book) → (r : ARun) → nth b.runs run ≡ Some r → is_open_run r ≡ was → length r.history ≡ count → IsOf self.old b
+            → IsOf self.new (changed b (AddTurn run turn.now)) }
     {
         if let Some(plans) = &mut self.plans {
             if plans.follow(self.alloc, run, was, count, turn) {
@@ -412,17 +438,17 @@ impl Agenda {
         ensures { IfSome result (λ o. (b : Book) → IsOf self.now b → o ≡ words.least_due b at) }
     {
         match &self.plans {
-            Some(plans) => plans.timers.first_due(at),
+            Some(plans) => first_due(&plans.timers, at),
             None => None,
         }
     }
 
-    /// All that the book waits for, if that is known and there is memory for the list.
-    pub fn outlook(&self) -> Option<Outlook>
-        ensures { IfSome result (λ v. (b : Book) → IsOf self.now b → v ≡ outlook_of b) }
+    /// What the book waits for at a moment, if that is known and there is memory for the list.
+    pub fn outlook(&self, at: Moment) -> Option<BookWaits>
+        ensures { IfSome result (λ v. (b : Book) → IsOf self.now b → v ≡ outlook_of at b) }
     {
         match &self.plans {
-            Some(plans) => plans.outlook(self.alloc),
+            Some(plans) => plans.outlook(self.alloc, at),
             None => None,
         }
     }

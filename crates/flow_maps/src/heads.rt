@@ -1,5 +1,5 @@
-//! The heads of the runs that went on last, in memory beside the book that is changed, so that no statement asks for them.
-ghost use Rattle.std.specs.Prelude.{◌≡◌, ◌+◌, ℕ, IfOk, IfSome, Option, Some, None, cond, length, map, true};
+//! The heads of the open runs, in memory beside the book that is changed, so that no statement asks for them.
+ghost use Rattle.std.specs.Prelude.{◌≡◌, ◌+◌, ◌++◌, ◌∷◌, [], ℕ, IfOk, IfSome, Option, Some, None, cond, length, map, true};
 ghost use Rattle.std.specs.BTreeMap.{get};
 ghost use Rattle.std.specs.Ordering.{nat_cmp};
 ghost use Rattle.flow_base.specs.Syntax.{Bytes};
@@ -14,18 +14,15 @@ ghost use Rattle.flow_view.specs.Heads.{head_at};
 
 use crate::left::{tasks_behind, with_attempt};
 use crate::turned::{count_behind, is_open_behind};
-use flow_base::book::{Turn, copy_tasks};
+use flow_base::book::{Run, Turn, copy_tasks};
 use flow_base::number::{EventId, Moment, RunId, TextNo};
 use flow_base::sequence::Sequence;
 use flow_base::text::Key;
-use flow_view::head::Head;
+use flow_view::head::{Head, head_of};
 use std::alloc::{AllocError, Global};
 use std::collections::BTreeMap;
 
-/// The most heads that are kept: where another one comes, all are forgotten.
-const MOST_HEADS: usize = 1024;
-
-/// The heads of open runs that went on.
+/// The heads of open runs.
 #[derive(Drop)]
 pub struct Heads {
     alloc: Global,
@@ -67,6 +64,16 @@ fn copied_if(alloc: Global, head: &Head) -> Option<Head>
     ensures { IfSome result (λ h. h ≡ head.now) }
 {
     match copied(alloc, head) {
+        Ok(head) => Some(head),
+        Err(_) => None,
+    }
+}
+
+/// The head of a run that is whole, where there is memory for it.
+fn read_head(alloc: Global, whole: &Run) -> Option<Head>
+    ensures { IfSome result (λ h. h ≡ heads.head_of whole.now) }
+{
+    match head_of(alloc, whole) {
         Ok(head) => Some(head),
         Err(_) => None,
     }
@@ -176,15 +183,6 @@ impl Heads {
         remove(&mut self.known, run)
     }
 
-    /// There is room for one more.
-    fn make_room(&mut self)
-        ensures { (b : Book) → KnowsHeads self.old b → KnowsHeads self.new b }
-    {
-        if self.known.len() >= MOST_HEADS {
-            self.forget();
-        }
-    }
-
     fn keep(&mut self, run: RunId, head: Head)
         ensures { (b : Book) → head_at b.runs run ≡ Some head → KnowsHeads self.old b → KnowsHeads self.new b }
     {
@@ -198,7 +196,6 @@ impl Heads {
         ensures { (b : Book) → head_at b.runs run ≡ Some head → KnowsHeads self.old b → KnowsHeads self.new b }
     {
         if head.is_open {
-            self.make_room();
             self.keep(run, head);
         }
     }
@@ -224,6 +221,15 @@ impl Heads {
         self.put_if(run, head);
     }
 
+    /// One more run, which was read whole.
+    pub fn add_run(&mut self, run: RunId, whole: &Run)
+        ensures { (b : Book) → run ≡ length b.runs + 1 → KnowsHeads self.old b
+            → KnowsHeads self.new (record b { runs = b.runs ++ whole.now ∷ [] }) }
+    {
+        let head = read_head(self.alloc, whole);
+        self.put_if(run, head);
+    }
+
     /// One more run, with its first turn, under its number, if that is known.
     pub fn begin(
         &mut self,
@@ -233,7 +239,8 @@ impl Heads {
         text: TextNo,
         turn: &Turn,
     )
-        ensures { (b : Book) → IfSome next.now (λ n. n ≡ length b.runs + 1) → KnowsHeads self.old b → KnowsHeads self.new (changed b (AddRun flow.now request.now text turn.now)) }
+        ensures { (b : Book) → IfSome next.now (λ n. n ≡ length b.runs + 1) → KnowsHeads self.old b
+            → KnowsHeads self.new (changed b (AddRun flow.now request.now text turn.now)) }
     {
         match next {
             Some(run) => {

@@ -61,7 +61,8 @@ impl Numbers {
 
     /// A run has its key no more.
     fn remove(&mut self, key: &str)
-        ensures { (ks : List (Option Bytes)) → (n : _) → nth ks n ≡ Some (Some key.now) → Numbered self.old ks → Numbered self.new (slice_set ks (n - 1) None) }
+        ensures { (ks : List (Option Bytes)) → (n : _) → nth ks n ≡ Some (Some key.now) → Numbered self.old ks
+            → Numbered self.new (slice_set ks (n - 1) None) }
     {
         self.map.remove(key);
     }
@@ -136,7 +137,8 @@ impl Index {
 
     /// A run has its key no more.
     pub fn remove(&mut self, key: &str)
-        ensures { (ks : List (Option Bytes)) → (n : _) → nth ks n ≡ Some (Some key.now) → Lists self.old ks → Lists self.new (slice_set ks (n - 1) None) }
+        ensures { (ks : List (Option Bytes)) → (n : _) → nth ks n ≡ Some (Some key.now) → Lists self.old ks
+            → Lists self.new (slice_set ks (n - 1) None) }
     {
         if let Some(numbers) = &mut self.numbers {
             numbers.remove(key);

@@ -3,7 +3,9 @@
 #![tactic(auto)]
 
 pub mod agenda;
+pub mod calendar;
 pub mod calls;
+pub mod gathering;
 pub mod heads;
 pub mod index;
 mod left;

@@ -5,7 +5,7 @@ ghost use Rattle.flow_base.specs.declared.book.Run.{Run as ARun};
 ghost use Rattle.flow_base.specs.declared.book.Change.TheVariants.{AddRun, AddTurn};
 ghost use Rattle.flow_model.specs.Book as words;
 ghost use Rattle.flow_model.specs.Book.{Book, nth, changed};
-ghost use Rattle.flow_base.specs.declared.book.Task.{Task as ATask};
+ghost use Rattle.flow_base.specs.declared.book.OpenActivity.{OpenActivity as AnActivity};
 ghost use Rattle.flow_base.specs.declared.book.Timer.{Timer as ATimer};
 ghost use Rattle.flow_maps.specs.Agenda as plans;
 ghost use Rattle.flow_maps.specs.Agenda.{IsOf, replaced, one_if};
@@ -20,11 +20,11 @@ ghost use Rattle.flow_view.specs.Heads.{head_at, head_of, event_at};
 use crate::agenda::Agenda;
 use crate::heads::copied;
 use crate::index::Index;
-use crate::outlook::Outlook;
+use crate::outlook::BookWaits;
 use crate::records::Records;
 use crate::signals::Signals;
 use crate::turned::is_open_behind;
-use flow_base::book::{Change, Due, Run, Task, Timer, Turn};
+use flow_base::book::{Change, Due, OpenActivity, Run, Timer, Turn};
 use flow_base::event::Event;
 use flow_base::number::{EventId, Moment, RunId, TextNo};
 use flow_base::sequence::Sequence;
@@ -61,7 +61,9 @@ pub struct Maps {
 
 /// Another run in the place of one of this flow, which was open or not.
 fn put_row(flows: &mut Index, flow: &Key, was: bool, is_now: bool)
-    ensures { (b : Book) → (n : _) → (x : ARun) → (r : ARun) → nth b.runs n ≡ Some x → open_key x ≡ key_if was flow.now → open_key r ≡ key_if is_now flow.now → Lists flows.old (map open_key b.runs) → Lists flows.new (map open_key (slice_set b.runs (n - 1) r)) }
+    ensures { (b : Book) → (n : _) → (x : ARun) → (r : ARun) → nth b.runs n ≡ Some x → open_key x ≡ key_if was flow.now
+        → open_key r ≡ key_if is_now flow.now → Lists flows.old (map open_key b.runs)
+        → Lists flows.new (map open_key (slice_set b.runs (n - 1) r)) }
 {
     if is_now {
         if !was {
@@ -81,7 +83,8 @@ fn is_of(seen: &Seen, run: RunId) -> bool
 
 /// One turn more of a run.
 fn put_turn(flows: &mut Index, seen: &Option<Seen>, run: RunId, turn: &Turn)
-    ensures { (b : Book) → IsSeen seen.now b → Lists flows.old (map open_key b.runs) → Lists flows.new (map open_key (changed b (AddTurn run turn.now)).runs) }
+    ensures { (b : Book) → IsSeen seen.now b → Lists flows.old (map open_key b.runs)
+        → Lists flows.new (map open_key (changed b (AddTurn run turn.now)).runs) }
 {
     match seen {
         Some(read) => {
@@ -167,7 +170,8 @@ fn turn_records(records: &mut Records, seen: &Option<Seen>, run: RunId, turn: &T
 
 /// The same behind a change, where a new run has this number, if it is known.
 fn change_records(records: &mut Records, seen: &Option<Seen>, next: &Option<RunId>, change: &Change)
-    ensures { (b : Book) → IsSeen seen.now b → IfSome next.now (λ n. n ≡ length b.runs + 1) → KnowsRecords records.old b → KnowsRecords records.new (changed b change.now) }
+    ensures { (b : Book) → IsSeen seen.now b → IfSome next.now (λ n. n ≡ length b.runs + 1) → KnowsRecords records.old b
+        → KnowsRecords records.new (changed b change.now) }
 {
     match change {
         Change::AddText(_) => {}
@@ -259,8 +263,10 @@ impl Maps {
 
     /// One more run, by its row: the empty text stands for no request.
     pub fn add_row(&mut self, flow: &str, request: &str, is_open: bool)
-        ensures keys { (ks : List (Option Bytes)) → (fs : List (Option Bytes)) → AreKeys self.old ks fs → AreKeys self.new (ks ++ named request.now ∷ []) (fs ++ key_if is_open flow.now ∷ []) }
-        ensures awaits { (n o : ℕ) → (f : ℕ → List ATimer) → (g : ℕ → List ATask) → Awaits self.old n o f g → Awaits self.new (n + 1) (o + one_if is_open) f g }
+        ensures keys { (ks : List (Option Bytes)) → (fs : List (Option Bytes)) → AreKeys self.old ks fs
+            → AreKeys self.new (ks ++ named request.now ∷ []) (fs ++ key_if is_open flow.now ∷ []) }
+        ensures awaits { (n o : ℕ) → (f : ℕ → List ATimer) → (g : ℕ → List AnActivity) → Awaits self.old n o f g
+            → Awaits self.new (n + 1) (o + one_if is_open) f g }
         ensures records { self.new.records ≡ self.old.records }
         ensures sees { (b : Book) → Sees self.old b → Sees self.new b }
     {
@@ -280,16 +286,18 @@ impl Maps {
     /// One more open timer of a run, by its row.
     pub fn add_timer(&mut self, run: RunId, timer: &Timer)
         ensures keys { (ks : List (Option Bytes)) → (fs : List (Option Bytes)) → AreKeys self.old ks fs → AreKeys self.new ks fs }
-        ensures awaits { (n o : ℕ) → (f : ℕ → List ATimer) → (g : ℕ → List ATask) → Awaits self.old n o f g → Awaits self.new n o (replaced run (f run ++ timer.now ∷ []) f) g }
+        ensures awaits { (n o : ℕ) → (f : ℕ → List ATimer) → (g : ℕ → List AnActivity) → Awaits self.old n o f g
+            → Awaits self.new n o (replaced run (f run ++ timer.now ∷ []) f) g }
         ensures sees { (b : Book) → Sees self.old b → Sees self.new b }
     {
         self.agenda.add_timer(run, timer);
     }
 
     /// One more open activity of a run, by its row.
-    pub fn add_task(&mut self, run: RunId, task: &Task)
+    pub fn add_task(&mut self, run: RunId, task: &OpenActivity)
         ensures keys { (ks : List (Option Bytes)) → (fs : List (Option Bytes)) → AreKeys self.old ks fs → AreKeys self.new ks fs }
-        ensures awaits { (n o : ℕ) → (f : ℕ → List ATimer) → (g : ℕ → List ATask) → Awaits self.old n o f g → Awaits self.new n o f (replaced run (g run ++ task.now ∷ []) g) }
+        ensures awaits { (n o : ℕ) → (f : ℕ → List ATimer) → (g : ℕ → List AnActivity) → Awaits self.old n o f g
+            → Awaits self.new n o f (replaced run (g run ++ task.now ∷ []) g) }
         ensures sees { (b : Book) → Sees self.old b → Sees self.new b }
     {
         self.agenda.add_task(run, task);
@@ -298,7 +306,7 @@ impl Maps {
     /// What runs wait for and what they have taken isn't known any more.
     pub fn forget_histories(&mut self)
         ensures keys { (ks : List (Option Bytes)) → (fs : List (Option Bytes)) → AreKeys self.old ks fs → AreKeys self.new ks fs }
-        ensures awaits { (n o : ℕ) → (f : ℕ → List ATimer) → (g : ℕ → List ATask) → Awaits self.new n o f g }
+        ensures awaits { (n o : ℕ) → (f : ℕ → List ATimer) → (g : ℕ → List AnActivity) → Awaits self.new n o f g }
         ensures signals { (b : Book) → HasSignals self.new b }
         ensures records { self.new.records ≡ self.old.records }
         ensures sees { (b : Book) → Sees self.old b → Sees self.new b }
@@ -345,8 +353,10 @@ impl Maps {
 
     /// One more run.
     fn add(&mut self, flow: &Key, request: &Option<Key>, is_open: bool)
-        ensures keys { (b : Book) → (r : ARun) → r.request ≡ request.now → open_key r ≡ key_if is_open flow.now → AreRunKeys self.old b → AreRunKeys self.new (record b { runs = b.runs ++ r ∷ [] }) }
-        ensures same { (self.new.agenda ≡ self.old.agenda) × (self.new.seen ≡ self.old.seen) × (self.new.read ≡ self.old.read) × (self.new.signals ≡ self.old.signals) × (self.new.records ≡ self.old.records) }
+        ensures keys { (b : Book) → (r : ARun) → r.request ≡ request.now → open_key r ≡ key_if is_open flow.now → AreRunKeys self.old b
+            → AreRunKeys self.new (record b { runs = b.runs ++ r ∷ [] }) }
+        ensures same { (self.new.agenda ≡ self.old.agenda) × (self.new.seen ≡ self.old.seen) × (self.new.read ≡ self.old.read)
+            × (self.new.signals ≡ self.old.signals) × (self.new.records ≡ self.old.records) }
     {
         match request {
             Some(request) => self.requests.add(request.as_str()),
@@ -361,8 +371,10 @@ impl Maps {
 
     /// One more run, with the signals that it has taken.
     fn add_signals(&mut self, flow: &Key, history: &[Event])
-        ensures signals { (b : Book) → (r : ARun) → r.flow ≡ flow.now → r.history ≡ history.now → Serves self.old b → HasSignals self.new (record b { runs = b.runs ++ r ∷ [] }) }
-        ensures same { (self.new.requests ≡ self.old.requests) × (self.new.flows ≡ self.old.flows) × (self.new.agenda ≡ self.old.agenda) × (self.new.seen ≡ self.old.seen) × (self.new.read ≡ self.old.read) × (self.new.records ≡ self.old.records) }
+        ensures signals { (b : Book) → (r : ARun) → r.flow ≡ flow.now → r.history ≡ history.now → Serves self.old b
+            → HasSignals self.new (record b { runs = b.runs ++ r ∷ [] }) }
+        ensures same { (self.new.requests ≡ self.old.requests) × (self.new.flows ≡ self.old.flows) × (self.new.agenda ≡ self.old.agenda)
+            × (self.new.seen ≡ self.old.seen) × (self.new.read ≡ self.old.read) × (self.new.records ≡ self.old.records) }
     {
         match self.agenda.next_run() {
             Some(run) => self.signals.add_run(flow, run, history),
@@ -370,28 +382,45 @@ impl Maps {
         }
     }
 
-    /// One more run, open or not, with its history and its open timers and activities.
+    /// One more run, whose head and activities are known from now on, if it is open.
+    fn add_record(&mut self, whole: &Run, is_open: bool)
+        ensures records { (b : Book) → IsOf self.old.agenda b → HasRecords self.old b
+            → HasRecords self.new (record b { runs = b.runs ++ whole.now ∷ [] }) }
+        ensures same { (self.new.requests ≡ self.old.requests) × (self.new.flows ≡ self.old.flows) × (self.new.agenda ≡ self.old.agenda)
+            × (self.new.seen ≡ self.old.seen) × (self.new.read ≡ self.old.read) × (self.new.signals ≡ self.old.signals) }
+    {
+        if !is_open {
+            return;
+        }
+        match self.agenda.next_run() {
+            Some(run) => self.records.add_run(run, whole),
+            None => {}
+        }
+    }
+
+    /// One more run, open or not, which was read whole, with its open timers and activities.
     pub fn add_whole(
         &mut self,
-        flow: &Key,
-        request: &Option<Key>,
-        history: &[Event],
+        whole: &Run,
         is_open: bool,
         timers: Sequence<Timer>,
-        tasks: Sequence<Task>,
+        tasks: Sequence<OpenActivity>,
     )
-        ensures serves { (b : Book) → (r : ARun) → r.flow ≡ flow.now → r.request ≡ request.now → r.history ≡ history.now → is_open ≡ plans.is_open_run r → timers ≡ timers_of r → tasks ≡ r.tasks → Serves self.old b → Serves self.new (record b { runs = b.runs ++ r ∷ [] }) }
+        ensures serves { (b : Book) → is_open ≡ plans.is_open_run whole.now → timers ≡ timers_of whole.now → tasks ≡ whole.now.tasks
+            → Serves self.old b → Serves self.new (record b { runs = b.runs ++ whole.now ∷ [] }) }
         ensures sees { (b : Book) → Sees self.old b → Sees self.new b }
     {
-        self.add_signals(flow, history);
+        self.add_signals(&whole.flow, whole.history.as_slice());
+        self.add_record(whole, is_open);
         self.agenda.add_whole(is_open, timers, tasks);
-        self.add(flow, request, is_open);
+        self.add(&whole.flow, &whole.request, is_open);
     }
 
     /// One more run, with its first turn.
     fn add_run(&mut self, flow: &Key, request: &Option<Key>, text: TextNo, turn: &Turn)
         ensures keys { (b : Book) → AreRunKeys self.old b → AreRunKeys self.new (changed b (AddRun flow.now request.now text turn.now)) }
-        ensures same { (self.new.agenda ≡ self.old.agenda) × (self.new.seen ≡ self.old.seen) × (self.new.read ≡ self.old.read) × (self.new.signals ≡ self.old.signals) × (self.new.records ≡ self.old.records) }
+        ensures same { (self.new.agenda ≡ self.old.agenda) × (self.new.seen ≡ self.old.seen) × (self.new.read ≡ self.old.read)
+            × (self.new.signals ≡ self.old.signals) × (self.new.records ≡ self.old.records) }
     {
         self.add(flow, request, is_open_behind(false, turn));
     }
@@ -480,11 +509,11 @@ impl Maps {
         self.agenda.least_due(at)
     }
 
-    /// All that the book waits for, if that is known and there is memory for the list.
-    pub fn outlook(&self) -> Option<Outlook>
-        ensures { IfSome result (λ v. (b : Book) → Serves self.now b → v ≡ outlook_of b) }
+    /// What the book waits for at a moment, if that is known and there is memory for the list.
+    pub fn outlook(&self, at: Moment) -> Option<BookWaits>
+        ensures { IfSome result (λ v. (b : Book) → Serves self.now b → v ≡ outlook_of at b) }
     {
-        self.agenda.outlook()
+        self.agenda.outlook(at)
     }
 
     /// Where the signal of a request is recorded in the runs of a flow, if that is known.

@@ -1,5 +1,5 @@
-//! What is known of single runs and texts, each by its number: the head of a run and the event of its last activity, and texts.
-ghost use Rattle.std.specs.Prelude.{◌≡◌, ◌+◌, IfSome, Some, length};
+//! What is known of single runs and texts: the heads of open runs, the events that scheduled their open activities, and texts.
+ghost use Rattle.std.specs.Prelude.{◌≡◌, ◌+◌, ◌++◌, ◌∷◌, [], IfSome, Some, length};
 ghost use Rattle.flow_base.specs.declared.book.Change.TheVariants.{AddRun, AddTurn, SetAttempt, SetText};
 ghost use Rattle.flow_model.specs.Book.{Book, nth, changed};
 ghost use Rattle.flow_maps.specs.KnownRecords.{KnowsRecords};
@@ -7,20 +7,20 @@ ghost use Rattle.flow_view.specs.Heads.{head_at, event_at};
 
 use crate::calls::Calls;
 use crate::heads::Heads;
-use crate::texts::Texts;
-use flow_base::book::Turn;
+use crate::texts::TextBodies;
+use flow_base::book::{Run, Turn};
 use flow_base::event::Event;
 use flow_base::number::{EventId, Moment, RunId, TextNo};
 use flow_base::text::{Key, RawText};
 use flow_view::head::Head;
 use std::alloc::Global;
 
-/// Heads and last activities of runs, and texts.
+/// Heads and activities of open runs, and texts.
 #[derive(Drop)]
 pub struct Records {
     heads: Heads,
     calls: Calls,
-    texts: Texts,
+    texts: TextBodies,
 }
 
 impl Records {
@@ -31,7 +31,7 @@ impl Records {
         Records {
             heads: Heads::new(alloc),
             calls: Calls::new(alloc),
-            texts: Texts::new(alloc),
+            texts: TextBodies::new(alloc),
         }
     }
 
@@ -77,6 +77,15 @@ impl Records {
         self.texts.keep(number, body);
     }
 
+    /// One more run, which was read whole.
+    pub fn add_run(&mut self, run: RunId, whole: &Run)
+        ensures { (b : Book) → run ≡ length b.runs + 1 → KnowsRecords self.old b
+            → KnowsRecords self.new (record b { runs = b.runs ++ whole.now ∷ [] }) }
+    {
+        self.heads.add_run(run, whole);
+        self.calls.add_run(run, whole);
+    }
+
     /// One more run, with its first turn, under its number, if that is known.
     pub fn begin(
         &mut self,
@@ -86,7 +95,8 @@ impl Records {
         text: TextNo,
         turn: &Turn,
     )
-        ensures { (b : Book) → IfSome next.now (λ n. n ≡ length b.runs + 1) → KnowsRecords self.old b → KnowsRecords self.new (changed b (AddRun flow.now request.now text turn.now)) }
+        ensures { (b : Book) → IfSome next.now (λ n. n ≡ length b.runs + 1) → KnowsRecords self.old b
+            → KnowsRecords self.new (changed b (AddRun flow.now request.now text turn.now)) }
     {
         self.heads.begin(next, flow, request, text, turn);
         self.calls.begin(next, turn);
@@ -101,11 +111,12 @@ impl Records {
 
     /// A turn more of a run whose head was read.
     pub fn go_on_from(&mut self, run: RunId, head: &Head, turn: &Turn)
-        ensures { (b : Book) → head_at b.runs run ≡ Some head.now → KnowsRecords self.old b → KnowsRecords self.new (changed b (AddTurn run turn.now)) }
+        ensures { (b : Book) → head_at b.runs run ≡ Some head.now → KnowsRecords self.old b
+            → KnowsRecords self.new (changed b (AddTurn run turn.now)) }
     {
         self.heads.learn(run, head);
         self.heads.go_on(run, turn);
-        self.calls.go_on(run, head.events, turn);
+        self.calls.go_on(run, head, turn);
     }
 
     /// An open activity is at another attempt.

@@ -16,7 +16,7 @@ const MOST_BYTES: usize = 1_048_576;
 
 /// Texts by their numbers.
 #[derive(Drop)]
-pub struct Texts {
+pub struct TextBodies {
     alloc: Global,
     known: BTreeMap<u64, RawText>,
     /// How many bytes they have.
@@ -39,12 +39,12 @@ fn insert(known: &mut BTreeMap<u64, RawText>, number: TextNo, body: RawText) -> 
     known.insert(number.get(), body).is_ok()
 }
 
-impl Texts {
+impl TextBodies {
     /// None is known.
-    pub fn new(alloc: Global) -> Texts
+    pub fn new(alloc: Global) -> TextBodies
         ensures { (b : Book) → KnowsTexts result b }
     {
-        Texts {
+        TextBodies {
             alloc,
             known: BTreeMap::new(alloc),
             bytes: 0,

@@ -14,7 +14,7 @@ use Rattle.flow_base.specs.declared.event.What.TheVariants.{Came, Asked}
 use Rattle.flow_base.specs.declared.event.Event.{Event}
 use Rattle.flow_base.specs.declared.event.State.{State}
 use Rattle.flow_base.specs.declared.event.State.TheVariants as state
-use Rattle.flow_base.specs.declared.book.Task.{Task}
+use Rattle.flow_base.specs.declared.book.OpenActivity.{OpenActivity}
 use Rattle.flow_model.specs.Configuration.{Configuration, first_configuration, is_open}
 use Rattle.flow_model.specs.Deliver.{Progress, deliver, begun}
 use Rattle.flow_model.specs.Turn.{Recorded, is_started}
@@ -37,7 +37,7 @@ StartsOnce [] = Unit {0}
 StartsOnce (e ∷ es) = (is_start e.what ≡ true) × StartNone es
 
 -- a run that isn't open has no open activities
-abbrev pub NoneLeft : State → List Task → Type 0
+abbrev pub NoneLeft : State → List OpenActivity → Type 0
 NoneLeft s ts = is_open s ≡ false → ts ≡ []
 
 ---- One event
@@ -73,14 +73,14 @@ one_begun s id at (Asked (Complete v)) h = refl
 one_begun s id at (Asked (Fail c t)) h = refl
 one_begun s id at (Asked (ContinueAsNew vs)) h = refl
 
-not_closed : (s : State) (ts : List Task) → is_open s ≡ true → NoneLeft s ts
+not_closed : (s : State) (ts : List OpenActivity) → is_open s ≡ true → NoneLeft s ts
 not_closed s ts o c = absurd (true≢false (sym o ∙ c))
 
-one_left : (s : State) (ts : List Task) (id at : ℕ) (w : What) → FitsState s w → NoneLeft s ts → NoneLeft (state_after_one s (told id at w)) (tasks_after_one ts (told id at w))
+one_left : (s : State) (ts : List OpenActivity) (id at : ℕ) (w : What) → FitsState s w → NoneLeft s ts → NoneLeft (state_after_one s (told id at w)) (tasks_after_one ts (told id at w))
 one_left s ts id at (Came (input.Started vs)) f h = not_closed state.Open ts refl
 one_left s ts id at (Came (input.Signaled a r v)) f h = h
-one_left s ts id at (Came (input.ActivityCompleted n v)) f h = λ c. ap (λ (us : List Task). tasks_after_one us (told id at (Came (input.ActivityCompleted n v)))) (h c)
-one_left s ts id at (Came (input.ActivityFailed n t)) f h = λ c. ap (λ (us : List Task). tasks_after_one us (told id at (Came (input.ActivityFailed n t)))) (h c)
+one_left s ts id at (Came (input.ActivityCompleted n v)) f h = λ c. ap (λ (us : List OpenActivity). tasks_after_one us (told id at (Came (input.ActivityCompleted n v)))) (h c)
+one_left s ts id at (Came (input.ActivityFailed n t)) f h = λ c. ap (λ (us : List OpenActivity). tasks_after_one us (told id at (Came (input.ActivityFailed n t)))) (h c)
 one_left s ts id at (Came (input.TimerFired n)) f h = h
 one_left s ts id at (Came (input.Terminated t)) f h = λ c. refl
 one_left s ts id at (Asked (Schedule a vs n m k)) f h = not_closed s (tasks_after_one ts (told id at (Asked (Schedule a vs n m k)))) f
@@ -131,7 +131,7 @@ start_opens s e (Asked c) h is = absurd (true≢false (sym is))
 ---- Histories
 
 -- Events of a run that has begun: none starts it, and where they leave it closed they leave nothing open.
-leads_keep : (p : Program) (n : ℕ) (due : List Cmd) (k : Configuration) (h : List Event) (k' : Configuration) (s : State) (ts : List Task)
+leads_keep : (p : Program) (n : ℕ) (due : List Cmd) (k : Configuration) (h : List Event) (k' : Configuration) (s : State) (ts : List OpenActivity)
     → TriedBlock p.body → TriedRest k.rest → states_asked s due ≡ k.state → AskedOpen s due → has_begun s ≡ true → NoneLeft s ts → Leads p n due k h k'
     → StartNone h × NoneLeft (state_after s h) (tasks_after ts h)
 leads_keep p n due k [] k' s ts b t e going begun left l = (tt, left)

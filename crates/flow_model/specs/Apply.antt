@@ -9,7 +9,7 @@ use Rattle.flow_base.specs.declared.event.Input.TheVariants.{Started, Signaled, 
 use Rattle.flow_base.specs.declared.event.What.TheVariants.{Came, Asked}
 use Rattle.flow_base.specs.declared.event.Event.{Event}
 use Rattle.flow_base.specs.declared.event.Wrong.{Wrong}
-use Rattle.flow_base.specs.declared.book.Task.{Task}
+use Rattle.flow_base.specs.declared.book.OpenActivity.{OpenActivity}
 use Rattle.flow_base.specs.declared.book.Timer.{Timer}
 use Rattle.flow_base.specs.declared.book.Due.{Due}
 use Rattle.flow_base.specs.declared.book.Run.{Run}
@@ -152,11 +152,11 @@ input_recorded u b r run at i = if_sound (program_at u.program_of b r.text) (λ 
 -- Reports of activities.
 
 -- the open activity of an event
-abbrev pub task_at : List Task → ℕ → Option Task
+abbrev pub task_at : List OpenActivity → ℕ → Option OpenActivity
 task_at [] n = None
 task_at (t ∷ ts) n = if nat_eq t.event n then Some t else task_at ts n
 
-abbrev pub on_task : Option Task → (Task → Option Code) → Option Code
+abbrev pub on_task : Option OpenActivity → (OpenActivity → Option Code) → Option Code
 on_task None next = Some NotOpen
 on_task (Some t) next = next t
 
@@ -328,7 +328,7 @@ describe b run =
       text = r.text;
       state = state_of r.history;
       events = length r.history;
-      activities = map (λ (t : Task). t.event) r.tasks;
+      activities = map (λ (t : OpenActivity). t.event) r.tasks;
       timers = map (λ (t : Timer). t.id) (timers_left r.history);
     })))
 
@@ -338,7 +338,7 @@ history b run = must_be (nth b.runs run) NoRun (λ r. says (reply.History r.hist
 -- Open runs, listed.
 
 -- an open activity with its name; in a sound book its event always schedules one
-abbrev pub named_by : Task → Option Event → Option OpenTask
+abbrev pub named_by : OpenActivity → Option Event → Option OpenTask
 named_by t None = None
 named_by t (Some e) =
     elim e.what [
@@ -350,7 +350,7 @@ abbrev pub with_named : Option OpenTask → List OpenTask → List OpenTask
 with_named None ts = ts
 with_named (Some t) ts = t ∷ ts
 
-abbrev pub named_tasks : List Event → List Task → List OpenTask
+abbrev pub named_tasks : List Event → List OpenActivity → List OpenTask
 named_tasks h [] = []
 named_tasks h (t ∷ ts) = with_named (named_by t (nth h t.event)) (named_tasks h ts)
 

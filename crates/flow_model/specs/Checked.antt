@@ -7,7 +7,7 @@ use Rattle.flow_base.specs.declared.command.TextFault.{TextFault}
 use Rattle.flow_model.specs.declared.checked.Checked.{Checked}
 
 abbrev pub shown_checked : Checked → tree.Program
-shown_checked c = shown_program c.program
+shown_checked c = shown_program c.tabled.program
 
 -- whether a text is a program, by what texts mean
 abbrev pub is_program_by : (Bytes → Result tree.Program TextFault) → Bytes → Bool

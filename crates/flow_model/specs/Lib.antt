@@ -11,6 +11,7 @@ pub mod Weights
 pub mod Turned
 pub mod Verdict
 pub mod WellFormed
+pub mod Tabled
 pub mod Tokens
 pub mod Book
 pub mod Apply

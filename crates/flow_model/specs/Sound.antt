@@ -4,7 +4,7 @@ use Rattle.flow_base.specs.Syntax.{Bytes, Program}
 use Rattle.flow_base.specs.declared.event.Cmd.TheVariants.{Schedule}
 use Rattle.flow_base.specs.declared.event.What.TheVariants.{Asked}
 use Rattle.flow_base.specs.declared.event.Event.{Event}
-use Rattle.flow_base.specs.declared.book.Task.{Task}
+use Rattle.flow_base.specs.declared.book.OpenActivity.{OpenActivity}
 use Rattle.flow_base.specs.declared.book.Run.{Run}
 use Rattle.flow_model.specs.Configuration.{Configuration, is_open}
 use Rattle.flow_model.specs.Stands.{Stands}
@@ -13,7 +13,7 @@ use Rattle.flow_model.specs.Book.{Book, nth}
 use Rattle.flow_model.specs.Apply.{Rules, program_at}
 
 -- An open activity has an attempt from 1 to the number of times that it is tried.
-pub record IsSoundTask (r : Run) (t : Task) : Type 0 where
+pub record IsSoundTask (r : Run) (t : OpenActivity) : Type 0 where
   pub first : 1 ≤ t.attempt
   pub event : Event
   pub scheduled : nth r.history t.event ≡ Some event
@@ -27,7 +27,7 @@ pub record IsSoundRun (u : Rules) (b : Book) (r : Run) : Type 0 where
   pub its_text : program_at u.program_of b r.text ≡ Some program
   pub place : Configuration
   pub stands : Stands program r.history place
-  pub activities : map (λ (t : Task). t.event) r.tasks ≡ map (λ (t : Task). t.event) (open_activities r.history)
+  pub activities : map (λ (t : OpenActivity). t.event) r.tasks ≡ map (λ (t : OpenActivity). t.event) (open_activities r.history)
   pub attempts : All (IsSoundTask r) r.tasks
 
 -- Each run is sound, and at most one run of a flow is open.

@@ -4,7 +4,7 @@ use Rattle.std.specs.List.{AllByRecursion}
 use Rattle.flow_base.specs.Syntax.{Bytes}
 use Rattle.flow_base.specs.declared.value.Value.{Value}
 use Rattle.flow_base.specs.declared.book.Run.{Run}
-use Rattle.flow_base.specs.declared.book.Task.{Task}
+use Rattle.flow_base.specs.declared.book.OpenActivity.{OpenActivity}
 use Rattle.flow_base.specs.declared.command.Command.{Command}
 use Rattle.flow_base.specs.declared.command.Command.TheVariants as command
 use Rattle.flow_base.specs.declared.command.Reply.{Reply}
@@ -19,7 +19,7 @@ pub record Attempt : Type 0 where
   pub event : ℕ
   pub attempt : ℕ
 
-abbrev pub is_at_attempt : ℕ → Option Task → Bool
+abbrev pub is_at_attempt : ℕ → Option OpenActivity → Bool
 is_at_attempt n None = false
 is_at_attempt n (Some t) = nat_eq t.attempt n
 

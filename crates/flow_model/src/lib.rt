@@ -4,4 +4,5 @@
 pub mod checked;
 pub mod kinds;
 pub mod laws;
+mod tabled;
 pub mod texts;

@@ -11,8 +11,8 @@ use Rattle.flow_model.specs.Rest.{Rest, Done, OnActivity, OnTimer, OnSignal, OnS
 use Rattle.flow_model.specs.Deliver.{replaced, map_rest, or_rest, target_of, when_completed, when_failed, when_fired}
 use Rattle.flow_patch.specs.Wrap.{joined, Patching, changed, changed_otherwise}
 use Rattle.flow_run.specs.Shown.{waits_of}
-use Rattle.flow_run.specs.declared.rest.OpenWait.{OpenWait}
-use Rattle.flow_run.specs.declared.rest.OpenWait.TheVariants as wait
+use Rattle.flow_run.specs.declared.waits.OpenWait.{OpenWait}
+use Rattle.flow_run.specs.declared.waits.OpenWait.TheVariants as wait
 use Rattle.flow_patch.proofs.Normal.{cases, both, behind, beside, flat, norm, behind_twice, flat_norm}
 
 done_waits : (r : Rest) → is_done r ≡ true → waits_of r ≡ []

@@ -86,7 +86,8 @@ fn compare_declarations(
     behind: usize,
 ) -> Result<(), usize>
     ensures same { OnOk result (difference_of_declarations (map shown_declaration old.now) (map shown_declaration new.now) behind ≡ None) }
-    ensures place { IfErr result (λ at. difference_of_declarations (map shown_declaration old.now) (map shown_declaration new.now) behind ≡ Some at) }
+    ensures place { IfErr result (λ at. difference_of_declarations (map shown_declaration old.now)
+        (map shown_declaration new.now) behind ≡ Some at) }
 {
     let mut rest = new;
     for declaration in old {
@@ -106,7 +107,8 @@ fn compare_declarations(
 /// The new text may not lack a declaration, nor have one more, and then goes on at a place.
 fn compare_all(old: &[Declaration], new: &[Declaration], behind: usize) -> Result<(), usize>
     ensures same { OnOk result (difference_of_all (map shown_declaration old.now) (map shown_declaration new.now) behind ≡ None) }
-    ensures place { IfErr result (λ at. difference_of_all (map shown_declaration old.now) (map shown_declaration new.now) behind ≡ Some at) }
+    ensures place { IfErr result (λ at. difference_of_all (map shown_declaration old.now)
+        (map shown_declaration new.now) behind ≡ Some at) }
 {
     let mut rest = new;
     for declaration in old {
@@ -139,7 +141,8 @@ fn beginning(body: &[Stmt], end: usize) -> usize
 /// The new body ends at a brace.
 fn compare_bodies(old: &[Stmt], new: &[Stmt], end: usize) -> Result<(), usize>
     ensures same { OnOk result (ended (behind (unknown_in (shown_block old.now)) (shown_block new.now) (shown_block old.now)) end ≡ None) }
-    ensures place { IfErr result (λ at. ended (behind (unknown_in (shown_block old.now)) (shown_block new.now) (shown_block old.now)) end ≡ Some at) }
+    ensures place { IfErr result (λ at. ended (behind (unknown_in (shown_block old.now)) (shown_block new.now)
+        (shown_block old.now)) end ≡ Some at) }
 {
     let rest = behind(new, old, old)?;
     match rest.split_first() {

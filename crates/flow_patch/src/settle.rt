@@ -20,13 +20,16 @@ use std::alloc::Global;
 /// E01; E58 at the place where the new text first differs.
 pub fn settle(alloc: Global, old: &Checked, new: &Checked) -> Result<Vec<Key>, Unsettled>
     ensures ids { IfOk result (λ ids. ids.items ≡ settled_ids (shown_checked old.now) (shown_checked new.now)) }
-    ensures settles { OnOk result (Settles (is_among (settled_ids (shown_checked old.now) (shown_checked new.now))) (shown_checked old.now) (shown_checked new.now)) }
-    ensures same { OnOk result (first_unsettled (is_among (settled_ids (shown_checked old.now) (shown_checked new.now))) (shown_checked old.now) (shown_checked new.now) ≡ None) }
+    ensures settles { OnOk result (Settles (is_among (settled_ids (shown_checked old.now) (shown_checked new.now))) (shown_checked old.now)
+        (shown_checked new.now)) }
+    ensures same { OnOk result (first_unsettled (is_among (settled_ids (shown_checked old.now) (shown_checked new.now)))
+        (shown_checked old.now) (shown_checked new.now) ≡ None) }
     // E58 comes where the new text settles nothing of the old one, at the first difference.
     ensures refused { IfErr result (λ e. SaysUnsettled (shown_checked old.now) (shown_checked new.now) e) }
     // What stands under the old text and took none of the second lists stands under the new one, and nobody who sends commands
     // sees a difference.
-    ensures stands { OnOk result (KeepsAnswered (is_among (settled_ids (shown_checked old.now) (shown_checked new.now))) (shown_checked old.now) (shown_checked new.now)) }
+    ensures stands { OnOk result (KeepsAnswered (is_among (settled_ids (shown_checked old.now) (shown_checked new.now)))
+        (shown_checked old.now) (shown_checked new.now)) }
 {
     let ids = settled_ids(alloc, old.program(), new.program())?;
     match compare_settled(old.program(), new.program(), ids.as_slice()) {

@@ -97,7 +97,8 @@ fn add_beside(
     text: &[Stmt],
     ids: &mut Vec<Key>,
 ) -> Result<(), AllocError>
-    ensures { OnOk result (ids.new.items ≡ ids.old.items ++ ids_beside (patched_by (shown_block text.now)) (branches_of (map shown_branch branches.now))) }
+    ensures { OnOk result (ids.new.items ≡ ids.old.items ++ ids_beside (patched_by (shown_block text.now))
+        (branches_of (map shown_branch branches.now))) }
 {
     for branch in branches {
         add_block(alloc, &branch.body, text, ids)?;

@@ -77,7 +77,8 @@ fn behind_deprecated<'a>(id: &Key, new: &'a [Stmt], end: usize) -> Result<&'a [S
 /// The place where the new list first differs.
 #[cycle(settles)]
 fn left<'a>(old: &[Stmt], new: &'a [Stmt], end: usize, ids: &[Key]) -> Result<&'a [Stmt], usize>
-    ensures left { IfOk result (λ rest. left (is_among ids.now) (shown_block old.now) (shown_block new.now) end ≡ Ok (shown_block rest.now)) }
+    ensures left { IfOk result (λ rest. left (is_among ids.now) (shown_block old.now) (shown_block new.now) end ≡ Ok
+        (shown_block rest.now)) }
     ensures place { IfErr result (λ at. left (is_among ids.now) (shown_block old.now) (shown_block new.now) end ≡ Err at) }
 {
     let mut rest = new;
@@ -94,7 +95,8 @@ fn left_statement<'a>(
     end: usize,
     ids: &[Key],
 ) -> Result<&'a [Stmt], usize>
-    ensures left { IfOk result (λ rest. left_statement (is_among ids.now) (shown_stmt old.now) (shown_block new.now) end ≡ Ok (shown_block rest.now)) }
+    ensures left { IfOk result (λ rest. left_statement (is_among ids.now) (shown_stmt old.now) (shown_block new.now) end ≡ Ok
+        (shown_block rest.now)) }
     ensures place { IfErr result (λ at. left_statement (is_among ids.now) (shown_stmt old.now) (shown_block new.now) end ≡ Err at) }
 {
     if let Stmt::Patch(_, _, id, since, _) = old {
@@ -186,8 +188,10 @@ pub(crate) fn compare_lists(
 /// Compares branches, of which the block of the new ones ends there.
 #[cycle(settles)]
 fn compare_branches(old: &[Branch], new: &[Branch], end: usize, ids: &[Key]) -> Result<(), usize>
-    ensures same { OnOk result (left_beside (is_among ids.now) (branches_of (map shown_branch old.now)) (branches_of (map shown_branch new.now)) end ≡ None) }
-    ensures place { IfErr result (λ at. left_beside (is_among ids.now) (branches_of (map shown_branch old.now)) (branches_of (map shown_branch new.now)) end ≡ Some at) }
+    ensures same { OnOk result (left_beside (is_among ids.now) (branches_of (map shown_branch old.now))
+        (branches_of (map shown_branch new.now)) end ≡ None) }
+    ensures place { IfErr result (λ at. left_beside (is_among ids.now) (branches_of (map shown_branch old.now))
+        (branches_of (map shown_branch new.now)) end ≡ Some at) }
 {
     let mut rest = new;
     for branch in old {

@@ -63,7 +63,8 @@ pub(crate) fn second_list(statement: &Stmt) -> &[Stmt]
 /// The place where the new list first differs.
 #[cycle(walks)]
 pub(crate) fn behind<'a>(new: &[Stmt], old: &'a [Stmt], text: &[Stmt]) -> Result<&'a [Stmt], usize>
-    ensures left { IfOk result (λ rest. behind (unknown_in (shown_block text.now)) (shown_block new.now) (shown_block old.now) ≡ Ok (shown_block rest.now)) }
+    ensures left { IfOk result (λ rest. behind (unknown_in (shown_block text.now)) (shown_block new.now) (shown_block old.now) ≡ Ok
+        (shown_block rest.now)) }
     ensures place { IfErr result (λ at. behind (unknown_in (shown_block text.now)) (shown_block new.now) (shown_block old.now) ≡ Err at) }
 {
     let mut rest = old;
@@ -75,8 +76,10 @@ pub(crate) fn behind<'a>(new: &[Stmt], old: &'a [Stmt], text: &[Stmt]) -> Result
 
 #[cycle(walks)]
 fn behind_statement<'a>(new: &Stmt, old: &'a [Stmt], text: &[Stmt]) -> Result<&'a [Stmt], usize>
-    ensures left { IfOk result (λ rest. behind_statement (unknown_in (shown_block text.now)) (shown_stmt new.now) (shown_block old.now) ≡ Ok (shown_block rest.now)) }
-    ensures place { IfErr result (λ at. behind_statement (unknown_in (shown_block text.now)) (shown_stmt new.now) (shown_block old.now) ≡ Err at) }
+    ensures left { IfOk result (λ rest. behind_statement (unknown_in (shown_block text.now)) (shown_stmt new.now)
+        (shown_block old.now) ≡ Ok (shown_block rest.now)) }
+    ensures place { IfErr result (λ at. behind_statement (unknown_in (shown_block text.now)) (shown_stmt new.now)
+        (shown_block old.now) ≡ Err at) }
 {
     if let Stmt::Patch(_, _, id, _, before) = new {
         if !has_patch(text, id, true) {
@@ -131,8 +134,10 @@ fn compare_within(new: &Stmt, old: &Stmt, text: &[Stmt]) -> Result<(), usize>
 /// Compares two lists, the new one with the brace that ends it.
 #[cycle(walks)]
 fn compare_lists(new: &Block, old: &[Stmt], text: &[Stmt]) -> Result<(), usize>
-    ensures same { OnOk result (ended (behind (unknown_in (shown_block text.now)) (shown_braced new.now).0 (shown_block old.now)) (shown_braced new.now).1 ≡ None) }
-    ensures place { IfErr result (λ at. ended (behind (unknown_in (shown_block text.now)) (shown_braced new.now).0 (shown_block old.now)) (shown_braced new.now).1 ≡ Some at) }
+    ensures same { OnOk result (ended (behind (unknown_in (shown_block text.now)) (shown_braced new.now).0 (shown_block old.now))
+        (shown_braced new.now).1 ≡ None) }
+    ensures place { IfErr result (λ at. ended (behind (unknown_in (shown_block text.now)) (shown_braced new.now).0 (shown_block old.now))
+        (shown_braced new.now).1 ≡ Some at) }
 {
     let rest = behind(new.list.as_slice(), old, text)?;
     match rest.split_first() {
@@ -144,8 +149,10 @@ fn compare_lists(new: &Block, old: &[Stmt], text: &[Stmt]) -> Result<(), usize>
 /// Compares branches whose block ends at a brace: where the new text has fewer, it is told there.
 #[cycle(walks)]
 fn compare_branches(new: &[Branch], old: &[Branch], end: usize, text: &[Stmt]) -> Result<(), usize>
-    ensures same { OnOk result (within_beside (unknown_in (shown_block text.now)) (branches_of (map shown_branch new.now)) (branches_of (map shown_branch old.now)) end ≡ None) }
-    ensures place { IfErr result (λ at. within_beside (unknown_in (shown_block text.now)) (branches_of (map shown_branch new.now)) (branches_of (map shown_branch old.now)) end ≡ Some at) }
+    ensures same { OnOk result (within_beside (unknown_in (shown_block text.now)) (branches_of (map shown_branch new.now))
+        (branches_of (map shown_branch old.now)) end ≡ None) }
+    ensures place { IfErr result (λ at. within_beside (unknown_in (shown_block text.now)) (branches_of (map shown_branch new.now))
+        (branches_of (map shown_branch old.now)) end ≡ Some at) }
 {
     let mut rest = old;
     for branch in new {

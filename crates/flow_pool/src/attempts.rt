@@ -15,7 +15,8 @@ use std::thread;
 // Where the first activity of this name stands.
 fn place_of<A: Activity>(activities: &[A], name: &str) -> Option<usize>
     ensures none { IfNone result (first_named A.named name.now activities.now ≡ None) }
-    ensures some { IfSome result (λ i. (i < length activities.now) × (first_named A.named name.now activities.now ≡ slice_get activities.now i)) }
+    ensures some { IfSome result (λ i. (i < length activities.now)
+        × (first_named A.named name.now activities.now ≡ slice_get activities.now i)) }
 {
     'places: for i in 0..activities.len() {
         if activities[i].name() == name {
@@ -48,8 +49,10 @@ fn attempted<A: Activity>(
     task: &Task,
 ) -> Result<Attempt, AllocError>
     ensures comes { IfOk result (λ a. MayCome A.named A.gives activities.old.items task.now a) }
-    ensures keeps { (t : Task) (a : Attempt) → MayCome A.named A.gives activities.new.items t a → MayCome A.named A.gives activities.old.items t a }
-    ensures named { (name : List ℕ) → is_some (first_named A.named name activities.new.items) ≡ is_some (first_named A.named name activities.old.items) }
+    ensures keeps { (t : Task) (a : Attempt) → MayCome A.named A.gives activities.new.items t a
+        → MayCome A.named A.gives activities.old.items t a }
+    ensures named { (name : List ℕ) → is_some (first_named A.named name activities.new.items) ≡ is_some
+        (first_named A.named name activities.old.items) }
 {
     match place_of(activities.as_slice(), task.activity.as_str()) {
         Some(i) => activities[i].run(alloc, task),
@@ -65,8 +68,10 @@ pub(crate) fn attempt<R: Wait, A: Activity>(
     task: &Task,
 ) -> Attempt
     ensures comes { MayCome A.named A.gives activities.old.items task.now result }
-    ensures keeps { (t : Task) (a : Attempt) → MayCome A.named A.gives activities.new.items t a → MayCome A.named A.gives activities.old.items t a }
-    ensures named { (name : List ℕ) → is_some (first_named A.named name activities.new.items) ≡ is_some (first_named A.named name activities.old.items) }
+    ensures keeps { (t : Task) (a : Attempt) → MayCome A.named A.gives activities.new.items t a
+        → MayCome A.named A.gives activities.old.items t a }
+    ensures named { (name : List ℕ) → is_some (first_named A.named name activities.new.items) ≡ is_some
+        (first_named A.named name activities.old.items) }
 {
     'tries: for _ in rt.forever() {
         if let Ok(attempt) = attempted(alloc, activities, task) {

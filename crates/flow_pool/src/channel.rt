@@ -5,7 +5,7 @@ ghost use Rattle.flow_pool.specs.Orders.{back_of, Delivers, WasEmpty};
 ghost use Rattle.flow_pool.specs.Ends.{put_by, made_by, back_at, came_back, known_by, number_of, taken_by, AreOne, IsOpenTo, IsSameEnd, IsSameFeed};
 
 use crate::ends::{Door, TaskReceiver, TaskSender, receiver, sender, with_task};
-use crate::hand::{Learnt, Makes, Puts, Returns, Takes, Tells};
+use crate::hand::{AddsWorker, Learnt, Puts, Returns, Takes, Tells};
 use crossbeam_channel::{SendError, bounded_with};
 use flow_machine::task::Task;
 use std::alloc::{AllocError, Global};
@@ -32,14 +32,15 @@ impl TaskSender {
         ensures returned { came_back self.new ≡ came_back self.old }
     {
         let end = door.end.try_clone()?;
-        let pass = self.end.another::<Makes>(&mut self.pass);
+        let pass = self.end.another::<AddsWorker>(&mut self.pass);
         Ok(receiver(end, pass))
     }
 
     /// Puts a task behind all that were put. It comes back where no worker is left.
     pub fn put<R: Wait>(&mut self, rt: &R, task: Task) -> Result<(), Task>
         ensures put { OnOk result ((put_by self.new ≡ put_by self.old ++ task ∷ []) × (came_back self.new ≡ came_back self.old)) }
-        ensures back { IfErr result (λ t. (t ≡ task) × (put_by self.new ≡ put_by self.old) × (came_back self.new ≡ came_back self.old ++ task ∷ [])) }
+        ensures back { IfErr result (λ t. (t ≡ task) × (put_by self.new ≡ put_by self.old)
+            × (came_back self.new ≡ came_back self.old ++ task ∷ [])) }
         ensures same { IsSameFeed self.old self.new × (made_by self.new ≡ made_by self.old) × (back_at self.new ≡ back_at self.old) }
     {
         match self.end.send_as::<Puts, R>(rt, &mut self.pass, task) {
@@ -67,7 +68,8 @@ impl TaskSender {
     /// taken by one worker, and those of a worker that came back are all that it took.
     pub fn settle(&mut self)
         ensures delivers { Delivers (put_by self.new) (made_by self.new) (back_at self.new) }
-        ensures same { IsSameFeed self.old self.new × (put_by self.new ≡ put_by self.old) × (made_by self.new ≡ made_by self.old) × (back_at self.new ≡ back_at self.old) }
+        ensures same { IsSameFeed self.old self.new × (put_by self.new ≡ put_by self.old) × (made_by self.new ≡ made_by self.old)
+            × (back_at self.new ≡ back_at self.old) }
         ensures returned { came_back self.new ≡ came_back self.old }
     {
         self.end.learn_as::<Learnt>(&mut self.pass);

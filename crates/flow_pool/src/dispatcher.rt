@@ -8,7 +8,7 @@ use flow_machine::task::Task;
 use std::sync::Wait;
 
 /// Gives the tasks that were posted, as the hub does.
-pub trait Posted: Drop {
+pub trait TaskSource: Drop {
     ghost use Rattle.std.specs.Prelude.{◌≡◌, [], ◌∷◌, ◌++◌, List, IfNone, MatchOption};
     ghost use Rattle.flow_machine.specs.declared.task.Task.{Task};
 
@@ -27,8 +27,10 @@ pub trait Posted: Drop {
 /// Puts each task that was posted into the channel, in order, until no more is posted or no worker is left. Where no more is posted
 /// each that was given is put; where no worker is left the last one that was given came back from the channel, and is lost. Both ends
 /// come back: the workers end when the sender is let go.
-pub fn dispatcher<R: Wait, P: Posted>(rt: &R, posted: P, sender: TaskSender) -> (TaskSender, P)
-    ensures puts { (ts : List Task) × (lost : List Task) × (put_by result.0 ≡ put_by sender ++ ts) × (P.given result.1 ≡ (P.given posted ++ ts) ++ lost) × (came_back result.0 ≡ came_back sender ++ lost) × (((lost ≡ []) × P.ended result.1) ⊎ (length lost ≡ 1)) }
+pub fn dispatcher<R: Wait, P: TaskSource>(rt: &R, posted: P, sender: TaskSender) -> (TaskSender, P)
+    ensures puts { (ts : List Task) × (lost : List Task) × (put_by result.0 ≡ put_by sender ++ ts)
+        × (P.given result.1 ≡ (P.given posted ++ ts) ++ lost) × (came_back result.0 ≡ came_back sender ++ lost)
+        × (((lost ≡ []) × P.ended result.1) ⊎ (length lost ≡ 1)) }
     ensures same { IsSameFeed sender result.0 × (made_by result.0 ≡ made_by sender) × (back_at result.0 ≡ back_at sender) }
 {
     let mut posted = posted;

@@ -89,9 +89,9 @@ impl<E: Tells> Lesson<Task, Hand> for Takes<E> {
 }
 
 /// One more worker is made.
-pub struct Makes;
+pub struct AddsWorker;
 
-impl Split<Hand> for Makes {
+impl Split<Hand> for AddsWorker {
     ghost use Rattle.std.specs.Prelude.{[], ◌+◌};
     ghost use Rattle.flow_pool.specs.Orders.{feeding, working};
 

@@ -56,7 +56,8 @@ fn follow<R: Wait, S: Reports, C: Clock>(
     reports: &mut S,
     clock: &C,
 ) -> bool
-    ensures { (more : List Telling) × (S.told reports.new ≡ S.told reports.old ++ more) × Follows (C.tells clock.now) task.now heard more result }
+    ensures { (more : List Telling) × (S.told reports.new ≡ S.told reports.old ++ more)
+        × Follows (C.tells clock.now) task.now heard more result }
 {
     if !has_wrong_type(&heard) {
         return heard.is_err();
@@ -74,9 +75,12 @@ fn work<R: Wait, A: Activity, S: Reports, C: Clock>(
     reports: &mut S,
     clock: &C,
 ) -> bool
-    ensures reported { (log : List Telling) × (S.told reports.new ≡ S.told reports.old ++ log) × Reported (C.tells clock.now) (MayCome A.named A.gives activities.old.items) task.now log result }
-    ensures keeps { (t : Task) (a : Attempt) → MayCome A.named A.gives activities.new.items t a → MayCome A.named A.gives activities.old.items t a }
-    ensures named { (name : List ℕ) → is_some (first_named A.named name activities.new.items) ≡ is_some (first_named A.named name activities.old.items) }
+    ensures reported { (log : List Telling) × (S.told reports.new ≡ S.told reports.old ++ log)
+        × Reported (C.tells clock.now) (MayCome A.named A.gives activities.old.items) task.now log result }
+    ensures keeps { (t : Task) (a : Attempt) → MayCome A.named A.gives activities.new.items t a
+        → MayCome A.named A.gives activities.old.items t a }
+    ensures named { (name : List ℕ) → is_some (first_named A.named name activities.new.items) ≡ is_some
+        (first_named A.named name activities.old.items) }
 {
     let attempt = attempt(rt, alloc, activities, task);
     let heard = tell(rt, reports, report(task, attempt, clock.now()));
@@ -93,9 +97,13 @@ fn deal<R: Wait, A: Activity, S: Reports, U: Unknown, C: Clock>(
     unknown: &mut U,
     clock: &C,
 ) -> bool
-    ensures does { (log : List Telling) × (S.told reports.new ≡ S.told reports.old ++ log) × Does (C.tells clock.now) (MayCome A.named A.gives activities.old.items) task.now (is_left (U.leaves unknown.old) A.named activities.old.items task.now) log result }
-    ensures keeps { (t : Task) (a : Attempt) → MayCome A.named A.gives activities.new.items t a → MayCome A.named A.gives activities.old.items t a }
-    ensures named { (name : List ℕ) → is_some (first_named A.named name activities.new.items) ≡ is_some (first_named A.named name activities.old.items) }
+    ensures does { (log : List Telling) × (S.told reports.new ≡ S.told reports.old ++ log)
+        × Does (C.tells clock.now) (MayCome A.named A.gives activities.old.items) task.now
+        (is_left (U.leaves unknown.old) A.named activities.old.items task.now) log result }
+    ensures keeps { (t : Task) (a : Attempt) → MayCome A.named A.gives activities.new.items t a
+        → MayCome A.named A.gives activities.old.items t a }
+    ensures named { (name : List ℕ) → is_some (first_named A.named name activities.new.items) ≡ is_some
+        (first_named A.named name activities.old.items) }
     ensures same { U.leaves unknown.new ≡ U.leaves unknown.old }
 {
     if is_left(rt, activities.as_slice(), task, unknown) {
@@ -117,7 +125,10 @@ pub fn worker<R: Wait, A: Activity + Drop, S: Reports, U: Unknown + Drop, C: Clo
     unknown: U,
     clock: &C,
 ) -> (TaskReceiver<E>, S)
-    ensures works { (ts : List Task) × (log : List Telling) × (taken_by result.0 ≡ taken_by receiver ++ ts) × (S.told result.1 ≡ S.told reports ++ log) × Works (C.tells clock.now) (MayCome A.named A.gives activities.items) (is_left (U.leaves unknown) A.named activities.items) (WasEmpty E.empty (known_by result.0)) ts log }
+    ensures works { (ts : List Task) × (log : List Telling) × (taken_by result.0 ≡ taken_by receiver ++ ts)
+        × (S.told result.1 ≡ S.told reports ++ log)
+        × Works (C.tells clock.now) (MayCome A.named A.gives activities.items) (is_left (U.leaves unknown) A.named activities.items)
+        (WasEmpty E.empty (known_by result.0)) ts log }
     ensures same { IsSameEnd receiver result.0 × (number_of result.0 ≡ number_of receiver) }
 {
     let mut activities = activities;

@@ -3,7 +3,7 @@ ghost use Rattle.std.specs.Prelude.{◌≡◌, ◌+◌, ◌-◌, ◌≤◌, ◌<
 ghost use Rattle.flow_model.specs.Checked.{shown_checked};
 ghost use Rattle.flow_programs.specs.Keeping.{IsKeptAnew, IsPlace, fitting, is_kept, weight, without};
 
-use crate::known::{Known, weight_of};
+use crate::known::{ParsedText, weight_of};
 use crate::programs::Programs;
 use flow_base::command::TextFault;
 use flow_base::text::RawText;
@@ -21,7 +21,7 @@ pub const LIMIT: usize = 1 << 20;
 pub struct Kept<T: Texts> {
     texts: T,
     /// The one that was asked for last comes first.
-    programs: Vec<Known<T>>,
+    programs: Vec<ParsedText<T>>,
 }
 
 impl<T: Texts> Model for Kept<T> {
@@ -37,7 +37,7 @@ impl<T: Texts> Model for Kept<T> {
 }
 
 /// The first place of a text among these, if it is there.
-fn place<T: Texts>(programs: &[Known<T>], text: &RawText) -> Option<usize>
+fn place<T: Texts>(programs: &[ParsedText<T>], text: &RawText) -> Option<usize>
     ensures none { result ≡ None → is_kept text.now programs.now ≡ false }
     ensures some { IfSome result (λ i. IsPlace text.now programs.now i) }
 {
@@ -50,7 +50,7 @@ fn place<T: Texts>(programs: &[Known<T>], text: &RawText) -> Option<usize>
 }
 
 /// This comes first, in a list that has room for it.
-fn put_first<T: Texts>(programs: &mut Vec<Known<T>>, known: Known<T>)
+fn put_first<T: Texts>(programs: &mut Vec<ParsedText<T>>, known: ParsedText<T>)
     requires { vec_len programs.old < vec_capacity programs.old }
     ensures { programs.new.items ≡ known ∷ programs.old.items }
 {
@@ -59,7 +59,7 @@ fn put_first<T: Texts>(programs: &mut Vec<Known<T>>, known: Known<T>)
 }
 
 /// What stands at a place comes first.
-fn bring_forward<T: Texts>(programs: &mut Vec<Known<T>>, text: &RawText, i: usize)
+fn bring_forward<T: Texts>(programs: &mut Vec<ParsedText<T>>, text: &RawText, i: usize)
     requires within { i < length programs.old.items }
     requires at { slice_get programs.old.items i ≡ Some text.now }
     ensures { programs.new.items ≡ text.now ∷ remove programs.old.items i }
@@ -69,7 +69,7 @@ fn bring_forward<T: Texts>(programs: &mut Vec<Known<T>>, text: &RawText, i: usiz
 }
 
 /// How many of the first of these leave so much room.
-fn count_of_fitting<T: Texts>(programs: &[Known<T>], room: usize) -> usize
+fn count_of_fitting<T: Texts>(programs: &[ParsedText<T>], room: usize) -> usize
     ensures { take result programs.now ≡ fitting room programs.now }
 {
     let mut left = room;
@@ -96,7 +96,8 @@ impl<T: Texts> Kept<T> {
 
     /// The program of a text, if it is kept. It is then the one that was asked for last.
     fn take(&mut self, text: &RawText) -> Result<Option<Arc<Checked>>, AllocError>
-        ensures program { IfOk result (λ o. MatchOption o (is_kept text.now self.old ≡ false) (λ c. T.meaning text.now ≡ Ok (shown_checked c.value))) }
+        ensures program { IfOk result (λ o. MatchOption o (is_kept text.now self.old ≡ false)
+            (λ c. T.meaning text.now ≡ Ok (shown_checked c.value))) }
         ensures there { IfOk result (λ o. IfSome o (λ _. is_kept text.now self.old ≡ true)) }
         ensures first { IfOk result (λ o. IfSome o (λ _. self.new ≡ text.now ∷ without text.now self.old)) }
         ensures none { IfOk result (λ o. o ≡ None → self.new ≡ self.old) }
@@ -131,7 +132,7 @@ impl<T: Texts> Kept<T> {
         if weight > LIMIT {
             return Ok(());
         }
-        let known = Known::new(alloc, text, program)?;
+        let known = ParsedText::new(alloc, text, program)?;
         self.programs.reserve(1)?;
         let count = count_of_fitting(&self.programs, LIMIT - weight);
         self.programs.truncate(count);
@@ -149,7 +150,8 @@ impl<T: Texts> Kept<T> {
         alloc: Global,
         text: &RawText,
     ) -> Result<Result<Arc<Checked>, TextFault>, AllocError>
-        ensures means { IfOk result (λ r. MatchResult r (λ c. T.meaning text.now ≡ Ok (shown_checked c.value)) (λ fault. T.meaning text.now ≡ Err fault)) }
+        ensures means { IfOk result (λ r. MatchResult r (λ c. T.meaning text.now ≡ Ok (shown_checked c.value))
+            (λ fault. T.meaning text.now ≡ Err fault)) }
         // What was kept comes first, and nothing is forgotten for it.
         ensures kept { is_kept text.now self.old ≡ true → OnOk result (self.new ≡ text.now ∷ without text.now self.old) }
         ensures anew { is_kept text.now self.old ≡ false → OnOk result (IsKeptAnew text.now LIMIT self.old self.new) }

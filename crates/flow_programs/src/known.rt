@@ -13,14 +13,14 @@ pub const ENTRY: usize = 1024;
 
 /// A text with the program that it is.
 #[derive(Drop)]
-pub(crate) struct Known<T: Texts> {
+pub(crate) struct ParsedText<T: Texts> {
     text: RawText,
     program: Arc<Checked>,
     /// By whose reading.
     by: PhantomData<T>,
 }
 
-impl<T: Texts> Model for Known<T> {
+impl<T: Texts> Model for ParsedText<T> {
     ghost use Rattle.std.specs.Prelude.{◌≡◌, Ok};
     ghost use Rattle.flow_base.specs.Syntax.{Bytes};
     ghost use Rattle.flow_model.specs.Checked.{shown_checked};
@@ -32,19 +32,19 @@ impl<T: Texts> Model for Known<T> {
     ghost invariant = { λ k. T.meaning k.text ≡ Ok (shown_checked k.program.value) };
 }
 
-impl<T: Texts> Known<T> {
+impl<T: Texts> ParsedText<T> {
     /// A text with its program; the text is copied, and the program shared.
     pub(crate) fn new(
         alloc: Global,
         text: &RawText,
         program: &Arc<Checked>,
-    ) -> Result<Known<T>, AllocError>
+    ) -> Result<ParsedText<T>, AllocError>
         requires { T.meaning text.now ≡ Ok (shown_checked program.now.value) }
         ensures { IfOk result (λ k. k ≡ text.now) }
     {
         let text = text.copy(alloc)?;
         let program = program.clone()?;
-        Ok(Known {
+        Ok(ParsedText {
             text,
             program,
             by: PhantomData,

@@ -20,5 +20,6 @@ pub trait Programs {
         alloc: Global,
         text: &RawText,
     ) -> Result<Result<Arc<Checked>, TextFault>, AllocError>
-        ensures { IfOk result (λ r. MatchResult r (λ c. meaning text.now ≡ Ok (shown_checked c.value)) (λ fault. meaning text.now ≡ Err fault)) };
+        ensures { IfOk result (λ r. MatchResult r (λ c. meaning text.now ≡ Ok (shown_checked c.value))
+            (λ fault. meaning text.now ≡ Err fault)) };
 }

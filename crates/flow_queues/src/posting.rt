@@ -22,7 +22,8 @@ fn key_of(task: &Task) -> Posted
 /// Whether the task's key is new. It is there then.
 fn add(keys: &mut Keys, task: &Task) -> Result<bool, AllocError>
     ensures new { IfOk result (λ new. new ≡ not (contains key_cmp keys.old (the_key task.now))) }
-    ensures added { IfOk result (λ new. (q : Key) → contains key_cmp keys.new q ≡ cond (is_key (the_key task.now) q) true (contains key_cmp keys.old q)) }
+    ensures added { IfOk result (λ new. (q : Key)
+        → contains key_cmp keys.new q ≡ cond (is_key (the_key task.now) q) true (contains key_cmp keys.old q)) }
     ensures refused { OnErr result ((q : Key) → contains key_cmp keys.new q ≡ contains key_cmp keys.old q) }
 {
     match keys.insert(key_of(task)) {
@@ -48,7 +49,8 @@ fn remove_if(keys: &mut Keys, task: &Task, marked: bool)
 /// Takes the keys of the tasks that are marked away again.
 fn remove_marked(keys: &mut Keys, tasks: &[Task], marks: &Vec<bool>)
     requires { vec_len marks.now ≤ length tasks.now }
-    ensures { (q : Key) → contains key_cmp keys.new q ≡ (contains key_cmp keys.old q && not (has_key (chosen tasks.now marks.now.items) q)) }
+    ensures { (q : Key) → contains key_cmp keys.new q ≡
+        (contains key_cmp keys.old q && not (has_key (chosen tasks.now marks.now.items) q)) }
 {
     for k in 0..marks.len() {
         remove_if(keys, &tasks[k], marks[k]);
@@ -58,7 +60,8 @@ fn remove_marked(keys: &mut Keys, tasks: &[Task], marks: &Vec<bool>)
 /// Joins the keys of these tasks to those of what was posted, and marks the tasks whose key is new. Where memory is refused all is
 /// as before.
 pub fn add_all(alloc: Global, keys: &mut Keys, tasks: &[Task]) -> Result<Vec<bool>, AllocError>
-    ensures marked { IfOk result (λ marks. (posted : List ATask) → HasKeys keys.old posted → (marks.items ≡ marks_of posted tasks.now) × HasKeys keys.new (posted ++ new_ones posted tasks.now)) }
+    ensures marked { IfOk result (λ marks. (posted : List ATask) → HasKeys keys.old posted → (marks.items ≡ marks_of posted tasks.now)
+        × HasKeys keys.new (posted ++ new_ones posted tasks.now)) }
     ensures length { IfOk result (λ marks. vec_len marks ≡ length tasks.now) }
     ensures refused { OnErr result ((q : Key) → contains key_cmp keys.new q ≡ contains key_cmp keys.old q) }
 {

@@ -63,7 +63,8 @@ pub fn push_receipts(answered: &mut Vec<Receipt>, mut receipts: Vec<Receipt>)
 
 /// Where the refusal of a ticket stands. None where it isn't there.
 pub fn refused_at(refused: &[Refused], ticket: u64) -> Option<usize>
-    ensures found { IfSome result (λ k. (k < length refused.now) × ((d : ARefused) → (slice_index_or refused.now k d).asked.ticket ≡ ticket)) }
+    ensures found { IfSome result (λ k. (k < length refused.now)
+        × ((d : ARefused) → (slice_index_or refused.now k d).asked.ticket ≡ ticket)) }
     ensures none { IfNone result (All (λ r. r.asked.ticket ≢ ticket) refused.now) }
 {
     for k in 0..refused.len() {
@@ -92,7 +93,8 @@ pub fn move_front(waiting: &mut VecDeque<Taken>, into: &mut Vec<Taken>, most: us
     ensures count { (length into.new.items ≤ most) × (vec_capacity into.new ≡ vec_capacity into.old) }
     ensures some { into.new.items ≡ [] → 0 < most → waiting.old.items ≡ [] }
     ensures all { length into.new.items < most → waiting.new.items ≡ [] }
-    ensures lengths { (deque_len waiting.new + length into.new.items ≡ deque_len waiting.old) × (deque_capacity waiting.new ≡ deque_capacity waiting.old) }
+    ensures lengths { (deque_len waiting.new + length into.new.items ≡ deque_len waiting.old)
+        × (deque_capacity waiting.new ≡ deque_capacity waiting.old) }
 {
     while into.len() < most {
         let Some(taken) = waiting.pop_front() else {

@@ -18,9 +18,11 @@ pub fn damage(alloc: Global, rows: &StoreRows) -> Result<Option<Damage>, AllocEr
     // Which damage it is.
     ensures first { IfOk result (λ o. o ≡ first_damage is_program rows.now) }
     // Rows of one format without damage stand for a book.
-    ensures stands { IfOk result (λ o. o ≡ None → (f : Format) → AreRowsIn f rows.now.events → (b : Book) × StandsFor is_program f rows.now b) }
+    ensures stands { IfOk result (λ o. o ≡ None → (f : Format) → AreRowsIn f rows.now.events → (b : Book)
+        × StandsFor is_program f rows.now b) }
     // and tell it: it is the book that is read from them.
-    ensures tells { IfOk result (λ o. o ≡ None → (f : Format) → AreRowsIn f rows.now.events → TellsIn f (by_run rows.now) (book_in (by_run rows.now))) }
+    ensures tells { IfOk result (λ o. o ≡ None → (f : Format) → AreRowsIn f rows.now.events
+        → TellsIn f (by_run rows.now) (book_in (by_run rows.now))) }
     // Rows that stand for a book have no damage.
     ensures none { IfOk result (λ o. (f : Format) (b : Book) → StandsFor is_program f rows.now b → o ≡ None) }
 {

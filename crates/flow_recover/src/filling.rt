@@ -49,7 +49,8 @@ pub(crate) fn seats_of(
     requires first { 1 ≤ capacity }
     requires last { capacity ≤ 4096 }
     ensures none { IfOk result (λ s. s.ahead.items ≡ []) }
-    ensures reached { IfOk result (λ s. (b : Book) → ArePositions meaning_of b positions.now → AllHave (ReachedIn meaning_of b) s.kept.entries) }
+    ensures reached { IfOk result (λ s. (b : Book) → ArePositions meaning_of b positions.now
+        → AllHave (ReachedIn meaning_of b) s.kept.entries) }
     ensures memory { IfErr result (λ f. f ≡ NoMemory _) }
 {
     let mut seats = Seats::new(alloc, capacity)?;

@@ -23,7 +23,8 @@ pub fn reopen<S: Alter + Drop>(alloc: Global, store: S) -> Result<Connection<S>,
     // No limit on steps is set.
     ensures fresh { IfOk result IsNew }
     ensures opened { IfOk result (λ c. HasCleanDisk (state S.Store c) → IsOpenedOver (state S.Store c) (S.Store.view store).trees) }
-    ensures own { IfErr result (λ e. IsClean (S.Store.view e.1) → (b : Book) → HoldBook (S.Store.view store).trees b → IsOfDisk S.Store store e.1 e.0) }
+    ensures own { IfErr result (λ e. IsClean (S.Store.view e.1) → (b : Book) → HoldBook (S.Store.view store).trees b
+        → IsOfDisk S.Store store e.1 e.0) }
     ensures stops { IfErr result (λ e. (db : Trees) → S.Store.recovers e.1 db → S.Store.recovers store db) }
 {
     match Connection::over(alloc, store) {
@@ -45,7 +46,8 @@ pub fn reopen_files<D: Disk + Drop>(
     requires db { IsTrue (D.Disk.is_usable files.db) }
     // No limit on steps is set.
     ensures fresh { IfOk result IsNew }
-    ensures opened { IfOk result (λ c. HasCleanDisk (file_state c) → (db : Trees) → ∥ HoldsDatabase (image_of D.Disk files) db ∥₁ → IsOpenedOver (file_state c) db) }
+    ensures opened { IfOk result (λ c. HasCleanDisk (file_state c) → (db : Trees) → ∥ HoldsDatabase (image_of D.Disk files) db ∥₁
+        → IsOpenedOver (file_state c) db) }
     ensures cause { IfErr result (λ e. IsCleanLeft e.1 → FailsToOpenFiles files e.1 e.0) }
     ensures unharmed { IfErr result (λ e. IsCleanLeft e.1 → LeavesFiles files e.1) }
 {

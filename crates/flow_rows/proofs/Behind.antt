@@ -8,7 +8,7 @@ use Rattle.std.proofs.lemmas.Slice.Eq.{bytes_eq-Decides}
 use Rattle.std.proofs.lemmas.Bool.Decides.{Decides-int_eq}
 use Rattle.flow_base.specs.Syntax.{Bytes}
 use Rattle.flow_base.specs.declared.event.Event.{Event}
-use Rattle.flow_base.specs.declared.book.Task.{Task}
+use Rattle.flow_base.specs.declared.book.OpenActivity.{OpenActivity}
 use Rattle.flow_base.specs.declared.book.Timer.{Timer}
 use Rattle.flow_base.specs.declared.book.Run.{Run}
 use Rattle.flow_model.specs.Book.{Book, nth}
@@ -55,7 +55,7 @@ timer_rows_below : (run : ℤ) (last : ℕ) (ts : List Timer) → AreTimersWithi
 timer_rows_below run last [] all = tt
 timer_rows_below run last (x ∷ xs) all = (below x.id last all.0, timer_rows_below run last xs all.1)
 
-task_rows_below : (run : ℤ) (last : ℕ) (ts : List Task) → AreTasksWithin last ts → TasksBelow (last + 1) (map (task_row run) ts)
+task_rows_below : (run : ℤ) (last : ℕ) (ts : List OpenActivity) → AreTasksWithin last ts → TasksBelow (last + 1) (map (task_row run) ts)
 task_rows_below run last [] all = tt
 task_rows_below run last (x ∷ xs) all = (below x.event last all.0, task_rows_below run last xs all.1)
 

@@ -7,7 +7,7 @@ use Rattle.std.proofs.lemmas.Bool.{leb-true}
 use Rattle.std.proofs.lemmas.Bool.Decides.{Decides-int_eq}
 use Rattle.flow_base.specs.Limits.{Within, IsMoment}
 use Rattle.flow_base.specs.declared.event.Event.{Event}
-use Rattle.flow_base.specs.declared.book.Task.{Task}
+use Rattle.flow_base.specs.declared.book.OpenActivity.{OpenActivity}
 use Rattle.flow_base.specs.declared.book.Timer.{Timer}
 use Rattle.flow_rows.specs.declared.rows.TimerRow.{TimerRow}
 use Rattle.flow_rows.specs.declared.rows.OutboxRow.{OutboxRow}
@@ -66,7 +66,7 @@ pub in_range : (low high : ℕ) (z : ℤ) → int_le (pos low) z ≡ true → in
 in_range low high (pos n) least most = (refl, (leb-true low n least, leb-true n high most))
 in_range low high (negsuc n) least most = absurd (let same = least in cc)
 
-record IsTask (h : List Event) (run : ℤ) (r : OutboxRow) (a : Task) : Type 0 where
+record IsTask (h : List Event) (run : ℤ) (r : OutboxRow) (a : OpenActivity) : Type 0 where
   same : task_row run (task_of r) ≡ r
   event : (task_of r).event ≡ a.event
   attempt : Within 1 (tries_at h a.event) (task_of r).attempt
@@ -75,7 +75,7 @@ record IsTask (h : List Event) (run : ℤ) (r : OutboxRow) (a : Task) : Type 0 w
 abbrev task_cells : ℤ → ℤ → ℤ → ℤ → OutboxRow
 task_cells run id attempt ready = record { run = run; id = id; attempt = attempt; ready = ready }
 
-task_is : (h : List Event) (run : ℤ) (r : OutboxRow) (a : Task) → r.run ≡ run → task_fits h r a ≡ true → IsTask h run r a
+task_is : (h : List Event) (run : ℤ) (r : OutboxRow) (a : OpenActivity) → r.run ≡ run → task_fits h r a ≡ true → IsTask h run r a
 task_is h run r a named fits =
     let id : r.id ≡ pos a.event = (Decides-int_eq r.id (pos a.event)).0 (both_left _ (attempt_fits (tries_at h a.event) r) fits) in
     let cells = both_right (int_eq r.id (pos a.event)) _ fits in
@@ -98,12 +98,12 @@ task_is h run r a named fits =
       ready = ready.1;
     }
 
-task_step : (h : List Event) (rs : List OutboxRow) (others : List Task) (r : OutboxRow) (a : Task) (b : Bool) → task_fits h r a ≡ b → task_difference h (r ∷ rs) (a ∷ others) ≡ None
+task_step : (h : List Event) (rs : List OutboxRow) (others : List OpenActivity) (r : OutboxRow) (a : OpenActivity) (b : Bool) → task_fits h r a ≡ b → task_difference h (r ∷ rs) (a ∷ others) ≡ None
     → (task_fits h r a ≡ true) × (task_difference h rs others ≡ None)
 task_step h rs others r a true is none = (is, rw is at none)
 task_step h rs others r a false is none = absurd (a_difference _ (rw is at none))
 
-pub tasks_are : (h : List Event) (run : ℤ) (rs : List OutboxRow) (others : List Task) → AllByRecursion (λ r. r.run ≡ run) rs → task_difference h rs others ≡ None
+pub tasks_are : (h : List Event) (run : ℤ) (rs : List OutboxRow) (others : List OpenActivity) → AllByRecursion (λ r. r.run ≡ run) rs → task_difference h rs others ≡ None
     → (map (task_row run) (map task_of rs) ≡ rs) × AreTasks h (map task_of rs) others
 tasks_are h run [] [] names none = (refl, tt)
 tasks_are h run [] (a ∷ others) names none = absurd (a_difference (pos a.event) none)

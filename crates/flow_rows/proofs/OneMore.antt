@@ -12,7 +12,7 @@ use Rattle.flow_base.specs.declared.event.What.TheVariants.{Came, Asked}
 use Rattle.flow_base.specs.declared.event.Event.{Event}
 use Rattle.flow_base.specs.declared.event.State.{State}
 use Rattle.flow_base.specs.declared.event.State.TheVariants as state
-use Rattle.flow_base.specs.declared.book.Task.{Task}
+use Rattle.flow_base.specs.declared.book.OpenActivity.{OpenActivity}
 use Rattle.flow_base.specs.declared.book.Timer.{Timer}
 use Rattle.flow_base.specs.declared.book.Run.{Run}
 use Rattle.flow_model.specs.Book.{Book, with_events}
@@ -51,7 +51,7 @@ timers_behind : (last : ℕ) (ts : List Timer) → AreTimersWithin last ts → A
 timers_behind last [] all = tt
 timers_behind last (t ∷ ts) all = (not_less last t.id all.0, timers_behind last ts all.1)
 
-tasks_behind : (last : ℕ) (ts : List Task) → AreTasksWithin last ts → AllByRecursion (λ (t : Task). int_lt (pos last) (pos t.event) ≡ false) ts
+tasks_behind : (last : ℕ) (ts : List OpenActivity) → AreTasksWithin last ts → AllByRecursion (λ (t : OpenActivity). int_lt (pos last) (pos t.event) ≡ false) ts
 tasks_behind last [] all = tt
 tasks_behind last (t ∷ ts) all = (not_less last t.event all.0, tasks_behind last ts all.1)
 
@@ -69,7 +69,7 @@ all_out row p q (x ∷ xs) same = one_out row p q x xs (p x) refl (same x) (all_
 abbrev other_timer : ℕ → Timer → Bool
 other_timer n t = not (nat_eq t.id n)
 
-abbrev other_task : ℕ → Task → Bool
+abbrev other_task : ℕ → OpenActivity → Bool
 other_task n t = not (nat_eq t.event n)
 
 both_alike : (v w : Bool) → (v ≡ true → w ≡ true) → (w ≡ true → v ≡ true) → v ≡ w
@@ -83,7 +83,7 @@ same_test a b =
     both_alike (int_eq (pos a) (pos b)) (nat_eq a b) (λ is. eq-eqb a b (ap whole ((Decides-int_eq (pos a) (pos b)).0 is)))
     (λ is. (Decides-int_eq (pos a) (pos b)).1 (ap pos (eqb-true a b is)))
 
-tasks_out : (run : ℤ) (n : ℕ) (ts : List Task) → filter (is_other_task (pos n)) (map (task_row run) ts) ≡ map (task_row run) (without n ts)
+tasks_out : (run : ℤ) (n : ℕ) (ts : List OpenActivity) → filter (is_other_task (pos n)) (map (task_row run) ts) ≡ map (task_row run) (without n ts)
 tasks_out run n ts = all_out (task_row run) (other_task n) (is_other_task (pos n)) ts (λ t. ap not (same_test t.event n))
 
 timers_out : (run : ℤ) (n : ℕ) (ts : List Timer) → filter (is_other_timer (pos n)) (map (timer_row run) ts) ≡ map (timer_row run) (left_open.without_timer n ts)

@@ -15,7 +15,7 @@ use Rattle.flow_base.specs.declared.event.Input.TheVariants.{Started, Signaled, 
 use Rattle.flow_base.specs.declared.event.What.{What}
 use Rattle.flow_base.specs.declared.event.What.TheVariants.{Came, Asked}
 use Rattle.flow_base.specs.declared.event.Event.{Event}
-use Rattle.flow_base.specs.declared.book.Task.{Task}
+use Rattle.flow_base.specs.declared.book.OpenActivity.{OpenActivity}
 use Rattle.flow_base.specs.declared.book.Run.{Run}
 use Rattle.flow_base.specs.declared.command.TextFault.{TextFault}
 use Rattle.flow_events.specs.Kinds.{kind_number, kind_of}
@@ -110,13 +110,13 @@ tries_are : (h : List Event) (n m : ℕ) (e : Event) (name : Bytes) (vs : List V
 tries_are h n m e name vs tries every kind same there asked =
     ap (tries_at h) (sym same) ∙ ap (λ (o : Option Event). elim o [ None ↦ 0 | Some d ↦ tries_of d.what ]) there ∙ ap tries_of asked
 
-are_tasks : (r : Run) (ts others : List Task) → map (λ (t : Task). t.event) ts ≡ map (λ (t : Task). t.event) others → All (IsSoundTask r) ts → AllByRecursion IsTaskOfTypes ts
+are_tasks : (r : Run) (ts others : List OpenActivity) → map (λ (t : OpenActivity). t.event) ts ≡ map (λ (t : OpenActivity). t.event) others → All (IsSoundTask r) ts → AllByRecursion IsTaskOfTypes ts
     → AreTasks r.history ts others
 are_tasks r [] [] same sound types = tt
 are_tasks r [] (a ∷ others) same sound types = absurd (let clash = same in cc)
 are_tasks r (t ∷ ts) [] same sound types = absurd (let clash = same in cc)
 are_tasks r (t ∷ ts) (a ∷ others) same sound types =
-    let of : List Task → List ℕ = map (λ (x : Task). x.event) in
+    let of : List OpenActivity → List ℕ = map (λ (x : OpenActivity). x.event) in
     let one : IsSoundTask r t = All-head (IsSoundTask r) t ts sound in
     let event : t.event ≡ a.event = same_first t.event a.event (of ts) (of others) same in
     let asked = one.asked in
@@ -129,7 +129,7 @@ are_tasks r (t ∷ ts) (a ∷ others) same sound types =
       are_tasks r ts others (same_rest t.event a.event (of ts) (of others) same) (All-tail (IsSoundTask r) t ts sound) types.1,
     )
 
-left_is : (opened : Bool) (ts : List Task) → (opened ≡ false → ts ≡ []) → ts ≡ (if opened then ts else [])
+left_is : (opened : Bool) (ts : List OpenActivity) → (opened ≡ false → ts ≡ []) → ts ≡ (if opened then ts else [])
 left_is true ts none = refl
 left_is false ts none = none refl
 
@@ -148,7 +148,7 @@ kept_run meaning means f b r sound told =
       text = there.place;
       begun = sound.stands.0;
       events = all_events f r.history told.events (starts_once sound.program r.history sound.place tried sound.stands);
-      tasks = are_tasks r r.tasks (activities_left r.history) (sound.activities ∙ ap (map (λ (t : Task). t.event)) left) sound.attempts told.types.tasks;
+      tasks = are_tasks r r.tasks (activities_left r.history) (sound.activities ∙ ap (map (λ (t : OpenActivity). t.event)) left) sound.attempts told.types.tasks;
     }
 
 kept_runs : (meaning : Bytes → Result Program TextFault) → ((text : Bytes) → Means text (meaning text)) → (f : Format) (b : Book) (rs : List Run) → AllByRecursion (IsSoundRun (rules_of meaning) b) rs → AllByRecursion (IsToldIn f) rs

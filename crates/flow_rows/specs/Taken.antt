@@ -4,20 +4,20 @@ use Rattle.std.specs.List.{list_any}
 use Rattle.std.specs.HashSet.{contains_by}
 use Rattle.flow_base.specs.Syntax.{Bytes}
 use Rattle.flow_rows.specs.declared.rows.RunRow.{RunRow}
-use Rattle.flow_rows.specs.declared.taken_names.Taken.{Taken}
+use Rattle.flow_rows.specs.declared.taken_names.NamesInUse.{NamesInUse}
 use Rattle.flow_rows.specs.Damages.{has_request, is_open_of}
 
-abbrev pub has_taken_request : Taken → Bytes → Bool
+abbrev pub has_taken_request : NamesInUse → Bytes → Bool
 has_taken_request t x = contains_by (λ k. bytes_eq x k.now) t.requests
 
-abbrev pub has_taken_flow : Taken → Bytes → Bool
+abbrev pub has_taken_flow : NamesInUse → Bytes → Bool
 has_taken_flow t x = contains_by (λ k. bytes_eq x k.now) t.flows
 
 -- The table has the requests of these runs, and the flows of those that are marked as open.
-pub record HasTaken (t : Taken) (before : List RunRow) : Type 0 where
+pub record HasTaken (t : NamesInUse) (before : List RunRow) : Type 0 where
   pub requests : (x : Bytes) → has_taken_request t x ≡ list_any (has_request x) before
   pub flows : (x : Bytes) → has_taken_flow t x ≡ list_any (is_open_of x) before
 
 -- One more run takes a table to another.
-abbrev pub Takes : Taken → RunRow → Taken → Type 0
+abbrev pub Takes : NamesInUse → RunRow → NamesInUse → Type 0
 Takes t r t' = (before : List RunRow) → HasTaken t before → HasTaken t' (before ++ r ∷ [])

@@ -8,7 +8,7 @@ ghost use Rattle.flow_rows.specs.Taken.{HasTaken};
 
 use crate::rows::{EventRow, RunRow};
 use crate::run_rows::{is_rising, part};
-use crate::taken_names::Taken;
+use crate::taken_names::NamesInUse;
 use flow_base::fault::{Damage, Table};
 use std::alloc::{AllocError, Global};
 
@@ -37,7 +37,7 @@ fn flow_fits(flow: &str) -> bool
     1 <= flow.len() && flow.len() <= 64
 }
 
-fn request_fits(taken: &Taken, request: &str) -> bool
+fn request_fits(taken: &NamesInUse, request: &str) -> bool
     ensures { (before : List ARow) → HasTaken taken.now before → result ≡ rule.request_fits before request.now }
 {
     request.len() <= 64 && (request.len() == 0 || !taken.has_request(request))
@@ -53,14 +53,14 @@ fn mark_fits(events: &[EventRow], run: i64, mark: i64) -> bool
     }
 }
 
-fn flow_is_free(taken: &Taken, row: &RunRow) -> bool
+fn flow_is_free(taken: &NamesInUse, row: &RunRow) -> bool
     ensures { (before : List ARow) → HasTaken taken.now before → result ≡ rule.flow_is_free before row.now }
 {
     row.isopen != 1 || !taken.has_flow(row.flow.as_str())
 }
 
 /// Whether run `n` is numbered and named, and its text is among so many.
-fn cells_fit(texts: usize, taken: &Taken, n: usize, row: &RunRow) -> bool
+fn cells_fit(texts: usize, taken: &NamesInUse, n: usize, row: &RunRow) -> bool
     requires texts { texts < 2 ^ 62 }
     requires runs { n < 2 ^ 62 }
     ensures { (before : List ARow) → HasTaken taken.now before → result ≡ rule.cells_fit texts before n row.now }
@@ -73,7 +73,7 @@ fn cells_fit(texts: usize, taken: &Taken, n: usize, row: &RunRow) -> bool
 }
 
 /// Whether run `n` keeps the rules, where there are so many texts and the runs before it have taken this.
-fn run_fits(texts: usize, events: &[EventRow], taken: &Taken, n: usize, row: &RunRow) -> bool
+fn run_fits(texts: usize, events: &[EventRow], taken: &NamesInUse, n: usize, row: &RunRow) -> bool
     requires texts { texts < 2 ^ 62 }
     requires runs { n < 2 ^ 62 }
     ensures { (before : List ARow) → HasTaken taken.now before → result ≡ rule.run_fits texts events.now before n row.now }
@@ -107,7 +107,7 @@ pub fn run_damage(
     ensures { IfOk result (λ o. o ≡ first_of (damages_of_runs texts events.now [] 1 rows.now)) }
 {
     let rising = is_rising(events);
-    let mut taken = Taken::none(alloc);
+    let mut taken = NamesInUse::none(alloc);
     for i in 0..rows.len() {
         let row = &rows[i];
         let own = part(events, rising, i as u64 + 1);

@@ -13,24 +13,25 @@ use std::alloc::{AllocError, Global};
 
 /// The requests of the runs so far, and the flows of those among them that are marked as open.
 #[derive(Drop)]
-pub struct Taken<'a> {
+pub struct NamesInUse<'a> {
     requests: IndexSet<&'a str>,
     flows: IndexSet<&'a str>,
 }
 
-impl<'a> Taken<'a> {
+impl<'a> NamesInUse<'a> {
     /// No run has taken anything.
-    pub fn none(alloc: Global) -> Taken<'a>
+    pub fn none(alloc: Global) -> NamesInUse<'a>
         ensures { HasTaken result [] }
     {
-        Taken {
+        NamesInUse {
             requests: IndexSet::new(alloc),
             flows: IndexSet::new(alloc),
         }
     }
 
     fn add_request(&mut self, request: &'a str) -> Result<(), AllocError>
-        ensures requests { OnOk result ((x : Bytes) → has_taken_request self.new x ≡ (has_taken_request self.old x || bytes_eq request.now x)) }
+        ensures requests { OnOk result ((x : Bytes)
+            → has_taken_request self.new x ≡ (has_taken_request self.old x || bytes_eq request.now x)) }
         ensures flows { OnOk result (self.new.flows ≡ self.old.flows) }
     {
         self.requests.insert(request)?;

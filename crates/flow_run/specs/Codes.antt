@@ -1,8 +1,6 @@
 -- The refusals of a run, and their numbers.
 use Rattle.flow_base.specs.declared.code.Code.{Code}
 use Rattle.flow_base.specs.declared.code.Code.TheVariants as code
-use Rattle.flow_run.specs.declared.plain.TurnFault.{TurnFault}
-use Rattle.flow_run.specs.declared.plain.TurnFault.TheVariants as plain
 use Rattle.flow_run.specs.declared.fault.RunFault.{RunFault}
 use Rattle.flow_run.specs.declared.fault.RunFault.TheVariants as fault
 
@@ -10,9 +8,3 @@ abbrev pub run_fault_code : RunFault → Code
 run_fault_code (fault.NoMemory _) = code.NoMemory
 run_fault_code fault.NotAwaited = code.NotAwaited
 run_fault_code fault.Closed = code.Closed
-
--- the same refusal of the plain run
-abbrev pub run_fault_of : TurnFault → RunFault
-run_fault_of (plain.NoMemory _) = fault.NoMemory _
-run_fault_of plain.NotAwaited = fault.NotAwaited
-run_fault_of plain.Closed = fault.Closed

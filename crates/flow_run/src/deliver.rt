@@ -1,137 +1,255 @@
-ghost use Rattle.std.specs.Prelude.{◌≡◌, [], ◌∷◌, ◌++◌, IfOk, Some, None, is_some, map, if◌then◌else◌};
+ghost use Rattle.std.specs.Prelude.{◌≡◌, ◌<◌, ◌+◌, ◌∷◌, ◌++◌, [], length, take, drop, slice_index_or, IfOk, IfSome, OnOk, OnErr, MatchOption, Some, None, is_some, true, false, if◌then◌else◌};
 ghost use Rattle.flow_base.specs.Syntax.{signals_of};
-ghost use Rattle.flow_base.specs.Shown.{shown_program, shown_declaration, shown_otherwise};
-ghost use Rattle.flow_model.specs.Rest as tree;
-ghost use Rattle.flow_model.specs.Deliver as model;
+ghost use Rattle.flow_base.specs.Shown.{shown_program};
+ghost use Rattle.flow_nodes.specs.Links.{block_at};
 ghost use Rattle.flow_values.specs.Named.{look_up};
-ghost use Rattle.flow_run.specs.Shown.{shown_rest, shown_started, shown_rest_of, plain_configuration, IsResumed, shown_progress, started_with};
+ghost use Rattle.flow_values.specs.Slots.{slot_of};
+ghost use Rattle.flow_model.specs.Rest as tree;
+ghost use Rattle.flow_model.specs.Values.{none_set};
+ghost use Rattle.flow_model.specs.Deliver as model;
+ghost use Rattle.flow_run.specs.Marks.{within, onto};
+ghost use Rattle.flow_run.specs.Flat.{AreSound, blocks_of, contents_of, marks_of, shown_doing, is_task};
+ghost use Rattle.flow_run.specs.Waiting.{IsFirst, IsFirstOf, going_on, on_activity, on_timer, late_in, target_in, waits_itself};
+ghost use Rattle.flow_run.specs.Position.{IsWholeTurning, shown_started, started_with, shown_progress};
+ghost use Rattle.flow_run.specs.Whole.{IsWhole, shown_standing, rest_at};
+ghost use Rattle.flow_run.specs.declared.cell.Cell.{Cell as ACell};
 
+use crate::cell::{Cell, Doing, copy_cells};
 use crate::decided::Decided;
-use crate::plain::PlainRun;
-use crate::rest::{Rest, begun, entered};
-use crate::step::Store;
+use crate::places::enter;
+use crate::setting::signal_fits;
+use crate::standing::Standing;
+use crate::store::Store;
+use crate::walk::{branch, settle};
 use flow_base::event::{Cause, Cmd, Input, State};
 use flow_base::number::EventId;
-use flow_base::syntax::{Block, Declaration, Parameter, Program};
+use flow_base::syntax::{Parameter, Program};
 use flow_base::text::{Key, Text};
 use flow_base::value::{Kind, Value};
 use flow_model::kinds::{all_fit, has_kind};
+use flow_nodes::table::ProgramTable;
+use flow_values::fault::EvalFault;
 use flow_values::named::NamedValues;
+use flow_values::slots::Slots;
 use std::alloc::{AllocError, Global};
+use std::sync::Arc;
 
 /// A run within a turn.
 #[derive(Drop)]
 pub struct Turning {
-    pub rest: Rest,
+    pub cells: Vec<Cell>,
     pub store: Store,
     /// The commands of this turn so far.
     pub asked: Vec<Cmd>,
     pub state: State,
 }
 
-/// A wait on an activity that is over: what is then left, the variable that waited, and the type that it wants.
-#[derive(Drop)]
-pub struct Resumed {
-    pub rest: Rest,
-    pub into: Key,
-    pub kind: Kind,
-}
-
-/// An input takes effect on a copy of the run; none where it can't be delivered.
-pub fn deliver(
+/// A run begins with its arguments; none where they don't fit the parameters.
+pub fn begin(
     alloc: Global,
+    table: &ProgramTable,
     program: &Program,
-    run: &PlainRun,
-    input: &Input,
-) -> Result<Option<Turning>, AllocError>
-    ensures { IfOk result (λ o. shown_started o ≡ model.deliver (shown_program program.now) (plain_configuration run.now) input.now) }
-{
-    match input {
-        Input::Started(values) => match run.state {
-            State::Unbegun => begin(alloc, program, values.as_slice()),
-            _ => Ok(None),
-        },
-        Input::ActivityCompleted(n, v) => match run.state {
-            State::Open => complete(alloc, run, *n, v),
-            _ => Ok(None),
-        },
-        Input::ActivityFailed(n, text) => match run.state {
-            State::Open => fail(alloc, run, *n, text),
-            _ => Ok(None),
-        },
-        Input::Terminated(_) => match run.state {
-            State::Open => terminate(alloc, run),
-            _ => Ok(None),
-        },
-        Input::Signaled(name, _, v) => match run.state {
-            State::Open => signal(alloc, program, run, name, v),
-            _ => Ok(None),
-        },
-        Input::TimerFired(n) => match run.state {
-            State::Open => fire(alloc, run, *n),
-            _ => Ok(None),
-        },
-    }
-}
-
-fn begin(alloc: Global, program: &Program, values: &[Value]) -> Result<Option<Turning>, AllocError>
-    ensures { IfOk result (λ o. shown_started o ≡ model.begun (shown_program program.now) values.now) }
+    values: &[Value],
+) -> Result<Option<Turning>, EvalFault>
+    requires { block_at table.now.lists.items table.now.body ≡ (shown_program program.now).body }
+    ensures started { IfOk result (λ o. shown_started table.now.lists.items o ≡ model.begun (shown_program program.now) values.now) }
+    ensures whole { IfOk result (λ o. IfSome o (λ p. IsWholeTurning table.now.lists.items p)) }
+    ensures err { OnErr result (model.all_fit (shown_program program.now).parameters values.now ≡ true) }
 {
     if !all_fit(&program.parameters, values) {
         return Ok(None);
     }
-    let rest = begun(alloc, &program.body)?;
-    let variables = bind(alloc, &program.parameters, values)?;
-    let buffer = NamedValues::new();
+    let mut cells = Vec::new(alloc);
+    cells.push(branch(alloc, table, table.body)?)?;
+    let variables = bind(alloc, &table.names, &program.parameters, values)?;
     Ok(Some(start_from(
         alloc,
-        rest,
+        cells,
         variables,
-        buffer,
+        NamedValues::new(),
         Decided::new(alloc),
         State::Open,
     )))
 }
 
+// The parameters with their values; the last is set first.
+fn bind(
+    alloc: Global,
+    names: &Arc<Vec<Key>>,
+    parameters: &[Parameter],
+    values: &[Value],
+) -> Result<Slots, AllocError>
+    ensures { IfOk result (λ vars. slot_of vars ≡ model.bound parameters.now values.now) }
+{
+    match parameters {
+        [] => none_bound(names),
+        [p, ps @ ..] => match values {
+            [] => none_bound(names),
+            [v, vs @ ..] => {
+                let mut variables = bind(alloc, names, ps, vs)?;
+                variables.set(alloc, &p.name, v.copy(alloc)?)?;
+                Ok(variables)
+            }
+        },
+    }
+}
+
+fn none_bound(names: &Arc<Vec<Key>>) -> Result<Slots, AllocError>
+    ensures { IfOk result (λ vars. slot_of vars ≡ none_set) }
+{
+    let names = names.clone()?;
+    Ok(Slots::new(names))
+}
+
+/// An input takes effect on a copy of a run that has begun; none where it can't be delivered.
+pub fn deliver(
+    alloc: Global,
+    table: &ProgramTable,
+    program: &Program,
+    run: &Standing,
+    input: &Input,
+) -> Result<Option<Turning>, EvalFault>
+    requires table { table.now ≡ run.now.table }
+    requires whole { IsWhole run.now }
+    ensures started { IfOk result (λ o. shown_started table.now.lists.items o ≡ model.deliver (shown_program program.now)
+        (shown_standing run.now) input.now) }
+    ensures whole { IfOk result (λ o. IfSome o (λ p. IsWholeTurning table.now.lists.items p)) }
+    ensures err { OnErr result (is_some (model.deliver (shown_program program.now) (shown_standing run.now) input.now) ≡ true) }
+{
+    match input {
+        Input::Started(_) => match run.state {
+            // Not of a run that has begun.
+            State::Unbegun => Ok(None),
+            _ => Ok(None),
+        },
+        Input::ActivityCompleted(n, v) => match run.state {
+            State::Open => complete(alloc, table, run, *n, v),
+            _ => Ok(None),
+        },
+        Input::ActivityFailed(n, text) => match run.state {
+            State::Open => fail(alloc, table, run, *n, text),
+            _ => Ok(None),
+        },
+        Input::TimerFired(n) => match run.state {
+            State::Open => fire(alloc, table, run, *n),
+            _ => Ok(None),
+        },
+        Input::Signaled(name, _, v) => match run.state {
+            State::Open => signal(alloc, table, program, run, name, v),
+            _ => Ok(None),
+        },
+        Input::Terminated(_) => match run.state {
+            State::Open => {
+                let p = terminate(alloc, table, run)?;
+                Ok(p)
+            }
+            _ => Ok(None),
+        },
+    }
+}
+
+// A call gets its value and is over.
 fn complete(
     alloc: Global,
-    run: &PlainRun,
+    table: &ProgramTable,
+    run: &Standing,
     n: EventId,
     v: &Value,
-) -> Result<Option<Turning>, AllocError>
-    requires { run.now.state ≡ State.Open }
-    ensures { IfOk result (λ o. shown_started o ≡ model.completed (plain_configuration run.now) n v.now (model.target_of n (shown_rest run.now.rest))) }
+) -> Result<Option<Turning>, EvalFault>
+    requires table { table.now ≡ run.now.table }
+    requires whole { IsWhole run.now }
+    requires is_open { run.now.state ≡ State.Open }
+    ensures started { IfOk result (λ o. shown_started table.now.lists.items o ≡ model.completed (shown_standing run.now) n v.now
+        (model.target_of n (shown_standing run.now).rest)) }
+    ensures whole { IfOk result (λ o. IfSome o (λ p. IsWholeTurning table.now.lists.items p)) }
+    ensures err { OnErr result (is_some (model.completed (shown_standing run.now) n v.now
+        (model.target_of n (shown_standing run.now).rest)) ≡ true) }
 {
-    match resume(alloc, &run.rest, n)? {
-        Some(Resumed { rest, into, kind }) => {
+    match activity_at(&run.cells, n) {
+        Some(i) => complete_at(alloc, table, run, n, v, i),
+        None => Ok(None),
+    }
+}
+
+// The same of the first task that waits on the activity.
+fn complete_at(
+    alloc: Global,
+    table: &ProgramTable,
+    run: &Standing,
+    n: EventId,
+    v: &Value,
+    i: usize,
+) -> Result<Option<Turning>, EvalFault>
+    requires table { table.now ≡ run.now.table }
+    requires whole { IsWhole run.now }
+    requires is_open { run.now.state ≡ State.Open }
+    requires first { IsFirst (on_activity n) run.now.cells.items i }
+    ensures started { IfOk result (λ o. shown_started table.now.lists.items o ≡ model.completed (shown_standing run.now) n v.now
+        (model.target_of n (shown_standing run.now).rest)) }
+    ensures whole { IfOk result (λ o. IfSome o (λ p. IsWholeTurning table.now.lists.items p)) }
+    ensures err { OnErr result (is_some (model.completed (shown_standing run.now) n v.now
+        (model.target_of n (shown_standing run.now).rest)) ≡ true) }
+{
+    match target(&run.cells[i].doing) {
+        Some((into, kind)) => {
             if !has_kind(kind, v) {
                 return Ok(None);
             }
-            let mut variables = run.variables.share()?;
-            variables.set(alloc, &into, v.copy(alloc)?)?;
-            let buffer = run.buffer.share()?;
-            let decided = run.decided.copy(alloc)?;
-            Ok(Some(start_from(alloc, rest, variables, buffer, decided, State::Open)))
+            let mut p = gone_on(alloc, table, run, i, None, Doing::Over)?;
+            p.store.variables.set(alloc, into, v.copy(alloc)?)?;
+            Ok(Some(p))
         }
         None => Ok(None),
     }
 }
 
+// A call whose activity has failed does its `else`, or the run is to fail.
 fn fail(
     alloc: Global,
-    run: &PlainRun,
+    table: &ProgramTable,
+    run: &Standing,
     n: EventId,
     text: &Text,
-) -> Result<Option<Turning>, AllocError>
-    requires { run.now.state ≡ State.Open }
-    ensures { IfOk result (λ o. shown_started o ≡ model.with_rest (plain_configuration run.now) (model.replaced (model.when_failed n text.now) (shown_rest run.now.rest))) }
+) -> Result<Option<Turning>, EvalFault>
+    requires table { table.now ≡ run.now.table }
+    requires whole { IsWhole run.now }
+    requires is_open { run.now.state ≡ State.Open }
+    ensures started { IfOk result (λ o. shown_started table.now.lists.items o ≡ model.with_rest (shown_standing run.now)
+        (model.replaced (model.when_failed n text.now) (shown_standing run.now).rest)) }
+    ensures whole { IfOk result (λ o. IfSome o (λ p. IsWholeTurning table.now.lists.items p)) }
+    ensures err { OnErr result (is_some (model.replaced (model.when_failed n text.now) (shown_standing run.now).rest) ≡ true) }
 {
-    match failed(alloc, &run.rest, n, text)? {
-        Some(rest) => {
-            let variables = run.variables.share()?;
-            let buffer = run.buffer.share()?;
-            let decided = run.decided.copy(alloc)?;
-            Ok(Some(start_from(alloc, rest, variables, buffer, decided, State::Open)))
+    match activity_at(&run.cells, n) {
+        Some(i) => {
+            let list = late(&run.cells[i].doing);
+            let raised = Doing::Raised(Cause::ActivityFailed, text.copy(alloc)?);
+            let p = gone_on(alloc, table, run, i, list, raised)?;
+            Ok(Some(p))
+        }
+        None => Ok(None),
+    }
+}
+
+// A sleep is over, or a wait for a signal does what is to be done where none came.
+fn fire(
+    alloc: Global,
+    table: &ProgramTable,
+    run: &Standing,
+    n: EventId,
+) -> Result<Option<Turning>, EvalFault>
+    requires table { table.now ≡ run.now.table }
+    requires whole { IsWhole run.now }
+    requires is_open { run.now.state ≡ State.Open }
+    ensures started { IfOk result (λ o. shown_started table.now.lists.items o ≡ model.with_rest (shown_standing run.now)
+        (model.replaced (model.when_fired n) (shown_standing run.now).rest)) }
+    ensures whole { IfOk result (λ o. IfSome o (λ p. IsWholeTurning table.now.lists.items p)) }
+    ensures err { OnErr result (is_some (model.replaced (model.when_fired n) (shown_standing run.now).rest) ≡ true) }
+{
+    match timer_at(&run.cells, n) {
+        Some(i) => {
+            let list = late(&run.cells[i].doing);
+            let p = gone_on(alloc, table, run, i, list, Doing::Over)?;
+            Ok(Some(p))
         }
         None => Ok(None),
     }
@@ -140,68 +258,73 @@ fn fail(
 // A signal is put behind those that nobody took yet.
 fn signal(
     alloc: Global,
+    table: &ProgramTable,
     program: &Program,
-    run: &PlainRun,
+    run: &Standing,
     name: &Key,
     v: &Value,
-) -> Result<Option<Turning>, AllocError>
-    requires { run.now.state ≡ State.Open }
-    ensures { IfOk result (λ o. shown_started o ≡ (if model.signal_fits (signals_of (shown_program program.now).declarations) name.now v.now then Some (started_with (shown_rest run.now.rest) (look_up run.now.variables) (run.now.buffer ++ (name.now, v.now) ∷ []) (look_up run.now.decided) State.Open) else None)) }
+) -> Result<Option<Turning>, EvalFault>
+    requires table { table.now ≡ run.now.table }
+    requires whole { IsWhole run.now }
+    requires is_open { run.now.state ≡ State.Open }
+    ensures started { IfOk result (λ o. shown_started table.now.lists.items o ≡
+        (if model.signal_fits (signals_of (shown_program program.now).declarations) name.now v.now then Some
+        (started_with (shown_standing run.now).rest (slot_of run.now.variables) (run.now.buffer ++ (name.now, v.now) ∷ [])
+        (look_up run.now.decided) State.Open) else None)) }
+    ensures whole { IfOk result (λ o. IfSome o (λ p. IsWholeTurning table.now.lists.items p)) }
+    ensures err { OnErr result (model.signal_fits (signals_of (shown_program program.now).declarations) name.now v.now ≡ true) }
 {
     if !signal_fits(&program.declarations, name, v) {
         return Ok(None);
     }
-    let rest = run.rest.copy(alloc)?;
-    let variables = run.variables.share()?;
-    let mut buffer = run.buffer.share()?;
-    buffer.push(alloc, name, v.copy(alloc)?)?;
-    let decided = run.decided.copy(alloc)?;
-    Ok(Some(start_from(alloc, rest, variables, buffer, decided, State::Open)))
+    let mut p = resumed(alloc, run)?;
+    p.store.buffer.push(alloc, name, v.copy(alloc)?)?;
+    Ok(Some(p))
 }
 
-fn fire(alloc: Global, run: &PlainRun, n: EventId) -> Result<Option<Turning>, AllocError>
-    requires { run.now.state ≡ State.Open }
-    ensures { IfOk result (λ o. shown_started o ≡ model.with_rest (plain_configuration run.now) (model.replaced (model.when_fired n) (shown_rest run.now.rest))) }
-{
-    match fired(alloc, &run.rest, n)? {
-        Some(rest) => {
-            let variables = run.variables.share()?;
-            let buffer = run.buffer.share()?;
-            let decided = run.decided.copy(alloc)?;
-            Ok(Some(start_from(alloc, rest, variables, buffer, decided, State::Open)))
-        }
-        None => Ok(None),
-    }
-}
-
-fn terminate(alloc: Global, run: &PlainRun) -> Result<Option<Turning>, AllocError>
-    ensures { IfOk result (λ o. shown_started o ≡ Some (started_with tree.Done (look_up run.now.variables) run.now.buffer (look_up run.now.decided) State.Terminated)) }
+fn terminate(
+    alloc: Global,
+    table: &ProgramTable,
+    run: &Standing,
+) -> Result<Option<Turning>, EvalFault>
+    ensures started { IfOk result (λ o. shown_started table.now.lists.items o ≡ Some
+        (started_with tree.Done (slot_of run.now.variables) run.now.buffer (look_up run.now.decided) State.Terminated)) }
+    ensures whole { IfOk result (λ o. IfSome o (λ p. IsWholeTurning table.now.lists.items p)) }
 {
     let variables = run.variables.share()?;
     let buffer = run.buffer.share()?;
     let decided = run.decided.copy(alloc)?;
-    Ok(Some(start_from(
-        alloc,
-        Rest::Done,
-        variables,
-        buffer,
-        decided,
-        State::Terminated,
-    )))
+    let none = Vec::new(alloc);
+    Ok(Some(start_from(alloc, none, variables, buffer, decided, State::Terminated)))
+}
+
+// A copy of an open run, in a turn that has asked nothing yet.
+fn resumed(alloc: Global, run: &Standing) -> Result<Turning, AllocError>
+    ensures cells { IfOk result (λ p. contents_of p.cells.items ≡ contents_of run.now.cells.items) }
+    ensures shows { IfOk result (λ p. (ls : _) → shown_progress ls p ≡ started_with (rest_at ls p.cells.items)
+        (slot_of run.now.variables) run.now.buffer (look_up run.now.decided) State.Open) }
+{
+    let cells = copy_cells(alloc, &run.cells)?;
+    let variables = run.variables.share()?;
+    let buffer = run.buffer.share()?;
+    let decided = run.decided.copy(alloc)?;
+    Ok(start_from(alloc, cells, variables, buffer, decided, State::Open))
 }
 
 fn start_from(
     alloc: Global,
-    rest: Rest,
-    variables: NamedValues,
+    cells: Vec<Cell>,
+    variables: Slots,
     buffer: NamedValues,
     decided: Decided,
     state: State,
 ) -> Turning
-    ensures { shown_progress result ≡ started_with (shown_rest rest) (look_up variables) buffer (look_up decided) state }
+    ensures cells { result.cells ≡ cells }
+    ensures shows { (ls : _) → shown_progress ls result ≡ started_with (rest_at ls cells.items) (slot_of variables) buffer
+        (look_up decided) state }
 {
     Turning {
-        rest,
+        cells,
         store: Store {
             variables,
             buffer,
@@ -213,200 +336,163 @@ fn start_from(
     }
 }
 
-// The parameters with their values; the last is set first.
-fn bind(
+// A copy of an open run in which the task at a place does a list, or else this.
+fn gone_on(
     alloc: Global,
-    parameters: &[Parameter],
-    values: &[Value],
-) -> Result<NamedValues, AllocError>
-    ensures { IfOk result (λ vars. look_up vars ≡ model.bound parameters.now values.now) }
+    table: &ProgramTable,
+    run: &Standing,
+    i: usize,
+    list: Option<usize>,
+    other: Doing,
+) -> Result<Turning, EvalFault>
+    requires table { table.now ≡ run.now.table }
+    requires whole { IsWhole run.now }
+    requires there { i < length run.now.cells.items }
+    requires waits { (c : ACell) → c ≡ slice_index_or run.now.cells.items i c → waits_itself c.doing ≡ true }
+    requires task { is_task other ≡ true }
+    ensures shows { IfOk result (λ p. (c : ACell) → c ≡ slice_index_or run.now.cells.items i c
+        → onto (marks_of table.now.lists.items p.cells.items) [] ≡ onto (take i (marks_of table.now.lists.items run.now.cells.items))
+        (within (blocks_of table.now.lists.items c.places.items) (going_on table.now.lists.items list other) ∷ onto
+        (drop (i + 1) (marks_of table.now.lists.items run.now.cells.items)) [])) }
+    ensures store { IfOk result (λ p. shown_progress table.now.lists.items p ≡ started_with (rest_at table.now.lists.items p.cells.items)
+        (slot_of run.now.variables) run.now.buffer (look_up run.now.decided) State.Open) }
+    ensures whole { IfOk result (λ p. IsWholeTurning table.now.lists.items p) }
 {
-    match parameters {
-        [] => Ok(NamedValues::new()),
-        [p, ps @ ..] => match values {
-            [] => Ok(NamedValues::new()),
-            [v, vs @ ..] => {
-                let mut variables = bind(alloc, ps, vs)?;
-                variables.set(alloc, &p.name, v.copy(alloc)?)?;
-                Ok(variables)
-            }
-        },
-    }
+    let mut p = resumed(alloc, run)?;
+    go_on_as(alloc, table, &mut p.cells, i, list, other)?;
+    Ok(p)
 }
 
-// What is left where an activity has completed, and the variable that gets its value.
-fn resume(alloc: Global, rest: &Rest, n: EventId) -> Result<Option<Resumed>, AllocError>
-    ensures { IfOk result (λ o. IsResumed n (shown_rest rest.now) o) }
+// The task at a place does a list, or else this.
+fn go_on_as(
+    alloc: Global,
+    table: &ProgramTable,
+    cells: &mut Vec<Cell>,
+    i: usize,
+    list: Option<usize>,
+    other: Doing,
+) -> Result<(), EvalFault>
+    requires there { i < length cells.old.items }
+    requires sound { AreSound table.now.lists.items cells.old.items }
+    requires waits { (c : ACell) → c ≡ slice_index_or cells.old.items i c → waits_itself c.doing ≡ true }
+    requires task { is_task other ≡ true }
+    ensures shows { OnOk result ((c : ACell) → c ≡ slice_index_or cells.old.items i c
+        → onto (marks_of table.now.lists.items cells.new.items) [] ≡ onto (take i (marks_of table.now.lists.items cells.old.items))
+        (within (blocks_of table.now.lists.items c.places.items) (going_on table.now.lists.items list other) ∷ onto
+        (drop (i + 1) (marks_of table.now.lists.items cells.old.items)) [])) }
+    ensures sound { OnOk result (AreSound table.now.lists.items cells.new.items) }
 {
-    match rest {
-        Rest::OnActivity(m, x, k, _) => {
-            if *m == n.get() {
-                Ok(Some(Resumed {
-                    rest: Rest::Done,
-                    into: x.copy(alloc)?,
-                    kind: *k,
-                }))
-            } else {
-                Ok(None)
-            }
+    match list {
+        Some(late) => {
+            drop(other);
+            begins(alloc, table, cells, i, late)?;
+            Ok(())
         }
-        Rest::Then(r, b, i, to) => match resume(alloc, r, n)? {
-            Some(Resumed { rest, into, kind }) => {
-                let rest = Rest::Then(Box::new(alloc, rest)?, b.clone()?, *i, *to);
-                Ok(Some(Resumed { rest, into, kind }))
-            }
-            None => Ok(None),
-        },
-        Rest::Beside(a, b) => match resume(alloc, a, n)? {
-            Some(Resumed { rest, into, kind }) => {
-                let b = Box::new(alloc, b.copy(alloc)?)?;
-                let rest = Rest::Beside(Box::new(alloc, rest)?, b);
-                Ok(Some(Resumed { rest, into, kind }))
-            }
-            None => match resume(alloc, b, n)? {
-                Some(Resumed { rest, into, kind }) => {
-                    let a = Box::new(alloc, a.copy(alloc)?)?;
-                    let rest = Rest::Beside(a, Box::new(alloc, rest)?);
-                    Ok(Some(Resumed { rest, into, kind }))
-                }
-                None => Ok(None),
-            },
-        },
-        _ => Ok(None),
-    }
-}
-
-// What is left where an activity has failed.
-fn failed(alloc: Global, rest: &Rest, n: EventId, text: &Text) -> Result<Option<Rest>, AllocError>
-    ensures { IfOk result (λ o. shown_rest_of o ≡ model.replaced (model.when_failed n text.now) (shown_rest rest.now)) }
-{
-    match rest {
-        Rest::OnActivity(m, _, _, o) => {
-            if *m == n.get() {
-                Ok(Some(otherwise(alloc, o, text)?))
-            } else {
-                Ok(None)
-            }
-        }
-        Rest::Then(r, b, i, to) => match failed(alloc, r, n, text)? {
-            Some(r) => Ok(Some(Rest::Then(Box::new(alloc, r)?, b.clone()?, *i, *to))),
-            None => Ok(None),
-        },
-        Rest::Beside(a, b) => match failed(alloc, a, n, text)? {
-            Some(r) => {
-                let b = Box::new(alloc, b.copy(alloc)?)?;
-                Ok(Some(Rest::Beside(Box::new(alloc, r)?, b)))
-            }
-            None => match failed(alloc, b, n, text)? {
-                Some(r) => {
-                    let a = Box::new(alloc, a.copy(alloc)?)?;
-                    Ok(Some(Rest::Beside(a, Box::new(alloc, r)?)))
-                }
-                None => Ok(None),
-            },
-        },
-        _ => Ok(None),
-    }
-}
-
-// What a call does whose activity has failed: its `else` begins, or the run is to fail.
-fn otherwise(alloc: Global, otherwise: &Option<Block>, text: &Text) -> Result<Rest, AllocError>
-    ensures { IfOk result (λ r. shown_rest r ≡ tree.rest_else (shown_otherwise otherwise.now) (tree.Raised Cause.ActivityFailed text.now)) }
-{
-    match otherwise {
-        None => Ok(Rest::Raised(Cause::ActivityFailed, text.copy(alloc)?)),
-        Some(b) => entered(alloc, b),
-    }
-}
-
-// What is left where a timer has fired.
-fn fired(alloc: Global, rest: &Rest, n: EventId) -> Result<Option<Rest>, AllocError>
-    ensures { IfOk result (λ o. shown_rest_of o ≡ model.replaced (model.when_fired n) (shown_rest rest.now)) }
-{
-    match rest {
-        Rest::OnTimer(m) => {
-            if *m == n.get() {
-                Ok(Some(Rest::Done))
-            } else {
-                Ok(None)
-            }
-        }
-        Rest::OnSignalFor(_, _, m, late) => {
-            if m.get() == n.get() {
-                Ok(Some(entered(alloc, late)?))
-            } else {
-                Ok(None)
-            }
-        }
-        Rest::Then(r, b, i, to) => match fired(alloc, r, n)? {
-            Some(r) => Ok(Some(Rest::Then(Box::new(alloc, r)?, b.clone()?, *i, *to))),
-            None => Ok(None),
-        },
-        Rest::Beside(a, b) => match fired(alloc, a, n)? {
-            Some(r) => {
-                let b = Box::new(alloc, b.copy(alloc)?)?;
-                Ok(Some(Rest::Beside(Box::new(alloc, r)?, b)))
-            }
-            None => match fired(alloc, b, n)? {
-                Some(r) => {
-                    let a = Box::new(alloc, a.copy(alloc)?)?;
-                    Ok(Some(Rest::Beside(a, Box::new(alloc, r)?)))
-                }
-                None => Ok(None),
-            },
-        },
-        _ => Ok(None),
-    }
-}
-
-// Whether a signal is declared with the value's type.
-fn signal_fits(declarations: &[Declaration], name: &Key, v: &Value) -> bool
-    ensures { result ≡ model.signal_fits (signals_of (map shown_declaration declarations.now)) name.now v.now }
-{
-    for d in declarations {
-        match d {
-            Declaration::Signal(_, _, signal, kind) => {
-                if signal.is(name) {
-                    return has_kind(*kind, v);
-                }
-            }
-            Declaration::Activity(_, _, _, _, _) => {}
+        None => {
+            becomes(table, cells, i, other);
+            Ok(())
         }
     }
-    false
 }
 
-/// Whether an input can be delivered to a run.
-pub fn takes(program: &Program, run: &PlainRun, input: &Input) -> bool
-    ensures { result ≡ is_some (model.deliver (shown_program program.now) (plain_configuration run.now) input.now) }
+// The task at a place does this.
+fn becomes(table: &ProgramTable, cells: &mut Vec<Cell>, i: usize, doing: Doing)
+    requires there { i < length cells.old.items }
+    requires sound { AreSound table.now.lists.items cells.old.items }
+    requires waits { (c : ACell) → c ≡ slice_index_or cells.old.items i c → waits_itself c.doing ≡ true }
+    requires task { is_task doing ≡ true }
+    ensures shows { (c : ACell) → c ≡ slice_index_or cells.old.items i c
+        → onto (marks_of table.now.lists.items cells.new.items) [] ≡ onto (take i (marks_of table.now.lists.items cells.old.items))
+        (within (blocks_of table.now.lists.items c.places.items) (shown_doing table.now.lists.items doing) ∷ onto
+        (drop (i + 1) (marks_of table.now.lists.items cells.old.items)) []) }
+    ensures sound { AreSound table.now.lists.items cells.new.items }
 {
-    match input {
-        Input::Started(values) => match run.state {
-            State::Unbegun => all_fit(&program.parameters, values.as_slice()),
-            _ => false,
-        },
-        Input::ActivityCompleted(n, v) => match run.state {
-            State::Open => match run.rest.awaited(*n) {
-                Some(kind) => has_kind(kind, v),
-                None => false,
-            },
-            _ => false,
-        },
-        Input::ActivityFailed(n, _) => match run.state {
-            State::Open => run.rest.awaited(*n).is_some(),
-            _ => false,
-        },
-        Input::Terminated(_) => match run.state {
-            State::Open => true,
-            _ => false,
-        },
-        Input::Signaled(name, _, v) => match run.state {
-            State::Open => signal_fits(&program.declarations, name, v),
-            _ => false,
-        },
-        Input::TimerFired(n) => match run.state {
-            State::Open => run.rest.awaits_timer(*n),
-            _ => false,
-        },
+    cells[i].doing = doing;
+    settle(table, cells, i);
+}
+
+// The task at a place does a list.
+fn begins(
+    alloc: Global,
+    table: &ProgramTable,
+    cells: &mut Vec<Cell>,
+    i: usize,
+    list: usize,
+) -> Result<(), EvalFault>
+    requires there { i < length cells.old.items }
+    requires sound { AreSound table.now.lists.items cells.old.items }
+    requires waits { (c : ACell) → c ≡ slice_index_or cells.old.items i c → waits_itself c.doing ≡ true }
+    ensures shows { OnOk result ((c : ACell) → c ≡ slice_index_or cells.old.items i c
+        → onto (marks_of table.now.lists.items cells.new.items) [] ≡ onto (take i (marks_of table.now.lists.items cells.old.items))
+        (within (blocks_of table.now.lists.items c.places.items) (tree.rest_of (block_at table.now.lists.items list)) ∷ onto
+        (drop (i + 1) (marks_of table.now.lists.items cells.old.items)) [])) }
+    ensures sound { OnOk result (AreSound table.now.lists.items cells.new.items) }
+{
+    enter(alloc, table, &mut cells[i], list)?;
+    settle(table, cells, i);
+    Ok(())
+}
+
+// The first task that waits on an activity.
+fn activity_at(cells: &[Cell], n: EventId) -> Option<usize>
+    ensures { IsFirstOf (on_activity n) cells.now result }
+{
+    for (i, c) in cells.iter().enumerate() {
+        if is_on_activity(&c.doing, n) {
+            return Some(i);
+        }
+    }
+    None
+}
+
+fn is_on_activity(doing: &Doing, n: EventId) -> bool
+    ensures { result ≡ on_activity n doing.now }
+{
+    match doing {
+        Doing::OnActivity(m, _, _, _) => *m == n.get(),
+        _ => false,
+    }
+}
+
+// The first task that waits on a timer.
+fn timer_at(cells: &[Cell], n: EventId) -> Option<usize>
+    ensures { IsFirstOf (on_timer n) cells.now result }
+{
+    for (i, c) in cells.iter().enumerate() {
+        if is_on_timer(&c.doing, n) {
+            return Some(i);
+        }
+    }
+    None
+}
+
+fn is_on_timer(doing: &Doing, n: EventId) -> bool
+    ensures { result ≡ on_timer n doing.now }
+{
+    match doing {
+        Doing::OnTimer(m) => *m == n.get(),
+        Doing::OnSignalFor(_, _, m, _) => m.get() == n.get(),
+        _ => false,
+    }
+}
+
+// The variable that waits on an activity, and the type that it wants.
+fn target(doing: &Doing) -> Option<(&Key, Kind)>
+    ensures { MatchOption result (target_in doing.now ≡ None) (λ t. target_in doing.now ≡ Some (t.0.now, t.1)) }
+{
+    match doing {
+        Doing::OnActivity(_, into, kind, _) => Some((into, *kind)),
+        _ => None,
+    }
+}
+
+// The list that is done where what a task waits on fails, or comes too late.
+fn late(doing: &Doing) -> Option<usize>
+    ensures { result ≡ late_in doing.now }
+{
+    match doing {
+        Doing::OnActivity(_, _, _, Some(late)) => Some(late.list),
+        Doing::OnSignalFor(_, _, _, list) => Some(*list),
+        _ => None,
     }
 }

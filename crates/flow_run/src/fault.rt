@@ -1,7 +1,6 @@
 ghost use Rattle.std.specs.Prelude.{◌≡◌};
 ghost use Rattle.flow_run.specs.Codes.{run_fault_code};
 
-use crate::plain::TurnFault;
 use flow_base::code::Code;
 use flow_base::memory::NoMemory;
 use std::alloc::AllocError;
@@ -39,20 +38,5 @@ impl From<AllocError> for RunFault {
 
     fn from(refused: AllocError) -> RunFault {
         RunFault::NoMemory(NoMemory::from(refused))
-    }
-}
-
-impl From<TurnFault> for RunFault {
-    ghost use Rattle.std.specs.Prelude.{◌≡◌};
-    ghost use Rattle.flow_run.specs.Codes.{run_fault_of};
-
-    ghost from_gives = { λ f e. e ≡ run_fault_of f };
-
-    fn from(fault: TurnFault) -> RunFault {
-        match fault {
-            TurnFault::NoMemory(no_memory) => RunFault::NoMemory(no_memory),
-            TurnFault::NotAwaited => RunFault::NotAwaited,
-            TurnFault::Closed => RunFault::Closed,
-        }
     }
 }

@@ -1,12 +1,18 @@
 //! One turn of a run: the interpreter of programs, and the position of a run.
 #![tactic(auto)]
 
-mod blocks;
-mod decided;
+mod begins;
+mod cell;
+pub mod decided;
 mod deliver;
 pub mod fault;
-pub mod plain;
-pub mod rest;
+mod joins;
+mod places;
+pub mod setting;
 pub mod stance;
-mod step;
+mod standing;
+mod store;
+mod tasks;
 mod turn;
+pub mod waits;
+mod walk;

@@ -16,7 +16,7 @@ use Rattle.flow_tables.specs.Owned as tables
 use Rattle.flow_commit.proofs.Following as following
 use Rattle.flow_commit.specs.Accounts.{Accounted, Based, HandedIn, handed_in}
 use Rattle.flow_commit.specs.Keeping.{Keeping, IsFit, IsUp, account_of}
-use Rattle.flow_hub.specs.declared.known.Known.{Known}
+use Rattle.flow_hub.specs.declared.known.HubFacts.{HubFacts}
 use Rattle.flow_queues.specs.declared.refused.Refused.{Refused}
 use Rattle.flow_queues.specs.Refusing.{refused_by}
 use Rattle.flow_hub.specs.Knowing.{IsOver}
@@ -64,7 +64,7 @@ abbrev based : Book → HandedIn → Based
 based b h = record { found = b; opened = h }
 
 -- an engine that does nothing stands together with the publisher, whatever this one has turned away
-pub together_still : (k : Accounted) (was now : Known) → Together k was → now.history ≡ was.history → now.last ≡ was.last → now.held ≡ [] → Together k now
+pub together_still : (k : Accounted) (was now : HubFacts) → Together k was → now.history ≡ was.history → now.last ≡ was.last → now.held ≡ [] → Together k now
 together_still k was now t history last none = record {
   log = t.log ∙ sym history;
   over = subst (λ ks. IsOver ks (k ∷ [])) (sym last) t.over;

@@ -59,7 +59,8 @@ pub fn eat(tokens: &[Token], wanted: Mark) -> Option<(usize, &[Token])>
 
 /// The place of the mark, which has to stand here, and what follows it.
 pub fn expect(tokens: &[Token], wanted: Mark) -> Result<(usize, &[Token]), Stop>
-    ensures ok { IfOk result (λ x. Parsed (m.sign wanted) (λ at. marked at wanted ∷ []) (λ at. at) (lexemes tokens.now) x.0 (lexemes x.1.now)) }
+    ensures ok { IfOk result (λ x. Parsed (m.sign wanted) (λ at. marked at wanted ∷ []) (λ at. at) (lexemes tokens.now) x.0
+        (lexemes x.1.now)) }
     ensures shorter { IfOk result (λ x. length x.1.now < length tokens.now) }
     ensures err { IfErr result (λ e. StopsAt (m.sign wanted) (lexemes tokens.now) e) }
 {
@@ -167,7 +168,8 @@ fn is_deprecated(name: &Word, id: &Word) -> bool
 /// The place of the name that a `deprecate` begins with, and what follows it, if a text does. Any other statement may begin
 /// with that name, so it is no keyword.
 pub fn deprecate(tokens: &[Token]) -> Option<(usize, &[Token])>
-    ensures found { MatchOption result (begins_deprecate (lexemes tokens.now) ≡ false) (λ x. IsDeprecate (lexemes tokens.now) x.0 (lexemes x.1.now)) }
+    ensures found { MatchOption result (begins_deprecate (lexemes tokens.now) ≡ false)
+        (λ x. IsDeprecate (lexemes tokens.now) x.0 (lexemes x.1.now)) }
     ensures shorter { IfSome result (λ x. length x.1.now < length tokens.now) }
 {
     let (first, rest) = next(tokens)?;

@@ -30,7 +30,8 @@ fn prefixed(alloc: Global, at: usize, operator: Unary, inner: Expr) -> Result<Ex
 
 /// An operator of a term, its place and what follows it.
 fn multiplicative(tokens: &[Token]) -> Option<(usize, Binary, &[Token])>
-    ensures found { MatchOption result (Past m.more_term (lexemes tokens.now)) (λ x. IsFactor (lexemes tokens.now) x.0 x.1 (lexemes x.2.now)) }
+    ensures found { MatchOption result (Past m.more_term (lexemes tokens.now))
+        (λ x. IsFactor (lexemes tokens.now) x.0 x.1 (lexemes x.2.now)) }
     ensures shorter { IfSome result (λ x. length x.2.now < length tokens.now) }
 {
     let (at, mark, rest) = mark(tokens)?;
@@ -44,7 +45,8 @@ fn multiplicative(tokens: &[Token]) -> Option<(usize, Binary, &[Token])>
 
 /// An operator of a sum, its place and what follows it.
 fn additive(tokens: &[Token]) -> Option<(usize, Binary, &[Token])>
-    ensures found { MatchOption result (Past m.more_sum (lexemes tokens.now)) (λ x. IsAdded (lexemes tokens.now) x.0 x.1 (lexemes x.2.now)) }
+    ensures found { MatchOption result (Past m.more_sum (lexemes tokens.now))
+        (λ x. IsAdded (lexemes tokens.now) x.0 x.1 (lexemes x.2.now)) }
     ensures shorter { IfSome result (λ x. length x.2.now < length tokens.now) }
 {
     let (at, mark, rest) = mark(tokens)?;
@@ -58,7 +60,8 @@ fn additive(tokens: &[Token]) -> Option<(usize, Binary, &[Token])>
 
 /// An operator of a comparison, its place and what follows it.
 fn comparison(tokens: &[Token]) -> Option<(usize, Binary, &[Token])>
-    ensures found { MatchOption result (Past m.more_compare (lexemes tokens.now)) (λ x. IsCompared (lexemes tokens.now) x.0 x.1 (lexemes x.2.now)) }
+    ensures found { MatchOption result (Past m.more_compare (lexemes tokens.now))
+        (λ x. IsCompared (lexemes tokens.now) x.0 x.1 (lexemes x.2.now)) }
     ensures shorter { IfSome result (λ x. length x.2.now < length tokens.now) }
 {
     let (at, mark, rest) = mark(tokens)?;
@@ -94,7 +97,8 @@ fn applied(
     operator: Unary,
     tokens: &[Token],
 ) -> Result<(Expr, &[Token]), Stop>
-    ensures ok { IfOk result (λ x. Parsed m.parens parens_tokens (λ p. Apply at operator (parens_of p)) (lexemes tokens.now) (shown_expr x.0) (lexemes x.1.now)) }
+    ensures ok { IfOk result (λ x. Parsed m.parens parens_tokens (λ p. Apply at operator (parens_of p)) (lexemes tokens.now)
+        (shown_expr x.0) (lexemes x.1.now)) }
     ensures shorter { IfOk result (λ x. length x.1.now < length tokens.now) }
     ensures err { IfErr result (λ e. StopsAt m.parens (lexemes tokens.now) e) }
 {
@@ -235,7 +239,8 @@ pub fn expr(alloc: Global, tokens: &[Token]) -> Result<(Expr, &[Token]), Stop>
 
 /// The arguments of a call, behind its `(`, up to its `)`.
 pub fn arguments(alloc: Global, tokens: &[Token]) -> Result<(Vec<Expr>, &[Token]), Stop>
-    ensures ok { IfOk result (λ x. Parsed m.arguments arguments_tokens arguments_of (lexemes tokens.now) (map shown_expr x.0.items) (lexemes x.1.now)) }
+    ensures ok { IfOk result (λ x. Parsed m.arguments arguments_tokens arguments_of (lexemes tokens.now) (map shown_expr x.0.items)
+        (lexemes x.1.now)) }
     ensures shorter { IfOk result (λ x. length x.1.now < length tokens.now) }
     ensures err { IfErr result (λ e. StopsAt m.arguments (lexemes tokens.now) e) }
 {

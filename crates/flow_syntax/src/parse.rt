@@ -65,7 +65,8 @@ fn parse_tokens(alloc: Global, tokens: &[Token], end: usize) -> Result<Program, 
     // What is read is in the grammar, and within the limits.
     ensures ok { IfOk result (λ p. Reads (lexemes tokens.now) (shown_program p) × Within (lexemes tokens.now)) }
     // What is in the grammar and within the limits is read as the one program that it is, unless memory runs out.
-    ensures only { (p : tree.Program) → Reads (lexemes tokens.now) p → Within (lexemes tokens.now) → MatchResult result (λ q. shown_program q ≡ p) (λ e. e ≡ ParseFault.NoMemory _) }
+    ensures only { (p : tree.Program) → Reads (lexemes tokens.now) p → Within (lexemes tokens.now)
+        → MatchResult result (λ q. shown_program q ≡ p) (λ e. e ≡ ParseFault.NoMemory _) }
     // A fault is the first one.
     ensures err { IfErr result (λ e. IsFault (lexemes tokens.now) end e) }
 {
@@ -98,7 +99,8 @@ pub fn parse(alloc: Global, text: &str) -> Result<Program, ParseFault>
     // What is read is the program of the text. A text is one program at most, and then has no fault.
     ensures ok { IfOk result (λ p. IsProgramOf text.now (shown_program p)) }
     // The program of the text is what is read, unless memory runs out.
-    ensures only { (p : tree.Program) → IsProgramOf text.now p → MatchResult result (λ q. shown_program q ≡ p) (λ e. e ≡ ParseFault.NoMemory _) }
+    ensures only { (p : tree.Program) → IsProgramOf text.now p
+        → MatchResult result (λ q. shown_program q ≡ p) (λ e. e ≡ ParseFault.NoMemory _) }
     // A fault is the first one in the text. A text has one first fault at most.
     ensures err { IfErr result (λ e. IsParseFault text.now e) }
 {

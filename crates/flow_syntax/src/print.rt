@@ -95,13 +95,17 @@ pub fn print(alloc: Global, program: &Program) -> Result<String, AllocError>
     // Wherever the tokens of these words stand, the grammar reads them as the program, up to places.
     ensures read { OnOk result (AreReadAs (program_words (shown_program program.now)) (shown_program program.now)) }
     // Where the program's names, numbers and texts are such as a text may have, the tokens of the text are these words.
-    ensures tokens { IfOk result (λ text. ArePrintable (program_words (shown_program program.now)) → HasTokens (string_bytes text) (program_words (shown_program program.now))) }
+    ensures tokens { IfOk result (λ text. ArePrintable (program_words (shown_program program.now))
+        → HasTokens (string_bytes text) (program_words (shown_program program.now))) }
     // And then it is a text of the program.
-    ensures again { IfOk result (λ text. ArePrintable (program_words (shown_program program.now)) → IsTextOf (string_bytes text) (shown_program program.now)) }
+    ensures again { IfOk result (λ text. ArePrintable (program_words (shown_program program.now))
+        → IsTextOf (string_bytes text) (shown_program program.now)) }
     // The program of some text is such a program.
-    ensures printable { OnOk result ((source : Bytes) → IsProgramOf source (shown_program program.now) → ArePrintable (program_words (shown_program program.now))) }
+    ensures printable { OnOk result ((source : Bytes) → IsProgramOf source (shown_program program.now)
+        → ArePrintable (program_words (shown_program program.now))) }
     // What is printed of it, if it isn't too long, is a text that is this program, up to places.
-    ensures parsed { IfOk result (λ text. (source : Bytes) → IsProgramOf source (shown_program program.now) → length (string_bytes text) ≤ 65536 → IsProgramAgain (string_bytes text) (shown_program program.now)) }
+    ensures parsed { IfOk result (λ text. (source : Bytes) → IsProgramOf source (shown_program program.now)
+        → length (string_bytes text) ≤ 65536 → IsProgramAgain (string_bytes text) (shown_program program.now)) }
     // No tokens that are read as the program, up to places, are fewer: there is no needless pair of parentheses.
     ensures least { OnOk result (HasLeastWords (shown_program program.now)) }
 {

@@ -44,7 +44,8 @@ fn enclosed(out: &mut Printer, inner: &Expr) -> Result<(), AllocError>
 /// An operand where the production of this level reads it.
 #[cycle(expression)]
 fn operand(out: &mut Printer, inner: &Expr, wanted: u8) -> Result<(), AllocError>
-    ensures { OnOk result (out.new ≡ out.old ++ spaced (fitted (level (shown_expr inner.now)) wanted (expression_words (shown_expr inner.now)))) }
+    ensures { OnOk result (out.new ≡ out.old ++ spaced
+        (fitted (level (shown_expr inner.now)) wanted (expression_words (shown_expr inner.now)))) }
 {
     if level(inner) < wanted {
         enclosed(out, inner)
@@ -55,7 +56,8 @@ fn operand(out: &mut Printer, inner: &Expr, wanted: u8) -> Result<(), AllocError
 
 #[cycle(expression)]
 fn unary(out: &mut Printer, operator: Unary, inner: &Expr) -> Result<(), AllocError>
-    ensures { OnOk result (out.new ≡ out.old ++ spaced (unary_words operator (level (shown_expr inner.now)) (expression_words (shown_expr inner.now)))) }
+    ensures { OnOk result (out.new ≡ out.old ++ spaced
+        (unary_words operator (level (shown_expr inner.now)) (expression_words (shown_expr inner.now)))) }
 {
     match operator {
         Unary::Not => {

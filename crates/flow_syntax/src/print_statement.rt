@@ -55,7 +55,8 @@ fn retry(out: &mut Printer, often: Retry) -> Result<(), AllocError>
 
 /// A wait without what is behind its signal.
 fn wait_head(out: &mut Printer, into: &Key, signal: &Key) -> Result<(), AllocError>
-    ensures { OnOk result (out.new ≡ out.old ++ spaced (word.Name into.now ∷ word.Mark mark.Assign ∷ word.Mark mark.Wait ∷ word.Mark mark.Signal ∷ word.Name signal.now ∷ [])) }
+    ensures { OnOk result (out.new ≡ out.old ++ spaced
+        (word.Name into.now ∷ word.Mark mark.Assign ∷ word.Mark mark.Wait ∷ word.Mark mark.Signal ∷ word.Name signal.now ∷ [])) }
 {
     out.name(into)?;
     out.mark(Mark::Assign)?;
@@ -192,7 +193,8 @@ fn call(
     list: &[Expr],
     often: Retry,
 ) -> Result<(), AllocError>
-    ensures { OnOk result (out.new ≡ out.old ++ spaced (statement_words (Call 0 into.now 0 activity.now (map shown_expr list.now) often (shown_otherwise failing.now)))) }
+    ensures { OnOk result (out.new ≡ out.old ++ spaced
+        (statement_words (Call 0 into.now 0 activity.now (map shown_expr list.now) often (shown_otherwise failing.now)))) }
 {
     out.name(into)?;
     out.mark(Mark::Assign)?;
@@ -214,7 +216,8 @@ fn wait_for(
     signal: &Key,
     delay: &Expr,
 ) -> Result<(), AllocError>
-    ensures { OnOk result (out.new ≡ out.old ++ spaced (statement_words (WaitSignalFor 0 into.now 0 signal.now (shown_expr delay.now) (shown_braced late.now).0 0))) }
+    ensures { OnOk result (out.new ≡ out.old ++ spaced
+        (statement_words (WaitSignalFor 0 into.now 0 signal.now (shown_expr delay.now) (shown_braced late.now).0 0))) }
 {
     wait_head(out, into, signal)?;
     out.mark(Mark::For)?;

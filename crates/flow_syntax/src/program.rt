@@ -70,7 +70,8 @@ fn types(alloc: Global, tokens: &[Token]) -> Result<(Vec<TypeAt>, &[Token]), Sto
 
 /// An activity, behind its keyword, which stands at this place.
 fn activity(alloc: Global, at: usize, tokens: &[Token]) -> Result<(Declaration, &[Token]), Stop>
-    ensures ok { IfOk result (λ x. Parsed m.declaration declaration_tokens declaration_of (marked at Mark.Activity ∷ lexemes tokens.now) (shown_declaration x.0) (lexemes x.1.now)) }
+    ensures ok { IfOk result (λ x. Parsed m.declaration declaration_tokens declaration_of (marked at Mark.Activity ∷ lexemes tokens.now)
+        (shown_declaration x.0) (lexemes x.1.now)) }
     ensures shorter { IfOk result (λ x. length x.1.now < length tokens.now) }
     ensures err { IfErr result (λ e. StopsAt m.declaration (marked at Mark.Activity ∷ lexemes tokens.now) e) }
 {
@@ -88,7 +89,8 @@ fn activity(alloc: Global, at: usize, tokens: &[Token]) -> Result<(Declaration, 
 
 /// A signal, behind its keyword, which stands at this place.
 fn signal(alloc: Global, at: usize, tokens: &[Token]) -> Result<(Declaration, &[Token]), Stop>
-    ensures ok { IfOk result (λ x. Parsed m.declaration declaration_tokens declaration_of (marked at Mark.Signal ∷ lexemes tokens.now) (shown_declaration x.0) (lexemes x.1.now)) }
+    ensures ok { IfOk result (λ x. Parsed m.declaration declaration_tokens declaration_of (marked at Mark.Signal ∷ lexemes tokens.now)
+        (shown_declaration x.0) (lexemes x.1.now)) }
     ensures shorter { IfOk result (λ x. length x.1.now < length tokens.now) }
     ensures err { IfErr result (λ e. StopsAt m.declaration (marked at Mark.Signal ∷ lexemes tokens.now) e) }
 {
@@ -101,7 +103,8 @@ fn signal(alloc: Global, at: usize, tokens: &[Token]) -> Result<(Declaration, &[
 
 /// The declaration that a body begins with, if it does, and what follows it.
 fn declaration(alloc: Global, tokens: &[Token]) -> Result<Option<(Declaration, &[Token])>, Stop>
-    ensures ok { IfOk result (λ o. MatchOption o (Lacks Mark.Activity (lexemes tokens.now) × Lacks Mark.Signal (lexemes tokens.now)) (λ x. Declares (lexemes tokens.now) (shown_declaration x.0) (lexemes x.1.now))) }
+    ensures ok { IfOk result (λ o. MatchOption o (Lacks Mark.Activity (lexemes tokens.now) × Lacks Mark.Signal (lexemes tokens.now))
+        (λ x. Declares (lexemes tokens.now) (shown_declaration x.0) (lexemes x.1.now))) }
     ensures shorter { IfOk result (λ o. IfSome o (λ x. length x.1.now < length tokens.now)) }
     ensures err { IfErr result (λ e. StopsAt m.body (lexemes tokens.now) e) }
 {
@@ -119,7 +122,8 @@ fn body(
     alloc: Global,
     tokens: &[Token],
 ) -> Result<(Vec<Declaration>, Arc<Vec<Stmt>>, usize, &[Token]), Stop>
-    ensures ok { IfOk result (λ x. Parsed m.body body_tokens whole_body_of (lexemes tokens.now) (map shown_declaration x.0.items, (shown_block x.1.value.items, x.2)) (lexemes x.3.now)) }
+    ensures ok { IfOk result (λ x. Parsed m.body body_tokens whole_body_of (lexemes tokens.now)
+        (map shown_declaration x.0.items, (shown_block x.1.value.items, x.2)) (lexemes x.3.now)) }
     ensures shorter { IfOk result (λ x. length x.3.now < length tokens.now) }
     ensures err { IfErr result (λ e. StopsAt m.body (lexemes tokens.now) e) }
 {

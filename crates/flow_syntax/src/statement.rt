@@ -18,7 +18,8 @@ use std::sync::Arc;
 
 /// A `let`, behind its keyword, which stands at this place.
 fn let_statement(alloc: Global, at: usize, tokens: &[Token]) -> Result<(Stmt, &[Token]), Stop>
-    ensures ok { IfOk result (λ x. Parsed m.statement statement_tokens statement_of (marked at Mark.Let ∷ lexemes tokens.now) (shown_stmt x.0) (lexemes x.1.now)) }
+    ensures ok { IfOk result (λ x. Parsed m.statement statement_tokens statement_of (marked at Mark.Let ∷ lexemes tokens.now)
+        (shown_stmt x.0) (lexemes x.1.now)) }
     ensures shorter { IfOk result (λ x. length x.1.now < length tokens.now) }
     ensures err { IfErr result (λ e. StopsAt m.statement (marked at Mark.Let ∷ lexemes tokens.now) e) }
 {
@@ -31,7 +32,8 @@ fn let_statement(alloc: Global, at: usize, tokens: &[Token]) -> Result<(Stmt, &[
 
 /// A `sleep`, behind its keyword, which stands at this place.
 fn sleep_statement(alloc: Global, at: usize, tokens: &[Token]) -> Result<(Stmt, &[Token]), Stop>
-    ensures ok { IfOk result (λ x. Parsed m.statement statement_tokens statement_of (marked at Mark.Sleep ∷ lexemes tokens.now) (shown_stmt x.0) (lexemes x.1.now)) }
+    ensures ok { IfOk result (λ x. Parsed m.statement statement_tokens statement_of (marked at Mark.Sleep ∷ lexemes tokens.now)
+        (shown_stmt x.0) (lexemes x.1.now)) }
     ensures shorter { IfOk result (λ x. length x.1.now < length tokens.now) }
     ensures err { IfErr result (λ e. StopsAt m.statement (marked at Mark.Sleep ∷ lexemes tokens.now) e) }
 {
@@ -42,7 +44,8 @@ fn sleep_statement(alloc: Global, at: usize, tokens: &[Token]) -> Result<(Stmt, 
 
 /// A `return`, behind its keyword, which stands at this place.
 fn return_statement(alloc: Global, at: usize, tokens: &[Token]) -> Result<(Stmt, &[Token]), Stop>
-    ensures ok { IfOk result (λ x. Parsed m.statement statement_tokens statement_of (marked at Mark.Return ∷ lexemes tokens.now) (shown_stmt x.0) (lexemes x.1.now)) }
+    ensures ok { IfOk result (λ x. Parsed m.statement statement_tokens statement_of (marked at Mark.Return ∷ lexemes tokens.now)
+        (shown_stmt x.0) (lexemes x.1.now)) }
     ensures shorter { IfOk result (λ x. length x.1.now < length tokens.now) }
     ensures err { IfErr result (λ e. StopsAt m.statement (marked at Mark.Return ∷ lexemes tokens.now) e) }
 {
@@ -53,7 +56,8 @@ fn return_statement(alloc: Global, at: usize, tokens: &[Token]) -> Result<(Stmt,
 
 /// A `fail`, behind its keyword, which stands at this place.
 fn fail_statement(alloc: Global, at: usize, tokens: &[Token]) -> Result<(Stmt, &[Token]), Stop>
-    ensures ok { IfOk result (λ x. Parsed m.statement statement_tokens statement_of (marked at Mark.Fail ∷ lexemes tokens.now) (shown_stmt x.0) (lexemes x.1.now)) }
+    ensures ok { IfOk result (λ x. Parsed m.statement statement_tokens statement_of (marked at Mark.Fail ∷ lexemes tokens.now)
+        (shown_stmt x.0) (lexemes x.1.now)) }
     ensures shorter { IfOk result (λ x. length x.1.now < length tokens.now) }
     ensures err { IfErr result (λ e. StopsAt m.statement (marked at Mark.Fail ∷ lexemes tokens.now) e) }
 {
@@ -64,7 +68,8 @@ fn fail_statement(alloc: Global, at: usize, tokens: &[Token]) -> Result<(Stmt, &
 
 /// A `continue as new`, behind its first keyword, which stands at this place.
 fn continue_statement(alloc: Global, at: usize, tokens: &[Token]) -> Result<(Stmt, &[Token]), Stop>
-    ensures ok { IfOk result (λ x. Parsed m.statement statement_tokens statement_of (marked at Mark.Continue ∷ lexemes tokens.now) (shown_stmt x.0) (lexemes x.1.now)) }
+    ensures ok { IfOk result (λ x. Parsed m.statement statement_tokens statement_of (marked at Mark.Continue ∷ lexemes tokens.now)
+        (shown_stmt x.0) (lexemes x.1.now)) }
     ensures shorter { IfOk result (λ x. length x.1.now < length tokens.now) }
     ensures err { IfErr result (λ e. StopsAt m.statement (marked at Mark.Continue ∷ lexemes tokens.now) e) }
 {
@@ -79,7 +84,8 @@ fn continue_statement(alloc: Global, at: usize, tokens: &[Token]) -> Result<(Stm
 /// A `deprecate`, behind the name that it begins with, which stands at this place.
 fn deprecate_statement(alloc: Global, at: usize, tokens: &[Token]) -> Result<(Stmt, &[Token]), Stop>
     requires { BeginsText (lexemes tokens.now) }
-    ensures ok { IfOk result (λ x. Parsed m.statement statement_tokens statement_of (named at deprecate_name ∷ lexemes tokens.now) (shown_stmt x.0) (lexemes x.1.now)) }
+    ensures ok { IfOk result (λ x. Parsed m.statement statement_tokens statement_of (named at deprecate_name ∷ lexemes tokens.now)
+        (shown_stmt x.0) (lexemes x.1.now)) }
     ensures shorter { IfOk result (λ x. length x.1.now < length tokens.now) }
     ensures err { IfErr result (λ e. StopsAt m.statement (named at deprecate_name ∷ lexemes tokens.now) e) }
 {
@@ -121,7 +127,8 @@ fn tried(tokens: &[Token]) -> Result<(Retry, &[Token]), Stop>
 /// A call behind its keyword, up to its `else`: the place of the activity, the activity, its arguments, and how often it
 /// is tried.
 fn called(alloc: Global, tokens: &[Token]) -> Result<(usize, Key, Vec<Expr>, Retry, &[Token]), Stop>
-    ensures ok { IfOk result (λ x. (at : ℕ) (into : tree.Bytes) (call_at : ℕ) → IsCalled at into (marked call_at Mark.Call ∷ lexemes tokens.now) x.0 x.1 (map shown_expr x.2.items) x.3 (lexemes x.4.now)) }
+    ensures ok { IfOk result (λ x. (at : ℕ) (into : tree.Bytes) (call_at : ℕ)
+        → IsCalled at into (marked call_at Mark.Call ∷ lexemes tokens.now) x.0 x.1 (map shown_expr x.2.items) x.3 (lexemes x.4.now)) }
     ensures shorter { IfOk result (λ x. length x.4.now < length tokens.now) }
     ensures err { IfErr result (λ e. (call_at : ℕ) → StopsAt m.side (marked call_at Mark.Call ∷ lexemes tokens.now) e) }
 {
@@ -165,7 +172,8 @@ fn braced(list: Arc<Vec<Stmt>>, end: usize) -> Block
 
 /// Branches of which this is the first, up to the brace at this end.
 fn in_parallel(at: usize, first_at: usize, body: Block, others: Vec<Branch>, end: usize) -> Stmt
-    ensures { shown_stmt result ≡ tree.Parallel at (tree.Branch first_at (shown_braced body).0 (shown_braced body).1 (branches_of (map shown_branch others.items))) end }
+    ensures { shown_stmt result ≡ tree.Parallel at
+        (tree.Branch first_at (shown_braced body).0 (shown_braced body).1 (branches_of (map shown_branch others.items))) end }
 {
     let first = one_branch(first_at, body);
     Stmt::Parallel(at, first, others, end)
@@ -193,7 +201,8 @@ fn block(alloc: Global, tokens: &[Token]) -> Result<(usize, Block, &[Token]), St
 /// What is done where a call fails for good, if the call says so, and what follows its `;`.
 #[cycle(statement)]
 fn else_tail(alloc: Global, tokens: &[Token]) -> Result<(Option<Block>, &[Token]), Stop>
-    ensures ok { IfOk result (λ x. Parsed m.else_tail else_tail_tokens otherwise_of (lexemes tokens.now) (shown_otherwise x.0) (lexemes x.1.now)) }
+    ensures ok { IfOk result (λ x. Parsed m.else_tail else_tail_tokens otherwise_of (lexemes tokens.now) (shown_otherwise x.0)
+        (lexemes x.1.now)) }
     ensures shorter { IfOk result (λ x. length x.1.now < length tokens.now) }
     ensures err { IfErr result (λ e. StopsAt m.else_tail (lexemes tokens.now) e) }
 {
@@ -216,7 +225,8 @@ fn wait_tail(
     signal: Key,
     tokens: &[Token],
 ) -> Result<(Stmt, &[Token]), Stop>
-    ensures ok { IfOk result (λ x. Parsed m.wait_tail wait_tail_tokens (wait_of at into signal_at signal) (lexemes tokens.now) (shown_stmt x.0) (lexemes x.1.now)) }
+    ensures ok { IfOk result (λ x. Parsed m.wait_tail wait_tail_tokens (wait_of at into signal_at signal) (lexemes tokens.now)
+        (shown_stmt x.0) (lexemes x.1.now)) }
     ensures shorter { IfOk result (λ x. length x.1.now < length tokens.now) }
     ensures err { IfErr result (λ e. StopsAt m.wait_tail (lexemes tokens.now) e) }
 {
@@ -242,7 +252,8 @@ fn call_statement(
     into: Key,
     tokens: &[Token],
 ) -> Result<(Stmt, &[Token]), Stop>
-    ensures ok { IfOk result (λ x. (call_at : ℕ) → Parsed m.side side_tokens (side_of at into) (marked call_at Mark.Call ∷ lexemes tokens.now) (shown_stmt x.0) (lexemes x.1.now)) }
+    ensures ok { IfOk result (λ x. (call_at : ℕ) → Parsed m.side side_tokens (side_of at into)
+        (marked call_at Mark.Call ∷ lexemes tokens.now) (shown_stmt x.0) (lexemes x.1.now)) }
     ensures shorter { IfOk result (λ x. length x.1.now < length tokens.now) }
     ensures err { IfErr result (λ e. (call_at : ℕ) → StopsAt m.side (marked call_at Mark.Call ∷ lexemes tokens.now) e) }
 {
@@ -262,7 +273,8 @@ fn wait_statement(
     into: Key,
     tokens: &[Token],
 ) -> Result<(Stmt, &[Token]), Stop>
-    ensures ok { IfOk result (λ x. (wait_at : ℕ) → Parsed m.side side_tokens (side_of at into) (marked wait_at Mark.Wait ∷ lexemes tokens.now) (shown_stmt x.0) (lexemes x.1.now)) }
+    ensures ok { IfOk result (λ x. (wait_at : ℕ) → Parsed m.side side_tokens (side_of at into)
+        (marked wait_at Mark.Wait ∷ lexemes tokens.now) (shown_stmt x.0) (lexemes x.1.now)) }
     ensures shorter { IfOk result (λ x. length x.1.now < length tokens.now) }
     ensures err { IfErr result (λ e. (wait_at : ℕ) → StopsAt m.side (marked wait_at Mark.Wait ∷ lexemes tokens.now) e) }
 {
@@ -297,7 +309,8 @@ fn right_side(
 /// A `while`, behind its keyword, which stands at this place.
 #[cycle(statement)]
 fn while_statement(alloc: Global, at: usize, tokens: &[Token]) -> Result<(Stmt, &[Token]), Stop>
-    ensures ok { IfOk result (λ x. Parsed m.statement statement_tokens statement_of (marked at Mark.While ∷ lexemes tokens.now) (shown_stmt x.0) (lexemes x.1.now)) }
+    ensures ok { IfOk result (λ x. Parsed m.statement statement_tokens statement_of (marked at Mark.While ∷ lexemes tokens.now)
+        (shown_stmt x.0) (lexemes x.1.now)) }
     ensures shorter { IfOk result (λ x. length x.1.now < length tokens.now) }
     ensures err { IfErr result (λ e. StopsAt m.statement (marked at Mark.While ∷ lexemes tokens.now) e) }
 {
@@ -309,7 +322,8 @@ fn while_statement(alloc: Global, at: usize, tokens: &[Token]) -> Result<(Stmt, 
 /// The branches behind the first one, the place of the brace that closes them, and what follows it.
 #[cycle(statement)]
 fn branches(alloc: Global, tokens: &[Token]) -> Result<(Vec<Branch>, usize, &[Token]), Stop>
-    ensures ok { IfOk result (λ x. Parsed m.more_branches branches_tokens shut_of (lexemes tokens.now) (branches_of (map shown_branch x.0.items), x.1) (lexemes x.2.now)) }
+    ensures ok { IfOk result (λ x. Parsed m.more_branches branches_tokens shut_of (lexemes tokens.now)
+        (branches_of (map shown_branch x.0.items), x.1) (lexemes x.2.now)) }
     ensures shorter { IfOk result (λ x. length x.2.now < length tokens.now) }
     ensures err { IfErr result (λ e. StopsAt m.more_branches (lexemes tokens.now) e) }
 {
@@ -328,7 +342,8 @@ fn branches(alloc: Global, tokens: &[Token]) -> Result<(Vec<Branch>, usize, &[To
 /// A `parallel`, behind its keyword, which stands at this place.
 #[cycle(statement)]
 fn parallel_statement(alloc: Global, at: usize, tokens: &[Token]) -> Result<(Stmt, &[Token]), Stop>
-    ensures ok { IfOk result (λ x. Parsed m.statement statement_tokens statement_of (marked at Mark.Parallel ∷ lexemes tokens.now) (shown_stmt x.0) (lexemes x.1.now)) }
+    ensures ok { IfOk result (λ x. Parsed m.statement statement_tokens statement_of (marked at Mark.Parallel ∷ lexemes tokens.now)
+        (shown_stmt x.0) (lexemes x.1.now)) }
     ensures shorter { IfOk result (λ x. length x.1.now < length tokens.now) }
     ensures err { IfErr result (λ e. StopsAt m.statement (marked at Mark.Parallel ∷ lexemes tokens.now) e) }
 {
@@ -341,7 +356,8 @@ fn parallel_statement(alloc: Global, at: usize, tokens: &[Token]) -> Result<(Stm
 /// A statement but `if` and `patch`.
 #[cycle(statement)]
 fn statement(alloc: Global, tokens: &[Token]) -> Result<(Stmt, &[Token]), Stop>
-    ensures ok { IfOk result (λ x. Parsed m.statement statement_tokens statement_of (lexemes tokens.now) (shown_stmt x.0) (lexemes x.1.now)) }
+    ensures ok { IfOk result (λ x. Parsed m.statement statement_tokens statement_of (lexemes tokens.now) (shown_stmt x.0)
+        (lexemes x.1.now)) }
     ensures shorter { IfOk result (λ x. length x.1.now < length tokens.now) }
     ensures err { IfErr result (λ e. StopsAt m.statement (lexemes tokens.now) e) }
 {
@@ -407,7 +423,8 @@ pub fn statements(
     alloc: Global,
     tokens: &[Token],
 ) -> Result<(Arc<Vec<Stmt>>, usize, &[Token]), Stop>
-    ensures ok { IfOk result (λ x. Parsed m.statements statements_tokens end_of (lexemes tokens.now) (shown_block x.0.value.items, x.1) (lexemes x.2.now)) }
+    ensures ok { IfOk result (λ x. Parsed m.statements statements_tokens end_of (lexemes tokens.now) (shown_block x.0.value.items, x.1)
+        (lexemes x.2.now)) }
     ensures shorter { IfOk result (λ x. length x.2.now < length tokens.now) }
     ensures err { IfErr result (λ e. StopsAt m.statements (lexemes tokens.now) e) }
 {

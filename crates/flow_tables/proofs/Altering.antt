@@ -1,6 +1,6 @@
 -- What changes of a run beside its turns: the text that it goes on under, and the attempt at an activity.
 use Rattle.std.specs.Prelude.{◌≡◌, ◌∷◌}
-use Rattle.flow_tables.proofs.Names.{Book, Tells, Task, task_row, with_task, without_task, is_other_task, Tables, OutboxRow, State, AllByRecursion, List, Option, false, filter, int_eq, pos, true, ℕ, ℤ, [], refl, Result, Some, None, Changes, IsStill, tables_in, HasTables, nth, Run, subst, ◌∙◌, sym, ap, inl, inr, true≢false}
+use Rattle.flow_tables.proofs.Names.{Book, Tells, OpenActivity, task_row, with_task, without_task, is_other_task, Tables, OutboxRow, State, AllByRecursion, List, Option, false, filter, int_eq, pos, true, ℕ, ℤ, [], refl, Result, Some, None, Changes, IsStill, tables_in, HasTables, nth, Run, subst, ◌∙◌, sym, ap, inl, inr, true≢false}
 use Rattle.flow_tables.proofs.Names.{OrCut, list_any, cases_Bool, Decides-int_eq, HasRun, IsWelcomeTask}
 use Rattle.flow_rows.specs.Changes.{with_task_in_place}
 use Rattle.flow_rows.proofs.Behind.{run_there, no_rows_yet}
@@ -22,7 +22,7 @@ left_new : (run id : ℤ) (t : Tables) → AllByRecursion (λ (x : OutboxRow). i
 left_new run id t = let here : int_eq run run ≡ true = (Decides-int_eq run run).1 refl in rw here (no_other id (t.outbox run))
 
 -- its row is new once it has gone
-pub comes_again : (run : ℤ) (task : Task) (row : OutboxRow) (t u : Tables) → row ≡ task_row run task → u ≡ without_task run (pos task.event) t → HasRun run t → IsWelcomeTask row u
+pub comes_again : (run : ℤ) (task : OpenActivity) (row : OutboxRow) (t u : Tables) → row ≡ task_row run task → u ≡ without_task run (pos task.event) t → HasRun run t → IsWelcomeTask row u
 comes_again run task row t u is left has =
     subst (λ x. IsWelcomeTask x u) (sym is) (subst (λ v. IsWelcomeTask (task_row run task) v) (sym left) (record { parent = has; fresh = left_new run (pos task.event) t }))
 
@@ -37,11 +37,11 @@ run_of_task t b n id tells there = by_run (nth b.runs n) refl
     by_run None is = absurd (true≢false (there ∙ ap (λ rows. list_any (is_task_at id) rows) (no_rows_yet t b n tells is).2))
 
 -- nothing changes where it isn't there
-pub no_task_set : (old mid : State) (run : ℤ) (task : Task) → IsStill true old mid → false ≡ has_task run (pos task.event) (tables_in old.now) → Changes old mid (with_task_in_place (task_row run task) (tables_in old.now))
+pub no_task_set : (old mid : State) (run : ℤ) (task : OpenActivity) → IsStill true old mid → false ≡ has_task run (pos task.event) (tables_in old.now) → Changes old mid (with_task_in_place (task_row run task) (tables_in old.now))
 no_task_set old mid run task still none = subst (Changes old mid) (sym (no_task_in_place (tables_in old.now) (task_row run task) (sym none))) (still_changes old mid still)
 
 -- and where it is there, its row is in its place
-pub task_set : {E : Type 0} (old mid new : State) (run : ℤ) (task : Task) (r : Result Unit E) → HasTables old.now → IsStill true old mid → true ≡ has_task run (pos task.event) (tables_in old.now)
+pub task_set : {E : Type 0} (old mid new : State) (run : ℤ) (task : OpenActivity) (r : Result Unit E) → HasTables old.now → IsStill true old mid → true ≡ has_task run (pos task.event) (tables_in old.now)
     → OrCut mid new r (Changes mid new (with_task (task_row run task) (without_task run (pos task.event) (tables_in mid.now)))) → OrCut old new r (Unit {0} × Changes old new (with_task_in_place (task_row run task) (tables_in old.now)))
 task_set old mid new run task r has still there = behind_put old mid new _ r (still_changes old mid still) (λ done.
     let whole = still_then old mid new (λ t. with_task (task_row run task) (without_task run (pos task.event) t)) still done in

@@ -1,7 +1,7 @@
 -- That the statements which are made, where so much is known of the rows, leave what all of them would.
 use Rattle.std.specs.Prelude.{◌≡◌, ◌∷◌, ◌+◌, if◌then◌else◌, ◌++◌}
 use Rattle.std.proofs.Common.{eqb-true}
-use Rattle.flow_tables.proofs.Names.{timers_left, inl, inr, effect_of, Bytes, Run, Task, Turn, Effect, Cmd, Event, Input, Started, Came, Book, nth, is_open, state_of, traces, turn_events, is_other_task, marked, marked_row, with_event, with_run, with_timer, without_tasks, without_timers, event_row, of_run, task_row, timer_row, Tells, after_effect, after_turn, new_run, Tables, OutboxRow, RunRow, State, AllByRecursion, int_eq, Bool, List, Option, false, filter, int_lt, map, pos, true, ℕ, Changes, tables_in, OpenTasks, Standing, None, Some, length, ℤ, [], refl, suc, eqb as nat_eq, subst, ◌∙◌, sym, ap, arith, made_turn, true≢false, Stands, stands_what, made_event, made_events, begins, first_row, first_standing, started_timer, HasOnly, ended, stands_by, tasks_gone, timers_gone, made_effect, any_standing, tasks_known, opens_timer, cases_Bool, Decides-int_eq, TimerRow, head_of}
+use Rattle.flow_tables.proofs.Names.{timers_left, inl, inr, effect_of, Bytes, Run, OpenActivity, Turn, Effect, Cmd, Event, Input, Started, Came, Book, nth, is_open, state_of, traces, turn_events, is_other_task, marked, marked_row, with_event, with_run, with_timer, without_tasks, without_timers, event_row, of_run, task_row, timer_row, Tells, after_effect, after_turn, new_run, Tables, OutboxRow, RunRow, State, AllByRecursion, int_eq, Bool, List, Option, false, filter, int_lt, map, pos, true, ℕ, Changes, tables_in, OpenTasks, RowStanding, None, Some, length, ℤ, [], refl, suc, eqb as nat_eq, subst, ◌∙◌, sym, ap, arith, made_turn, true≢false, Stands, stands_what, made_event, made_events, begins, first_row, first_standing, started_timer, HasOnly, ended, stands_by, tasks_gone, timers_gone, made_effect, any_standing, tasks_known, opens_timer, cases_Bool, Decides-int_eq, TimerRow, head_of}
 use Rattle.std.proofs.lemmas.List.{map-append}
 use Rattle.sqlite_catalog.proofs.ListFacts.{filter_swap}
 use Rattle.std.proofs.lemmas.Option.{slice_get_past}
@@ -42,7 +42,7 @@ mark_is run true t same = λ i. record t { runs = sym (same refl) i }
 mark_is run false t same = refl
 
 -- The statements that are made leave what all of them would.
-effect_is : (run : ℤ) (s : Standing) (id at : ℕ) (e : Effect) (t : Tables) → Stands run s t → made_effect run s id at e t ≡ after_effect run s.is_open id at e t
+effect_is : (run : ℤ) (s : RowStanding) (id at : ℕ) (e : Effect) (t : Tables) → Stands run s t → made_effect run s id at e t ≡ after_effect run s.is_open id at e t
 effect_is run s id at effect.Begins t h = mark_is run s.is_marked t h.mark
 effect_is run s id at (effect.Closes x) t h =
     ap (λ u. marked run (pos 0) (timers_gone run s.has_timers u)) (tasks_gone_is run s.tasks t h.tasks)
@@ -64,11 +64,11 @@ none_only tasks.Gone = refl
 none_only (tasks.Single n) = refl
 none_only tasks.Unsure = tt
 
-timer_started : (run : ℤ) (s : Standing) (row : TimerRow) (t : Tables) (v : Bool) → Stands run s t → Stands run (record s { has_timers = true }) (if v then with_timer row t else t)
+timer_started : (run : ℤ) (s : RowStanding) (row : TimerRow) (t : Tables) (v : Bool) → Stands run s t → Stands run (record s { has_timers = true }) (if v then with_timer row t else t)
 timer_started run s row t true h = record { mark = h.mark; tasks = h.tasks; timers = λ none. absurd (true≢false none) }
 timer_started run s row t false h = record { mark = h.mark; tasks = h.tasks; timers = λ none. absurd (true≢false none) }
 
-stands_on : (run : ℤ) (s : Standing) (id at : ℕ) (e : Effect) (t : Tables) → Stands run s t → Stands run (stands_by s e) (after_effect run s.is_open id at e t)
+stands_on : (run : ℤ) (s : RowStanding) (id at : ℕ) (e : Effect) (t : Tables) → Stands run s t → Stands run (stands_by s e) (after_effect run s.is_open id at e t)
 stands_on run s id at effect.Begins t h = record { mark = λ is. ap (map (marked_row run (pos 1))) (h.mark is); tasks = h.tasks; timers = h.timers }
 stands_on run s id at effect.OpensActivity t h = record { mark = h.mark; tasks = tt; timers = h.timers }
 stands_on run s id at (effect.OpensTimer due) t h = timer_started run s _ t s.is_open h
@@ -89,11 +89,11 @@ stands_on run s id at (effect.Closes x) t h = record {
 }
 stands_on run s id at effect.Nothing t h = h
 
-opens_alike : (s : Standing) (e : Effect) → (stands_by s e).is_open ≡ opened_by s.is_open e
+opens_alike : (s : RowStanding) (e : Effect) → (stands_by s e).is_open ≡ opened_by s.is_open e
 opens_alike s effect.Begins = refl
 opens_alike s _ = refl
 
-pub made_all : (run : ℤ) (es : List Event) (s : Standing) (t : Tables) → Stands run s t → made_events run s es t ≡ after_events run s.is_open es t
+pub made_all : (run : ℤ) (es : List Event) (s : RowStanding) (t : Tables) → Stands run s t → made_events run s es t ≡ after_events run s.is_open es t
 made_all run [] s t h = refl
 made_all run (e ∷ es) s t h =
     -- an event's own row is none of these
@@ -104,7 +104,7 @@ made_all run (e ∷ es) s t h =
     ∙ ap (λ v. after_events run v es (after_event run s.is_open e t)) (opens_alike s (effect_of e.what))
 
 -- so a turn that was put is the turn
-pub turn_made : (old new : State) (run : ℤ) (s : Standing) (count : ℕ) (turn : Turn) → Stands run s (tables_in old.now) → Changes old new (made_turn run s count turn (tables_in old.now))
+pub turn_made : (old new : State) (run : ℤ) (s : RowStanding) (count : ℕ) (turn : Turn) → Stands run s (tables_in old.now) → Changes old new (made_turn run s count turn (tables_in old.now))
     → Changes old new (after_turn run s.is_open count turn (tables_in old.now))
 turn_made old new run s count turn h done = subst (Changes old new) (made_all run (turn_events (count + 1) turn.at turn.input turn.commands) s (tables_in old.now) h) done
 
@@ -165,7 +165,7 @@ no_timer : (es : List Event) → started_timer es ≡ false → timers_after [] 
 no_timer [] none = refl
 no_timer (e ∷ es) none = no_timer_more e es (opens_timer (effect_of e.what)) refl (no_timer es) none
 
-tasks_only : (run : ℤ) (ts : List Task) → HasOnly (tasks_known ts) (map (task_row run) ts)
+tasks_only : (run : ℤ) (ts : List OpenActivity) → HasOnly (tasks_known ts) (map (task_row run) ts)
 tasks_only run [] = refl
 tasks_only run (x ∷ []) = let same : int_eq (pos x.event) (pos x.event) ≡ true = (Decides-int_eq (pos x.event) (pos x.event)).1 refl in rw same refl
 tasks_only run (x ∷ y ∷ ts) = tt

@@ -1,6 +1,6 @@
 -- What tables keep true of their connection, call by call.
 use Rattle.std.specs.Prelude.{◌≡◌, ◌⊎◌}
-use Rattle.flow_tables.proofs.Names.{Change, Book, FitsTables, Tells, after_change, Database, Executes, HasCleanDisk, State, Survives, Error, Bool, IsTrue, List, MatchResult, Option, false, true, ℕ, Changes, HasBegun, HasCommitted, HasEnded, HasTables, Holds, IsOver, IsRefused, IsStill, IsUndone, tables_in, Refusal, Known, ViewFault, Err, IfOk, None, Ok, OnOk, Some, [], refl, Result, changed, subst, ◌∙◌, sym, ap, inl, inr, true≢false, was_clean, book_of, IsCutShort, IsOwn, Keeps, IsKnown, ShowsBook, rolled_back_ended, told_answer, IsAware, HasCounted, error_leaves, IsFileOf, IsSure, KeepsOn, WasUp, ReadsBook, IsNoted, Ghosts, kept_book, IsUp}
+use Rattle.flow_tables.proofs.Names.{Change, Book, FitsTables, Tells, after_change, Database, Executes, HasCleanDisk, State, Survives, Error, Bool, IsTrue, List, MatchResult, Option, false, true, ℕ, Changes, HasBegun, HasCommitted, HasEnded, HasTables, Holds, IsOver, IsRefused, IsStill, IsUndone, tables_in, Refusal, RowFacts, ViewFault, Err, IfOk, None, Ok, OnOk, Some, [], refl, Result, changed, subst, ◌∙◌, sym, ap, inl, inr, true≢false, was_clean, book_of, IsCutShort, IsOwn, Keeps, IsKnown, ShowsBook, rolled_back_ended, told_answer, IsAware, HasCounted, error_leaves, IsFileOf, IsSure, KeepsOn, WasUp, ReadsBook, IsNoted, Ghosts, kept_book, IsUp}
 use Rattle.flow_tables.proofs.Names.{OrCut, WasPut, Shows, AreUtf8, noted_fault, ShowsOddText, IsTypedChange}
 use Rattle.flow_tables.specs.Owned.{Stored, state_of, LeavesWritten}
 use Rattle.sqlite.specs.State.{IsUnchanged, IsRolledBack}
@@ -211,7 +211,7 @@ module _ (old new : State) (ours : Type 0) (ro rn : Option Refusal) (owned : our
     pub read_leaves : ours → HasCleanDisk new → LeavesCommit old new
     read_leaves fit now = cut_leaves old new (shows fit now).0 (refused_first old new (refused_at fit now))
 
-    pub read_aware : (k : Known) → (ours → HasCleanDisk old → IsAware old ro k) → ours → HasCleanDisk new → IsAware new rn k
+    pub read_aware : (k : RowFacts) → (ours → HasCleanDisk old → IsAware old ro k) → ours → HasCleanDisk new → IsAware new rn k
     read_aware k aware fit now same _ = still_so r (value (book_of old.now)) (λ d. IsKnown k (tables_in d)) (told_at r value reads fit now) noted (aware fit (clean now) none inside) same
 
   pub follows_on : (a : State) → (ours → Holds true old → Survives old new (λ _. ⊥)) → (ours → HasCleanDisk new → LeavesCommit old new) → KeepsOn ours a old → WasUp ours a old → HasCounted ours a old
@@ -225,32 +225,32 @@ module _ (old new : State) (ours : Type 0) (ro rn : Option Refusal) (owned : our
     λ fit now. since_then a old new (counted fit (clean now)) (survived old new _ (survives fit (holds fit))),
   )
 
-  abbrev Aware : Known → Type 0
+  abbrev Aware : RowFacts → Type 0
   Aware k = ours → HasCleanDisk old → IsAware old ro k
 
-  abbrev Puts : Result Unit Refusal → Change → Known → Type 0
+  abbrev Puts : Result Unit Refusal → Change → RowFacts → Type 0
   Puts r c k = (b : Book) → Tells (tables_in old.now) b → IsKnown k (tables_in old.now) → Holds true old → HasCleanDisk new → OrCut old new r (WasPut b c old new)
 
-  put_at : (r : Result Unit Refusal) (c : Change) (k : Known) → Aware k → Puts r c k → ours → HasCleanDisk new → OrCut old new r (WasPut (book_of old.now) c old new)
+  put_at : (r : Result Unit Refusal) (c : Change) (k : RowFacts) → Aware k → Puts r c k → ours → HasCleanDisk new → OrCut old new r (WasPut (book_of old.now) c old new)
   put_at r c k aware put fit now = put (book_of old.now) (shows fit now).1.tells (aware fit (clean now) none inside) (holds fit) now
 
-  pub put_own : (r : Result Unit Refusal) (c : Change) (k : Known) → Aware k → Puts r c k → IsNoted (λ x. x) r ro rn → IsTypedChange c → ours → HasCleanDisk new → IsOwn new rn
+  pub put_own : (r : Result Unit Refusal) (c : Change) (k : RowFacts) → Aware k → Puts r c k → IsNoted (λ x. x) r ro rn → IsTypedChange c → ours → HasCleanDisk new → IsOwn new rn
   put_own (Ok v) c k aware put n typed fit now = let it = put_at (Ok v) c k aware put fit now in own_put old new ro (owned fit (clean now)) inside none c typed it.0 it.1 rn
   put_own (Err f) c k aware put n typed fit now = subst (λ s. IsOwn new s) (sym n) (own_cut old new ro (owned fit (clean now)) inside none f (put_at (Err f) c k aware put fit now))
 
-  pub put_utf8 : (r : Result Unit Refusal) (c : Change) (k : Known) → Aware k → Puts r c k → IsNoted (λ x. x) r ro rn → ours → HasCleanDisk new → ShowsOddText new → ⊥
+  pub put_utf8 : (r : Result Unit Refusal) (c : Change) (k : RowFacts) → Aware k → Puts r c k → IsNoted (λ x. x) r ro rn → ours → HasCleanDisk new → ShowsOddText new → ⊥
   put_utf8 (Ok v) c k aware put n fit now odd = odd.1 ((put_at (Ok v) c k aware put fit now).1.utf8 (shows fit now).1.utf8)
   put_utf8 (Err f) c k aware put n fit now odd = odd_cut old new (shows fit now).1.utf8 (put_at (Err f) c k aware put fit now) odd
 
-  pub put_leaves : (r : Result Unit Refusal) (c : Change) (k : Known) → Aware k → Puts r c k → IsNoted (λ x. x) r ro rn → ours → HasCleanDisk new → LeavesCommit old new
+  pub put_leaves : (r : Result Unit Refusal) (c : Change) (k : RowFacts) → Aware k → Puts r c k → IsNoted (λ x. x) r ro rn → ours → HasCleanDisk new → LeavesCommit old new
   put_leaves (Ok v) c k aware put n fit now = record { was_open = λ _. (shows fit now).0; same = λ _. (put_at (Ok v) c k aware put fit now).1.committed }
   put_leaves (Err f) c k aware put n fit now = cut_leaves old new (shows fit now).0 (put_at (Err f) c k aware put fit now)
 
-  pub put_sure : (r : Result Unit Refusal) (c : Change) (k : Known) → Aware k → Puts r c k → IsNoted (λ x. x) r ro rn → (X : Type 0) → OnOk (told_answer r) (ours × HasCleanDisk new → X → IsSure ours new rn)
+  pub put_sure : (r : Result Unit Refusal) (c : Change) (k : RowFacts) → Aware k → Puts r c k → IsNoted (λ x. x) r ro rn → (X : Type 0) → OnOk (told_answer r) (ours × HasCleanDisk new → X → IsSure ours new rn)
   put_sure (Ok v) c k aware put n X = λ fit x. record { fit = fit.0; clean = fit.1; mode = (put_at (Ok v) c k aware put fit.0 fit.1).1.over.mode; none = n ∙ none }
   put_sure (Err f) c k aware put n X = tt
 
-  pub put_told : (r : Result Unit Refusal) (c : Change) (k : Known) → Aware k → Puts r c k → IsNoted (λ x. x) r ro rn → IsTypedChange c
+  pub put_told : (r : Result Unit Refusal) (c : Change) (k : RowFacts) → Aware k → Puts r c k → IsNoted (λ x. x) r ro rn → IsTypedChange c
       → OnOk (told_answer r) (IsSure ours new rn → book_of new.now ≡ changed (book_of old.now) c)
   put_told (Ok v) c k aware put n typed = λ sure. let it = put_at (Ok v) c k aware put sure.fit sure.clean in put_book old new ro (owned sure.fit (clean sure.clean)) inside none c typed it.0 it.1
   put_told (Err f) c k aware put n typed = tt

@@ -1,6 +1,6 @@
 -- What the tables keep true of the keys that are known, call by call.
 use Rattle.std.specs.Prelude.{◌≡◌, ◌≢◌, ◌+◌, ◌<◌, ◌++◌, ◌∷◌, nat_eq}
-use Rattle.flow_tables.proofs.Names.{cases_Bool, inl, inr, Change, Book, Run, RunRow, AllByRecursion, Bytes, Database, HasCleanDisk, State, Bool, List, Option, false, map, true, ℕ, HasBegun, HasCommitted, HasEnded, Refusal, ViewFault, Err, IfOk, None, Ok, OnOk, Some, [], length, refl, Result, changed, is_open, state_of, subst, ◌∙◌, sym, ap, true≢false, book_of, tables_in, IsOwn, told_answer, IsSure, ReadsBook, IsNoted, Maps, Task, nth, noted_fault}
+use Rattle.flow_tables.proofs.Names.{cases_Bool, inl, inr, Change, Book, Run, RunRow, AllByRecursion, Bytes, Database, HasCleanDisk, State, Bool, List, Option, false, map, true, ℕ, HasBegun, HasCommitted, HasEnded, Refusal, ViewFault, Err, IfOk, None, Ok, OnOk, Some, [], length, refl, Result, changed, is_open, state_of, subst, ◌∙◌, sym, ap, true≢false, book_of, tables_in, IsOwn, told_answer, IsSure, ReadsBook, IsNoted, Maps, OpenActivity, nth, noted_fault}
 use Rattle.std.proofs.Common.{take, get_or}
 use Rattle.std.proofs.lemmas.List.{map_more, take_more}
 use Rattle.flow_base.specs.declared.book.Timer.{Timer}
@@ -45,7 +45,7 @@ pub none_serve : (m : Maps) (texts : List Bytes) → AreKeys m [] [] → Awaits 
 none_serve m texts are awaits signals records = let b : Book = record { texts = texts; runs = [] } in record {
   requests = are.requests;
   flows = are.flows;
-  agenda = subst (λ (f : ℕ → List Timer). Knows m.agenda 0 0 f (tasks_at b)) (λ i n. sym (no_run timers_of n) i) (subst (λ (g : ℕ → List Task). Knows m.agenda 0 0 (λ n. []) g) (λ i n. sym (no_run tasks_of n) i) awaits);
+  agenda = subst (λ (f : ℕ → List Timer). Knows m.agenda 0 0 f (tasks_at b)) (λ i n. sym (no_run timers_of n) i) (subst (λ (g : ℕ → List OpenActivity). Knows m.agenda 0 0 (λ n. []) g) (λ i n. sym (no_run tasks_of n) i) awaits);
   signals = signals b refl;
   records = records b;
 }
@@ -125,10 +125,6 @@ module _ (old new : State) where
 pub read_behind : {A E : Type 0} (r : Result A E) (middle last : Type 0) (b b' b'' : Book) (value : Book → A) → (middle → b' ≡ b) → (last → middle) → IfOk r (λ v. Reads last b' b'' v (value b')) → IfOk r (λ v. Reads last b b'' v (value b))
 read_behind (Ok v) middle last b b' b'' value one was two = λ sure. let first = one (was sure) in let later = two sure in (later.0 ∙ first, later.1 ∙ ap value first)
 read_behind (Err f) middle last b b' b'' value one was two = tt
-
-pub learnt_on : {A E : Type 0} (r : Result A E) (X : Type 0) → X → OnOk r X
-learnt_on (Ok v) X x = x
-learnt_on (Err f) X x = tt
 
 pub goes_behind : {A E : Type 0} (r : Result A E) (X Y Y' Z : Type 0) → (X → Y → Y') → OnOk r (X → Y' → Z) → OnOk r (X → Y → Z)
 goes_behind (Ok v) X Y Y' Z one two = λ x y. two x (one x y)

@@ -5,7 +5,7 @@ pub use Rattle.flow_base.specs.Syntax.{Bytes}
 pub use Rattle.flow_base.specs.declared.book.Change.{Change}
 pub use Rattle.flow_base.specs.declared.book.Change.TheVariants.{AddRun, AddText, AddTurn, SetAttempt, SetText}
 pub use Rattle.flow_base.specs.declared.book.Run.{Run}
-pub use Rattle.flow_base.specs.declared.book.Task.{Task}
+pub use Rattle.flow_base.specs.declared.book.OpenActivity.{OpenActivity}
 pub use Rattle.flow_base.specs.declared.book.Turn.{Turn}
 pub use Rattle.flow_base.specs.declared.effect.Effect.{Effect}
 pub use Rattle.flow_base.specs.declared.event.Cmd.{Cmd}
@@ -41,10 +41,10 @@ pub use Rattle.sqlite_disk.specs.Disk.{MoreFaults}
 pub use Rattle.flow_tables.specs.Changed.{Changes, KeepsUtf8}
 pub use Rattle.flow_tables.specs.declared.fault.Refusal.{Refusal}
 pub use Rattle.flow_tables.specs.declared.fault.StoreFault.{StoreFault}
-pub use Rattle.flow_tables.specs.declared.known.Known.{Known}
+pub use Rattle.flow_tables.specs.declared.known.RowFacts.{RowFacts}
 pub use Rattle.flow_tables.specs.declared.known.KnownRun.{KnownRun}
 pub use Rattle.flow_tables.specs.declared.known.OpenTasks.{OpenTasks}
-pub use Rattle.flow_tables.specs.declared.known.Standing.{Standing}
+pub use Rattle.flow_tables.specs.declared.known.RowStanding.{RowStanding}
 pub use Rattle.flow_view.specs.declared.fault.ViewFault.{ViewFault}
 pub use Rattle.sqlite.specs.Reading.{IsReadError}
 pub use Rattle.sqlite.specs.State.{CommitsBy, Shown, QueriesRow, FailsToQuery}

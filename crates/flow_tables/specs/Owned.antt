@@ -1,6 +1,6 @@
 -- Tables as a value of the code: the book that they hold, and what becomes of it.
 use Rattle.std.specs.Prelude.{◌≡◌, ◌⊎◌, ◌<ℤ◌}
-use Rattle.flow_tables.specs.Names.{Bytes, Bool, Book, no_book, last_number, Tells, book_in, no_schema, RunRow, Held, state, HasCleanDisk, State, Ghosts, IfErr, IsTrue, MatchResult, Option, false, pos, true, ℕ, HasTables, Holds, IsOver, IsRefused, IsStill, AreOurs, Database, Layout, tables_by, tables_in, Refusal, Known, ViewFault, Err, None, Ok, Some, option_map, ℤ, refl, Result}
+use Rattle.flow_tables.specs.Names.{Bytes, Bool, Book, no_book, last_number, Tells, book_in, no_schema, RunRow, Held, state, HasCleanDisk, State, Ghosts, IfErr, IsTrue, MatchResult, Option, false, pos, true, ℕ, HasTables, Holds, IsOver, IsRefused, IsStill, AreOurs, Database, Layout, tables_by, tables_in, Refusal, RowFacts, ViewFault, Err, None, Ok, Some, option_map, ℤ, refl, Result}
 use Rattle.std.specs.Coded.{Coded, code_by, coded×, coded_option}
 use Rattle.sqlite.specs.Tree.{Trees}
 use Rattle.sqlite.specs.Held.{held_code}
@@ -92,7 +92,7 @@ abbrev pub is_sure : {S : Type 0} → Ghosts S → Stored S → Type 0
 is_sure g t = IsSure (IsOurs (state g t.opened)) (state g t.held) t.refused
 
 -- What is known of the rows is true, where the transaction shows a book.
-abbrev pub IsAware : State → Option Refusal → Known → Type 0
+abbrev pub IsAware : State → Option Refusal → RowFacts → Type 0
 IsAware s refused known = refused ≡ None → s.in_transaction ≡ true → IsKnown known (tables_in s.now)
 
 -- the request of a run, by its row

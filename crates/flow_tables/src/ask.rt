@@ -22,9 +22,14 @@ pub trait Question: Sized {
     ghost asks: { Self → Asks Self.Item };
 
     fn send<S: Alter>(&self, conn: &mut Connection<S>) -> Result<Vec<Row>, Error>
-        ensures ok { HasCleanDisk (state S.Store conn.new) → IfOk result (λ rows. Shown (read_sql (asks self.now).read) (asks self.now).params (state S.Store conn.old) (state S.Store conn.new) rows.items) }
-        ensures err { HasCleanDisk (state S.Store conn.new) → IfErr result (FailsToQuery (read_sql (asks self.now).read) (asks self.now).params (state S.Store conn.old) (state S.Store conn.new)) }
-        ensures survives { Survives (state S.Store conn.old) (state S.Store conn.new) (CommitsShowing (read_sql (asks self.now).read) (asks self.now).params (state S.Store conn.old)) }
+        ensures ok { HasCleanDisk (state S.Store conn.new)
+            → IfOk result (λ rows. Shown (read_sql (asks self.now).read) (asks self.now).params (state S.Store conn.old)
+            (state S.Store conn.new) rows.items) }
+        ensures err { HasCleanDisk (state S.Store conn.new)
+            → IfErr result (FailsToQuery (read_sql (asks self.now).read) (asks self.now).params (state S.Store conn.old)
+            (state S.Store conn.new)) }
+        ensures survives { Survives (state S.Store conn.old) (state S.Store conn.new)
+            (CommitsShowing (read_sql (asks self.now).read) (asks self.now).params (state S.Store conn.old)) }
         ensures so { IsReadSo (asks self.now) Self.Item.said Self.Item.kinds };
 }
 
@@ -58,9 +63,14 @@ pub fn ask_rows<Q: Question, S: Alter>(
     conn: &mut Connection<S>,
     question: &Q,
 ) -> Result<Vec<Q::Item>, StoreFault>
-    ensures said { HasCleanDisk (state S.Store conn.new) → IfOk result (λ v. Tells Q.Item.said (read_sql (Q.asks question.now).read) (Q.asks question.now).params (state S.Store conn.old) (state S.Store conn.new) v.items) }
-    ensures cause { HasCleanDisk (state S.Store conn.new) → IfErr result (IsReadFault Q.Item.kinds (read_sql (Q.asks question.now).read) (Q.asks question.now).params (state S.Store conn.old) (state S.Store conn.new)) }
-    ensures survives { Survives (state S.Store conn.old) (state S.Store conn.new) (CommitsShowing (read_sql (Q.asks question.now).read) (Q.asks question.now).params (state S.Store conn.old)) }
+    ensures said { HasCleanDisk (state S.Store conn.new)
+        → IfOk result (λ v. Tells Q.Item.said (read_sql (Q.asks question.now).read) (Q.asks question.now).params (state S.Store conn.old)
+        (state S.Store conn.new) v.items) }
+    ensures cause { HasCleanDisk (state S.Store conn.new)
+        → IfErr result (IsReadFault Q.Item.kinds (read_sql (Q.asks question.now).read) (Q.asks question.now).params
+        (state S.Store conn.old) (state S.Store conn.new)) }
+    ensures survives { Survives (state S.Store conn.old) (state S.Store conn.new)
+        (CommitsShowing (read_sql (Q.asks question.now).read) (Q.asks question.now).params (state S.Store conn.old)) }
     ensures so { IsReadSo (Q.asks question.now) Q.Item.said Q.Item.kinds }
     // Whatever the tables are, each item is what a row said.
     ensures shown { IfOk result (λ v. (rows : List SqlRow) × (v.items ≡ map Q.Item.said rows)) }
@@ -77,7 +87,8 @@ pub fn ask<Q: Question, S: Alter>(
     conn: &mut Connection<S>,
     question: &Q,
 ) -> Result<Vec<Q::Item>, StoreFault>
-    ensures { IsAsked (read_sql (Q.asks question.now).read) (Q.asks question.now).params Q.Item.kinds (state S.Store conn.old) (state S.Store conn.new) result (λ t v. (Q.asks question.now).tells t v.items) }
+    ensures { IsAsked (read_sql (Q.asks question.now).read) (Q.asks question.now).params Q.Item.kinds (state S.Store conn.old)
+        (state S.Store conn.new) result (λ t v. (Q.asks question.now).tells t v.items) }
 {
     ask_rows(alloc, conn, question)
 }
@@ -88,7 +99,8 @@ pub(crate) fn ask_said<Q: Question, S: Alter>(
     conn: &mut Connection<S>,
     question: &Q,
 ) -> Result<Vec<Q::Item>, StoreFault>
-    ensures asked { IsAsked (read_sql (Q.asks question.now).read) (Q.asks question.now).params Q.Item.kinds (state S.Store conn.old) (state S.Store conn.new) result (λ t v. (Q.asks question.now).tells t v.items) }
+    ensures asked { IsAsked (read_sql (Q.asks question.now).read) (Q.asks question.now).params Q.Item.kinds (state S.Store conn.old)
+        (state S.Store conn.new) result (λ t v. (Q.asks question.now).tells t v.items) }
     ensures shown { IfOk result (λ v. (rows : List SqlRow) × (v.items ≡ map Q.Item.said rows)) }
 {
     ask_rows(alloc, conn, question)
@@ -100,7 +112,8 @@ pub fn ask_first<Q: Question, S: Alter>(
     conn: &mut Connection<S>,
     question: &Q,
 ) -> Result<Option<Q::Item>, StoreFault>
-    ensures { IsAsked (read_sql (Q.asks question.now).read) (Q.asks question.now).params Q.Item.kinds (state S.Store conn.old) (state S.Store conn.new) result (IsFirst (Q.asks question.now).tells) }
+    ensures { IsAsked (read_sql (Q.asks question.now).read) (Q.asks question.now).params Q.Item.kinds (state S.Store conn.old)
+        (state S.Store conn.new) result (IsFirst (Q.asks question.now).tells) }
 {
     match ask(alloc, conn, question) {
         Ok(items) => Ok(first_of(items)),
@@ -134,14 +147,17 @@ pub trait RowChange: Sized {
     ghost does: { Self → Alters };
 
     fn send<S: Alter>(&self, conn: &mut Connection<S>) -> Result<usize, Error>
-        ensures runs { HasCleanDisk (state S.Store conn.new) → Executes (write_sql (does self.now).write) (does self.now).params (state S.Store conn.old) (state S.Store conn.new) result }
-        ensures survives { Survives (state S.Store conn.old) (state S.Store conn.new) (CommitsBy (write_sql (does self.now).write) (does self.now).params (state S.Store conn.old)) }
+        ensures runs { HasCleanDisk (state S.Store conn.new)
+            → Executes (write_sql (does self.now).write) (does self.now).params (state S.Store conn.old) (state S.Store conn.new) result }
+        ensures survives { Survives (state S.Store conn.old) (state S.Store conn.new)
+            (CommitsBy (write_sql (does self.now).write) (does self.now).params (state S.Store conn.old)) }
         ensures sure { (does self.now).sure };
 }
 
 /// Changes the rows so.
 pub fn change<C: RowChange, S: Alter>(conn: &mut Connection<S>, change: &C) -> Result<(), Error>
-    ensures { IsChanged S.Store (write_sql (C.does change.now).write) (C.does change.now).params conn.old conn.new result (C.does change.now).fits (C.does change.now).welcome (C.does change.now).after }
+    ensures { IsChanged S.Store (write_sql (C.does change.now).write) (C.does change.now).params conn.old conn.new result
+        (C.does change.now).fits (C.does change.now).welcome (C.does change.now).after }
 {
     match change.send(conn) {
         Ok(_) => Ok(()),

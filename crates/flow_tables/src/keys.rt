@@ -3,7 +3,7 @@ ghost use Rattle.std.specs.Prelude.{◌≡◌, ◌++◌, ◌∷◌};
 ghost use Rattle.flow_tables.specs.Names.{Book, map, IfSome};
 ghost use Rattle.flow_maps.specs.Serving.{Serves, Sees, AreKeys, Awaits, HasSignals, HasRecords};
 ghost use Rattle.flow_tables.specs.Names.{ℕ, List, Bytes, shown_book, []};
-ghost use Rattle.flow_base.specs.declared.book.Task.{Task as ATask};
+ghost use Rattle.flow_base.specs.declared.book.OpenActivity.{OpenActivity as AnActivity};
 ghost use Rattle.flow_base.specs.declared.book.Timer.{Timer as ATimer};
 ghost use Rattle.flow_tables.specs.Owned.{row_request, row_open};
 
@@ -31,7 +31,7 @@ use std::alloc::Global;
 pub(crate) fn keys_of(alloc: Global, rows: &[RunRow]) -> Maps
     ensures keys { AreKeys result (map row_request rows.now) (map row_open rows.now) }
     ensures sees { (b : Book) → Sees result b }
-    ensures awaits { (n o : ℕ) → (f : ℕ → List ATimer) → (g : ℕ → List ATask) → Awaits result n o f g }
+    ensures awaits { (n o : ℕ) → (f : ℕ → List ATimer) → (g : ℕ → List AnActivity) → Awaits result n o f g }
     ensures signals { (b : Book) → HasSignals result b }
     ensures records { (b : Book) → HasRecords result b }
 {
@@ -58,14 +58,7 @@ pub(crate) fn add_whole(alloc: Global, maps: &mut Maps, run: &Run)
         maps.forget();
         return;
     };
-    maps.add_whole(
-        &run.flow,
-        &run.request,
-        events,
-        is_open,
-        Sequence::from_vec(timers),
-        tasks,
-    );
+    maps.add_whole(run, is_open, Sequence::from_vec(timers), tasks);
 }
 
 /// What is known of these runs, which were read whole.

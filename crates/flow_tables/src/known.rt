@@ -5,7 +5,7 @@ ghost use Rattle.std.specs.Prelude.{◌≡◌};
 ghost use Rattle.flow_base.specs.Effects as effects;
 ghost use Rattle.flow_tables.specs.Known as words;
 
-use flow_base::book::{Run, Task};
+use flow_base::book::{OpenActivity, Run};
 use flow_base::effect::{Effect, effect_of};
 use flow_base::event::{Event, Input, What};
 use flow_base::number::{EventId, RunId};
@@ -23,7 +23,7 @@ pub enum OpenTasks {
 
 /// How a run stands in its rows.
 #[derive(Clone, Copy, Debug, PartialEq, Eq)]
-pub struct Standing {
+pub struct RowStanding {
     /// Whether the run is open.
     pub is_open: bool,
     /// Whether its row is known to be marked as open.
@@ -39,12 +39,12 @@ pub struct KnownRun {
     pub number: RunId,
     /// How many events it has.
     pub count: u64,
-    pub standing: Standing,
+    pub standing: RowStanding,
 }
 
 /// What a transaction has read, and not changed since.
 #[derive(Clone, Copy, Debug, PartialEq, Eq)]
-pub struct Known {
+pub struct RowFacts {
     pub run: Option<KnownRun>,
     /// How many texts there are.
     pub texts: Option<u64>,
@@ -53,10 +53,10 @@ pub struct Known {
 }
 
 /// What is known of tables of which nothing was read.
-pub fn nothing_known() -> Known
+pub fn nothing_known() -> RowFacts
     ensures { result ≡ words.nothing_known }
 {
-    Known {
+    RowFacts {
         run: None,
         texts: None,
         runs: None,
@@ -64,10 +64,10 @@ pub fn nothing_known() -> Known
 }
 
 /// A run of which nothing is there but its row, marked as open or not.
-pub fn first_standing(is_marked: bool) -> Standing
+pub fn first_standing(is_marked: bool) -> RowStanding
     ensures { result ≡ words.first_standing is_marked }
 {
-    Standing {
+    RowStanding {
         is_open: false,
         is_marked,
         tasks: OpenTasks::Gone,
@@ -76,10 +76,10 @@ pub fn first_standing(is_marked: bool) -> Standing
 }
 
 /// A run whose row alone was looked at.
-pub fn any_standing(is_open: bool) -> Standing
+pub fn any_standing(is_open: bool) -> RowStanding
     ensures { result ≡ words.any_standing is_open }
 {
-    Standing {
+    RowStanding {
         is_open,
         is_marked: false,
         tasks: OpenTasks::Unsure,
@@ -98,7 +98,7 @@ fn ended(tasks: &OpenTasks, scheduled: EventId) -> OpenTasks
 }
 
 /// How a run stands behind an event.
-pub fn standing_after(standing: &Standing, what: &What) -> Standing
+pub fn standing_after(standing: &RowStanding, what: &What) -> RowStanding
     ensures { result ≡ words.stands_what standing.now what.now }
 {
     let mut after = *standing;
@@ -124,7 +124,7 @@ pub fn begins(input: &Input) -> bool
     matches!(input, Input::Started(_))
 }
 
-fn tasks_known(tasks: &[Task]) -> OpenTasks
+fn tasks_known(tasks: &[OpenActivity]) -> OpenTasks
     ensures { result ≡ words.tasks_known tasks.now }
 {
     match tasks {
@@ -160,7 +160,7 @@ pub fn run_known(number: RunId, run: &Run) -> KnownRun
     KnownRun {
         number,
         count: events.len() as u64,
-        standing: Standing {
+        standing: RowStanding {
             is_open: is_open(events),
             is_marked: false,
             tasks: tasks_known(run.tasks.as_slice()),
@@ -176,7 +176,7 @@ pub fn head_known(number: RunId, head: &Head, has_timers: bool) -> KnownRun
     KnownRun {
         number,
         count: head.events,
-        standing: Standing {
+        standing: RowStanding {
             is_open: head.is_open,
             is_marked: false,
             tasks: tasks_known(head.tasks.as_slice()),

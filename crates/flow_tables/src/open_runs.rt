@@ -66,7 +66,9 @@ impl OfBook for OpenRuns {
     ghost value = { λ q b. words.open_numbers b q.from q.most };
 
     fn value(&self, items: Vec<i64>) -> Result<Sequence<RunId>, ViewFault>
-        ensures { (t : Tables) (b : Book) → Tells t b → items.items ≡ take self.now.most (map number_of_run (filter (is_open_from (pos self.now.from)) t.runs)) → IsValue result (words.open_numbers b self.now.from self.now.most) }
+        ensures { (t : Tables) (b : Book) → Tells t b
+            → items.items ≡ take self.now.most (map number_of_run (filter (is_open_from (pos self.now.from)) t.runs))
+            → IsValue result (words.open_numbers b self.now.from self.now.most) }
     {
         run_numbers(self.alloc, items.as_slice())
     }

@@ -54,7 +54,8 @@ fn next_number(rest: &str) -> Option<(Word, &str)>
 
 /// The longest mark that stands here, and what is behind it.
 fn next_mark(rest: &str) -> Option<(Word, &str)>
-    ensures value { MatchOption result (mark_word rest.now (long_mark (slice_index rest.now 0) (slice_index rest.now 1)) ≡ None) (λ x. mark_word rest.now (long_mark (slice_index rest.now 0) (slice_index rest.now 1)) ≡ Some (x.0, x.1.now)) }
+    ensures value { MatchOption result (mark_word rest.now (long_mark (slice_index rest.now 0) (slice_index rest.now 1)) ≡ None)
+        (λ x. mark_word rest.now (long_mark (slice_index rest.now 0) (slice_index rest.now 1)) ≡ Some (x.0, x.1.now)) }
     ensures shorter { IfSome result (λ x. length x.1.now < length rest.now) }
 {
     let first = first_byte(rest);

@@ -64,7 +64,8 @@ fn escaped(byte: u8) -> Option<char>
 
 /// Puts the characters up to the next one that doesn't stand for itself behind the value, and gives what is left.
 fn push_plain<'a>(value: &mut String, text: &'a str) -> Result<&'a str, TokensFault>
-    ensures same { IfOk result (λ r. goes_on (string_bytes value.new) (unquoted r.now) ≡ goes_on (string_bytes value.old) (unquoted text.now)) }
+    ensures same { IfOk result (λ r. goes_on (string_bytes value.new) (unquoted r.now) ≡ goes_on (string_bytes value.old)
+        (unquoted text.now)) }
     ensures all { IfOk result (λ r. prefix_len (has Class.Plain) r.now ≡ 0) }
     ensures shorter { IfOk result (λ r. length r.now ≤ length text.now) }
 {
@@ -76,7 +77,8 @@ fn push_plain<'a>(value: &mut String, text: &'a str) -> Result<&'a str, TokensFa
 /// Puts the escape that stands here behind the value, and gives what is left; none where it is no escape.
 fn push_escape<'a>(value: &mut String, text: &'a str) -> Result<Option<&'a str>, TokensFault>
     requires { slice_index text.now 0 ≡ 92 }
-    ensures same { IfOk result (λ o. MatchOption o (unquoted text.now ≡ None) (λ r. goes_on (string_bytes value.new) (unquoted r.now) ≡ goes_on (string_bytes value.old) (unquoted text.now))) }
+    ensures same { IfOk result (λ o. MatchOption o (unquoted text.now ≡ None)
+        (λ r. goes_on (string_bytes value.new) (unquoted r.now) ≡ goes_on (string_bytes value.old) (unquoted text.now))) }
     ensures shorter { IfOk result (λ o. IfSome o (λ r. length r.now < length text.now)) }
 {
     let escape = behind_first(text);
@@ -90,7 +92,8 @@ fn push_escape<'a>(value: &mut String, text: &'a str) -> Result<Option<&'a str>,
 /// The value of the text that goes on here, behind its opening quote, and what is behind its closing one; none where
 /// it breaks a rule.
 fn quoted(alloc: Global, text: &str) -> Result<Option<(String, &str)>, TokensFault>
-    ensures value { IfOk result (λ o. MatchOption o (unquoted text.now ≡ None) (λ x. unquoted text.now ≡ Some (string_bytes x.0, x.1.now))) }
+    ensures value { IfOk result (λ o. MatchOption o (unquoted text.now ≡ None)
+        (λ x. unquoted text.now ≡ Some (string_bytes x.0, x.1.now))) }
     ensures shorter { IfOk result (λ o. IfSome o (λ x. length x.1.now < length text.now)) }
 {
     let mut value = String::new(alloc);
@@ -109,7 +112,8 @@ fn quoted(alloc: Global, text: &str) -> Result<Option<(String, &str)>, TokensFau
 
 /// The text that goes on here, behind its opening quote, and what is behind it; none where it breaks a rule.
 pub fn text(alloc: Global, rest: &str) -> Result<Option<(Word, &str)>, TokensFault>
-    ensures value { IfOk result (λ o. MatchOption o (text_word (unquoted rest.now) ≡ None) (λ x. text_word (unquoted rest.now) ≡ Some (x.0, x.1.now))) }
+    ensures value { IfOk result (λ o. MatchOption o (text_word (unquoted rest.now) ≡ None)
+        (λ x. text_word (unquoted rest.now) ≡ Some (x.0, x.1.now))) }
     ensures shorter { IfOk result (λ o. IfSome o (λ x. length x.1.now < length rest.now)) }
 {
     let Some((value, after)) = quoted(alloc, rest)? else {

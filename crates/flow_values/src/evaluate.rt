@@ -2,7 +2,7 @@ ghost use Rattle.std.specs.Prelude.{◌≡◌, ◌+ℤ◌, ◌-ℤ◌, ◌*ℤ�
 ghost use Rattle.flow_base.specs.Shown.{shown_expr};
 ghost use Rattle.flow_model.specs.Values.{Variables, value as value_of, values as values_of, due as due_of, due_in, whole, divided, applied, combined, decided_by, is_true, joined, text_of as text_in, number_of as number_in, flag as flag_of, there};
 
-use crate::fault::Fault;
+use crate::fault::EvalFault;
 use flow_base::event::Cause;
 use flow_base::number::Moment;
 use flow_base::syntax::{Binary, Expr, Unary};
@@ -30,7 +30,7 @@ pub fn eval<V: Vars>(
     vars: &V,
     at: Moment,
     expr: &Expr,
-) -> Result<Result<Value, Cause>, Fault>
+) -> Result<Result<Value, Cause>, EvalFault>
     ensures { IfOk result (λ r. r ≡ value_of (V.variables vars.now) at (shown_expr expr.now)) }
 {
     match expr {
@@ -70,8 +70,9 @@ pub fn eval_all<V: Vars>(
     vars: &V,
     at: Moment,
     exprs: &[Expr],
-) -> Result<Result<Vec<Value>, Cause>, Fault>
-    ensures { IfOk result (λ r. MatchResult r (λ vs. values_of (V.variables vars.now) at (map shown_expr exprs.now) ≡ Ok vs.items) (λ c. values_of (V.variables vars.now) at (map shown_expr exprs.now) ≡ Err c)) }
+) -> Result<Result<Vec<Value>, Cause>, EvalFault>
+    ensures { IfOk result (λ r. MatchResult r (λ vs. values_of (V.variables vars.now) at (map shown_expr exprs.now) ≡ Ok vs.items)
+        (λ c. values_of (V.variables vars.now) at (map shown_expr exprs.now) ≡ Err c)) }
 {
     let mut list = Vec::new(alloc);
     for e in exprs {
@@ -93,7 +94,7 @@ pub fn due<V: Vars>(
     vars: &V,
     at: Moment,
     delay: &Expr,
-) -> Result<Result<Moment, Cause>, Fault>
+) -> Result<Result<Moment, Cause>, EvalFault>
     ensures { IfOk result (λ r. r ≡ due_of (V.variables vars.now) at (shown_expr delay.now)) }
 {
     match eval(alloc, vars, at, delay)? {
@@ -218,7 +219,7 @@ fn remain(a: i64, b: i64) -> Result<Value, Cause>
     }
 }
 
-fn apply(alloc: Global, op: Unary, v: Value) -> Result<Result<Value, Cause>, Fault>
+fn apply(alloc: Global, op: Unary, v: Value) -> Result<Result<Value, Cause>, EvalFault>
     ensures { IfOk result (λ r. r ≡ applied op v) }
 {
     match op {
@@ -241,7 +242,7 @@ fn length_of(v: &Value) -> i64
     }
 }
 
-fn join(alloc: Global, a: &Value, b: &Value) -> Result<Result<Value, Cause>, Fault>
+fn join(alloc: Global, a: &Value, b: &Value) -> Result<Result<Value, Cause>, EvalFault>
     ensures { IfOk result (λ r. r ≡ joined (text_in a.now ++ text_in b.now)) }
 {
     let a = text_of(alloc, a)?;
@@ -252,7 +253,7 @@ fn join(alloc: Global, a: &Value, b: &Value) -> Result<Result<Value, Cause>, Fau
     }
 }
 
-fn combine(alloc: Global, op: Binary, a: Value, b: Value) -> Result<Result<Value, Cause>, Fault>
+fn combine(alloc: Global, op: Binary, a: Value, b: Value) -> Result<Result<Value, Cause>, EvalFault>
     ensures { IfOk result (λ r. r ≡ combined op a b) }
 {
     match op {

@@ -6,30 +6,30 @@ use std::alloc::{AllocError, AllocFailed};
 
 /// Why no value was computed.
 #[derive(Debug, Drop, thiserror::Error)]
-pub enum Fault {
+pub enum EvalFault {
     #[error("{} out of memory", self.code())]
     NoMemory(NoMemory),
 }
 
-impl Fault {
+impl EvalFault {
     /// The number of the refusal.
     pub fn code(&self) -> Code
         ensures { result ≡ Code.NoMemory }
     {
         match self {
-            Fault::NoMemory(no_memory) => no_memory.code(),
+            EvalFault::NoMemory(no_memory) => no_memory.code(),
         }
     }
 }
 
-impl From<AllocError> for Fault {
-    fn from(refused: AllocError) -> Fault {
-        Fault::NoMemory(NoMemory::from(refused))
+impl From<AllocError> for EvalFault {
+    fn from(refused: AllocError) -> EvalFault {
+        EvalFault::NoMemory(NoMemory::from(refused))
     }
 }
 
-impl<T: Drop> From<AllocFailed<T>> for Fault {
-    fn from(refused: AllocFailed<T>) -> Fault {
-        Fault::NoMemory(NoMemory::from(refused))
+impl<T: Drop> From<AllocFailed<T>> for EvalFault {
+    fn from(refused: AllocFailed<T>) -> EvalFault {
+        EvalFault::NoMemory(NoMemory::from(refused))
     }
 }

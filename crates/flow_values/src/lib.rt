@@ -4,3 +4,4 @@
 pub mod evaluate;
 pub mod fault;
 pub mod named;
+pub mod slots;

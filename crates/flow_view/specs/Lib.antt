@@ -1,4 +1,5 @@
 pub mod Reading
+pub mod Called
 pub mod Codes
 pub mod Heads
 pub mod Listed

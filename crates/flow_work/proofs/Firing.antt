@@ -3,7 +3,7 @@ use Rattle.std.proofs.Common.{◌≡◌, ℕ, Bool, true, false, List, [], ◌�
 use Rattle.std.specs.List.{AllByRecursion}
 use Rattle.flow_base.specs.declared.command.Command.{Command}
 use Rattle.flow_base.specs.declared.command.Reply.{Reply}
-use Rattle.flow_hub.specs.declared.known.Known.{Known}
+use Rattle.flow_hub.specs.declared.known.HubFacts.{HubFacts}
 use Rattle.flow_hub.specs.Feeding.{IsTickOf}
 use Rattle.flow_hub.specs.Knowing.{IsBefore}
 use Rattle.flow_hub.specs.Submitting.{Member}
@@ -31,7 +31,7 @@ module _ (tells : ℕ → Type 0) where
     before = before_self behind.was;
   }
 
-  fired_later : (k l : Known) (x : Telling) → IsBefore k l → IsFired tells k x → IsFired tells l x
+  fired_later : (k l : HubFacts) (x : Telling) → IsBefore k l → IsFired tells k x → IsFired tells l x
   fired_later k l x later f = record {
     asked = f.asked;
     behind = f.behind;
@@ -43,12 +43,12 @@ module _ (tells : ℕ → Type 0) where
     before = before_trans f.behind.was k l f.before later;
   }
 
-  all_later : (k l : Known) (xs : List Telling) → IsBefore k l → AllByRecursion (FiresOn tells k) xs → AllByRecursion (FiresOn tells l) xs
+  all_later : (k l : HubFacts) (xs : List Telling) → IsBefore k l → AllByRecursion (FiresOn tells k) xs → AllByRecursion (FiresOn tells l) xs
   all_later k l [] later all = tt
   all_later k l (x ∷ xs) later all = ((fired_later k l x later all.0.0, all.0.1), all_later k l xs later all.1)
 
   -- nothing was told, since the hub is closed
-  pub fires_nothing : (k : Known) (was now : List Telling) → now ≡ was → k.closed ≡ true → FiresOne tells k was now false
+  pub fires_nothing : (k : HubFacts) (was now : List Telling) → now ≡ was → k.closed ≡ true → FiresOne tells k was now false
   fires_nothing k was now same closed = ([], same ∙ sym (append-nil was), inl (refl, closed))
 
   -- one tick was told, and more may be
@@ -61,15 +61,15 @@ module _ (tells : ℕ → Type 0) where
       → now ≡ was ++ (c, came_of heard) ∷ [] → is_last (came_of heard) ≡ true → FiresOne tells behind.was was now false
   fires_last asked behind c heard was now tick comes told ends = ((c, came_of heard) ∷ [], told, inr ((c, came_of heard), refl, fired asked behind c heard tick comes, ends))
 
-  pub fires_none : (k : Known) (was : List Telling) → FiresSoFar tells k was was
+  pub fires_none : (k : HubFacts) (was : List Telling) → FiresSoFar tells k was was
   fires_none k was = ([], sym (append-nil was), tt)
 
-  pub fires_more : (k l : Known) (was mid now : List Telling) (on : Bool) → on ≡ true → IsBefore k l → FiresSoFar tells k was mid → FiresOne tells l mid now on → FiresSoFar tells l was now
+  pub fires_more : (k l : HubFacts) (was mid now : List Telling) (on : Bool) → on ≡ true → IsBefore k l → FiresSoFar tells k was mid → FiresOne tells l mid now on → FiresSoFar tells l was now
   fires_more k l was mid now false is later so one = absurd (cc is)
   fires_more k l was mid now true is later so one =
       (so.0 ++ one.0 ∷ [], one.1 ∙ (ap (λ w. w ++ one.0 ∷ []) so.1 ∙ append_assoc was so.0 (one.0 ∷ [])), all_next (FiresOn tells l) so.0 one.0 (all_later k l so.0 later so.2) one.2)
 
   -- and nothing more
-  pub fires_end : (k l : Known) (was mid now : List Telling) (on : Bool) → on ≡ false → IsBefore k l → FiresSoFar tells k was mid → FiresOne tells l mid now on → Fires tells l was now
+  pub fires_end : (k l : HubFacts) (was mid now : List Telling) (on : Bool) → on ≡ false → IsBefore k l → FiresSoFar tells k was mid → FiresOne tells l mid now on → Fires tells l was now
   fires_end k l was mid now true is later so one = absurd (cc is)
   fires_end k l was mid now false is later so one = (so.0, one.0, one.1 ∙ ap (λ w. w ++ one.0) so.1, all_later k l so.0 later so.2, one.2)

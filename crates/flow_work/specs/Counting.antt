@@ -1,13 +1,14 @@
 -- What is printed of lines and tasks, by what their submitter and who gave the tasks out have seen.
-use Rattle.std.specs.Prelude.{◌≡◌, ℕ, List, [], ◌∷◌, ◌++◌, Bool, true, false, Option, Some}
+use Rattle.std.specs.Prelude.{◌≡◌, ◌⊎◌, ℕ, List, [], ◌∷◌, ◌++◌, Bool, true, false, Option, Some}
 use Rattle.std.specs.Io.KnownBytes.{Appends}
 use mathlib.Core.List.{IsPrefix}
 use Rattle.flow_base.specs.declared.command.Command.{Command}
+use Rattle.flow_lines.specs.Driving.{final_status}
 use Rattle.flow_lines.specs.declared.reply.Line.{Line}
 use Rattle.flow_machine.specs.declared.task.Task.{Task}
 use Rattle.flow_hub.specs.declared.fed.Fed.{Fed}
 use Rattle.flow_hub.specs.declared.fed.Fed.TheVariants as fed
-use Rattle.flow_hub.specs.declared.known.Known.{Known}
+use Rattle.flow_hub.specs.declared.known.HubFacts.{HubFacts}
 use Rattle.flow_hub.specs.Knowing.{IsBefore, nothing}
 use Rattle.flow_hub.specs.Submitting.{Member}
 use Rattle.flow_queues.specs.Posting.{IsOnce}
@@ -72,6 +73,11 @@ AreWaiting reads tells m (l ∷ ls) (p ∷ ps) = IsPendingOf reads tells m l p �
 
 -- ---- what was printed
 
+-- The status is the greatest of these lines' replies; or 3, as where something couldn't be read. Once a write has failed it is 3.
+abbrev pub IsStatusOf : Bool → List Shown → ℕ → Type 0
+IsStatusOf false xs n = (n ≡ 3) ⊎ (n ≡ final_status (replies_in xs))
+IsStatusOf true xs n = n ≡ 3
+
 -- These lines are told of and these tasks were given out: what was printed since the writer held `first` is a reply for each line, in
 -- their order, and the tasks, in theirs. Once a write has failed it is a beginning of that.
 pub record Says (reads : List ℕ → Option Command) (tells : ℕ → Type 0) (first : Option (List ℕ)) (given : List Task) (m : Member) (lines : List (List ℕ)) (page : Printed) : Type 0 where
@@ -82,14 +88,15 @@ pub record Says (reads : List ℕ → Option Command) (tells : ℕ → Type 0) (
   pub are : lines ≡ said ++ silent
   pub replies : AreAnswered reads tells m said (replies_in page.shown)
   pub all : page.is_mute ≡ false → silent ≡ []
+  pub status : IsStatusOf page.is_mute page.shown page.status
 
 -- The tasks that were given out are the first of those that were posted, and none of these was posted twice.
-pub record IsFed (feed : Known) : Type 0 where
+pub record IsFed (feed : HubFacts) : Type 0 where
   pub first : IsPrefix feed.given feed.posted
   pub once : IsOnce feed.posted
 
 -- Of the lines that were taken in the first are told of, and for each of the others this is waited for.
-pub record Counts (reads : List ℕ → Option Command) (tells : ℕ → Type 0) (first : Option (List ℕ)) (feed : Known) (m : Member) (pending : List Pending) (lines : List (List ℕ)) (page : Printed) : Type 0 where
+pub record Counts (reads : List ℕ → Option Command) (tells : ℕ → Type 0) (first : Option (List ℕ)) (feed : HubFacts) (m : Member) (pending : List Pending) (lines : List (List ℕ)) (page : Printed) : Type 0 where
   pub done : List (List ℕ)
   pub waiting : List (List ℕ)
   pub are : lines ≡ done ++ waiting
@@ -98,7 +105,7 @@ pub record Counts (reads : List ℕ → Option Command) (tells : ℕ → Type 0)
   pub fed : IsFed feed
 
 -- Of the lines that were taken in the first are told of.
-pub record Counted (reads : List ℕ → Option Command) (tells : ℕ → Type 0) (first : Option (List ℕ)) (feed : Known) (m : Member) (lines : List (List ℕ)) (page : Printed) : Type 0 where
+pub record Counted (reads : List ℕ → Option Command) (tells : ℕ → Type 0) (first : Option (List ℕ)) (feed : HubFacts) (m : Member) (lines : List (List ℕ)) (page : Printed) : Type 0 where
   pub done : List (List ℕ)
   pub rest : List (List ℕ)
   pub are : lines ≡ done ++ rest
@@ -123,9 +130,9 @@ is_task fed.Nothing = false
 is_task fed.Closed = false
 
 -- Where it goes on, for each line that isn't told of something is waited for; where it doesn't, some may be told of nothing.
-abbrev pub Goes : (List ℕ → Option Command) → (ℕ → Type 0) → Option (List ℕ) → Bool → Known → Member → List Pending → List (List ℕ) → Printed → Type 0
+abbrev pub Goes : (List ℕ → Option Command) → (ℕ → Type 0) → Option (List ℕ) → Bool → HubFacts → Member → List Pending → List (List ℕ) → Printed → Type 0
 Goes reads tells first on feed m pending lines page = (on ≡ true → Counts reads tells first feed m pending lines page) × Counted reads tells first feed m lines page
 
 -- What one who began with a blank page, no line and no task has done at its end.
-pub record Owes (reads : List ℕ → Option Command) (tells : ℕ → Type 0) (page : Printed) (pending : List Pending) (given : Known) (feed : Known) (m : Member) (lines : List (List ℕ)) (now : Printed) : Type 0 where
+pub record Owes (reads : List ℕ → Option Command) (tells : ℕ → Type 0) (page : Printed) (pending : List Pending) (given : HubFacts) (feed : HubFacts) (m : Member) (lines : List (List ℕ)) (now : Printed) : Type 0 where
   pub counted : (first : Option (List ℕ)) → page ≡ blank first → pending ≡ [] → given ≡ nothing → Counted reads tells first feed m lines now

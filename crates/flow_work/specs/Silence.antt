@@ -1,8 +1,12 @@
 -- Why nothing is answered any more.
-use Rattle.std.specs.Prelude.{◌≡◌, ◌⊎◌, List, ◌∷◌, ◌++◌, true, None}
+use Rattle.std.specs.Prelude.{◌≡◌, ◌⊎◌, ℕ, List, [], ◌∷◌, ◌++◌, true, Option, None}
+use Rattle.flow_base.specs.declared.command.Command.{Command}
 use Rattle.flow_hub.specs.Knowing.{IsBefore}
 use Rattle.flow_hub.specs.Submitting.{Member}
+use Rattle.flow_work.specs.Reading.{IsPendingOf}
 use Rattle.flow_work.specs.Telling.{IsAnswer}
+use Rattle.flow_work.specs.declared.input.InputMessage.{InputMessage}
+use Rattle.flow_work.specs.declared.input.InputMessage.TheVariants as input
 use Rattle.flow_work.specs.declared.queue.Pending.{Pending}
 
 -- One of these lines that waited has no answer, by what was seen then, a beginning of what is seen now.
@@ -19,3 +23,29 @@ pub record IsUnanswered (m : Member) (ps : List Pending) : Type 0 where
 -- The hub is closed, or one of them has none.
 abbrev pub IsSilent : Member → List Pending → Type 0
 IsSilent m ps = (m.was.closed ≡ true) ⊎ IsUnanswered m ps
+
+-- A line was taken in that has no answer, by what was seen then, a beginning of what is seen now.
+pub record HasNoAnswer (reads : List ℕ → Option Command) (tells : ℕ → Type 0) (m : Member) : Type 0 where
+  pub bytes : List ℕ
+  pub line : Pending
+  pub waits : IsPendingOf reads tells m bytes line
+  pub seen : Member
+  pub same : seen.id ≡ m.id
+  pub before : IsBefore seen.was m.was
+  pub without : IsAnswer seen line None
+
+-- Nothing is answered any more: the hub is closed, or such a line has no answer.
+abbrev pub Quits : (List ℕ → Option Command) → (ℕ → Type 0) → Member → Type 0
+Quits reads tells m = (m.was.closed ≡ true) ⊎ HasNoAnswer reads tells m
+
+-- It is no line, and behind the end of the input, or where it can't be read, no line waits.
+abbrev pub IsOver : InputMessage → List Pending → Type 0
+IsOver (input.Line line) ps = ⊥
+IsOver input.Ended ps = ps ≡ []
+IsOver input.Failed ps = ps ≡ []
+IsOver input.Stopped ps = Unit {0}
+
+-- Why no line is taken in any more: what was given last is none, and no line waits behind the end; or nothing is answered any more.
+abbrev pub EndsTaking : (List ℕ → Option Command) → (ℕ → Type 0) → Member → List Pending → List InputMessage → Type 0
+EndsTaking reads tells m ps given =
+    ((before : List InputMessage) × (last : InputMessage) × (given ≡ before ++ last ∷ []) × IsOver last ps) ⊎ Quits reads tells m

@@ -1,12 +1,15 @@
 //! The thread that submits lines and prints their replies in the order of the lines.
-ghost use Rattle.std.specs.Prelude.{◌≡◌, ◌<◌, [], ℕ, List, Option, length};
+ghost use Rattle.std.specs.Prelude.{◌≡◌, ◌⊎◌, ◌<◌, [], ◌∷◌, ◌++◌, ℕ, List, Option, false, length};
 ghost use Rattle.flow_lines.specs.Commands.{line_command};
 ghost use Rattle.flow_hub.specs.Knowing.{nothing};
 ghost use Rattle.flow_work.specs.Counting.{Counted, Counts, Goes, Owes};
+ghost use Rattle.flow_work.specs.Inputs.{Takes, lines_in};
 ghost use Rattle.flow_work.specs.Resting.{HasRested};
+ghost use Rattle.flow_work.specs.Silence.{EndsTaking, IsOver, Quits};
 
 use crate::desk::Desk;
-use crate::input::Input;
+use crate::giving::{Giving, Incoming};
+use crate::input::InputMessage;
 use crate::lines::{no_lines, with_line};
 use crate::page::Page;
 use crate::progress::Progress;
@@ -70,7 +73,8 @@ impl<B: Room, W: Write + Drop> Clerk<B, W> {
         progress: Option<Progress<P>>,
     )
         ensures rested { HasRested self.new.desk.submitter.was }
-        ensures counted { (first : Option (List ℕ)) → Counted line_command (C.tells clock.now) first nothing self.old.desk.submitter self.old.lines self.old.desk.page
+        ensures counted { (first : Option (List ℕ))
+            → Counted line_command (C.tells clock.now) first nothing self.old.desk.submitter self.old.lines self.old.desk.page
             → Counted line_command (C.tells clock.now) first nothing self.new.desk.submitter self.new.lines self.new.desk.page }
     {
         self.desk.rest(rt, clock, progress);
@@ -79,8 +83,13 @@ impl<B: Room, W: Write + Drop> Clerk<B, W> {
     /// Takes in a line. No where nothing is answered any more.
     fn take<R: Wait, C: Clock>(&mut self, rt: &R, clock: &C, line: Vec<u8>) -> bool
         requires { length self.old.desk.pending.lines.items < 64 }
-        ensures { (first : Option (List ℕ)) → Counts line_command (C.tells clock.now) first nothing self.old.desk.submitter self.old.desk.pending.lines.items self.old.lines self.old.desk.page
+        ensures counted { (first : Option (List ℕ)) → Counts line_command
+            (C.tells clock.now) first nothing self.old.desk.submitter self.old.desk.pending.lines.items self.old.lines self.old.desk.page
             → Goes line_command (C.tells clock.now) first result nothing self.new.desk.submitter self.new.desk.pending.lines.items self.new.lines self.new.desk.page }
+        ensures quits { (first : Option (List ℕ)) → Counts line_command
+            (C.tells clock.now) first nothing self.old.desk.submitter self.old.desk.pending.lines.items self.old.lines self.old.desk.page
+            → result ≡ false → Quits line_command (C.tells clock.now) self.new.desk.submitter }
+        ensures lines { self.new.lines ≡ self.old.lines ++ line.items ∷ [] }
     {
         let read = Snapshot::of(&line);
         let goes_on = self.desk.take_line(rt, clock, Accepted::Commands, line);
@@ -91,16 +100,26 @@ impl<B: Room, W: Write + Drop> Clerk<B, W> {
 
     /// Prints all replies that are to come.
     fn end<R: Wait, C: Clock>(&mut self, rt: &R, clock: &C)
-        ensures { (first : Option (List ℕ)) → Counts line_command (C.tells clock.now) first nothing self.old.desk.submitter self.old.desk.pending.lines.items self.old.lines self.old.desk.page
+        ensures counted { (first : Option (List ℕ)) → Counts line_command
+            (C.tells clock.now) first nothing self.old.desk.submitter self.old.desk.pending.lines.items self.old.lines self.old.desk.page
             → Counted line_command (C.tells clock.now) first nothing self.new.desk.submitter self.new.lines self.new.desk.page }
+        ensures ends { (first : Option (List ℕ)) → Counts line_command
+            (C.tells clock.now) first nothing self.old.desk.submitter self.old.desk.pending.lines.items self.old.lines self.old.desk.page
+            → (self.new.desk.pending.lines.items ≡ []) ⊎ Quits line_command (C.tells clock.now) self.new.desk.submitter }
+        ensures lines { self.new.lines ≡ self.old.lines }
     {
         self.desk.tell_all(rt);
     }
 
     /// As `end`, where the input can't be read any more.
     fn fail<R: Wait, C: Clock>(&mut self, rt: &R, clock: &C)
-        ensures { (first : Option (List ℕ)) → Counts line_command (C.tells clock.now) first nothing self.old.desk.submitter self.old.desk.pending.lines.items self.old.lines self.old.desk.page
+        ensures counted { (first : Option (List ℕ)) → Counts line_command
+            (C.tells clock.now) first nothing self.old.desk.submitter self.old.desk.pending.lines.items self.old.lines self.old.desk.page
             → Counted line_command (C.tells clock.now) first nothing self.new.desk.submitter self.new.lines self.new.desk.page }
+        ensures ends { (first : Option (List ℕ)) → Counts line_command
+            (C.tells clock.now) first nothing self.old.desk.submitter self.old.desk.pending.lines.items self.old.lines self.old.desk.page
+            → (self.new.desk.pending.lines.items ≡ []) ⊎ Quits line_command (C.tells clock.now) self.new.desk.submitter }
+        ensures lines { self.new.lines ≡ self.old.lines }
     {
         self.desk.fail();
         self.end(rt, clock);
@@ -108,30 +127,58 @@ impl<B: Room, W: Write + Drop> Clerk<B, W> {
 
     /// Prints the oldest reply. No where nothing is answered any more.
     fn tell<R: Wait, C: Clock>(&mut self, rt: &R, clock: &C) -> bool
-        ensures { (first : Option (List ℕ)) → Counts line_command (C.tells clock.now) first nothing self.old.desk.submitter self.old.desk.pending.lines.items self.old.lines self.old.desk.page
+        ensures counted { (first : Option (List ℕ)) → Counts line_command
+            (C.tells clock.now) first nothing self.old.desk.submitter self.old.desk.pending.lines.items self.old.lines self.old.desk.page
             → Goes line_command (C.tells clock.now) first result nothing self.new.desk.submitter self.new.desk.pending.lines.items self.new.lines self.new.desk.page }
+        ensures quits { (first : Option (List ℕ)) → Counts line_command
+            (C.tells clock.now) first nothing self.old.desk.submitter self.old.desk.pending.lines.items self.old.lines self.old.desk.page
+            → result ≡ false → Quits line_command (C.tells clock.now) self.new.desk.submitter }
+        ensures lines { self.new.lines ≡ self.old.lines }
     {
         self.desk.tell_oldest(rt)
     }
 
-    /// Takes in what is read next, or prints the oldest reply. No where the input has ended and all is printed, or nothing is answered
-    /// any more.
+    /// Does what is to be done of what was read. No where it is no line and all is printed, or nothing is answered any more.
     #[tactic(auto, using(crate::proofs::Counting::goes_over, crate::proofs::Counting::counted))]
-    fn step<R: Wait, C: Clock>(&mut self, rt: &R, clock: &C, inputs: &Receiver<Input>) -> bool
-        ensures { (first : Option (List ℕ)) → Counts line_command (C.tells clock.now) first nothing self.old.desk.submitter self.old.desk.pending.lines.items self.old.lines self.old.desk.page
+    fn deal<R: Wait, C: Clock>(&mut self, rt: &R, clock: &C, input: InputMessage) -> bool
+        requires { length self.old.desk.pending.lines.items < 64 }
+        ensures counted { (first : Option (List ℕ)) → Counts line_command
+            (C.tells clock.now) first nothing self.old.desk.submitter self.old.desk.pending.lines.items self.old.lines self.old.desk.page
             → Goes line_command (C.tells clock.now) first result nothing self.new.desk.submitter self.new.desk.pending.lines.items self.new.lines self.new.desk.page }
+        ensures quits { (first : Option (List ℕ)) → Counts line_command
+            (C.tells clock.now) first nothing self.old.desk.submitter self.old.desk.pending.lines.items self.old.lines self.old.desk.page
+            → result ≡ false → IsOver input self.new.desk.pending.lines.items
+            ⊎ Quits line_command (C.tells clock.now) self.new.desk.submitter }
+        ensures lines { Takes input self.old.lines self.new.lines }
     {
-        match self.desk.next_input(rt, inputs) {
-            Some(Input::Line(line)) => self.take(rt, clock, line),
-            Some(Input::Ended) => {
+        match input {
+            InputMessage::Line(line) => self.take(rt, clock, line),
+            InputMessage::Ended => {
                 self.end(rt, clock);
                 false
             }
-            Some(Input::Failed) => {
+            InputMessage::Failed => {
                 self.fail(rt, clock);
                 false
             }
-            Some(Input::Stopped) => false,
+            InputMessage::Stopped => false,
+        }
+    }
+
+    /// Takes in what is read next, or prints the oldest reply. No where what was read is no line and all is printed, or nothing is
+    /// answered any more.
+    fn step<R: Wait, C: Clock, G: Giving>(&mut self, rt: &R, clock: &C, inputs: &mut G) -> bool
+        ensures counted { (first : Option (List ℕ)) → Counts line_command
+            (C.tells clock.now) first nothing self.old.desk.submitter self.old.desk.pending.lines.items self.old.lines self.old.desk.page
+            → Goes line_command (C.tells clock.now) first result nothing self.new.desk.submitter self.new.desk.pending.lines.items self.new.lines self.new.desk.page }
+        ensures ends { (first : Option (List ℕ)) → Counts line_command
+            (C.tells clock.now) first nothing self.old.desk.submitter self.old.desk.pending.lines.items self.old.lines self.old.desk.page
+            → result ≡ false → EndsTaking line_command (C.tells clock.now) self.new.desk.submitter self.new.desk.pending.lines.items
+            (G.given inputs.new) }
+        ensures lines { self.old.lines ≡ lines_in (G.given inputs.old) → self.new.lines ≡ lines_in (G.given inputs.new) }
+    {
+        match self.desk.next_input(rt, inputs) {
+            Some(input) => self.deal(rt, clock, input),
             None => self.tell(rt, clock),
         }
     }
@@ -139,9 +186,14 @@ impl<B: Room, W: Write + Drop> Clerk<B, W> {
     /// Submits the lines that are read, each at the moment that the clock tells then, and prints their replies, until the input has
     /// ended and all is printed, or nothing is answered any more. A line is submitted again after E90; a command that was answered E80
     /// or E01 is told as not applied.
-    fn answer_lines<R: Wait, C: Clock>(&mut self, rt: &R, clock: &C, inputs: &Receiver<Input>)
-        ensures { (first : Option (List ℕ)) → Counts line_command (C.tells clock.now) first nothing self.old.desk.submitter self.old.desk.pending.lines.items self.old.lines self.old.desk.page
+    fn answer_lines<R: Wait, C: Clock, G: Giving>(&mut self, rt: &R, clock: &C, inputs: &mut G)
+        ensures counted { (first : Option (List ℕ)) → Counts line_command
+            (C.tells clock.now) first nothing self.old.desk.submitter self.old.desk.pending.lines.items self.old.lines self.old.desk.page
             → Counted line_command (C.tells clock.now) first nothing self.new.desk.submitter self.new.lines self.new.desk.page }
+        ensures ends { (first : Option (List ℕ)) → Counts line_command
+            (C.tells clock.now) first nothing self.old.desk.submitter self.old.desk.pending.lines.items self.old.lines self.old.desk.page
+            → EndsTaking line_command (C.tells clock.now) self.new.desk.submitter self.new.desk.pending.lines.items (G.given inputs.new) }
+        ensures lines { self.old.lines ≡ lines_in (G.given inputs.old) → self.new.lines ≡ lines_in (G.given inputs.new) }
     {
         'steps: for _ in rt.forever() {
             if !self.step(rt, clock, inputs) {
@@ -157,14 +209,15 @@ pub(crate) fn run_clerk<B: Room, W: Write + Drop, R: Wait + time::Clock, C: Cloc
     rt: &R,
     desk: Desk<B, W>,
     clock: &C,
-    inputs: &Receiver<Input>,
+    inputs: Receiver<InputMessage>,
     progress: Option<Progress<P>>,
 ) -> Answered<B, W>
     ensures owes { Owes line_command (C.tells clock.now) desk.page desk.pending.lines.items nothing nothing result.submitter result.lines result.page }
     ensures rested { HasRested result.submitter.was }
 {
     let mut clerk = Clerk::new(desk);
-    clerk.answer_lines(rt, clock, inputs);
+    let mut inputs = Incoming::new(inputs);
+    clerk.answer_lines(rt, clock, &mut inputs);
     clerk.rest(rt, clock, progress);
     clerk.into_answered()
 }

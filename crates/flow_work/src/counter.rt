@@ -4,7 +4,7 @@ ghost use Rattle.flow_work.specs.Counting.{Counted, Counts, Goes, is_open, is_ta
 ghost use Rattle.flow_work.specs.Questions.{line_served};
 
 use crate::desk::Desk;
-use crate::input::Input;
+use crate::input::InputMessage;
 use crate::lines::{no_lines, with_line};
 use crate::page::Page;
 use crate::question::Accepted;
@@ -65,7 +65,8 @@ impl<B: Room, W: Write + Drop> Counter<B, W> {
 
     /// What is left of it.
     pub(crate) fn into_told(self) -> Told<B, W>
-        ensures { (result.page ≡ self.desk.page) × (result.submitter ≡ self.desk.submitter) × (result.feed ≡ self.feed) × (result.lines ≡ self.lines) }
+        ensures { (result.page ≡ self.desk.page) × (result.submitter ≡ self.desk.submitter) × (result.feed ≡ self.feed)
+            × (result.lines ≡ self.lines) }
     {
         let Counter { desk, feed, lines } = self;
         let (page, submitter) = desk.into_parts();
@@ -80,7 +81,8 @@ impl<B: Room, W: Write + Drop> Counter<B, W> {
     /// Takes in a line. No where nothing is answered any more.
     fn take<R: Wait, C: Clock>(&mut self, rt: &R, clock: &C, line: Vec<u8>) -> bool
         requires { length self.old.desk.pending.lines.items < 64 }
-        ensures { (first : Option (List ℕ)) → Counts line_served (C.tells clock.now) first self.old.feed self.old.desk.submitter self.old.desk.pending.lines.items self.old.lines self.old.desk.page
+        ensures { (first : Option (List ℕ)) → Counts line_served
+            (C.tells clock.now) first self.old.feed self.old.desk.submitter self.old.desk.pending.lines.items self.old.lines self.old.desk.page
             → Goes line_served (C.tells clock.now) first result self.new.feed self.new.desk.submitter self.new.desk.pending.lines.items self.new.lines self.new.desk.page }
     {
         let read = Snapshot::of(&line);
@@ -92,7 +94,8 @@ impl<B: Room, W: Write + Drop> Counter<B, W> {
 
     /// Prints the task that is given out next, or sleeps until there is something else to be done. No where nothing is any more.
     fn listen<R: Wait, C: Clock>(&mut self, rt: &R, _clock: &C) -> bool
-        ensures { (first : Option (List ℕ)) → Counts line_served (C.tells _clock.now) first self.old.feed self.old.desk.submitter self.old.desk.pending.lines.items self.old.lines self.old.desk.page
+        ensures { (first : Option (List ℕ)) → Counts line_served
+            (C.tells _clock.now) first self.old.feed self.old.desk.submitter self.old.desk.pending.lines.items self.old.lines self.old.desk.page
             → Goes line_served (C.tells _clock.now) first result self.new.feed self.new.desk.submitter self.new.desk.pending.lines.items self.new.lines self.new.desk.page }
     {
         let fed = self.feed.listen(rt);
@@ -102,7 +105,8 @@ impl<B: Room, W: Write + Drop> Counter<B, W> {
 
     /// Prints one more of the tasks that are ready once all that was submitted is answered. No where there is none.
     fn print_last<R: Wait, C: Clock>(&mut self, rt: &R, _clock: &C) -> bool
-        ensures { (first : Option (List ℕ)) → Counted line_served (C.tells _clock.now) first self.old.feed self.old.desk.submitter self.old.lines self.old.desk.page
+        ensures { (first : Option (List ℕ)) → Counted line_served
+            (C.tells _clock.now) first self.old.feed self.old.desk.submitter self.old.lines self.old.desk.page
             → Counted line_served (C.tells _clock.now) first self.new.feed self.new.desk.submitter self.new.lines self.new.desk.page }
     {
         let fed = self.feed.last(rt);
@@ -112,7 +116,8 @@ impl<B: Room, W: Write + Drop> Counter<B, W> {
 
     /// Prints all of these.
     fn print_all<R: Wait, C: Clock>(&mut self, rt: &R, clock: &C)
-        ensures { (first : Option (List ℕ)) → Counted line_served (C.tells clock.now) first self.old.feed self.old.desk.submitter self.old.lines self.old.desk.page
+        ensures { (first : Option (List ℕ)) → Counted line_served
+            (C.tells clock.now) first self.old.feed self.old.desk.submitter self.old.lines self.old.desk.page
             → Counted line_served (C.tells clock.now) first self.new.feed self.new.desk.submitter self.new.lines self.new.desk.page }
     {
         'tasks: for _ in rt.forever() {
@@ -125,7 +130,8 @@ impl<B: Room, W: Write + Drop> Counter<B, W> {
 
     /// Prints all replies that are to come, and then the tasks that are ready.
     fn end<R: Wait, C: Clock>(&mut self, rt: &R, clock: &C)
-        ensures { (first : Option (List ℕ)) → Counts line_served (C.tells clock.now) first self.old.feed self.old.desk.submitter self.old.desk.pending.lines.items self.old.lines self.old.desk.page
+        ensures { (first : Option (List ℕ)) → Counts line_served
+            (C.tells clock.now) first self.old.feed self.old.desk.submitter self.old.desk.pending.lines.items self.old.lines self.old.desk.page
             → Counted line_served (C.tells clock.now) first self.new.feed self.new.desk.submitter self.new.lines self.new.desk.page }
     {
         self.desk.tell_all(rt);
@@ -134,7 +140,8 @@ impl<B: Room, W: Write + Drop> Counter<B, W> {
 
     /// As `end`, where the input can't be read any more.
     fn fail<R: Wait, C: Clock>(&mut self, rt: &R, clock: &C)
-        ensures { (first : Option (List ℕ)) → Counts line_served (C.tells clock.now) first self.old.feed self.old.desk.submitter self.old.desk.pending.lines.items self.old.lines self.old.desk.page
+        ensures { (first : Option (List ℕ)) → Counts line_served
+            (C.tells clock.now) first self.old.feed self.old.desk.submitter self.old.desk.pending.lines.items self.old.lines self.old.desk.page
             → Counted line_served (C.tells clock.now) first self.new.feed self.new.desk.submitter self.new.lines self.new.desk.page }
     {
         self.desk.fail();
@@ -143,7 +150,8 @@ impl<B: Room, W: Write + Drop> Counter<B, W> {
 
     /// Prints the oldest reply; where nothing is to be answered, a task, or sleeps until there is something. No where it is over.
     fn tell<R: Wait, C: Clock>(&mut self, rt: &R, clock: &C) -> bool
-        ensures { (first : Option (List ℕ)) → Counts line_served (C.tells clock.now) first self.old.feed self.old.desk.submitter self.old.desk.pending.lines.items self.old.lines self.old.desk.page
+        ensures { (first : Option (List ℕ)) → Counts line_served
+            (C.tells clock.now) first self.old.feed self.old.desk.submitter self.old.desk.pending.lines.items self.old.lines self.old.desk.page
             → Goes line_served (C.tells clock.now) first result self.new.feed self.new.desk.submitter self.new.desk.pending.lines.items self.new.lines self.new.desk.page }
     {
         if self.desk.has_pending() {
@@ -155,21 +163,27 @@ impl<B: Room, W: Write + Drop> Counter<B, W> {
     /// Takes in the line that is there; else tells of what it has. So a worker that writes its report before it reads on is never
     /// waited for by one who waits for it: a task is printed only where no report waits. No where it is over.
     #[tactic(auto, using(crate::proofs::Counting::goes_over, crate::proofs::Counting::counted))]
-    fn step<R: Wait, C: Clock>(&mut self, rt: &R, clock: &C, inputs: &Receiver<Input>) -> bool
-        ensures { (first : Option (List ℕ)) → Counts line_served (C.tells clock.now) first self.old.feed self.old.desk.submitter self.old.desk.pending.lines.items self.old.lines self.old.desk.page
+    fn step<R: Wait, C: Clock>(
+        &mut self,
+        rt: &R,
+        clock: &C,
+        inputs: &Receiver<InputMessage>,
+    ) -> bool
+        ensures { (first : Option (List ℕ)) → Counts line_served
+            (C.tells clock.now) first self.old.feed self.old.desk.submitter self.old.desk.pending.lines.items self.old.lines self.old.desk.page
             → Goes line_served (C.tells clock.now) first result self.new.feed self.new.desk.submitter self.new.desk.pending.lines.items self.new.lines self.new.desk.page }
     {
         match self.desk.ready_input(rt, inputs) {
-            Some(Input::Line(line)) => self.take(rt, clock, line),
-            Some(Input::Ended) => {
+            Some(InputMessage::Line(line)) => self.take(rt, clock, line),
+            Some(InputMessage::Ended) => {
                 self.end(rt, clock);
                 false
             }
-            Some(Input::Failed) => {
+            Some(InputMessage::Failed) => {
                 self.fail(rt, clock);
                 false
             }
-            Some(Input::Stopped) => false,
+            Some(InputMessage::Stopped) => false,
             None => self.tell(rt, clock),
         }
     }
@@ -180,9 +194,10 @@ impl<B: Room, W: Write + Drop> Counter<B, W> {
         &mut self,
         rt: &R,
         clock: &C,
-        inputs: &Receiver<Input>,
+        inputs: &Receiver<InputMessage>,
     )
-        ensures { (first : Option (List ℕ)) → Counts line_served (C.tells clock.now) first self.old.feed self.old.desk.submitter self.old.desk.pending.lines.items self.old.lines self.old.desk.page
+        ensures { (first : Option (List ℕ)) → Counts line_served
+            (C.tells clock.now) first self.old.feed self.old.desk.submitter self.old.desk.pending.lines.items self.old.lines self.old.desk.page
             → Counted line_served (C.tells clock.now) first self.new.feed self.new.desk.submitter self.new.lines self.new.desk.page }
     {
         'steps: for _ in rt.forever() {

@@ -1,11 +1,13 @@
 //! The threads that a running engine starts. Each owns all that it has.
-ghost use Rattle.std.specs.Prelude.{◌≡◌, IfErr};
+ghost use Rattle.std.specs.Prelude.{◌≡◌, IfErr, IfOk};
+ghost use Rattle.flow_lines.specs.Commands.{line_command};
+ghost use Rattle.flow_hub.specs.Knowing.{nothing};
+ghost use Rattle.flow_work.specs.Counting.{Owes};
 
 use crate::clerk::{Answered, run_clerk};
 use crate::desk::Desk;
 use crate::handing::{Handing, Ringing};
-use crate::input::{Input, Taking, read_lines};
-use crate::page::Page;
+use crate::input::{InputMessage, Taking, read_lines};
 use crate::progress::Progress;
 use crate::reports::Reporter;
 use crate::tasks::Tasks;
@@ -23,8 +25,9 @@ use flow_pool::worker::worker;
 use flow_timers::Clock;
 use std::alloc::{AllocError, Global};
 use std::io::{BufRead, Write};
+use std::snapshot::Snapshot;
 use std::sync::{Arc, Wait};
-use std::thread::{JoinHandle, Threads};
+use std::thread::{JoinHandle, Promise, PromisedHandle, Threads};
 use std::{thread, time};
 
 /// Makes attempts until no task comes any more, or nothing is answered.
@@ -42,10 +45,18 @@ fn run_worker<B: Room, R: Wait, A: Activity + Drop, C: Clock, P: Write + Drop>(
     drop(group);
 }
 
-/// Hands tasks to the workers until none is posted any more. The workers end when its end of the channel is gone.
-fn run_dispatcher<B: Room, R: Wait>(rt: &R, tasks: Tasks<B>, sender: TaskSender, group: WaitGroup) {
-    drop(dispatcher(rt, tasks, sender));
+/// Hands tasks to the workers until none is posted any more. The workers end when its end of the channel is gone. Where the tasks came
+/// from comes back.
+fn run_dispatcher<B: Room, R: Wait>(
+    rt: &R,
+    tasks: Tasks<B>,
+    sender: TaskSender,
+    group: WaitGroup,
+) -> Tasks<B> {
+    let (sender, tasks) = dispatcher(rt, tasks, sender);
+    drop(sender);
     drop(group);
+    tasks
 }
 
 fn run_timer<B: Room, R: Wait + time::Clock, C: Clock>(
@@ -67,30 +78,43 @@ fn run_reader<R: Wait, I: BufRead + Drop, T: Taking>(rt: &R, alloc: Global, read
 #[derive(Drop)]
 pub(crate) struct Answerer<B: Room, W: Write, P: Write> {
     pub(crate) desk: Desk<B, W>,
-    pub(crate) inputs: Receiver<Input>,
+    pub(crate) inputs: Receiver<InputMessage>,
     pub(crate) hub: Arc<Hub<B>, Global>,
     pub(crate) progress: Option<Progress<P>>,
 }
 
-/// Answers lines until the input has ended and no run is open, and then closes the hub. The greatest status of what was printed.
+/// What the thread began with that answers lines. Behind its end it has printed a reply for each line that it took in, in their order.
+#[derive(Drop)]
+pub(crate) struct OwedReplies<B: Room, W: Write, C> {
+    pub(crate) desk: Snapshot<Desk<B, W>>,
+    pub(crate) clock: Snapshot<C>,
+}
+
+impl<B: Room, W: Write, C: Clock> Promise<Answered<B, W>> for OwedReplies<B, W, C> {
+    ghost use Rattle.flow_lines.specs.Commands.{line_command};
+    ghost use Rattle.flow_hub.specs.Knowing.{nothing};
+    ghost use Rattle.flow_work.specs.Counting.{Owes};
+
+    ghost kept_by = { λ p r. Owes line_command (C.tells p.clock.value) p.desk.value.page p.desk.value.pending.lines.items nothing nothing r.submitter r.lines r.page };
+}
+
+/// Answers lines until the input has ended and no run is open, and then closes the hub.
 fn run_desk<B: Room, W: Write + Drop, R: Wait + time::Clock, C: Clock, P: Write + Drop>(
     rt: &R,
     answerer: Answerer<B, W, P>,
     clock: &C,
-) -> Page<W> {
+) -> Answered<B, W>
+    ensures { Owes line_command (C.tells clock.now) answerer.desk.page answerer.desk.pending.lines.items nothing nothing result.submitter result.lines result.page }
+{
     let Answerer {
         desk,
         inputs,
         hub,
         progress,
     } = answerer;
-    let Answered {
-        page,
-        submitter: _submitter,
-        lines: _lines,
-    } = run_clerk(rt, desk, clock, &inputs, progress);
+    let answered = run_clerk(rt, desk, clock, inputs, progress);
     hub.close(rt);
-    page
+    answered
 }
 
 /// Starts a thread that runs a worker. E01 where there is none.
@@ -130,7 +154,7 @@ pub(crate) fn start_dispatcher<B, R>(
     tasks: Tasks<B>,
     sender: TaskSender,
     group: WaitGroup,
-) -> Result<(), Fault>
+) -> Result<JoinHandle<Tasks<B>>, Fault>
 where
     B: Room + Send + Sync + 'static,
     R: Threads + Wait + Copy + Send + Drop + 'static,
@@ -138,7 +162,7 @@ where
 {
     let its = *rt;
     match thread::spawn(rt, move || run_dispatcher(&its, tasks, sender, group)) {
-        Ok(_thread) => Ok(()),
+        Ok(thread) => Ok(thread),
         Err(refused) => Err(Fault::from(AllocError::from(refused))),
     }
 }
@@ -168,7 +192,7 @@ pub(crate) fn start_reader<R, I>(
     rt: &R,
     alloc: Global,
     reader: I,
-    lines: Sender<Input>,
+    lines: Sender<InputMessage>,
 ) -> Result<(), Fault>
 where
     R: Threads + Wait + Copy + Send + Drop + 'static,
@@ -188,7 +212,7 @@ pub(crate) fn start_ringing<B, R, I>(
     rt: &R,
     alloc: Global,
     reader: I,
-    lines: Sender<Input>,
+    lines: Sender<InputMessage>,
     hub: Arc<Hub<B>, Global>,
 ) -> Result<(), Fault>
 where
@@ -210,17 +234,22 @@ pub(crate) fn start_desk<B, R, W, C, P>(
     rt: &R,
     answerer: Answerer<B, W, P>,
     clock: C,
-) -> Result<JoinHandle<Page<W>>, Fault>
+) -> Result<PromisedHandle<Answered<B, W>, OwedReplies<B, W, C>>, Fault>
 where
     B: Room + Send + Sync + 'static,
     R: Threads + Wait + time::Clock + Copy + Send + Drop + 'static,
     W: Write + Drop + Send + 'static,
     C: Clock + Copy + Send + Drop + 'static,
     P: Write + Drop + Send + 'static,
-    ensures { IfErr result (λ f. f ≡ Fault.NoMemory _) }
+    ensures owed { IfOk result (λ h. (h.promise.desk.value ≡ answerer.desk) × (h.promise.clock.value ≡ clock)) }
+    ensures refused { IfErr result (λ f. f ≡ Fault.NoMemory _) }
 {
     let its = *rt;
-    match thread::spawn(rt, move || run_desk(&its, answerer, &clock)) {
+    let owed = OwedReplies {
+        desk: Snapshot::of(&answerer.desk),
+        clock: Snapshot::of(&clock),
+    };
+    match thread::spawn_with(rt, owed, move || run_desk(&its, answerer, &clock)) {
         Ok(thread) => Ok(thread),
         Err(refused) => Err(Fault::from(AllocError::from(refused))),
     }

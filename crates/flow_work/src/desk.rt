@@ -1,5 +1,5 @@
 //! The thread that submits lines and prints their replies, in the order of the lines.
-ghost use Rattle.std.specs.Prelude.{◌≡◌, ◌≤◌, ◌<◌, ◌⊎◌, ◌++◌, ◌∷◌, [], Option, List, true, false, length, is_some, IfNone, IfSome};
+ghost use Rattle.std.specs.Prelude.{◌≡◌, ◌≤◌, ◌<◌, ◌⊎◌, ◌++◌, ◌∷◌, [], Option, List, true, false, length, is_some, IfNone, IfSome, MatchOption};
 ghost use Rattle.flow_lines.specs.declared.reply.Line.{Line as ALine};
 ghost use Rattle.flow_hub.specs.Knowing.{IsBefore};
 ghost use Rattle.flow_work.specs.Counting.{PrintsFed};
@@ -12,7 +12,8 @@ ghost use Rattle.flow_work.specs.Silence.{IsSilent};
 ghost use Rattle.flow_work.specs.Telling.{AnswersFirst, HasTold, IsAnswer, PrintsAnswer};
 ghost use Rattle.flow_work.specs.declared.queue.Pending.{Pending as APending};
 
-use crate::input::Input;
+use crate::giving::Giving;
+use crate::input::InputMessage;
 use crate::moments::command_at;
 use crate::page::Page;
 use crate::progress::Progress;
@@ -181,7 +182,8 @@ impl<B: Room, W: Write + Drop> Desk<B, W> {
     fn submit<R: Wait>(&mut self, rt: &R, command: Command) -> Option<Ticket>
         ensures ticket { IfSome result (λ t. IsOf self.new.submitter command t) }
         ensures silent { IfNone result (IsSilent self.new.submitter self.old.pending.lines.items) }
-        ensures told { HasTold self.new.submitter (is_some result) self.old.pending.lines.items self.new.pending.lines.items self.old.page self.new.page }
+        ensures told { HasTold self.new.submitter
+            (is_some result) self.old.pending.lines.items self.new.pending.lines.items self.old.page self.new.page }
         ensures grows { IsBefore self.old.submitter.was self.new.submitter.was }
         ensures same { self.new.submitter.id ≡ self.old.submitter.id }
         ensures fewer { length self.new.pending.lines.items ≤ length self.old.pending.lines.items }
@@ -211,7 +213,8 @@ impl<B: Room, W: Write + Drop> Desk<B, W> {
     ) -> Option<Pending>
         ensures pending { IfSome result (λ p. IsPendingOf (read_as accepted) (C.tells clock.now) self.new.submitter line.items p) }
         ensures silent { IfNone result (IsSilent self.new.submitter self.old.pending.lines.items) }
-        ensures told { HasTold self.new.submitter (is_some result) self.old.pending.lines.items self.new.pending.lines.items self.old.page self.new.page }
+        ensures told { HasTold self.new.submitter
+            (is_some result) self.old.pending.lines.items self.new.pending.lines.items self.old.page self.new.page }
         ensures grows { IsBefore self.old.submitter.was self.new.submitter.was }
         ensures same { self.new.submitter.id ≡ self.old.submitter.id }
         ensures fewer { length self.new.pending.lines.items ≤ length self.old.pending.lines.items }
@@ -237,7 +240,9 @@ impl<B: Room, W: Write + Drop> Desk<B, W> {
         line: Vec<u8>,
     ) -> bool
         requires { length self.old.pending.lines.items < 64 }
-        ensures taken { result ≡ true → (p : APending) × (rest : List APending) × IsPendingOf (read_as accepted) (C.tells clock.now) self.new.submitter line.items p × (self.new.pending.lines.items ≡ rest ++ p ∷ [])
+        ensures taken { result ≡ true → (p : APending) × (rest : List APending)
+            × IsPendingOf (read_as accepted) (C.tells clock.now) self.new.submitter line.items p
+            × (self.new.pending.lines.items ≡ rest ++ p ∷ [])
             × HasTold self.new.submitter true self.old.pending.lines.items rest self.old.page self.new.page }
         ensures silent { result ≡ false → IsSilent self.new.submitter self.old.pending.lines.items }
         ensures not_taken { result ≡ false → HasTold self.new.submitter false self.old.pending.lines.items self.new.pending.lines.items self.old.page self.new.page }
@@ -254,21 +259,31 @@ impl<B: Room, W: Write + Drop> Desk<B, W> {
     }
 
     /// What is read next. None where there is nothing yet and a reply can be waited for meanwhile.
-    pub(crate) fn next_input<R: Wait>(&self, rt: &R, inputs: &Receiver<Input>) -> Option<Input>
-        ensures { IfSome result (λ _. length self.now.pending.lines.items < 64) }
+    pub(crate) fn next_input<R: Wait, G: Giving>(
+        &self,
+        rt: &R,
+        inputs: &mut G,
+    ) -> Option<InputMessage>
+        ensures room { IfSome result (λ _. length self.now.pending.lines.items < 64) }
+        ensures given { MatchOption result (G.given inputs.new ≡ G.given inputs.old)
+            (λ i. G.given inputs.new ≡ G.given inputs.old ++ i ∷ []) }
     {
         let count = self.pending.len();
         if count == 0 {
-            return Some(inputs.recv(rt).unwrap_or(Input::Stopped));
+            return Some(inputs.next(rt));
         }
         if count >= MOST_PENDING {
             return None;
         }
-        inputs.try_recv(rt).ok()
+        inputs.ready(rt)
     }
 
     /// What is read next, if it is there and room is left for what waits for a reply.
-    pub(crate) fn ready_input<R: Wait>(&self, rt: &R, inputs: &Receiver<Input>) -> Option<Input>
+    pub(crate) fn ready_input<R: Wait>(
+        &self,
+        rt: &R,
+        inputs: &Receiver<InputMessage>,
+    ) -> Option<InputMessage>
         ensures { IfSome result (λ _. length self.now.pending.lines.items < 64) }
     {
         if self.pending.len() >= MOST_PENDING {

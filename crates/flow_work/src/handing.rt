@@ -1,7 +1,7 @@
 //! The ends of the channel by which lines go to who answers them.
 ghost use Rattle.std.specs.Prelude.{◌≡◌, [], ◌∷◌, ◌++◌};
 
-use crate::input::{Input, Taking};
+use crate::input::{InputMessage, Taking};
 use crossbeam_channel::Sender;
 use flow_hub::hub::Hub;
 use flow_hub::seats::Room;
@@ -12,7 +12,7 @@ use unseen::{Listed, Makes};
 
 struct Nothing;
 
-impl Makes<(), Input> for Nothing {
+impl Makes<(), InputMessage> for Nothing {
     ghost use Rattle.std.specs.Prelude.{[]};
 
     ghost list = { λ _. [] };
@@ -20,35 +20,45 @@ impl Makes<(), Input> for Nothing {
 
 struct OneMore;
 
-impl Makes<(Listed<Input>, Snapshot<Input>), Input> for OneMore {
+impl Makes<(Listed<InputMessage>, Snapshot<InputMessage>), InputMessage> for OneMore {
     ghost use Rattle.std.specs.Prelude.{[], ◌∷◌, ◌++◌};
 
     ghost list = { λ p. p.0 ++ p.1.value ∷ [] };
 }
 
+/// Nothing yet.
+pub(crate) fn no_inputs() -> Listed<InputMessage>
+    ensures { result ≡ [] }
+{
+    Listed::of::<(), Nothing>(&())
+}
+
 /// What was taken, and one more.
-fn with_input(taken: &Listed<Input>, input: Snapshot<Input>) -> Listed<Input>
+pub(crate) fn with_input(
+    taken: &Listed<InputMessage>,
+    input: Snapshot<InputMessage>,
+) -> Listed<InputMessage>
     ensures { result ≡ taken.now ++ input.value ∷ [] }
 {
     let more = (taken.again(), input);
-    Listed::of::<(Listed<Input>, Snapshot<Input>), OneMore>(&more)
+    Listed::of::<(Listed<InputMessage>, Snapshot<InputMessage>), OneMore>(&more)
 }
 
 /// Hands on what is read.
 #[derive(Drop)]
 pub(crate) struct Handing {
-    sender: Sender<Input>,
+    sender: Sender<InputMessage>,
     /// All that was taken, for contracts alone.
-    taken: Listed<Input>,
+    taken: Listed<InputMessage>,
 }
 
 impl Handing {
-    pub(crate) fn new(sender: Sender<Input>) -> Handing
+    pub(crate) fn new(sender: Sender<InputMessage>) -> Handing
         ensures { result.taken ≡ [] }
     {
         Handing {
             sender,
-            taken: Listed::of::<(), Nothing>(&()),
+            taken: no_inputs(),
         }
     }
 }
@@ -59,7 +69,7 @@ impl Taking for Handing {
     // Of a refused send no clause says why.
     ghost gone = { λ _. Unit {0} };
 
-    fn take<R: Wait>(&mut self, rt: &R, input: Input) -> bool {
+    fn take<R: Wait>(&mut self, rt: &R, input: InputMessage) -> bool {
         let read = Snapshot::of(&input);
         match self.sender.send(rt, input) {
             Ok(()) => {
@@ -79,7 +89,7 @@ pub(crate) struct Ringing<B: Room> {
 }
 
 impl<B: Room> Ringing<B> {
-    pub(crate) fn new(sender: Sender<Input>, hub: Arc<Hub<B>, Global>) -> Ringing<B>
+    pub(crate) fn new(sender: Sender<InputMessage>, hub: Arc<Hub<B>, Global>) -> Ringing<B>
         ensures { result.handing.taken ≡ [] }
     {
         Ringing {
@@ -94,7 +104,7 @@ impl<B: Room> Taking for Ringing<B> {
 
     ghost gone = { λ _. Unit {0} };
 
-    fn take<R: Wait>(&mut self, rt: &R, input: Input) -> bool {
+    fn take<R: Wait>(&mut self, rt: &R, input: InputMessage) -> bool {
         let takes = self.handing.take(rt, input);
         if takes {
             self.hub.ring(rt);

@@ -9,7 +9,7 @@ use std::sync::Wait;
 
 /// What comes of the input.
 #[derive(Debug, Drop)]
-pub enum Input {
+pub enum InputMessage {
     /// The next line, without its end.
     Line(Vec<u8>),
     /// It has ended.
@@ -20,38 +20,38 @@ pub enum Input {
     Stopped,
 }
 
-impl Input {
+impl InputMessage {
     fn is_line(&self) -> bool
         ensures { result ≡ is_line self.now }
     {
-        matches!(self, Input::Line(_))
+        matches!(self, InputMessage::Line(_))
     }
 }
 
 /// What is read next.
-fn next_input<I: BufRead>(alloc: Global, reader: &mut I) -> Input
+fn next_input<I: BufRead>(alloc: Global, reader: &mut I) -> InputMessage
     ensures { IfSome (I.remaining reader.old) (λ bytes. IsNext bytes result (I.remaining reader.new)) }
 {
     match next_line(alloc, reader) {
-        Ok(Some(line)) => Input::Line(line),
-        Ok(None) => Input::Ended,
-        Err(_) => Input::Failed,
+        Ok(Some(line)) => InputMessage::Line(line),
+        Ok(None) => InputMessage::Ended,
+        Err(_) => InputMessage::Failed,
     }
 }
 
 /// Takes what is read, one after the other.
 pub trait Taking: Drop {
     ghost use Rattle.std.specs.Prelude.{◌≡◌, [], ◌∷◌, ◌++◌, List, true, false};
-    ghost use Rattle.flow_work.specs.declared.input.Input.{Input};
+    ghost use Rattle.flow_work.specs.declared.input.InputMessage.{InputMessage};
 
     /// All that it took, for contracts alone.
-    ghost taken: { Self → List Input };
+    ghost taken: { Self → List InputMessage };
 
     /// Nobody takes anything any more, for contracts alone.
     ghost gone: { Self → Type 0 };
 
     /// Takes what is read next. No where nobody does any more.
-    fn take<R: Wait>(&mut self, rt: &R, input: Input) -> bool
+    fn take<R: Wait>(&mut self, rt: &R, input: InputMessage) -> bool
         ensures taken { result ≡ true → taken self.new ≡ taken self.old ++ input ∷ [] }
         ensures gone { result ≡ false → (taken self.new ≡ taken self.old) × gone self.new };
 }

@@ -7,6 +7,7 @@ pub mod counter;
 pub mod crew;
 pub mod desk;
 pub mod ended;
+pub mod giving;
 pub mod handing;
 pub mod input;
 pub mod lines;

@@ -4,7 +4,7 @@ ghost use Rattle.flow_work.specs.Showing.{next_text, pause_text, progress_text};
 
 use crate::tally::Tally;
 use flow_base::number::Moment;
-use flow_hub::known::Outlook;
+use flow_hub::known::BoardSummary;
 use std::alloc::{AllocError, Global};
 use std::io::Write;
 
@@ -42,13 +42,13 @@ fn next_line(alloc: Global, due: Option<Moment>, now: Moment) -> Result<String, 
 /// What is left, as `runs open: 2, tasks running: 1, next in 3 s`.
 fn progress_line(
     alloc: Global,
-    outlook: Outlook,
+    outlook: BoardSummary,
     running: u64,
     now: Moment,
 ) -> Result<String, AllocError>
     ensures { IfOk result (λ line. string_bytes line ≡ progress_text outlook running now) }
 {
-    let Outlook { due, open_runs } = outlook;
+    let BoardSummary { due, open_runs } = outlook;
     let next = next_line(alloc, due, now)?;
     format!(in alloc; "runs open: {open_runs}, tasks running: {running}{next}")
 }
@@ -83,7 +83,7 @@ impl<P: Write + Drop> Progress<P> {
     }
 
     /// Shows what is left, where that is known, once a second at most.
-    pub(crate) fn draw(&mut self, outlook: Option<Outlook>, now: Moment) {
+    pub(crate) fn draw(&mut self, outlook: Option<BoardSummary>, now: Moment) {
         if self.is_early(now) {
             return;
         }

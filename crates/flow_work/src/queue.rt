@@ -51,7 +51,8 @@ impl Queue {
 
     /// The oldest line, which is gone then.
     pub(crate) fn pop(&mut self) -> Option<Pending>
-        ensures { MatchOption result ((self.old.lines.items ≡ []) × (self.new.lines.items ≡ [])) (λ p. self.old.lines.items ≡ p ∷ self.new.lines.items) }
+        ensures { MatchOption result ((self.old.lines.items ≡ []) × (self.new.lines.items ≡ []))
+            (λ p. self.old.lines.items ≡ p ∷ self.new.lines.items) }
     {
         self.lines.pop_front()
     }

@@ -1,26 +1,27 @@
 //! A running engine: the threads around the one that serves.
 ghost use Rattle.std.specs.Prelude.{◌≡◌, ◌≤◌, [], length, IfOk, IfErr, OnOk};
-ghost use Rattle.flow_hub.specs.Knowing.{nothing};
+ghost use Rattle.flow_hub.specs.Knowing.{IsBefore, IsSamePart, nothing};
 ghost use Rattle.flow_hub.specs.Seating.{IsRoomOf};
 ghost use Rattle.flow_hub.specs.Publishing.{Together};
 ghost use Rattle.flow_engine.specs.Answering.{Follows};
 ghost use Rattle.flow_work.specs.Endings.{EndsServing, HasServedAll};
-ghost use Rattle.flow_work.specs.Serving.{ServedBy};
+ghost use Rattle.flow_work.specs.Printing.{blank};
+ghost use Rattle.flow_work.specs.Serving.{PrintsReplies, ServedBy};
 
+use crate::clerk::Answered;
 use crate::crew::{
-    Answerer, start_desk, start_dispatcher, start_reader, start_timer, start_worker,
+    Answerer, OwedReplies, start_desk, start_dispatcher, start_reader, start_timer, start_worker,
 };
 use crate::desk::Desk;
 use crate::ended::Ended;
-use crate::input::Input;
-use crate::page::Page;
+use crate::input::InputMessage;
 use crate::progress::Progress;
 use crate::queue::Queue;
 use crate::reports::Reporter;
 use crate::skills::Skills;
 use crate::tally::Tally;
 use crate::tasks::Tasks;
-use crate::unknown::{Strangers, Unknown};
+use crate::unknown::{Strangers, UnknownActivity};
 use crossbeam_channel::{Receiver, Sender, bounded};
 use crossbeam_utils::sync::WaitGroup;
 use flow_base::fault::Fault;
@@ -43,7 +44,7 @@ use std::alloc::{AllocError, Global};
 use std::io::{BufRead, Write};
 use std::marker::Brand;
 use std::sync::{Arc, Wait};
-use std::thread::{JoinHandle, Threads};
+use std::thread::{JoinHandle, PromisedHandle, Threads};
 use std::time;
 
 /// How many tasks may wait for a worker.
@@ -164,7 +165,7 @@ where
     Ok(())
 }
 
-/// Starts those who make attempts of the tasks that are posted, and who hands the tasks to them.
+/// Starts those who make attempts of the tasks that are posted, and who hands the tasks to them and gives back where they came from.
 fn start_pool<B, R, A, K, C, P>(
     rt: &R,
     alloc: Global,
@@ -175,7 +176,7 @@ fn start_pool<B, R, A, K, C, P>(
     tally: &Tally,
     strangers: &Strangers<P>,
     group: &WaitGroup,
-) -> Result<(), Fault>
+) -> Result<JoinHandle<Tasks<B>>, Fault>
 where
     B: Room + Send + Sync + 'static,
     R: Threads + Wait + Copy + Send + Drop + 'static,
@@ -197,9 +198,9 @@ where
 
 /// What those who read and answer lines have beside where the lines come from and where the replies go.
 pub(crate) struct Opening<B: Room> {
-    pub(crate) lines: Sender<Input>,
-    pub(crate) own_lines: Sender<Input>,
-    pub(crate) inputs: Receiver<Input>,
+    pub(crate) lines: Sender<InputMessage>,
+    pub(crate) own_lines: Sender<InputMessage>,
+    pub(crate) inputs: Receiver<InputMessage>,
     pub(crate) pending: Queue,
     pub(crate) submitter: Submitter<B>,
     pub(crate) hub: Arc<Hub<B>, Global>,
@@ -232,7 +233,20 @@ pub(crate) fn open_lines<B: Room, R: Wait>(
     }
 }
 
-/// Starts who reads lines and who answers them. Who answers gives back where the replies went.
+/// Who answers lines.
+type Answering<B, W, C> = PromisedHandle<Answered<B, W>, OwedReplies<B, W, C>>;
+
+/// The same, and the end by which it is told that no line is answered any more.
+type Telling<B, W, C> = (Answering<B, W, C>, Sender<InputMessage>);
+
+/// The same, and who hands out tasks.
+type Started<B, W, C> = (
+    Answering<B, W, C>,
+    Sender<InputMessage>,
+    JoinHandle<Tasks<B>>,
+);
+
+/// Starts who reads lines and who answers them.
 fn start_lines<B, R, I, W, C, P>(
     rt: &R,
     alloc: Global,
@@ -241,7 +255,7 @@ fn start_lines<B, R, I, W, C, P>(
     writer: W,
     clock: C,
     progress: Option<Progress<P>>,
-) -> Result<(JoinHandle<Page<W>>, Sender<Input>), Fault>
+) -> Result<Telling<B, W, C>, Fault>
 where
     B: Room + Send + Sync + 'static,
     R: Threads + Wait + time::Clock + Copy + Send + Drop + 'static,
@@ -249,7 +263,11 @@ where
     W: Write + Drop + Send + 'static,
     C: Clock + Copy + Send + Drop + 'static,
     P: Write + Drop + Send + 'static,
-    ensures { IfErr result (λ f. f ≡ Fault.NoMemory _) }
+    requires none { opening.pending.lines.items ≡ [] }
+    ensures page { IfOk result (λ r. (r.0.promise.desk.value.page ≡ blank (W.contents writer))
+        × (r.0.promise.desk.value.pending.lines.items ≡ [])) }
+    ensures owed { IfOk result (λ r. r.0.promise.clock.value ≡ clock) }
+    ensures refused { IfErr result (λ f. f ≡ Fault.NoMemory _) }
 {
     let Opening {
         lines,
@@ -270,6 +288,24 @@ where
     Ok((answering, own_lines))
 }
 
+/// Starts who fires what is due.
+pub(crate) fn start_timing<B, R, C>(
+    rt: &R,
+    hub: &Hub<B>,
+    clock: C,
+    group: &WaitGroup,
+) -> Result<(), Fault>
+where
+    B: Room + Send + Sync + 'static,
+    R: Threads + Wait + time::Clock + Copy + Send + Drop + 'static,
+    C: Clock + Copy + Send + Drop + 'static,
+    ensures { IfErr result (λ f. f ≡ Fault.NoMemory _) }
+{
+    let group = group.clone()?;
+    let reports = reporter(rt, hub, None)?;
+    start_timer(rt, reports, clock, group)
+}
+
 /// Starts those who need no line, and counts the tasks that are with workers.
 fn start_others<B, R, A, K, C, P>(
     rt: &R,
@@ -280,7 +316,7 @@ fn start_others<B, R, A, K, C, P>(
     clock: C,
     strangers: &Strangers<P>,
     group: &WaitGroup,
-) -> Result<Tally, Fault>
+) -> Result<(JoinHandle<Tasks<B>>, Tally), Fault>
 where
     B: Room + Send + Sync + 'static,
     R: Threads + Wait + time::Clock + Copy + Send + Drop + 'static,
@@ -290,14 +326,12 @@ where
     P: Write + Drop + Send + 'static,
     ensures { IfErr result (λ f. f ≡ Fault.NoMemory _) }
 {
+    start_timing(rt, hub, clock, group)?;
     let tally = Tally::new(alloc)?;
-    start_pool(
+    let dispatching = start_pool(
         rt, alloc, hub, workers, skills, clock, &tally, strangers, group,
     )?;
-    let group = group.clone()?;
-    let reports = reporter(rt, hub, None)?;
-    start_timer(rt, reports, clock, group)?;
-    Ok(tally)
+    Ok((dispatching, tally))
 }
 
 /// A terminal, if there is one, that shows what is left.
@@ -322,7 +356,7 @@ fn start_first<B, R, A, K, C, P>(
     clock: C,
     strangers: &Strangers<P>,
     group: &WaitGroup,
-) -> Result<(Opening<B>, Tally), Fault>
+) -> Result<(Opening<B>, JoinHandle<Tasks<B>>, Tally), Fault>
 where
     B: Room + Send + Sync + 'static,
     R: Threads + Wait + time::Clock + Copy + Send + Drop + 'static,
@@ -330,11 +364,14 @@ where
     K: Skills<A>,
     C: Clock + Copy + Send + Drop + 'static,
     P: Write + Drop + Send + 'static,
-    ensures { IfErr result (λ f. f ≡ Fault.NoMemory _) }
+    ensures none { IfOk result (λ r. r.0.pending.lines.items ≡ []) }
+    ensures refused { IfErr result (λ f. f ≡ Fault.NoMemory _) }
 {
-    let tally = start_others(rt, alloc, hub, workers, skills, clock, strangers, group)?;
+    let (dispatching, tally) = start_others(
+        rt, alloc, hub, workers, skills, clock, strangers, group,
+    )?;
     let opening = open_lines(rt, alloc, hub, MOST_LINES)?;
-    Ok((opening, tally))
+    Ok((opening, dispatching, tally))
 }
 
 /// Starts all threads but the one that serves.
@@ -345,12 +382,12 @@ fn start_all<B, R, I, W, A, K, C, P>(
     reader: I,
     writer: W,
     terminal: Option<P>,
-    unknown: Unknown<P>,
+    unknown: UnknownActivity<P>,
     workers: usize,
     skills: &K,
     clock: C,
     group: &WaitGroup,
-) -> Result<(JoinHandle<Page<W>>, Sender<Input>), Fault>
+) -> Result<Started<B, W, C>, Fault>
 where
     B: Room + Send + Sync + 'static,
     R: Threads + Wait + time::Clock + Copy + Send + Drop + 'static,
@@ -360,12 +397,45 @@ where
     K: Skills<A>,
     C: Clock + Copy + Send + Drop + 'static,
     P: Write + Drop + Send + 'static,
-    ensures { IfErr result (λ f. f ≡ Fault.NoMemory _) }
+    ensures page { IfOk result (λ r. (r.0.promise.desk.value.page ≡ blank (W.contents writer))
+        × (r.0.promise.desk.value.pending.lines.items ≡ [])) }
+    ensures owed { IfOk result (λ r. r.0.promise.clock.value ≡ clock) }
+    ensures refused { IfErr result (λ f. f ≡ Fault.NoMemory _) }
 {
     let strangers = Strangers::new(alloc, unknown, terminal.is_some())?;
-    let (opening, tally) = start_first(rt, alloc, hub, workers, skills, clock, &strangers, group)?;
+    let (opening, dispatching, tally) = start_first(
+        rt, alloc, hub, workers, skills, clock, &strangers, group,
+    )?;
     let progress = progress_on(alloc, terminal, tally);
-    start_lines(rt, alloc, opening, reader, writer, clock, progress)
+    let (answering, own_lines) = start_lines(rt, alloc, opening, reader, writer, clock, progress)?;
+    Ok((answering, own_lines, dispatching))
+}
+
+/// What came of it, once the threads have ended that answered lines and handed out tasks: what they had of the hub is taken back.
+fn ended_with<B: Room, R: Wait, W: Write + Drop>(
+    rt: &R,
+    publisher: &mut Publisher<B>,
+    answered: Answered<B, W>,
+    feed: Feed<B>,
+    served: Result<(), Fault>,
+) -> Ended<W>
+    ensures served { result.served ≡ served }
+    ensures printed { (W.contents result.writer ≡ answered.page.bytes) × (result.status ≡ answered.page.status) }
+    ensures submitter { IsBefore answered.submitter.was publisher.new }
+    ensures part { IsSamePart publisher.old publisher.new }
+{
+    let Answered {
+        page,
+        submitter,
+        lines: _lines,
+    } = answered;
+    publisher.meet(rt, submitter, feed);
+    let (writer, status, _is_mute) = page.into_parts();
+    Ended {
+        writer,
+        status,
+        served,
+    }
 }
 
 /// Runs an engine: serves, runs activities on as many threads as the settings say, fires what is due by the clock, reads lines and
@@ -400,6 +470,9 @@ where
     ensures unserved { IfErr result (λ f. (f ≡ Fault.NoMemory _) × (engine.new ≡ engine.old)) }
     ensures found { engine.new.found ≡ engine.old.found }
     ensures follows { Follows S.Store engine.old engine.new }
+    // What was printed: replies to the lines that were taken in, in their order, by what was kept and what wasn't; and their status.
+    ensures printed { IfOk result (λ e. PrintsReplies S.Store (C.tells clock) engine.old engine.new (W.contents writer)
+        (W.contents e.writer) e.status) }
 {
     work_shown(
         rt,
@@ -408,7 +481,7 @@ where
         reader,
         writer,
         None::<Vec<u8>>,
-        Unknown::Fail,
+        UnknownActivity::Fail,
         settings,
         skills,
         clock,
@@ -424,7 +497,7 @@ pub fn work_shown<S, R, I, W, A, K, C, P>(
     reader: I,
     writer: W,
     terminal: Option<P>,
-    unknown: Unknown<P>,
+    unknown: UnknownActivity<P>,
     settings: Settings,
     skills: &K,
     clock: C,
@@ -445,6 +518,8 @@ where
     ensures unserved { IfErr result (λ f. (f ≡ Fault.NoMemory _) × (engine.new ≡ engine.old)) }
     ensures found { engine.new.found ≡ engine.old.found }
     ensures follows { Follows S.Store engine.old engine.new }
+    ensures printed { IfOk result (λ e. PrintsReplies S.Store (C.tells clock) engine.old engine.new (W.contents writer)
+        (W.contents e.writer) e.status) }
 {
     let (group, opened) = begin(alloc)?;
     work_in::<S, Brand, R, I, W, A, K, C, P>(
@@ -505,7 +580,7 @@ fn work_in<S, B, R, I, W, A, K, C, P>(
     reader: I,
     writer: W,
     terminal: Option<P>,
-    unknown: Unknown<P>,
+    unknown: UnknownActivity<P>,
     settings: Settings,
     skills: &K,
     clock: C,
@@ -528,9 +603,11 @@ where
     ensures unserved { IfErr result (λ f. (f ≡ Fault.NoMemory _) × (engine.new ≡ engine.old)) }
     ensures found { engine.new.found ≡ engine.old.found }
     ensures follows { Follows S.Store engine.old engine.new }
+    ensures printed { IfOk result (λ e. PrintsReplies S.Store (C.tells clock) engine.old engine.new (W.contents writer)
+        (W.contents e.writer) e.status) }
 {
     let (mut publisher, hub) = open_hub::<B>(alloc, opened)?;
-    let started = start_all(
+    match start_all(
         rt,
         alloc,
         &hub,
@@ -542,19 +619,15 @@ where
         skills,
         clock,
         &group,
-    );
-    match started {
-        Ok((answering, own_lines)) => {
+    ) {
+        Ok((answering, own_lines, dispatching)) => {
             let served = serve_new(rt, engine, &mut publisher, &clock, settings.batch());
             // Who answers lines may wait for one, and none is answered any more.
-            let _ = own_lines.send(rt, Input::Stopped);
-            let (writer, status, _is_mute) = answering.join(rt).into_parts();
+            let _ = own_lines.send(rt, InputMessage::Stopped);
+            let answered = answering.join(rt);
             group.wait(rt);
-            Ok(Ended {
-                writer,
-                status,
-                served,
-            })
+            let feed = dispatching.join(rt).into_feed();
+            Ok(ended_with(rt, &mut publisher, answered, feed, served))
         }
         Err(fault) => {
             hub.close(rt);

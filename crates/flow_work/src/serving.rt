@@ -3,16 +3,17 @@ ghost use Rattle.std.specs.Prelude.{◌≡◌, ◌≤◌, [], IfOk, IfErr, OnOk}
 ghost use Rattle.flow_hub.specs.Knowing.{IsBefore, IsSamePart, nothing};
 ghost use Rattle.flow_hub.specs.Seating.{IsRoomOf};
 ghost use Rattle.flow_engine.specs.Answering.{Follows};
+ghost use Rattle.flow_work.specs.Counting.{IsStatusOf};
 ghost use Rattle.flow_work.specs.Endings.{EndsServing, HasServedAll};
 ghost use Rattle.flow_work.specs.Printing.{blank};
 ghost use Rattle.flow_work.specs.Serving.{Shows};
 
 use crate::counter::Told;
-use crate::crew::{start_ringing, start_timer};
+use crate::crew::start_ringing;
 use crate::desk::Desk;
 use crate::ended::{Ended, Served};
-use crate::input::Input;
-use crate::running::{Opening, begin, feed_of, open_hub, open_lines, reporter, serve_new};
+use crate::input::InputMessage;
+use crate::running::{Opening, begin, feed_of, open_hub, open_lines, serve_new, start_timing};
 use crate::teller::{Owed, Teller, start_teller};
 use crossbeam_channel::Sender;
 use crossbeam_utils::sync::WaitGroup;
@@ -35,19 +36,6 @@ use std::time;
 /// How many lines may be read ahead: more than a worker has tasks in its hands that it has read and not looked at, so that it may write
 /// their reports though its next lines can't be printed.
 const MOST_LINES: usize = 4_096;
-
-/// Starts who fires what is due.
-fn start_timing<B, R, C>(rt: &R, hub: &Hub<B>, clock: C, group: &WaitGroup) -> Result<(), Fault>
-where
-    B: Room + Send + Sync + 'static,
-    R: Threads + Wait + time::Clock + Copy + Send + Drop + 'static,
-    C: Clock + Copy + Send + Drop + 'static,
-    ensures { IfErr result (λ f. f ≡ Fault.NoMemory _) }
-{
-    let group = group.clone()?;
-    let reports = reporter(rt, hub, None)?;
-    start_timer(rt, reports, clock, group)
-}
 
 /// What the threads that read and print have beside where the lines come from and where they go.
 struct Supplies<B: Room> {
@@ -84,7 +72,10 @@ where
 }
 
 /// Who answers lines and prints tasks, and the end by which it is told that no line is answered any more.
-type Telling<B, W, C> = (PromisedHandle<Told<B, W>, Owed<B, W, C>>, Sender<Input>);
+type Telling<B, W, C> = (
+    PromisedHandle<Told<B, W>, Owed<B, W, C>>,
+    Sender<InputMessage>,
+);
 
 /// Starts who reads lines and who answers them and prints tasks.
 fn start_lines<B, R, I, W, C>(
@@ -102,7 +93,8 @@ where
     W: Write + Drop + Send + 'static,
     C: Clock + Copy + Send + Drop + 'static,
     requires none { (supplies.opening.pending.lines.items ≡ []) × (supplies.feed ≡ nothing) }
-    ensures page { IfOk result (λ r. (r.0.promise.desk.value.page ≡ blank (W.contents writer)) × (r.0.promise.desk.value.pending.lines.items ≡ [])) }
+    ensures page { IfOk result (λ r. (r.0.promise.desk.value.page ≡ blank (W.contents writer))
+        × (r.0.promise.desk.value.pending.lines.items ≡ [])) }
     ensures owed { IfOk result (λ r. (r.0.promise.feed.value ≡ nothing) × (r.0.promise.clock.value ≡ clock)) }
     ensures refused { IfErr result (λ f. f ≡ Fault.NoMemory _) }
 {
@@ -147,7 +139,8 @@ where
     I: BufRead + Drop + Send + 'static,
     W: Write + Drop + Send + 'static,
     C: Clock + Copy + Send + Drop + 'static,
-    ensures page { IfOk result (λ r. (r.0.promise.desk.value.page ≡ blank (W.contents writer)) × (r.0.promise.desk.value.pending.lines.items ≡ [])) }
+    ensures page { IfOk result (λ r. (r.0.promise.desk.value.page ≡ blank (W.contents writer))
+        × (r.0.promise.desk.value.pending.lines.items ≡ [])) }
     ensures owed { IfOk result (λ r. (r.0.promise.feed.value ≡ nothing) × (r.0.promise.clock.value ≡ clock)) }
     ensures refused { IfErr result (λ f. f ≡ Fault.NoMemory _) }
 {
@@ -163,8 +156,10 @@ fn taken_back<B: Room, R: Wait, W: Write + Drop>(
     served: Result<(), Fault>,
 ) -> Served<W>
     ensures served { result.ended.served ≡ served }
-    ensures printed { (W.contents result.ended.writer ≡ told.page.bytes) × (result.is_mute ≡ told.page.is_mute) × (result.shown ≡ told.page.shown) }
+    ensures printed { (W.contents result.ended.writer ≡ told.page.bytes) × (result.is_mute ≡ told.page.is_mute)
+        × (result.shown ≡ told.page.shown) }
     ensures lines { result.lines ≡ told.lines }
+    ensures status { result.ended.status ≡ told.page.status }
     ensures submitter { IsBefore told.submitter.was publisher.new }
     ensures feed { IsBefore told.feed publisher.new }
     ensures part { IsSamePart publisher.old publisher.new }
@@ -220,7 +215,10 @@ where
     ensures follows { Follows S.Store engine.old engine.new }
     // What was printed: to the lines that were taken in, in their order, what is said of them by what was kept and what wasn't; and in
     // between the tasks that were posted.
-    ensures shown { IfOk result (λ e. Shows S.Store (C.tells clock) engine.old engine.new (W.contents writer) (W.contents e.ended.writer) e.is_mute e.lines e.shown) }
+    ensures shown { IfOk result (λ e. Shows S.Store (C.tells clock) engine.old engine.new (W.contents writer)
+        (W.contents e.ended.writer) e.is_mute e.lines e.shown) }
+    // The status is the greatest of the replies that were printed, or 3.
+    ensures status { IfOk result (λ e. IsStatusOf e.is_mute e.shown e.ended.status) }
 {
     let (group, opened) = begin(alloc)?;
     serve_in::<S, Brand, R, I, W, C>(
@@ -254,14 +252,16 @@ where
     ensures unserved { IfErr result (λ f. (f ≡ Fault.NoMemory _) × (engine.new ≡ engine.old)) }
     ensures found { engine.new.found ≡ engine.old.found }
     ensures follows { Follows S.Store engine.old engine.new }
-    ensures shown { IfOk result (λ e. Shows S.Store (C.tells clock) engine.old engine.new (W.contents writer) (W.contents e.ended.writer) e.is_mute e.lines e.shown) }
+    ensures shown { IfOk result (λ e. Shows S.Store (C.tells clock) engine.old engine.new (W.contents writer)
+        (W.contents e.ended.writer) e.is_mute e.lines e.shown) }
+    ensures status { IfOk result (λ e. IsStatusOf e.is_mute e.shown e.ended.status) }
 {
     let (mut publisher, hub) = open_hub::<B>(alloc, opened)?;
     match start_all(rt, alloc, &hub, reader, writer, clock, &group) {
         Ok((telling, own_lines)) => {
             let served = serve_new(rt, engine, &mut publisher, &clock, settings.batch());
             // Who answers lines may have none, and none is answered any more.
-            let _ = own_lines.send(rt, Input::Stopped);
+            let _ = own_lines.send(rt, InputMessage::Stopped);
             let told = telling.join(rt);
             group.wait(rt);
             Ok(taken_back(rt, &mut publisher, told, served))

@@ -5,7 +5,7 @@ use crate::tally::Tally;
 use flow_hub::feed::Feed;
 use flow_hub::seats::Room;
 use flow_machine::task::Task;
-use flow_pool::dispatcher::Posted;
+use flow_pool::dispatcher::TaskSource;
 use std::sync::Wait;
 
 /// The tasks that are posted to a hub.
@@ -22,9 +22,20 @@ impl<B: Room> Tasks<B> {
     {
         Tasks { feed, tally }
     }
+
+    /// Who gave them out.
+    pub(crate) fn into_feed(self) -> Feed<B>
+        ensures { result ≡ self.feed }
+    {
+        let Tasks {
+            feed,
+            tally: _tally,
+        } = self;
+        feed
+    }
 }
 
-impl<B: Room> Posted for Tasks<B> {
+impl<B: Room> TaskSource for Tasks<B> {
     ghost use Rattle.std.specs.Prelude.{◌≡◌, true};
 
     // All that the hub has given out.

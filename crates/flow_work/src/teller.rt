@@ -5,7 +5,7 @@ ghost use Rattle.flow_work.specs.Questions.{line_served};
 
 use crate::counter::{Counter, Told};
 use crate::desk::Desk;
-use crate::input::Input;
+use crate::input::InputMessage;
 use crossbeam_channel::Receiver;
 use flow_base::fault::Fault;
 use flow_hub::feed::Feed;
@@ -24,7 +24,7 @@ use std::thread::{Promise, PromisedHandle, Threads};
 pub(crate) struct Teller<B: Room, W: Write> {
     pub(crate) desk: Desk<B, W>,
     pub(crate) feed: Feed<B>,
-    pub(crate) inputs: Receiver<Input>,
+    pub(crate) inputs: Receiver<InputMessage>,
     pub(crate) hub: Arc<Hub<B>, Global>,
 }
 
@@ -75,7 +75,8 @@ where
     R: Threads + Wait + Copy + Send + Drop + 'static,
     W: Write + Drop + Send + 'static,
     C: Clock + Copy + Send + Drop + 'static,
-    ensures owed { IfOk result (λ h. (h.promise.desk.value ≡ teller.desk) × (h.promise.feed.value ≡ teller.feed) × (h.promise.clock.value ≡ clock)) }
+    ensures owed { IfOk result (λ h. (h.promise.desk.value ≡ teller.desk) × (h.promise.feed.value ≡ teller.feed)
+        × (h.promise.clock.value ≡ clock)) }
     ensures refused { IfErr result (λ f. f ≡ Fault.NoMemory _) }
 {
     let its = *rt;

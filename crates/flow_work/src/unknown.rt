@@ -10,7 +10,7 @@ use std::sync::{Arc, Mutex, Wait};
 
 /// What becomes of a task whose activity no worker has.
 #[derive(Drop)]
-pub enum Unknown<P> {
+pub enum UnknownActivity<P> {
     /// It fails.
     Fail,
     /// It is left alone, and its activity's name is told here, once.
@@ -72,10 +72,10 @@ impl<P: Write + Drop> Strangers<P> {
     /// What this says. A terminal is one on which something else is drawn.
     pub(crate) fn new(
         alloc: Global,
-        unknown: Unknown<P>,
+        unknown: UnknownActivity<P>,
         is_terminal: bool,
     ) -> Result<Strangers<P>, AllocError> {
-        let Unknown::Leave(errors) = unknown else {
+        let UnknownActivity::Leave(errors) = unknown else {
             return Ok(Strangers { names: None });
         };
         let before = if is_terminal { "\r\x1b[K" } else { "" };

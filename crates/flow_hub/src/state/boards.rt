@@ -11,9 +11,9 @@ ghost use Rattle.flow_hub.specs.Seating.{seeing, IsGivers, IsPublishers, IsSubmi
 
 use super::State;
 use crate::fed::Until;
-use crate::known::Outlook;
+use crate::known::BoardSummary;
 use crate::rested::Rested;
-use crate::seats::{Pass, Room, Seats};
+use crate::seats::{HubTable, Pass, Room};
 use flow_base::number::Moment;
 use flow_commit::board::Board;
 use flow_machine::task::Task;
@@ -26,14 +26,15 @@ impl<B: Room> State<B> {
     pub(crate) fn post(
         &mut self,
         alloc: Global,
-        seats: &Seats<B>,
+        seats: &HubTable<B>,
         me: Pass<B>,
         keys: &mut Keys,
         board: Board,
     ) -> (Pass<B>, Result<(), (Board, AllocError)>)
         requires seat { IsPublishers me }
         requires keys { HasKeys keys.old me.was.posted }
-        ensures posted { OnOk result.1 (self.new ≡ posted_on self.old board.tasks (record { due = board.due; open_runs = board.open_runs })) }
+        ensures posted { OnOk result.1 (self.new ≡ posted_on self.old board.tasks
+            (record { due = board.due; open_runs = board.open_runs })) }
         ensures refused { IfErr result.1 (λ e. (e.0 ≡ board) × (self.new ≡ self.old)) }
         ensures keys { HasKeys keys.new result.0.was.posted }
         ensures seat { result.0 ≡ seeing true false 0 self.new.known }
@@ -51,14 +52,15 @@ impl<B: Room> State<B> {
             Err(refused) => return (me, Err((board, refused))),
         };
         let (tasks, due, open_runs) = board.into_parts();
-        self.known.post(&tasks, &marks, Outlook { due, open_runs });
+        self.known
+            .post(&tasks, &marks, BoardSummary { due, open_runs });
         let me = seats.tell(&mut self.keeper, me, self.places, self.places, &self.known);
         push_marked(&mut self.tasks, tasks, marks);
         (me, Ok(()))
     }
 
     /// No board this time.
-    pub(crate) fn skip(&mut self, seats: &Seats<B>, me: Pass<B>) -> Pass<B>
+    pub(crate) fn skip(&mut self, seats: &HubTable<B>, me: Pass<B>) -> Pass<B>
         requires seat { IsPublishers me }
         ensures skipped { self.new ≡ skipped self.old }
         ensures seat { result ≡ seeing true false 0 self.new.known }
@@ -78,9 +80,10 @@ impl<B: Room> State<B> {
     }
 
     /// The next task that waits, if one does and the hub isn't closed.
-    pub(crate) fn give(&mut self, seats: &Seats<B>, me: Pass<B>) -> (Pass<B>, Option<Task>)
+    pub(crate) fn give(&mut self, seats: &HubTable<B>, me: Pass<B>) -> (Pass<B>, Option<Task>)
         requires seat { IsGivers me }
-        ensures given { MatchOption result.1 (self.new ≡ self.old) (λ t. (self.old.tasks ≡ t ∷ self.new.tasks) × (self.new ≡ gave self.old t self.new.tasks)) }
+        ensures given { MatchOption result.1 (self.new ≡ self.old)
+            (λ t. (self.old.tasks ≡ t ∷ self.new.tasks) × (self.new ≡ gave self.old t self.new.tasks)) }
         ensures seat { result.0 ≡ seeing false true 0 self.new.known }
         ensures seen { HasGiven me.was result.0.was result.1 }
         ensures none { IfNone result.1 ((result.0.was.closed ≡ true) ⊎ (result.0.was.given ≡ result.0.was.posted)) }
@@ -133,7 +136,7 @@ impl<B: Room> State<B> {
     }
 
     /// When more is to be done, as the last board says, if nothing was answered since.
-    pub(crate) fn due(&mut self, seats: &Seats<B>, me: Pass<B>) -> (Pass<B>, Option<Moment>)
+    pub(crate) fn due(&mut self, seats: &HubTable<B>, me: Pass<B>) -> (Pass<B>, Option<Moment>)
         requires seat { IsSubmitters me }
         ensures same { self.new ≡ self.old }
         ensures due { result.1 ≡ due_in result.0.was }
@@ -158,7 +161,7 @@ impl<B: Room> State<B> {
     }
 
     /// Whether all that was submitted is answered, and the board that was made then says that no run is open.
-    pub(crate) fn is_idle(&mut self, seats: &Seats<B>, me: Pass<B>) -> (Pass<B>, bool)
+    pub(crate) fn is_idle(&mut self, seats: &HubTable<B>, me: Pass<B>) -> (Pass<B>, bool)
         requires seat { IsSubmitters me }
         ensures same { self.new ≡ self.old }
         ensures idle { result.1 ≡ true → IsIdle result.0.was }
@@ -183,7 +186,7 @@ impl<B: Room> State<B> {
     }
 
     /// Whether nothing is left to be done, and what is if not.
-    pub(crate) fn rest(&mut self, seats: &Seats<B>, me: Pass<B>) -> (Pass<B>, Rested)
+    pub(crate) fn rest(&mut self, seats: &HubTable<B>, me: Pass<B>) -> (Pass<B>, Rested)
         requires seat { IsSubmitters me }
         ensures same { self.new ≡ self.old }
         ensures rested { IsRested result.0.was result.1 }

@@ -4,8 +4,8 @@ use flow_base::text::{Key, RawText};
 use flow_rows::rows::{EventRow, OutboxRow, RunRow, TextRow, TimerRow};
 use flow_tables::ask::change;
 use flow_tables::row_changes::{
-    Mark, NewEvent, NewEvents, NewRun, NewTask, NewText, NewTimer, TaskGone, TasksGone, TimerGone,
-    TimersGone,
+    NewEvent, NewEvents, NewRun, NewTask, NewText, NewTimer, RunMark, TaskGone, TasksGone,
+    TimerGone, TimersGone,
 };
 use sqlite::{Connection, MemStore};
 use std::alloc::Global;
@@ -139,7 +139,7 @@ fn take_tasks(conn: &mut Memory, number: u64) -> bool {
 
 fn mark(conn: &mut Memory, number: u64, is_open: bool) -> bool {
     match run(number) {
-        Ok(run) => change(conn, &Mark(run, is_open)).is_ok(),
+        Ok(run) => change(conn, &RunMark(run, is_open)).is_ok(),
         Err(_) => false,
     }
 }

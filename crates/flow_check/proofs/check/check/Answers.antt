@@ -10,8 +10,8 @@ returns-in-Some-clause-fault c =
     let is : first_fault p ≡ Some c.in-Some.fault = sym c.in_ok-fault.ensures ∙ c.in-Some.is in
     (first_is p c.in-Some.fault is, is)
 
-pub returns-in-None-clause-well_formed : goal.returns-in-None-clause-well_formed
-returns-in-None-clause-well_formed c = well_formed (shown_program c.args.program) (sym c.in_ok-fault.ensures ∙ c.in-None.is)
+pub returns-in_ok-table-in-None-clause-well_formed : goal.returns-in_ok-table-in-None-clause-well_formed
+returns-in_ok-table-in-None-clause-well_formed c = well_formed (shown_program c.args.program) (sym c.in_ok-fault.ensures ∙ c.in-None.is)
 
-pub of-requires : goal.of-requires
-of-requires c = well_formed (shown_program c.args.program) (sym c.in_ok-fault.ensures ∙ c.in-None.is)
+pub of-requires-in-None-clause-well_formed : goal.of-requires-in-None-clause-well_formed
+of-requires-in-None-clause-well_formed c = well_formed (shown_program c.args.program) (sym c.in_ok-fault.ensures ∙ c.in-None.is)

@@ -6,11 +6,11 @@ use Rattle.flow_lines.proofs.batch.gather.Given as goal
 
 abbrev pub invariant-loop : goal.invariant-loop
 invariant-loop g l = record {
-  gathered : Gathered (l.fn.first ∷ []) l.begun.commands.items (true ∷ []) l.begun.marks.items (g.I.Input.left l.fn.input) (g.I.Input.left l.input);
+  gathered : Gathered (l.fn.first ∷ []) l.begun.commands.items (true ∷ []) l.begun.marks.items (g.I.LineSource.left l.fn.input) (g.I.LineSource.left l.input);
   some : 1 ≤ length l.begun.commands.items;
   few : length l.begun.commands.items ≤ l.most;
   ends : EndsFull l.most l.begun.commands.items l.begun.marks.items;
   counted : length l.begun.marks.items ≡ l.counter + 1;
-  given : Gives 0 (g.I.Input.given l.fn.input) (g.I.Input.given l.input);
-  failed : g.I.Input.failed l.input ≡ g.I.Input.failed l.fn.input;
+  given : Gives 0 (g.I.LineSource.given l.fn.input) (g.I.LineSource.given l.input);
+  failed : g.I.LineSource.failed l.input ≡ g.I.LineSource.failed l.fn.input;
 }

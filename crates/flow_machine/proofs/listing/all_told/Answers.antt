@@ -23,7 +23,7 @@ loop-number-preserved g c =
     let before = c.loop-number.list.items in
     let run = c.in_ok-run.run' in
     let pushed : c.push.new.self.items ≡ before ++ run ∷ [] = search rules in
-    let sure_at = c.told.ensures.sure in
+    let sure_at = c.told.ensures.called.sure in
     record {
       same = λ sure. c.in_ok-run.ensures.same sure ∙ was.same (sure_at sure);
       told = λ sure fit.
@@ -36,10 +36,10 @@ loop-number-preserved g c =
       stuck = λ h. was.stuck (subst (StuckIn m old) (sym cut) (inr h));
       ahead = c.told.ensures.ahead ∙ was.ahead;
       no_more = λ e there. was.no_more e (c.told.ensures.no_more e there);
-      goes_on = λ now first. c.in_ok-run.ensures.goes_on now (was.goes_on (c.told.ensures.was_true now) first);
+      goes_on = λ now first. c.in_ok-run.ensures.called.goes_on now (was.goes_on (c.told.ensures.called.was_true now) first);
       sure = λ sure. was.sure (sure_at sure);
-      was_true = λ now. was.was_true (c.told.ensures.was_true now);
-      follows = λ a follows. c.told.ensures.follows a (was.follows a follows);
+      was_true = λ now. was.was_true (c.told.ensures.called.was_true now);
+      follows = λ a follows. c.told.ensures.called.follows a (was.follows a follows);
     }
 
 pub returns-clause-told : goal.returns-clause-told
@@ -61,13 +61,13 @@ returns-in_err-run-clause-cause g c = λ a follows now first.
     let number = c.number-item.result in
     let was = c.loop-number.invariant in
     let cut = cut_at numbers i number c.loop-number-test.true c.number-item.is in
-    let sure = was.goes_on (c.told.ensures.was_true now) first in
+    let sure = was.goes_on (c.told.ensures.called.was_true now) first in
     let Refuses : Type 0 = g.V.View.refuses a c.told.new.view in
     let Stuck : Type 0 = StuckAt m at number in
     let StuckWithin : Type 0 = StuckIn m old numbers in
     let stuck : Stuck → StuckWithin = λ h. was.stuck (subst (StuckIn m old) (sym cut) (inl (subst (λ (b : Book). StuckAt m b number) (was.same sure) h))) in
     let p = err_from_is_err_and c.from_residual.result c.from_residual.ensures.1 in
-    rw (p.1, p.2) (caused_by c.in_err-run.field-0.0 (Refuses ⊎ Stuck) (Refuses ⊎ StuckWithin) (other_side Refuses Stuck StuckWithin stuck) (c.in_err-run.ensures.cause a (was.follows a follows) now sure))
+    rw (p.1, p.2) (caused_by c.in_err-run.field-0.0 (Refuses ⊎ Stuck) (Refuses ⊎ StuckWithin) (other_side Refuses Stuck StuckWithin stuck) (c.in_err-run.ensures.called.cause a (was.follows a follows) now sure))
 
 pub returns-in_err-run-clause-no_more : goal.returns-in_err-run-clause-no_more
 returns-in_err-run-clause-no_more g c = λ e there. c.loop-number.invariant.no_more e (c.told.ensures.no_more e there)

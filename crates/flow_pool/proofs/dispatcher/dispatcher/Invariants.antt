@@ -7,4 +7,4 @@ abbrev pub invariant-tasks : goal.invariant-tasks
 invariant-tasks g l =
     (goal.iterator-tasks g).can_next l.iterator' × (goal.iterator-tasks g).is_finite l.iterator'
     × IsSameFeed l.initial.sender l.sender × (made_by l.sender ≡ made_by l.initial.sender) × (back_at l.sender ≡ back_at l.initial.sender) × (came_back l.sender ≡ came_back l.initial.sender)
-    × ((ts : List Task) × (put_by l.sender ≡ put_by l.initial.sender ++ ts) × (g.P.Posted.given l.posted ≡ g.P.Posted.given l.initial.posted ++ ts))
+    × ((ts : List Task) × (put_by l.sender ≡ put_by l.initial.sender ++ ts) × (g.P.TaskSource.given l.posted ≡ g.P.TaskSource.given l.initial.posted ++ ts))

@@ -1,4 +1,4 @@
-use Rattle.std.proofs.Common.{◌≡◌, ◌++◌, ◌∷◌, [], refl, rules}
+use Rattle.std.proofs.Common.{◌≡◌, ◌++◌, ◌∷◌, [], rules}
 use Rattle.flow_maps.specs.Agenda.{is_open_run}
 use Rattle.flow_maps.specs.Timers.{timers_of}
 use Rattle.flow_tables.proofs.keys.add_whole.Goals as goal
@@ -11,8 +11,7 @@ returns-in_default-copy_tasks-clause-serves c b h = c.forget-in_default-copy_tas
 
 pub returns-clause-serves : goal.returns-clause-serves
 returns-clause-serves c b h =
-    let history : c.args.run.now.history ≡ c.as_slice-events.result.now = search rules in
     let opened : c.is_open-is_open.result ≡ is_open_run c.args.run.now = search rules in
     let times : c.from_vec.result ≡ timers_of c.args.run.now = search rules in
     let tasks : c.in-Ok-copy_tasks.tasks ≡ c.args.run.now.tasks = search rules in
-    c.add_whole.ensures.serves b c.args.run.now refl refl history opened times tasks h
+    c.add_whole.ensures.serves b opened times tasks h

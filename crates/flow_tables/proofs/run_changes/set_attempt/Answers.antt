@@ -1,4 +1,4 @@
-use Rattle.flow_tables.proofs.Names.{Task, state, pos, tables_in, ◌∙◌, sym, subst, Database, HasRun}
+use Rattle.flow_tables.proofs.Names.{OpenActivity, state, pos, tables_in, ◌∙◌, sym, subst, Database, HasRun}
 use Rattle.flow_tables.proofs.Altering.{no_task_set, task_set, run_of_task}
 use Rattle.flow_tables.proofs.Stopping.{stops_then}
 use Rattle.flow_tables.proofs.run_changes.set_attempt.Goals as goal
@@ -6,7 +6,7 @@ use Rattle.flow_tables.proofs.run_changes.set_attempt.Goals as goal
 pub returns-then-not-is_there-clause-put : goal.returns-then-not-is_there-clause-put
 returns-then-not-is_there-clause-put g c b tells holds clean =
     let found = c.in_ok-is_there.ensures.finds holds clean in
-    let task : Task = record { event = c.args.event; attempt = c.args.attempt; ready = c.args.ready } in
+    let task : OpenActivity = record { event = c.args.event; attempt = c.args.attempt; ready = c.args.ready } in
     (tt, no_task_set (state g.S.Store c.args.conn.now) (state g.S.Store c.find_task.new.conn) (pos c.args.run) task found.0 (sym c.if-not-is_there.true ∙ found.1))
 
 pub returns-clause-put : goal.returns-clause-put

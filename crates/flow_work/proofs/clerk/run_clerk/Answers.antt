@@ -16,5 +16,5 @@ returns-clause-owes g c =
           let none' : made.desk.pending.lines.items ≡ [] = cc (c.new-clerk.ensures.0, none) in
           let told = c.into_answered in
           counted_as line_command tells first nothing nothing now.desk.submitter told.result.submitter now.lines told.result.lines now.desk.page told.result.page refl told.ensures.1 told.ensures.2 told.ensures.0
-          (c.rest.ensures.counted first (c.answer_lines.ensures first (counts_as line_command tells first nothing made.desk.submitter made.desk.pending.lines.items made.lines made.desk.page refl none' c.new-clerk.ensures.1 page')));
+          (c.rest.ensures.counted first (c.answer_lines.ensures.counted first (counts_as line_command tells first nothing made.desk.submitter made.desk.pending.lines.items made.lines made.desk.page refl none' c.new-clerk.ensures.1 page')));
     }

@@ -1,6 +1,6 @@
 use Rattle.std.proofs.Common.{rules, inr, refl, arith, ap, sym, ◌+◌}
 use Rattle.flow_hub.proofs.Growing.{fetches_on, fetches_more, fetches_part, grows_by, part_by}
-use Rattle.flow_hub.specs.declared.known.Known.{Known}
+use Rattle.flow_hub.specs.declared.known.HubFacts.{HubFacts}
 use Rattle.flow_hub.proofs.Moves.{was_of}
 use Rattle.flow_hub.proofs.Sound.{fetches}
 use Rattle.flow_hub.proofs.state.State.fetch_receipt.Goals as goal
@@ -35,7 +35,7 @@ pub returns-clause-one_more : goal.returns-clause-one_more
 returns-clause-one_more g c = fetches_more c.args.me.was c.self.inside.keeper.all c.self.inside.known c.tell_fetched-me.result.was c.tell_fetched-me.ensures.before c.self.invariant.13 (was_of c.tell_fetched-me.result _ _ _ c.tell_fetched-me.ensures.told)
 
 pub tell_fetched-me-requires-clause-asked : goal.tell_fetched-me-requires-clause-asked
-tell_fetched-me-requires-clause-asked g c = ap (λ (k : Known). k.asked) (sym c.self.invariant.13)
+tell_fetched-me-requires-clause-asked g c = ap (λ (k : HubFacts). k.asked) (sym c.self.invariant.13)
 
 pub tell_fetched-me-requires-clause-fetched : goal.tell_fetched-me-requires-clause-fetched
-tell_fetched-me-requires-clause-fetched g c = ap (λ (k : Known). k.fetched + 1) (sym c.self.invariant.13)
+tell_fetched-me-requires-clause-fetched g c = ap (λ (k : HubFacts). k.fetched + 1) (sym c.self.invariant.13)

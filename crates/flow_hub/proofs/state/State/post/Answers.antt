@@ -1,6 +1,6 @@
 use Rattle.std.proofs.Common.{rules, ◌≡◌, ◌++◌, sym, ap, ◌∙◌, subst, List}
 use Rattle.flow_machine.specs.declared.task.Task.{Task}
-use Rattle.flow_hub.specs.declared.known.Known.{Known}
+use Rattle.flow_hub.specs.declared.known.HubFacts.{HubFacts}
 use Rattle.flow_hub.specs.Knowing.{IsSamePart, with_posted}
 use Rattle.flow_queues.specs.Posting.{HasKeys, chosen, marks_of, new_ones}
 use Rattle.flow_queues.proofs.Chosen.{chosen_new}
@@ -70,7 +70,7 @@ returns-clause-keys g c =
     c.post.ensures ∙ (λ j. with_posted i.known (chose j) (record { due = into.ensures.due j; open_runs = into.ensures.open_runs j })) in
     let was : c.tell-me.result.was ≡ _ = was_of c.tell-me.result _ _ c.post.new.self c.tell-me.ensures.told ∙ known in
     let queue : c.push_marked.new.waiting.items ≡ i.tasks.items ++ new_ones posted ts = c.push_marked.ensures.items ∙ (ap (λ us. us ++ chosen into.result.0.items c.in-Ok.marks.items) c.reserve.ensures.items ∙ ap (λ us. i.tasks.items ++ us) chose) in
-    subst (λ (k : Known). HasKeys c.add_all.new.keys k.posted) (sym was) marked.1
+    subst (λ (k : HubFacts). HasKeys c.add_all.new.keys k.posted) (sym was) marked.1
 
 pub returns-clause-seen : goal.returns-clause-seen
 returns-clause-seen g c =

@@ -4,11 +4,20 @@ use Rattle.flow_hub.specs.Knowing.{nothing}
 use Rattle.flow_work.proofs.Counting.{counts_failed}
 use Rattle.flow_work.proofs.clerk.Clerk.fail.Goals as goal
 
-pub returns : goal.returns
-returns g c =
+pub returns-clause-counted : goal.returns-clause-counted
+returns-clause-counted g c =
     let old = c.args.self.now in
     let tells = g.C.Clock.tells c.args.clock.now in
     let new = c.fail.new.self in
-    λ first k. c.end.ensures first
-    (counts_failed line_command tells first nothing old.desk.submitter new.submitter old.desk.pending.lines.items new.pending.lines.items old.lines old.desk.page new.page 3 c.fail.ensures.submitter (ap (λ q. q.lines.items) c.fail.ensures.pending)
+    λ first k. c.end.ensures.counted first
+    (counts_failed line_command tells first nothing old.desk.submitter new.submitter old.desk.pending.lines.items new.pending.lines.items old.lines old.desk.page new.page c.fail.ensures.submitter (ap (λ q. q.lines.items) c.fail.ensures.pending)
+    c.fail.ensures.page k)
+
+pub returns-clause-ends : goal.returns-clause-ends
+returns-clause-ends g c =
+    let old = c.args.self.now in
+    let tells = g.C.Clock.tells c.args.clock.now in
+    let new = c.fail.new.self in
+    λ first k. c.end.ensures.ends first
+    (counts_failed line_command tells first nothing old.desk.submitter new.submitter old.desk.pending.lines.items new.pending.lines.items old.lines old.desk.page new.page c.fail.ensures.submitter (ap (λ q. q.lines.items) c.fail.ensures.pending)
     c.fail.ensures.page k)

@@ -9,5 +9,5 @@ returns g c =
     let tells = g.C.Clock.tells c.args.clock.now in
     let new = c.fail.new.self in
     λ first k. c.end.ensures first
-    (counts_failed line_served tells first old.feed old.desk.submitter new.submitter old.desk.pending.lines.items new.pending.lines.items old.lines old.desk.page new.page 3 c.fail.ensures.submitter (ap (λ q. q.lines.items) c.fail.ensures.pending)
+    (counts_failed line_served tells first old.feed old.desk.submitter new.submitter old.desk.pending.lines.items new.pending.lines.items old.lines old.desk.page new.page c.fail.ensures.submitter (ap (λ q. q.lines.items) c.fail.ensures.pending)
     c.fail.ensures.page k)

@@ -1,0 +1,14 @@
+use Rattle.std.proofs.Common.{inl}
+use Rattle.flow.proofs.over.list_memory.Goals as goal
+
+pub returns : goal.returns
+returns g c = inl (record {
+  conn = c.in_ok-engine.ensures.opened.0;
+  empty = c.in_ok-engine.ensures.opened.1.0;
+  first = _;
+  over = c.in_ok-engine.ensures.opened.1.1;
+  last = _;
+  told = c.listed.result;
+  did = c.listed.ensures;
+  is = c.early.ensures;
+})

@@ -1,0 +1,15 @@
+use Rattle.std.proofs.Common.{inl, refl, subst}
+use Rattle.flow.proofs.over.work_in_file.Goals as goal
+
+pub returns : goal.returns
+returns g c = inl (record {
+  conn = c.in_ok-engine.ensures.opened.0;
+  opened = c.in_ok-engine.ensures.opened.1.0;
+  first = _;
+  over = c.in_ok-engine.ensures.opened.1.1;
+  last = _;
+  told = c.performed-outcome.result;
+  did = c.performed-outcome.ensures;
+  closed = subst (g.H.System.closes c.args.system.now) c.close.ensures (c.close-2.ensures _ refl);
+  is = c.early.ensures;
+})

@@ -1,0 +1,15 @@
+use Rattle.std.proofs.Common.{inl, [], subst}
+use Rattle.flow_check.specs.Language.{meaning_of}
+use Rattle.flow.specs.Replays.{IsReplayOf, Replays}
+use Rattle.flow.proofs.replaying.replay_in.Goals as goal
+
+pub returns : goal.returns
+returns g c = inl (record {
+  text = c.in_ok-history.history;
+  read = c.in_ok-history.ensures.read;
+  did = record {
+    told = c.replay_one.result;
+    did = subst (λ t. Replays g.O.Output [] (IsReplayOf (meaning_of c.args.text.now) t) c.args.output.now c.replay_one.new.output c.replay_one.result) c.as_str.ensures.value c.replay_one.ensures;
+    is = c.early.ensures;
+  };
+})

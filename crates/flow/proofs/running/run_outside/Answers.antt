@@ -1,0 +1,28 @@
+use Rattle.std.proofs.Common.{inl, inr, refl}
+use Rattle.flow_work.specs.Endings.{EndsServing, HasServedAll}
+use Rattle.flow.proofs.Runs.{either, ended_by, ended_well, status_made}
+use Rattle.flow.proofs.running.run_outside.Goals as goal
+
+pub returns-in-Ok-clause-runs : goal.returns-in-Ok-clause-runs
+returns-in-Ok-clause-runs g c =
+    let ended = c.in-Ok.ended.ended in
+    let old = c.args.engine.now in
+    let new = c.serve.new.engine in
+    record {
+      served = ended_well ended.served ended.status c.outcome.result (HasServedAll g.S.Store old new) c.in-Ok.ensures.served c.outcome.ensures.fault c.outcome.ensures.done;
+      ends = either c.outcome.result (EndsServing g.S.Store old new) _ (λ f h. inl h) (ended_by ended.served ended.status c.outcome.result (EndsServing g.S.Store old new) c.in-Ok.ensures.ends c.outcome.ensures.served c.outcome.ensures.fault);
+      found = c.serve.ensures.found;
+      follows = c.serve.ensures.follows;
+    }
+
+pub returns-in-Ok-clause-prints : goal.returns-in-Ok-clause-prints
+returns-in-Ok-clause-prints g c = inl (record {
+  writer = c.replies-replies.result;
+  printed = c.replies-replies.ensures;
+  ended = c.in-Ok.ended;
+  shows = c.in-Ok.ensures.shown;
+  status = status_made c.in-Ok.ended.ended.status c.outcome.result c.outcome.ensures.done;
+})
+
+pub returns-in-Err-clause-prints : goal.returns-in-Err-clause-prints
+returns-in-Err-clause-prints g c = inr (c.in-Err.fault, (refl, (inl c.in-Err.ensures.unserved.0, c.in-Err.ensures.unserved.1)))

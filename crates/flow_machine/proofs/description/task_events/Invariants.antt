@@ -1,6 +1,0 @@
-use Rattle.std.proofs.Common.{◌≡◌, take, map}
-use Rattle.flow_base.specs.declared.book.Task.{Task}
-use Rattle.flow_machine.proofs.description.task_events.Given as goal
-
-abbrev pub invariant-loop-task : goal.invariant-loop-task
-invariant-loop-task l = l.list.items ≡ map (λ (t : Task). t.event) (take l.task-index l.tasks)

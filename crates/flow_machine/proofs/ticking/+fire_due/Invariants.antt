@@ -1,4 +1,0 @@
-use Rattle.flow_machine.proofs.ticking.+fire_due.Given as goal
-
-abbrev pub decreases-fire_due : goal.decreases-fire_due
-decreases-fire_due g l = l.left

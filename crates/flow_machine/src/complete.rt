@@ -1,0 +1,120 @@
+//! The command `complete`: an attempt of an activity gave a value.
+//!
+//! The rule is `complete` of `flow_model/specs/Apply.antt`. The first of these refuses: E70 (no such run), E64 (the activity isn't open),
+//! E65 (another attempt is the current one), E66 (a value of another type), E69 (the history is full).
+ghost use Rattle.std.specs.Prelude.{◌≡◌, IfOk, Some};
+ghost use Rattle.flow_machine.specs.ByHead.{StuckCompleteAt, StuckGivenAt, complete_at, given_at};
+ghost use Rattle.flow_machine.specs.Going.{Comes, Sticks};
+ghost use Rattle.flow_machine.specs.Stuck.{StuckComplete};
+ghost use Rattle.flow_model.specs.Apply as apply;
+ghost use Rattle.flow_model.specs.Apply.{rules_of};
+ghost use Rattle.flow_view.specs.Called.{Called};
+ghost use Rattle.flow_view.specs.Heads.{head_at};
+
+use crate::going::{Step, set_out};
+use crate::report::attempt_refusal;
+use flow_base::code::Code;
+use flow_base::command::Reply;
+use flow_base::event::{Cmd, Event, Input, What};
+use flow_base::number::{EventId, Moment, RunId};
+use flow_base::value::Value;
+use flow_model::kinds::has_kind;
+use flow_programs::programs::Programs;
+use flow_view::fault::ViewFault;
+use flow_view::head::Head;
+use flow_view::view::View;
+use std::alloc::Global;
+
+/// As [`complete_at`], in the words of the book.
+pub(crate) fn complete<V: View, P: Programs>(
+    alloc: Global,
+    programs: &mut P,
+    view: &mut V,
+    number: RunId,
+    event: EventId,
+    attempt: u64,
+    value: &Value,
+    at: Moment,
+) -> Result<Step, ViewFault>
+    ensures comes { IfOk result (λ s. V.is_sure view.new
+        → Comes (rules_of P.meaning) (V.book view.old) (V.book view.new) s
+        (apply.complete (rules_of P.meaning) (V.book view.old) number event attempt value.now at)) }
+    ensures sticks { IfOk result (λ s. V.is_sure view.new
+        → Sticks (V.book view.old) s (StuckComplete P.meaning (V.book view.old) number event attempt value.now)) }
+    ensures called { Called V.View view.old view.new result (StuckComplete P.meaning (V.book view.old) number event attempt value.now) }
+{
+    complete_at(alloc, programs, view, number, event, attempt, value, at)
+}
+
+/// An attempt of an activity gave a value.
+#[tactic(auto, unfolding(crate::specs::ByHead::complete_at, crate::specs::ByHead::StuckCompleteAt))]
+fn complete_at<V: View, P: Programs>(
+    alloc: Global,
+    programs: &mut P,
+    view: &mut V,
+    number: RunId,
+    event: EventId,
+    attempt: u64,
+    value: &Value,
+    at: Moment,
+) -> Result<Step, ViewFault>
+    ensures comes { IfOk result (λ s. V.is_sure view.new
+        → Comes (rules_of P.meaning) (V.book view.old) (V.book view.new) s
+        (complete_at (rules_of P.meaning) (V.book view.old) number event attempt value.now at)) }
+    ensures sticks { IfOk result (λ s. V.is_sure view.new
+        → Sticks (V.book view.old) s (StuckCompleteAt P.meaning (V.book view.old) number event attempt value.now)) }
+    ensures called { Called V.View view.old view.new result (StuckCompleteAt P.meaning (V.book view.old) number event attempt value.now) }
+{
+    let Some(head) = view.head(number)? else {
+        return Ok(Step::Answered(Reply::Refused(Code::NoRun), Vec::new(alloc)));
+    };
+    if let Some(code) = attempt_refusal(&head, event, attempt) {
+        return Ok(Step::Answered(Reply::Refused(code), Vec::new(alloc)));
+    }
+    let step = given(alloc, programs, view, head, number, event, value, at)?;
+    Ok(step)
+}
+
+/// The attempt of an activity that is open gave a value.
+#[tactic(auto, unfolding(crate::specs::ByHead::given_at, crate::specs::ByHead::StuckGivenAt))]
+fn given<V: View, P: Programs>(
+    alloc: Global,
+    programs: &mut P,
+    view: &mut V,
+    head: Head,
+    number: RunId,
+    event: EventId,
+    value: &Value,
+    at: Moment,
+) -> Result<Step, ViewFault>
+    ensures comes { IfOk result (λ s. V.is_sure view.new → head_at (V.book view.old).runs number ≡ Some head
+        → Comes (rules_of P.meaning) (V.book view.old) (V.book view.new) s
+        (given_at (rules_of P.meaning) (V.book view.old) head number event value.now at)) }
+    ensures sticks { IfOk result (λ s. V.is_sure view.new
+        → Sticks (V.book view.old) s (StuckGivenAt P.meaning (V.book view.old) head number event value.now)) }
+    ensures called { Called V.View view.old view.new result (StuckGivenAt P.meaning (V.book view.old) head number event value.now) }
+{
+    let scheduled = view.event(number, event)?;
+    if !gives(&scheduled, value) {
+        return Ok(Step::Answered(Reply::Refused(Code::WrongType), Vec::new(alloc)));
+    }
+    let input = Input::ActivityCompleted(event, value.copy(alloc)?);
+    let going = set_out(alloc, programs, view, head, number, at, input)?;
+    Ok(Step::GoesOn(going))
+}
+
+/// Whether an event schedules an activity that gives such a value.
+fn gives(event: &Option<Event>, value: &Value) -> bool
+    ensures { result ≡ apply.gives_kind event.now value.now }
+{
+    match event {
+        None => false,
+        Some(event) => match &event.what {
+            What::Came(_) => false,
+            What::Asked(command) => match command {
+                Cmd::Schedule(_, _, _, _, kind) => has_kind(*kind, value),
+                _ => false,
+            },
+        },
+    }
+}

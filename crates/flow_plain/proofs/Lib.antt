@@ -1,0 +1,4 @@
+pub mod Deprecated
+pub mod Lefts
+pub mod Stores
+pub mod Turns

@@ -1,0 +1,8 @@
+use Rattle.std.proofs.Common.{◌∙◌, Option, ap, sym}
+use Rattle.flow_run.specs.Position.{config_of, shown_begun}
+use Rattle.flow_run.specs.declared.standing.Standing.{Standing}
+use Rattle.flow_run.proofs.stance.Stance.moment.Goals as goal
+
+pub returns-in-Some : goal.returns-in-Some
+unfolding config_of
+returns-in-Some c = λ p. ap (λ (o : Option Standing). (shown_begun o).moment) c.in-Some.is ∙ sym (ap (λ (r : Standing). r.moment) c.get.ensures.same)
