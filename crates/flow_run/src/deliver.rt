@@ -59,7 +59,8 @@ pub fn begin(
     if !all_fit(&program.parameters, values) {
         return Ok(None);
     }
-    let mut cells = Vec::new(alloc);
+    // Room for one: most runs stay one cell, and a list that grows makes room for four.
+    let mut cells = Vec::with_capacity(alloc, 1)?;
     cells.push(branch(alloc, table, table.body)?)?;
     let variables = bind(alloc, &table.names, &program.parameters, values)?;
     Ok(Some(start_from(
