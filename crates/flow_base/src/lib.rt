@@ -12,6 +12,7 @@ pub mod fields;
 pub mod memory;
 mod names;
 pub mod number;
+pub mod row;
 pub mod sequence;
 pub mod syntax;
 pub mod text;
