@@ -15,6 +15,7 @@ pub mod number;
 pub mod row;
 pub mod sequence;
 pub mod syntax;
+pub mod task;
 pub mod text;
 pub mod token;
 pub mod value;

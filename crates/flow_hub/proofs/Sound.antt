@@ -7,7 +7,7 @@ use Rattle.flow_base.specs.declared.code.Code.{Code}
 use Rattle.flow_base.specs.declared.command.Command.{Command}
 use Rattle.flow_machine.specs.declared.submission.Receipt.{Receipt}
 use Rattle.flow_machine.specs.declared.submission.Taken.{Taken}
-use Rattle.flow_machine.specs.declared.task.Task.{Task}
+use Rattle.flow_base.specs.declared.task.Task.{Task}
 use Rattle.flow_commit.specs.Boards.{Boarded}
 use Rattle.flow_commit.specs.Keeping.{count_from, place_of}
 use Rattle.flow_commit.specs.Committing.{taken_of}

@@ -19,9 +19,10 @@ pub mod seats;
 mod signal;
 mod start;
 pub mod submission;
-pub mod task;
 mod terminate;
 mod tick;
 mod turns;
 mod upgrade;
 pub mod verify;
+
+pub use flow_base::task::Task;

@@ -22,7 +22,7 @@ use Rattle.flow_serve.specs.Boarding.{IsStill}
 use Rattle.flow_engine.specs.Driving.{NotesAll, all_halted, has_unknown, kept_of, receipts_in, receipts_told}
 use Rattle.flow_engine.specs.Counting.{IsCounted}
 use Rattle.flow_engine.specs.GivingUp.{AreGivenUp, WasRefused}
-use Rattle.flow_machine.specs.declared.task.Task.{Task}
+use Rattle.flow_base.specs.declared.task.Task.{Task}
 use Rattle.flow_serve.specs.Posting.{HasTurn, HasTurns}
 use Rattle.flow_serve.specs.Serving.{HasAnswered, HasServed, IsBatch, ServesBoarded, TurnsAway, codes_in, codes_told}
 use Rattle.flow_serve.proofs.Posted.{answered_later}
