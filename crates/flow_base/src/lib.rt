@@ -14,6 +14,7 @@ mod names;
 pub mod number;
 pub mod row;
 pub mod sequence;
+pub mod submission;
 pub mod syntax;
 pub mod task;
 pub mod text;

@@ -11,7 +11,7 @@ use Rattle.flow_machine.specs.declared.answer.Stop.{Stop}
 use Rattle.flow_machine.specs.declared.answer.Stop.TheVariants as stop
 use Rattle.flow_machine.specs.declared.answer.Together.{Together}
 use Rattle.flow_machine.specs.declared.answer.Together.TheVariants as together
-use Rattle.flow_machine.specs.declared.submission.Taken.{Taken}
+use Rattle.flow_base.specs.declared.submission.Taken.{Taken}
 use Rattle.flow_tables.specs.Owned.{state_of, LeavesEither}
 use Rattle.flow_commit.specs.Keeping.{Keeping, rules, IsFit, KeepsBook, commands_of, kept_book}
 use Rattle.flow_engine.specs.Answering.{IsSure, Follows, HasAnswered, HasStopped}

@@ -18,11 +18,13 @@ mod report;
 pub mod seats;
 mod signal;
 mod start;
-pub mod submission;
 mod terminate;
 mod tick;
 mod turns;
 mod upgrade;
 pub mod verify;
 
+pub use flow_base::book::Change;
+pub use flow_base::command::{Command, Reply};
+pub use flow_base::submission::{Receipt, Taken};
 pub use flow_base::task::Task;

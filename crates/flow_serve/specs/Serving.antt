@@ -6,7 +6,7 @@ use Rattle.flow_base.specs.declared.fault.Fault.{Fault}
 use Rattle.flow_base.specs.declared.fault.Fault.TheVariants as fault
 use Rattle.flow_model.specs.Book.{Book}
 use Rattle.flow_model.specs.Apply.{replies}
-use Rattle.flow_machine.specs.declared.submission.Taken.{Taken}
+use Rattle.flow_base.specs.declared.submission.Taken.{Taken}
 use Rattle.flow_view.specs.Codes.{view_fault_code}
 use Rattle.flow_commit.specs.Keeping.{Keeping, rules, IsFit, IsUp, KeepsBook, kept_book}
 use Rattle.flow_commit.specs.Committing.{HasGoneOn}
