@@ -1,7 +1,6 @@
-//! Decides commands over a view of a book, and says what it is to answer them.
+//! Decides commands over a view of a book.
 #![tactic(auto)]
 
-pub mod answer;
 mod complete;
 pub mod decide;
 mod describe;

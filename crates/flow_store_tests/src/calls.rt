@@ -6,7 +6,7 @@ use flow_base::sequence::Sequence;
 use flow_base::submission::Receipt;
 use flow_base::text::{Key, RawText};
 use flow_base::value::Value;
-use flow_machine::answer::Stop;
+use flow_model::answer::Stop;
 use std::alloc::Global;
 
 const A: &str =
