@@ -12,7 +12,7 @@ use Rattle.sqlite.specs.declared.error.ErrorCode.{ErrorCode}
 use Rattle.flow_base.specs.declared.fault.Fault.{Fault}
 use Rattle.flow_base.specs.declared.fault.Fault.TheVariants as faults
 use Rattle.flow_check.specs.Language.{meaning_of}
-use Rattle.flow_machine.specs.declared.answer.Answering.{Ghosts as Answerings}
+use Rattle.flow_model.specs.declared.answer.Answering.{Ghosts as Answerings}
 use Rattle.flow_commit.specs.Keeping.{Keeping}
 use Rattle.flow_lines.specs.declared.input.LineSource.{Ghosts as Inputs}
 use Rattle.flow_lines.specs.declared.output.Output.{Ghosts as Outputs}

@@ -1,9 +1,9 @@
 //! What the built-in activities give.
 use flow_base::number::{EventId, RunId};
 use flow_base::sequence::Sequence;
+use flow_base::task::Task;
 use flow_base::text::Key;
 use flow_base::value::Value;
-use flow_machine::task::Task;
 use flow_pool::activity::{Activity, Attempt};
 use flow_pool::builtin::{Add, Echo, Flaky};
 use std::alloc::Global;

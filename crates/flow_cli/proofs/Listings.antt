@@ -15,9 +15,9 @@ use Rattle.flow_base.specs.declared.fault.Fault.{Fault}
 use Rattle.flow_base.specs.declared.fault.Fault.TheVariants as fault
 use Rattle.flow_model.specs.Apply.{Rules, outcome, list_open, open_run_told}
 use Rattle.flow_model.specs.Book.{Book, open_runs}
-use Rattle.flow_machine.specs.Answers.{Answers}
-use Rattle.flow_machine.specs.declared.answer.Answer.TheVariants as answer
-use Rattle.flow_machine.specs.declared.answer.Stop.{Stop}
+use Rattle.flow_model.specs.Answers.{Answers}
+use Rattle.flow_model.specs.declared.answer.Answer.TheVariants as answer
+use Rattle.flow_model.specs.declared.answer.Stop.{Stop}
 use Rattle.flow_lines.specs.Answering.{WritesPart}
 use Rattle.flow_lines.specs.Driving.{WritesBeginning}
 use Rattle.flow_cli.specs.Histories.{CausedUntold, CausedUnwritten}

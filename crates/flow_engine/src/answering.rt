@@ -1,9 +1,9 @@
 //! Commands answered over a store that keeps them.
 ghost use Rattle.std.specs.Prelude.{◌≡◌, ◌∷◌, ◌++◌, ◌+◌, ◌≤◌, List, [], Some, None, IfOk, IfErr, OnOk, MatchResult, length, map, vec_len, vec_capacity};
 ghost use Rattle.flow_model.specs.Book.{Book};
-ghost use Rattle.flow_machine.specs.Answers.{Answers, CausedAnswer};
-ghost use Rattle.flow_machine.specs.declared.submission.Receipt.{Receipt as AReceipt};
-ghost use Rattle.flow_machine.specs.declared.submission.Taken.{Taken as ATaken};
+ghost use Rattle.flow_model.specs.Answers.{Answers, CausedAnswer};
+ghost use Rattle.flow_base.specs.declared.submission.Receipt.{Receipt as AReceipt};
+ghost use Rattle.flow_base.specs.declared.submission.Taken.{Taken as ATaken};
 ghost use Rattle.flow_commit.specs.Keeping.{rules, IsFit, KeepsBook, commands_of, kept_book};
 ghost use Rattle.flow_commit.specs.Committing.{HasGoneOn};
 ghost use Rattle.flow_engine.specs.GivingUp.{GivesUp};
@@ -15,9 +15,9 @@ use crate::engine::Engine;
 use flow_base::code::Code;
 use flow_base::command::{Command, Reply};
 use flow_base::memory::NoMemory;
+use flow_base::submission::{Receipt, Taken};
 use flow_commit::batch::Batch;
-use flow_machine::answer::{Answer, Answering, Stop, Together};
-use flow_machine::submission::{Receipt, Taken};
+use flow_model::answer::{Answer, Answering, Stop, Together};
 use sqlite::Alter;
 use std::alloc::{AllocError, Global};
 

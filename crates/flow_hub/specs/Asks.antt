@@ -1,7 +1,7 @@
 -- Lists of submissions and receipts, by their parts.
 use Rattle.std.specs.Prelude.{ℕ, ◌-◌, ◌≤◌, ◌≡◌, List, [], ◌∷◌, suc, map, Some, slice_get}
-use Rattle.flow_machine.specs.declared.submission.Receipt.{Receipt}
-use Rattle.flow_machine.specs.declared.submission.Taken.{Taken}
+use Rattle.flow_base.specs.declared.submission.Receipt.{Receipt}
+use Rattle.flow_base.specs.declared.submission.Taken.{Taken}
 use Rattle.flow_commit.specs.Committing.{taken_of}
 use Rattle.flow_queues.specs.declared.refused.Refused.{Refused}
 

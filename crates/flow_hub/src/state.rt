@@ -17,9 +17,9 @@ use crate::seats::{HubTable, Named, PARTS, Pass, Room};
 use crate::settled::Settled;
 use flow_base::code::Code;
 use flow_base::command::Command;
+use flow_base::submission::{Receipt, Taken};
+use flow_base::task::Task;
 use flow_commit::stamp::Stamp;
-use flow_machine::submission::{Receipt, Taken};
-use flow_machine::task::Task;
 use flow_queues::queues::{
     move_front, place_of, push_receipts, refuse_all, refused_at, take_receipt, ticket_at,
 };

@@ -8,7 +8,7 @@ use Rattle.flow_base.specs.declared.command.Reply.TheVariants as reply
 use Rattle.flow_base.specs.declared.code.Code.TheVariants as code
 use Rattle.flow_pool.specs.declared.activity.Attempt.{Attempt}
 use Rattle.flow_pool.specs.declared.activity.Attempt.TheVariants.{Done, Failed}
-use Rattle.flow_machine.specs.declared.task.Task.{Task}
+use Rattle.flow_base.specs.declared.task.Task.{Task}
 use Rattle.flow_pool.specs.declared.report.Unheard.{Unheard}
 use Rattle.flow_pool.specs.declared.report.Unheard.TheVariants as unheard
 use Rattle.flow_pool.specs.Attempts.{failed_with}

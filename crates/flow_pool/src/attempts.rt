@@ -2,12 +2,12 @@
 ghost use Rattle.std.specs.Prelude.{◌≡◌, ◌<◌, ◌≤◌, None, ℕ, List, length, is_some, IfOk, IfSome, IfNone, slice_get};
 ghost use Rattle.flow_pool.specs.Attempts.{failed_with};
 ghost use Rattle.flow_pool.specs.Reports.{first_named, is_left, MayCome};
-ghost use Rattle.flow_machine.specs.declared.task.Task.{Task};
+ghost use Rattle.flow_base.specs.declared.task.Task.{Task};
 ghost use Rattle.flow_pool.specs.declared.activity.Attempt.{Attempt};
 
 use crate::activity::{Activity, Attempt};
 use crate::unknown::Unknown;
-use flow_machine::task::Task;
+use flow_base::task::Task;
 use std::alloc::{AllocError, Global};
 use std::sync::Wait;
 use std::thread;

@@ -4,8 +4,8 @@ ghost use Rattle.flow_pool.specs.Attempts.{echoed, added, flaked};
 ghost use Rattle.flow_pool.specs.Builtin.{all_builtin};
 
 use crate::activity::{Activity, Attempt};
+use flow_base::task::Task;
 use flow_base::value::Value;
-use flow_machine::task::Task;
 use std::alloc::{AllocError, Global};
 
 /// Gives its first argument.

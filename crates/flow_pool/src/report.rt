@@ -5,7 +5,7 @@ ghost use Rattle.flow_pool.specs.Reports.{report_of, unheard_number, is_final};
 use crate::activity::Attempt;
 use flow_base::command::{Command, Reply};
 use flow_base::number::Moment;
-use flow_machine::task::Task;
+use flow_base::task::Task;
 use std::sync::Wait;
 
 /// Why a report wasn't answered by a reply.

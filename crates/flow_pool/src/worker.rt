@@ -1,6 +1,6 @@
 //! A worker: takes tasks, makes an attempt of each, and reports it.
 ghost use Rattle.std.specs.Prelude.{◌≡◌, ◌++◌, ℕ, List, is_err, is_some};
-ghost use Rattle.flow_machine.specs.declared.task.Task.{Task};
+ghost use Rattle.flow_base.specs.declared.task.Task.{Task};
 ghost use Rattle.flow_pool.specs.declared.activity.Attempt.{Attempt};
 ghost use Rattle.flow_pool.specs.Ends.{known_by, number_of, taken_by, IsSameEnd};
 ghost use Rattle.flow_pool.specs.Orders.{WasEmpty};
@@ -14,7 +14,7 @@ use crate::report::{Reports, Unheard, report};
 use crate::unknown::Unknown;
 use flow_base::code::Code;
 use flow_base::command::{Command, Reply};
-use flow_machine::task::Task;
+use flow_base::task::Task;
 use flow_timers::Clock;
 use std::alloc::Global;
 use std::sync::Wait;

@@ -2,13 +2,13 @@
 ghost use Rattle.std.specs.Prelude.{◌≡◌, ◌≢◌, ◌+◌, ◌<◌, ◌≤◌, [], ◌++◌, length, map, vec_len, slice_index_or, take, drop, remove, All, IfSome, IfNone, Some, slice_get};
 ghost use Rattle.std.specs.Vec.{vec_capacity};
 ghost use Rattle.std.specs.VecDeque.{deque_len, deque_capacity};
-ghost use Rattle.flow_machine.specs.declared.submission.Receipt.{Receipt as AReceipt};
+ghost use Rattle.flow_base.specs.declared.submission.Receipt.{Receipt as AReceipt};
 ghost use Rattle.flow_queues.specs.Refusing.{refused_by};
 ghost use Rattle.flow_queues.specs.declared.refused.Refused.{Refused as ARefused};
 
 use crate::refused::Refused;
 use flow_base::code::Code;
-use flow_machine::submission::{Receipt, Taken};
+use flow_base::submission::{Receipt, Taken};
 use std::collections::VecDeque;
 
 /// Where the receipt for a ticket stands. None where it isn't there.

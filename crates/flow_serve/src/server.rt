@@ -1,7 +1,7 @@
 //! The thread that keeps: it takes what was submitted to a hub, commits it and answers it.
 ghost use Rattle.std.specs.Prelude.{◌≡◌, ◌≤◌, true, false, [], List, IfErr, OnOk, MatchResult};
 ghost use Rattle.std.specs.Vec.{vec_capacity};
-ghost use Rattle.flow_machine.specs.declared.submission.Taken.{Taken as ATaken};
+ghost use Rattle.flow_base.specs.declared.submission.Taken.{Taken as ATaken};
 ghost use Rattle.flow_commit.specs.Keeping.{account_of};
 ghost use Rattle.flow_hub.specs.Knowing.{IsBefore};
 ghost use Rattle.flow_serve.specs.Boarding.{IsStill};
@@ -12,12 +12,12 @@ ghost use Rattle.flow_serve.specs.Serving.{EndsFor, GivesUp, HasAnswered, HasSer
 
 use flow_base::code::Code;
 use flow_base::fault::Fault;
+use flow_base::submission::Taken;
 use flow_commit::batch::Batch;
 use flow_commit::outcome::Outcome;
 use flow_engine::engine::Engine;
 use flow_hub::publisher::Publisher;
 use flow_hub::seats::Room;
-use flow_machine::submission::Taken;
 use flow_timers::Clock;
 use sqlite::Alter;
 use std::alloc::Global;

@@ -3,10 +3,10 @@ use flow_base::command::{Command, Reply};
 use flow_base::event::{Cmd, Event, State, What};
 use flow_base::number::{EventId, Moment, RunId, TextNo};
 use flow_base::sequence::Sequence;
+use flow_base::submission::Receipt;
 use flow_base::text::{Key, RawText};
 use flow_base::value::Value;
-use flow_machine::answer::Stop;
-use flow_machine::submission::Receipt;
+use flow_model::answer::Stop;
 use std::alloc::Global;
 
 const A: &str =

@@ -3,8 +3,8 @@ use crate::note::Note;
 use flow_base::command::{Command, Reply};
 use flow_base::number::{Moment, TextNo};
 use flow_base::sequence::Sequence;
+use flow_base::submission::Receipt;
 use flow_base::text::{Key, RawText};
-use flow_machine::submission::Receipt;
 use std::alloc::Global;
 
 fn register(alloc: Global) -> Option<Command> {

@@ -4,11 +4,11 @@ ghost use Rattle.flow_work.specs.Printing.{PrintsLine, PrintsTask, Writes, blank
 
 use crate::shown::Shown;
 use crate::status::Status;
+use flow_base::task::Task;
 use flow_lines::output::Unwritten;
 use flow_lines::reply::Line;
 use flow_lines::streams::write_line;
 use flow_lines::task::write_task;
-use flow_machine::task::Task;
 use std::alloc::Global;
 use std::io::Write;
 use std::marker::Model;

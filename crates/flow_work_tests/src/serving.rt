@@ -3,12 +3,12 @@ ghost use Rattle.std.specs.Prelude.{◌≡◌, []};
 
 use crate::clock::Still;
 use flow_base::command::{Command, Reply};
+use flow_base::submission::Receipt;
 use flow_engine::engine::Engine;
 use flow_hub::publisher::Publisher;
 use flow_hub::seats::Room;
 use flow_hub::submitter::Submitter;
 use flow_hub::ticket::Ticket;
-use flow_machine::submission::Receipt;
 use flow_serve::serve;
 use flow_settings::settings::Settings;
 use sqlite::Connection;

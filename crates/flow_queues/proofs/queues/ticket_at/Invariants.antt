@@ -1,5 +1,5 @@
 use Rattle.std.proofs.Common.{◌≢◌, All, take}
-use Rattle.flow_machine.specs.declared.submission.Receipt.{Receipt}
+use Rattle.flow_base.specs.declared.submission.Receipt.{Receipt}
 use Rattle.flow_queues.proofs.queues.ticket_at.Given as goal
 
 abbrev pub invariant-loop-k : goal.invariant-loop-k

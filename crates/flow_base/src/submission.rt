@@ -1,4 +1,5 @@
-use flow_base::command::{Command, Reply};
+//! Commands as they come in, and what is answered to each that is kept.
+use crate::command::{Command, Reply};
 
 /// A command that was submitted, with the ticket that its submitter got for it.
 #[derive(Debug, Drop)]

@@ -5,11 +5,11 @@ use Rattle.flow_base.specs.declared.code.Code.TheVariants as code
 use Rattle.flow_base.specs.declared.command.Command.{Command}
 use Rattle.flow_model.specs.Apply.{Rules, outcome, after, after_one, replies}
 use Rattle.flow_model.specs.Book.{Book}
-use Rattle.flow_machine.specs.declared.answer.Answer.{Answer}
-use Rattle.flow_machine.specs.declared.answer.Answer.TheVariants as answer
-use Rattle.flow_machine.specs.declared.answer.Stop.{Stop}
-use Rattle.flow_machine.specs.declared.answer.Together.{Together}
-use Rattle.flow_machine.specs.declared.answer.Together.TheVariants as together
+use Rattle.flow_model.specs.declared.answer.Answer.{Answer}
+use Rattle.flow_model.specs.declared.answer.Answer.TheVariants as answer
+use Rattle.flow_model.specs.declared.answer.Stop.{Stop}
+use Rattle.flow_model.specs.declared.answer.Together.{Together}
+use Rattle.flow_model.specs.declared.answer.Together.TheVariants as together
 
 -- The reply is that of apply, and the book the one after it. A command that isn't applied leaves the book as it was.
 abbrev pub Answers : Rules → Book → Book → Command → Answer → Type 0

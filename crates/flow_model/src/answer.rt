@@ -4,8 +4,8 @@ ghost use Rattle.flow_base.specs.declared.code.Code.{Code};
 ghost use Rattle.flow_base.specs.declared.command.Command.{Command};
 ghost use Rattle.flow_model.specs.Apply.{Rules};
 ghost use Rattle.flow_model.specs.Book.{Book};
-ghost use Rattle.flow_machine.specs.Answers.{Answers, CausedAnswer, AnswersTogether, CausedTogether, CountsTogether, StopsSince};
-ghost use Rattle.flow_machine.specs.declared.answer.Stop.{Stop};
+ghost use Rattle.flow_model.specs.Answers.{Answers, CausedAnswer, AnswersTogether, CausedTogether, CountsTogether, StopsSince};
+ghost use Rattle.flow_model.specs.declared.answer.Stop.{Stop};
 
 use flow_base::code::Code;
 use flow_base::command::{Command, Reply};

@@ -1,8 +1,8 @@
 //! What is to be done outside of the engine.
-use flow_base::number::{EventId, RunId};
-use flow_base::sequence::Sequence;
-use flow_base::text::Key;
-use flow_base::value::Value;
+use crate::number::{EventId, RunId};
+use crate::sequence::Sequence;
+use crate::text::Key;
+use crate::value::Value;
 
 /// One attempt of an activity that is to be made outside.
 #[derive(Debug, Drop)]

@@ -1,7 +1,7 @@
 -- What names a task.
 use Rattle.std.specs.Prelude.{ℕ, refl}
 use Rattle.std.specs.Coded.{Coded, code_by, coded×, coded_ℕ}
-use Rattle.flow_machine.specs.declared.task.Task.{Task}
+use Rattle.flow_base.specs.declared.task.Task.{Task}
 
 -- a task that was posted, by its run, its event and its attempt
 abbrev pub Key : Type 0
