@@ -1,0 +1,103 @@
+-- What a call over a view says as one record, from what its parts say.
+use Rattle.std.proofs.Common.{◌≡◌, Result, Ok, Err, refl, sym, subst}
+use Rattle.flow_model.specs.Book.{Book}
+use Rattle.flow_view.specs.Reading.{Caused}
+use Rattle.flow_view.specs.declared.fault.ViewFault.{ViewFault}
+use Rattle.flow_view.specs.declared.fault.ViewFault.TheVariants as fault
+use Rattle.flow_tables.specs.Calls.{Looked, Recalled, Views}
+use Rattle.flow_tables.proofs.Serving.{read_behind, goes_behind}
+
+-- the cause of a fault, whatever was asked for
+pub same_cause : {A B : Type 0} (f : ViewFault) (X : Type 0) → Caused {A = A} (Err f) X → Caused {A = B} (Err f) X
+same_cause (fault.NoMemory _) X h = tt
+same_cause fault.StoreRefused X h = h
+
+---- Nothing was read
+
+-- since it is known
+pub known_so : {V A : Type 0} (g : Views V) (t : V) (v : A) (value : Book → A) → (g.is_sure t → v ≡ value (g.book t)) → Recalled g t t (Ok v) value
+known_so g t v value is = record {
+  reads = λ sure. (refl, is sure);
+  cause = λ a before now sure. tt;
+  goes_on = λ now sure. sure;
+  sure = λ sure. sure;
+  was_true = λ now. now;
+  follows = λ a before. before;
+}
+
+-- or since something was refused before
+pub not_asked : {V A : Type 0} (g : Views V) (t : V) (f : ViewFault) (value : Book → A) → (g.is_sure t → ⊥) → Recalled {A = A} g t t (Err f) value
+not_asked g t f value barred = record {
+  reads = tt;
+  cause = λ a before now sure. absurd (barred sure);
+  goes_on = tt;
+  sure = λ sure. sure;
+  was_true = λ now. now;
+  follows = λ a before. before;
+}
+
+---- A look
+
+-- is what a read is whose value isn't told
+pub looked_by : {V A B : Type 0} (g : Views V) (old new : V) (v : A) (u : B) (value : Book → A) → Recalled g old new (Ok v) value → Looked g old new (Ok u)
+looked_by g old new v u value read = record {
+  reads = λ sure. (read.reads sure).0;
+  cause = λ a before now sure. tt;
+  goes_on = read.goes_on;
+  sure = read.sure;
+  was_true = read.was_true;
+  follows = read.follows;
+}
+
+pub not_looked : {V A B : Type 0} (g : Views V) (old new : V) (f : ViewFault) (value : Book → A) → Recalled {A = A} g old new (Err f) value → Looked {A = B} g old new (Err f)
+not_looked {V} {A} {B} g old new f value read = record {
+  reads = tt;
+  cause = λ a before now sure. same_cause {A = A} {B = B} f (g.refuses a new) (read.cause a before now sure);
+  goes_on = tt;
+  sure = read.sure;
+  was_true = read.was_true;
+  follows = read.follows;
+}
+
+pub not_come : {V A B : Type 0} (g : Views V) (old new : V) (f : ViewFault) → Looked {A = A} g old new (Err f) → Looked {A = B} g old new (Err f)
+not_come {V} {A} {B} g old new f look = record {
+  reads = tt;
+  cause = λ a before now sure. same_cause {A = A} {B = B} f (g.refuses a new) (look.cause a before now sure);
+  goes_on = tt;
+  sure = look.sure;
+  was_true = look.was_true;
+  follows = look.follows;
+}
+
+-- What was read is kept, and the view is as it was.
+pub looked_so : {V A B : Type 0} (g : Views V) (old mid new : V) (v : A) (u : B) → new ≡ mid → Looked g old mid (Ok v) → Looked g old new (Ok u)
+looked_so g old mid new v u same look = subst (λ t. Looked g old t (Ok u)) (sym same) (record {
+  reads = look.reads;
+  cause = λ a before now sure. tt;
+  goes_on = look.goes_on;
+  sure = look.sure;
+  was_true = look.was_true;
+  follows = look.follows;
+})
+
+---- A read behind a look
+
+pub read_after : {V A B : Type 0} (g : Views V) (old mid new : V) (u : B) (result : Result A ViewFault) (value : Book → A) → Looked g old mid (Ok u) → Recalled g mid new result value → Recalled g old new result value
+read_after g old mid new u result value look read = record {
+  reads = read_behind result (g.is_sure mid) (g.is_sure new) (g.book old) (g.book mid) (g.book new) value look.reads read.sure read.reads;
+  cause = λ a before now sure. read.cause a (look.follows a before) now (look.goes_on (read.was_true now) sure);
+  goes_on = goes_behind result (g.is_true new) (g.is_sure old) (g.is_sure mid) (g.is_sure new) (λ now sure. look.goes_on (read.was_true now) sure) read.goes_on;
+  sure = λ sure. look.sure (read.sure sure);
+  was_true = λ now. look.was_true (read.was_true now);
+  follows = λ a before. read.follows a (look.follows a before);
+}
+
+pub not_read : {V A B : Type 0} (g : Views V) (old new : V) (f : ViewFault) (value : Book → A) → Looked {A = B} g old new (Err f) → Recalled {A = A} g old new (Err f) value
+not_read {V} {A} {B} g old new f value look = record {
+  reads = tt;
+  cause = λ a before now sure. same_cause {A = B} {B = A} f (g.refuses a new) (look.cause a before now sure);
+  goes_on = tt;
+  sure = look.sure;
+  was_true = look.was_true;
+  follows = look.follows;
+}
