@@ -101,3 +101,31 @@ not_read {V} {A} {B} g old new f value look = record {
   was_true = look.was_true;
   follows = look.follows;
 }
+
+---- A read that others stand on
+
+-- it was refused, so nothing comes of what was asked for
+pub other_read : {V A B : Type 0} (g : Views V) (old new : V) (f : ViewFault) (value : Book → A) (other : Book → B) → Recalled {A = A} g old new (Err f) value → Recalled {A = B} g old new (Err f) other
+other_read {V} {A} {B} g old new f value other read = record {
+  reads = tt;
+  cause = λ a before now sure. same_cause {A = A} {B = B} f (g.refuses a new) (read.cause a before now sure);
+  goes_on = tt;
+  sure = read.sure;
+  was_true = read.was_true;
+  follows = read.follows;
+}
+
+no_memory : {A : Type 0} (f : ViewFault) (X : Type 0) → f ≡ fault.NoMemory _ → Caused {A = A} (Err f) X
+no_memory (fault.NoMemory _) X is = tt
+no_memory fault.StoreRefused X is = absurd (cc)
+
+-- or there was no memory for it
+pub no_memory_read : {V A B : Type 0} (g : Views V) (old new : V) (v : A) (value : Book → A) (f : ViewFault) (other : Book → B) → f ≡ fault.NoMemory _ → Recalled g old new (Ok v) value → Recalled {A = B} g old new (Err f) other
+no_memory_read {V} {A} {B} g old new v value f other is read = record {
+  reads = tt;
+  cause = λ a before now sure. no_memory {A = B} f (g.refuses a new) is;
+  goes_on = tt;
+  sure = read.sure;
+  was_true = read.was_true;
+  follows = read.follows;
+}
