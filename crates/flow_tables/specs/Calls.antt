@@ -1,5 +1,5 @@
 -- What a call says that reads the book which a view shows, whatever else it is for, in one word.
-use Rattle.std.specs.Prelude.{◌≡◌, Result, IfOk, OnOk}
+use Rattle.std.specs.Prelude.{◌≡◌, Result, Ok, IfOk, OnOk}
 use Rattle.flow_model.specs.Book.{Book}
 use Rattle.flow_view.specs.Reading.{Caused, Reads}
 use Rattle.flow_view.specs.declared.fault.ViewFault.{ViewFault}
@@ -26,6 +26,10 @@ pub record Looked {V A : Type 0} (g : Views V) (old new : V) (result : Result A 
   pub sure : g.is_sure new → g.is_sure old
   pub was_true : g.is_true new → g.is_true old
   pub follows : (a : V) → g.follows a old → g.follows a new
+
+-- nothing was refused so far
+abbrev pub LooksOn : {V : Type 0} → Views V → V → V → Type 0
+LooksOn g old new = Looked {A = Unit {0}} g old new (Ok tt)
 
 -- the tables as a view
 abbrev pub as_view : {S : Type 0} → Ghosts S → Views (Stored S)

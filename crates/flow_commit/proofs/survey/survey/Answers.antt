@@ -1,14 +1,16 @@
 use Rattle.std.proofs.Common.{rules}
 use Rattle.flow_tables.specs.Calls.{as_view}
-use Rattle.flow_tables.proofs.Calls.{no_memory_read, other_read}
+use Rattle.flow_tables.proofs.Calls.{looked_by, no_memory_read, not_looked, not_read}
 use Rattle.flow_commit.specs.Boards.{draft_of}
 use Rattle.flow_commit.proofs.survey.survey.Goals as goal
 
 pub returns-in-Err : goal.returns-in-Err
-returns-in-Err g c = other_read (as_view g.S.Store) c.args.tables.now c.outlook.new.self c.in-Err.fault _ (draft_of c.args.posted.now.keys c.args.at) c.in-Err.ensures
+returns-in-Err g c =
+    not_read (as_view g.S.Store) c.args.tables.now c.outlook.new.self c.in-Err.fault (draft_of c.args.posted.now.keys c.args.at) (not_looked {B = Unit {0}} (as_view g.S.Store) c.args.tables.now c.outlook.new.self c.in-Err.fault _ c.in-Err.ensures)
 
 pub returns-in-Err-wanted : goal.returns-in-Err-wanted
-returns-in-Err-wanted g c = no_memory_read (as_view g.S.Store) c.args.tables.now c.outlook.new.self _ _ c.from.result (draft_of c.args.posted.now.keys c.args.at) c.from.ensures c.in-Ok.ensures
+returns-in-Err-wanted g c =
+    no_memory_read (as_view g.S.Store) c.args.tables.now c.outlook.new.self tt c.from.result (draft_of c.args.posted.now.keys c.args.at) c.from.ensures (looked_by (as_view g.S.Store) c.args.tables.now c.outlook.new.self _ tt _ c.in-Ok.ensures)
 
 pub returns-in-Ok-tasks_of : goal.returns-in-Ok-tasks_of
 returns-in-Ok-tasks_of g c = record {
