@@ -7,17 +7,6 @@ use Rattle.flow_view.specs.declared.fault.ViewFault.TheVariants as fault
 use Rattle.flow_tables.specs.Calls.{Looked, Recalled, Views}
 use Rattle.flow_tables.proofs.Serving.{goes_behind, read_behind, read_on}
 
----- Causes
-
--- that of a fault, whatever was asked for
-same_cause : {A B : Type 0} (f : ViewFault) (X : Type 0) → Caused {A = A} (Err f) X → Caused {A = B} (Err f) X
-same_cause (fault.NoMemory _) X h = tt
-same_cause fault.StoreRefused X h = h
-
-no_memory : {A : Type 0} (f : ViewFault) (X : Type 0) → f ≡ fault.NoMemory _ → Caused {A = A} (Err f) X
-no_memory (fault.NoMemory _) X is = tt
-no_memory fault.StoreRefused X is = absurd (cc)
-
 ---- Looks
 
 -- nothing was looked at
@@ -43,9 +32,9 @@ looked_by g old new v u value read = record {
 }
 
 pub not_looked : {V A B : Type 0} (g : Views V) (old new : V) (f : ViewFault) (value : Book → A) → Recalled {A = A} g old new (Err f) value → Looked {A = B} g old new (Err f)
-not_looked {V} {A} {B} g old new f value read = record {
+not_looked g old new f value read = record {
   reads = tt;
-  cause = λ a before now sure. same_cause {A = A} {B = B} f (g.refuses a new) (read.cause a before now sure);
+  cause = read.cause;
   goes_on = tt;
   sure = read.sure;
   was_true = read.was_true;
@@ -64,9 +53,9 @@ looked_so g old mid new v u same look = subst (λ t. Looked g old t (Ok u)) (sym
 })
 
 pub looked_for : {V A B : Type 0} (g : Views V) (old new : V) (f : ViewFault) → Looked {A = A} g old new (Err f) → Looked {A = B} g old new (Err f)
-looked_for {V} {A} {B} g old new f look = record {
+looked_for g old new f look = record {
   reads = tt;
-  cause = λ a before now sure. same_cause {A = A} {B = B} f (g.refuses a new) (look.cause a before now sure);
+  cause = look.cause;
   goes_on = tt;
   sure = look.sure;
   was_true = look.was_true;
@@ -125,9 +114,9 @@ not_asked g t f value barred = record {
 
 -- or since the look was refused
 pub not_read : {V A B : Type 0} (g : Views V) (old new : V) (f : ViewFault) (value : Book → A) → Looked {A = B} g old new (Err f) → Recalled {A = A} g old new (Err f) value
-not_read {V} {A} {B} g old new f value look = record {
+not_read g old new f value look = record {
   reads = tt;
-  cause = λ a before now sure. same_cause {A = B} {B = A} f (g.refuses a new) (look.cause a before now sure);
+  cause = look.cause;
   goes_on = tt;
   sure = look.sure;
   was_true = look.was_true;
@@ -135,10 +124,14 @@ not_read {V} {A} {B} g old new f value look = record {
 }
 
 -- or for want of memory behind it
+no_memory : (f : ViewFault) (X : Type 0) → f ≡ fault.NoMemory _ → Caused {A = Unit {0}} (Err f) X
+no_memory (fault.NoMemory _) X is = tt
+no_memory fault.StoreRefused X is = absurd (cc)
+
 pub no_memory_read : {V A B : Type 0} (g : Views V) (old new : V) (u : B) (f : ViewFault) (value : Book → A) → f ≡ fault.NoMemory _ → Looked g old new (Ok u) → Recalled {A = A} g old new (Err f) value
-no_memory_read {V} {A} g old new u f value is look = record {
+no_memory_read g old new u f value is look = record {
   reads = tt;
-  cause = λ a before now sure. no_memory {A = A} f (g.refuses a new) is;
+  cause = λ a before now sure. no_memory f (g.refuses a new) is;
   goes_on = tt;
   sure = look.sure;
   was_true = look.was_true;
