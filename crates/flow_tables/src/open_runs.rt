@@ -29,15 +29,7 @@ pub(crate) struct OpenRuns {
 impl Question for OpenRuns {
     type Item = i64;
 
-    ghost asks = { λ q. record {
-      read = Read.open_numbers;
-      params = Int (pos q.from) ∷ Int (pos q.most) ∷ [];
-      said = number_said;
-      tells = λ t xs. xs ≡ take q.most (map number_of_run (filter (is_open_from (pos q.from)) t.runs));
-      takes = refl;
-      typed = in_both _ refl refl;
-      found = λ l db ours rows. open_numbers_are l db ours rows (pos q.from) q.most;
-    } };
+    ghost asks = { λ q. record { read = Read.open_numbers; params = Int (pos q.from) ∷ Int (pos q.most) ∷ []; said = number_said; tells = λ t xs. xs ≡ take q.most (map number_of_run (filter (is_open_from (pos q.from)) t.runs)); takes = refl; typed = in_both _ refl refl; found = λ l db ours rows. open_numbers_are l db ours rows (pos q.from) q.most } };
 
     fn send<S: Alter>(&self, conn: &mut Connection<S>) -> Result<Vec<Row>, Error> {
         let sql = "SELECT num FROM run WHERE num >= ?1 AND isopen = 1 ORDER BY num LIMIT ?2";
