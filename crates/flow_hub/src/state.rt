@@ -15,14 +15,13 @@ use crate::hub::Closer;
 use crate::known::HubFacts;
 use crate::seats::{HubTable, Named, PARTS, Pass, Room};
 use crate::settled::Settled;
+use crate::unfetched::{refused_at, ticket_at};
 use flow_base::code::Code;
 use flow_base::command::Command;
 use flow_commit::stamp::Stamp;
 use flow_machine::submission::{Receipt, Taken};
 use flow_machine::task::Task;
-use flow_queues::queues::{
-    move_front, place_of, push_receipts, refuse_all, refused_at, take_receipt, ticket_at,
-};
+use flow_queues::queues::{move_front, place_of, push_receipts, refuse_all, take_receipt};
 use flow_queues::refused::Refused;
 use std::alloc::{AllocError, Global};
 use std::collections::VecDeque;

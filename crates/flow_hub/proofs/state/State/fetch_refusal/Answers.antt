@@ -1,9 +1,15 @@
 use Rattle.std.proofs.Common.{rules, inr, refl, arith, ap, sym, ◌+◌}
 use Rattle.flow_hub.proofs.Growing.{fetches_on, fetches_more, fetches_part, grows_by, part_by}
+use Rattle.flow_hub.specs.Asks.{ticket_gone}
+use Rattle.flow_hub.specs.Knowing.{answered_in}
 use Rattle.flow_hub.specs.declared.known.HubFacts.{HubFacts}
 use Rattle.flow_hub.proofs.Moves.{was_of}
+use Rattle.flow_hub.proofs.Searching.{in_order}
 use Rattle.flow_hub.proofs.Sound.{lets_go}
 use Rattle.flow_hub.proofs.state.State.fetch_refusal.Goals as goal
+
+pub refused_at-requires : goal.refused_at-requires
+refused_at-requires g c = record { rising = rw c.as_slice.ensures.value (in_order ticket_gone 0 (answered_in c.self.inside.known) c.self.inside.refused.items c.self.invariant.0.gone_rises) }
 
 pub invariant_of-self : goal.invariant_of-self
 invariant_of-self g c = (
