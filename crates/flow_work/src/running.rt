@@ -548,7 +548,7 @@ pub(crate) fn open_hub<B: Room>(alloc: Global, opened: Opened) -> Result<Parts<B
 }
 
 /// Serves a hub that was just made, until it is closed and nothing waits, or the engine serves no more.
-pub(crate) fn serve_new<S: Alter, B: Room, R: Wait, C: Clock>(
+pub(crate) fn serve_new<S: Alter, B: Room, R: Wait + time::Clock, C: Clock>(
     rt: &R,
     engine: &mut Engine<S>,
     publisher: &mut Publisher<B>,
