@@ -446,7 +446,7 @@ backs by v s h at =
       owes_moved now s.views by v w (handed_back v) at (omega arith) h.7,
     )
 
--- giving out goes to a seat of its own, with the number that there is
+-- giving out goes to a seat of its own, with the number
 pub parts : (by : ℕ) (v : Sight) → Splits Kept by v (hands_left v) (handed_over v)
 parts by v s h at =
     let a = h.0 in

@@ -122,7 +122,7 @@ keeps_left v = record { keeps = v.keeps; pubs = false; gives = false; member = N
 abbrev pub handed_back : Sight → Sight
 handed_back v = record { keeps = false; pubs = v.pubs; gives = v.gives; member = None; met = None; owed = v.owed; all = nothing; was = v.was }
 
--- what is left of a seat where giving out goes to one of its own, with the submitter's number that it had
+-- what is left of a seat when giving out, and the number of a submitter, go to a seat of their own
 abbrev pub hands_left : Sight → Sight
 hands_left v = record { keeps = v.keeps; pubs = v.pubs; gives = false; member = None; met = None; owed = v.owed; all = v.all; was = v.was }
 

@@ -1,5 +1,5 @@
 //! The table of the published word, and its seats.
-ghost use Rattle.std.specs.Prelude.{ℕ, ◌≡◌, ◌≢◌, ◌+◌, ◌≤◌, ◌^◌, ◌⊎◌, true, length, Some};
+ghost use Rattle.std.specs.Prelude.{ℕ, ◌≡◌, ◌≢◌, ◌+◌, ◌≤◌, ◌^◌, ◌⊎◌, true, length, Some, IfOk};
 ghost use Rattle.atomic_table.specs.Table.{Splits};
 ghost use Rattle.flow_hub.specs.Knowing.{IsBefore, IsSamePart, with_member};
 ghost use Rattle.flow_hub.specs.Seating.{IsRoomOf, Kept, opener, nobody, lent, adding, admitting, keeps_left, handed_back, hands_left, handed_over, keeping, seeing, owed_after, IsApart, IsKeepers, IsOwing, Knows};
@@ -180,8 +180,10 @@ pub(crate) struct Named<B: Room> {
 }
 
 impl Opened {
-    /// A table and a ledger of their own.
-    pub fn new(alloc: Global) -> Result<Opened, AllocError> {
+    /// A table of one word and no place for a value, and a ledger with a part for each submitter.
+    pub fn new(alloc: Global) -> Result<Opened, AllocError>
+        ensures { IfOk result (λ o. (o.table.words ≡ 1) × (o.table.slots ≡ 0) × (o.parts ≡ 2 ^ 62)) }
+    {
         let (table, seat) = Table::of_words(alloc, &[0], &())?;
         Ok(Opened {
             table,
@@ -273,7 +275,7 @@ impl<B: Room> HubTable<B> {
         self.split::<Back>(keeper)
     }
 
-    /// Giving out goes to a seat of its own, with the submitter's number that there is.
+    /// Giving out goes to a seat of its own, with the number of a submitter if there is one.
     pub(crate) fn hands(&self, keeper: &mut Pass<B>) -> Pass<B>
         ensures { (keeper.new ≡ hands_left keeper.old) × (result ≡ handed_over keeper.old) }
     {

@@ -8,8 +8,8 @@ ghost use Rattle.flow_hub.specs.Asks.{ticket_of, ticket_gone};
 use flow_machine::submission::Receipt;
 use flow_queues::refused::Refused;
 
-/// Where the receipt for a ticket stands. None where it isn't there. Their tickets rise, so it looks at ten of a thousand, whoever has
-/// left them there.
+/// Where the receipt for a ticket stands. None if it isn't there. Tickets rise along the list, so of a thousand receipts, most of which
+/// nobody may wait for, it looks at ten.
 pub(crate) fn ticket_at(answered: &[Receipt], ticket: u64) -> Option<usize>
     requires rising { IsNonDecreasingBy ticket_of answered.now }
     ensures found { IfSome result (λ k. (k < length answered.now) × ((d : AReceipt) → (slice_index_or answered.now k d).ticket ≡ ticket)) }

@@ -121,7 +121,7 @@ fn deal<R: Wait + time::Clock, A: Activity, S: Reports, U: Unknown, C: Clock>(
 
 /// Takes tasks, makes an attempt of each by the first activity of its name, and reports it: what it gave or why it failed, at
 /// the moment that the clock tells then. A task whose activity isn't there fails with `no such activity`, or is left alone; and after
-/// E66 the failure `wrong type` is reported. A report is made again after E01, E80 and E90, each time behind a longer pause, of a second
+/// E66 the failure `wrong type` is reported. A report is made again after E01, E80 and E90, each time after a longer pause, of a second
 /// at most. It ends only where the channel was empty, as after its sender is gone, or after E84, E85 and E91; both ends come back.
 pub fn worker<
     R: Wait + time::Clock,

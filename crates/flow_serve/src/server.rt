@@ -25,7 +25,7 @@ use std::alloc::Global;
 use std::sync::Wait;
 use std::time;
 
-/// An empty list with room for so many. It is asked for again until it is there, each time behind a longer pause.
+/// An empty list with room for so many. It is asked for again until it is there, each time after a longer pause.
 fn list_with_room<R: Wait + time::Clock>(rt: &R, alloc: Global, most: usize) -> Vec<Taken>
     ensures none { result.items ≡ [] }
     ensures room { most ≤ vec_capacity result }

@@ -5,7 +5,7 @@ use Rattle.std.specs.Prelude.{ℕ, ◌*◌, min, Bool, true, false}
 abbrev pub longer : ℕ → ℕ
 longer n = min (n * 2) 1000
 
--- behind what was done it begins anew
+-- after what was done it begins anew
 abbrev pub pause_after : Bool → ℕ → ℕ
 pause_after true n = 1
 pause_after false n = longer n

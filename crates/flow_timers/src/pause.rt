@@ -9,9 +9,9 @@ use std::time::{Clock as Timing, Duration};
 /// The longest pause, in milliseconds.
 const LONGEST: u64 = 1_000;
 
-/// How long to wait before something that was refused is tried once more: a millisecond at first, then each time twice as long as
-/// before, and a second at most. So who tries while a disk is full, or memory is wanting, leaves the processor to others. To a contract
-/// it is its milliseconds.
+/// How long to wait before something that was refused is tried once more: a millisecond at first, then twice as long each time, and a
+/// second at most. What was refused may be refused for long, as while a disk is full, and trying without a pause takes a processor. To a
+/// contract it is its milliseconds.
 #[derive(Clone, Copy, Debug, PartialEq, Eq)]
 pub struct Pause {
     milliseconds: u64,
@@ -37,7 +37,7 @@ impl Pause {
         Pause { milliseconds: 1 }
     }
 
-    /// Sleeps so long, and is longer then.
+    /// Sleeps so long. The next pause is longer.
     pub fn wait<T: Timing>(&mut self, timing: &T)
         ensures { self.new ≡ longer self.old }
     {
@@ -45,7 +45,7 @@ impl Pause {
         self.milliseconds = (self.milliseconds * 2).min(LONGEST);
     }
 
-    /// Begins anew behind what was done. Behind what was refused it sleeps.
+    /// Begins anew if it was done. If it was refused it sleeps.
     pub fn wait_unless<T: Timing>(&mut self, timing: &T, done: bool)
         ensures { self.new ≡ pause_after done self.old }
     {

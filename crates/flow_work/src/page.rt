@@ -60,7 +60,7 @@ fn with_task(shown: &Listed<Shown>, task: Snapshot<Task>) -> Listed<Shown>
     Listed::of::<(Listed<Shown>, Snapshot<Task>), OneTask>(&more)
 }
 
-/// Writes what is told of a line. Where memory runs out, nothing is written, and it is tried again behind a longer pause each time. No
+/// Writes what is told of a line. Where memory runs out, nothing is written, and it is tried again after a longer pause each time. No
 /// where a write failed.
 #[tactic(auto, using(crate::proofs::Printing::kept_self, crate::proofs::Printing::kept_more, crate::proofs::Printing::written_later, crate::proofs::Printing::begun_later))]
 fn has_written_line<R: Wait + time::Clock, W: Write>(

@@ -185,8 +185,8 @@ impl<B: Room> Reporter<B> {
         heard
     }
 
-    /// Sleeps until something is due by the clock, tells the tick that fires it, and waits for its answer. Where that is no reply it
-    /// sleeps for the pause too, which is longer then, since the tick is due at once again. No where nothing is answered any more.
+    /// Sleeps until something is due by the clock, tells the tick that fires it, and waits for its answer. If that is no reply it
+    /// sleeps for the pause too, since the tick is due again at once. No where nothing is answered any more.
     #[tactic(auto, using(crate::proofs::Firing::fires_nothing, flow_hub::proofs::Growing::before_trans))]
     pub(crate) fn fire<R: Wait + time::Clock, C: Clock>(
         &mut self,

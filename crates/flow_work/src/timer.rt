@@ -9,7 +9,7 @@ use std::sync::Wait;
 use std::time;
 
 /// Submits a tick as soon as something is due by the clock, waits for its answer, and goes on, until nothing is answered any more.
-/// After E01, E80 and E90 it asks again what is due, each time behind a longer pause, of a second at most.
+/// After E01, E80 and E90 it asks again what is due, each time after a longer pause, of a second at most.
 #[tactic(auto, using(crate::proofs::Firing::fires_none))]
 pub(crate) fn fire_timers<R: Wait + time::Clock, B: Room, C: Clock>(
     rt: &R,
