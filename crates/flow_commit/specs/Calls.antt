@@ -7,10 +7,10 @@ use Rattle.flow_check.specs.Language.{meaning_of}
 use Rattle.flow_model.specs.Apply.{after}
 use Rattle.flow_model.specs.Book.{Book}
 use Rattle.flow_model.specs.Sound.{IsSound}
-use Rattle.flow_machine.specs.Keys.{Key}
+use Rattle.flow_base.specs.Keys.{Key}
 use Rattle.flow_machine.specs.Verifying.{CantBeReplayed}
-use Rattle.flow_machine.specs.declared.submission.Taken.{Taken}
-use Rattle.flow_machine.specs.declared.verify.Totals.{Totals}
+use Rattle.flow_base.specs.declared.submission.Taken.{Taken}
+use Rattle.flow_base.specs.declared.book.Totals.{Totals}
 use Rattle.flow_view.specs.declared.fault.ViewFault.TheVariants.{StoreRefused}
 use Rattle.flow_tables.specs.Owned.{Follows, state_of}
 use Rattle.flow_commit.specs.declared.outcome.Outcome.{Outcome}

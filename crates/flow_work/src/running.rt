@@ -118,7 +118,7 @@ fn start_one<B, R, A, K, C, P>(
 ) -> Result<(), Fault>
 where
     B: Room + Send + Sync + 'static,
-    R: Threads + Wait + Copy + Send + Drop + 'static,
+    R: Threads + Wait + time::Clock + Copy + Send + Drop + 'static,
     A: Activity + Drop + Send + 'static,
     K: Skills<A>,
     C: Clock + Copy + Send + Drop + 'static,
@@ -150,7 +150,7 @@ fn start_workers<B, R, A, K, C, P>(
 ) -> Result<(), Fault>
 where
     B: Room + Send + Sync + 'static,
-    R: Threads + Wait + Copy + Send + Drop + 'static,
+    R: Threads + Wait + time::Clock + Copy + Send + Drop + 'static,
     A: Activity + Drop + Send + 'static,
     K: Skills<A>,
     C: Clock + Copy + Send + Drop + 'static,
@@ -179,7 +179,7 @@ fn start_pool<B, R, A, K, C, P>(
 ) -> Result<JoinHandle<Tasks<B>>, Fault>
 where
     B: Room + Send + Sync + 'static,
-    R: Threads + Wait + Copy + Send + Drop + 'static,
+    R: Threads + Wait + time::Clock + Copy + Send + Drop + 'static,
     A: Activity + Drop + Send + 'static,
     K: Skills<A>,
     C: Clock + Copy + Send + Drop + 'static,
@@ -548,7 +548,7 @@ pub(crate) fn open_hub<B: Room>(alloc: Global, opened: Opened) -> Result<Parts<B
 }
 
 /// Serves a hub that was just made, until it is closed and nothing waits, or the engine serves no more.
-pub(crate) fn serve_new<S: Alter, B: Room, R: Wait, C: Clock>(
+pub(crate) fn serve_new<S: Alter, B: Room, R: Wait + time::Clock, C: Clock>(
     rt: &R,
     engine: &mut Engine<S>,
     publisher: &mut Publisher<B>,

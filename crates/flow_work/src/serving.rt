@@ -88,7 +88,7 @@ fn start_lines<B, R, I, W, C>(
 ) -> Result<Telling<B, W, C>, Fault>
 where
     B: Room + Send + Sync + 'static,
-    R: Threads + Wait + Copy + Send + Drop + 'static,
+    R: Threads + Wait + time::Clock + Copy + Send + Drop + 'static,
     I: BufRead + Drop + Send + 'static,
     W: Write + Drop + Send + 'static,
     C: Clock + Copy + Send + Drop + 'static,

@@ -14,6 +14,7 @@ use flow_settings::settings::Settings;
 use sqlite::Connection;
 use std::alloc::Global;
 use std::sync::Wait;
+use std::time;
 
 /// What is told of a command: the place of its receipt, and the number that its reply names; or zeros.
 #[derive(Clone, Copy, PartialEq, Eq)]
@@ -54,7 +55,7 @@ pub fn fetched<B: Room, R: Wait>(rt: &R, submitter: &mut Submitter<B>, ticket: T
 }
 
 /// Opens an engine over memory, and serves what was submitted. Whether it ended with all answered.
-pub fn serve_over_memory<B: Room, R: Wait>(
+pub fn serve_over_memory<B: Room, R: Wait + time::Clock>(
     rt: &R,
     alloc: Global,
     publisher: &mut Publisher<B>,
