@@ -110,35 +110,6 @@ where
     )
 }
 
-/// Starts a thread for each worker.
-fn start_workers<B, R, A, K, C, P>(
-    rt: &R,
-    alloc: Global,
-    hub: &Hub<B>,
-    receivers: Vec<TaskReceiver>,
-    skills: &K,
-    clock: C,
-    tally: &Tally,
-    strangers: &Strangers<P>,
-    group: &WaitGroup,
-) -> Result<(), Fault>
-where
-    B: Room + Send + Sync + 'static,
-    R: Threads + Wait + Copy + Send + Drop + 'static,
-    A: Activity + Drop + Send + 'static,
-    K: Skills<A>,
-    C: Clock + Copy + Send + Drop + 'static,
-    P: Write + Drop + Send + 'static,
-    ensures { IfErr result (λ f. f ≡ Fault.NoMemory _) }
-{
-    for receiver in receivers {
-        start_one(
-            rt, alloc, hub, receiver, skills, clock, tally, strangers, group,
-        )?;
-    }
-    Ok(())
-}
-
 /// Starts those who make attempts of the tasks that are posted, and who hands the tasks to them and gives back where they came from.
 pub(crate) fn start_pool<B, R, A, K, C, P>(
     rt: &R,
@@ -161,9 +132,11 @@ where
     ensures { IfErr result (λ f. f ≡ Fault.NoMemory _) }
 {
     let (sender, receivers) = open_channel(alloc, workers)?;
-    start_workers(
-        rt, alloc, hub, receivers, skills, clock, tally, strangers, group,
-    )?;
+    for receiver in receivers {
+        start_one(
+            rt, alloc, hub, receiver, skills, clock, tally, strangers, group,
+        )?;
+    }
     let group = group.clone()?;
     let tally = tally.share()?;
     let feed = feed_of(rt, hub)?;
