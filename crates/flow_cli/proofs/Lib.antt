@@ -5,7 +5,7 @@ pub mod Rows
 pub mod Runs
 pub mod Safeties
 pub mod Settlements
-pub mod Lines
+pub mod LinesWritten
 pub mod Histories
 pub mod OpenPages
 pub mod Listings

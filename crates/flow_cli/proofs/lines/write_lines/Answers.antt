@@ -1,6 +1,6 @@
 use Rattle.std.proofs.Common.{ap, ◌∙◌}
 use Rattle.flow_lines.specs.Ends.{is_output}
-use Rattle.flow_cli.proofs.Lines.{one_more_line, part_of_line}
+use Rattle.flow_cli.proofs.LinesWritten.{one_more_line, part_of_line}
 use Rattle.flow_cli.proofs.lines.write_lines.Goals as goal
 
 pub loop-thing-preserved : goal.loop-thing-preserved
