@@ -22,6 +22,7 @@ use Rattle.flow_lines.specs.Driving.{WritesBeginning}
 use Rattle.flow_cli.specs.Histories.{CausedUntold, CausedUnwritten}
 use Rattle.flow_cli.specs.Listings.{listing_written, runs_written, open_lines, page_lines, next_open, TellsOpen, ListsPage, TellsPage, IsUnlisted}
 use Rattle.flow_lines.specs.Replies.{open_run_text}
+use Rattle.flow_cli.proofs.LinesWritten.{lines_joined}
 use Rattle.flow_cli.proofs.OpenPages.{behind, none_behind}
 
 ---- One question
