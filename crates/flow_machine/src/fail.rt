@@ -2,15 +2,12 @@
 //!
 //! The rule is `fail` of `flow_model/specs/Apply.antt`. The first of these refuses: E70 (no such run), E64 (the activity isn't open), E65
 //! (another attempt is the current one), and, where no attempt is left, E69 (the history is full).
-ghost use Rattle.std.specs.Prelude.{◌<◌, ◌≡◌, IfOk, Some};
+ghost use Rattle.std.specs.Prelude.{◌<◌, ◌≡◌, IfOk};
 ghost use Rattle.flow_machine.specs.ByHead.{StuckFailAt, StuckFailedAt, StuckFailureAt, attempt_failed_at, fail_at, run_failed_at};
 ghost use Rattle.flow_machine.specs.Deciding.{Gives};
-ghost use Rattle.flow_machine.specs.Going.{Comes, Sticks};
-ghost use Rattle.flow_machine.specs.Stuck.{StuckFail};
+ghost use Rattle.flow_machine.specs.Going.{StepCalled, StepFrom};
 ghost use Rattle.flow_model.specs.Apply as apply;
 ghost use Rattle.flow_model.specs.Apply.{rules_of};
-ghost use Rattle.flow_view.specs.Called.{Called};
-ghost use Rattle.flow_view.specs.Heads.{head_at};
 ghost use Rattle.flow_view.specs.Reading.{Caused};
 
 use crate::going::{Step, set_out};
@@ -28,7 +25,8 @@ use flow_view::head::Head;
 use flow_view::view::View;
 use std::alloc::Global;
 
-/// As [`fail_at`], in the words of the book.
+/// An attempt of an activity failed. In the words of the run's head, as what follows; `decided` says it in those of the book.
+#[tactic(auto, unfolding(crate::specs::ByHead::fail_at, crate::specs::ByHead::StuckFailAt))]
 pub(crate) fn fail<V: View, P: Programs>(
     alloc: Global,
     programs: &mut P,
@@ -39,34 +37,9 @@ pub(crate) fn fail<V: View, P: Programs>(
     reason: &Text,
     at: Moment,
 ) -> Result<Step, ViewFault>
-    ensures comes { IfOk result (λ s. V.is_sure view.new
-        → Comes (rules_of P.meaning) (V.book view.old) (V.book view.new) s
-        (apply.fail (rules_of P.meaning) (V.book view.old) number event attempt reason.now at)) }
-    ensures sticks { IfOk result (λ s. V.is_sure view.new
-        → Sticks (V.book view.old) s (StuckFail P.meaning (V.book view.old) number event attempt reason.now)) }
-    ensures called { Called V.View view.old view.new result (StuckFail P.meaning (V.book view.old) number event attempt reason.now) }
-{
-    fail_at(alloc, programs, view, number, event, attempt, reason, at)
-}
-
-/// An attempt of an activity failed.
-#[tactic(auto, unfolding(crate::specs::ByHead::fail_at, crate::specs::ByHead::StuckFailAt))]
-fn fail_at<V: View, P: Programs>(
-    alloc: Global,
-    programs: &mut P,
-    view: &mut V,
-    number: RunId,
-    event: EventId,
-    attempt: u64,
-    reason: &Text,
-    at: Moment,
-) -> Result<Step, ViewFault>
-    ensures comes { IfOk result (λ s. V.is_sure view.new
-        → Comes (rules_of P.meaning) (V.book view.old) (V.book view.new) s
-        (fail_at (rules_of P.meaning) (V.book view.old) number event attempt reason.now at)) }
-    ensures sticks { IfOk result (λ s. V.is_sure view.new
-        → Sticks (V.book view.old) s (StuckFailAt P.meaning (V.book view.old) number event attempt reason.now)) }
-    ensures called { Called V.View view.old view.new result (StuckFailAt P.meaning (V.book view.old) number event attempt reason.now) }
+    ensures { StepCalled V.View P.meaning view.old view.new result
+        (fail_at (rules_of P.meaning) (V.book view.old) number event attempt reason.now at)
+        (StuckFailAt P.meaning (V.book view.old) number event attempt reason.now) }
 {
     let Some(head) = view.head(number)? else {
         return Ok(Step::Answered(Reply::Refused(Code::NoRun), Vec::new(alloc)));
@@ -93,12 +66,8 @@ fn fail_run<V: View, P: Programs>(
     reason: &Text,
     at: Moment,
 ) -> Result<Step, ViewFault>
-    ensures comes { IfOk result (λ s. V.is_sure view.new → head_at (V.book view.old).runs number ≡ Some head
-        → Comes (rules_of P.meaning) (V.book view.old) (V.book view.new) s
-        (run_failed_at (rules_of P.meaning) (V.book view.old) head number event attempt reason.now at)) }
-    ensures sticks { IfOk result (λ s. V.is_sure view.new
-        → Sticks (V.book view.old) s (StuckFailureAt P.meaning (V.book view.old) head number event attempt reason.now)) }
-    ensures called { Called V.View view.old view.new result
+    ensures { StepFrom V.View P.meaning number head view.old view.new result
+        (run_failed_at (rules_of P.meaning) (V.book view.old) head number event attempt reason.now at)
         (StuckFailureAt P.meaning (V.book view.old) head number event attempt reason.now) }
 {
     let scheduled = view.event(number, event)?;
@@ -125,12 +94,8 @@ fn attempt_failed<V: View, P: Programs>(
     tries: u64,
     every: u64,
 ) -> Result<Step, ViewFault>
-    ensures comes { IfOk result (λ s. V.is_sure view.new → head_at (V.book view.old).runs number ≡ Some head
-        → Comes (rules_of P.meaning) (V.book view.old) (V.book view.new) s
-        (attempt_failed_at (rules_of P.meaning) (V.book view.old) head number event attempt reason.now at (tries, every))) }
-    ensures sticks { IfOk result (λ s. V.is_sure view.new
-        → Sticks (V.book view.old) s (StuckFailedAt P.meaning (V.book view.old) head number event attempt reason.now (tries, every))) }
-    ensures called { Called V.View view.old view.new result
+    ensures { StepFrom V.View P.meaning number head view.old view.new result
+        (attempt_failed_at (rules_of P.meaning) (V.book view.old) head number event attempt reason.now at (tries, every))
         (StuckFailedAt P.meaning (V.book view.old) head number event attempt reason.now (tries, every)) }
 {
     if attempt < tries {
