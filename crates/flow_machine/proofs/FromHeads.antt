@@ -3,6 +3,8 @@ use Rattle.std.proofs.Common.{◌≡◌, ℕ, Result, sym, subst}
 use Rattle.flow_base.specs.Syntax.{Bytes}
 use Rattle.flow_base.specs.declared.value.Value.{Value}
 use Rattle.flow_base.specs.declared.command.Command.{Command}
+use Rattle.flow_base.specs.declared.command.Complete.{Complete}
+use Rattle.flow_base.specs.declared.command.Fail.{Fail}
 use Rattle.flow_base.specs.declared.command.Command.TheVariants as command
 use Rattle.flow_model.specs.Book.{Book}
 use Rattle.flow_model.specs.Apply.{Rules, Outcome, rules_of, outcome, complete, fail, signal}
@@ -30,25 +32,23 @@ module _ {V : Type 0} (g : Ghosts V) (m : Meaning) (old new : V) (r : Result Ste
   abbrev pub Decided : Command → Type 0
   Decided c = StepCalled g m old new r (outcome (rules_of m) (g.book old) c) (IsStuck (rules_of m) (g.book old) c)
 
-  pub completes : (run event attempt : ℕ) (v : Value) (at : ℕ) (c : Command) → c ≡ command.Complete run event attempt v at
-      → StepCalled g m old new r (complete_at (rules_of m) (g.book old) run event attempt v at) (StuckCompleteAt m (g.book old) run event attempt v) → Decided c
+  pub completes : (x : Complete) (c : Command) → c ≡ command.Complete x → StepCalled g m old new r (complete_at (rules_of m) (g.book old) x) (StuckCompleteAt m (g.book old) x) → Decided c
   unfolding outcome IsStuck
-  completes run event attempt v at c is h =
+  completes x c is h =
       let u : Rules = rules_of m in
       let b : Book = g.book old in
-      let same = sym (complete_is u b run event attempt v at) in
-      let stuck = complete_stuck m b run event attempt v in
-      subst Decided (sym is) (step_as (complete_at u b run event attempt v at) (complete u b run event attempt v at) (StuckCompleteAt m b run event attempt v) (StuckComplete m b run event attempt v) same stuck h)
+      let same = sym (complete_is u b x) in
+      let stuck = complete_stuck m b x in
+      subst Decided (sym is) (step_as (complete_at u b x) (complete u b x.run x.event x.attempt x.value x.at) (StuckCompleteAt m b x) (StuckComplete m b x.run x.event x.attempt x.value) same stuck h)
 
-  pub fails : (run event attempt : ℕ) (reason : Bytes) (at : ℕ) (c : Command) → c ≡ command.Fail run event attempt reason at
-      → StepCalled g m old new r (fail_at (rules_of m) (g.book old) run event attempt reason at) (StuckFailAt m (g.book old) run event attempt reason) → Decided c
+  pub fails : (x : Fail) (c : Command) → c ≡ command.Fail x → StepCalled g m old new r (fail_at (rules_of m) (g.book old) x) (StuckFailAt m (g.book old) x) → Decided c
   unfolding outcome IsStuck
-  fails run event attempt reason at c is h =
+  fails x c is h =
       let u : Rules = rules_of m in
       let b : Book = g.book old in
-      let same = sym (fail_is u b run event attempt reason at) in
-      let stuck = fail_stuck m b run event attempt reason in
-      subst Decided (sym is) (step_as (fail_at u b run event attempt reason at) (fail u b run event attempt reason at) (StuckFailAt m b run event attempt reason) (StuckFail m b run event attempt reason) same stuck h)
+      let same = sym (fail_is u b x) in
+      let stuck = fail_stuck m b x in
+      subst Decided (sym is) (step_as (fail_at u b x) (fail u b x.run x.event x.attempt x.reason x.at) (StuckFailAt m b x) (StuckFail m b x.run x.event x.attempt x.reason) same stuck h)
 
   pub signals : (request flow name : Bytes) (v : Value) (at : ℕ) (c : Command) → c ≡ command.Signal request flow name v at
       → StepCalled g m old new r (sent_at (rules_of m) (g.book old) request flow name v at) (StuckSendAt m (g.book old) request flow name v) → Decided c

@@ -11,9 +11,8 @@ ghost use Rattle.flow_model.specs.Apply.{rules_of};
 use crate::going::{Step, set_out};
 use crate::report::attempt_refusal;
 use flow_base::code::Code;
-use flow_base::command::Reply;
+use flow_base::command::{Complete, Reply};
 use flow_base::event::{Cmd, Event, Input, What};
-use flow_base::number::{EventId, Moment, RunId};
 use flow_base::value::Value;
 use flow_model::kinds::has_kind;
 use flow_programs::programs::Programs;
@@ -28,23 +27,18 @@ pub(crate) fn complete<V: View, P: Programs>(
     alloc: Global,
     programs: &mut P,
     view: &mut V,
-    number: RunId,
-    event: EventId,
-    attempt: u64,
-    value: &Value,
-    at: Moment,
+    asked: &Complete,
 ) -> Result<Step, ViewFault>
     ensures { StepCalled V.View P.meaning view.old view.new result
-        (complete_at (rules_of P.meaning) (V.book view.old) number event attempt value.now at)
-        (StuckCompleteAt P.meaning (V.book view.old) number event attempt value.now) }
+        (complete_at (rules_of P.meaning) (V.book view.old) asked.now) (StuckCompleteAt P.meaning (V.book view.old) asked.now) }
 {
-    let Some(head) = view.head(number)? else {
+    let Some(head) = view.head(asked.run)? else {
         return Ok(Step::Answered(Reply::Refused(Code::NoRun), Vec::new(alloc)));
     };
-    if let Some(code) = attempt_refusal(&head, event, attempt) {
+    if let Some(code) = attempt_refusal(&head, asked.event, asked.attempt) {
         return Ok(Step::Answered(Reply::Refused(code), Vec::new(alloc)));
     }
-    let step = given(alloc, programs, view, head, number, event, value, at)?;
+    let step = given(alloc, programs, view, head, asked)?;
     Ok(step)
 }
 
@@ -55,21 +49,18 @@ fn given<V: View, P: Programs>(
     programs: &mut P,
     view: &mut V,
     head: Head,
-    number: RunId,
-    event: EventId,
-    value: &Value,
-    at: Moment,
+    asked: &Complete,
 ) -> Result<Step, ViewFault>
-    ensures { StepFrom V.View P.meaning number head view.old view.new result
-        (given_at (rules_of P.meaning) (V.book view.old) head number event value.now at)
-        (StuckGivenAt P.meaning (V.book view.old) head number event value.now) }
+    ensures { StepFrom V.View P.meaning asked.now.run head view.old view.new result
+        (given_at (rules_of P.meaning) (V.book view.old) head asked.now)
+        (StuckGivenAt P.meaning (V.book view.old) head asked.now) }
 {
-    let scheduled = view.event(number, event)?;
-    if !gives(&scheduled, value) {
+    let scheduled = view.event(asked.run, asked.event)?;
+    if !gives(&scheduled, &asked.value) {
         return Ok(Step::Answered(Reply::Refused(Code::WrongType), Vec::new(alloc)));
     }
-    let input = Input::ActivityCompleted(event, value.copy(alloc)?);
-    let going = set_out(alloc, programs, view, head, number, at, input)?;
+    let input = Input::ActivityCompleted(asked.event, asked.value.copy(alloc)?);
+    let going = set_out(alloc, programs, view, head, asked.run, asked.at, input)?;
     Ok(Step::GoesOn(going))
 }
 
