@@ -21,8 +21,6 @@ use flow_base::command::Command;
 use flow_base::submission::{Receipt, Taken};
 use flow_base::task::Task;
 use flow_commit::stamp::Stamp;
-use flow_base::submission::{Receipt, Taken};
-use flow_base::task::Task;
 use flow_queues::queues::{move_front, place_of, push_receipts, refuse_all, take_receipt};
 use flow_queues::refused::Refused;
 use std::alloc::{AllocError, Global};

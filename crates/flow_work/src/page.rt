@@ -9,7 +9,6 @@ use flow_lines::output::Unwritten;
 use flow_lines::reply::Line;
 use flow_lines::streams::write_line;
 use flow_lines::task::write_task;
-use flow_base::task::Task;
 use flow_timers::pause::Pause;
 use std::alloc::Global;
 use std::io::Write;
