@@ -1,10 +1,12 @@
 use Rattle.std.proofs.Common.{rules, ◌≡◌, true}
 use Rattle.flow_model.specs.Checked.{shown_checked}
 use Rattle.flow_model.specs.Apply.{gives_kind}
+use Rattle.flow_machine.specs.ByHead.{given_at}
 use Rattle.flow_machine.proofs.Stepping.{given_sticks}
 use Rattle.flow_machine.proofs.complete.given.Goals as goal
 
 pub returns : goal.returns
+unfolding given_at
 returns g c =
     let book = g.V.View.book in
     let old = book c.args.view.now in
