@@ -1,5 +1,5 @@
 -- What a binary search finds where numbers rise.
-use Rattle.std.proofs.Common.{◌≡◌, ◌≢◌, ℕ, zero, suc, ◌+◌, ◌<◌, ◌≤◌, List, [], ◌∷◌, length, get_or, map, Ordering, Less, Greater, Result, Ok, Err, IfSome, IfNone, sym, ⊎_elim, arith}
+use Rattle.std.proofs.Common.{◌≡◌, ◌≢◌, ℕ, zero, suc, ◌<◌, ◌≤◌, List, [], ◌∷◌, length, get_or, map, Less, Greater, Result, Ok, Err, IfSome, IfNone, sym, ⊎_elim, arith}
 use Rattle.std.specs.List.{AllWithin}
 use Rattle.std.specs.Prelude.{All}
 use Rattle.std.specs.List.Sorted.{IsSearchInRange, IsBinarySearchResult, IsNonDecreasingBy, IsPartitionPoint}
