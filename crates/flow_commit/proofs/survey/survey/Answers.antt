@@ -10,7 +10,7 @@ returns-in-Err g c =
 
 pub returns-in-Err-wanted : goal.returns-in-Err-wanted
 returns-in-Err-wanted g c =
-    no_memory_read (as_view g.S.Store) c.args.tables.now c.outlook.new.self tt c.from.result (draft_of c.args.posted.now.keys c.args.at) c.from.ensures (looked_by (as_view g.S.Store) c.args.tables.now c.outlook.new.self _ tt _ c.in-Ok.ensures)
+    no_memory_read (as_view g.S.Store) c.args.tables.now c.outlook.new.self (tt {0}) c.from.result (draft_of c.args.posted.now.keys c.args.at) c.from.ensures (looked_by (as_view g.S.Store) c.args.tables.now c.outlook.new.self _ (tt {0}) _ c.in-Ok.ensures)
 
 pub returns-in-Ok-tasks_of : goal.returns-in-Ok-tasks_of
 returns-in-Ok-tasks_of g c = record {
