@@ -1,4 +1,5 @@
 use Rattle.std.proofs.Common.{refl, rules, subst}
+use Rattle.std.proofs.lemmas.Result.{err_from_is_err_and}
 use Rattle.flow_lines.specs.Commands.{line_command}
 use Rattle.flow_hub.specs.Knowing.{nothing}
 use Rattle.flow_work.specs.Counting.{Counted}
@@ -25,7 +26,9 @@ returns-in-Ok-clause-printed g c =
     c.serve_new-served.ensures.hub after.ensures.part after.ensures.submitter after.ensures.printed.0 after.ensures.printed.1
 
 pub returns-in_err-publisher-clause-ran : goal.returns-in_err-publisher-clause-ran
-returns-in_err-publisher-clause-ran g c = not_run g.S.Store c.args.engine.now _ _ (search rules)
+returns-in_err-publisher-clause-ran g c =
+    let p = err_from_is_err_and c.from_residual.result c.from_residual.ensures.1 in
+    rw p.1 (not_run g.S.Store c.args.engine.now _ p.0 p.2)
 
 pub returns-clause-ran : goal.returns-clause-ran
 returns-clause-ran g c = not_run g.S.Store c.args.engine.now _ c.in-Err.fault c.in-Err.ensures.refused

@@ -1,4 +1,5 @@
 use Rattle.std.proofs.Common.{List, rules, subst, sym}
+use Rattle.std.proofs.lemmas.Result.{err_from_is_err_and}
 use Rattle.flow_work.specs.Counting.{Counted, IsStatusOf}
 use Rattle.flow_work.specs.declared.shown.Shown.{Shown}
 use Rattle.flow_work.specs.Questions.{line_served}
@@ -36,7 +37,9 @@ returns-in-Ok-clause-status g c =
     (subst (IsStatusOf told.page.is_mute told.page.shown) (sym after.ensures.status) counted.says.status))
 
 pub returns-in_err-publisher-clause-ran : goal.returns-in_err-publisher-clause-ran
-returns-in_err-publisher-clause-ran g c = not_run g.S.Store c.args.engine.now _ _ (search rules)
+returns-in_err-publisher-clause-ran g c =
+    let p = err_from_is_err_and c.from_residual.result c.from_residual.ensures.1 in
+    rw p.1 (not_run g.S.Store c.args.engine.now _ p.0 p.2)
 
 pub returns-clause-ran : goal.returns-clause-ran
 returns-clause-ran g c = not_run g.S.Store c.args.engine.now _ c.in-Err.fault c.in-Err.ensures.refused
