@@ -1,5 +1,5 @@
 //! The headline, as laws of every store.
-ghost use Rattle.flow_engine.specs.Headline.{CallsJoin, Headline, OpenedBegin};
+ghost use Rattle.flow_engine.specs.Headline.{BoardedCallsJoin, BoardsAreCalls, CallsJoin, DrivenAreBoarded, Headline, OpenedBegin};
 ghost use Rattle.flow_engine.specs.Stopping.{StopContinues};
 ghost use Rattle.flow_engine.specs.Worlds.{LivesAreSteps};
 
@@ -24,6 +24,13 @@ pub fn opened_stores_begin<S: Alter>()
 /// Batches that were answered in several calls of one life were answered as in one.
 pub fn calls_join<S: Alter>()
     ensures { CallsJoin S.Store }
+{}
+
+/// So were those that were answered with boards in between. Batches that were driven are such calls, and so is what asks for a board alone.
+pub fn boarded_calls_join<S: Alter>()
+    ensures join { BoardedCallsJoin S.Store }
+    ensures driven { DrivenAreBoarded S.Store }
+    ensures board { BoardsAreCalls S.Store }
 {}
 
 /// What a stop leaves of the two files of a store is a database that the store allows, so a life over them continues the one that

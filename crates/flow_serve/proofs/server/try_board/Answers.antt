@@ -3,7 +3,7 @@ use Rattle.flow_hub.proofs.Growing.{same_part}
 use Rattle.flow_hub.proofs.Serving.{boarded_together, is_fresh, same_history}
 use Rattle.flow_commit.specs.Keeping.{account_of}
 use Rattle.flow_serve.proofs.Posted.{board_was, posts_none, posts_one}
-use Rattle.flow_serve.proofs.Serving.{board_still, same_base}
+use Rattle.flow_serve.proofs.Serving.{same_base}
 use Rattle.flow_serve.proofs.Turning.{no_memory_board}
 use Rattle.flow_serve.proofs.server.try_board.Goals as goal
 
@@ -34,19 +34,13 @@ returns-in-Err-clause-together g c =
     boarded_together (account_of g.S.Store c.args.engine.now) (account_of g.S.Store c.board.new.self) was was c.requires.together same.3 base (same_history was was (same_part was))
 
 pub returns-in-Ok-post-clause-still : goal.returns-in-Ok-post-clause-still
-returns-in-Ok-post-clause-still g c =
-    let b = c.board.ensures in
-    board_still g.S.Store c.args.engine.now c.board.new.self b.same b.follows b.fit b.own b.halted
+returns-in-Ok-post-clause-still g c = c.board.ensures.still
 
 pub returns-in-Err-post-clause-still : goal.returns-in-Err-post-clause-still
-returns-in-Err-post-clause-still g c =
-    let b = c.board.ensures in
-    board_still g.S.Store c.args.engine.now c.board.new.self b.same b.follows b.fit b.own b.halted
+returns-in-Err-post-clause-still g c = c.board.ensures.still
 
 pub returns-in-Err-clause-still : goal.returns-in-Err-clause-still
-returns-in-Err-clause-still g c =
-    let b = c.board.ensures in
-    board_still g.S.Store c.args.engine.now c.board.new.self b.same b.follows b.fit b.own b.halted
+returns-in-Err-clause-still g c = c.board.ensures.still
 
 -- the board that was posted is that of the kept book at the moment that the clock told
 pub returns-in-Ok-post-clause-posts : goal.returns-in-Ok-post-clause-posts

@@ -9,6 +9,8 @@ use Rattle.flow_tables.specs.Owned.{state_of}
 use Rattle.flow_commit.specs.Boards.{Boarded, IsBoardOf}
 use Rattle.flow_commit.specs.Committing.{IsDown}
 use Rattle.flow_commit.specs.Keeping.{IsFit, IsUp, Keeping, KeepsBook, kept_book, logged, rules}
+use Rattle.flow_engine.specs.Boarding.{IsStill}
+use Rattle.flow_engine.proofs.Boarding.{board_still}
 use Rattle.flow_engine.proofs.engine.Engine.board.Goals as goal
 
 -- the keeper says it
@@ -52,3 +54,10 @@ pub returns-clause-own : goal.returns-clause-own
 returns-clause-own g c =
     let new = c.board.new.self in
     subst (λ (k : Keeping g.row.S.Denot). IsFit g.S.Store new → IsUp g.S.Store k → (new ≡ k) ⊎ KeepsBook g.S.Store k (kept_book g.S.Store k)) c.self.view_is c.board.ensures.own
+
+-- so it goes between the batches of a life
+pub returns-clause-still : goal.returns-clause-still
+returns-clause-still g c =
+    let b = c.board.ensures in
+    let new = c.board.new.self in
+    subst (λ (k : Keeping g.row.S.Denot). IsStill g.S.Store k new) c.self.view_is (board_still g.S.Store c.self.inside.keeper new b.same b.follows b.fit b.own b.halted)

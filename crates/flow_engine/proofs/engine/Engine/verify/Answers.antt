@@ -12,6 +12,8 @@ use Rattle.flow_commit.specs.Boards.{IsOfBoard}
 use Rattle.flow_commit.specs.Committing.{IsDown}
 use Rattle.flow_commit.specs.Keeping.{IsFit, IsUp, Keeping, KeepsBook, kept_book, rules}
 use Rattle.flow_commit.specs.Verifying.{IsVerified}
+use Rattle.flow_engine.specs.Boarding.{IsStill}
+use Rattle.flow_engine.proofs.Boarding.{board_still}
 use Rattle.flow_engine.proofs.engine.Engine.verify.Goals as goal
 
 -- the keeper says it
@@ -57,3 +59,10 @@ pub returns-clause-up : goal.returns-clause-up
 returns-clause-up g c =
     let new = c.verify.new.self in
     subst (λ (k : Keeping g.row.S.Denot). IsFit g.S.Store new → IsUp g.S.Store new → IsUp g.S.Store k) c.self.view_is c.verify.ensures.up
+
+-- so it goes between the batches of a life
+pub returns-clause-still : goal.returns-clause-still
+returns-clause-still g c =
+    let b = c.verify.ensures in
+    let new = c.verify.new.self in
+    subst (λ (k : Keeping g.row.S.Denot). IsStill g.S.Store k new) c.self.view_is (board_still g.S.Store c.self.inside.keeper new b.same b.follows b.fit b.own b.halted)
