@@ -1,6 +1,6 @@
 //! The headline, as laws of every store.
 ghost use Rattle.flow_engine.specs.Headline.{BoardedCallsJoin, BoardsAreCalls, CallsJoin, DrivenAreBoarded, Headline, OpenedBegin};
-ghost use Rattle.flow_engine.specs.Stopping.{StopContinues};
+ghost use Rattle.flow_engine.specs.Stopping.{CloseContinues, StopContinues};
 ghost use Rattle.flow_engine.specs.Worlds.{LivesAreSteps};
 
 use flow_world::world_is_safe;
@@ -37,6 +37,12 @@ pub fn boarded_calls_join<S: Alter>()
 /// was stopped.
 pub fn stopped_files_continue<D: Disk>()
     ensures { StopContinues D.Disk }
+{}
+
+/// The two files that closing a connection gave back hold what was kept, as they are and as a stop may leave them, so a life over them
+/// continues the one that was closed. `Connection::close` is that call, and gives the files to nobody.
+pub fn closed_files_continue<D: Disk>()
+    ensures { CloseContinues D.Disk }
 {}
 
 /// The lives of an engine are steps of the world of `flow_world`, and each ends in a world that is safe: what a stop may leave on
