@@ -25,8 +25,8 @@ loop-count-preserved g c =
           gathers_more g.G.Gathers.comes_to _ first mid c.loop-count.count c.loop-count.gathered c.take_in.new.gathered c.in-Ok-Some.run' (was.looked.reads before) (there sure) more (was.gathers before);
     }
 
-pub returns-in-Ok-Some : goal.returns-in-Ok-Some
-returns-in-Ok-Some g c =
+pub returns-in-Err-take_in : goal.returns-in-Err-take_in
+returns-in-Err-take_in g c =
     let shows = g.V.Runs.shows in
     let looked : LooksOn shows c.args.view.now c.recall.new.self =
     looked_on shows c.args.view.now c.loop-count.view c.recall.new.self tt _ c.loop-count.invariant.looked (looked_by shows c.loop-count.view c.recall.new.self _ tt _ c.in-Ok-Some.ensures) in
