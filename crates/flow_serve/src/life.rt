@@ -17,9 +17,10 @@ use flow_timers::Clock;
 use sqlite::{Alter, Connection};
 use std::alloc::Global;
 use std::sync::Wait;
+use std::time;
 
 /// The engine behind all that it has served, and how serving has ended.
-fn served<S: Alter, B: Room, R: Wait, C: Clock>(
+fn served<S: Alter, B: Room, R: Wait + time::Clock, C: Clock>(
     engine: Engine<S>,
     rt: &R,
     publisher: &mut Publisher<B>,
@@ -41,7 +42,7 @@ fn served<S: Alter, B: Room, R: Wait, C: Clock>(
 ///
 /// # Failure
 /// As of `Engine::open`, and then the hub isn't served. How serving has ended is told beside the engine.
-pub fn live<S: Alter, B: Room, R: Wait, C: Clock>(
+pub fn live<S: Alter, B: Room, R: Wait + time::Clock, C: Clock>(
     alloc: Global,
     conn: Connection<S>,
     settings: Settings,
